@@ -1,0 +1,5 @@
+pub mod Feeds
+pub mod Numbers
+pub mod Reading
+pub mod Texts
+pub mod Unique

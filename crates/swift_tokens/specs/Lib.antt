@@ -1,0 +1,5 @@
+pub mod Bytes
+pub mod Keywords
+pub mod Lexes
+pub mod Lines
+pub mod Pieces
