@@ -1,0 +1,13 @@
+pub mod Front
+pub mod Complete
+pub mod Sound
+pub mod Items
+pub mod Tokens
+pub mod Lists
+pub mod StatementsSound
+pub mod StatementsComplete
+pub mod Ints
+pub mod DeclarationsSound
+pub mod DeclarationsComplete
+pub mod Limits
+pub mod Whole

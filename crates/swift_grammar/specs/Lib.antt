@@ -1,0 +1,7 @@
+pub mod Tree
+pub mod Grammar
+pub mod Reading
+pub mod Parts
+pub mod Statements
+pub mod Declarations
+pub mod Answers
