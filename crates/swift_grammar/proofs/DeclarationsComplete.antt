@@ -1,16 +1,15 @@
 -- Declarations that are spelled are read.
-use Rattle.std.proofs.Common.{◌≡◌, ◌≢◌, ℕ, ℤ, zero, suc, ◌+◌, ◌<◌, List, [], ◌∷◌, ◌++◌, length, Option, Some, None, Result, Ok, Err, refl, sym, ap, subst, ◌∙◌, append_assoc, length-append, arith, neg_ℤ}
+use Rattle.std.proofs.Common.{◌≡◌, ◌≢◌, ℕ, ℤ, ◌+◌, ◌<◌, List, [], ◌∷◌, ◌++◌, length, Option, Some, None, Ok, refl, sym, ap, subst, ◌∙◌, append_assoc, length-append, arith, neg_ℤ}
 use Rattle.std.proofs.lemmas.List.{append-nil}
 use Rattle.swift_types.specs.declared.priority.Priority.{Priority}
 use Rattle.swift_tokens.specs.declared.keyword.Keyword.TheVariants as key
 use Rattle.swift_tokens.specs.declared.mark.Mark.TheVariants as mark
 use Rattle.swift_tokens.specs.Pieces.{Piece, Num, Name, Key, Sign}
 use Rattle.swift_grammar.specs.Tree.{Tree, FieldTree, MethodTree, ActorTree, RootTree, DeclTree, Acts, Roots}
-use Rattle.swift_grammar.specs.Grammar.{Each, no_more, one_more, IsExpression, Listed, SpellsBlock, least, IsInt, plain, opposite, IsName, IsField, IsInvariant, no_invariant, an_invariant, IsMethod, IsActor, priority_of, IsPriority, not_given, given, IsRoot, IsDecl, an_actor, a_root, IsScript}
-use Rattle.swift_grammar.specs.Reading.{◌>>=◌, expr_in}
+use Rattle.swift_grammar.specs.Grammar.{Each, no_more, one_more, Listed, least, IsInt, plain, opposite, IsName, IsField, IsInvariant, no_invariant, an_invariant, IsMethod, IsActor, priority_of, IsPriority, not_given, given, IsRoot, IsDecl, an_actor, a_root, IsScript}
+use Rattle.swift_grammar.specs.Reading.{expr_in}
 use Rattle.swift_grammar.specs.Parts.{name_at, sign_at, brace_at, close_at, items_at, list_at}
-use Rattle.swift_grammar.specs.Statements.{block_at}
-use Rattle.swift_grammar.specs.Declarations.{number_at, opposite_at, int_at, fields_end, field_at, invariant_at, method_at, actor_at, chosen_priority, level_named_at, priority_at, root_at, decl_at, decls_end, decls_at}
+use Rattle.swift_grammar.specs.Declarations.{number_at, opposite_at, int_at, fields_end, field_at, invariant_at, method_at, actor_at, level_named_at, priority_at, root_at, decl_at, decls_end, decls_at}
 use Rattle.swift_grammar.proofs.Complete.{expr_again}
 use Rattle.swift_grammar.proofs.Tokens.{brace_now}
 use Rattle.swift_grammar.proofs.Items.{items_again}

@@ -1,26 +1,26 @@
 -- Declarations that are read are spelled.
-use Rattle.std.proofs.Common.{◌≡◌, ◌≢◌, ℕ, ℤ, zero, suc, ◌+◌, ◌<◌, Bool, true, false, cond, List, [], ◌∷◌, ◌++◌, length, Option, Some, None, Result, Ok, Err, refl, sym, ap, subst, ◌∙◌, append_assoc, arith, neg_ℤ}
+use Rattle.std.proofs.Common.{◌≡◌, ℕ, ℤ, ◌+◌, ◌<◌, Bool, true, false, cond, List, [], ◌∷◌, ◌++◌, length, Option, Some, None, Result, Ok, Err, refl, sym, ap, subst, ◌∙◌, append_assoc, neg_ℤ}
 use Rattle.std.proofs.lemmas.List.{append-nil}
 use Rattle.std.specs.Ordering.{int_eq}
 use Rattle.swift_types.specs.declared.priority.Priority.{Priority}
 use Rattle.swift_types.specs.declared.priority.Priority.TheVariants.{Medium}
 use Rattle.swift_grammar.specs.declared.fault.Kind.{Kind}
-use Rattle.swift_grammar.specs.declared.fault.Kind.TheVariants.{OutOfRange, Unexpected}
+use Rattle.swift_grammar.specs.declared.fault.Kind.TheVariants.{OutOfRange}
 use Rattle.swift_tokens.specs.declared.keyword.Keyword.{Keyword}
 use Rattle.swift_tokens.specs.declared.keyword.Keyword.TheVariants as key
 use Rattle.swift_tokens.specs.declared.mark.Mark.TheVariants as mark
 use Rattle.swift_tokens.specs.Pieces.{Piece, Num, Huge, Name, Key, Sign}
 use Rattle.swift_grammar.specs.Tree.{Tree, Step, FieldTree, MethodTree, ActorTree, RootTree, DeclTree, Acts, Roots}
-use Rattle.swift_grammar.specs.Grammar.{Each, IsExpression, Listed, SpellsBlock, least, IsInt, plain, opposite, IsName, IsField, IsInvariant, no_invariant, an_invariant, IsMethod, IsActor, priority_of, IsPriority, not_given, given, IsRoot, IsDecl, an_actor, a_root, IsScript}
+use Rattle.swift_grammar.specs.Grammar.{least, IsInt, plain, opposite, IsName, IsField, IsInvariant, no_invariant, an_invariant, IsMethod, IsActor, priority_of, IsPriority, not_given, given, IsRoot, IsDecl, an_actor, a_root, IsScript}
 use Rattle.swift_grammar.specs.Reading.{◌>>=◌, expr_in}
 use Rattle.swift_grammar.specs.Parts.{name_at, sign_at, brace_at, items_at, list_at}
 use Rattle.swift_grammar.specs.Statements.{block_at}
 use Rattle.swift_grammar.specs.Declarations.{number_at, opposite_at, int_at, fields_end, field_at, invariant_at, method_at, actor_at, chosen_priority, level_named_at, priority_at, root_at, decl_at, decls_end, decls_at}
 use Rattle.swift_grammar.proofs.Sound.{ok_is, some_is, bind_ok}
 use Rattle.swift_grammar.proofs.Tokens.{sign_is, name_is, brace_is}
-use Rattle.swift_grammar.proofs.Items.{Taken, TakenUpTo, items_take}
-use Rattle.swift_grammar.proofs.Lists.{TakenList, list_take}
-use Rattle.swift_grammar.proofs.StatementsSound.{taken_as, closed_by, expression_takes, TakesBlock, block_takes}
+use Rattle.swift_grammar.proofs.Items.{Taken, items_take}
+use Rattle.swift_grammar.proofs.Lists.{list_take}
+use Rattle.swift_grammar.proofs.StatementsSound.{taken_as, closed_by, expression_takes, block_takes}
 use Rattle.swift_grammar.proofs.Ints.{int_differs}
 
 name_takes : (ts : List Piece) (x : List ℕ × List Piece) → name_at ts ≡ Ok x → Taken IsName ts x

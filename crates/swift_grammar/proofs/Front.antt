@@ -1,5 +1,5 @@
 -- Reading items one after the other, as a loop does.
-use Rattle.std.proofs.Common.{◌≡◌, ℕ, zero, suc, ◌+◌, ◌-◌, ◌<◌, ◌≤◌, List, [], ◌∷◌, ◌++◌, Option, Some, None, Result, Ok, Err, refl, sym, ap, ◌∙◌, append_assoc, arith}
+use Rattle.std.proofs.Common.{◌≡◌, ℕ, suc, ◌+◌, ◌-◌, ◌<◌, ◌≤◌, List, [], ◌∷◌, ◌++◌, Option, Some, None, Result, Ok, Err, refl, sym, ap, ◌∙◌, append_assoc, arith}
 use Rattle.std.proofs.lemmas.List.{append-nil}
 use Rattle.swift_grammar.specs.declared.fault.Kind.{Kind}
 use Rattle.swift_grammar.specs.declared.fault.Kind.TheVariants.{EndsEarly}
@@ -7,7 +7,7 @@ use Rattle.swift_grammar.specs.declared.fault.ReadError.{ReadError}
 use Rattle.swift_grammar.specs.declared.fault.ReadError.TheVariants as errors
 use Rattle.swift_tokens.specs.Pieces.{Piece}
 use Rattle.swift_grammar.specs.Reading.{◌>>=◌, Fails, IsOfKind}
-use Rattle.swift_grammar.specs.Parts.{on_stop, items_at}
+use Rattle.swift_grammar.specs.Parts.{items_at}
 
 -- what was read before, and what is still read
 abbrev pub with_front : {A : Type 0} → List A → Result (List A × List Piece) Kind → Result (List A × List Piece) Kind

@@ -1,4 +1,5 @@
 pub mod Front
+pub mod Operands
 pub mod Complete
 pub mod Sound
 pub mod Items

@@ -1,5 +1,5 @@
 -- What is spelled within a limit is spelled within a greater one.
-use Rattle.std.proofs.Common.{◌≡◌, ℕ, zero, suc, ◌+◌, ◌-◌, ◌<◌, ◌≤◌, List, [], ◌∷◌, ◌++◌, Option, Some, None, refl, sym, ap, subst, ◌∙◌, arith}
+use Rattle.std.proofs.Common.{ℕ, zero, suc, ◌-◌, ◌≤◌, List, Option, arith}
 use Rattle.swift_tokens.specs.Pieces.{Piece}
 use Rattle.swift_grammar.specs.Tree.{Tree, CallTree, WaitTree, ValueTree, Step, MethodTree, ActorTree, DeclTree}
 use Rattle.swift_grammar.specs.Grammar.{Spells, number, name, parenthesis, negated, inverted, alone, chained, compared, IsExpression, Each, no_more, one_more, IsNext, Listed, none_listed, some_listed, IsCall, IsElse, without_else, with_else, IsWait, IsValue, computed, awaited, SpellsStmt, SpellsBlock, SpellsStmts, defines, assigns, awaits, tests, chooses, repeats, returns, throws, yields, braces, none, more, IsInvariant, no_invariant, an_invariant, IsMethod, IsActor, IsDecl, an_actor, a_root, IsScript}

@@ -1,5 +1,5 @@
 -- Values with commas between them.
-use Rattle.std.proofs.Common.{◌≡◌, ℕ, zero, suc, ◌+◌, ◌<◌, List, [], ◌∷◌, ◌++◌, length, Option, Some, None, Result, Ok, Err, refl, sym, ap, subst, ◌∙◌, append_assoc, length-append, arith}
+use Rattle.std.proofs.Common.{◌≡◌, ℕ, zero, suc, ◌+◌, ◌<◌, List, [], ◌∷◌, ◌++◌, length, Option, Some, None, Result, Ok, refl, sym, ap, subst, ◌∙◌, append_assoc, length-append, arith}
 use Rattle.swift_grammar.specs.declared.fault.Kind.{Kind}
 use Rattle.swift_tokens.specs.declared.mark.Mark.TheVariants as mark
 use Rattle.swift_tokens.specs.Pieces.{Piece, Sign}
@@ -8,7 +8,7 @@ use Rattle.swift_grammar.specs.Reading.{◌>>=◌}
 use Rattle.swift_grammar.specs.Parts.{sign_at, close_at, comma_at, on_stop, items_at, with_first, list_at}
 use Rattle.swift_grammar.proofs.Sound.{ok_is, bind_ok}
 use Rattle.swift_grammar.proofs.Tokens.{sign_is, close_is, close_now}
-use Rattle.swift_grammar.proofs.Items.{Taken, TakenUpTo, items_next, items_end, items_take}
+use Rattle.swift_grammar.proofs.Items.{Taken, items_next, items_end, items_take}
 
 -- what stands behind a value of a list
 pub data Separates : List Piece → Type 0 where

@@ -1,5 +1,5 @@
 -- What is read is spelled.
-use Rattle.std.proofs.Common.{◌≡◌, ◌≢◌, ℕ, zero, suc, ◌+◌, ◌-◌, ◌<◌, ◌≤◌, max, ◌⊎◌, inl, inr, Bool, true, false, cond, eqb, ltb, List, [], ◌∷◌, ◌++◌, Option, Some, None, Result, Ok, Err, refl, sym, ap, subst, ◌∙◌, append_assoc, arith}
+use Rattle.std.proofs.Common.{◌≡◌, ◌≢◌, ℕ, zero, suc, ◌-◌, ◌<◌, ◌≤◌, ◌⊎◌, inl, inr, Bool, true, false, cond, eqb, ltb, List, [], ◌∷◌, ◌++◌, Option, Some, None, Result, Ok, Err, refl, sym, ap, subst, ◌∙◌, append_assoc, arith}
 use Rattle.std.proofs.lemmas.Bool.{ltb-false, eqb-true}
 use Rattle.std.proofs.lemmas.Bool.Decides.{nat_tests}
 use Rattle.swift_grammar.specs.declared.fault.Kind.{Kind}
@@ -9,10 +9,10 @@ use Rattle.swift_types.specs.declared.operator.Operator.TheVariants as op
 use Rattle.swift_tokens.specs.declared.mark.Mark.{Mark}
 use Rattle.swift_tokens.specs.declared.mark.Mark.TheVariants as mark
 use Rattle.swift_tokens.specs.Pieces.{Piece}
-use Rattle.swift_tokens.specs.Pieces.{Num, Huge, Name, Key, Sign, Stray}
+use Rattle.swift_tokens.specs.Pieces.{Num, Name, Sign}
 use Rattle.swift_grammar.specs.Tree.{Tree, Number, Named, Negated, Inverted, Both, height_of}
 use Rattle.swift_grammar.specs.Grammar.{mark_of, tightness_of, Spells, IsExpression, number, name, parenthesis, negated, inverted, alone, chained, compared}
-use Rattle.swift_grammar.specs.Reading.{◌>>=◌, Read, operator_in, of_tightness, operator_of, with_rest, operator_at, most_operators, checked, closed_at, on_operator, unary_at, operands_at, level_at, inside_at, expr_in}
+use Rattle.swift_grammar.specs.Reading.{◌>>=◌, Read, operator_in, of_tightness, with_rest, operator_at, most_operators, checked, closed_at, on_operator, unary_at, operands_at, level_at, inside_at, expr_in}
 
 abbrev done : {A : Type 0} → A → Result A Kind
 done x = Ok x

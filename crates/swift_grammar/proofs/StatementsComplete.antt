@@ -1,16 +1,14 @@
 -- Statements that are spelled are read.
-use Rattle.std.proofs.Common.{◌≡◌, ℕ, zero, suc, ◌+◌, ◌-◌, ◌<◌, ◌≤◌, Bool, true, false, List, [], ◌∷◌, ◌++◌, length, Option, Some, None, Result, Ok, Err, refl, sym, ap, subst, ◌∙◌, append_assoc, length-append, arith}
-use Rattle.swift_grammar.specs.declared.fault.Kind.{Kind}
+use Rattle.std.proofs.Common.{◌≡◌, ℕ, zero, suc, ◌-◌, ◌<◌, Bool, true, false, List, [], ◌∷◌, ◌++◌, length, Option, None, Ok, refl, sym, ap, subst, ◌∙◌, append_assoc, length-append, arith}
 use Rattle.swift_tokens.specs.declared.keyword.Keyword.TheVariants as key
 use Rattle.swift_tokens.specs.declared.mark.Mark.TheVariants as mark
-use Rattle.swift_tokens.specs.Pieces.{Piece, Num, Name, Key, Sign}
-use Rattle.swift_grammar.specs.Tree.{Tree, CallTree, WaitTree, ValueTree, Computed, Awaited, Step, Defines, Assigns, Awaits, Tests, Chooses, Repeats, Returns, Throws, Yields, steps_of}
+use Rattle.swift_tokens.specs.Pieces.{Piece, Key, Sign}
+use Rattle.swift_grammar.specs.Tree.{Tree, CallTree, WaitTree, ValueTree, Computed, Awaited, Step, Tests, Chooses, steps_of}
 use Rattle.swift_grammar.specs.Grammar.{IsExpression, Listed, IsCall, IsElse, without_else, with_else, IsWait, IsValue, computed, awaited, SpellsStmt, SpellsBlock, SpellsStmts, defines, assigns, awaits, tests, chooses, repeats, returns, throws, yields, braces, none, more}
 use Rattle.swift_grammar.specs.Reading.{◌>>=◌, operator_at, expr_in}
 use Rattle.swift_grammar.specs.Parts.{name_at, sign_at, brace_at, close_at, items_at, list_at}
 use Rattle.swift_grammar.specs.Statements.{ReadSteps, call_at, else_at, wait_at, value_at, choice_at, stmt_at, many_at, block_at}
 use Rattle.swift_grammar.proofs.Complete.{Stops, expr_again, opens_expression, Begins, spelled_begins}
-use Rattle.swift_grammar.proofs.Tokens.{brace_now}
 use Rattle.swift_grammar.proofs.Lists.{Separates, before_comma, before_close, list_again}
 
 pub stops_semicolon : (rest : List Piece) → Stops 5 (Sign mark.Semicolon ∷ rest)

@@ -1,19 +1,18 @@
 -- Statements that are read are spelled.
-use Rattle.std.proofs.Common.{◌≡◌, ℕ, zero, suc, ◌-◌, ◌<◌, List, [], ◌∷◌, ◌++◌, length, Option, Some, None, Result, Ok, Err, refl, sym, ap, subst, ◌∙◌, append_assoc, arith}
-use Rattle.std.proofs.lemmas.List.{append-nil}
+use Rattle.std.proofs.Common.{◌≡◌, ℕ, zero, suc, ◌-◌, ◌<◌, List, [], ◌∷◌, ◌++◌, length, Option, Some, None, Result, Ok, refl, sym, ap, subst, ◌∙◌, append_assoc}
 use Rattle.swift_grammar.specs.declared.fault.Kind.{Kind}
 use Rattle.swift_tokens.specs.declared.keyword.Keyword.TheVariants as key
 use Rattle.swift_tokens.specs.declared.mark.Mark.TheVariants as mark
-use Rattle.swift_tokens.specs.Pieces.{Piece, Num, Name, Key, Sign}
+use Rattle.swift_tokens.specs.Pieces.{Piece, Name, Key, Sign}
 use Rattle.swift_grammar.specs.Tree.{Tree, CallTree, WaitTree, ValueTree, Computed, Awaited, Step, Defines, Assigns, Awaits, Tests, Chooses, Repeats, Returns, Throws, Yields, steps_of}
 use Rattle.swift_grammar.specs.Grammar.{IsExpression, IsCall, IsElse, without_else, with_else, IsWait, IsValue, computed, awaited, SpellsStmt, SpellsBlock, SpellsStmts, defines, assigns, awaits, tests, chooses, repeats, returns, throws, yields, braces, none, more}
 use Rattle.swift_grammar.specs.Reading.{◌>>=◌, expr_in}
 use Rattle.swift_grammar.specs.Parts.{name_at, sign_at, brace_at, on_stop, items_at, list_at}
-use Rattle.swift_grammar.specs.Statements.{ReadSteps, call_at, else_at, wait_at, value_at, choice_at, stmt_at, many_at, block_at}
-use Rattle.swift_grammar.proofs.Sound.{ok_is, some_is, bind_ok, TakesExpr, expr_takes}
+use Rattle.swift_grammar.specs.Statements.{call_at, else_at, wait_at, value_at, choice_at, stmt_at, many_at, block_at}
+use Rattle.swift_grammar.proofs.Sound.{ok_is, bind_ok, expr_takes}
 use Rattle.swift_grammar.proofs.Tokens.{sign_is, name_is, brace_is}
 use Rattle.swift_grammar.proofs.Items.{Taken}
-use Rattle.swift_grammar.proofs.Lists.{TakenList, list_take}
+use Rattle.swift_grammar.proofs.Lists.{list_take}
 
 -- what was taken from the front is spelled so
 pub record TakesStmt (limit o : ℕ) (ts : List Piece) (x : Step × List Piece) : Type 0 where

@@ -1,7 +1,6 @@
 -- What was read where one token was taken.
-use Rattle.std.proofs.Common.{◌≡◌, ℕ, zero, suc, Bool, true, false, cond, eqb, List, [], ◌∷◌, Option, Some, None, Result, Ok, Err, refl, sym, ap, ◌∙◌}
+use Rattle.std.proofs.Common.{◌≡◌, ℕ, zero, suc, Bool, true, false, cond, eqb, List, [], ◌∷◌, Some, Ok, Err, refl, sym, ap, ◌∙◌}
 use Rattle.std.proofs.lemmas.Bool.{eqb-true}
-use Rattle.swift_grammar.specs.declared.fault.Kind.{Kind}
 use Rattle.swift_grammar.specs.declared.fault.Kind.TheVariants.{Unexpected}
 use Rattle.swift_tokens.specs.declared.mark.Mark.{Mark}
 use Rattle.swift_tokens.specs.declared.mark.Mark.TheVariants as mark

@@ -1,9 +1,6 @@
 -- The laws of whole scripts.
-use Rattle.std.proofs.Common.{◌≡◌, ℕ, ◌+◌, ◌<◌, ◌≤◌, List, [], map, length, Result, Ok, Err, refl, sym, ap, subst, ◌∙◌, arith}
-use Rattle.std.specs.declared.vec.Vec.{Vec}
-use Rattle.std.specs.declared.alloc.Global.{Global}
+use Rattle.std.proofs.Common.{◌≡◌, ℕ, ◌+◌, List, [], length, Ok, Err, sym, ap, subst, ◌∙◌, arith}
 use Rattle.swift_tokens.specs.Pieces.{Piece}
-use Rattle.swift_grammar.specs.declared.fault.Kind.{Kind}
 use Rattle.swift_grammar.specs.declared.fault.ReadError.{ReadError}
 use Rattle.swift_grammar.specs.declared.fault.ReadError.TheVariants as errors
 use Rattle.swift_grammar.specs.Tree.{DeclTree}

@@ -1,4 +1,4 @@
--- Reading declarations.
+-- Reading declarations: the code's own way.
 use Rattle.std.specs.Prelude.{ℕ, ℤ, neg_ℤ, ◌+◌, Option, Some, None, List, [], ◌∷◌, length, Result, Ok, Err, if◌then◌else◌}
 use Rattle.std.specs.Ordering.{int_eq}
 use Rattle.swift_types.specs.declared.priority.Priority.{Priority}
@@ -14,15 +14,18 @@ use Rattle.swift_grammar.specs.Reading.{◌>>=◌, expr_in}
 use Rattle.swift_grammar.specs.Parts.{name_at, sign_at, brace_at, items_at, list_at}
 use Rattle.swift_grammar.specs.Statements.{block_at}
 
+-- a number, and what is behind it
 unfoldable pub number_at : List Piece → Result (ℤ × List Piece) Kind
 number_at [] = Err EndsEarly
 number_at (Num v ∷ ts) = Ok (v, ts)
 number_at (Huge ∷ ts) = Err OutOfRange
 number_at (_ ∷ ts) = Err Unexpected
 
+-- the opposite of a number, if there is one
 unfoldable pub opposite_at : ℤ → List Piece → Result (ℤ × List Piece) Kind
 opposite_at v ts = if int_eq v least then Err OutOfRange else Ok (neg_ℤ v, ts)
 
+-- a number, perhaps behind a minus
 unfoldable pub int_at : List Piece → Result (ℤ × List Piece) Kind
 int_at (Sign mark.Minus ∷ ts) = do
   v ← number_at ts
@@ -34,6 +37,7 @@ unfoldable pub fields_end : List Piece → Option (List Piece)
 fields_end (Key key.Var ∷ ts) = None
 fields_end ts = Some ts
 
+-- a field
 unfoldable pub field_at : List Piece → Result (FieldTree × List Piece) Kind
 field_at [] = Err EndsEarly
 field_at (Key key.Var ∷ ts) = do
@@ -44,6 +48,7 @@ field_at (Key key.Var ∷ ts) = do
   Ok (record { name = n.0; start = v.0 }, s)
 field_at (_ ∷ ts) = Err Unexpected
 
+-- an invariant, if one stands there
 unfoldable pub invariant_at : ℕ → List Piece → Result (Option Tree × List Piece) Kind
 invariant_at limit (Key key.Invariant ∷ ts) = do
   e ← expr_in limit limit ts
@@ -51,6 +56,7 @@ invariant_at limit (Key key.Invariant ∷ ts) = do
   Ok (Some e.0, s)
 invariant_at limit ts = Ok (None, ts)
 
+-- a method
 unfoldable pub method_at : ℕ → List Piece → Result (MethodTree × List Piece) Kind
 method_at limit [] = Err EndsEarly
 method_at limit (Key key.Func ∷ ts) = do
@@ -71,6 +77,7 @@ actor_at limit ts = do
   m ← items_at brace_at (method_at limit) (length i.1 + 1) i.1
   Ok (record { name = n.0; fields = f.0; invariant = i.0; methods = m.0 }, m.1)
 
+-- the priority, if the keyword named one
 abbrev pub chosen_priority : Option Priority → List Piece → Result (Priority × List Piece) Kind
 chosen_priority None ts = Err Unexpected
 chosen_priority (Some p) ts = Ok (p, ts)
@@ -81,6 +88,7 @@ level_named_at [] = Err EndsEarly
 level_named_at (Key k ∷ ts) = chosen_priority (priority_of k) ts
 level_named_at (_ ∷ ts) = Err Unexpected
 
+-- a priority behind `at`, or medium
 unfoldable pub priority_at : List Piece → Result (Priority × List Piece) Kind
 priority_at (Key key.At ∷ ts) = level_named_at ts
 priority_at ts = Ok (Medium, ts)
@@ -99,6 +107,7 @@ root_at ts = do
   s ← sign_at mark.Semicolon p.1
   Ok (record { name = n.0; actor = a.0; method = m.0; args = v.0; priority = p.0 }, s)
 
+-- a declaration
 unfoldable pub decl_at : ℕ → List Piece → Result (DeclTree × List Piece) Kind
 decl_at limit [] = Err EndsEarly
 decl_at limit (Key key.Actor ∷ ts) = do
@@ -114,5 +123,6 @@ unfoldable pub decls_end : List Piece → Option (List Piece)
 decls_end [] = Some []
 decls_end (t ∷ ts) = None
 
+-- all declarations of a text
 abbrev pub decls_at : ℕ → List Piece → Result (List DeclTree × List Piece) Kind
 decls_at limit ts = items_at decls_end (decl_at limit) (length ts + 1) ts

@@ -1,6 +1,6 @@
 -- The grammar: which tokens spell which tree. One limit bounds the open blocks, the open parentheses and the height of
--- an expression.
-use Rattle.std.specs.Prelude.{◌≡◌, ◌≢◌, ◌≤◌, ◌-◌, ℕ, ℤ, pos, negsuc, neg_ℤ, zero, suc, Bool, true, false, List, [], ◌∷◌, ◌++◌, Option, Some, None}
+-- an expression. It is read from IsScript, at the end, upwards. (Own.)
+use Rattle.std.specs.Prelude.{◌≡◌, ◌≢◌, ◌≤◌, ◌-◌, ℕ, ℤ, negsuc, neg_ℤ, zero, suc, List, [], ◌∷◌, ◌++◌, Option, Some, None}
 use Rattle.swift_types.specs.declared.operator.Operator.{Operator}
 use Rattle.swift_types.specs.declared.operator.Operator.TheVariants as op
 use Rattle.swift_tokens.specs.declared.mark.Mark.{Mark}
@@ -13,7 +13,7 @@ use Rattle.swift_types.specs.declared.priority.Priority.{Priority}
 use Rattle.swift_types.specs.declared.priority.Priority.TheVariants.{Background, Low, Medium, High}
 use Rattle.swift_grammar.specs.Tree.{Tree, Number, Named, Negated, Inverted, Both, height_of, CallTree, WaitTree, ValueTree, Computed, Awaited, Step, Defines, Assigns, Awaits, Tests, Chooses, Repeats, Returns, Throws, Yields, steps_of, FieldTree, MethodTree, ActorTree, RootTree, DeclTree, Acts, Roots}
 
--- the marks of the operators between two operands
+-- the mark of an operator between two operands
 abbrev pub mark_of : Operator → Mark
 mark_of op.Or = mark.Or
 mark_of op.And = mark.And
@@ -41,7 +41,7 @@ tightness_of op.Plus = 2
 tightness_of op.Minus = 2
 tightness_of op.Times = 1
 
--- Spells opens level tokens tree: the tokens are the tree's, with at most so many parentheses open at once.
+-- Spells opens level tokens tree: the tokens spell the tree, with at most so many parentheses open at once.
 -- Level 0 is an atom behind prefixes; level n + 1 is operands of level n between operators of tightness n + 1.
 pub data Spells : ℕ → ℕ → List Piece → Tree → Type 0 where
   number : {o : ℕ} (n : _) → Spells o zero (Num n ∷ []) (Number n)
@@ -49,14 +49,14 @@ pub data Spells : ℕ → ℕ → List Piece → Tree → Type 0 where
   parenthesis : {o : ℕ} {ts : List Piece} {t : Tree} → Spells o 5 ts t → Spells (suc o) zero (Sign mark.Open ∷ (ts ++ Sign mark.Close ∷ [])) t
   negated : {o : ℕ} {ts : List Piece} {t : Tree} → Spells o zero ts t → Spells o zero (Sign mark.Minus ∷ ts) (Negated t)
   inverted : {o : ℕ} {ts : List Piece} {t : Tree} → Spells o zero ts t → Spells o zero (Sign mark.Bang ∷ ts) (Inverted t)
-  -- one operand alone
+  -- One operand alone is an expression of the next level.
   alone : {o k : ℕ} {ts : List Piece} {t : Tree} → Spells o k ts t → Spells o (suc k) ts t
-  -- repeated operators group to the left
+  -- Repeated operators group to the left, and are no comparisons.
   chained : {o k : ℕ} {ls rs : List Piece} {a b : Tree} (op : Operator) → suc k ≡ tightness_of op → suc k ≢ 3 → Spells o (suc k) ls a → Spells o k rs b → Spells o (suc k) (ls ++ Sign (mark_of op) ∷ rs) (Both op a b)
-  -- a comparison has two operands
+  -- A comparison has two operands, neither of which is a comparison outside a parenthesis.
   compared : {o k : ℕ} {ls rs : List Piece} {a b : Tree} (op : Operator) → suc k ≡ tightness_of op → suc k ≡ 3 → Spells o k ls a → Spells o k rs b → Spells o (suc k) (ls ++ Sign (mark_of op) ∷ rs) (Both op a b)
 
--- An expression no higher than the limit, with at most so many parentheses open at once.
+-- Tokens are an expression: they spell a tree no higher than the limit, with at most so many parentheses open at once.
 pub record IsExpression (limit opens : ℕ) (tokens : List Piece) (tree : Tree) : Type 0 where
   pub spelled : Spells opens 5 tokens tree
   pub low : height_of tree ≤ limit
@@ -66,28 +66,29 @@ pub data Each {A : Type 0} (Is : List Piece → A → Type 0) : List Piece → L
   no_more : Each Is [] []
   one_more : {ts us : List Piece} {x : A} {xs : List A} → Is ts x → Each Is us xs → Each Is (ts ++ us) (x ∷ xs)
 
--- a comma, and a value
+-- Tokens are a comma and a value behind it.
 pub record IsNext {A : Type 0} (Is : List Piece → A → Type 0) (ts : List Piece) (x : A) : Type 0 where
   pub item : List Piece
   pub is : Is item x
   pub all : ts ≡ Sign mark.Comma ∷ item
 
--- values with commas between them
+-- Listed Is tokens values: the tokens are those of the values, with a comma between each two.
 pub data Listed {A : Type 0} (Is : List Piece → A → Type 0) : List Piece → List A → Type 0 where
   none_listed : Listed Is [] []
   some_listed : {ts us : List Piece} {x : A} {xs : List A} → Is ts x → Each (IsNext Is) us xs → Listed Is (ts ++ us) (x ∷ xs)
 
--- A call. Its parenthesis is open around its arguments.
+-- Tokens are a call: `actor.method(..)`, whose parenthesis is open around each of its arguments.
 pub record IsCall (limit : ℕ) (ts : List Piece) (c : CallTree) : Type 0 where
   pub args : List Piece
   pub has_args : Listed (IsExpression limit (limit - 1)) args c.args
   pub all : ts ≡ Name c.actor ∷ Sign mark.Dot ∷ Name c.method ∷ Sign mark.Open ∷ (args ++ Sign mark.Close ∷ [])
 
--- an `else` with its value, or nothing
+-- Tokens are an `else` with its value, or there are none.
 pub data IsElse (limit : ℕ) : List Piece → Option Tree → Type 0 where
   without_else : IsElse limit [] None
   with_else : {ts : List Piece} {t : Tree} → IsExpression limit limit ts t → IsElse limit (Key key.Else ∷ ts) (Some t)
 
+-- Tokens are a call, and perhaps an `else`.
 pub record IsWait (limit : ℕ) (ts : List Piece) (w : WaitTree) : Type 0 where
   pub call : List Piece
   pub other : List Piece
@@ -95,11 +96,12 @@ pub record IsWait (limit : ℕ) (ts : List Piece) (w : WaitTree) : Type 0 where
   pub has_other : IsElse limit other w.other
   pub all : ts ≡ call ++ other
 
+-- Tokens are an expression, or `await` and what is waited for.
 pub data IsValue (limit : ℕ) : List Piece → ValueTree → Type 0 where
   computed : {ts : List Piece} {t : Tree} → IsExpression limit limit ts t → IsValue limit ts (Computed t)
   awaited : {ts : List Piece} {w : WaitTree} → IsWait limit ts w → IsValue limit (Key key.Await ∷ ts) (Awaited w)
 
--- Statements, with at most so many further blocks open at once.
+-- Statements, with at most so many further blocks open at once. Each form of a statement has a case of its own.
 mutual
   pub data SpellsStmt (limit : ℕ) : ℕ → List Piece → Step → Type 0 where
     defines : {o : ℕ} (n : List ℕ) {ts : List Piece} {v : ValueTree} → IsValue limit ts v → SpellsStmt limit o (Key key.Let ∷ Name n ∷ Sign mark.Assign ∷ (ts ++ Sign mark.Semicolon ∷ [])) (Defines n v)
@@ -112,9 +114,11 @@ mutual
     throws : {o : ℕ} {ts : List Piece} {t : Tree} → IsExpression limit limit ts t → SpellsStmt limit o (Key key.Throw ∷ (ts ++ Sign mark.Semicolon ∷ [])) (Throws t)
     yields : {o : ℕ} → SpellsStmt limit o (Key key.Yield ∷ Sign mark.Semicolon ∷ []) Yields
 
+  -- Tokens are a block: statements in braces, which are one more open block.
   pub data SpellsBlock (limit : ℕ) : ℕ → List Piece → List Step → Type 0 where
     braces : {o : ℕ} {ts : List Piece} {ss : List Step} → SpellsStmts limit o ts ss → SpellsBlock limit (suc o) (Sign mark.OpenBrace ∷ (ts ++ Sign mark.CloseBrace ∷ [])) ss
 
+  -- Tokens are those of the statements, one after the other.
   pub data SpellsStmts (limit : ℕ) : ℕ → List Piece → List Step → Type 0 where
     none : {o : ℕ} → SpellsStmts limit o [] []
     more : {o : ℕ} {ts us : List Piece} {s : Step} {ss : List Step} → SpellsStmt limit o ts s → SpellsStmts limit o us ss → SpellsStmts limit o (ts ++ us) (s ∷ ss)
@@ -123,24 +127,27 @@ mutual
 abbrev pub least : ℤ
 least = negsuc 9223372036854775807
 
--- a number, perhaps behind a minus
+-- Tokens are a whole number, perhaps behind a minus. The opposite of the least one does not fit.
 pub data IsInt : List Piece → ℤ → Type 0 where
   plain : (v : ℤ) → IsInt (Num v ∷ []) v
   opposite : (v : ℤ) → v ≢ least → IsInt (Sign mark.Minus ∷ Num v ∷ []) (neg_ℤ v)
 
+-- Tokens are one name.
 abbrev pub IsName : List Piece → List ℕ → Type 0
 IsName ts n = ts ≡ Name n ∷ []
 
+-- Tokens are a field: `var name = start;`.
 pub record IsField (ts : List Piece) (f : FieldTree) : Type 0 where
   pub start : List Piece
   pub has_start : IsInt start f.start
   pub all : ts ≡ Key key.Var ∷ Name f.name ∷ Sign mark.Assign ∷ (start ++ Sign mark.Semicolon ∷ [])
 
--- an invariant, or nothing
+-- Tokens are `invariant test;`, or there are none.
 pub data IsInvariant (limit : ℕ) : List Piece → Option Tree → Type 0 where
   no_invariant : IsInvariant limit [] None
   an_invariant : {ts : List Piece} {t : Tree} → IsExpression limit limit ts t → IsInvariant limit (Key key.Invariant ∷ (ts ++ Sign mark.Semicolon ∷ [])) (Some t)
 
+-- Tokens are a method: `func name(..)` and its block, which is the first open one.
 pub record IsMethod (limit : ℕ) (ts : List Piece) (m : MethodTree) : Type 0 where
   pub params : List Piece
   pub body : List Piece
@@ -148,6 +155,7 @@ pub record IsMethod (limit : ℕ) (ts : List Piece) (m : MethodTree) : Type 0 wh
   pub has_body : SpellsBlock limit limit body m.body
   pub all : ts ≡ Key key.Func ∷ Name m.name ∷ Sign mark.Open ∷ (params ++ (Sign mark.Close ∷ body))
 
+-- Tokens are an actor: `actor name`, and in braces its fields, perhaps its invariant, and its methods.
 pub record IsActor (limit : ℕ) (ts : List Piece) (a : ActorTree) : Type 0 where
   pub fields : List Piece
   pub invariant : List Piece
@@ -157,7 +165,7 @@ pub record IsActor (limit : ℕ) (ts : List Piece) (a : ActorTree) : Type 0 wher
   pub has_methods : Each (IsMethod limit) methods a.methods
   pub all : ts ≡ Key key.Actor ∷ Name a.name ∷ Sign mark.OpenBrace ∷ (fields ++ (invariant ++ (methods ++ Sign mark.CloseBrace ∷ [])))
 
--- the priority of a keyword
+-- the priority that a keyword names, if it names one
 abbrev pub priority_of : Keyword → Option Priority
 priority_of key.Background = Some Background
 priority_of key.Low = Some Low
@@ -165,11 +173,12 @@ priority_of key.Medium = Some Medium
 priority_of key.High = Some High
 priority_of _ = None
 
--- a priority behind `at`; without one it is medium
+-- Tokens are `at` and a priority. Where there are none, the priority is medium.
 pub data IsPriority : List Piece → Priority → Type 0 where
   not_given : IsPriority [] Medium
   given : (k : Keyword) (p : Priority) → priority_of k ≡ Some p → IsPriority (Key key.At ∷ Key k ∷ []) p
 
+-- Tokens are a root: `root name = actor.method(..)`, perhaps its priority, and a semicolon.
 pub record IsRoot (ts : List Piece) (r : RootTree) : Type 0 where
   pub args : List Piece
   pub priority : List Piece
@@ -177,10 +186,11 @@ pub record IsRoot (ts : List Piece) (r : RootTree) : Type 0 where
   pub has_priority : IsPriority priority r.priority
   pub all : ts ≡ Key key.Root ∷ Name r.name ∷ Sign mark.Assign ∷ Name r.actor ∷ Sign mark.Dot ∷ Name r.method ∷ Sign mark.Open ∷ (args ++ (Sign mark.Close ∷ (priority ++ Sign mark.Semicolon ∷ [])))
 
+-- Tokens are a declaration: an actor or a root.
 pub data IsDecl (limit : ℕ) : List Piece → DeclTree → Type 0 where
   an_actor : {ts : List Piece} {a : ActorTree} → IsActor limit ts a → IsDecl limit ts (Acts a)
   a_root : {ts : List Piece} {r : RootTree} → IsRoot ts r → IsDecl limit ts (Roots r)
 
--- Tokens spell a script's declarations, in text order.
+-- Tokens are a script: those of its declarations, one after the other, in text order.
 abbrev pub IsScript : ℕ → List Piece → List DeclTree → Type 0
 IsScript limit ts decls = Each (IsDecl limit) ts decls

@@ -1,4 +1,4 @@
--- The parts of a rule that are one token.
+-- Reading the parts of a rule that are one token, and lists: the code's own way.
 use Rattle.std.specs.Prelude.{ℕ, zero, suc, ◌+◌, length, Option, Some, None, List, [], ◌∷◌, Result, Ok, Err, ◌==◌, if◌then◌else◌}
 use Rattle.swift_grammar.specs.declared.fault.Kind.{Kind}
 use Rattle.swift_grammar.specs.declared.fault.Kind.TheVariants.{Unexpected, EndsEarly}
@@ -32,11 +32,13 @@ code_of mark.And = 18
 code_of mark.Or = 19
 code_of mark.At = 20
 
+-- a name, and what is behind it
 unfoldable pub name_at : List Piece → Result (List ℕ × List Piece) Kind
 name_at [] = Err EndsEarly
 name_at (Name n ∷ rest) = Ok (n, rest)
 name_at (_ ∷ rest) = Err Unexpected
 
+-- what is behind this mark
 unfoldable pub sign_at : Mark → List Piece → Result (List Piece) Kind
 sign_at m [] = Err EndsEarly
 sign_at m (Sign found ∷ rest) = if code_of found == code_of m then Ok rest else Err Unexpected
@@ -48,15 +50,17 @@ brace_at [] = None
 brace_at (Sign mark.CloseBrace ∷ rest) = Some rest
 brace_at (_ ∷ rest) = None
 
+-- what to do where items end, and where they go on
 abbrev pub on_stop : {A : Type 0} → Option (List Piece) → (List Piece → A) → A → A
 on_stop None stop go = go
 on_stop (Some rest) stop go = stop rest
 
--- at most n items, up to what stops them
+-- items up to what stops them, of which there are fewer than n
 unfoldable pub items_at : {A : Type 0} → (List Piece → Option (List Piece)) → (List Piece → Result (A × List Piece) Kind) → ℕ → List Piece → Result (List A × List Piece) Kind
 items_at stop read zero ts = Err EndsEarly
 items_at stop read (suc n) ts = on_stop (stop ts) (λ rest. Ok ([], rest)) (read ts >>= λ x. items_at stop read n x.1 >>= λ xs. Ok (x.0 ∷ xs.0, xs.1))
 
+-- what is read, with one more item in front
 abbrev pub with_first : {A : Type 0} → A → Result (List A × List Piece) Kind → Result (List A × List Piece) Kind
 with_first a read = read >>= λ x. Ok (a ∷ x.0, x.1)
 

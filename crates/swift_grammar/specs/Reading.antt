@@ -1,5 +1,6 @@
--- Reading from left to right, with the first fault that is met.
-use Rattle.std.specs.Prelude.{◌≡◌, ◌-◌, ℕ, ℤ, zero, suc, List, [], ◌∷◌, Option, Some, None, Result, Ok, Err, Bool, nat_lt, ◌==◌, if◌then◌else◌}
+-- Reading from left to right, with the first fault that is met: the code's own way, which is proved to find just what the
+-- grammar says.
+use Rattle.std.specs.Prelude.{◌≡◌, ◌-◌, ℕ, zero, suc, List, [], ◌∷◌, Option, Some, None, Result, Ok, Err, nat_lt, ◌==◌, if◌then◌else◌}
 use Rattle.swift_grammar.specs.declared.fault.Kind.{Kind}
 use Rattle.swift_grammar.specs.declared.fault.Kind.TheVariants.{Unexpected, OutOfRange, EndsEarly, TooDeep}
 use Rattle.swift_grammar.specs.declared.fault.ReadError.{ReadError}
@@ -9,29 +10,32 @@ use Rattle.swift_types.specs.declared.operator.Operator.TheVariants as op
 use Rattle.swift_tokens.specs.declared.mark.Mark.{Mark}
 use Rattle.swift_tokens.specs.declared.mark.Mark.TheVariants as mark
 use Rattle.swift_tokens.specs.Pieces.{Piece}
-use Rattle.swift_tokens.specs.Pieces.{Num, Huge, Name, Key, Sign, Stray}
+use Rattle.swift_tokens.specs.Pieces.{Num, Huge, Name, Sign}
 use Rattle.swift_grammar.specs.Tree.{Tree, Number, Named, Negated, Inverted, Both, height_of}
 use Rattle.swift_grammar.specs.Grammar.{tightness_of}
 
+-- What is read first, and then what f reads behind it; the first fault ends it.
 infixl 10 ◌>>=◌
 abbrev pub ◌>>=◌ : {A B : Type 0} → Result A Kind → (A → Result B Kind) → Result B Kind
 (Ok x) >>= f = f x
 (Err e) >>= f = Err e
 
--- What a function returned, seen by view, is what reading gives, unless memory ran out.
+-- The fault that a function returned is of the kind that reading gives, unless memory ran out.
 abbrev pub Fails : {Y : Type 0} → ReadError → Result Y Kind → Type 0
 Fails errors.Memory read = Unit {0}
 Fails (errors.Fault f) read = read ≡ Err f.kind
 
+-- What a function returned, seen by view, is what reading gives, unless memory ran out.
 abbrev pub Gives : {X Y : Type 0} → (X → Y) → Result X ReadError → Result Y Kind → Type 0
 Gives view (Ok x) read = read ≡ Ok (view x)
 Gives view (Err e) read = Fails e read
 
--- a fault of this kind
+-- The error is a fault of this kind.
 abbrev pub IsOfKind : ReadError → Kind → Type 0
 IsOfKind errors.Memory kind = ⊥
 IsOfKind (errors.Fault f) kind = f.kind ≡ kind
 
+-- Reading an expression gives its tree and the tokens behind it.
 abbrev pub Read : Type 0
 Read = List Piece → Result (Tree × List Piece) Kind
 
@@ -50,14 +54,17 @@ operator_in mark.Minus = Some op.Minus
 operator_in mark.Times = Some op.Times
 operator_in _ = None
 
+-- the operator, if it is of this tightness
 abbrev pub of_tightness : ℕ → Option Operator → Option Operator
 of_tightness k None = None
 of_tightness k (Some o) = if tightness_of o == k then Some o else None
 
+-- the operator of just this tightness that a token is
 abbrev pub operator_of : ℕ → Piece → Option Operator
 operator_of k (Sign m) = of_tightness k (operator_in m)
 operator_of k _ = None
 
+-- the operator, if there is one, and what is behind it
 abbrev pub with_rest : Option Operator → List Piece → Option (Operator × List Piece)
 with_rest None ts = None
 with_rest (Some o) ts = Some (o, ts)
@@ -71,16 +78,17 @@ operator_at k (t ∷ ts) = with_rest (operator_of k t) ts
 abbrev pub most_operators : ℕ → ℕ → ℕ
 most_operators limit k = if k == 3 then 1 else limit
 
--- a tree no higher than the limit
+-- the tree, if it is no higher than the limit
 unfoldable pub checked : ℕ → Tree → Result Tree Kind
 checked limit t = if nat_lt limit (height_of t) then Err TooDeep else Ok t
 
+-- the tree, and what is behind the parenthesis that closes it
 unfoldable pub closed_at : Tree → List Piece → Result (Tree × List Piece) Kind
 closed_at t [] = Err EndsEarly
 closed_at t (Sign mark.Close ∷ rest) = Ok (t, rest)
 closed_at t (_ ∷ rest) = Err Unexpected
 
--- An atom behind at most n prefixes; inside reads what stands in a parenthesis.
+-- an atom behind at most n prefixes, where inside reads what stands in a parenthesis
 unfoldable pub unary_at : ℕ → Read → ℕ → Read
 unary_at limit inside n [] = Err EndsEarly
 unary_at limit inside n (Num v ∷ rest) = Ok (Number v, rest)
@@ -101,23 +109,24 @@ unary_at limit inside (suc n) (Sign mark.Bang ∷ rest) = do
   Ok (t, a.1)
 unary_at limit inside n (_ ∷ rest) = Err Unexpected
 
+-- what to do at an operator, and where there is none
 abbrev pub on_operator : {A : Type 0} → Option (Operator × List Piece) → A → (Operator → List Piece → A) → A
 on_operator None stop go = stop
 on_operator (Some x) stop go = go x.0 x.1
 
--- At most n further operands, each behind an operator of tightness k.
+-- at most n further operands, each behind an operator of tightness k
 unfoldable pub operands_at : ℕ → Read → ℕ → ℕ → Tree → Read
 operands_at limit operand k zero left ts = Ok (left, ts)
 operands_at limit operand k (suc n) left ts = on_operator (operator_at k ts) (Ok (left, ts)) (λ o rest. operand rest >>= λ right. checked limit (Both o left right.0) >>= λ t. operands_at limit operand k n t right.1)
 
--- An expression of this level.
+-- an expression of this level
 unfoldable pub level_at : ℕ → Read → ℕ → Read
 level_at limit inside zero ts = unary_at limit inside (limit - 1) ts
 level_at limit inside (suc k) ts = do
   first ← level_at limit inside k ts
   operands_at limit (level_at limit inside k) (suc k) (most_operators limit (suc k)) first.0 first.1
 
--- What stands in a parenthesis, where n further ones may be open.
+-- what stands in a parenthesis, where n may be opened
 unfoldable pub inside_at : ℕ → ℕ → Read
 inside_at limit zero ts = Err TooDeep
 inside_at limit (suc n) ts = level_at limit (inside_at limit n) 5 ts

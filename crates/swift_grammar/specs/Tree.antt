@@ -1,4 +1,4 @@
--- What a script says: its tree, without lines, parentheses and where it lies in memory. A name is its text.
+-- What a script says: its tree, without lines, parentheses and where it lies in memory. A name is its text. (Own.)
 use Rattle.std.specs.Prelude.{ℕ, ℤ, suc, max, List, [], ◌∷◌, map, Option, Some, None}
 use Rattle.swift_types.specs.declared.operator.Operator.{Operator}
 use Rattle.swift_types.specs.declared.priority.Priority.{Priority}
@@ -20,7 +20,7 @@ use Rattle.swift_grammar.specs.declared.declared.Root.{Root}
 use Rattle.swift_grammar.specs.declared.declared.Decl.{Decl}
 use Rattle.swift_grammar.specs.declared.declared.Decl.TheVariants as decl
 
--- an expression
+-- An expression is a number, a name, a prefix of an expression, or an operator between two.
 pub data Tree : Type 0 where
   Number : ℤ → Tree
   Named : List ℕ → Tree
@@ -28,24 +28,24 @@ pub data Tree : Type 0 where
   Inverted : Tree → Tree
   Both : Operator → Tree → Tree → Tree
 
--- a call of an actor's method
+-- A call names an actor and one of its methods, and has arguments.
 pub record CallTree : Type 0 where
   pub actor : List ℕ
   pub method : List ℕ
   pub args : List Tree
 
--- an awaited call, and what it gives where the call ends with a fault
+-- A wait is an awaited call, and perhaps what it gives where the call ends with a fault.
 pub record WaitTree : Type 0 where
   pub call : CallTree
   pub other : Option Tree
 
--- what a variable or a field is set to
+-- A variable or a field is set to an expression's value, or to what an awaited call gives.
 pub data ValueTree : Type 0 where
   Computed : Tree → ValueTree
   Awaited : WaitTree → ValueTree
 
 mutual
-  -- a statement
+  -- A statement makes a variable, sets one or a field, waits, chooses, repeats, or ends the turn.
   pub data Step : Type 0 where
     Defines : List ℕ → ValueTree → Step
     Assigns : List ℕ → ValueTree → Step
@@ -57,30 +57,35 @@ mutual
     Throws : Tree → Step
     Yields : Step
 
-  -- the statements of a block
+  -- The statements of a block stand in order.
   pub data Steps : Type 0 where
     nothing : Steps
     first_then : Step → Steps → Steps
 
+-- The statements of a list, as those of a block.
 abbrev pub steps_of : List Step → Steps
 steps_of [] = nothing
 steps_of (s ∷ ss) = first_then s (steps_of ss)
 
+-- A field has a name and a start value.
 pub record FieldTree : Type 0 where
   pub name : List ℕ
   pub start : ℤ
 
+-- A method has a name, the names of its parameters, and the statements of its block.
 pub record MethodTree : Type 0 where
   pub name : List ℕ
   pub params : List (List ℕ)
   pub body : List Step
 
+-- An actor has a name, fields, perhaps an invariant, and methods.
 pub record ActorTree : Type 0 where
   pub name : List ℕ
   pub fields : List FieldTree
   pub invariant : Option Tree
   pub methods : List MethodTree
 
+-- A root has a name, the actor and the method that it runs, arguments and a priority.
 pub record RootTree : Type 0 where
   pub name : List ℕ
   pub actor : List ℕ
@@ -88,15 +93,16 @@ pub record RootTree : Type 0 where
   pub args : List ℤ
   pub priority : Priority
 
--- a declaration
+-- A declaration is an actor or a root.
 pub data DeclTree : Type 0 where
   Acts : ActorTree → DeclTree
   Roots : RootTree → DeclTree
 
+-- the text of a name of the code
 abbrev pub text_of : NameAt → List ℕ
 text_of n = n.text.items
 
--- an expression of the code, without its boxes
+-- the tree of an expression of the code, whose boxes and places it leaves out
 abbrev pub view : Expr → Tree
 view (Num n) = Number n
 view (Name n) = Named n.text.items
@@ -104,21 +110,25 @@ view (Negate' p a) = Negated (view a)
 view (Not' p a) = Inverted (view a)
 view (Binary' o p a q b) = Both o (view a) (view b)
 
+-- the tree of an expression of the code, where there is one
 abbrev pub view_if : Option Expr → Option Tree
 view_if None = None
 view_if (Some e) = Some (view e)
 
+-- the tree of a call of the code
 abbrev pub view_call : Call → CallTree
 view_call c = record { actor = c.actor.text.items; method = c.method.text.items; args = map view c.args.items }
 
+-- the tree of a wait of the code
 abbrev pub view_wait : Wait → WaitTree
 view_wait w = record { call = view_call w.call; other = view_if w.other }
 
+-- the tree of a value of the code
 abbrev pub view_value : Value → ValueTree
 view_value (value.Expr e) = Computed (view e)
 view_value (value.Await w) = Awaited (view_wait w)
 
--- one statement, with the view of each inner one in its place
+-- the tree of one statement of the code, in which the inner ones are trees already
 abbrev pub view_one : Stmt-F Step → Step
 view_one (Let n v) = Defines n.text.items (view_value v)
 view_one (Assign n v) = Assigns n.text.items (view_value v)
@@ -130,30 +140,37 @@ view_one (Return e) = Returns (view e)
 view_one (Throw e) = Throws (view e)
 view_one Yield = Yields
 
+-- the tree of a statement of the code
 abbrev pub view_stmt : Stmt → Step
 view_stmt = fold-Stmt Step view_one
 
+-- the tree of a field of the code
 abbrev pub view_field : Field → FieldTree
 view_field f = record { name = f.name.text.items; start = f.start }
 
+-- the test of an invariant of the code, where there is one
 abbrev pub view_invariant : Option Invariant → Option Tree
 view_invariant None = None
 view_invariant (Some i) = Some (view i.test)
 
+-- the tree of a method of the code
 abbrev pub view_method : Method → MethodTree
 view_method m = record { name = m.name.text.items; params = map text_of m.params.items; body = map view_stmt m.body.items }
 
+-- the tree of an actor of the code
 abbrev pub view_actor : Actor → ActorTree
 view_actor a = record { name = a.name.text.items; fields = map view_field a.fields.items; invariant = view_invariant a.invariant; methods = map view_method a.methods.items }
 
+-- the tree of a root of the code
 abbrev pub view_root : Root → RootTree
 view_root r = record { name = r.name.text.items; actor = r.actor.text.items; method = r.method.text.items; args = r.args.items; priority = r.priority }
 
+-- the tree of a declaration of the code
 abbrev pub view_decl : Decl → DeclTree
 view_decl (decl.Actor a) = Acts (view_actor a)
 view_decl (decl.Root r) = Roots (view_root r)
 
--- an atom has height 1, and an operator has one more than its highest operand
+-- A number or a name has height 1, and a prefix or an operator has one more than its highest operand.
 abbrev pub height_of : Tree → ℕ
 height_of (Number n) = 1
 height_of (Named n) = 1

@@ -71,12 +71,12 @@ fn next_operator(level: u32, tokens: Tokens<'_>) -> Option<(Operator, Tokens<'_>
 }
 
 #[tactic(auto, unfolding(crate::specs::Reading::checked))]
-fn negated(alloc: Global, operand: Measured, rest: Tokens<'_>) -> Result<Measured, ReadError>
+fn negated(alloc: Global, operand: Measured, prefix: Tokens<'_>) -> Result<Measured, ReadError>
     ensures { Gives (λ m. view m.expr) result (checked 32 (Negated (view operand.expr))) }
 {
     let Measured { expr, height } = operand;
     if height == 32 {
-        return Err(refused(Kind::TooDeep, rest));
+        return Err(refused(Kind::TooDeep, prefix));
     }
     let expr = Expr::Negate(Box::new(alloc, expr)?);
     let height = height + 1;
@@ -84,12 +84,12 @@ fn negated(alloc: Global, operand: Measured, rest: Tokens<'_>) -> Result<Measure
 }
 
 #[tactic(auto, unfolding(crate::specs::Reading::checked))]
-fn inverted(alloc: Global, operand: Measured, rest: Tokens<'_>) -> Result<Measured, ReadError>
+fn inverted(alloc: Global, operand: Measured, prefix: Tokens<'_>) -> Result<Measured, ReadError>
     ensures { Gives (λ m. view m.expr) result (checked 32 (Inverted (view operand.expr))) }
 {
     let Measured { expr, height } = operand;
     if height == 32 {
-        return Err(refused(Kind::TooDeep, rest));
+        return Err(refused(Kind::TooDeep, prefix));
     }
     let expr = Expr::Not(Box::new(alloc, expr)?);
     let height = height + 1;
@@ -102,13 +102,13 @@ fn both(
     operator: Operator,
     left: Measured,
     right: Measured,
-    rest: Tokens<'_>,
+    between: Tokens<'_>,
 ) -> Result<Measured, ReadError>
     ensures { Gives (λ m. view m.expr) result (checked 32 (Both operator (view left.expr) (view right.expr))) }
 {
     let highest = left.height.max(right.height);
     if highest == 32 {
-        return Err(refused(Kind::TooDeep, rest));
+        return Err(refused(Kind::TooDeep, between));
     }
     let height = highest + 1;
     let left = Box::new(alloc, left.expr)?;
@@ -128,15 +128,16 @@ fn closed(inner: Measured, tokens: Tokens<'_>) -> Result<(Measured, Tokens<'_>),
     }
 }
 
-// An atom behind at most so many prefixes.
+// An atom behind at most so many further prefixes, the first of which stands at `from`.
 #[cycle(expression)]
 #[tactic(auto, unfolding(crate::specs::Reading::unary_at))]
-fn unary(
+fn unary<'a>(
     alloc: Global,
     opens: u32,
     prefixes: u32,
-    tokens: Tokens<'_>,
-) -> Result<(Measured, Tokens<'_>), ReadError>
+    from: Tokens<'_>,
+    tokens: Tokens<'a>,
+) -> Result<(Measured, Tokens<'a>), ReadError>
     ensures { Gives (λ x. (view x.0.expr, map piece x.1.now)) result (unary_at 32 (inside_at 32 opens) prefixes (map piece tokens.now)) }
 {
     match tokens {
@@ -151,22 +152,22 @@ fn unary(
         }
         [Token::Huge, ..] => Err(refused(Kind::OutOfRange, tokens)),
         [Token::Sign(Mark::Open), rest @ ..] => {
-            let (inner, rest) = inside(alloc, opens, rest)?;
+            let (inner, rest) = inside(alloc, opens, tokens, rest)?;
             closed(inner, rest)
         }
         [Token::Sign(Mark::Minus), rest @ ..] => {
             if prefixes == 0 {
-                return Err(refused(Kind::TooDeep, tokens));
+                return Err(refused(Kind::TooDeep, from));
             }
-            let (operand, rest) = unary(alloc, opens, prefixes - 1, rest)?;
-            Ok((negated(alloc, operand, rest)?, rest))
+            let (operand, rest) = unary(alloc, opens, prefixes - 1, from, rest)?;
+            Ok((negated(alloc, operand, tokens)?, rest))
         }
         [Token::Sign(Mark::Bang), rest @ ..] => {
             if prefixes == 0 {
-                return Err(refused(Kind::TooDeep, tokens));
+                return Err(refused(Kind::TooDeep, from));
             }
-            let (operand, rest) = unary(alloc, opens, prefixes - 1, rest)?;
-            Ok((inverted(alloc, operand, rest)?, rest))
+            let (operand, rest) = unary(alloc, opens, prefixes - 1, from, rest)?;
+            Ok((inverted(alloc, operand, tokens)?, rest))
         }
         _ => Err(refused(Kind::Unexpected, tokens)),
     }
@@ -184,7 +185,7 @@ fn level(
     ensures { Gives (λ x. (view x.0.expr, map piece x.1.now)) result (level_at 32 (inside_at 32 opens) loosest (map piece tokens.now)) }
 {
     if loosest == 0 {
-        return unary(alloc, opens, 31, tokens);
+        return unary(alloc, opens, 31, tokens, tokens);
     }
     let (first, rest) = level(alloc, opens, loosest - 1, tokens)?;
     let most = if loosest == 3 { 1 } else { 32 };
@@ -205,29 +206,32 @@ fn operands(
     requires { 0 < tightness }
     ensures { Gives (λ x. (view x.0.expr, map piece x.1.now)) result (operands_at 32 (level_at 32 (inside_at 32 opens) (tightness - 1)) tightness most (view first.expr) (map piece tokens.now)) }
 {
-    if most == 0 {
-        return Ok((first, tokens));
+    let mut left = first;
+    let mut rest = tokens;
+    for _ in 0..most {
+        let Some((operator, behind)) = next_operator(tightness, rest) else {
+            return Ok((left, rest));
+        };
+        let (right, after) = level(alloc, opens, tightness - 1, behind)?;
+        left = both(alloc, operator, left, right, rest)?;
+        rest = after;
     }
-    let Some((operator, behind)) = next_operator(tightness, tokens) else {
-        return Ok((first, tokens));
-    };
-    let (right, after) = level(alloc, opens, tightness - 1, behind)?;
-    let left = both(alloc, operator, first, right, after)?;
-    operands(alloc, opens, tightness, most - 1, left, after)
+    Ok((left, rest))
 }
 
-// What stands in a parenthesis, where so many further ones may be open.
+// What stands in the parenthesis at `open`, where so many may be opened.
 #[cycle(expression)]
 #[tactic(auto, unfolding(crate::specs::Reading::inside_at))]
-fn inside(
+fn inside<'a>(
     alloc: Global,
     opens: u32,
-    tokens: Tokens<'_>,
-) -> Result<(Measured, Tokens<'_>), ReadError>
+    open: Tokens<'_>,
+    tokens: Tokens<'a>,
+) -> Result<(Measured, Tokens<'a>), ReadError>
     ensures { Gives (λ x. (view x.0.expr, map piece x.1.now)) result (inside_at 32 opens (map piece tokens.now)) }
 {
     if opens == 0 {
-        return Err(refused(Kind::TooDeep, tokens));
+        return Err(refused(Kind::TooDeep, open));
     }
     level(alloc, opens - 1, 5, tokens)
 }

@@ -23,13 +23,18 @@ fn number(tokens: Tokens<'_>) -> Result<(i64, Tokens<'_>), ReadError>
     }
 }
 
+// The opposite of the number at `digits`.
 #[tactic(auto, unfolding(crate::specs::Declarations::opposite_at))]
-fn opposite(value: i64, rest: Tokens<'_>) -> Result<(i64, Tokens<'_>), ReadError>
+fn opposite<'a>(
+    value: i64,
+    digits: Tokens<'_>,
+    rest: Tokens<'a>,
+) -> Result<(i64, Tokens<'a>), ReadError>
     ensures gives { Gives (λ x. (x.0, map piece x.1.now)) result (opposite_at value (map piece rest.now)) }
     ensures fits { IfOk result (λ x. FitsSigned w64 x.0) }
 {
     if value == i64::MIN {
-        return Err(refused(Kind::OutOfRange, rest));
+        return Err(refused(Kind::OutOfRange, digits));
     }
     Ok((-value, rest))
 }
@@ -41,9 +46,9 @@ pub(crate) fn int(tokens: Tokens<'_>) -> Result<(i64, Tokens<'_>), ReadError>
     ensures fits { IfOk result (λ x. FitsSigned w64 x.0) }
 {
     match tokens {
-        [Token::Sign(Mark::Minus), rest @ ..] => {
-            let (value, rest) = number(rest)?;
-            opposite(value, rest)
+        [Token::Sign(Mark::Minus), digits @ ..] => {
+            let (value, rest) = number(digits)?;
+            opposite(value, digits, rest)
         }
         _ => number(tokens),
     }

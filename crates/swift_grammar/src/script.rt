@@ -63,11 +63,14 @@ fn decls(alloc: Global, tokens: Tokens<'_>) -> Result<(Vec<Decl>, Tokens<'_>), R
     Err(refused(Kind::EndsEarly, rest))
 }
 
-/// The declarations that the tokens of a script spell, in text order, in time linear in the tokens.
+/// The declarations that the tokens of a script spell, in text order. No tokens spell no declarations.
 ///
-/// A fault is the first one from left to right: a token that does not fit, a number that no `i64` holds, the end of
-/// the text, or the token that passes the limit of 32 open blocks, 32 open parentheses or height 32. The grammar is
-/// our own.
+/// `ReadError::Fault` is the first fault from left to right: a token that does not fit, a number that no `i64` holds,
+/// the end of the text, or what passes the limit of 32 open blocks, 32 open parentheses or height 32. Which one it is,
+/// and where, is not proved; that nothing is spelled is. `ReadError::Memory` says that a growth was refused.
+///
+/// Time and memory are linear in the tokens, and the stack that is used is bounded by the limits. The grammar is our
+/// own.
 pub fn declarations(alloc: Global, tokens: &[Token]) -> Result<Vec<Decl>, ReadError>
     // What is read is spelled so.
     ensures found { IfOk result (λ v. IsScript 32 (map piece tokens.now) (map view_decl v.items)) }

@@ -3,10 +3,8 @@ use Rattle.std.proofs.lemmas.Result.{err_from_is_err_and}
 use Rattle.std.proofs.lemmas.List.{map_push}
 use Rattle.swift_grammar.specs.declared.fault.Kind.TheVariants.{EndsEarly}
 use Rattle.swift_tokens.specs.Pieces.{piece}
-use Rattle.swift_grammar.specs.Tree.{text_of, view, view_field, view_method, view_decl}
-use Rattle.swift_grammar.specs.Reading.{expr_in}
-use Rattle.swift_grammar.specs.Parts.{name_at, close_at, comma_at, brace_at, items_at, with_first}
-use Rattle.swift_grammar.specs.Declarations.{int_at, fields_end, field_at, method_at, decls_end, decl_at}
+use Rattle.swift_grammar.specs.Tree.{text_of}
+use Rattle.swift_grammar.specs.Parts.{name_at, close_at, comma_at, items_at, with_first}
 use Rattle.swift_grammar.proofs.Front.{goes_on, fails, stops, runs_out, refused_fails}
 use Rattle.swift_grammar.proofs.actor.more_names.Goals as goal
 

@@ -1,4 +1,4 @@
-use Rattle.std.proofs.Common.{◌≡◌, ◌++◌, ◌∷◌, [], List, ℤ, ap, ◌∙◌, w64}
+use Rattle.std.proofs.Common.{◌++◌, ◌∷◌, [], ℤ, ap, ◌∙◌, w64}
 use Rattle.std.proofs.lemmas.Int.{to_z-of_z}
 use Rattle.swift_grammar.proofs.root.add_int.Goals as goal
 

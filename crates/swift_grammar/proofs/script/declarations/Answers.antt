@@ -1,7 +1,6 @@
 use Rattle.std.proofs.Common.{map, length, sym}
 use Rattle.std.proofs.lemmas.List.{length-map}
 use Rattle.swift_tokens.specs.Pieces.{piece}
-use Rattle.swift_grammar.specs.Tree.{view_decl}
 use Rattle.swift_grammar.proofs.Whole.{found_of, tree_of, none_of, not_accepted}
 use Rattle.swift_grammar.proofs.script.declarations.Goals as goal
 

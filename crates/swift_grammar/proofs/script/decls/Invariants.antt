@@ -1,9 +1,8 @@
 use Rattle.std.proofs.Common.{◌≡◌, ◌-◌, ◌+◌, map, length}
 use Rattle.swift_tokens.specs.Pieces.{piece}
-use Rattle.swift_grammar.specs.Tree.{text_of, view, view_field, view_method, view_decl}
-use Rattle.swift_grammar.specs.Reading.{expr_in}
-use Rattle.swift_grammar.specs.Parts.{name_at, close_at, comma_at, brace_at, items_at, with_first}
-use Rattle.swift_grammar.specs.Declarations.{int_at, fields_end, field_at, method_at, decls_end, decl_at}
+use Rattle.swift_grammar.specs.Tree.{view_decl}
+use Rattle.swift_grammar.specs.Parts.{items_at}
+use Rattle.swift_grammar.specs.Declarations.{decls_end, decl_at}
 use Rattle.swift_grammar.proofs.Front.{with_front}
 use Rattle.swift_grammar.proofs.script.decls.Given as goal
 

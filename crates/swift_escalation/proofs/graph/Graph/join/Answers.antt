@@ -1,0 +1,59 @@
+use Rattle.std.proofs.Common.{◌≡◌, ℕ, ◌<◌, [], ◌∷◌, ◌++◌, List, Option, length, arith, subst, sym, ap, ◌∙◌}
+use Rattle.swift_escalation.specs.declared.graph.Edge.{Edge}
+use Rattle.std.proofs.lemmas.List.{with_items_is}
+use Rattle.std.specs.Vec.{with_items}
+use Rattle.swift_escalation.specs.Levels.{AreChained, IsSettled, IsSettledBut, Settling, GraphIs, level_of}
+use Rattle.swift_types.specs.declared.priority.Priority.{Priority}
+use Rattle.std.proofs.lemmas.List.{get_or_read}
+use Rattle.swift_types.specs.declared.priority.Priority.TheVariants.{Background}
+use Rattle.swift_types.specs.Priority.{rank}
+use Rattle.swift_escalation.proofs.Push.{open_push}
+use Rattle.swift_escalation.proofs.graph.Graph.join.Goals as goal
+
+pub settle-requires-clause-open : goal.settle-requires-clause-open
+settle-requires-clause-open c =
+    let xs : List Priority = c.self.inside.levels.items in
+    let levels = ap (λ (g : GraphIs). g.levels) c.self.view_is in
+    let from : c.args.from < length xs = subst (λ (s : List Priority). c.args.from < length s) (sym levels) c.requires.from in
+    let level : level_of xs c.args.from ≡ rank c.index-level.result.now = sym (ap rank (get_or_read xs c.args.from c.index-level.result.now from c.index-level.ensures Background)) in
+    let edges = c.deref.ensures.value ∙ c.link.ensures.edges in
+    subst (λ (s : List Edge). IsSettledBut s c.deref_mut-2.result.now c.args.to (rank c.index-level.result.now)) (sym edges)
+    (subst (λ (s : List Priority). IsSettledBut (c.self.inside.edges.items ++ (record { from = c.args.from; to = c.args.to }) ∷ []) s c.args.to (rank c.index-level.result.now)) (sym c.deref_mut-2.ensures.value)
+    (open_push c.self.inside.edges.items xs c.args.from c.args.to (rank c.index-level.result.now) c.self.invariant.settled level))
+
+pub returns-clause-settling : goal.returns-clause-settling
+returns-clause-settling c =
+    let xs : List Priority = c.self.inside.levels.items in
+    let levels = ap (λ (g : GraphIs). g.levels) c.self.view_is in
+    let from : c.args.from < length xs = subst (λ (s : List Priority). c.args.from < length s) (sym levels) c.requires.from in
+    let level : level_of xs c.args.from ≡ rank c.index-level.result.now = sym (ap rank (get_or_read xs c.args.from c.index-level.result.now from c.index-level.ensures Background)) in
+    let l : (with_items c.self.inside.levels c.settle.new.levels).items ≡ c.settle.new.levels = with_items_is c.self.inside.levels c.settle.new.levels (omega arith) in
+    let es : List Edge = c.link.new.edges.items in
+    subst (λ (s : List Priority). Settling es c.args.to (level_of s c.args.from) s (with_items c.self.inside.levels c.settle.new.levels).items) levels
+    (subst (λ (s : List Priority). Settling es c.args.to (level_of xs c.args.from) xs s) (sym l)
+    (subst (λ (n : ℕ). Settling es c.args.to n xs c.settle.new.levels) (sym level)
+    (subst (λ (s : List Priority). Settling es c.args.to (rank c.index-level.result.now) s c.settle.new.levels) c.deref_mut-2.ensures.value
+    (subst (λ (s : List Edge). Settling s c.args.to (rank c.index-level.result.now) c.deref_mut-2.result.now c.settle.new.levels) c.deref.ensures.value c.settle.ensures.settling))))
+
+pub invariant_of-self : goal.invariant_of-self
+invariant_of-self c =
+    let n : (with_items c.self.inside.newest c.link.new.newest).items ≡ c.link.new.newest = with_items_is c.self.inside.newest c.link.new.newest (omega arith) in
+    let l : (with_items c.self.inside.levels c.settle.new.levels).items ≡ c.settle.new.levels = with_items_is c.self.inside.levels c.settle.new.levels (omega arith) in
+    let same : length c.link.new.newest ≡ length c.settle.new.levels = omega arith in
+    let settled : IsSettled c.link.new.edges.items c.settle.new.levels = subst (λ (s : List Edge). IsSettled s c.settle.new.levels) c.deref.ensures.value c.settle.ensures.settled in
+    record {
+      chained = subst (λ (s : List (Option ℕ)). AreChained c.link.new.edges.items c.link.new.before.items s) (sym n) c.link.ensures.chained;
+      same = ap length n ∙ same ∙ sym (ap length l);
+      settled = subst (λ (s : List Priority). IsSettled c.link.new.edges.items s) (sym l) settled;
+      empty = omega arith;
+      levels_room = omega arith;
+      newest_room = omega arith;
+      edges_room = omega arith;
+      before_room = omega arith;
+      raised_room = omega arith;
+    }
+
+pub returns-clause-settled : goal.returns-clause-settled
+returns-clause-settled c =
+    let l : (with_items c.self.inside.levels c.settle.new.levels).items ≡ c.settle.new.levels = with_items_is c.self.inside.levels c.settle.new.levels (omega arith) in
+    subst (λ (s : List Priority). IsSettled c.link.new.edges.items s) (sym l) (subst (λ (s : List Edge). IsSettled s c.settle.new.levels) c.deref.ensures.value c.settle.ensures.settled)

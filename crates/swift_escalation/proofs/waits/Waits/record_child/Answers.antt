@@ -1,0 +1,38 @@
+use Rattle.swift_types.specs.declared.id.TaskId.{TaskId}
+use Rattle.std.proofs.Common.{ℕ, List, Some, [], ◌∷◌, ◌++◌, length, get_or, arith, subst, sym, ap, ◌∙◌, nat_eq, cond, Option}
+use Rattle.std.specs.HashMap.{get}
+use Rattle.swift_escalation.specs.Levels.{GraphIs}
+use Rattle.swift_escalation.specs.Waits.{IsKnown, WaitsIs}
+use Rattle.swift_escalation.specs.WaitsInside.{StandsAt, AreOf}
+use Rattle.swift_types.specs.declared.priority.Priority.TheVariants.{Background}
+use Rattle.swift_types.specs.declared.priority.Priority.{Priority}
+use Rattle.swift_escalation.specs.declared.graph.Edge.{Edge}
+use Rattle.swift_escalation.specs.declared.waits.Event.{Event}
+use Rattle.swift_escalation.specs.declared.waits.Event.TheVariants.{Child}
+use Rattle.swift_escalation.proofs.Record.{none_here, are_of_child}
+use Rattle.swift_escalation.proofs.waits.Waits.record_child.Goals as goal
+
+pub invariant_of-self : goal.invariant_of-self
+invariant_of-self c =
+    let k = c.self.invariant.are_of in
+    let es : List Event = c.self.inside.events.items in
+    let g : GraphIs = c.self.inside.graph in
+    let events = ap (λ (w : WaitsIs). w.events) c.self.view_is in
+    let room = ap (λ (w : WaitsIs). w.reserved) c.self.view_is in
+    let place' : TaskId → Option ℕ = λ t. get nat_eq c.insert.new.self t.0 in
+    let fresh : IsKnown es c.args.task → ⊥ = subst (λ (s : List Event). IsKnown s c.args.task → ⊥) (sym events) c.requires.fresh in
+    let above : StandsAt es c.args.parent c.args.above = subst (λ (s : List Event). StandsAt s c.args.parent c.args.above) (sym events) c.requires.above in
+    let none = none_here es (λ t. get nat_eq c.self.inside.places t.0) g.levels g.edges c.args.task k fresh in
+    let levels' : List Priority = g.levels ++ get_or g.levels c.args.above Background ∷ [] in
+    let edges' : List Edge = g.edges ++ (record { from = c.args.above; to = length g.levels }) ∷ [] in
+    let more : AreOf (es ++ Child c.args.task c.args.parent ∷ []) place' levels' edges' = are_of_child es (λ t. get nat_eq c.self.inside.places t.0) place' g.levels g.edges c.args.task c.args.parent c.args.above k above none
+    (λ q. c.in-Ok-insert.ensures.updates.0 q.0 ∙ ap (λ (n : ℕ). cond (nat_eq c.args.task.0 q.0) (Some n) (get nat_eq c.self.inside.places q.0)) c.len-place.ensures) in
+    let left = ap (λ (w : GraphIs). w.room) c.add_under.ensures in
+    let len = c.in-Ok.ensures.len in let cap = c.in-Ok.ensures.capacity in let spare' = c.in-Ok-insert.ensures.spare in
+    let er = c.self.invariant.events_room in let pr = c.self.invariant.places_room in let rq = c.requires.room in
+    record {
+      are_of = subst (λ (w : GraphIs). AreOf c.push.new.self.items place' w.levels w.edges) (sym c.add_under.ensures)
+          (subst (λ (s : List Event). AreOf s place' levels' edges') (sym c.in-Ok.ensures.items) more);
+      events_room = omega (arith, left, len, cap, er, rq, room);
+      places_room = omega (arith, left, spare', pr, rq, room);
+    }

@@ -1,0 +1,4 @@
+pub mod Levels
+pub mod GraphInside
+pub mod Waits
+pub mod WaitsInside

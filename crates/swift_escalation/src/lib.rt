@@ -1,0 +1,13 @@
+//! The priorities of tasks that wait for one another.
+#![tactic(auto)]
+
+// Tasks by place, with their levels, which are raised along edges.
+mod graph;
+
+// The events so far, and each task's priority by them.
+mod waits;
+
+pub use waits::{Event, Waits, WaitsFault};
+
+#[cfg(test)]
+mod tests;

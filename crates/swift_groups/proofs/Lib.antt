@@ -1,0 +1,7 @@
+pub mod Lists
+pub mod Links
+pub mod Views
+pub mod Children
+pub mod Kept
+pub mod Calls
+pub mod Results

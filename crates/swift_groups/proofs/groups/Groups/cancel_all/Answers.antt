@@ -1,0 +1,49 @@
+use Rattle.std.proofs.Common.{arith, refl, sym, ap, ◌∙◌}
+use Rattle.swift_groups.specs.Groups.{GroupsIs, as_cancelled}
+use Rattle.swift_groups.specs.Answers.{accepted}
+use Rattle.swift_groups.proofs.Kept.{are_groups_changed}
+use Rattle.swift_groups.proofs.Calls.{found_live, refused_live, kept_by_refusal, changed, groups_are, err_from}
+use Rattle.swift_groups.proofs.groups.Groups.cancel_all.Goals as goal
+
+pub returns-in_err-found-clause-refusals : goal.returns-in_err-found-clause-refusals
+returns-in_err-found-clause-refusals c =
+    let refused = refused_live c.self.inside c.args.self.now c.args.group _ _ c.self.view_is c.deref.ensures.value c.in_err-found.ensures in
+    err_from c.from_residual.result c.in_err-found.field-0.0 c.from_residual.ensures.1 ∙ sym (ap accepted refused)
+
+pub returns-in_err-found-clause-after : goal.returns-in_err-found-clause-after
+returns-in_err-found-clause-after c =
+    let refused = refused_live c.self.inside c.args.self.now c.args.group _ _ c.self.view_is c.deref.ensures.value c.in_err-found.ensures in
+    kept_by_refusal c.args.self.now c.args.group as_cancelled _ _ refused
+
+pub index_mut-requires : goal.index_mut-requires
+index_mut-requires c =
+    let k = found_live c.self.inside c.args.self.now c.args.group _ _ c.self.view_is c.deref.ensures.value c.in_ok-found.ensures in
+    let within = k.within in omega (arith, within)
+
+pub invariant_of-self : goal.invariant_of-self
+invariant_of-self c =
+    let k = found_live c.self.inside c.args.self.now c.args.group _ _ c.self.view_is c.deref.ensures.value c.in_ok-found.ensures in
+    let i = c.self.invariant in
+    let is = i.are_groups.each c.args.group.0 c.in_ok-found.found k.at in
+    record {
+      are_groups = are_groups_changed _ _ _ _ c.args.group.0 c.in_ok-found.found _ i.are_groups k.at
+          (record { unfinished = is.unfinished; handed = is.handed; first = is.first; last = is.last; known = is.known; once = is.once }) refl;
+      linked = i.linked;
+      groups_room = i.groups_room;
+      children_room = i.children_room;
+      marks_room = i.marks_room;
+      endings_room = i.endings_room;
+      after_room = i.after_room;
+    }
+
+pub returns-clause-refusals : goal.returns-clause-refusals
+returns-clause-refusals c =
+    let k = found_live c.self.inside c.args.self.now c.args.group _ _ c.self.view_is c.deref.ensures.value c.in_ok-found.ensures in
+    sym (ap accepted k.shown)
+
+pub returns-clause-after : goal.returns-clause-after
+returns-clause-after c =
+    let k = found_live c.self.inside c.args.self.now c.args.group _ _ c.self.view_is c.deref.ensures.value c.in_ok-found.ensures in
+    groups_are _ _ _ _
+    (changed c.self.inside c.args.self.now c.args.group c.in_ok-found.found _ _ as_cancelled c.self.inside.children.items c.self.inside.endings.items c.self.view_is k (λ j o. refl) (λ j o. refl) refl)
+    (ap (λ (v : GroupsIs). v.reserved) c.self.view_is)

@@ -1,0 +1,7 @@
+pub mod Groups
+pub mod Next
+pub mod Close
+pub mod Answers
+pub mod Inside
+pub mod Keys
+pub mod GroupsInside

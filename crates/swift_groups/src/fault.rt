@@ -1,0 +1,28 @@
+//! Why a call on groups is refused.
+
+use std::alloc::AllocError;
+
+/// Why a call was refused (our own). Causes are tried in this order, and nothing has changed then.
+#[derive(Clone, Copy, Debug, PartialEq, Eq)]
+pub enum GroupFault {
+    /// G1: no group was opened under this number.
+    Unknown,
+    /// G2: the group is done, or, for a call that needs it open, a `close` came before.
+    Closed,
+    /// G3: the child to add is a child of the group already, or the task that ended is no child of the group that
+    /// has not ended.
+    Child,
+    /// G4: a growth was refused.
+    Memory,
+}
+
+impl From<AllocError> for GroupFault {
+    ghost use Rattle.std.specs.Prelude.{◌≡◌};
+    ghost use Rattle.swift_groups.specs.declared.fault.GroupFault.TheVariants.{Memory};
+
+    ghost from_gives = { λ _ fault. fault ≡ Memory };
+
+    fn from(_: AllocError) -> Self {
+        GroupFault::Memory
+    }
+}

@@ -1,0 +1,16 @@
+//! Groups of child tasks (SE-0304).
+#![tactic(auto)]
+
+mod answer;
+mod fault;
+mod group;
+mod groups;
+mod queue;
+mod room;
+#[cfg(test)]
+mod tests;
+
+pub use answer::{Close, GroupId, Next};
+pub use fault::GroupFault;
+pub use group::Stage;
+pub use groups::Groups;

@@ -1,0 +1,3 @@
+pub mod Lowered
+pub mod Sizes
+pub mod Calls

@@ -1,0 +1,27 @@
+//! From the trees of a script to what its turns run: numbered lines whose names are places.
+#![tactic(auto)]
+
+// Awaited calls, and what is set to a value.
+mod assignment;
+// Blocks and their statements.
+mod block;
+// Expressions.
+mod expression;
+// Lines, one by one.
+mod line;
+// Whole methods.
+mod method;
+// Counts of 32 bits.
+mod number;
+// What a name stands for.
+mod place;
+// How many lines statements take.
+mod size;
+// How many variables stand at most.
+mod slots;
+
+pub use expression::{formula, formula_if, formulas};
+pub use method::{Lowered, field_places, lower};
+
+#[cfg(test)]
+mod tests;

@@ -1,0 +1,4 @@
+pub mod Keys
+pub mod Roots
+pub mod Qualified
+pub mod LeftOut

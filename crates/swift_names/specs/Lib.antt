@@ -1,0 +1,4 @@
+pub mod Texts
+pub mod Directory
+pub mod Rules
+pub mod Finds

@@ -1,0 +1,26 @@
+//! Names of scripts: which of them stand where they are used.
+#![tactic(auto)]
+
+// Declarations, and whole scripts.
+mod declarations;
+// What a script declares.
+mod directory;
+// Expressions and awaited calls.
+mod expressions;
+// What holds of the definitions.
+mod laws;
+// What is wrong with a name.
+mod misuse;
+// Statements.
+mod statements;
+// Lists of names.
+mod texts;
+
+pub use declarations::check;
+pub use directory::Declared;
+pub use laws::nothing_left_out;
+pub use misuse::{Misnamed, Misuse, NamesError};
+pub use texts::Names;
+
+#[cfg(test)]
+mod tests;

@@ -1,0 +1,12 @@
+use Rattle.std.proofs.Common.{List, subst}
+use Rattle.swift_queue.specs.Keys.{IsMostUrgent}
+use Rattle.swift_queue.specs.Queue.{QueueIs}
+use Rattle.swift_queue.specs.declared.index.Key.{Key}
+use Rattle.swift_queue.proofs.Jobs.{takes_first, keys}
+use Rattle.swift_queue.proofs.queue.Queue.take.Goals as goal
+
+pub returns-in-Some-clause-first : goal.returns-in-Some-clause-first
+returns-in-Some-clause-first g c =
+    let urgent = subst (λ (s : List Key). IsMostUrgent s c.in-Some.place) c.self.invariant.keys c.in-Some.ensures.first in
+    takes_first c.args.self.now.jobs c.take_at.new.self.jobs c.in-Some.place c.take_at.result.0 c.take_at.result.1 c.take_at.ensures.taken
+    (subst (λ (q : QueueIs g.row.B.Denot). IsMostUrgent (keys q.jobs) c.in-Some.place) c.self.view_is urgent)

@@ -1,0 +1,7 @@
+-- A list of entries, and the room for them.
+use Rattle.std.specs.Prelude.{ℕ, List}
+use Rattle.swift_queue.specs.declared.places.Entry.{Entry}
+
+pub record PlacesAre : Type 0 where
+  pub entries : List Entry
+  pub room : ℕ

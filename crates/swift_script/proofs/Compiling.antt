@@ -1,0 +1,45 @@
+-- One more actor, as it is compiled.
+use Rattle.std.proofs.Common.{◌≡◌, ℕ, zero, suc, ◌+◌, ◌<◌, List, [], ◌∷◌, ◌++◌, length, map, drop, get_or, add-one, refl, sym, ap, subst, ◌∙◌, append_assoc, arith}
+use Rattle.std.proofs.lemmas.List.{map_push, map-append}
+use Rattle.swift_grammar.specs.declared.declared.Actor.{Actor}
+use Rattle.swift_grammar.specs.Tree.{ActorTree, view_actor}
+use Rattle.swift_names.specs.Directory.{Directory}
+use Rattle.swift_names.specs.Rules.{field_names}
+use Rattle.swift_script.specs.declared.compiled.CompiledMethod.{CompiledMethod}
+use Rattle.swift_script.specs.declared.compiled.CompiledActor.{CompiledActor}
+use Rattle.swift_script.specs.Scripts.{Entry, entries_of, entries_from}
+use Rattle.swift_script.specs.Compiled.{MethodIs, method_is, compiled_of, ActorIs, actor_is, compiled_actor}
+use Rattle.swift_script.specs.Fine.{ActorsFine}
+
+pub cut : {A : Type 0} (xs : List A) (k : ℕ) (x : A) → k < length xs → x ≡ get_or xs k x → drop k xs ≡ x ∷ drop (suc k) xs
+cut [] k x lt e = absurd (omega arith)
+cut (y ∷ xs) zero x lt e = ap (λ z. z ∷ xs) (sym e)
+cut (y ∷ xs) (suc k) x lt e = cut xs k x (omega arith) e
+
+pub one_more : (d : Directory) (actors : List Actor) (k : ℕ) (a : Actor) (done more : List CompiledActor) (c : CompiledActor) (ms ns : List CompiledMethod) (all : List ActorIs) (whole : List MethodIs)
+    → k < length actors → a ≡ get_or actors k a
+    → ActorsFine d (map view_actor (drop k actors))
+    → map actor_is done ++ map compiled_actor (map view_actor (drop k actors)) ≡ all
+    → map method_is ms ++ map (compiled_of d) (entries_from k (map view_actor (drop k actors))) ≡ whole
+    → actor_is c ≡ compiled_actor (view_actor a) → more ≡ done ++ c ∷ []
+    → map method_is ns ≡ map method_is ms ++ map (compiled_of d) (entries_of k (field_names (view_actor a).fields) (view_actor a).methods)
+    → ActorsFine d (map view_actor (drop (k + 1) actors))
+      × (map actor_is more ++ map compiled_actor (map view_actor (drop (k + 1) actors)) ≡ all)
+      × (map method_is ns ++ map (compiled_of d) (entries_from (k + 1) (map view_actor (drop (k + 1) actors))) ≡ whole)
+one_more d actors k a done more c ms ns all whole lt is fine soon later compiled pushed lowered =
+    let rest = map view_actor (drop (k + 1) actors) in
+    let front : drop k actors ≡ a ∷ drop (k + 1) actors = cut actors k a lt is ∙ ap (λ (n : ℕ). a ∷ drop n actors) (sym (add-one k)) in
+    let fines : ActorsFine d (view_actor a ∷ rest) = subst (λ (xs : List Actor). ActorsFine d (map view_actor xs)) front fine in
+    let one : map actor_is more ≡ map actor_is done ++ compiled_actor (view_actor a) ∷ [] = ap (map actor_is) pushed ∙ map_push actor_is done c ∙ ap (λ (x : ActorIs). map actor_is done ++ x ∷ []) compiled in
+    let actors_so : map actor_is more ++ map compiled_actor rest ≡ all =
+        ap (λ (xs : List ActorIs). xs ++ map compiled_actor rest) one
+        ∙ append_assoc (map actor_is done) (compiled_actor (view_actor a) ∷ []) (map compiled_actor rest)
+        ∙ ap (λ (xs : List Actor). map actor_is done ++ map compiled_actor (map view_actor xs)) (sym front) ∙ soon in
+    let here = entries_of k (field_names (view_actor a).fields) (view_actor a).methods in
+    let behind = entries_from (k + 1) rest in
+    let methods_so : map method_is ns ++ map (compiled_of d) behind ≡ whole =
+        ap (λ (xs : List MethodIs). xs ++ map (compiled_of d) behind) lowered
+        ∙ append_assoc (map method_is ms) (map (compiled_of d) here) (map (compiled_of d) behind)
+        ∙ ap (λ (xs : List MethodIs). map method_is ms ++ xs) (sym (map-append (compiled_of d) here behind))
+        ∙ ap (λ (xs : List Actor). map method_is ms ++ map (compiled_of d) (entries_from k (map view_actor xs))) (sym front) ∙ later in
+    (fines.1, actors_so, methods_so)

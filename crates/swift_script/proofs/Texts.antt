@@ -1,0 +1,31 @@
+-- What the reader of tokens says of a text.
+use Rattle.std.proofs.Common.{◌≡◌, ℕ, List, subst, sym}
+use Rattle.swift_tokens.specs.Pieces.{Piece}
+use Rattle.swift_tokens.specs.Lexes.{Lexes}
+use Rattle.swift_tokens.proofs.Unique.{unique}
+use Rattle.swift_grammar.specs.declared.fault.Fault.{Fault}
+use Rattle.swift_grammar.specs.declared.fault.Kind.{Kind}
+use Rattle.swift_grammar.specs.declared.fault.Kind.TheVariants as grammar
+use Rattle.swift_grammar.specs.declared.fault.ReadError.{ReadError}
+use Rattle.swift_grammar.specs.declared.fault.ReadError.TheVariants as reading
+use Rattle.swift_grammar.specs.Tree.{DeclTree}
+use Rattle.swift_grammar.specs.Grammar.{IsScript}
+use Rattle.swift_grammar.specs.Answers.{SpellsNothing as NoneSpelled}
+use Rattle.swift_script.specs.Accepted.{SpellsDecls, SpellsNothing}
+use Rattle.swift_script.specs.Refuses.{Refuses, grammar_kind, read_kind}
+
+-- what the tokens of a text do not spell, the text does not spell
+nothing_spelled : (text : List ℕ) (pieces : List Piece) → Lexes text pieces → ((decls : List DeclTree) → IsScript 32 pieces decls → ⊥) → SpellsNothing text
+nothing_spelled text pieces lexed none decls d =
+    let same : d.pieces ≡ pieces = unique pieces d.lexed lexed in
+    none decls (subst (λ (ps : List Piece). IsScript 32 ps decls) same d.spelled)
+
+of_kind : (text : List ℕ) (k : Kind) → SpellsNothing text → Refuses (grammar_kind k) text
+of_kind text grammar.Unexpected none = none
+of_kind text grammar.OutOfRange none = none
+of_kind text grammar.EndsEarly none = none
+of_kind text grammar.TooDeep none = none
+
+pub refuses_read : (text : List ℕ) (pieces : List Piece) (e : ReadError) → Lexes text pieces → NoneSpelled pieces e → Refuses (read_kind e) text
+refuses_read text pieces reading.Memory lexed none = tt
+refuses_read text pieces (reading.Fault f) lexed none = of_kind text f.kind (nothing_spelled text pieces lexed none)

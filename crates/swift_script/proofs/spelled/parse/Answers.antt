@@ -1,0 +1,13 @@
+use Rattle.std.proofs.Common.{◌≡◌, List, map, sym, subst, ap, ◌∙◌}
+use Rattle.swift_tokens.specs.Pieces.{piece}
+use Rattle.swift_grammar.specs.Answers.{SpellsNothing as NoneSpelled}
+use Rattle.swift_script.specs.declared.fault.ScriptFaultKind.{ScriptFaultKind}
+use Rattle.swift_script.specs.Refuses.{Refuses, read_kind}
+use Rattle.swift_script.proofs.Texts.{refuses_read}
+use Rattle.swift_script.proofs.spelled.parse.Goals as goal
+
+pub returns-clause-refused : goal.returns-clause-refused
+returns-clause-refused c =
+    let none : NoneSpelled (map piece c.args.found.tokens.items) c.in-Err.error = rw (← c.deref.ensures.value) c.in-Err.ensures.refused in
+    subst (λ (k : ScriptFaultKind). Refuses k c.args.text.now) (sym c.refusal.ensures)
+      (refuses_read c.args.text.now (map piece c.args.found.tokens.items) c.in-Err.error c.requires none)

@@ -1,0 +1,6 @@
+use Rattle.std.proofs.Common.{◌≡◌, map, drop}
+use Rattle.swift_script.specs.Compiled.{actor_is, all_hold}
+use Rattle.swift_script.proofs.start.first_false.Given as goal
+
+abbrev pub invariant-loop-k : goal.invariant-loop-k
+invariant-loop-k l = all_hold (map actor_is (drop l.k l.actors)) ≡ all_hold (map actor_is l.actors)

@@ -1,0 +1,52 @@
+-- Which texts are accepted.
+use Rattle.std.specs.Prelude.{◌≡◌, ◌≤◌, ◌<◌, ℕ, Bool, true, false, Option, Some, None, List, length, Result, Ok, Err}
+use Rattle.swift_tokens.specs.Bytes.{is_text}
+use Rattle.swift_tokens.specs.Pieces.{Piece}
+use Rattle.swift_tokens.specs.Lexes.{Lexes}
+use Rattle.swift_grammar.specs.Tree.{DeclTree}
+use Rattle.swift_grammar.specs.Grammar.{IsScript}
+use Rattle.swift_names.specs.declared.misuse.Misuse.{Misuse}
+use Rattle.swift_names.specs.Rules.{names_fault}
+use Rattle.swift_script.specs.Script.{ScriptTree, actors_in, tree_in, all_start_well}
+
+-- the limit of open blocks, of open parentheses and of an expression's height
+abbrev pub nesting : ℕ
+nesting = 32
+
+-- A text spells declarations, in text order.
+pub record SpellsDecls (limit : ℕ) (text : List ℕ) (decls : List DeclTree) : Type 0 where
+  pub pieces : List Piece
+  pub lexed : Lexes text pieces
+  pub spelled : IsScript limit pieces decls
+
+-- A text spells the tree of a script.
+pub record Spells (limit : ℕ) (text : List ℕ) (tree : ScriptTree) : Type 0 where
+  pub decls : List DeclTree
+  pub spelled : SpellsDecls limit text decls
+  pub is : tree ≡ tree_in decls
+
+-- A text is accepted: it is short and plain, spells the tree, and breaks no rule.
+pub record IsAccepted (text : List ℕ) (tree : ScriptTree) : Type 0 where
+  pub short : length text ≤ 65536
+  pub plain : is_text text ≡ true
+  pub decls : List DeclTree
+  pub spelled : SpellsDecls nesting text decls
+  pub names : names_fault decls ≡ None
+  pub starts : all_start_well (actors_in decls) ≡ true
+  pub is : tree ≡ tree_in decls
+
+-- Nothing within the limits is spelled.
+abbrev pub SpellsNothing : List ℕ → Type 0
+SpellsNothing text = (decls : List DeclTree) → SpellsDecls nesting text decls → ⊥
+
+-- What the text spells has this as the first fault of its names and counts.
+pub record HasFault (text : List ℕ) (misuse : Misuse) : Type 0 where
+  pub decls : List DeclTree
+  pub spelled : SpellsDecls nesting text decls
+  pub first : names_fault decls ≡ Some misuse
+
+-- What the text spells has an actor whose invariant does not hold at the start.
+pub record StartsFalse (text : List ℕ) : Type 0 where
+  pub decls : List DeclTree
+  pub spelled : SpellsDecls nesting text decls
+  pub starts : all_start_well (actors_in decls) ≡ false

@@ -1,0 +1,52 @@
+-- What each refusal says of a text.
+use Rattle.std.specs.Prelude.{◌≡◌, ◌⊎◌, ◌<◌, ℕ, false, List, length, Result, Ok, Err}
+use Rattle.swift_tokens.specs.Bytes.{is_text}
+use Rattle.swift_grammar.specs.declared.fault.Kind.{Kind}
+use Rattle.swift_grammar.specs.declared.fault.Kind.TheVariants as grammar
+use Rattle.swift_grammar.specs.declared.fault.ReadError.{ReadError}
+use Rattle.swift_grammar.specs.declared.fault.ReadError.TheVariants as reading
+use Rattle.swift_names.specs.declared.misuse.NamesError.{NamesError}
+use Rattle.swift_names.specs.declared.misuse.NamesError.TheVariants as naming
+use Rattle.swift_names.specs.declared.misuse.Misuse.{Misuse}
+use Rattle.swift_names.specs.declared.misuse.Misuse.TheVariants.{Twice, Unknown, Arguments as OtherCount, TooMany}
+use Rattle.swift_script.specs.declared.fault.ScriptFault.{ScriptFault}
+use Rattle.swift_script.specs.declared.fault.ScriptFaultKind.{ScriptFaultKind}
+use Rattle.swift_script.specs.declared.fault.ScriptFaultKind.TheVariants as kind
+use Rattle.swift_script.specs.Accepted.{SpellsNothing, HasFault, StartsFalse}
+
+-- the cause of a refusal; want of memory says nothing of the text
+abbrev pub Refuses : ScriptFaultKind → List ℕ → Type 0
+Refuses kind.NotText text = is_text text ≡ false
+Refuses kind.Unexpected text = SpellsNothing text
+Refuses kind.OutOfRange text = SpellsNothing text
+Refuses kind.NameTwice text = HasFault text Twice
+Refuses kind.UnknownName text = HasFault text Unknown
+Refuses kind.Arguments text = HasFault text OtherCount
+Refuses kind.InvariantFalse text = StartsFalse text
+Refuses kind.LimitPassed text = (65536 < length text) ⊎ HasFault text TooMany
+Refuses kind.EndsEarly text = SpellsNothing text
+Refuses kind.TooDeep text = SpellsNothing text
+Refuses kind.Memory text = Unit {0}
+
+-- a fault of the grammar, as a refusal
+abbrev pub grammar_kind : Kind → ScriptFaultKind
+grammar_kind grammar.Unexpected = kind.Unexpected
+grammar_kind grammar.OutOfRange = kind.OutOfRange
+grammar_kind grammar.EndsEarly = kind.EndsEarly
+grammar_kind grammar.TooDeep = kind.TooDeep
+
+-- why nothing was read, as a refusal
+abbrev pub read_kind : ReadError → ScriptFaultKind
+read_kind reading.Memory = kind.Memory
+read_kind (reading.Fault f) = grammar_kind f.kind
+
+-- a fault of the names and counts, as a refusal
+abbrev pub names_kind : Misuse → ScriptFaultKind
+names_kind Twice = kind.NameTwice
+names_kind Unknown = kind.UnknownName
+names_kind OtherCount = kind.Arguments
+names_kind TooMany = kind.LimitPassed
+
+abbrev pub misnamed_kind : NamesError → ScriptFaultKind
+misnamed_kind naming.Memory = kind.Memory
+misnamed_kind (naming.Misnamed m) = names_kind m.misuse

@@ -1,0 +1,143 @@
+-- What callers see of a script.
+use Rattle.std.specs.Prelude.{ℕ, ◌+◌, ℤ, Option, Some, None, List, [], ◌∷◌, ◌++◌, length, map, slice_get}
+use Rattle.swift_types.specs.declared.priority.Priority.{Priority}
+use Rattle.swift_types.specs.declared.priority.Priority.TheVariants.{Medium}
+use Rattle.swift_grammar.specs.Tree.{MethodTree, ActorTree, RootTree, view_actor, view_root, steps_of}
+use Rattle.swift_grammar.specs.declared.declared.Actor.{Actor}
+use Rattle.swift_grammar.specs.declared.declared.Root.{Root}
+use Rattle.swift_names.specs.Texts.{place_of, qualified}
+use Rattle.swift_names.specs.Directory.{Directory, with_actor}
+use Rattle.swift_names.specs.Rules.{field_names}
+use Rattle.swift_lines.specs.Tree.{Term, Code, end}
+use Rattle.swift_lowering.specs.Lowered.{code_of, most_of}
+use Rattle.swift_script.specs.Script.{ScriptTree, start_of, invariant_of}
+
+-- the declarations of a script, by kinds, in text order
+pub record Parts : Type 0 where
+  pub actors : List Actor
+  pub roots : List Root
+
+abbrev pub tree_of : Parts → ScriptTree
+tree_of p = record { actors = map view_actor p.actors; roots = map view_root p.roots }
+
+abbrev pub with_actors : List ActorTree → Directory → Directory
+with_actors [] d = d
+with_actors (a ∷ others) d = with_actors others (with_actor a d)
+
+-- what a script declares
+abbrev pub directory_in : List ActorTree → Directory
+directory_in actors = with_actors actors (record { actors = []; methods = []; params = [] })
+
+-- a method, with the number of its actor and the names of that actor's fields
+pub record Entry : Type 0 where
+  pub actor : ℕ
+  pub fields : List (List ℕ)
+  pub method : MethodTree
+
+abbrev pub entries_of : ℕ → List (List ℕ) → List MethodTree → List Entry
+entries_of k fields [] = []
+entries_of k fields (m ∷ ms) = record { actor = k; fields = fields; method = m } ∷ entries_of k fields ms
+
+abbrev pub entries_from : ℕ → List ActorTree → List Entry
+entries_from k [] = []
+entries_from k (a ∷ others) = entries_of k (field_names a.fields) a.methods ++ entries_from (k + 1) others
+
+-- all methods of a script: those of the first actor in text order, then those of the next
+abbrev pub entries_in : List ActorTree → List Entry
+entries_in actors = entries_from 0 actors
+
+abbrev pub code_in : Directory → Entry → Code
+code_in d e = code_of d e.fields e.method.params (steps_of e.method.body)
+
+abbrev pub slots_in : Entry → ℕ
+slots_in e = most_of (length e.method.params) (steps_of e.method.body)
+
+abbrev pub entry_at : Parts → ℕ → Option Entry
+entry_at p m = slice_get (entries_in (map view_actor p.actors)) m
+
+abbrev pub code_if : Directory → Option Entry → Code
+code_if d None = end
+code_if d (Some e) = code_in d e
+
+-- how many methods a script has
+abbrev pub method_count : Parts → ℕ
+method_count p = length (entries_in (map view_actor p.actors))
+
+-- the statements of a method, with places for its names
+abbrev pub method_code : Parts → ℕ → Code
+method_code p m = code_if (directory_in (map view_actor p.actors)) (entry_at p m)
+
+abbrev pub slots_if : Option Entry → ℕ
+slots_if None = 0
+slots_if (Some e) = slots_in e
+
+-- how many variables a frame of the method has
+abbrev pub method_slots : Parts → ℕ → ℕ
+method_slots p m = slots_if (entry_at p m)
+
+abbrev pub params_if : Option Entry → ℕ
+params_if None = 0
+params_if (Some e) = length e.method.params
+
+-- how many parameters a method has: the first of its variables
+abbrev pub method_params : Parts → ℕ → ℕ
+method_params p m = params_if (entry_at p m)
+
+abbrev pub actor_if : Option Entry → ℕ
+actor_if None = 0
+actor_if (Some e) = e.actor
+
+-- the number of the actor that a method is of
+abbrev pub method_actor : Parts → ℕ → ℕ
+method_actor p m = actor_if (entry_at p m)
+
+abbrev pub invariant_if : Option ActorTree → Option Term
+invariant_if None = None
+invariant_if (Some a) = invariant_of a
+
+-- an actor's invariant, with the places of its fields
+abbrev pub actor_invariant : Parts → ℕ → Option Term
+actor_invariant p k = invariant_if (slice_get (map view_actor p.actors) k)
+
+abbrev pub start_if : Option ActorTree → List ℤ
+start_if None = []
+start_if (Some a) = start_of a
+
+-- what an actor's fields start with
+abbrev pub actor_start : Parts → ℕ → List ℤ
+actor_start p k = start_if (slice_get (map view_actor p.actors) k)
+
+abbrev pub actor_count : Parts → ℕ
+actor_count p = length p.actors
+
+abbrev pub root_count : Parts → ℕ
+root_count p = length p.roots
+
+abbrev pub root_method_if : Directory → Option RootTree → ℕ
+root_method_if d None = 0
+root_method_if d (Some r) = place_of d.methods (qualified r.actor r.method)
+
+-- the number of the method that a root calls
+abbrev pub root_method : Parts → ℕ → ℕ
+root_method p k = root_method_if (directory_in (map view_actor p.actors)) (slice_get (map view_root p.roots) k)
+
+abbrev pub root_args_if : Option RootTree → List ℤ
+root_args_if None = []
+root_args_if (Some r) = r.args
+
+abbrev pub root_args : Parts → ℕ → List ℤ
+root_args p k = root_args_if (slice_get (map view_root p.roots) k)
+
+abbrev pub root_priority_if : Option RootTree → Priority
+root_priority_if None = Medium
+root_priority_if (Some r) = r.priority
+
+abbrev pub root_priority : Parts → ℕ → Priority
+root_priority p k = root_priority_if (slice_get (map view_root p.roots) k)
+
+abbrev pub name_if : Option Entry → List ℕ
+name_if None = []
+name_if (Some e) = e.method.name
+
+abbrev pub method_name : Parts → ℕ → List ℕ
+method_name p m = name_if (entry_at p m)

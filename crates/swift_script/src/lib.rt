@@ -1,0 +1,19 @@
+//! Scripts: read from text, checked, and ready to run.
+#![tactic(auto)]
+
+mod compile;
+mod compiled;
+mod fault;
+mod lines;
+mod named;
+mod reading;
+mod script;
+mod spelled;
+mod split;
+mod start;
+
+pub use compiled::{CompiledActor, CompiledMethod};
+pub use fault::{ScriptFault, ScriptFaultKind};
+pub use reading::read;
+pub use script::Script;
+pub use spelled::LONGEST;

@@ -1,0 +1,47 @@
+//! The rules on names and counts.
+
+ghost use Rattle.std.specs.Prelude.{◌≡◌, ℕ, List, None, map, IfOk, IfErr};
+ghost use Rattle.swift_grammar.specs.Tree.{view_decl};
+ghost use Rattle.swift_names.specs.Directory.{directory_of};
+ghost use Rattle.swift_names.specs.Rules.{names_fault};
+ghost use Rattle.swift_script.specs.Accepted.{SpellsDecls};
+ghost use Rattle.swift_script.specs.Refuses.{Refuses, names_kind, misnamed_kind};
+
+use crate::fault::{ScriptFault, ScriptFaultKind};
+use crate::lines::Lines;
+use crate::spelled::fault;
+use std::alloc::Global;
+use swift_grammar::Decl;
+use swift_names::{Declared, Misuse, NamesError, check};
+
+/// What the declarations declare, where their names are in order.
+pub(crate) fn named(alloc: Global, decls: &[Decl], lines: &Lines) -> Result<Declared, ScriptFault>
+    ensures names { IfOk result (λ d. names_fault (map view_decl decls.now) ≡ None) }
+    ensures directory { IfOk result (λ d. d ≡ directory_of (map view_decl decls.now)) }
+    ensures refused { (text : List ℕ) → SpellsDecls 32 text (map view_decl decls.now) → IfErr result (λ e. Refuses e.kind text) }
+{
+    match check(alloc, decls) {
+        Ok(declared) => Ok(declared),
+        Err(error) => Err(refusal(lines, error)),
+    }
+}
+
+fn refusal(lines: &Lines, error: NamesError) -> ScriptFault
+    ensures { result.kind ≡ misnamed_kind error }
+{
+    match error {
+        NamesError::Memory => ScriptFault::MEMORY,
+        NamesError::Misnamed(found) => fault(lines.line(found.left), kind_of(found.misuse)),
+    }
+}
+
+fn kind_of(misuse: Misuse) -> ScriptFaultKind
+    ensures { result ≡ names_kind misuse }
+{
+    match misuse {
+        Misuse::Twice => ScriptFaultKind::NameTwice,
+        Misuse::Unknown => ScriptFaultKind::UnknownName,
+        Misuse::Arguments => ScriptFaultKind::Arguments,
+        Misuse::TooMany => ScriptFaultKind::LimitPassed,
+    }
+}
