@@ -54,12 +54,18 @@ whole text kept xs d actors lent roots lent_roots cs held ms ns k l lr h short p
     let parts : Parts = record { actors = actors; roots = roots } in
     let tree : tree_of parts ≡ tree_in xs = ap (λ (zs : List ActorTree). let t : ScriptTree = record { actors = zs; roots = map view_root roots } in t) seen ∙ ap (λ (zs : List RootTree). let t : ScriptTree = record { actors = actors_in xs; roots = zs } in t) seen_roots in
     let accepted : IsAccepted text (tree_of parts) = record {
-          short = short; plain = plain; decls = xs; spelled = spelled; names = names;
-          starts = starts_by (actors_in xs) cs true (ts ∙ ap (map compiled_actor) seen) (ap (λ (zs : List CompiledActor). all_hold (map actor_is zs)) (sym h) ∙ starts);
-          is = tree } in
+      short = short;
+      plain = plain;
+      decls = xs;
+      spelled = spelled;
+      names = names;
+      starts = starts_by (actors_in xs) cs true (ts ∙ ap (map compiled_actor) seen) (ap (λ (zs : List CompiledActor). all_hold (map actor_is zs)) (sym h) ∙ starts);
+      is = tree;
+    } in
     let place : d ≡ directory_in (map view_actor actors) = is ∙ directory_by_actors xs (record { actors = []; methods = []; params = [] }) ∙ ap directory_in (sym seen) in
     record {
       accepted = subst (λ (t : List ℕ). IsAccepted t (tree_of parts)) (sym k) accepted;
       has_actors = ts;
       has_methods = methods ∙ ap (λ (zs : List Actor). map (compiled_of d) (entries_in (map view_actor zs))) l ∙ ap (λ (q : Directory). map (compiled_of q) (entries_in (map view_actor actors))) place;
-      has_roots = numbers ∙ ap (λ (zs : List Root). map (root_number d) (map view_root zs)) lr ∙ ap (λ (q : Directory). map (root_number q) (map view_root roots)) place }
+      has_roots = numbers ∙ ap (λ (zs : List Root). map (root_number d) (map view_root zs)) lr ∙ ap (λ (q : Directory). map (root_number q) (map view_root roots)) place;
+    }

@@ -24,22 +24,22 @@ pub one_more : (d : Directory) (actors : List Actor) (k : ℕ) (a : Actor) (done
     → actor_is c ≡ compiled_actor (view_actor a) → more ≡ done ++ c ∷ []
     → map method_is ns ≡ map method_is ms ++ map (compiled_of d) (entries_of k (field_names (view_actor a).fields) (view_actor a).methods)
     → ActorsFine d (map view_actor (drop (k + 1) actors))
-      × (map actor_is more ++ map compiled_actor (map view_actor (drop (k + 1) actors)) ≡ all)
-      × (map method_is ns ++ map (compiled_of d) (entries_from (k + 1) (map view_actor (drop (k + 1) actors))) ≡ whole)
+    × (map actor_is more ++ map compiled_actor (map view_actor (drop (k + 1) actors)) ≡ all)
+    × (map method_is ns ++ map (compiled_of d) (entries_from (k + 1) (map view_actor (drop (k + 1) actors))) ≡ whole)
 one_more d actors k a done more c ms ns all whole lt is fine soon later compiled pushed lowered =
     let rest = map view_actor (drop (k + 1) actors) in
     let front : drop k actors ≡ a ∷ drop (k + 1) actors = cut actors k a lt is ∙ ap (λ (n : ℕ). a ∷ drop n actors) (sym (add-one k)) in
     let fines : ActorsFine d (view_actor a ∷ rest) = subst (λ (xs : List Actor). ActorsFine d (map view_actor xs)) front fine in
     let one : map actor_is more ≡ map actor_is done ++ compiled_actor (view_actor a) ∷ [] = ap (map actor_is) pushed ∙ map_push actor_is done c ∙ ap (λ (x : ActorIs). map actor_is done ++ x ∷ []) compiled in
     let actors_so : map actor_is more ++ map compiled_actor rest ≡ all =
-        ap (λ (xs : List ActorIs). xs ++ map compiled_actor rest) one
-        ∙ append_assoc (map actor_is done) (compiled_actor (view_actor a) ∷ []) (map compiled_actor rest)
-        ∙ ap (λ (xs : List Actor). map actor_is done ++ map compiled_actor (map view_actor xs)) (sym front) ∙ soon in
+    ap (λ (xs : List ActorIs). xs ++ map compiled_actor rest) one
+    ∙ append_assoc (map actor_is done) (compiled_actor (view_actor a) ∷ []) (map compiled_actor rest)
+    ∙ ap (λ (xs : List Actor). map actor_is done ++ map compiled_actor (map view_actor xs)) (sym front) ∙ soon in
     let here = entries_of k (field_names (view_actor a).fields) (view_actor a).methods in
     let behind = entries_from (k + 1) rest in
     let methods_so : map method_is ns ++ map (compiled_of d) behind ≡ whole =
-        ap (λ (xs : List MethodIs). xs ++ map (compiled_of d) behind) lowered
-        ∙ append_assoc (map method_is ms) (map (compiled_of d) here) (map (compiled_of d) behind)
-        ∙ ap (λ (xs : List MethodIs). map method_is ms ++ xs) (sym (map-append (compiled_of d) here behind))
-        ∙ ap (λ (xs : List Actor). map method_is ms ++ map (compiled_of d) (entries_from k (map view_actor xs))) (sym front) ∙ later in
+    ap (λ (xs : List MethodIs). xs ++ map (compiled_of d) behind) lowered
+    ∙ append_assoc (map method_is ms) (map (compiled_of d) here) (map (compiled_of d) behind)
+    ∙ ap (λ (xs : List MethodIs). map method_is ms ++ xs) (sym (map-append (compiled_of d) here behind))
+    ∙ ap (λ (xs : List Actor). map method_is ms ++ map (compiled_of d) (entries_from k (map view_actor xs))) (sym front) ∙ later in
     (fines.1, actors_so, methods_so)

@@ -32,13 +32,15 @@ roots_in-acts (Roots q ∷ xs) a = ap (λ (rs : List RootTree). q ∷ rs) (roots
 pub one_more_actor : (actors more : List Actor) (roots : List Root) (seen : List Decl) (d : Decl) (a : Actor) → map view_actor actors ≡ actors_in (map view_decl seen) → map view_root roots ≡ roots_in (map view_decl seen) → d ≡ decl.Actor a → more ≡ actors ++ a ∷ []
     → (map view_actor more ≡ actors_in (map view_decl (seen ++ d ∷ []))) × (map view_root roots ≡ roots_in (map view_decl (seen ++ d ∷ [])))
 one_more_actor actors more roots seen d a ea er is pushed =
-    let grown : map view_decl (seen ++ d ∷ []) ≡ map view_decl seen ++ Acts (view_actor a) ∷ [] = map_push view_decl seen d ∙ ap (λ (x : Decl). map view_decl seen ++ view_decl x ∷ []) is in
-    (ap (map view_actor) pushed ∙ map_push view_actor actors a ∙ ap (λ (xs : List ActorTree). xs ++ view_actor a ∷ []) ea ∙ sym (actors_in-acts (map view_decl seen) (view_actor a)) ∙ ap actors_in (sym grown),
-     er ∙ sym (roots_in-acts (map view_decl seen) (view_actor a)) ∙ ap roots_in (sym grown))
+    let grown : map view_decl (seen ++ d ∷ []) ≡ map view_decl seen ++ Acts (view_actor a) ∷ [] = map_push view_decl seen d ∙ ap (λ (x : Decl). map view_decl seen ++ view_decl x ∷ []) is in (
+      ap (map view_actor) pushed ∙ map_push view_actor actors a ∙ ap (λ (xs : List ActorTree). xs ++ view_actor a ∷ []) ea ∙ sym (actors_in-acts (map view_decl seen) (view_actor a)) ∙ ap actors_in (sym grown),
+      er ∙ sym (roots_in-acts (map view_decl seen) (view_actor a)) ∙ ap roots_in (sym grown),
+    )
 
 pub one_more_root : (actors : List Actor) (roots more : List Root) (seen : List Decl) (d : Decl) (r : Root) → map view_actor actors ≡ actors_in (map view_decl seen) → map view_root roots ≡ roots_in (map view_decl seen) → d ≡ decl.Root r → more ≡ roots ++ r ∷ []
     → (map view_actor actors ≡ actors_in (map view_decl (seen ++ d ∷ []))) × (map view_root more ≡ roots_in (map view_decl (seen ++ d ∷ [])))
 one_more_root actors roots more seen d r ea er is pushed =
-    let grown : map view_decl (seen ++ d ∷ []) ≡ map view_decl seen ++ Roots (view_root r) ∷ [] = map_push view_decl seen d ∙ ap (λ (x : Decl). map view_decl seen ++ view_decl x ∷ []) is in
-    (ea ∙ sym (actors_in-roots (map view_decl seen) (view_root r)) ∙ ap actors_in (sym grown),
-     ap (map view_root) pushed ∙ map_push view_root roots r ∙ ap (λ (xs : List RootTree). xs ++ view_root r ∷ []) er ∙ sym (roots_in-roots (map view_decl seen) (view_root r)) ∙ ap roots_in (sym grown))
+    let grown : map view_decl (seen ++ d ∷ []) ≡ map view_decl seen ++ Roots (view_root r) ∷ [] = map_push view_decl seen d ∙ ap (λ (x : Decl). map view_decl seen ++ view_decl x ∷ []) is in (
+      ea ∙ sym (actors_in-roots (map view_decl seen) (view_root r)) ∙ ap actors_in (sym grown),
+      ap (map view_root) pushed ∙ map_push view_root roots r ∙ ap (λ (xs : List RootTree). xs ++ view_root r ∷ []) er ∙ sym (roots_in-roots (map view_decl seen) (view_root r)) ∙ ap roots_in (sym grown),
+    )

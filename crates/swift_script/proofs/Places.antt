@@ -24,7 +24,8 @@ method_from d (Some x) m e =
       has_actor = ap (λ (y : MethodIs). y.actor) (sym same);
       has_params = ap (λ (y : MethodIs). y.params) (sym same);
       has_slots = ap (λ (y : MethodIs). y.slots) (sym same);
-      stands = flat_stands m.lines.items (code_in d x) (ap (λ (y : MethodIs). y.lines) (sym same)) }
+      stands = flat_stands m.lines.items (code_in d x) (ap (λ (y : MethodIs). y.lines) (sym same));
+    }
 
 actor_from : (o : Option ActorTree) (a : CompiledActor) → option_map compiled_actor o ≡ Some (actor_is a) → IsActorOf o a
 actor_from None a e = absurd cc
@@ -36,12 +37,12 @@ actor_from (Some x) a e =
 pub method_at : (d : Directory) (es : List Entry) (ms : List CompiledMethod) (k : ℕ) (m : CompiledMethod) → map method_is ms ≡ map (compiled_of d) es → slice_get ms k ≡ Some m → IsMethodOf d (slice_get es k) m
 method_at d es ms k m same at =
     method_from d (slice_get es k) m
-      (sym (slice_get-map (compiled_of d) es k) ∙ ap (λ (xs : List MethodIs). slice_get xs k) (sym same) ∙ slice_get-map method_is ms k ∙ ap (option_map method_is) at)
+    (sym (slice_get-map (compiled_of d) es k) ∙ ap (λ (xs : List MethodIs). slice_get xs k) (sym same) ∙ slice_get-map method_is ms k ∙ ap (option_map method_is) at)
 
 pub actor_at : (ts : List ActorTree) (cs : List CompiledActor) (k : ℕ) (a : CompiledActor) → map actor_is cs ≡ map compiled_actor ts → slice_get cs k ≡ Some a → IsActorOf (slice_get ts k) a
 actor_at ts cs k a same at =
     actor_from (slice_get ts k) a
-      (sym (slice_get-map compiled_actor ts k) ∙ ap (λ (xs : List ActorIs). slice_get xs k) (sym same) ∙ slice_get-map actor_is cs k ∙ ap (option_map actor_is) at)
+    (sym (slice_get-map compiled_actor ts k) ∙ ap (λ (xs : List ActorIs). slice_get xs k) (sym same) ∙ slice_get-map actor_is cs k ∙ ap (option_map actor_is) at)
 
 none_from : (o : Option ActorTree) → option_map compiled_actor o ≡ None → o ≡ None
 none_from None e = refl

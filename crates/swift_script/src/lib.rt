@@ -17,3 +17,6 @@ pub use fault::{ScriptFault, ScriptFaultKind};
 pub use reading::read;
 pub use script::Script;
 pub use spelled::LONGEST;
+
+#[cfg(test)]
+mod tests;

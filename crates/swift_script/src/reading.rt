@@ -81,10 +81,12 @@ fn build(
 // How many tokens are left at an actor's invariant.
 fn invariant_left(actors: &[Actor], place: usize) -> usize {
     match actors.get(place) {
-        Some(Actor {
-            invariant: Some(invariant),
-            ..
-        }) => invariant.left,
+        Some(
+            Actor {
+                invariant: Some(invariant),
+                ..
+            },
+        ) => invariant.left,
         _ => 0,
     }
 }

@@ -8,7 +8,6 @@ ghost use Rattle.swift_lines.specs.Lines.{Stands};
 ghost use Rattle.swift_lines.specs.Seen.{term_if_lent};
 ghost use Rattle.swift_script.specs.Scripts.{tree_of, directory_in, entry_at, method_count, method_code, method_actor, method_slots, method_params, method_name, actor_count, actor_invariant, actor_start, root_count, root_method, root_args, root_priority};
 
-
 use crate::compile::Compiled;
 use crate::compiled::{CompiledActor, CompiledMethod};
 use std::marker::Model;
@@ -33,7 +32,6 @@ pub struct Script {
 impl Model for Script {
     ghost use Rattle.swift_script.specs.Scripts.{Parts};
     ghost use Rattle.swift_script.specs.Whole.{IsWhole};
-
     ghost use Rattle.swift_grammar.specs.contracts.tree.Expr as e;
     ghost use Rattle.swift_grammar.specs.contracts.tree.Stmt as s;
     ghost use Rattle.std.specs.Coded.{codes};

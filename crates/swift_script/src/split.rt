@@ -8,10 +8,7 @@ use std::alloc::{AllocError, Global};
 use swift_grammar::{Actor, Decl, Root};
 
 /// The actors and the roots, each in text order.
-pub(crate) fn split(
-    alloc: Global,
-    decls: Vec<Decl>,
-) -> Result<(Vec<Actor>, Vec<Root>), AllocError>
+pub(crate) fn split(alloc: Global, decls: Vec<Decl>) -> Result<(Vec<Actor>, Vec<Root>), AllocError>
     ensures actors { IfOk result (λ x. map view_actor x.0.items ≡ actors_in (map view_decl decls.items)) }
     ensures roots { IfOk result (λ x. map view_root x.1.items ≡ roots_in (map view_decl decls.items)) }
 {

@@ -6,7 +6,7 @@ use Rattle.swift_script.specs.Fine.{ActorsFine}
 use Rattle.swift_script.proofs.compile.compile.Given as goal
 
 abbrev pub invariant-loop-k : goal.invariant-loop-k
-invariant-loop-k l = 
+invariant-loop-k l =
     ActorsFine l.declared (map view_actor (drop l.k l.actors))
     × (map actor_is l.compiled.actors.items ++ map compiled_actor (map view_actor (drop l.k l.actors)) ≡ map compiled_actor (map view_actor l.actors))
     × (map method_is l.compiled.methods.items ++ map (compiled_of l.declared) (entries_from l.k (map view_actor (drop l.k l.actors))) ≡ map (compiled_of l.declared) (entries_from 0 (map view_actor l.actors)))

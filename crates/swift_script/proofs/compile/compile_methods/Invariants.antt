@@ -6,6 +6,6 @@ use Rattle.swift_script.specs.Fine.{MethodsFine}
 use Rattle.swift_script.proofs.compile.compile_methods.Given as goal
 
 abbrev pub invariant-loop-method : goal.invariant-loop-method
-invariant-loop-method l = 
+invariant-loop-method l =
     MethodsFine l.declared l.fields (map view_method (drop l.method-index l.methods))
     × (map method_is l.all.items ++ map (compiled_of l.declared) (entries_of l.actor.0 l.fields (map view_method (drop l.method-index l.methods))) ≡ map method_is l.initial.all.items ++ map (compiled_of l.declared) (entries_of l.actor.0 l.fields (map view_method l.methods)))

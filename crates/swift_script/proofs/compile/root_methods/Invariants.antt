@@ -5,6 +5,6 @@ use Rattle.swift_script.specs.Fine.{RootsFine}
 use Rattle.swift_script.proofs.compile.root_methods.Given as goal
 
 abbrev pub invariant-loop-root : goal.invariant-loop-root
-invariant-loop-root l = 
+invariant-loop-root l =
     RootsFine l.declared (map view_root (drop l.root-index l.roots))
     × (map number_is l.methods.items ++ map (root_number l.declared) (map view_root (drop l.root-index l.roots)) ≡ map (root_number l.declared) (map view_root l.roots))

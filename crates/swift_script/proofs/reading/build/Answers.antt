@@ -14,11 +14,11 @@ root_methods-requires c = roots_in_order c.args.declared.now (map view_decl c.ar
 pub returns-in-Some-clause-refused : goal.returns-in-Some-clause-refused
 returns-in-Some-clause-refused c =
     subst (λ (k : ScriptFaultKind). Refuses k c.args.text.now) (sym c.fault.ensures)
-      (starts_false c.args.text.now (map view_decl c.args.decls.items) c.in_ok-actors.actors.items c.deref.result.now c.in_ok-compiled.compiled.actors.items c.deref-2.result.now
-        c.deref.ensures.value c.deref-2.ensures.value c.requires.spelled c.in_ok-actors.ensures.actors c.in_ok-compiled.ensures.actors c.in-Some.ensures.some)
+    (starts_false c.args.text.now (map view_decl c.args.decls.items) c.in_ok-actors.actors.items c.deref.result.now c.in_ok-compiled.compiled.actors.items c.deref-2.result.now
+    c.deref.ensures.value c.deref-2.ensures.value c.requires.spelled c.in_ok-actors.ensures.actors c.in_ok-compiled.ensures.actors c.in-Some.ensures.some)
 
 pub of-requires : goal.of-requires
 of-requires c =
     whole c.args.text.now c.in_ok-text.text.items (map view_decl c.args.decls.items) c.args.declared.now c.in_ok-actors.actors.items c.deref.result.now c.in_ok-actors.roots.items c.deref-3.result.now c.in_ok-compiled.compiled.actors.items c.deref-2.result.now c.in_ok-compiled.compiled.methods.items c.in_ok-root_methods.root_methods.items
-      c.in_ok-text.ensures.items c.deref.ensures.value c.deref-3.ensures.value c.deref-2.ensures.value c.requires.short c.requires.plain c.requires.spelled c.requires.names c.requires.directory
-      c.in_ok-actors.ensures.actors c.in_ok-actors.ensures.roots c.in_ok-compiled.ensures.actors c.in-None.ensures.none c.in_ok-compiled.ensures.methods c.in_ok-root_methods.ensures
+    c.in_ok-text.ensures.items c.deref.ensures.value c.deref-3.ensures.value c.deref-2.ensures.value c.requires.short c.requires.plain c.requires.spelled c.requires.names c.requires.directory
+    c.in_ok-actors.ensures.actors c.in_ok-actors.ensures.roots c.in_ok-compiled.ensures.actors c.in-None.ensures.none c.in_ok-compiled.ensures.methods c.in_ok-root_methods.ensures
