@@ -51,7 +51,7 @@ pub fn lower(
     ensures slots { IfOk result (λ l. l.slots ≡ most_of (length params.now) (steps_of (map view_stmt body.now))) }
 {
     let scope = Scope { declared, fields };
-    let mut variables = parameters(alloc, fields, params)?;
+    let mut variables = parameters(alloc, params)?;
     let mut lines = Vec::new(alloc);
     let last = size(body)?;
     block(alloc, scope, &mut variables, &mut lines, body, last)?;
@@ -74,8 +74,8 @@ pub fn field_places(alloc: Global, fields: &[Field]) -> Result<Names, AllocError
 }
 
 // The names of distinct parameters.
-fn parameters(alloc: Global, fields: &Names, params: &[Name]) -> Result<Names, AllocError>
-    requires { parameters_fault fields.now [] (map text_of params.now) ≡ None }
+fn parameters(alloc: Global, params: &[Name]) -> Result<Names, AllocError>
+    requires { parameters_fault [] [] (map text_of params.now) ≡ None }
     ensures { IfOk result (λ names. names ≡ map text_of params.now) }
 {
     let mut names = Names::new(alloc);

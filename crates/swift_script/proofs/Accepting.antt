@@ -1,7 +1,6 @@
 -- What is accepted is read.
-use Rattle.std.proofs.Common.{◌≡◌, ◌≤◌, ◌<◌, ℕ, Bool, true, false, Option, Some, None, List, length, Result, Ok, Err, inl, inr, refl, sym, ap, subst, ◌∙◌, arith}
+use Rattle.std.proofs.Common.{◌≡◌, ℕ, true, false, Some, None, List, Result, Ok, Err, inl, inr, refl, sym, ap, subst, ◌∙◌, arith}
 use Rattle.std.specs.Prelude.{IfOk, IfErr}
-use Rattle.swift_tokens.specs.Bytes.{is_text}
 use Rattle.swift_tokens.specs.Pieces.{Piece}
 use Rattle.swift_tokens.proofs.Unique.{unique}
 use Rattle.swift_grammar.specs.Tree.{DeclTree}
@@ -14,7 +13,7 @@ use Rattle.swift_script.specs.declared.fault.ScriptFaultKind.{ScriptFaultKind}
 use Rattle.swift_script.specs.declared.fault.ScriptFaultKind.TheVariants as kind
 use Rattle.swift_script.specs.Script.{ScriptTree, actors_in, tree_in, all_start_well}
 use Rattle.swift_script.specs.Scripts.{Parts, tree_of}
-use Rattle.swift_script.specs.Accepted.{SpellsDecls, Spells, SpellsNothing, IsAccepted, HasFault, StartsFalse}
+use Rattle.swift_script.specs.Accepted.{SpellsDecls, Spells, IsAccepted, HasFault, StartsFalse}
 use Rattle.swift_script.specs.Refuses.{Refuses}
 use Rattle.swift_script.specs.Answers.{IsReadAs}
 

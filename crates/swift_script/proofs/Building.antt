@@ -1,19 +1,18 @@
 -- What was compiled from declarations whose names are in order is a whole script.
-use Rattle.std.proofs.Common.{◌≡◌, ◌≤◌, ℕ, Bool, true, false, ◌&&◌, Option, None, List, [], ◌∷◌, length, map, refl, sym, ap, subst, ◌∙◌}
+use Rattle.std.proofs.Common.{◌≡◌, ◌≤◌, ℕ, Bool, true, false, ◌&&◌, None, List, [], ◌∷◌, length, map, refl, sym, ap, subst, ◌∙◌}
 use Rattle.swift_types.specs.declared.id.MethodId.{MethodId}
 use Rattle.swift_tokens.specs.Bytes.{is_text}
 use Rattle.swift_grammar.specs.declared.declared.Actor.{Actor}
 use Rattle.swift_grammar.specs.declared.declared.Root.{Root}
 use Rattle.swift_grammar.specs.Tree.{ActorTree, RootTree, DeclTree, view_actor, view_root}
 use Rattle.swift_names.specs.Directory.{Directory, directory_of}
-use Rattle.swift_names.specs.Rules.{names_fault, declarations_fault}
-use Rattle.swift_lines.specs.Value.{holds}
+use Rattle.swift_names.specs.Rules.{names_fault}
 use Rattle.swift_script.specs.declared.compiled.CompiledMethod.{CompiledMethod}
 use Rattle.swift_script.specs.declared.compiled.CompiledActor.{CompiledActor}
 use Rattle.swift_script.specs.Script.{ScriptTree, actors_in, roots_in, tree_in, starts_well, all_start_well}
 use Rattle.swift_script.specs.Scripts.{Parts, tree_of, directory_in, entries_in}
 use Rattle.swift_script.specs.Accepted.{SpellsDecls, IsAccepted, StartsFalse}
-use Rattle.swift_script.specs.Compiled.{MethodIs, method_is, compiled_of, ActorIs, actor_is, compiled_actor, all_hold, root_number, number_is}
+use Rattle.swift_script.specs.Compiled.{method_is, compiled_of, actor_is, compiled_actor, all_hold, root_number, number_is}
 use Rattle.swift_script.specs.Fine.{ActorsFine, RootsFine}
 use Rattle.swift_script.specs.Whole.{IsWhole}
 use Rattle.swift_script.proofs.Fined.{names_fine, directory_by_actors}

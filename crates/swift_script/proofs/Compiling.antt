@@ -1,13 +1,13 @@
 -- One more actor, as it is compiled.
-use Rattle.std.proofs.Common.{◌≡◌, ℕ, zero, suc, ◌+◌, ◌<◌, List, [], ◌∷◌, ◌++◌, length, map, drop, get_or, add-one, refl, sym, ap, subst, ◌∙◌, append_assoc, arith}
+use Rattle.std.proofs.Common.{◌≡◌, ℕ, zero, suc, ◌+◌, ◌<◌, List, [], ◌∷◌, ◌++◌, length, map, drop, get_or, add-one, sym, ap, subst, ◌∙◌, append_assoc, arith}
 use Rattle.std.proofs.lemmas.List.{map_push, map-append}
 use Rattle.swift_grammar.specs.declared.declared.Actor.{Actor}
-use Rattle.swift_grammar.specs.Tree.{ActorTree, view_actor}
+use Rattle.swift_grammar.specs.Tree.{view_actor}
 use Rattle.swift_names.specs.Directory.{Directory}
 use Rattle.swift_names.specs.Rules.{field_names}
 use Rattle.swift_script.specs.declared.compiled.CompiledMethod.{CompiledMethod}
 use Rattle.swift_script.specs.declared.compiled.CompiledActor.{CompiledActor}
-use Rattle.swift_script.specs.Scripts.{Entry, entries_of, entries_from}
+use Rattle.swift_script.specs.Scripts.{entries_of, entries_from}
 use Rattle.swift_script.specs.Compiled.{MethodIs, method_is, compiled_of, ActorIs, actor_is, compiled_actor}
 use Rattle.swift_script.specs.Fine.{ActorsFine}
 

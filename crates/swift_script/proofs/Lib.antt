@@ -3,5 +3,7 @@ pub mod Divided
 pub mod Fined
 pub mod Places
 pub mod Accepting
+pub mod Few
 pub mod Compiling
 pub mod Building
+pub mod SameScripts

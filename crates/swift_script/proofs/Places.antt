@@ -1,12 +1,8 @@
 -- What stands at a place of what was compiled.
-use Rattle.std.proofs.Common.{◌≡◌, ℕ, zero, suc, ◌<◌, ◌≤◌, get_or, Option, Some, None, List, [], ◌∷◌, length, map, refl, sym, ap, subst, ◌∙◌, arith}
+use Rattle.std.proofs.Common.{◌≡◌, ℕ, zero, suc, ◌<◌, ◌≤◌, get_or, Option, Some, None, List, [], ◌∷◌, length, map, refl, sym, ap, ◌∙◌, arith}
 use Rattle.std.specs.Prelude.{slice_get}
 use Rattle.std.specs.Option.{option_map}
 use Rattle.std.proofs.lemmas.Option.{slice_get-map}
-use Rattle.swift_lines.specs.Tree.{Code, Term, term_if}
-use Rattle.swift_lines.specs.Flat.{Meaning, meaning_of, flat_method}
-use Rattle.swift_lines.specs.Lines.{Stands}
-use Rattle.swift_lines.specs.declared.line.Line.{Line}
 use Rattle.swift_lines.proofs.Flats.{flat_stands}
 use Rattle.swift_grammar.specs.Tree.{ActorTree}
 use Rattle.swift_names.specs.Directory.{Directory}
@@ -61,3 +57,10 @@ pub missing : {A : Type 0} (xs : List A) (k : ℕ) → length xs ≤ k → slice
 missing [] k le = refl
 missing (y ∷ xs) zero le = absurd (omega arith)
 missing (y ∷ xs) (suc k) le = missing xs k (omega arith)
+
+-- what stands at a place, seen by a view
+pub seen_at : {A B : Type 0} (f : A → B) (xs : List A) (k : ℕ) (x : A) → k < length xs → x ≡ get_or xs k x → Some (f x) ≡ slice_get (map f xs) k
+seen_at f xs k x lt e = sym (slice_get-map f xs k ∙ ap (option_map f) (got xs k x lt e))
+
+pub unseen_at : {A B : Type 0} (f : A → B) (xs : List A) (k : ℕ) → length xs ≤ k → None ≡ slice_get (map f xs) k
+unseen_at f xs k le = sym (slice_get-map f xs k ∙ ap (option_map f) (missing xs k le))

@@ -1,9 +1,8 @@
 -- What the reader of tokens says of a text.
-use Rattle.std.proofs.Common.{◌≡◌, ℕ, List, subst, sym}
+use Rattle.std.proofs.Common.{◌≡◌, ℕ, List, subst}
 use Rattle.swift_tokens.specs.Pieces.{Piece}
 use Rattle.swift_tokens.specs.Lexes.{Lexes}
 use Rattle.swift_tokens.proofs.Unique.{unique}
-use Rattle.swift_grammar.specs.declared.fault.Fault.{Fault}
 use Rattle.swift_grammar.specs.declared.fault.Kind.{Kind}
 use Rattle.swift_grammar.specs.declared.fault.Kind.TheVariants as grammar
 use Rattle.swift_grammar.specs.declared.fault.ReadError.{ReadError}
@@ -11,7 +10,7 @@ use Rattle.swift_grammar.specs.declared.fault.ReadError.TheVariants as reading
 use Rattle.swift_grammar.specs.Tree.{DeclTree}
 use Rattle.swift_grammar.specs.Grammar.{IsScript}
 use Rattle.swift_grammar.specs.Answers.{SpellsNothing as NoneSpelled}
-use Rattle.swift_script.specs.Accepted.{SpellsDecls, SpellsNothing}
+use Rattle.swift_script.specs.Accepted.{SpellsNothing}
 use Rattle.swift_script.specs.Refuses.{Refuses, grammar_kind, read_kind}
 
 -- what the tokens of a text do not spell, the text does not spell

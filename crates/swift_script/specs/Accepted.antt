@@ -1,5 +1,5 @@
 -- Which texts are accepted.
-use Rattle.std.specs.Prelude.{◌≡◌, ◌≤◌, ◌<◌, ℕ, Bool, true, false, Option, Some, None, List, length, Result, Ok, Err}
+use Rattle.std.specs.Prelude.{◌≡◌, ◌≤◌, ℕ, true, false, Some, None, List, length}
 use Rattle.swift_tokens.specs.Bytes.{is_text}
 use Rattle.swift_tokens.specs.Pieces.{Piece}
 use Rattle.swift_tokens.specs.Lexes.{Lexes}

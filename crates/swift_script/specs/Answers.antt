@@ -1,7 +1,6 @@
 -- What an answer of the reader says.
-use Rattle.std.specs.Prelude.{◌≡◌, ℕ, List, Result, Ok, Err}
+use Rattle.std.specs.Prelude.{◌≡◌, Result, Ok, Err}
 use Rattle.swift_script.specs.declared.fault.ScriptFault.{ScriptFault}
-use Rattle.swift_script.specs.declared.fault.ScriptFaultKind.{ScriptFaultKind}
 use Rattle.swift_script.specs.declared.fault.ScriptFaultKind.TheVariants.{Memory}
 use Rattle.swift_script.specs.Script.{ScriptTree}
 use Rattle.swift_script.specs.Scripts.{Parts, tree_of}

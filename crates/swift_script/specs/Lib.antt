@@ -6,3 +6,5 @@ pub mod Refuses
 pub mod Fine
 pub mod Whole
 pub mod Answers
+pub mod Lent
+pub mod SameScripts

@@ -1,5 +1,5 @@
 -- What each refusal says of a text.
-use Rattle.std.specs.Prelude.{◌≡◌, ◌⊎◌, ◌<◌, ℕ, false, List, length, Result, Ok, Err}
+use Rattle.std.specs.Prelude.{◌≡◌, ◌⊎◌, ◌<◌, ℕ, false, List, length}
 use Rattle.swift_tokens.specs.Bytes.{is_text}
 use Rattle.swift_grammar.specs.declared.fault.Kind.{Kind}
 use Rattle.swift_grammar.specs.declared.fault.Kind.TheVariants as grammar
@@ -9,7 +9,6 @@ use Rattle.swift_names.specs.declared.misuse.NamesError.{NamesError}
 use Rattle.swift_names.specs.declared.misuse.NamesError.TheVariants as naming
 use Rattle.swift_names.specs.declared.misuse.Misuse.{Misuse}
 use Rattle.swift_names.specs.declared.misuse.Misuse.TheVariants.{Twice, Unknown, Arguments as OtherCount, TooMany}
-use Rattle.swift_script.specs.declared.fault.ScriptFault.{ScriptFault}
 use Rattle.swift_script.specs.declared.fault.ScriptFaultKind.{ScriptFaultKind}
 use Rattle.swift_script.specs.declared.fault.ScriptFaultKind.TheVariants as kind
 use Rattle.swift_script.specs.Accepted.{SpellsNothing, HasFault, StartsFalse}

@@ -1,6 +1,6 @@
 -- The tree of a script: its actors and its roots, each in text order.
-use Rattle.std.specs.Prelude.{ℕ, ◌+◌, ℤ, Bool, true, ◌&&◌, Option, Some, None, List, [], ◌∷◌, ◌++◌, map}
-use Rattle.swift_grammar.specs.Tree.{Tree, MethodTree, ActorTree, RootTree, DeclTree, Acts, Roots}
+use Rattle.std.specs.Prelude.{ℤ, Bool, true, ◌&&◌, Option, List, [], ◌∷◌, map}
+use Rattle.swift_grammar.specs.Tree.{ActorTree, RootTree, DeclTree, Acts, Roots}
 use Rattle.swift_names.specs.Rules.{field_names}
 use Rattle.swift_lines.specs.Tree.{Term}
 use Rattle.swift_lines.specs.Value.{holds}

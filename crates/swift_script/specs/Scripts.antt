@@ -2,7 +2,7 @@
 use Rattle.std.specs.Prelude.{ℕ, ◌+◌, ℤ, Option, Some, None, List, [], ◌∷◌, ◌++◌, length, map, slice_get}
 use Rattle.swift_types.specs.declared.priority.Priority.{Priority}
 use Rattle.swift_types.specs.declared.priority.Priority.TheVariants.{Medium}
-use Rattle.swift_grammar.specs.Tree.{MethodTree, ActorTree, RootTree, view_actor, view_root, steps_of}
+use Rattle.swift_grammar.specs.Tree.{FieldTree, MethodTree, ActorTree, RootTree, view_actor, view_root, steps_of}
 use Rattle.swift_grammar.specs.declared.declared.Actor.{Actor}
 use Rattle.swift_grammar.specs.declared.declared.Root.{Root}
 use Rattle.swift_names.specs.Texts.{place_of, qualified}
@@ -141,3 +141,31 @@ name_if (Some e) = e.method.name
 
 abbrev pub method_name : Parts → ℕ → List ℕ
 method_name p m = name_if (entry_at p m)
+
+abbrev pub actor_name_if : Option ActorTree → List ℕ
+actor_name_if None = []
+actor_name_if (Some a) = a.name
+
+-- the name of an actor, by its number; empty where there is none
+abbrev pub actor_name : Parts → ℕ → List ℕ
+actor_name p k = actor_name_if (slice_get (map view_actor p.actors) k)
+
+abbrev pub fields_if : Option ActorTree → List FieldTree
+fields_if None = []
+fields_if (Some a) = a.fields
+
+abbrev pub field_name_if : Option FieldTree → List ℕ
+field_name_if None = []
+field_name_if (Some f) = f.name
+
+-- the name of a field of an actor, by both numbers; empty where there is none
+abbrev pub field_name : Parts → ℕ → ℕ → List ℕ
+field_name p k i = field_name_if (slice_get (fields_if (slice_get (map view_actor p.actors) k)) i)
+
+abbrev pub root_name_if : Option RootTree → List ℕ
+root_name_if None = []
+root_name_if (Some r) = r.name
+
+-- the name of a root, by its number; empty where there is none
+abbrev pub root_name : Parts → ℕ → List ℕ
+root_name p k = root_name_if (slice_get (map view_root p.roots) k)

@@ -3,9 +3,11 @@
 
 mod compile;
 mod compiled;
+mod equality;
 mod fault;
 mod lines;
 mod named;
+mod names;
 mod reading;
 mod script;
 mod spelled;

@@ -1,9 +1,10 @@
 //! Scripts that were read.
 
-ghost use Rattle.std.specs.Prelude.{◌≡◌, ◌↔◌, ◌<◌, IsTrue, map, slice_get};
-ghost use Rattle.swift_grammar.specs.Tree.{view_actor};
+ghost use Rattle.std.specs.Prelude.{◌≡◌, ◌↔◌, ◌<◌, ◌≤◌, IsTrue, map, slice_get};
+ghost use Rattle.swift_grammar.specs.Tree.{view_actor, view_root};
 ghost use Rattle.swift_script.specs.Whole.{IsWhole};
 ghost use Rattle.swift_script.specs.Compiled.{IsMethodOf, IsActorOrNone};
+ghost use Rattle.swift_script.specs.Lent.{actor_if_lent, root_if_lent};
 ghost use Rattle.swift_lines.specs.Lines.{Stands};
 ghost use Rattle.swift_lines.specs.Seen.{term_if_lent};
 ghost use Rattle.swift_script.specs.Scripts.{tree_of, directory_in, entry_at, method_count, method_code, method_actor, method_slots, method_params, method_name, actor_count, actor_invariant, actor_start, root_count, root_method, root_args, root_priority};
@@ -71,9 +72,10 @@ impl Script {
         }
     }
 
-    /// How many actors there are.
+    /// How many actors there are, at most 64.
     pub fn actor_count(&self) -> usize
-        ensures { result ≡ actor_count self.now }
+        ensures count { result ≡ actor_count self.now }
+        ensures few { result ≤ 64 }
     {
         self.actors.len()
     }
@@ -162,6 +164,24 @@ impl Script {
             return true;
         }
         same_actors(&self.actors, &other.actors) && same_roots(&self.roots, &other.roots)
+    }
+
+    pub(crate) fn actor(&self, actor: ActorId) -> Option<&Actor>
+        ensures { actor_if_lent result ≡ slice_get (map view_actor self.now.actors) actor.0 }
+    {
+        match self.actors.get(actor.0 as usize) {
+            Some(found) => Some(found),
+            None => None,
+        }
+    }
+
+    pub(crate) fn root(&self, root: RootId) -> Option<&Root>
+        ensures { root_if_lent result ≡ slice_get (map view_root self.now.roots) root.0 }
+    {
+        match self.roots.get(root.0 as usize) {
+            Some(found) => Some(found),
+            None => None,
+        }
     }
 
     fn method(&self, method: MethodId) -> &CompiledMethod

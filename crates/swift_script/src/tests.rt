@@ -295,3 +295,80 @@ fn scripts_that_say_the_same(rt: HostRuntime) -> Result<(), Fail> {
     }
     Ok(())
 }
+
+/// Compares the scripts of two texts both ways round, and each with itself.
+fn compare(
+    rt: &impl Abort,
+    alloc: Global,
+    first: &str,
+    second: &str,
+    wanted: bool,
+) -> Result<(), Fail> {
+    let a = read(alloc, first.as_bytes())?;
+    let b = read(alloc, second.as_bytes())?;
+    assert!(rt; a == a, "{first}");
+    assert_eq!(rt; a == b, wanted, "{first} and {second}");
+    assert_eq!(rt; b == a, wanted, "{second} and {first}");
+    assert_eq!(rt; a != b, !wanted, "{first} and {second}");
+    Ok(())
+}
+
+#[test]
+fn equal_scripts(rt: HostRuntime) -> Result<(), Fail> {
+    let pairs = [
+        ("", ""),
+        ("", " // nothing"),
+        ("actor A { }", "actor A { }"),
+        (
+            "actor A { var x = 1; func f() { x = x + 1; return x; } } root a = A.f();",
+            "// counts\nactor A{var x=01;func f(){x=x+1;\n\nreturn x;}}root a=A.f()at medium;",
+        ),
+        (
+            "actor A { var x = 1; func f(y) { return x + 2 * y; } }",
+            "actor A { var x = 1; func f(y) { return ((x) + (2 * y)); } }",
+        ),
+        (
+            "actor A { func f() { } } actor B { } root a = A.f(); root b = A.f();",
+            "root a = A.f(); actor A { func f() { } } root b = A.f(); actor B { }",
+        ),
+    ];
+    for (first, second) in pairs {
+        compare(&rt, rt.alloc(), first, second, true)?;
+    }
+    Ok(())
+}
+
+#[test]
+fn other_scripts(rt: HostRuntime) -> Result<(), Fail> {
+    let pairs = [
+        ("", "actor A { }"),
+        ("actor A { }", "actor B { }"),
+        ("actor A { } actor B { }", "actor B { } actor A { }"),
+        ("actor A { var x = 1; }", "actor A { var x = 2; }"),
+        ("actor A { var x = 1; }", "actor A { var y = 1; }"),
+        (
+            "actor A { func f() { } func g() { } }",
+            "actor A { func g() { } func f() { } }",
+        ),
+        (
+            "actor A { func f() { return 1; } }",
+            "actor A { func f() { return 1 + 0; } }",
+        ),
+        (
+            "actor A { func f() { } } root a = A.f();",
+            "actor A { func f() { } } root b = A.f();",
+        ),
+        (
+            "actor A { func f() { } } root a = A.f();",
+            "actor A { func f() { } } root a = A.f() at high;",
+        ),
+        (
+            "actor A { func f(x) { } } root a = A.f(1);",
+            "actor A { func f(x) { } } root a = A.f(-1);",
+        ),
+    ];
+    for (first, second) in pairs {
+        compare(&rt, rt.alloc(), first, second, false)?;
+    }
+    Ok(())
+}

@@ -1,10 +1,14 @@
-use Rattle.std.proofs.Common.{map, length, ◌++◌, ap, ◌∙◌}
+use Rattle.std.proofs.Common.{map, length, [], ◌++◌, ap, ◌∙◌}
 use Rattle.swift_grammar.specs.Tree.{view_stmt, steps_of, text_of}
 use Rattle.swift_lines.specs.Flat.{flat, meaning_of}
 use Rattle.swift_lines.proofs.Flats.{flat_stands}
 use Rattle.swift_lowering.specs.Lowered.{code_of}
 use Rattle.swift_lowering.proofs.Blocks.{whole_method}
+use Rattle.swift_lowering.proofs.Places.{distinct}
 use Rattle.swift_lowering.proofs.method.lower.Goals as goal
+
+pub parameters-requires : goal.parameters-requires
+parameters-requires c = distinct c.args.fields.now [] (map text_of c.args.params.now) c.requires.parameters
 
 pub returns-clause-lines : goal.returns-clause-lines
 returns-clause-lines c =

@@ -1,4 +1,4 @@
-use Rattle.std.proofs.Common.{◌≡◌, ◌++◌, ◌∷◌, [], map, drop, take}
+use Rattle.std.proofs.Common.{◌≡◌, ◌++◌, map, drop}
 use Rattle.swift_grammar.specs.Tree.{view_method}
 use Rattle.swift_script.specs.Scripts.{entries_of}
 use Rattle.swift_script.specs.Compiled.{method_is, compiled_of}

@@ -1,4 +1,4 @@
-use Rattle.std.proofs.Common.{◌≡◌, ◌++◌, ◌∷◌, [], map, drop, take}
+use Rattle.std.proofs.Common.{◌≡◌, ◌++◌, map, drop}
 use Rattle.swift_grammar.specs.Tree.{view_root}
 use Rattle.swift_script.specs.Compiled.{number_is, root_number}
 use Rattle.swift_script.specs.Fine.{RootsFine}

@@ -1,4 +1,4 @@
-use Rattle.std.proofs.Common.{◌≡◌, ◌++◌, ◌∷◌, [], map, drop, take}
+use Rattle.std.proofs.Common.{◌≡◌, ◌++◌, map, drop}
 use Rattle.swift_grammar.specs.Tree.{view_field}
 use Rattle.swift_script.proofs.compile.start_values.Given as goal
 

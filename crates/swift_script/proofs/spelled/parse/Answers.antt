@@ -1,8 +1,8 @@
-use Rattle.std.proofs.Common.{◌≡◌, List, map, sym, subst, ap, ◌∙◌}
+use Rattle.std.proofs.Common.{map, sym, subst}
 use Rattle.swift_tokens.specs.Pieces.{piece}
 use Rattle.swift_grammar.specs.Answers.{SpellsNothing as NoneSpelled}
 use Rattle.swift_script.specs.declared.fault.ScriptFaultKind.{ScriptFaultKind}
-use Rattle.swift_script.specs.Refuses.{Refuses, read_kind}
+use Rattle.swift_script.specs.Refuses.{Refuses}
 use Rattle.swift_script.proofs.Texts.{refuses_read}
 use Rattle.swift_script.proofs.spelled.parse.Goals as goal
 

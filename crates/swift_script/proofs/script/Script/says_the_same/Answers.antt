@@ -1,4 +1,4 @@
-use Rattle.std.proofs.Common.{◌≡◌, ℕ, List, sym, subst, ◌∙◌, rules}
+use Rattle.std.proofs.Common.{◌≡◌, ℕ, List, subst, rules}
 use Rattle.swift_script.specs.Scripts.{Parts, tree_of}
 use Rattle.swift_script.specs.Accepted.{IsAccepted}
 use Rattle.swift_script.proofs.Accepting.{same_accepted}

@@ -1,0 +1,9 @@
+//! Texts to a device.
+#![tactic(auto)]
+
+// A whole text into a writer.
+mod output;
+#[cfg(test)]
+mod tests;
+
+pub use output::{Device, write_all};

@@ -1,0 +1,41 @@
+-- The replay of a journal, and when a journal is lawful (SE-0392 for executors that run one job at a time).
+use Rattle.std.specs.Prelude.{◌≡◌, ℕ, ◌+◌, ℤ, List, [], ◌∷◌, length, map}
+use Rattle.std.specs.declared.vec.Vec.{Vec}
+use Rattle.std.specs.declared.alloc.Global.{Global}
+use Rattle.swift_script.specs.Scripts.{Parts, actor_start, actor_count, method_actor, method_count}
+use Rattle.swift_turn.specs.Turn.{Played}
+use Rattle.swift_turn.specs.Body.{frame_turn}
+use Rattle.swift_turn.specs.Frame.{deeds_of}
+use Rattle.swift_turn.specs.Runs.{leaving_of}
+use Rattle.swift_report.specs.declared.report.Record.{Record}
+
+-- the kept turn of a record's frame, on these fields
+abbrev pub turn_of : Parts → List ℤ → Record → Played
+turn_of p fields r = frame_turn p r.frame fields r.resume r.env
+
+-- the fields after a record's turn
+abbrev pub fields_after : Parts → List ℤ → Record → List ℤ
+fields_after p fields r = (turn_of p fields r).state.fields
+
+-- what replaying a journal on one thread gives, from these fields on
+abbrev pub replay : Parts → List ℤ → List Record → List ℤ
+replay p fields [] = fields
+replay p fields (r ∷ rs) = replay p (fields_after p fields r) rs
+
+-- a record's exit and effects are those of the kept turn, and its frame is of a method of this actor
+pub record IsKept (p : Parts) (k : ℕ) (fields : List ℤ) (r : Record) : Type 0 where
+  pub exit : leaving_of r.exit ≡ (turn_of p fields r).exit
+  pub effects : deeds_of r.effects.items ≡ (turn_of p fields r).state.effects
+  pub actor : method_actor p r.frame.method.0 ≡ k
+
+-- Each record's exit and effects are what the kept turn gives at that point of the replay.
+abbrev pub IsLawful : Parts → ℕ → List ℤ → List Record → Type 0
+IsLawful p actor fields [] = Unit {0}
+IsLawful p actor fields (r ∷ rs) = IsKept p actor fields r × (IsLawful p actor (fields_after p fields r) rs)
+
+-- The journals of the actors from a number on are lawful, and the fields are what replaying them gives.
+abbrev pub AreLawful : Parts → ℕ → List (Vec Record Global) → List (Vec ℤ Global) → Type 0
+AreLawful p k [] [] = Unit {0}
+AreLawful p k (journal ∷ journals) (fields ∷ others) =
+    IsLawful p k (actor_start p k) journal.items × (fields.items ≡ replay p (actor_start p k) journal.items) × (AreLawful p (k + 1) journals others)
+AreLawful p k _ _ = ⊥

@@ -1,0 +1,49 @@
+//! Records of turns, and reports of runs.
+
+use swift_lines::Env;
+use swift_turn::{Effect, Exit, Frame};
+use swift_types::{Ending, Resume, RootId, TaskId};
+
+/// One turn, as the journal of its executor has it.
+#[derive(Drop)]
+pub struct Record {
+    pub task: TaskId,
+    /// The turn's number among the turns of its task, from 0.
+    pub number: u32,
+    /// The worker that ran it, from 0.
+    pub worker: u32,
+    /// The frame as it was before the turn.
+    pub frame: Frame,
+    /// What the turn began with.
+    pub resume: Resume,
+    /// What it was told.
+    pub env: Env,
+    /// How it ended.
+    pub exit: Exit,
+    /// What it did beside its fields: nothing where it was undone.
+    pub effects: Vec<Effect>,
+}
+
+/// What a task was made by.
+#[derive(Clone, Copy, Debug, PartialEq, Eq)]
+pub enum Origin {
+    /// A root of the script.
+    Root(RootId),
+}
+
+/// An event of the book's log. No book writes one yet.
+#[derive(Drop)]
+pub enum Event {}
+
+/// What a run leaves.
+#[derive(Drop)]
+pub struct Report {
+    /// The journal of each executor, in the order of executors: an actor's own, in text order.
+    pub journals: Vec<Vec<Record>>,
+    /// Empty until there is a book.
+    pub log: Vec<Event>,
+    /// What made each task, and how it ended, in the order of tasks.
+    pub endings: Vec<(Origin, Ending)>,
+    /// The fields of each actor, in text order.
+    pub fields: Vec<Vec<i64>>,
+}

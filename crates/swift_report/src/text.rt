@@ -1,0 +1,133 @@
+//! The text of a report.
+
+ghost use Rattle.std.specs.Prelude.{◌≡◌, ℤ, ◌++◌, IfOk, OnOk};
+ghost use Rattle.swift_report.specs.Text.{journals_text, origin_text, task_text, tasks_text, field_text, values_text, fields_text, report_text};
+
+use crate::append::number;
+use crate::named::{actor_name, field_name};
+use crate::report::{Origin, Record, Report};
+use crate::turns::executors;
+use crate::word;
+use std::alloc::{AllocError, Global};
+use swift_script::Script;
+use swift_types::Ending;
+
+/// The text of a report on a script (the format is our own), as the bytes that are written: the journals unless it
+/// is `quiet`, the tasks, and the fields. All of it is ASCII where the names of the script are.
+///
+/// A line for each executor, turn, task and field, each ended by a line feed. A name that the script lacks is left
+/// empty. Linear in the report.
+///
+/// # Errors
+///
+/// `AllocError` where no memory is left for the text.
+pub fn report_text(
+    alloc: Global,
+    script: &Script,
+    report: &Report,
+    quiet: bool,
+) -> Result<Vec<u8>, AllocError>
+    ensures { IfOk result (λ t. t.items ≡ report_text script.now report.now quiet) }
+{
+    let mut out = Vec::new(alloc);
+    journals(&mut out, script, &report.journals, quiet)?;
+    out.extend_from_slice(b"tasks\n")?;
+    tasks(&mut out, script, &report.endings)?;
+    out.extend_from_slice(b"fields\n")?;
+    fields(&mut out, script, &report.fields)?;
+    Ok(out)
+}
+
+fn journals(
+    out: &mut Vec<u8>,
+    script: &Script,
+    journals: &[Vec<Record>],
+    quiet: bool,
+) -> Result<(), AllocError>
+    ensures { OnOk result (out.new.items ≡ out.old.items ++ journals_text script.now quiet journals.now) }
+{
+    if quiet {
+        return Ok(());
+    }
+    out.extend_from_slice(b"journals\n")?;
+    executors(out, script, journals)
+}
+
+fn origin(out: &mut Vec<u8>, script: &Script, origin: Origin) -> Result<(), AllocError>
+    ensures { OnOk result (out.new.items ≡ out.old.items ++ origin_text script.now origin) }
+{
+    match origin {
+        Origin::Root(root) => {
+            out.extend_from_slice(b"root ")?;
+            out.extend_from_slice(script.root_name(root))
+        }
+    }
+}
+
+fn task(
+    out: &mut Vec<u8>,
+    script: &Script,
+    number_of: usize,
+    ended: (Origin, Ending),
+) -> Result<(), AllocError>
+    ensures { OnOk result (out.new.items ≡ out.old.items ++ task_text script.now number_of ended) }
+{
+    let (made_by, ending) = ended;
+    out.extend_from_slice(b"t")?;
+    number(out, number_of)?;
+    out.extend_from_slice(b" ")?;
+    origin(out, script, made_by)?;
+    out.extend_from_slice(b" ")?;
+    word::ending(out, ending)?;
+    out.extend_from_slice(b"\n")
+}
+
+fn tasks(out: &mut Vec<u8>, script: &Script, endings: &[(Origin, Ending)]) -> Result<(), AllocError>
+    ensures { OnOk result (out.new.items ≡ out.old.items ++ tasks_text script.now 0 endings.now) }
+{
+    for (number_of, ended) in endings.iter().enumerate() {
+        task(out, script, number_of, *ended)?;
+    }
+    Ok(())
+}
+
+fn field(
+    out: &mut Vec<u8>,
+    script: &Script,
+    actor: usize,
+    field: usize,
+    value: i64,
+) -> Result<(), AllocError>
+    ensures { OnOk result (out.new.items ≡ out.old.items ++ field_text script.now actor field value) }
+{
+    out.extend_from_slice(actor_name(script, actor))?;
+    out.extend_from_slice(b".")?;
+    out.extend_from_slice(field_name(script, actor, field))?;
+    out.extend_from_slice(b" ")?;
+    number(out, value)?;
+    out.extend_from_slice(b"\n")
+}
+
+// The fields of one actor.
+fn values(
+    out: &mut Vec<u8>,
+    script: &Script,
+    actor: usize,
+    values: &[i64],
+) -> Result<(), AllocError>
+    ensures { OnOk result (out.new.items ≡ out.old.items ++ values_text script.now actor 0 values.now) }
+{
+    for (place, value) in values.iter().enumerate() {
+        field(out, script, actor, place, *value)?;
+    }
+    Ok(())
+}
+
+fn fields(out: &mut Vec<u8>, script: &Script, fields: &[Vec<i64>]) -> Result<(), AllocError>
+    ensures { OnOk result (out.new.items ≡ out.old.items ++ fields_text script.now 0 fields.now) }
+{
+    for (actor, kept) in fields.iter().enumerate() {
+        values(out, script, actor, kept)?;
+    }
+    Ok(())
+}

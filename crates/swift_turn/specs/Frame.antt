@@ -1,0 +1,65 @@
+-- A frame, without where it lies in memory.
+use Rattle.std.specs.Prelude.{ℕ, ℤ, Option, Some, None, List, [], map, reverse}
+use Rattle.swift_types.specs.declared.outcome.Fault.{Fault}
+use Rattle.swift_lines.specs.Lines.{code_at}
+use Rattle.swift_lines.specs.Tree.{Code}
+use Rattle.swift_script.specs.Scripts.{Parts, method_code}
+use Rattle.swift_turn.specs.Turn.{State, Deed, oldest, head, tail, pending_by}
+use Rattle.swift_turn.specs.declared.activation.Activation.{Activation}
+use Rattle.swift_turn.specs.declared.effect.Effect.{Effect}
+use Rattle.swift_turn.specs.declared.frame.Frame.{Frame}
+
+-- a method that is under way: the line stands for the statements still to do
+pub record FrameParts : Type 0 where
+  pub method : ℕ
+  pub line : ℕ
+  pub vars : List ℤ
+  pub handles : List ℕ
+  -- the innermost first
+  pub bindings : List (ℕ × ℤ)
+  pub depth : ℕ
+  -- the innermost first
+  pub groups : List ℕ
+  pub pending : Option Fault
+
+-- no statement binds a local yet
+abbrev pub parts_of : Activation → FrameParts
+parts_of a = record { method = a.method.0; line = a.line; vars = a.vars.items; handles = a.handles.items; bindings = []; depth = a.depth; groups = reverse a.groups.items; pending = a.pending }
+
+abbrev pub parts_if : Option Activation → Option FrameParts
+parts_if None = None
+parts_if (Some a) = Some (parts_of a)
+
+-- the same of a frame that was handed out
+abbrev pub frame_parts : Frame → FrameParts
+frame_parts f = record { method = f.method.0; line = f.line; vars = f.vars.items; handles = f.handles.items; bindings = []; depth = f.depth; groups = reverse f.groups.items; pending = f.pending }
+
+abbrev pub deed_of : Effect → Deed
+deed_of e = elim e [ ]
+
+abbrev pub deeds_of : List Effect → List Deed
+deeds_of = map deed_of
+
+-- the continuation that a frame of this code stands for, with these counts, fields and effects
+abbrev pub state_in : Code → FrameParts → ℕ → ℕ → List ℤ → List Deed → State
+state_in code p made opened fields effects = record {
+  todo = code_at code p.line;
+  vars = p.vars;
+  handles = p.handles;
+  bindings = p.bindings;
+  depth = p.depth;
+  groups = p.groups;
+  pending = p.pending;
+  made = made;
+  opened = opened;
+  fields = fields;
+  effects = effects;
+}
+
+-- the same of a frame of a script
+abbrev pub state_at : Parts → FrameParts → ℕ → ℕ → List ℤ → List Deed → State
+state_at script p = state_in (method_code script p.method) p
+
+-- a frame that a fault leaves
+abbrev pub parts_left : Fault → FrameParts → FrameParts
+parts_left f p = record p { bindings = oldest p.depth p.bindings; groups = tail p.groups; pending = pending_by f (head p.groups) p.pending }

@@ -1,0 +1,5 @@
+pub mod Turn
+pub mod Frame
+pub mod Runs
+pub mod Body
+pub mod Whole

@@ -1,0 +1,382 @@
+//! A task's stack of frames, as a future.
+
+ghost use Rattle.std.specs.Prelude.{◌≡◌, ◌<◌, ◌⊎◌, ◌↔◌, true, [], IsTrue, IsSome, IfSome, IfOk, OnOk, IfErr, OnErr, Some};
+ghost use Rattle.std.specs.Arc.{arc_value};
+ghost use Rattle.futures.specs.Poll.{IfReady, OnPending};
+ghost use Rattle.futures.specs.Task.{Covers, Keeps};
+ghost use Rattle.swift_lines.specs.Lines.{code_at};
+ghost use Rattle.swift_script.specs.Scripts.{method_actor, method_code, method_count};
+ghost use Rattle.swift_turn.specs.Body.{CanAdvance, GoesOn, Hands, IsPolled, Polls, Registers, WaitsIn, advanced, answer_of, called, ending_if, ends_with, entered, idle, lacking, opening, resumed};
+ghost use Rattle.swift_turn.specs.Frame.{deeds_of, frame_parts};
+ghost use Rattle.swift_turn.specs.Runs.{leaving_of};
+
+use crate::activation::{Activation, opening_of};
+use crate::effect::Effect;
+use crate::exit::{Exit, Step};
+use crate::frame::Frame;
+use crate::kept::play_kept;
+use crate::phase::Turn;
+use crate::run::{Run, empty_run, make_room};
+use crate::stack::Stack;
+use futures::Future;
+use futures::task::{Context, Poll, Source, Waker};
+use std::alloc::{AllocError, Global};
+use std::marker::Model;
+use std::mem;
+use std::sync::Arc;
+use swift_lines::Env;
+use swift_lines::laws::first_line_begins;
+use swift_script::Script;
+use swift_types::{ActorId, Ending, Fault, MethodId, Resume};
+
+/// How many steps a turn may have: statements begun, a `while` apart, and tests of a `while`.
+pub const STEPS: u32 = 10_000;
+
+/// How many frames a task may have.
+pub const FRAMES: usize = 64;
+
+/// A task: its script, its stack of frames, and the turn that is under way (SE-0304). A turn is entered with the
+/// fields of the actor of the frame that runs, polled once, and left; then `advance` says what comes next. It is a
+/// future whose output is the task's ending, and which is polled by hand: a keeper makes one `Solo` of the crate
+/// `futures`, which wants a runtime once, and one context of it serves any number of turns.
+///
+/// ```text
+/// let solo = Solo::new(rt, Doorbell::spinning())?;
+/// let mut cx = solo.begin();
+/// .. any number of turns, each by `run_turn(&mut body, &mut cx, fields, resume, env)` ..
+/// cx.cancel();
+/// ```
+#[derive(Drop)]
+pub struct Body {
+    alloc: Global,
+    script: Arc<Script>,
+    top: Option<Activation>,
+    made: u64,
+    opened: u64,
+    callers: Stack,
+    turn: Turn,
+    // What a turn began with, to undo it. Its buffers are kept from turn to turn.
+    spare: Run,
+    source: Source,
+    waker: Option<Waker>,
+}
+
+impl Model for Body {
+    ghost use Rattle.std.specs.Arc.{arc_value};
+    ghost use Rattle.std.specs.Coded.{codes};
+    ghost use Rattle.std.specs.Prelude.{is_some};
+    ghost use Rattle.swift_grammar.specs.contracts.tree.Expr as e;
+    ghost use Rattle.swift_grammar.specs.contracts.tree.Stmt as s;
+    ghost use Rattle.swift_turn.specs.Body.{BodyParts};
+
+    ghost Value = { BodyParts };
+
+    ghost coded = { Prim.hlevel (codes, e.the_row.coded, s.the_row.coded) };
+
+    ghost use Rattle.swift_turn.specs.Frame.{parts_if};
+    ghost use Rattle.swift_turn.specs.Whole.{IsWhole, phase_of};
+
+    ghost view = { λ b. record {
+      script = arc_value b.script;
+      here = record { top = parts_if b.top; made = b.made; opened = b.opened; phase = phase_of b.turn };
+      callers = b.callers;
+      source = b.source.id;
+      armed = is_some b.waker;
+    } };
+
+    ghost invariant = { λ b. IsWhole (arc_value b.script) (parts_if b.top) b.callers };
+}
+
+impl Future for Body {
+    type Output = Ending;
+
+    ghost needs = { λ b s. WaitsIn b.here.phase × (s ≡ b.source) };
+
+    ghost gives = { λ b e. ends_with b ≡ Some e };
+
+    fn poll(&mut self, cx: &mut Context<'_>) -> Poll<Ending>
+        ensures value { IfReady result (λ e. ends_with self.old ≡ Some e) }
+        ensures same { OnPending result ((x : _) → ends_with self.new ≡ Some x → ends_with self.old ≡ Some x) }
+        ensures registered { OnPending result (Covers cx.new (λ s. WaitsIn self.new.here.phase × (s ≡ self.new.source))) }
+        ensures kept { Keeps cx.old cx.new }
+        // One turn, where one was entered.
+        ensures turned { Polls self.old.script self.old.here self.old.here.top self.old.here.phase self.new.here }
+        // Where it waits, its waker lies in the slot of its own source, unless none could be made.
+        ensures waits { OnPending result (WaitsIn self.new.here.phase → WaitsIn self.old.here.phase ⊎ ((cx.new.lacks_waker ≡ true) ⊎ (self.new.armed ≡ true))) }
+        ensures rest { self.new ≡ record self.old { here = self.new.here; armed = self.new.armed } }
+        ensures answer { result ≡ answer_of self.old.callers self.old.here.phase self.new.here.phase }
+    {
+        if !matches!(self.turn, Turn::Entered(_, _, _)) {
+            return cx.yield_now();
+        }
+        self.play_turn();
+        let Turn::Played(_, _, exit) = &self.turn else {
+            return cx.yield_now();
+        };
+        match last_ending(&self.callers, exit) {
+            Some(ending) => Poll::Ready(ending),
+            None if waits(exit) => cx.register(&self.source, &mut self.waker),
+            None => cx.yield_now(),
+        }
+    }
+}
+
+// The ending, where this exit leaves the first frame.
+fn last_ending(callers: &Stack, exit: &Exit) -> Option<Ending>
+    ensures { result ≡ ending_if callers.now (leaving_of exit.now) }
+{
+    if !callers.is_empty() {
+        return None;
+    }
+    match exit {
+        Exit::Return(v) => Some(Ending::Value(*v)),
+        Exit::Fault(f) => Some(Ending::Fault(*f)),
+        _ => None,
+    }
+}
+
+// Whether the body waits at its own source.
+fn waits(exit: &Exit) -> bool
+    ensures { IsTrue result ↔ Registers (leaving_of exit.now) }
+{
+    matches!(exit, Exit::Close(_, _))
+}
+
+impl Body {
+    /// A task whose first frame is the method's (SE-0304). Variables that are no arguments are 0. It takes memory for
+    /// those; for want of it nothing remains.
+    pub fn start(
+        alloc: Global,
+        script: Arc<Script>,
+        method: MethodId,
+        args: Vec<i64>,
+    ) -> Result<Body, AllocError>
+        requires { method.0 < method_count (arc_value script) }
+        ensures script { IfOk result (λ b. b.script ≡ arc_value script) }
+        ensures frames { IfOk result (λ b. b.callers ≡ []) }
+        // All statements of the method are still to do.
+        ensures statements { IfOk result (λ b. IfSome b.here.top (λ p. code_at (method_code b.script p.method) p.line ≡ method_code b.script method.0)) }
+        ensures here { IfOk result (λ b. b.here ≡ record { top = Some (opening (arc_value script) method.0 args.items []); made = 0; opened = 0; phase = idle }) }
+    {
+        first_line_begins();
+        let top = opening_of(alloc, &script, method, args)?;
+        Ok(Body {
+            alloc,
+            script,
+            top: Some(top),
+            made: 0,
+            opened: 0,
+            callers: Stack::new(alloc),
+            turn: Turn::Idle,
+            spare: empty_run(alloc),
+            source: Source::new(),
+            waker: None,
+        })
+    }
+
+    /// Enters a turn of the frame that runs, on the fields of its actor. Room for undoing it is made here, so it may
+    /// answer want of memory, and then hands the fields back and leaves the body as it was.
+    pub fn enter(
+        &mut self,
+        fields: Vec<i64>,
+        resume: Resume,
+        env: Env,
+    ) -> Result<(), (Vec<i64>, AllocError)>
+        requires idle { self.old.here.phase ≡ idle }
+        requires running { IsSome self.old.here.top }
+        ensures ok { OnOk result (self.new ≡ record self.old { here = record self.old.here { phase = entered fields.items resume env } }) }
+        ensures err { IfErr result (λ e. (self.new ≡ self.old) × (e.0.items ≡ fields.items)) }
+    {
+        let Some(top) = &self.top else { unreachable!() };
+        if make_room(&mut self.spare, top, &fields).is_err() {
+            return Err((fields, AllocError));
+        }
+        self.turn = Turn::Entered(fields, resume, env);
+        Ok(())
+    }
+
+    /// Leaves the turn that was polled: the fields after it, its effects in order, and how it ended. Where the poll met
+    /// want of memory, the fields are those that were entered, and the body is as it was before.
+    pub fn leave(&mut self) -> Result<(Vec<i64>, Vec<Effect>, Exit), (Vec<i64>, AllocError)>
+        requires { IsPolled self.old.here.phase }
+        ensures ok { IfOk result (λ r. Hands self.old.here.phase r.0.items (deeds_of r.1.items) (leaving_of r.2)) }
+        ensures err { IfErr result (λ e. self.old.here.phase ≡ lacking e.0.items) }
+        ensures rest { self.new ≡ record self.old { here = record self.old.here { phase = idle } } }
+    {
+        match mem::replace(&mut self.turn, Turn::Idle) {
+            Turn::Played(fields, effects, exit) => Ok((fields, effects, exit)),
+            Turn::Lacking(fields) => Err((fields, AllocError)),
+            _ => unreachable!(),
+        }
+    }
+
+    /// Follows the exit of a turn: a call begins a frame, whose variables are its arguments and then zeros, and where a frame is left its caller goes on (SE-0306).
+    /// It takes memory for a call alone, and for want of it the body is as it was. A call from a task with 64 frames
+    /// begins none, and the same frame gets the fault `depth`.
+    pub fn advance(&mut self, exit: &Exit) -> Result<Step, AllocError>
+        requires idle { self.old.here.phase ≡ idle }
+        requires running { IsSome self.old.here.top }
+        requires call { CanAdvance self.old.script (leaving_of exit.now) }
+        ensures ok { IfOk result (λ step. IfSome self.old.here.top (λ p.
+            record { top = self.new.here.top; callers = self.new.callers; step = step } ≡ advanced self.old.script p self.old.callers (leaving_of exit.now))) }
+        ensures rest { self.new ≡ record self.old { here = record self.old.here { top = self.new.here.top }; callers = self.new.callers } }
+        ensures running { IfOk result (λ step. GoesOn step → IsSome self.new.here.top) }
+        ensures err { OnErr result (self.new ≡ self.old) }
+    {
+        match exit {
+            Exit::Call(_, method, args) => self.call(*method, args),
+            Exit::Yield => Ok(Step::Run(self.actor(), Resume::Go)),
+            Exit::Close(_, _) => Ok(Step::Await),
+            Exit::Return(v) => Ok(self.resume_caller(Resume::Value(*v), Ending::Value(*v))),
+            Exit::Fault(f) => Ok(self.resume_caller(Resume::Fault(*f), Ending::Fault(*f))),
+        }
+    }
+
+    /// Whether `advance` can follow this exit: a call is of a method of the script.
+    pub fn can_advance(&self, exit: &Exit) -> bool
+        ensures { IsTrue result ↔ CanAdvance self.now.script (leaving_of exit.now) }
+    {
+        match exit {
+            Exit::Call(_, method, _) => (method.0 as usize) < self.script.method_count(),
+            _ => true,
+        }
+    }
+
+    // Plays the turn that was entered.
+    fn play_turn(&mut self)
+        ensures turned { Polls self.old.script self.old.here self.old.here.top self.old.here.phase self.new.here }
+        ensures rest { self.new ≡ record self.old { here = self.new.here } }
+    {
+        let (fields, resume, env) = match mem::replace(&mut self.turn, Turn::Idle) {
+            Turn::Entered(fields, resume, env) => (fields, resume, env),
+            other => {
+                self.turn = other;
+                return;
+            }
+        };
+        let Some(frame) = self.top.take() else {
+            self.turn = Turn::Entered(fields, resume, env);
+            return;
+        };
+        let mut run = Run {
+            frame,
+            made: self.made,
+            opened: self.opened,
+            fields,
+            effects: Vec::new(self.alloc),
+        };
+        let script = &self.script;
+        let played = play_kept(
+            self.alloc,
+            script,
+            &env,
+            &mut run,
+            &mut self.spare,
+            resume,
+            STEPS,
+        );
+        let Run {
+            frame,
+            made,
+            opened,
+            fields,
+            effects,
+        } = run;
+        self.top = Some(frame);
+        self.made = made;
+        self.opened = opened;
+        self.turn = match played {
+            Ok(exit) => Turn::Played(fields, effects, exit),
+            Err(_) => Turn::Lacking(fields),
+        };
+    }
+
+    fn call(&mut self, method: MethodId, args: &[i64]) -> Result<Step, AllocError>
+        requires idle { self.old.here.phase ≡ idle }
+        requires running { IsSome self.old.here.top }
+        requires call { method.0 < method_count self.old.script }
+        ensures ok { IfOk result (λ step. IfSome self.old.here.top (λ p.
+            record { top = self.new.here.top; callers = self.new.callers; step = step } ≡ called self.old.script p self.old.callers method.0 args.now)) }
+        ensures rest { self.new ≡ record self.old { here = record self.old.here { top = self.new.here.top }; callers = self.new.callers } }
+        ensures err { OnErr result (self.new ≡ self.old) }
+    {
+        if self.callers.len() >= FRAMES - 1 {
+            return Ok(Step::Run(self.actor(), Resume::Fault(Fault::Depth)));
+        }
+        let args = args.to_vec(self.alloc)?;
+        let callee = opening_of(self.alloc, &self.script, method, args)?;
+        let actor = self.script.actor_of(method);
+        let Some(caller) = self.top.take() else {
+            unreachable!()
+        };
+        if let Err(refused) = self.callers.push(caller) {
+            self.top = Some(refused.value);
+            return Err(AllocError);
+        }
+        self.top = Some(callee);
+        Ok(Step::Run(actor, Resume::Start))
+    }
+
+    fn resume_caller(&mut self, resume: Resume, ending: Ending) -> Step
+        requires { self.old.here.phase ≡ idle }
+        ensures rest { self.new ≡ record self.old { here = record self.old.here { top = self.new.here.top }; callers = self.new.callers } }
+        ensures resumed { record { top = self.new.here.top; callers = self.new.callers; step = result } ≡ resumed self.old.script self.old.callers resume ending }
+    {
+        self.top = self.callers.pop();
+        if self.top.is_none() {
+            return Step::Ended(ending);
+        }
+        Step::Run(self.actor(), resume)
+    }
+
+    /// The actor of the frame that runs.
+    pub fn actor(&self) -> ActorId
+        requires { IsSome self.now.here.top }
+        ensures { IfSome self.now.here.top (λ p. result.0 ≡ method_actor self.now.script p.method) }
+    {
+        let Some(top) = &self.top else { unreachable!() };
+        self.script.actor_of(top.method)
+    }
+
+    /// A copy of the frame that runs, and its task's counts. It costs and takes memory for its variables.
+    pub fn frame(&self) -> Result<Frame, AllocError>
+        requires { IsSome self.now.here.top }
+        ensures frame { IfOk result (λ f. self.now.here.top ≡ Some (frame_parts f)) }
+        ensures counts { IfOk result (λ f. (f.made ≡ self.now.here.made) × (f.opened ≡ self.now.here.opened)) }
+        ensures method { IfOk result (λ f. f.method.0 < method_count self.now.script) }
+    {
+        let Some(top) = &self.top else { unreachable!() };
+        Ok(Frame {
+            method: top.method,
+            line: top.line,
+            vars: top.vars.to_vec(self.alloc)?,
+            handles: top.handles.to_vec(self.alloc)?,
+            depth: top.depth,
+            groups: top.groups.to_vec(self.alloc)?,
+            pending: top.pending,
+            made: self.made,
+            opened: self.opened,
+        })
+    }
+
+    /// Sets the frame that runs, and its task's counts, to what `frame` gave before a turn. Its line may be any: one
+    /// past the last line of its method stands for the end of the method.
+    pub fn put_back(&mut self, frame: Frame)
+        requires idle { self.old.here.phase ≡ idle }
+        requires running { IsSome self.old.here.top }
+        requires method { frame.method.0 < method_count self.old.script }
+        ensures { self.new ≡ record self.old { here = record { top = Some (frame_parts frame); made = frame.made; opened = frame.opened; phase = idle } } }
+    {
+        self.top = Some(Activation {
+            method: frame.method,
+            line: frame.line,
+            vars: frame.vars,
+            handles: frame.handles,
+            depth: frame.depth,
+            groups: frame.groups,
+            pending: frame.pending,
+        });
+        self.made = frame.made;
+        self.opened = frame.opened;
+    }
+}

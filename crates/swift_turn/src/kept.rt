@@ -1,0 +1,144 @@
+//! A whole turn, and what is kept of it.
+
+ghost use Rattle.std.specs.Prelude.{◌≡◌, ◌<◌, IfOk, OnErr, OnOk, []};
+ghost use Rattle.swift_lines.specs.Lines.{Stands, code_at, first};
+ghost use Rattle.swift_lines.specs.Seen.{term_if_lent};
+ghost use Rattle.swift_lines.specs.Tree.{term_if};
+ghost use Rattle.swift_script.specs.Scripts.{actor_invariant, method_actor, method_code, method_count};
+ghost use Rattle.swift_turn.specs.Runs.{leaving_of, next_of, played_of, run_parts, state_of};
+ghost use Rattle.swift_turn.specs.Turn.{caught, given, kept, taken, undoes as undoes_spec, whole_turn};
+
+use crate::exit::Exit;
+use crate::fail::leave_run;
+use crate::play::play;
+use crate::run::{Run, copy_run};
+use crate::step::give;
+use std::alloc::{AllocError, Global};
+use std::mem;
+use swift_lines::{Act, Env, Formula, Line, Place, Sight, holds, value};
+use swift_script::Script;
+use swift_types::{Fault, Priority, Resume};
+
+// The turn as it is kept. `spare` is overwritten. For want of memory the run is as before.
+pub fn play_kept(
+    alloc: Global,
+    script: &Script,
+    env: &Env,
+    run: &mut Run,
+    spare: &mut Run,
+    resume: Resume,
+    limit: u32,
+) -> Result<Exit, AllocError>
+    requires method { run.old.frame.method.0 < method_count script.now }
+    requires effects { run.old.effects.items ≡ [] }
+    ensures kept { IfOk result (λ exit. let m = run.old.frame.method.0 in let code = method_code script.now m in
+        played_of (state_of code run.new) exit
+        ≡ kept env.now limit (actor_invariant script.now (method_actor script.now m)) (state_of code run.old) resume) }
+    ensures err { OnErr result (run_parts run.new ≡ run_parts run.old) }
+    ensures method { run.new.frame.method ≡ run.old.frame.method }
+{
+    copy_run(run, spare)?;
+    let method = run.frame.method;
+    let Ok(exit) = play_whole(alloc, script.lines(method), env, run, resume, limit) else {
+        mem::swap(run, spare);
+        return Err(AllocError);
+    };
+    if undoes(&exit) {
+        mem::swap(run, spare);
+        return Ok(leave_run(run, exit));
+    }
+    if !holds(script.invariant(script.actor_of(method)), &run.fields) {
+        mem::swap(run, spare);
+        return Ok(leave_run(run, Exit::Fault(Fault::Invariant)));
+    }
+    Ok(leave_run(run, exit))
+}
+
+fn play_whole(
+    alloc: Global,
+    lines: &[Line],
+    env: &Env,
+    run: &mut Run,
+    resume: Resume,
+    limit: u32,
+) -> Result<Exit, AllocError>
+    ensures played { IfOk result (λ exit. (code : _) → Stands lines.now code
+        → played_of (state_of code run.new) exit ≡ whole_turn env.now limit (state_of code run.old) resume) }
+    ensures method { OnOk result (run.new.frame.method ≡ run.old.frame.method) }
+{
+    if let Some(exit) = take(lines, env, run, resume) {
+        return Ok(exit);
+    }
+    play(alloc, lines, env, run, limit)
+}
+
+// The resume goes to the await that stands open, if one does. None where the frame goes on.
+fn take(lines: &[Line], env: &Env, run: &mut Run, resume: Resume) -> Option<Exit>
+    ensures next { (code : _) → Stands lines.now code
+        → next_of (state_of code run.new) result ≡ taken env.now run.old.frame.pending (first (state_of code run.old).todo) resume (state_of code run.old) }
+    ensures method { run.new.frame.method ≡ run.old.frame.method }
+{
+    if let Some(f) = run.frame.pending {
+        return Some(Exit::Fault(f));
+    }
+    let Some(
+        Line {
+            act: Act::Receive(place, other),
+            next,
+            ..
+        },
+    ) = lines.get(run.frame.line as usize)
+    else {
+        return match resume {
+            Resume::Fault(f) => Some(Exit::Fault(f)),
+            _ => None,
+        };
+    };
+    let v = match resume {
+        Resume::Start | Resume::Go => 0,
+        Resume::Value(v) => v,
+        Resume::Fault(f) => return catch(f, other, env, run, *place, *next),
+    };
+    give(run, *place, *next, v);
+    None
+}
+
+// A fault comes to an await that stands open. None where `else` gives a value in its place.
+fn catch(
+    f: Fault,
+    other: &Option<Formula>,
+    env: &Env,
+    run: &mut Run,
+    place: Option<Place>,
+    next: u32,
+) -> Option<Exit>
+    ensures next { (code : _) → next_of (state_of code run.new) result
+        ≡ caught env.now f (term_if other.now) (state_of code run.old) (given place (code_at code next) (state_of code run.old)) }
+    ensures method { run.new.frame.method ≡ run.old.frame.method }
+{
+    if f == Fault::Turns {
+        return Some(Exit::Fault(f));
+    }
+    let Some(e) = other else {
+        return Some(Exit::Fault(f));
+    };
+    let sight = Sight {
+        variables: &run.frame.vars,
+        fields: &run.fields,
+        env,
+    };
+    let Some(v) = value(e, sight) else {
+        return Some(Exit::Fault(Fault::Overflow));
+    };
+    give(run, place, next, v);
+    None
+}
+
+fn undoes(exit: &Exit) -> bool
+    ensures { result ≡ undoes_spec (leaving_of exit.now) }
+{
+    matches!(
+        exit,
+        Exit::Fault(Fault::Overflow | Fault::Steps | Fault::Tasks)
+    )
+}

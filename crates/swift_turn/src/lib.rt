@@ -1,0 +1,23 @@
+//! Turns of a task: a stack of frames that is entered, polled and left by hand, as a future.
+#![tactic(auto)]
+
+mod activation;
+mod body;
+mod effect;
+mod exit;
+mod fail;
+mod frame;
+mod kept;
+mod phase;
+mod play;
+mod run;
+mod stack;
+mod step;
+mod whole;
+
+pub use body::{Body, FRAMES, STEPS};
+pub use effect::Effect;
+pub use exit::{Exit, Step};
+pub use frame::Frame;
+pub use swift_lines::Env;
+pub use whole::run_turn;
