@@ -4,12 +4,13 @@ use Rattle.std.specs.Prelude.{slice_get}
 use Rattle.std.specs.Option.{option_map}
 use Rattle.std.proofs.lemmas.Option.{slice_get-map}
 use Rattle.swift_lines.proofs.Flats.{flat_stands}
-use Rattle.swift_grammar.specs.Tree.{ActorTree}
+use Rattle.swift_types.specs.declared.id.MethodId.{MethodId}
+use Rattle.swift_grammar.specs.Tree.{ActorTree, RootTree}
 use Rattle.swift_names.specs.Directory.{Directory}
 use Rattle.swift_script.specs.declared.compiled.CompiledMethod.{CompiledMethod}
 use Rattle.swift_script.specs.declared.compiled.CompiledActor.{CompiledActor}
-use Rattle.swift_script.specs.Scripts.{Entry, code_in}
-use Rattle.swift_script.specs.Compiled.{MethodIs, method_is, compiled_of, ActorIs, actor_is, compiled_actor, IsMethodOf, IsActorOf}
+use Rattle.swift_script.specs.Scripts.{Entry, code_in, root_method_if}
+use Rattle.swift_script.specs.Compiled.{MethodIs, method_is, compiled_of, ActorIs, actor_is, compiled_actor, root_number, number_is, IsMethodOf, IsActorOf}
 
 method_from : (d : Directory) (o : Option Entry) (m : CompiledMethod) → option_map (compiled_of d) o ≡ Some (method_is m) → IsMethodOf d o m
 method_from d None m e = absurd cc
@@ -64,3 +65,13 @@ seen_at f xs k x lt e = sym (slice_get-map f xs k ∙ ap (option_map f) (got xs 
 
 pub unseen_at : {A B : Type 0} (f : A → B) (xs : List A) (k : ℕ) → length xs ≤ k → None ≡ slice_get (map f xs) k
 unseen_at f xs k le = sym (slice_get-map f xs k ∙ ap (option_map f) (missing xs k le))
+
+root_method_from : (d : Directory) (o : Option RootTree) (m : MethodId) → option_map (root_number d) o ≡ Some (number_is m) → m.0 ≡ root_method_if d o
+root_method_from d None m e = absurd cc
+root_method_from d (Some r) m e = cc
+
+-- the number of the method that the root at a place calls
+pub root_method_at : (d : Directory) (rs : List RootTree) (ms : List MethodId) (k : ℕ) (m : MethodId) → map number_is ms ≡ map (root_number d) rs → slice_get ms k ≡ Some m → m.0 ≡ root_method_if d (slice_get rs k)
+root_method_at d rs ms k m same at =
+    root_method_from d (slice_get rs k) m
+      (sym (slice_get-map (root_number d) rs k) ∙ ap (λ (xs : List ℕ). slice_get xs k) (sym same) ∙ slice_get-map number_is ms k ∙ ap (option_map number_is) at)

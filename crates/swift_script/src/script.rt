@@ -134,6 +134,37 @@ impl Script {
         &self.method(method).name
     }
 
+    /// The method that a root calls.
+    pub fn root_method(&self, root: RootId) -> MethodId
+        requires { root.0 < root_count self.now }
+        ensures { result.0 ≡ root_method self.now root.0 }
+    {
+        let Some(method) = self.root_methods.get(root.0 as usize) else {
+            unreachable!()
+        };
+        *method
+    }
+
+    /// The arguments of the call that a root is; none for a root that the script lacks.
+    pub fn root_args(&self, root: RootId) -> &[i64]
+        ensures { result.now ≡ root_args self.now root.0 }
+    {
+        match self.root(root) {
+            Some(found) => &found.args,
+            None => &[],
+        }
+    }
+
+    /// The priority of a root's task; medium for a root that the script lacks.
+    pub fn root_priority(&self, root: RootId) -> Priority
+        ensures { result ≡ root_priority self.now root.0 }
+    {
+        match self.root(root) {
+            Some(found) => found.priority,
+            None => Priority::Medium,
+        }
+    }
+
     /// The invariant of an actor, if it has one.
     pub fn invariant(&self, actor: ActorId) -> Option<&Formula>
         ensures { term_if_lent result ≡ actor_invariant self.now actor.0 }

@@ -13,6 +13,8 @@ mod play;
 mod run;
 mod stack;
 mod step;
+#[cfg(test)]
+mod tests;
 mod whole;
 
 pub use body::{Body, FRAMES, STEPS};

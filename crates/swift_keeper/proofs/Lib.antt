@@ -1,0 +1,3 @@
+pub mod Journals
+pub mod Lanes
+pub mod Turned

@@ -1,0 +1,20 @@
+use Rattle.std.proofs.Common.{◌≡◌, ◌+◌, ℕ, List, ◌∷◌, [], ◌++◌, length, sym, subst, ap, ◌∙◌, arith, zero-add, length-append}
+use Rattle.swift_keeper.specs.declared.lane.Lane.{Lane}
+use Rattle.swift_keeper.specs.Lanes.{AreLanes, IsLane}
+use Rattle.swift_keeper.proofs.Lanes.{lane_new, lane_push}
+use Rattle.swift_keeper.proofs.board.empty_board.Goals as goal
+
+pub loop-preserved : goal.loop-preserved
+loop-preserved c =
+    let p = c.args.script.now in
+    let lane = c.in_ok-new.field-0 in
+    let old = c.loop.lanes.items in
+    let new : IsLane p c.loop.actor lane = lane_new p c.loop.actor lane c.in_ok-new.ensures.jobs (c.in_ok-new.ensures.fields ∙ c.start.ensures) c.in_ok-new.ensures.journal in
+    let same : 0 + length old ≡ c.loop.actor = zero-add (length old) ∙ c.loop.invariant.place in
+    let pushed : c.push.new.self.items ≡ old ++ lane ∷ [] = c.in_ok-push.ensures.items in
+    record {
+      lanes = subst (λ (ls : List Lane). AreLanes p 0 ls) (sym pushed) (lane_push p 0 old lane c.loop.invariant.lanes (subst (λ n. IsLane p n lane) (sym same) new));
+      place = omega (arith, ap length pushed, length-append old (lane ∷ []), c.loop.invariant.place, c.in-Some.ensures);
+      count = omega (arith, c.in-Some.ensures, c.loop.invariant.count);
+      end = c.loop.invariant.end;
+    }

@@ -1,0 +1,23 @@
+//! Runs a script on one thread, until its real executors come.
+#![tactic(auto)]
+
+// Why a run was given up.
+mod fault;
+
+// The jobs, the fields and the journal of one executor.
+mod lane;
+
+// One turn of an executor's oldest job.
+mod turn;
+
+// All executors, and the tokens of those that have jobs.
+mod board;
+
+// What a run leaves.
+mod leave;
+
+// Whole runs.
+mod whole;
+
+pub use fault::RunFault;
+pub use whole::run;

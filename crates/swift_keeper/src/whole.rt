@@ -1,0 +1,73 @@
+//! Whole runs.
+
+ghost use Rattle.std.specs.Prelude.{◌≡◌, ◌≢◌, ◌↔◌, [], Err, length, IfOk};
+ghost use Rattle.std.specs.Arc.{arc_value};
+ghost use Rattle.swift_script.specs.Scripts.{actor_count, root_count};
+ghost use Rattle.swift_report.specs.Lawful.{AreLawful};
+ghost use Rattle.swift_keeper.specs.Lanes.{AreRootsFrom};
+ghost use Rattle.swift_keeper.specs.declared.fault.RunFault.TheVariants.{Workers};
+
+use crate::board::{drain, empty_board, start_roots};
+use crate::fault::{Halt, RunFault};
+use crate::leave::report_of;
+use futures::task::{Doorbell, Solo};
+use std::alloc::AllocGlobal;
+use std::random::RandomSource;
+use std::sync::Arc;
+use swift_report::Report;
+use swift_script::Script;
+
+/// Runs a script to its end on the calling thread, and leaves the report of the run (SE-0304 for tasks, SE-0392 for
+/// executors that run one job at a time; the order of turns is our own, and is determined).
+///
+/// An executor with jobs has a token, and the one whose token is the oldest runs its oldest job next. The roots are
+/// enqueued in order of declaration before the first turn. The runtime is used once, to make what a poll is told.
+///
+/// `Workers` stands for any number of workers but 1, `Memory` for a growth that was refused, and `Unfinished` for a task
+/// that did not end. Nothing of a refused run remains. Beside its turns a run costs a copy of a frame a turn.
+pub fn run<R>(rt: &R, script: Arc<Script>, workers: u32) -> Result<Report, RunFault>
+where
+    R: RandomSource + AllocGlobal,
+    ensures workers { (result ≡ Err Workers) ↔ (workers ≢ 1) }
+    // Each journal is lawful, and replaying it gives the fields of its actor.
+    ensures lawful { IfOk result (λ r. AreLawful (arc_value script) 0 r.journals.items r.fields.items) }
+    ensures journals { IfOk result (λ r. length r.journals.items ≡ actor_count (arc_value script)) }
+    ensures fields { IfOk result (λ r. length r.fields.items ≡ actor_count (arc_value script)) }
+    ensures log { IfOk result (λ r. r.log.items ≡ []) }
+    // One ending for each root, in order of declaration.
+    ensures tasks { IfOk result (λ r. length r.endings.items ≡ root_count (arc_value script)) }
+    ensures roots { IfOk result (λ r. AreRootsFrom 0 r.endings.items) }
+{
+    if workers != 1 {
+        return Err(RunFault::Workers);
+    }
+    match run_alone(rt, &script) {
+        Ok(report) => Ok(report),
+        Err(Halt::Memory) => Err(RunFault::Memory),
+        Err(Halt::Unfinished) => Err(RunFault::Unfinished),
+    }
+}
+
+// A run of one worker.
+fn run_alone<R>(rt: &R, script: &Arc<Script>) -> Result<Report, Halt>
+where
+    R: RandomSource + AllocGlobal,
+    ensures lawful { IfOk result (λ r. AreLawful (arc_value script.now) 0 r.journals.items r.fields.items) }
+    ensures journals { IfOk result (λ r. length r.journals.items ≡ actor_count (arc_value script.now)) }
+    ensures fields { IfOk result (λ r. length r.fields.items ≡ actor_count (arc_value script.now)) }
+    ensures log { IfOk result (λ r. r.log.items ≡ []) }
+    ensures tasks { IfOk result (λ r. length r.endings.items ≡ root_count (arc_value script.now)) }
+    ensures roots { IfOk result (λ r. AreRootsFrom 0 r.endings.items) }
+{
+    let alloc = rt.alloc();
+    let Ok(solo) = Solo::new(rt, Doorbell::spinning()) else {
+        return Err(Halt::Memory);
+    };
+    let mut board = empty_board(alloc, script)?;
+    start_roots(alloc, script, &mut board)?;
+    let mut cx = solo.begin();
+    let drained = drain(alloc, &mut cx, script, &mut board);
+    cx.cancel();
+    drained?;
+    report_of(alloc, board)
+}
