@@ -1,4 +1,8 @@
 test:
 	rt ci
 
-.PHONY: test
+# Runs a script: make run SCRIPT=examples/account.actors
+run:
+	@cd crates/swiftrun && rt run < $(abspath $(SCRIPT))
+
+.PHONY: test run

@@ -7,7 +7,7 @@ use Rattle.swift_types.specs.declared.outcome.Resume.{Resume}
 use Rattle.swift_types.specs.declared.outcome.Ending.{Ending}
 use Rattle.swift_turn.specs.Turn.{Leaving, calling, yielding, closing, returning, failing}
 use Rattle.swift_turn.specs.Frame.{FrameParts}
-use Rattle.swift_turn.specs.Body.{BodyParts, Advanced, advanced, called, resumed, opening, FRAMES}
+use Rattle.swift_turn.specs.Body.{BodyParts, Advanced, advanced, called, resumed, opening, most_frames}
 use Rattle.swift_turn.specs.declared.exit.Step.{Step}
 use Rattle.swift_turn.specs.declared.exit.Step.TheVariants.{Run, Ended, Await}
 use Rattle.std.specs.declared.vec.Vec.{Vec}
@@ -26,12 +26,12 @@ abbrev pub TopGoes : Parts → Option FrameParts → Step → Type 0
 TopGoes p top (Run a r) = IsSomeAnd top (λ f. method_actor p f.method ≡ a.0)
 TopGoes p top _ = Unit {0}
 
-called_goes : (p : Parts) (f : FrameParts) (below : List FrameParts) (m : ℕ) (args : List ℤ) (b : Bool) → nat_lt (length (f ∷ below)) FRAMES ≡ b → TopGoes p (called p f below m args).top (called p f below m args).step
+called_goes : (p : Parts) (f : FrameParts) (below : List FrameParts) (m : ℕ) (args : List ℤ) (b : Bool) → nat_lt (length (f ∷ below)) most_frames ≡ b → TopGoes p (called p f below m args).top (called p f below m args).step
 called_goes p f below m args true is = rw is refl
 called_goes p f below m args false is = rw is refl
 
 pub advanced_goes : (p : Parts) (f : FrameParts) (below : List FrameParts) (e : Leaving) → TopGoes p (advanced p f below e).top (advanced p f below e).step
-advanced_goes p f below (calling a m args) = called_goes p f below m args (nat_lt (length (f ∷ below)) FRAMES) refl
+advanced_goes p f below (calling a m args) = called_goes p f below m args (nat_lt (length (f ∷ below)) most_frames) refl
 advanced_goes p f below yielding = refl
 advanced_goes p f below (closing g fault) = tt
 advanced_goes p f [] (returning v) = tt

@@ -1,8 +1,8 @@
 -- The replay of a journal, and when a journal is lawful (SE-0392 for executors that run one job at a time).
-use Rattle.std.specs.Prelude.{◌≡◌, ℕ, ◌+◌, ℤ, List, [], ◌∷◌, length, map}
+use Rattle.std.specs.Prelude.{◌≡◌, ℕ, ◌+◌, ℤ, List, [], ◌∷◌}
 use Rattle.std.specs.declared.vec.Vec.{Vec}
 use Rattle.std.specs.declared.alloc.Global.{Global}
-use Rattle.swift_script.specs.Scripts.{Parts, actor_start, actor_count, method_actor, method_count}
+use Rattle.swift_script.specs.Scripts.{Parts, actor_start, method_actor}
 use Rattle.swift_turn.specs.Turn.{Played}
 use Rattle.swift_turn.specs.Body.{frame_turn}
 use Rattle.swift_turn.specs.Frame.{deeds_of}

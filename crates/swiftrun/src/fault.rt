@@ -1,0 +1,60 @@
+//! Why nothing, or not all, was printed.
+
+use std::alloc::{AllocError, AllocFailed};
+use swift_keeper::RunFault;
+use swift_output::Device;
+use swift_script::ScriptFault;
+use thiserror::Error;
+
+/// Why a text was not run to its end and printed (our own). Nothing was written, unless a device failed: then a front
+/// of the report may have been.
+#[derive(Clone, Copy, Debug, PartialEq, Eq, Error)]
+pub enum ToolFault {
+    #[error("{0}")]
+    Script(ScriptFault),
+    #[error("{0}")]
+    Run(RunFault),
+    /// A read or a write failed, or a write took no byte.
+    #[error("device")]
+    Device,
+}
+
+impl ToolFault {
+    /// The status of a program that it ends: 3 for a script that was refused, else 4.
+    pub fn status(self) -> u8 {
+        match self {
+            ToolFault::Script(_) => 3,
+            ToolFault::Run(_) | ToolFault::Device => 4,
+        }
+    }
+}
+
+impl From<ScriptFault> for ToolFault {
+    fn from(fault: ScriptFault) -> ToolFault {
+        ToolFault::Script(fault)
+    }
+}
+
+impl From<RunFault> for ToolFault {
+    fn from(fault: RunFault) -> ToolFault {
+        ToolFault::Run(fault)
+    }
+}
+
+impl From<Device> for ToolFault {
+    fn from(_fault: Device) -> ToolFault {
+        ToolFault::Device
+    }
+}
+
+impl From<AllocError> for ToolFault {
+    fn from(_fault: AllocError) -> ToolFault {
+        ToolFault::Run(RunFault::Memory)
+    }
+}
+
+impl<T: Drop> From<AllocFailed<T>> for ToolFault {
+    fn from(_fault: AllocFailed<T>) -> ToolFault {
+        ToolFault::Run(RunFault::Memory)
+    }
+}

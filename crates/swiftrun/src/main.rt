@@ -1,0 +1,44 @@
+//! Runs a script that it reads from standard input, and prints the journal of each executor, how each task ended, and
+//! the fields.
+//!
+//! It takes no words yet. Status 0 stands for a run whose tasks all ended with a value, 1 for one with a task that ended
+//! with a fault, 2 for words that were refused, 3 for a script that was refused, 4 for a run that was refused or a
+//! device that failed.
+#![tactic(auto)]
+
+// Why nothing, or not all, was printed.
+mod fault;
+// A script from a device.
+mod input;
+// From a script's text to a report's.
+mod run;
+#[cfg(test)]
+mod tests;
+
+use fault::ToolFault;
+use std::env;
+use std::process::ExitCode;
+
+fn main(rt: HostRuntime) -> ExitCode {
+    let Ok(words) = env::args(&rt) else {
+        let _ = eprintln!(rt; "swiftrun: words refused");
+        return ExitCode::from(2);
+    };
+    if words.len() > 1 {
+        let _ = eprintln!(rt; "swiftrun: words refused");
+        return ExitCode::from(2);
+    }
+    match whole(&rt) {
+        Ok(true) => ExitCode::SUCCESS,
+        Ok(false) => ExitCode::from(1),
+        Err(fault) => {
+            let _ = eprintln!(rt; "swiftrun: {fault}");
+            ExitCode::from(fault.status())
+        }
+    }
+}
+
+fn whole(rt: &HostRuntime) -> Result<bool, ToolFault> {
+    let text = input::read_input(rt.alloc(), &mut rt.stdin())?;
+    run::run_text(rt, &text, 1, false, &mut rt.stdout())
+}

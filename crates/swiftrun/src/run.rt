@@ -1,0 +1,48 @@
+//! From a script's text to a report's.
+
+use crate::fault::ToolFault;
+use std::alloc::AllocGlobal;
+use std::io::Write;
+use std::random::RandomSource;
+use std::sync::Arc;
+use swift_keeper::run;
+use swift_output::write_all;
+use swift_report::{Report, report_text};
+use swift_script::read;
+use swift_types::Ending;
+
+/// Runs the script that a text spells, and writes the text of its report, in one piece as far as the device takes it.
+/// True where every task ended with a value.
+///
+/// # Errors
+///
+/// `Script` where the text is refused and `Run` where the run is: then nothing is written. `Device` where a write
+/// failed or took no byte: then a front of the report's text is written.
+pub fn run_text<R, W>(
+    rt: &R,
+    bytes: &[u8],
+    workers: u32,
+    quiet: bool,
+    out: &mut W,
+) -> Result<bool, ToolFault>
+where
+    R: RandomSource + AllocGlobal,
+    W: Write,
+{
+    let alloc = rt.alloc();
+    let script = Arc::new(alloc, read(alloc, bytes)?)?;
+    let report = run(rt, Arc::clone(&script)?, workers)?;
+    let text = report_text(alloc, &script, &report, quiet)?;
+    write_all(out, &text)?;
+    Ok(all_ended_well(&report))
+}
+
+// Whether each task ended with a value.
+fn all_ended_well(report: &Report) -> bool {
+    for (_, ending) in report.endings.iter() {
+        if let Ending::Fault(_) = ending {
+            return false;
+        }
+    }
+    true
+}
