@@ -1,8 +1,14 @@
 test:
 	rt ci
 
+PROGRAM = crates/swiftrun/out/swiftrun
+
+# Proves the program once more, and builds it with both compilers.
+$(PROGRAM):
+	cd crates/swiftrun && rt run
+
 # Runs a script: make run SCRIPT=examples/account.actors
-run:
-	@cd crates/swiftrun && rt run < $(abspath $(SCRIPT))
+run: $(PROGRAM)
+	@$(PROGRAM) < $(SCRIPT)
 
 .PHONY: test run

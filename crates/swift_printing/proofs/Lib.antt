@@ -1,0 +1,10 @@
+pub mod Written
+pub mod Blocks
+pub mod Spelled
+pub mod SpelledWhole
+pub mod Lexed
+pub mod Read
+pub mod Found
+pub mod Again
+pub mod Account
+pub mod Ascii

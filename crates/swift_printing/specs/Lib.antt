@@ -1,0 +1,5 @@
+pub mod Limits
+pub mod Pieces
+pub mod Printed
+pub mod Readable
+pub mod Words
