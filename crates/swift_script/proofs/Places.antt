@@ -74,4 +74,4 @@ root_method_from d (Some r) m e = cc
 pub root_method_at : (d : Directory) (rs : List RootTree) (ms : List MethodId) (k : ℕ) (m : MethodId) → map number_is ms ≡ map (root_number d) rs → slice_get ms k ≡ Some m → m.0 ≡ root_method_if d (slice_get rs k)
 root_method_at d rs ms k m same at =
     root_method_from d (slice_get rs k) m
-      (sym (slice_get-map (root_number d) rs k) ∙ ap (λ (xs : List ℕ). slice_get xs k) (sym same) ∙ slice_get-map number_is ms k ∙ ap (option_map number_is) at)
+    (sym (slice_get-map (root_number d) rs k) ∙ ap (λ (xs : List ℕ). slice_get xs k) (sym same) ∙ slice_get-map number_is ms k ∙ ap (option_map number_is) at)

@@ -204,7 +204,7 @@ impl Write for Slow {
     }
 }
 
-fn slow(alloc: Global, room: usize) -> Slow {
+fn device_of(alloc: Global, room: usize) -> Slow {
     Slow {
         taken: Vec::new(alloc),
         room,
@@ -214,10 +214,10 @@ fn slow(alloc: Global, room: usize) -> Slow {
 #[test]
 fn devices(rt: HostRuntime) -> Result<(), Fail> {
     let (_, script, want) = (0, WHOLE[1].0, WHOLE[1].2);
-    let mut out = slow(rt.alloc(), 1_000);
+    let mut out = device_of(rt.alloc(), 1_000);
     assert!(rt; run_text(&rt, script.as_bytes(), 1, false, &mut out) == Ok(true));
     assert!(rt; out.taken.as_slice() == want.as_bytes());
-    let mut out = slow(rt.alloc(), 10);
+    let mut out = device_of(rt.alloc(), 10);
     let failed = run_text(&rt, script.as_bytes(), 1, false, &mut out);
     assert!(rt; failed == Err(ToolFault::Device));
     assert!(rt; out.taken.as_slice() == &want.as_bytes()[..10]);
