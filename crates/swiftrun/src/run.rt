@@ -1,5 +1,8 @@
 //! From a script's text to a report's.
 
+ghost use Rattle.std.specs.Prelude.{IfOk, OnOk};
+ghost use Rattle.swiftrun.specs.Run.{IsRunOf, WritesRun};
+
 use crate::fault::ToolFault;
 use std::alloc::AllocGlobal;
 use std::io::Write;
@@ -28,13 +31,27 @@ pub fn run_text<R, W>(
 where
     R: RandomSource + AllocGlobal,
     W: Write,
+    ensures { OnOk result (WritesRun bytes.now quiet (W.contents out.old) (W.contents out.new)) }
+{
+    let (text, is_well) = ran(rt, bytes, workers, quiet)?;
+    write_all(out, &text)?;
+    Ok(is_well)
+}
+
+// The text of a run's report, and whether each task ended with a value.
+fn ran<R>(rt: &R, bytes: &[u8], workers: u32, quiet: bool) -> Result<(Vec<u8>, bool), ToolFault>
+where
+    R: RandomSource + AllocGlobal,
+    ensures { IfOk result (λ r. IsRunOf bytes.now quiet r.0.items) }
 {
     let alloc = rt.alloc();
-    let script = Arc::new(alloc, read(alloc, bytes)?)?;
-    let report = run(rt, Arc::clone(&script)?, workers)?;
+    let found = read(alloc, bytes)?;
+    let script = Arc::new(alloc, found)?;
+    let shared = Arc::clone(&script)?;
+    let report = run(rt, shared, workers)?;
     let text = report_text(alloc, &script, &report, quiet)?;
-    write_all(out, &text)?;
-    Ok(all_ended_well(&report))
+    let is_well = all_ended_well(&report);
+    Ok((text, is_well))
 }
 
 // Whether each task ended with a value.

@@ -1,0 +1,23 @@
+use Rattle.std.proofs.Common.{◌≡◌, ap, subst, ◌∙◌}
+use Rattle.std.specs.Arc.{arc_value}
+use Rattle.swift_script.specs.Scripts.{Parts, actor_count, root_count}
+use Rattle.swift_report.specs.Lawful.{AreLawful}
+use Rattle.swift_report.specs.Text.{report_text}
+use Rattle.swiftrun.proofs.run.ran.Goals as goal
+
+pub returns : goal.returns
+returns g c =
+    let made : arc_value c.in_ok-script.script ≡ c.in_ok-found.found = c.in_ok-script.ensures.ok in
+    let shared : arc_value c.in_ok-shared.shared ≡ arc_value c.in_ok-script.script = c.in_ok-shared.ensures.cases in
+    let lent : c.deref.result.now ≡ arc_value c.in_ok-script.script = c.deref.ensures in
+    let same = shared ∙ made in
+    record {
+      script = c.in_ok-found.found;
+      report = c.in_ok-report.report;
+      accepted = c.in_ok-found.ensures.found;
+      lawful = subst (λ (p : Parts). AreLawful p 0 c.in_ok-report.report.journals.items c.in_ok-report.report.fields.items) same c.in_ok-report.ensures.lawful;
+      journals = c.in_ok-report.ensures.journals ∙ ap actor_count same;
+      fields = c.in_ok-report.ensures.fields ∙ ap actor_count same;
+      tasks = c.in_ok-report.ensures.tasks ∙ ap root_count same;
+      printed = c.in_ok-text.ensures ∙ ap (λ (p : Parts). report_text p c.in_ok-report.report c.args.quiet) (lent ∙ made);
+    }
