@@ -1,7 +1,7 @@
 //! From a script's text to a report's.
 
-ghost use Rattle.std.specs.Prelude.{IfOk, OnOk};
-ghost use Rattle.swiftrun.specs.Run.{IsRunOf, WritesRun};
+ghost use Rattle.std.specs.Prelude.{◌≡◌, IfOk};
+ghost use Rattle.swiftrun.specs.Run.{IsRunOf, WritesRun, end_well};
 
 use crate::fault::ToolFault;
 use std::alloc::AllocGlobal;
@@ -10,7 +10,7 @@ use std::random::RandomSource;
 use std::sync::Arc;
 use swift_keeper::run;
 use swift_output::write_all;
-use swift_report::{Report, report_text};
+use swift_report::{Origin, report_text};
 use swift_script::read;
 use swift_types::Ending;
 
@@ -31,7 +31,7 @@ pub fn run_text<R, W>(
 where
     R: RandomSource + AllocGlobal,
     W: Write,
-    ensures { OnOk result (WritesRun bytes.now quiet (W.contents out.old) (W.contents out.new)) }
+    ensures { IfOk result (λ well. WritesRun bytes.now quiet well (W.contents out.old) (W.contents out.new)) }
 {
     let (text, is_well) = ran(rt, bytes, workers, quiet)?;
     write_all(out, &text)?;
@@ -42,7 +42,7 @@ where
 fn ran<R>(rt: &R, bytes: &[u8], workers: u32, quiet: bool) -> Result<(Vec<u8>, bool), ToolFault>
 where
     R: RandomSource + AllocGlobal,
-    ensures { IfOk result (λ r. IsRunOf bytes.now quiet r.0.items) }
+    ensures { IfOk result (λ r. IsRunOf bytes.now quiet r.0.items r.1) }
 {
     let alloc = rt.alloc();
     let found = read(alloc, bytes)?;
@@ -50,16 +50,19 @@ where
     let shared = Arc::clone(&script)?;
     let report = run(rt, shared, workers)?;
     let text = report_text(alloc, &script, &report, quiet)?;
-    let is_well = all_ended_well(&report);
+    let is_well = all_ended_well(&report.endings);
     Ok((text, is_well))
 }
 
 // Whether each task ended with a value.
-fn all_ended_well(report: &Report) -> bool {
-    for (_, ending) in report.endings.iter() {
-        if let Ending::Fault(_) = ending {
-            return false;
-        }
+fn all_ended_well(endings: &[(Origin, Ending)]) -> bool
+    ensures { result ≡ end_well endings.now }
+{
+    match endings {
+        [] => true,
+        [(_, ending), rest @ ..] => match ending {
+            Ending::Value(_) => all_ended_well(rest),
+            Ending::Fault(_) => false,
+        },
     }
-    true
 }
