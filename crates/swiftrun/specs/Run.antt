@@ -1,10 +1,17 @@
 -- What the program writes of a run.
-use Rattle.std.specs.Prelude.{◌≡◌, ℕ, Bool, true, false, Option, List, [], ◌∷◌, length}
+use Rattle.std.specs.Prelude.{◌≡◌, ◌≢◌, ⊤, ℕ, Bool, true, false, Option, List, [], ◌∷◌, length}
 use Rattle.swift_types.specs.declared.outcome.Ending.{Ending}
 use Rattle.swift_types.specs.declared.outcome.Ending.TheVariants.{Value, Fault}
 use Rattle.swift_report.specs.declared.report.Origin.{Origin}
 use Rattle.std.specs.Io.KnownBytes.{Appends}
 use Rattle.swift_script.specs.Accepted.{IsAccepted}
+use Rattle.swift_script.specs.Script.{ScriptTree}
+use Rattle.swift_script.specs.Refuses.{Refuses}
+use Rattle.swift_output.specs.Part.{WritesPart}
+use Rattle.swift_keeper.specs.declared.fault.RunFault.{RunFault}
+use Rattle.swift_keeper.specs.declared.fault.RunFault.TheVariants.{Workers, Memory, Unfinished}
+use Rattle.swiftrun.specs.declared.fault.ToolFault.{ToolFault}
+use Rattle.swiftrun.specs.declared.fault.ToolFault.TheVariants as tool
 use Rattle.swift_script.specs.Scripts.{Parts, tree_of, actor_count, root_count}
 use Rattle.swift_report.specs.declared.report.Report.{Report}
 use Rattle.swift_report.specs.Lawful.{AreLawful}
@@ -37,3 +44,30 @@ pub record WritesRun (bytes : List ℕ) (quiet well : Bool) (old new : Option (L
   pub text : List ℕ
   pub is : IsRunOf bytes quiet text well
   pub appended : Appends old new text
+
+-- A front of the text of a run of this script is appended to what was written, and not all of it.
+pub record WritesFront (bytes : List ℕ) (quiet : Bool) (old new : Option (List ℕ)) : Type 0 where
+  pub text : List ℕ
+  pub well : Bool
+  pub is : IsRunOf bytes quiet text well
+  pub part : WritesPart old new text
+
+-- The cause of a run's refusal. Want of memory and jobs that are left say nothing of the number of workers.
+abbrev pub GivesUp : ℕ → RunFault → Type 0
+GivesUp workers Workers = workers ≢ 1
+GivesUp workers Memory = ⊤
+GivesUp workers Unfinished = ⊤
+
+-- Why no run of these bytes gave a text: the script was refused for its own cause, or it was accepted and the run was
+-- refused.
+abbrev pub IsRefusal : List ℕ → ℕ → ToolFault → Type 0
+IsRefusal bytes workers (tool.Script f) = Refuses f.kind bytes
+IsRefusal bytes workers (tool.Run f) = ((tree : ScriptTree) × IsAccepted bytes tree) × GivesUp workers f
+IsRefusal bytes workers tool.Device = ⊥
+
+-- Why not all was written, and what was: nothing where the script or the run was refused, and a front of the text of a
+-- run where a device failed.
+abbrev pub Leaves : List ℕ → ℕ → Bool → Option (List ℕ) → Option (List ℕ) → ToolFault → Type 0
+Leaves bytes workers quiet old new (tool.Script f) = IsRefusal bytes workers (tool.Script f) × (new ≡ old)
+Leaves bytes workers quiet old new (tool.Run f) = IsRefusal bytes workers (tool.Run f) × (new ≡ old)
+Leaves bytes workers quiet old new tool.Device = WritesFront bytes quiet old new

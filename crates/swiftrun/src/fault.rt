@@ -1,5 +1,9 @@
 //! Why nothing, or not all, was printed.
 
+ghost use Rattle.std.specs.Prelude.{◌≡◌};
+ghost use Rattle.swift_keeper.specs.declared.fault.RunFault.TheVariants.{Memory};
+ghost use Rattle.swiftrun.specs.declared.fault.ToolFault.TheVariants.{Device, Run, Script};
+
 use std::alloc::{AllocError, AllocFailed};
 use swift_keeper::RunFault;
 use swift_output::Device;
@@ -30,30 +34,40 @@ impl ToolFault {
 }
 
 impl From<ScriptFault> for ToolFault {
+    ghost from_gives = { λ e f. f ≡ Script e };
+
     fn from(fault: ScriptFault) -> ToolFault {
         ToolFault::Script(fault)
     }
 }
 
 impl From<RunFault> for ToolFault {
+    ghost from_gives = { λ e f. f ≡ Run e };
+
     fn from(fault: RunFault) -> ToolFault {
         ToolFault::Run(fault)
     }
 }
 
 impl From<Device> for ToolFault {
+    ghost from_gives = { λ _ f. f ≡ Device };
+
     fn from(_fault: Device) -> ToolFault {
         ToolFault::Device
     }
 }
 
 impl From<AllocError> for ToolFault {
+    ghost from_gives = { λ _ f. f ≡ Run Memory };
+
     fn from(_fault: AllocError) -> ToolFault {
         ToolFault::Run(RunFault::Memory)
     }
 }
 
 impl<T: Drop> From<AllocFailed<T>> for ToolFault {
+    ghost from_gives = { λ _ f. f ≡ Run Memory };
+
     fn from(_fault: AllocFailed<T>) -> ToolFault {
         ToolFault::Run(RunFault::Memory)
     }

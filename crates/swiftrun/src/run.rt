@@ -1,7 +1,7 @@
 //! From a script's text to a report's.
 
-ghost use Rattle.std.specs.Prelude.{◌≡◌, IfOk};
-ghost use Rattle.swiftrun.specs.Run.{IsRunOf, WritesRun, end_well};
+ghost use Rattle.std.specs.Prelude.{◌≡◌, IfErr, IfOk};
+ghost use Rattle.swiftrun.specs.Run.{IsRefusal, IsRunOf, Leaves, WritesRun, end_well};
 
 use crate::fault::ToolFault;
 use std::alloc::AllocGlobal;
@@ -31,7 +31,8 @@ pub fn run_text<R, W>(
 where
     R: RandomSource + AllocGlobal,
     W: Write,
-    ensures { IfOk result (λ well. WritesRun bytes.now quiet well (W.contents out.old) (W.contents out.new)) }
+    ensures ran { IfOk result (λ well. WritesRun bytes.now quiet well (W.contents out.old) (W.contents out.new)) }
+    ensures refused { IfErr result (λ e. Leaves bytes.now workers quiet (W.contents out.old) (W.contents out.new) e) }
 {
     let (text, is_well) = ran(rt, bytes, workers, quiet)?;
     write_all(out, &text)?;
@@ -42,7 +43,8 @@ where
 fn ran<R>(rt: &R, bytes: &[u8], workers: u32, quiet: bool) -> Result<(Vec<u8>, bool), ToolFault>
 where
     R: RandomSource + AllocGlobal,
-    ensures { IfOk result (λ r. IsRunOf bytes.now quiet r.0.items r.1) }
+    ensures ran { IfOk result (λ r. IsRunOf bytes.now quiet r.0.items r.1) }
+    ensures refused { IfErr result (λ e. IsRefusal bytes.now workers e) }
 {
     let alloc = rt.alloc();
     let found = read(alloc, bytes)?;

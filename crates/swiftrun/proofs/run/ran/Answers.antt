@@ -6,8 +6,8 @@ use Rattle.swift_report.specs.Text.{report_text}
 use Rattle.swiftrun.specs.Run.{end_well}
 use Rattle.swiftrun.proofs.run.ran.Goals as goal
 
-pub returns : goal.returns
-returns g c =
+pub returns-clause-ran : goal.returns-clause-ran
+returns-clause-ran g c =
     let made : arc_value c.in_ok-script.script ≡ c.in_ok-found.found = c.in_ok-script.ensures.ok in
     let shared : arc_value c.in_ok-shared.shared ≡ arc_value c.in_ok-script.script = c.in_ok-shared.ensures.cases in
     let lent : c.deref.result.now ≡ arc_value c.in_ok-script.script = c.deref.ensures in

@@ -1,0 +1,146 @@
+// The scripts of examples/, and what they print.
+use crate::run::run_text;
+use std::test::Fail;
+
+// The text of an example, and the text of its report.
+const EXAMPLES: [(&str, &str); 4] = [
+    (
+        "// An account that may not be overdrawn, and a withdrawal that lets others in between its test and its change: both
+// tasks see enough, and the turn of the second one breaks the invariant, is undone, and ends its task with a fault.
+actor Account {
+    var balance = 10;
+    invariant balance >= 0;
+
+    func withdraw(amount) {
+        if balance >= amount {
+            yield;
+            balance = balance - amount;
+            return 1;
+        }
+        return 0;
+    }
+}
+
+root first = Account.withdraw(10);
+root second = Account.withdraw(10);
+",
+        "journals
+executor Account priority turns 4
+0 t0.0 w0 Account.withdraw p2 c0 start -> yield
+1 t1.0 w0 Account.withdraw p2 c0 start -> yield
+2 t0.1 w0 Account.withdraw p2 c0 go -> return 1
+3 t1.1 w0 Account.withdraw p2 c0 go -> fault invariant
+tasks
+t0 root first value 1
+t1 root second fault invariant
+fields
+Account.balance 0
+",
+    ),
+    (
+        "// The withdrawal of account.actors, mended: what was known before a yield is tested again behind it.
+actor Account {
+    var balance = 10;
+    invariant balance >= 0;
+
+    func withdraw(amount) {
+        yield;
+        if balance >= amount {
+            balance = balance - amount;
+            return 1;
+        }
+        return 0;
+    }
+}
+
+root first = Account.withdraw(10);
+root second = Account.withdraw(10);
+",
+        "journals
+executor Account priority turns 4
+0 t0.0 w0 Account.withdraw p2 c0 start -> yield
+1 t1.0 w0 Account.withdraw p2 c0 start -> yield
+2 t0.1 w0 Account.withdraw p2 c0 go -> return 1
+3 t1.1 w0 Account.withdraw p2 c0 go -> return 0
+tasks
+t0 root first value 1
+t1 root second value 0
+fields
+Account.balance 0
+",
+    ),
+    (
+        "// A counter near the greatest number. The turn that would pass it is undone whole: the call that it had counted is not
+// counted either, and its task ends with the fault `overflow`. The turns of the others stand.
+actor Counter {
+    var count = 9223372036854775806;
+    var calls = 0;
+
+    func raise(amount) {
+        calls = calls + 1;
+        count = count + amount;
+        return count;
+    }
+}
+
+root first = Counter.raise(1);
+root second = Counter.raise(1);
+root third = Counter.raise(0);
+",
+        "journals
+executor Counter priority turns 3
+0 t0.0 w0 Counter.raise p2 c0 start -> return 9223372036854775807
+1 t1.0 w0 Counter.raise p2 c0 start -> fault overflow
+2 t2.0 w0 Counter.raise p2 c0 start -> return 9223372036854775807
+tasks
+t0 root first value 9223372036854775807
+t1 root second fault overflow
+t2 root third value 9223372036854775807
+fields
+Counter.count 9223372036854775807
+Counter.calls 2
+",
+    ),
+    (
+        "// Priorities given to roots: p0 in the journal is background, p3 is high, and a root without `at` is medium, p2. Its
+// priority stands in each record of a task. Executors don't pick by it yet: the oldest job is run.
+actor Desk {
+    var served = 0;
+
+    func serve() {
+        served = served + 1;
+        return served;
+    }
+}
+
+root sweep = Desk.serve() at background;
+root report = Desk.serve() at low;
+root guest = Desk.serve();
+root alarm = Desk.serve() at high;
+",
+        "journals
+executor Desk priority turns 4
+0 t0.0 w0 Desk.serve p0 c0 start -> return 1
+1 t1.0 w0 Desk.serve p1 c0 start -> return 2
+2 t2.0 w0 Desk.serve p2 c0 start -> return 3
+3 t3.0 w0 Desk.serve p3 c0 start -> return 4
+tasks
+t0 root sweep value 1
+t1 root report value 2
+t2 root guest value 3
+t3 root alarm value 4
+fields
+Desk.served 4
+",
+    ),
+];
+
+#[test]
+fn examples(rt: HostRuntime) -> Result<(), Fail> {
+    for (script, want) in EXAMPLES {
+        let mut out = Vec::new(rt.alloc());
+        let _ = run_text(&rt, script.as_bytes(), 1, false, &mut out)?;
+        assert!(rt; out.as_slice() == want.as_bytes(), "{script}");
+    }
+    Ok(())
+}
