@@ -7,4 +7,4 @@ pub mod Read
 pub mod Found
 pub mod Again
 pub mod Account
-pub mod Ascii
+pub mod Plain

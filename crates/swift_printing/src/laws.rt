@@ -1,10 +1,11 @@
 //! What holds of the definitions.
 
-ghost use Rattle.std.specs.Prelude.{ℕ, List};
+ghost use Rattle.std.specs.Prelude.{◌≡◌, ℕ, List, true};
 ghost use Rattle.std.specs.List.{All};
 ghost use Rattle.std.specs.Str.{IsAscii};
 ghost use Rattle.swift_grammar.specs.Tree.{ActorTree, RootTree, DeclTree};
 ghost use Rattle.swift_grammar.specs.Grammar.{IsScript};
+ghost use Rattle.swift_tokens.specs.Bytes.{is_text};
 ghost use Rattle.swift_tokens.specs.Lexes.{Lexes};
 ghost use Rattle.swift_tokens.specs.Pieces.{Piece};
 ghost use Rattle.swift_printing.specs.Printed.{printed};
@@ -40,4 +41,9 @@ pub fn printed_reads_back()
 /// A law: what is printed of what a text spells is ASCII, so it is a text that needs no test. It does nothing.
 pub fn printed_is_ascii()
     ensures { (limit : ℕ) (text : List ℕ) (tokens : List Piece) (decls : List DeclTree) → Lexes text tokens → IsScript limit tokens decls → IsAscii (printed (actors_in decls) (roots_in decls)) }
+{}
+
+/// A law: what is printed of what a text spells has only bytes that a script may contain. It does nothing.
+pub fn printed_is_text()
+    ensures { (limit : ℕ) (text : List ℕ) (tokens : List Piece) (decls : List DeclTree) → Lexes text tokens → IsScript limit tokens decls → is_text (printed (actors_in decls) (roots_in decls)) ≡ true }
 {}

@@ -19,7 +19,8 @@ mod token;
 mod word;
 
 pub use laws::{
-    printed_is_ascii, printed_lexes, printed_reads_back, printed_spells, printed_spells_again,
+    printed_is_ascii, printed_is_text, printed_lexes, printed_reads_back, printed_spells,
+    printed_spells_again,
 };
 pub use script::print;
 
