@@ -11,7 +11,7 @@ use Rattle.swift_script.specs.Scripts.{with_actors}
 use Rattle.swift_script.specs.Fine.{MethodsFine, ActorFine, ActorsFine, RootsFine}
 
 -- where the earlier of two faults is none, neither is one
-earlier_none : (a b : Option Misuse) → earlier a b ≡ None → (a ≡ None) × (b ≡ None)
+pub earlier_none : (a b : Option Misuse) → earlier a b ≡ None → (a ≡ None) × (b ≡ None)
 earlier_none None b e = (refl, e)
 earlier_none (Some m) b e = absurd cc
 

@@ -7,3 +7,4 @@ pub mod Few
 pub mod Compiling
 pub mod Building
 pub mod SameScripts
+pub mod Printing

@@ -35,6 +35,10 @@ pub record IsAccepted (text : List ℕ) (tree : ScriptTree) : Type 0 where
   pub starts : all_start_well (actors_in decls) ≡ true
   pub is : tree ≡ tree_in decls
 
+-- Some text of this tree is accepted.
+abbrev pub WasAccepted : ScriptTree → Type 0
+WasAccepted tree = (text : List ℕ) × IsAccepted text tree
+
 -- Nothing within the limits is spelled.
 abbrev pub SpellsNothing : List ℕ → Type 0
 SpellsNothing text = (decls : List DeclTree) → SpellsDecls nesting text decls → ⊥

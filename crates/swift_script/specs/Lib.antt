@@ -8,3 +8,4 @@ pub mod Whole
 pub mod Answers
 pub mod Lent
 pub mod SameScripts
+pub mod Printed

@@ -8,6 +8,7 @@ mod fault;
 mod lines;
 mod named;
 mod names;
+mod printed;
 mod reading;
 mod script;
 mod spelled;
@@ -16,6 +17,7 @@ mod start;
 
 pub use compiled::{CompiledActor, CompiledMethod};
 pub use fault::{ScriptFault, ScriptFaultKind};
+pub use printed::print_script;
 pub use reading::read;
 pub use script::Script;
 pub use spelled::LONGEST;

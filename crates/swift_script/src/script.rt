@@ -4,6 +4,7 @@ ghost use Rattle.std.specs.Prelude.{◌≡◌, ◌↔◌, ◌<◌, ◌≤◌, Is
 ghost use Rattle.swift_grammar.specs.Tree.{view_actor, view_root};
 ghost use Rattle.swift_script.specs.Whole.{IsWhole};
 ghost use Rattle.swift_script.specs.Compiled.{IsMethodOf, IsActorOrNone};
+ghost use Rattle.swift_script.specs.Accepted.{WasAccepted};
 ghost use Rattle.swift_script.specs.Lent.{actor_if_lent, root_if_lent};
 ghost use Rattle.swift_lines.specs.Lines.{Stands};
 ghost use Rattle.swift_lines.specs.Seen.{term_if_lent};
@@ -195,6 +196,15 @@ impl Script {
             return true;
         }
         same_actors(&self.actors, &other.actors) && same_roots(&self.roots, &other.roots)
+    }
+
+    /// The actors and the roots, each in text order. Each script was read from a text that is accepted.
+    pub(crate) fn declarations(&self) -> (&[Actor], &[Root])
+        ensures actors { result.0.now ≡ self.now.actors }
+        ensures roots { result.1.now ≡ self.now.roots }
+        ensures read { WasAccepted (tree_of self.now) }
+    {
+        (&self.actors, &self.roots)
     }
 
     pub(crate) fn actor(&self, actor: ActorId) -> Option<&Actor>
