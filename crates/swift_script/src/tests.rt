@@ -7,6 +7,9 @@ use std::test::Fail;
 use swift_lines::Act;
 use swift_types::{ActorId, MethodId};
 
+mod places;
+mod printing;
+
 /// Each text is refused with this message.
 fn refused(rt: &impl Abort, alloc: Global, rows: &[(&str, &str)]) -> Result<(), Fail> {
     for (text, message) in rows {
@@ -199,6 +202,10 @@ fn limits(rt: HostRuntime) -> Result<(), Fail> {
         close,
     );
     let signs = |count: usize, alloc: Global| repeated(alloc, open, "-", count, "1; } }");
+    let blocks = |count: usize, alloc: Global| -> Result<String, Fail> {
+        let inner = repeated(alloc, "actor A { func f() { ", "if 1 {", count, "")?;
+        repeated(alloc, inner.as_str(), "}", count, "} }")
+    };
     accepted(
         &rt,
         alloc,
@@ -206,6 +213,7 @@ fn limits(rt: HostRuntime) -> Result<(), Fail> {
             deep(32, alloc)?.as_str(),
             sums(31, alloc)?.as_str(),
             signs(31, alloc)?.as_str(),
+            blocks(31, alloc)?.as_str(),
         ],
     )?;
     refused(
@@ -215,6 +223,7 @@ fn limits(rt: HostRuntime) -> Result<(), Fail> {
             (deep(33, alloc)?.as_str(), "line 1: S13 nesting over 32"),
             (sums(32, alloc)?.as_str(), "line 1: S13 nesting over 32"),
             (signs(32, alloc)?.as_str(), "line 1: S13 nesting over 32"),
+            (blocks(32, alloc)?.as_str(), "line 1: S13 nesting over 32"),
         ],
     )
 }
