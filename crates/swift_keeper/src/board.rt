@@ -6,6 +6,7 @@ ghost use Rattle.swift_script.specs.Scripts.{Parts, actor_count, root_count};
 ghost use Rattle.swift_keeper.specs.Lanes.{AreLanes, CanRun, GoesTo, resume_at};
 
 use crate::fault::Halt;
+use crate::gate::{Gate, Moment};
 use crate::lane::{Lane, Pending};
 use crate::turn::{Turned, take_turn};
 use futures::task::Context;
@@ -186,12 +187,15 @@ fn resume_of(number: u32, resume: Resume) -> Resume
 }
 
 // One turn at the executor whose token is the oldest. False where no token is left.
-fn play_oldest(
+fn play_oldest<G>(
     alloc: Global,
     cx: &mut Context<'_>,
     script: &Script,
     board: &mut Board,
+    gate: &G,
 ) -> Result<bool, Halt>
+where
+    G: Gate,
     requires { AreLanes script.now 0 board.old.lanes.items }
     ensures lanes { OnOk result (AreLanes script.now 0 board.new.lanes.items) }
     ensures actors { OnOk result (length board.new.lanes.items ≡ length board.old.lanes.items) }
@@ -204,8 +208,10 @@ fn play_oldest(
     if place >= board.lanes.len() {
         return Err(Halt::Unfinished);
     }
+    gate.at(Moment::Took(actor));
     let lane = &mut board.lanes[place];
     let turned = take_turn(alloc, cx, script, actor, lane)?;
+    gate.at(Moment::Turned(actor, turned.task));
     if !lane.jobs.is_empty() {
         board.tokens.push_back(actor)?;
     }
@@ -214,19 +220,22 @@ fn play_oldest(
 }
 
 // Runs turns until no token is left.
-pub fn drain(
+pub fn drain<G>(
     alloc: Global,
     cx: &mut Context<'_>,
     script: &Script,
     board: &mut Board,
+    gate: &G,
 ) -> Result<(), Halt>
+where
+    G: Gate,
     requires { AreLanes script.now 0 board.old.lanes.items }
     ensures lanes { OnOk result (AreLanes script.now 0 board.new.lanes.items) }
     ensures actors { OnOk result (length board.new.lanes.items ≡ length board.old.lanes.items) }
     ensures tasks { OnOk result (length board.new.endings.items ≡ length board.old.endings.items) }
 {
     for _ in 0..u64::MAX {
-        if !play_oldest(alloc, cx, script, board)? {
+        if !play_oldest(alloc, cx, script, board, gate)? {
             return Ok(());
         }
     }

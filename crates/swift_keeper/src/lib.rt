@@ -4,6 +4,9 @@
 // Why a run was given up.
 mod fault;
 
+// What is told of the moments of a run.
+mod gate;
+
 // The jobs, the fields and the journal of one executor.
 mod lane;
 
@@ -20,4 +23,5 @@ mod leave;
 mod whole;
 
 pub use fault::RunFault;
+pub use gate::{Gate, Moment, Open};
 pub use whole::run;

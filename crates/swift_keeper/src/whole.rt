@@ -9,6 +9,7 @@ ghost use Rattle.swift_keeper.specs.declared.fault.RunFault.TheVariants.{Workers
 
 use crate::board::{drain, empty_board, start_roots};
 use crate::fault::{Halt, RunFault};
+use crate::gate::Gate;
 use crate::leave::report_of;
 use futures::task::{Doorbell, Solo};
 use std::alloc::AllocGlobal;
@@ -24,10 +25,11 @@ use swift_script::Script;
 /// enqueued in order of declaration before the first turn. The runtime is used once, to make what a poll is told.
 ///
 /// `Workers` stands for any number of workers but 1, `Memory` for a growth that was refused, and `Unfinished` for a task
-/// that did not end. Nothing of a refused run remains. Beside its turns a run costs a copy of a frame a turn.
-pub fn run<R>(rt: &R, script: Arc<Script>, workers: u32) -> Result<Report, RunFault>
+/// that did not end. Nothing of a refused run remains. The gate is told of each turn's moments. Beside its turns a run costs a copy of a frame a turn.
+pub fn run<R, G>(rt: &R, script: Arc<Script>, workers: u32, gate: &G) -> Result<Report, RunFault>
 where
     R: RandomSource + AllocGlobal,
+    G: Gate + Sync,
     ensures workers { (result ≡ Err Workers) ↔ (workers ≢ 1) }
     // Each journal is lawful, and replaying it gives the fields of its actor.
     ensures lawful { IfOk result (λ r. AreLawful (arc_value script) 0 r.journals.items r.fields.items) }
@@ -41,7 +43,7 @@ where
     if workers != 1 {
         return Err(RunFault::Workers);
     }
-    match run_alone(rt, &script) {
+    match run_alone(rt, &script, gate) {
         Ok(report) => Ok(report),
         Err(Halt::Memory) => Err(RunFault::Memory),
         Err(Halt::Unfinished) => Err(RunFault::Unfinished),
@@ -49,9 +51,10 @@ where
 }
 
 // A run of one worker.
-fn run_alone<R>(rt: &R, script: &Arc<Script>) -> Result<Report, Halt>
+fn run_alone<R, G>(rt: &R, script: &Arc<Script>, gate: &G) -> Result<Report, Halt>
 where
     R: RandomSource + AllocGlobal,
+    G: Gate,
     ensures lawful { IfOk result (λ r. AreLawful (arc_value script.now) 0 r.journals.items r.fields.items) }
     ensures journals { IfOk result (λ r. length r.journals.items ≡ actor_count (arc_value script.now)) }
     ensures fields { IfOk result (λ r. length r.fields.items ≡ actor_count (arc_value script.now)) }
@@ -66,7 +69,7 @@ where
     let mut board = empty_board(alloc, script)?;
     start_roots(alloc, script, &mut board)?;
     let mut cx = solo.begin();
-    let drained = drain(alloc, &mut cx, script, &mut board);
+    let drained = drain(alloc, &mut cx, script, &mut board, gate);
     cx.cancel();
     drained?;
     report_of(alloc, board)

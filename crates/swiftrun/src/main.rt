@@ -18,6 +18,7 @@ mod tests;
 use fault::ToolFault;
 use std::env;
 use std::process::ExitCode;
+use swift_keeper::Open;
 
 fn main(rt: HostRuntime) -> ExitCode {
     let Ok(words) = env::args(&rt) else {
@@ -40,5 +41,5 @@ fn main(rt: HostRuntime) -> ExitCode {
 
 fn whole(rt: &HostRuntime) -> Result<bool, ToolFault> {
     let text = input::read_input(rt.alloc(), &mut rt.stdin())?;
-    run::run_text(rt, &text, 1, false, &mut rt.stdout())
+    run::run_text(rt, &text, 1, false, &Open, &mut rt.stdout())
 }

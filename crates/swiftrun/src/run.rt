@@ -8,41 +8,50 @@ use std::alloc::AllocGlobal;
 use std::io::Write;
 use std::random::RandomSource;
 use std::sync::Arc;
-use swift_keeper::run;
+use swift_keeper::{Gate, run};
 use swift_output::write_all;
 use swift_report::{Origin, report_text};
 use swift_script::read;
 use swift_types::Ending;
 
 /// Runs the script that a text spells, and writes the text of its report, in one piece as far as the device takes it.
-/// True where every task ended with a value.
+/// True where every task ended with a value. The gate is told of the moments of the run.
 ///
 /// # Errors
 ///
 /// `Script` where the text is refused and `Run` where the run is: then nothing is written. `Device` where a write
 /// failed or took no byte: then a front of the report's text is written.
-pub fn run_text<R, W>(
+pub fn run_text<R, G, W>(
     rt: &R,
     bytes: &[u8],
     workers: u32,
     quiet: bool,
+    gate: &G,
     out: &mut W,
 ) -> Result<bool, ToolFault>
 where
     R: RandomSource + AllocGlobal,
+    G: Gate + Sync,
     W: Write,
     ensures ran { IfOk result (λ well. WritesRun bytes.now quiet well (W.contents out.old) (W.contents out.new)) }
     ensures refused { IfErr result (λ e. Leaves bytes.now workers quiet (W.contents out.old) (W.contents out.new) e) }
 {
-    let (text, is_well) = ran(rt, bytes, workers, quiet)?;
+    let (text, is_well) = ran(rt, bytes, workers, quiet, gate)?;
     write_all(out, &text)?;
     Ok(is_well)
 }
 
 // The text of a run's report, and whether each task ended with a value.
-fn ran<R>(rt: &R, bytes: &[u8], workers: u32, quiet: bool) -> Result<(Vec<u8>, bool), ToolFault>
+fn ran<R, G>(
+    rt: &R,
+    bytes: &[u8],
+    workers: u32,
+    quiet: bool,
+    gate: &G,
+) -> Result<(Vec<u8>, bool), ToolFault>
 where
     R: RandomSource + AllocGlobal,
+    G: Gate + Sync,
     ensures ran { IfOk result (λ r. IsRunOf bytes.now quiet r.0.items r.1) }
     ensures refused { IfErr result (λ e. IsRefusal bytes.now workers e) }
 {
@@ -50,7 +59,7 @@ where
     let found = read(alloc, bytes)?;
     let script = Arc::new(alloc, found)?;
     let shared = Arc::clone(&script)?;
-    let report = run(rt, shared, workers)?;
+    let report = run(rt, shared, workers, gate)?;
     let text = report_text(alloc, &script, &report, quiet)?;
     let is_well = all_ended_well(&report.endings);
     Ok((text, is_well))

@@ -5,6 +5,7 @@ use crate::run::run_text;
 use std::alloc::Global;
 use std::io::{Error, ErrorKind, Write};
 use std::test::Fail;
+use swift_keeper::Open;
 
 // Takes at most three bytes a call. Behind `room` bytes it fails, or takes none.
 #[derive(Drop)]
@@ -42,11 +43,11 @@ fn device_of(alloc: Global, room: usize, fails: bool) -> Slow {
 fn devices(rt: HostRuntime) -> Result<(), Fail> {
     let (script, _, want) = WHOLE[1];
     let mut out = device_of(rt.alloc(), 1_000, true);
-    assert!(rt; run_text(&rt, script.as_bytes(), 1, false, &mut out) == Ok(true));
+    assert!(rt; run_text(&rt, script.as_bytes(), 1, false, &Open, &mut out) == Ok(true));
     assert!(rt; out.taken.as_slice() == want.as_bytes());
     for (room, fails) in [(10, true), (10, false), (0, false)] {
         let mut out = device_of(rt.alloc(), room, fails);
-        let failed = run_text(&rt, script.as_bytes(), 1, false, &mut out);
+        let failed = run_text(&rt, script.as_bytes(), 1, false, &Open, &mut out);
         assert!(rt; failed == Err(ToolFault::Device));
         assert!(rt; out.taken.as_slice() == &want.as_bytes()[..room]);
     }

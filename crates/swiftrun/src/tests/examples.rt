@@ -1,6 +1,7 @@
 // The scripts of examples/, and what they print.
 use crate::run::run_text;
 use std::test::Fail;
+use swift_keeper::Open;
 
 // The text of an example, and the text of its report.
 const EXAMPLES: [(&str, &str); 4] = [
@@ -139,7 +140,7 @@ Desk.served 4
 fn examples(rt: HostRuntime) -> Result<(), Fail> {
     for (script, want) in EXAMPLES {
         let mut out = Vec::new(rt.alloc());
-        let _ = run_text(&rt, script.as_bytes(), 1, false, &mut out)?;
+        let _ = run_text(&rt, script.as_bytes(), 1, false, &Open, &mut out)?;
         assert!(rt; out.as_slice() == want.as_bytes(), "{script}");
     }
     Ok(())

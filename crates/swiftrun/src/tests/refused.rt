@@ -6,7 +6,7 @@ use std::alloc::AllocGlobal;
 use std::process::Abort;
 use std::random::RandomSource;
 use std::test::Fail;
-use swift_keeper::RunFault;
+use swift_keeper::{Open, RunFault};
 
 // A text, and the message of its refusal.
 const REFUSED: [(&[u8], &str); 10] = [
@@ -47,7 +47,7 @@ where
 {
     let alloc = rt.alloc();
     let mut out = Vec::new(alloc);
-    match run_text(rt, text, 1, false, &mut out) {
+    match run_text(rt, text, 1, false, &Open, &mut out) {
         Ok(_) => assert!(rt; false, "accepted, and not: {message}"),
         Err(fault) => {
             let found = format!(in alloc; "{fault}")?;
@@ -66,7 +66,7 @@ fn refusals(rt: HostRuntime) -> Result<(), Fail> {
     }
     for workers in [0, 2, 9] {
         let mut out = Vec::new(rt.alloc());
-        let refused = run_text(&rt, b"", workers, false, &mut out);
+        let refused = run_text(&rt, b"", workers, false, &Open, &mut out);
         assert!(rt; refused == Err(ToolFault::Run(RunFault::Workers)));
         assert!(rt; out.is_empty());
     }
@@ -85,7 +85,7 @@ fn long_inputs(rt: HostRuntime) -> Result<(), Fail> {
     let text = read_input(alloc, &mut spaces.as_slice())?;
     assert!(rt; text.len() == 65_536);
     let mut out = Vec::new(alloc);
-    assert!(rt; run_text(&rt, &text, 1, false, &mut out) == Ok(true));
+    assert!(rt; run_text(&rt, &text, 1, false, &Open, &mut out) == Ok(true));
     assert!(rt; out.as_slice() == b"journals\ntasks\nfields\n".as_slice());
     spaces.push(b' ')?;
     let text = read_input(alloc, &mut spaces.as_slice())?;

@@ -2,6 +2,7 @@
 use crate::run::run_text;
 use std::alloc::Global;
 use std::test::Fail;
+use swift_keeper::Open;
 
 // A script, whether all its tasks end with a value, and the text of its report.
 pub const WHOLE: [(&str, bool, &str); 11] = [
@@ -155,7 +156,7 @@ fields
 fn whole_texts(rt: HostRuntime) -> Result<(), Fail> {
     for (script, well, want) in WHOLE {
         let mut out = Vec::new(rt.alloc());
-        let ended = run_text(&rt, script.as_bytes(), 1, false, &mut out)?;
+        let ended = run_text(&rt, script.as_bytes(), 1, false, &Open, &mut out)?;
         assert!(rt; out.as_slice() == want.as_bytes(), "{script}");
         assert_eq!(rt; ended, well, "{script}");
     }
@@ -179,7 +180,7 @@ const QUIET: [(&str, &str); 2] = [
 fn quiet_texts(rt: HostRuntime) -> Result<(), Fail> {
     for (script, want) in QUIET {
         let mut out = Vec::new(rt.alloc());
-        let _ = run_text(&rt, script.as_bytes(), 1, true, &mut out)?;
+        let _ = run_text(&rt, script.as_bytes(), 1, true, &Open, &mut out)?;
         assert!(rt; out.as_slice() == want.as_bytes(), "{script}");
     }
     Ok(())
@@ -221,12 +222,12 @@ fn long_texts(rt: HostRuntime) -> Result<(), Fail> {
     let alloc = rt.alloc();
     let spin = "actor A { func spin() { while 1 { yield; } } } root a = A.spin();";
     let mut out = Vec::new(alloc);
-    assert!(rt; run_text(&rt, spin.as_bytes(), 1, false, &mut out) == Ok(false));
+    assert!(rt; run_text(&rt, spin.as_bytes(), 1, false, &Open, &mut out) == Ok(false));
     assert!(rt; out.as_slice() == spun(alloc)?.as_bytes());
     let deep =
         "actor A { func deep() { let v = await A.deep() else 1; return v; } } root a = A.deep();";
     let mut out = Vec::new(alloc);
-    assert!(rt; run_text(&rt, deep.as_bytes(), 1, false, &mut out) == Ok(true));
+    assert!(rt; run_text(&rt, deep.as_bytes(), 1, false, &Open, &mut out) == Ok(true));
     assert!(rt; out.as_slice() == dived(alloc)?.as_bytes());
     Ok(())
 }
@@ -250,7 +251,7 @@ fn long_methods(rt: HostRuntime) -> Result<(), Fail> {
     ] {
         let script = assigning(rt.alloc(), count)?;
         let mut out = Vec::new(rt.alloc());
-        let _ = run_text(&rt, script.as_bytes(), 1, true, &mut out)?;
+        let _ = run_text(&rt, script.as_bytes(), 1, true, &Open, &mut out)?;
         assert!(rt; out.as_slice() == want.as_bytes());
     }
     Ok(())

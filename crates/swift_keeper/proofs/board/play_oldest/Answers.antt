@@ -8,7 +8,7 @@ use Rattle.swift_keeper.proofs.board.play_oldest.Goals.{then-not-is_empty+in_ok-
 use Rattle.swift_keeper.proofs.board.play_oldest.Goals as goal
 
 pub take_turn-requires : goal.take_turn-requires
-take_turn-requires c =
+take_turn-requires g c =
     let p = c.args.script.now in
     let k = c.in-Some.actor.0 in
     subst (λ n. IsLane p n c.index_mut-lane.result.now) (zero-add k)
@@ -16,7 +16,7 @@ take_turn-requires c =
     (lane_at p 0 c.args.board.now.lanes.items k c.index_mut-lane.result.now c.requires (omega (arith, c.if-place-len.false, c.len.ensures))))
 
 pub returns-clause-lanes : goal.returns-clause-lanes
-returns-clause-lanes c =
+returns-clause-lanes g c =
     let p = c.args.script.now in
     let k = c.in-Some.actor.0 in
     let base : AreLanes p 0 (slice_set c.args.board.now.lanes.items k c.take_turn.new.lane) =

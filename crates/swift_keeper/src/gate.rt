@@ -1,0 +1,25 @@
+//! What is told of the moments of a run.
+
+use swift_types::{ActorId, TaskId};
+
+/// A moment of a run, at the executor of an actor (our own). More moments come with workers of their own.
+#[derive(Clone, Copy, Debug, PartialEq, Eq)]
+pub enum Moment {
+    /// The executor's token was taken: its oldest job is run next.
+    Took(ActorId),
+    /// The turn of a task was journalled. What follows from it is not enqueued yet.
+    Turned(ActorId, TaskId),
+}
+
+/// Is told of each moment as it comes (our own). It can look on, and changes nothing of the run.
+pub trait Gate {
+    fn at(&self, moment: Moment);
+}
+
+/// The gate that does nothing.
+#[derive(Clone, Copy, Debug)]
+pub struct Open;
+
+impl Gate for Open {
+    fn at(&self, _moment: Moment) {}
+}
