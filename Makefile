@@ -19,4 +19,16 @@ examples: $(PROGRAM)
 		echo "$$script prints what it has to"; \
 	done
 
-.PHONY: test run examples
+# More allocations than a run of swift_refusals makes.
+ALLOCATIONS = 1000
+
+# Runs swift_refusals once for each of its allocations, with that one refused, and compares what it writes with its file
+# stdout. The last line counts the runs: `ended` and no other. Each file is a run, and has the number of allocations that
+# the program makes and gives back first.
+refusals:
+	cases=$$(mktemp -d) && for n in $$(seq 0 $$(($(ALLOCATIONS) - 1))); do \
+		echo $$n > $$cases/$$n && cp crates/swift_refusals/stdout $$cases/$$n.stdout; done && \
+	(cd crates/swift_refusals && rt try --steps 1 --fail-alloc $(ALLOCATIONS) --cases $$cases 2>&1 | grep -v ' output=expected '); \
+	rm -r $$cases
+
+.PHONY: test run examples refusals

@@ -1,0 +1,45 @@
+//! Shows what no clause can say: where a growth is refused, the call answers want of memory and nothing else, what it
+//! worked on is as it was, and the call made again answers as if nothing had been refused.
+//!
+//! It makes each call that takes memory, and makes it again where it is refused. What it writes is one text, whether a
+//! growth was refused or not, and its status is 0: it is run once for each of its allocations, with that one refused, and
+//! the texts are compared. A line `wrong: ..` stands where a promise is not kept. A refusal is told on standard error.
+//!
+//! Standard input may have a number: so many allocations are made and given back first. So a run in which the n-th
+//! allocation is refused, whatever n, can refuse any of those behind them.
+#![tactic(auto)]
+
+// Calls that are made again where they are refused.
+mod again;
+// Allocations before all others.
+mod ballast;
+// Priorities of tasks that wait.
+mod escalation;
+// Task groups.
+mod groups;
+// Bindings of task locals.
+mod locals;
+// A queue of jobs.
+mod queue;
+// Whole runs, and their reports.
+mod report;
+// Scripts that are read and printed.
+mod script;
+// A task, turn by turn.
+mod turn;
+
+use std::process::ExitCode;
+
+fn main(rt: HostRuntime) -> ExitCode {
+    ballast::burn(&rt);
+    if let Some(found) = script::read_again(&rt) {
+        let _ = turn::play_root(&rt, &found);
+        let _ = report::run_again(&rt, &found);
+    }
+    let _ = script::print_again(&rt);
+    locals::bind_again(&rt);
+    groups::open_again(&rt);
+    escalation::wait_again(&rt);
+    queue::make_again(&rt);
+    ExitCode::SUCCESS
+}
