@@ -31,4 +31,14 @@ refusals:
 	(cd crates/swift_refusals && rt try --steps 1 --fail-alloc $(ALLOCATIONS) --cases $$cases 2>&1 | grep -v ' output=expected '); \
 	rm -r $$cases
 
-.PHONY: test run examples refusals
+MEASURE = crates/swift_bench/out/swift_bench
+
+# Its run on the stored words is not shown.
+$(MEASURE): crates.txt $(SOURCES)
+	cd crates/swift_bench && rt run -- nothing 1 > /dev/null && touch out/swift_bench
+
+# Measures, and asserts nothing: builds both programs, and prints tables.
+bench:
+	@python3 bench/run.py
+
+.PHONY: test run examples refusals bench

@@ -1,0 +1,70 @@
+%% The turns of the scripts `spin` and `calls` as Erlang processes: an actor is a process, a turn is a message that it
+%% takes, and what a task keeps between its turns travels in the messages. No journal is kept, and nothing is undone.
+%% It prints how many turns there were, and the microseconds that they took.
+-module(processes).
+-export([main/1]).
+
+main([Case]) ->
+    Start = erlang:monotonic_time(microsecond),
+    Turns =
+        case Case of
+            "spin" -> spin(1000, 990);
+            "calls" -> calls(1000, 490)
+        end,
+    Spent = erlang:monotonic_time(microsecond) - Start,
+    io:format("run ~B turns~nrun ~B us~n", [Turns, Spent]),
+    halt().
+
+%% Each task takes its turn, and sends itself the next one.
+spin(Tasks, Times) ->
+    Keeper = self(),
+    Counter = spawn(fun() -> counter(0, Tasks, 0, Keeper) end),
+    lists:foreach(fun(Task) -> Counter ! {turn, Task, Times} end, lists:seq(1, Tasks)),
+    receive
+        {ended, Turns} -> Turns
+    end.
+
+counter(_Count, 0, Turns, Keeper) ->
+    Keeper ! {ended, Turns};
+counter(Count, Tasks, Turns, Keeper) ->
+    receive
+        {turn, _Task, 0} ->
+            counter(Count, Tasks - 1, Turns + 1, Keeper);
+        {turn, Task, Left} when Count + 1 >= 0 ->
+            self() ! {turn, Task, Left - 1},
+            counter(Count + 1, Tasks, Turns + 1, Keeper)
+    end.
+
+%% Each task asks the adder, and goes on when its answer comes.
+calls(Tasks, Times) ->
+    Keeper = self(),
+    Adder = spawn(fun() -> adder(0, 0) end),
+    Asker = spawn(fun() -> asker(0, Tasks, 0, Adder, Keeper) end),
+    lists:foreach(fun(Task) -> Asker ! {answer, Task, Times, 0} end, lists:seq(1, Tasks)),
+    receive
+        {ended, Turns} ->
+            Adder ! {turns, self()},
+            receive
+                {turns, Others} -> Turns + Others
+            end
+    end.
+
+asker(_Answers, 0, Turns, _Adder, Keeper) ->
+    Keeper ! {ended, Turns};
+asker(Answers, Tasks, Turns, Adder, Keeper) ->
+    receive
+        {answer, _Task, 0, _Sum} ->
+            asker(Answers + 1, Tasks - 1, Turns + 1, Adder, Keeper);
+        {answer, Task, Left, _Sum} when Answers + 1 >= 0 ->
+            Adder ! {gain, self(), Task, Left - 1, 1},
+            asker(Answers + 1, Tasks, Turns + 1, Adder, Keeper)
+    end.
+
+adder(Total, Turns) ->
+    receive
+        {gain, From, Task, Left, Amount} when Total + Amount >= 0 ->
+            From ! {answer, Task, Left, Total + Amount},
+            adder(Total + Amount, Turns + 1);
+        {turns, From} ->
+            From ! {turns, Turns}
+    end.

@@ -1,0 +1,157 @@
+"""Measures turns, steps, reading, memory and the parts of the runtime, and prints tables. It asserts nothing.
+
+Each case is run some times, and the best time is told; the memory is the greatest. Words: how many times (3)."""
+
+import os
+import re
+import shutil
+import subprocess
+import sys
+import time
+
+import scripts
+
+TOP = os.path.dirname(os.path.dirname(os.path.abspath(__file__)))
+PROGRAM = "crates/swiftrun/out/swiftrun"
+MEASURE = "crates/swift_bench/out/swift_bench"
+PARTS = ["queue", "locals", "groups", "escalation"]
+FEW, MANY = 16, 1024
+
+# A process that Python starts counts Python's own memory as its peak; one that this starts doesn't.
+TIME = "/usr/bin/time"
+
+
+class Outcome:
+    """What a process wrote, how long it took, and its peak memory in KB."""
+
+    def __init__(self, words, script=None, keep=True):
+        where = subprocess.PIPE if keep else subprocess.DEVNULL
+        if os.path.exists(TIME):
+            words = [TIME, "-f", "peak %M KB", *words]
+        with open(script or os.devnull, "rb") as given:
+            start = time.perf_counter()
+            process = subprocess.Popen(words, cwd=TOP, stdin=given, stdout=where, stderr=subprocess.PIPE)
+            wrote, complained = process.stdout.read() if keep else b"", process.stderr.read()
+            _, status, used = os.wait4(process.pid, 0)
+            self.seconds = time.perf_counter() - start
+        process.returncode = os.waitstatus_to_exitcode(status)
+        if process.returncode != 0:
+            sys.exit(f"{words} ended with {process.returncode}: {complained.decode()}")
+        self.wrote = wrote
+        # Lines such as `run 123 us` and `peak 456 KB`.
+        told = (wrote[:200] + b"\n" + complained).decode()
+        self.told = {(what, unit): int(n) for what, n, unit in re.findall(r"(?m)^(\w+) (\d+) (\w+)$", told)}
+        self.kilobytes = self.told.get(("peak", "KB"), used.ru_maxrss)
+
+    def spent(self, what):
+        return self.told[(what, "us")] / 1e6
+
+
+def best(times, *how, **more):
+    return [Outcome(*how, **more) for _ in range(times)]
+
+
+def least(outcomes, what):
+    return max(min(outcome.spent(what) for outcome in outcomes), 1e-6)
+
+
+def peak(outcomes):
+    return max(outcome.kilobytes for outcome in outcomes)
+
+
+def peer(case):
+    """What runs the case's turns as Erlang processes, or None where there is no such case or no Erlang."""
+    if case not in ("spin", "calls") or not shutil.which("erl") or not shutil.which("erlc"):
+        return None
+    subprocess.run(["erlc", "-o", scripts.FOLDER, "bench/processes.erl"], cwd=TOP, check=True)
+    words = ["erl", "-noshell", "-pa", scripts.FOLDER, "-run", "processes", "main", case]
+    return lambda: Outcome(words)
+
+
+def table(heads, rows):
+    rows = [heads] + [[str(cell) for cell in row] for row in rows]
+    widths = [max(len(row[k]) for row in rows) for k in range(len(heads))]
+    for row in rows:
+        print("  ".join(cell.rjust(w) if k else cell.ljust(w) for k, (cell, w) in enumerate(zip(row, widths))).rstrip())
+    print()
+
+
+def rate(count, seconds):
+    return f"{count / seconds:,.0f}" if count is not None else "-"
+
+
+def whole_runs(times):
+    rows = []
+    for case, (_, steps) in scripts.SCRIPTS.items():
+        if case == "read":
+            continue
+        script = scripts.path(case)
+        # One after the other, so that a noisy moment meets each of them.
+        start_peer = peer(case)
+        runs, wholes, peers = [], [], []
+        for _ in range(times):
+            runs.append(Outcome([MEASURE, "text"], script))
+            wholes.append(Outcome([PROGRAM], script, keep=False))
+            if start_peer:
+                peers.append(start_peer())
+        alone = Outcome([MEASURE, "run"], script).kilobytes
+        idle = Outcome([MEASURE, "read"], script).kilobytes
+        report = Outcome([PROGRAM], script).wrote
+        turns = sum(int(n) for n in re.findall(rb"(?m)^executor .* turns (\d+)$", report))
+        run, text = least(runs, "run"), least(runs, "text")
+        rows.append([
+            case,
+            f"{turns:,}",
+            f"{run:.4f}",
+            rate(turns, run),
+            rate(steps, run),
+            f"{len(report):,}",
+            f"{text:.4f}",
+            f"{min(whole.seconds for whole in wholes):.4f}",
+            f"{alone:,}",
+            f"{(alone - idle) * 1024 / turns:,.0f}",
+            f"{peak(wholes):,}",
+            f"{least(peers, 'run'):.4f}" if peers else "-",
+            f"{run / least(peers, 'run'):.2f}" if peers else "-",
+        ])
+    table(
+        ["case", "turns", "run s", "turns/s", "steps/s", "text bytes", "text s", "swiftrun s", "run KB", "B/turn",
+         "swiftrun KB", "Erlang s", "run s / Erlang s"],
+        rows,
+    )
+    if not shutil.which("erl") or not shutil.which("erlc"):
+        print("No Erlang on this machine: no ratios.\n")
+
+
+def reading(times):
+    outcomes = best(2 * times + 1, [MEASURE, "read"], scripts.path("read"))
+    seconds = least(outcomes, "read")
+    size = os.path.getsize(scripts.path("read"))
+    table(["case", "bytes", "seconds", "bytes/s", "KB"], [["read", f"{size:,}", f"{seconds:.4f}", rate(size, seconds), f"{peak(outcomes):,}"]])
+
+
+def parts(times):
+    rows = []
+    for part in PARTS:
+        few, many = [], []
+        for _ in range(times):
+            few.append(Outcome([MEASURE, part, str(FEW)]))
+            many.append(Outcome([MEASURE, part, str(MANY)]))
+        a, b = least(few, "operations"), least(many, "operations")
+        rows.append([part, rate(1_000_000, a), rate(1_000_000, b), f"{b / a:.2f}", f"{peak(few):,}", f"{peak(many):,}"])
+    table(["part", f"ops/s with {FEW}", f"with {MANY}", f"time, {MANY} to {FEW}", f"KB with {FEW}", f"with {MANY}"], rows)
+
+
+def main():
+    times = int(sys.argv[1]) if len(sys.argv) > 1 else 3
+    subprocess.run(["make", "--no-print-directory", PROGRAM, MEASURE], cwd=TOP, check=True, stdin=subprocess.DEVNULL, stdout=sys.stderr)
+    scripts.write()
+    print(f"Best of {times}. `run s` and `text s` are those stages alone, `swiftrun s` is the whole process with its text to")
+    print("/dev/null. `B/turn` is the peak of reading and running, above that of reading alone.\n")
+    whole_runs(times)
+    reading(times)
+    parts(times)
+
+
+if __name__ == "__main__":
+    main()
