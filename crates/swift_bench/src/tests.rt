@@ -11,7 +11,7 @@ use std::sync::Arc;
 use std::test::Fail;
 use swift_escalation::Waits;
 use swift_groups::Groups;
-use swift_keeper::run;
+use swift_keeper::{Open, run};
 use swift_locals::Bindings;
 use swift_queue::{Job, Queue};
 use swift_script::read;
@@ -88,7 +88,7 @@ fn turns_are_counted(rt: HostRuntime) -> Result<(), Fail> {
     let text =
         b"actor A { func f() { yield; return 1; } } actor B { func g() { } } root a = A.f(); root b = B.g();";
     let script = Arc::new(rt.alloc(), read(rt.alloc(), text)?)?;
-    let report = run(&rt, script, 1)?;
+    let report = run(&rt, script, 1, &Open)?;
     assert_eq!(rt; turns_of(&report.journals), Ok(3));
     assert!(rt; drawn(3, 5) < 5);
     Ok(())
