@@ -62,7 +62,7 @@ AllByRecursion-push P [] x all is = (is, tt)
 AllByRecursion-push P (y ∷ xs) x all is = (all.0, AllByRecursion-push P xs x all.1 is)
 
 -- a lane with one job more
-pub lane_enqueued : (p : Parts) (k : ℕ) (lane new : Lane) (job : Pending) → IsLane p k lane → CanRun p k job.body → new.jobs.items ≡ lane.jobs.items ++ job ∷ [] → new.fields ≡ lane.fields → new.journal ≡ lane.journal → IsLane p k new
+pub lane_enqueued : (p : Parts) (k : ℕ) (lane new : Lane) (job : Pending) → IsLane p k lane → CanRun p k job.body.value → new.jobs.items ≡ lane.jobs.items ++ job ∷ [] → new.fields ≡ lane.fields → new.journal ≡ lane.journal → IsLane p k new
 lane_enqueued p k lane new job is can jobs fields journal = record {
   lawful = subst (λ (j : Vec Record Global). IsLawful p k (actor_start p k) j.items) (sym journal) is.lawful;
   replayed = ap (λ (f : Vec ℤ Global). f.items) fields ∙ is.replayed ∙ ap (λ (j : Vec Record Global). replay p (actor_start p k) j.items) (sym journal);
@@ -79,7 +79,7 @@ lane_turned p k lane new job r is jobs journal kept fields = record {
 }
 
 -- the first job of a lane may run there
-pub first_can : (p : Parts) (k : ℕ) (lane : Lane) (job : Pending) (rest : List Pending) → IsLane p k lane → lane.jobs.items ≡ job ∷ rest → CanRun p k job.body
+pub first_can : (p : Parts) (k : ℕ) (lane : Lane) (job : Pending) (rest : List Pending) → IsLane p k lane → lane.jobs.items ≡ job ∷ rest → CanRun p k job.body.value
 first_can p k lane job rest is jobs = (subst (λ (js : List Pending). AllByRecursion (IsJobOf p k) js) jobs is.jobs).0
 
 -- the journals and the fields of executors are those of a lawful report

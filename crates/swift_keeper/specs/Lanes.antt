@@ -25,7 +25,7 @@ pub record CanRun (p : Parts) (actor : ℕ) (b : BodyParts) : Type 0 where
   pub top : IsSomeAnd b.here.top (λ f. method_actor p f.method ≡ actor)
 
 abbrev pub IsJobOf : Parts → ℕ → Pending → Type 0
-IsJobOf p actor job = CanRun p actor job.body
+IsJobOf p actor job = CanRun p actor job.body.value
 
 pub record IsLane (p : Parts) (actor : ℕ) (lane : Lane) : Type 0 where
   pub lawful : IsLawful p actor (actor_start p actor) lane.journal.items

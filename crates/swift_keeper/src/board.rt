@@ -58,7 +58,7 @@ pub fn empty_board(alloc: Global, script: &Script) -> Result<Board, Halt>
 
 // Puts a job behind the others of this actor's executor, whose token goes behind the others where it was idle.
 fn enqueue(board: &mut Board, actor: ActorId, job: Pending) -> Result<(), Halt>
-    ensures lanes { (p : Parts) → AreLanes p 0 board.old.lanes.items → CanRun p actor.0 job.body → OnOk result (AreLanes p 0 board.new.lanes.items) }
+    ensures lanes { (p : Parts) → AreLanes p 0 board.old.lanes.items → CanRun p actor.0 job.body.value → OnOk result (AreLanes p 0 board.new.lanes.items) }
     ensures actors { OnOk result (length board.new.lanes.items ≡ length board.old.lanes.items) }
     ensures endings { board.new.endings ≡ board.old.endings }
 {
@@ -90,7 +90,7 @@ fn first_job(
     room: u32,
 ) -> Result<(ActorId, Pending), Halt>
     requires { root.0 < root_count (arc_value script.now) }
-    ensures { IfOk result (λ r. CanRun (arc_value script.now) r.0.0 r.1.body) }
+    ensures { IfOk result (λ r. CanRun (arc_value script.now) r.0.0 r.1.body.value) }
 {
     let method = script.root_method(root);
     // No script that was read has a root that calls a method which it lacks.
@@ -104,7 +104,10 @@ fn first_job(
         room,
     };
     let actor = script.actor_of(method);
-    let body = Body::start(alloc, Arc::clone(script)?, method, args)?;
+    let body = Box::new(
+        alloc,
+        Body::start(alloc, Arc::clone(script)?, method, args)?,
+    )?;
     Ok((
         actor,
         Pending {
@@ -138,7 +141,7 @@ pub fn start_roots(alloc: Global, script: &Arc<Script>, board: &mut Board) -> Re
 
 // What comes after a turn: the next job of its task, or the ending.
 fn go_on(board: &mut Board, turned: Turned) -> Result<(), Halt>
-    ensures lanes { (p : Parts) → AreLanes p 0 board.old.lanes.items → GoesTo p turned.body turned.step → OnOk result (AreLanes p 0 board.new.lanes.items) }
+    ensures lanes { (p : Parts) → AreLanes p 0 board.old.lanes.items → GoesTo p turned.body.value turned.step → OnOk result (AreLanes p 0 board.new.lanes.items) }
     ensures actors { OnOk result (length board.new.lanes.items ≡ length board.old.lanes.items) }
     ensures tasks { OnOk result (length board.new.endings.items ≡ length board.old.endings.items) }
 {

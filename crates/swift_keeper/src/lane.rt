@@ -17,7 +17,8 @@ pub struct Pending {
     pub resume: Resume,
     /// What each turn of the task is told.
     pub env: Env,
-    pub body: Body,
+    /// In a box, since a job is moved from place to place and its body stays.
+    pub body: Box<Body>,
 }
 
 /// What an actor's own executor has: its jobs, the oldest first, its actor's fields, and its journal.

@@ -20,7 +20,7 @@ pub struct Turned {
     pub task: TaskId,
     pub number: u32,
     pub env: Env,
-    pub body: Body,
+    pub body: Box<Body>,
     pub step: Step,
 }
 
@@ -35,7 +35,7 @@ pub fn take_turn(
 ) -> Result<Turned, Halt>
     requires { IsLane script.now actor.0 lane.old }
     ensures lane { OnOk result (IsLane script.now actor.0 lane.new) }
-    ensures next { IfOk result (λ t. GoesTo script.now t.body t.step) }
+    ensures next { IfOk result (λ t. GoesTo script.now t.body.value t.step) }
 {
     // A token stands for at least one job.
     let Some(job) = lane.jobs.pop_front() else {
