@@ -9,6 +9,8 @@ import subprocess
 import sys
 import time
 
+# No folder of compiled modules beside the sources.
+sys.dont_write_bytecode = True
 import scripts
 
 TOP = os.path.dirname(os.path.dirname(os.path.abspath(__file__)))
@@ -64,7 +66,8 @@ def peer(case):
     if case not in ("spin", "calls") or not shutil.which("erl") or not shutil.which("erlc"):
         return None
     subprocess.run(["erlc", "-o", scripts.FOLDER, "bench/processes.erl"], cwd=TOP, check=True)
-    words = ["erl", "-noshell", "-pa", scripts.FOLDER, "-run", "processes", "main", case]
+    # One scheduler, since a run has one worker.
+    words = ["erl", "-noshell", "+S", "1", "-pa", scripts.FOLDER, "-run", "processes", "main", case]
     return lambda: Outcome(words)
 
 
@@ -109,7 +112,8 @@ def whole_runs(times):
             f"{text:.4f}",
             f"{min(whole.seconds for whole in wholes):.4f}",
             f"{alone:,}",
-            f"{(alone - idle) * 1024 / turns:,.0f}",
+            # Of few turns the peak says nothing.
+            f"{(alone - idle) * 1024 / turns:,.0f}" if turns >= 1000 else "-",
             f"{peak(wholes):,}",
             f"{least(peers, 'run'):.4f}" if peers else "-",
             f"{run / least(peers, 'run'):.2f}" if peers else "-",
@@ -147,7 +151,8 @@ def main():
     subprocess.run(["make", "--no-print-directory", PROGRAM, MEASURE], cwd=TOP, check=True, stdin=subprocess.DEVNULL, stdout=sys.stderr)
     scripts.write()
     print(f"Best of {times}. `run s` and `text s` are those stages alone, `swiftrun s` is the whole process with its text to")
-    print("/dev/null. `B/turn` is the peak of reading and running, above that of reading alone.\n")
+    print("/dev/null. `B/turn` is the peak of reading and running, above that of reading alone. `Erlang s` is one scheduler,")
+    print("which keeps no journal and undoes nothing.\n")
     whole_runs(times)
     reading(times)
     parts(times)

@@ -1,11 +1,12 @@
 //! A million waits between as many tasks.
 
 ghost use Rattle.std.specs.Prelude.{◌≡◌, ◌+◌, ◌<◌, ◌≤◌, length, OnOk};
+ghost use Rattle.swift_escalation.specs.Waits.{IsPriority, with_event};
 
 use crate::fault::BenchFault;
 use crate::pick::OPERATIONS;
 use std::time::{Duration, Instant};
-use swift_escalation::Waits;
+use swift_escalation::{Event, Waits};
 use swift_types::{Priority, TaskId};
 
 /// How many events a measure makes: a root for each task, a wait for each operation, and a root and a wait for each of
@@ -41,7 +42,8 @@ pub fn measure(rt: &HostRuntime, entries: u32) -> Result<Duration, BenchFault>
 
 /// One operation: a task waits for the next one, whose priority is asked for.
 pub fn wait_and_ask(waits: &mut Waits, waiter: TaskId, awaited: TaskId) -> Result<(), BenchFault>
-    ensures { OnOk result (length waits.new.events ≡ length waits.old.events + 1) }
+    ensures event { OnOk result (waits.new ≡ with_event waits.old (Event.Wait waiter awaited)) }
+    ensures priority { OnOk result (IsPriority waits.new.events awaited Priority.Background) }
 {
     waits.wait(waiter, awaited)?;
     match waits.priority(awaited) {
@@ -57,7 +59,8 @@ pub fn raise_ring(
     priority: Priority,
     last: TaskId,
 ) -> Result<(), BenchFault>
-    ensures { OnOk result (length waits.new.events ≡ length waits.old.events + 2) }
+    ensures events { OnOk result (length waits.new.events ≡ length waits.old.events + 2) }
+    ensures raised { OnOk result (IsPriority waits.new.events last priority) }
 {
     waits.add_root(root, priority)?;
     waits.wait(root, TaskId(0))?;

@@ -1,6 +1,7 @@
 //! A million children of one group, of which as many are unfinished at any time.
 
-ghost use Rattle.std.specs.Prelude.{◌<◌, ◌≤◌};
+ghost use Rattle.std.specs.Prelude.{◌<◌, ◌≤◌, OnOk, IsOk};
+ghost use Rattle.swift_groups.specs.Answers.{group_without};
 
 use crate::fault::BenchFault;
 use crate::pick::OPERATIONS;
@@ -32,7 +33,10 @@ pub fn add_and_finish(
     group: GroupId,
     newest: TaskId,
     oldest: TaskId,
-) -> Result<(), BenchFault> {
+) -> Result<(), BenchFault>
+    // The newest one was no child before.
+    ensures { OnOk result (IsOk (group_without groups.old.groups group newest)) }
+{
     groups.add(group, newest)?;
     groups.finished(group, oldest, Ending::Value(1))?;
     match groups.next(group)? {

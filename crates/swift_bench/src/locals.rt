@@ -1,6 +1,7 @@
 //! A million bindings and reads, with as many bindings below.
 
-ghost use Rattle.std.specs.Prelude.{◌≡◌, ◌∷◌, ◌<◌, OnOk};
+ghost use Rattle.std.specs.Prelude.{◌≡◌, ◌∷◌, ◌<◌, OnOk, IsSome};
+ghost use Rattle.swift_locals.specs.Bindings.{value_of};
 
 use crate::fault::BenchFault;
 use crate::pick::{OPERATIONS, drawn};
@@ -36,7 +37,9 @@ pub fn bind_and_read(
     outer: LocalId,
     value: i64,
 ) -> Result<(), BenchFault>
-    ensures { OnOk result (bindings.new ≡ bindings.old) }
+    ensures same { OnOk result (bindings.new ≡ bindings.old) }
+    // The other name was read below the binding.
+    ensures read { OnOk result (IsSome (value_of ((inner.0, value) ∷ bindings.old) outer.0)) }
 {
     bindings.bind(inner, value)?;
     let read = bindings.read(inner);

@@ -42,7 +42,8 @@ fn risen(operation: u32) -> Priority {
 
 /// Puts a job of the task.
 pub fn fill(queue: &mut Queue<u32>, task: TaskId) -> Result<(), BenchFault>
-    ensures { OnOk result (length queue.new.jobs ≡ length queue.old.jobs + 1) }
+    ensures jobs { OnOk result (length queue.new.jobs ≡ length queue.old.jobs + 1) }
+    ensures arrived { OnOk result (queue.new.arrived ≡ queue.old.arrived + 1) }
 {
     if queue.len() >= queue.room() || queue.arrived() == u64::MAX {
         return Err(BenchFault::Refused);
@@ -60,7 +61,8 @@ pub fn fill(queue: &mut Queue<u32>, task: TaskId) -> Result<(), BenchFault>
 /// One operation: the most urgent job is taken and put back as the newest of the least urgent, and the job of a task is
 /// raised.
 pub fn turn_over(queue: &mut Queue<u32>, task: TaskId, priority: Priority) -> Result<(), BenchFault>
-    ensures { OnOk result (length queue.new.jobs ≡ length queue.old.jobs) }
+    ensures jobs { OnOk result (length queue.new.jobs ≡ length queue.old.jobs) }
+    ensures arrived { OnOk result (queue.new.arrived ≡ queue.old.arrived + 1) }
 {
     let Some((job, arrival)) = queue.take() else {
         return Err(BenchFault::Refused);
