@@ -20,16 +20,23 @@ examples: $(PROGRAM)
 	done
 
 # More allocations than a run of swift_refusals makes.
-ALLOCATIONS = 1000
+ALLOCATIONS = 1200
 
 # Runs swift_refusals once for each of its allocations, with that one refused, and compares what it writes with its file
-# stdout. The last line counts the runs: `ended` and no other. Each file is a run, and has the number of allocations that
-# the program makes and gives back first.
+# stdout. Each run has a file with the number of allocations that are made and given back first; the run of the file 0
+# has to be refused none. The last line counts the runs: all of them have ended, and none differs. It takes ten minutes.
 refusals:
-	cases=$$(mktemp -d) && for n in $$(seq 0 $$(($(ALLOCATIONS) - 1))); do \
-		echo $$n > $$cases/$$n && cp crates/swift_refusals/stdout $$cases/$$n.stdout; done && \
-	(cd crates/swift_refusals && rt try --steps 1 --fail-alloc $(ALLOCATIONS) --cases $$cases 2>&1 | grep -v ' output=expected '); \
-	rm -r $$cases
+	@cases=$$(mktemp -d); \
+	for n in $$(seq 0 $$(($(ALLOCATIONS) - 1))); do \
+		echo $$n > $$cases/$$n; cp crates/swift_refusals/stdout $$cases/$$n.stdout; \
+	done; \
+	rm $$cases/0.stdout; \
+	(cd crates/swift_refusals && rt try --steps 1 --fail-alloc $(ALLOCATIONS) --cases $$cases) > $$cases.out 2>&1; \
+	status=$$?; \
+	if grep -q '^refused: ' $$cases.out; then echo 'ALLOCATIONS is too small'; status=1; fi; \
+	sed '/^== 0$$/,/^case=0 /d; /^allocations/d; / output=expected /d' $$cases.out; \
+	rm -r $$cases $$cases.out; \
+	exit $$status
 
 MEASURE = crates/swift_bench/out/swift_bench
 

@@ -35,6 +35,17 @@ fn happen(waits: &mut Waits, event: Event) -> Result<(), WaitsFault> {
     }
 }
 
+// The call by which an event happens.
+fn call_of(event: Event) -> &'static str {
+    match event {
+        Event::Root(_, _) => "Waits::add_root",
+        Event::Child(_, _) => "Waits::add_child",
+        Event::Free(_, _) => "Waits::add_free",
+        Event::Wait(_, _) => "Waits::wait",
+    }
+}
+
+// A task of each kind, a ring of waits, and a raise along it.
 const EVENTS: [Event; 8] = [
     Event::Root(TaskId(0), Priority::Low),
     Event::Child(TaskId(1), TaskId(0)),
@@ -50,7 +61,7 @@ const EVENTS: [Event; 8] = [
 pub fn wait_again(rt: &HostRuntime) {
     let mut waits = Waits::new(rt.alloc());
     for event in EVENTS {
-        let happened = again_on(rt, "Waits", &mut waits, seen, |on| happen(on, event));
+        let happened = again_on(rt, call_of(event), &mut waits, seen, |on| happen(on, event));
         if happened.is_some() {
             let _ = println!(rt; "{event:?}: {:?}", seen(&waits));
         }

@@ -35,8 +35,8 @@ fn main(rt: HostRuntime) -> ExitCode {
     if let Some(found) = script::read_again(&rt) {
         let _ = turn::play_root(&rt, &found);
         let _ = report::run_again(&rt, &found);
+        let _ = script::print_again(&rt, &found);
     }
-    let _ = script::print_again(&rt);
     locals::bind_again(&rt);
     groups::open_again(&rt);
     escalation::wait_again(&rt);

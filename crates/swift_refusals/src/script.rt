@@ -10,7 +10,7 @@ use std::sync::Arc;
 use swift_grammar::{Actor, Decl, ReadError, Root, declarations};
 use swift_output::write_all;
 use swift_printing::print;
-use swift_script::{Script, ScriptFault, ScriptFaultKind, read};
+use swift_script::{Script, ScriptFault, ScriptFaultKind, print_script, read};
 use swift_tokens::tokens;
 
 /// A script with each kind of declaration, of statement and of operator.
@@ -112,12 +112,16 @@ fn parts(rt: &HostRuntime, decls: Vec<Decl>) -> Option<(Vec<Actor>, Vec<Root>)> 
     Some((actors, roots))
 }
 
-/// Prints the script, by way of its tokens and declarations.
-pub fn print_again(rt: &HostRuntime) -> Option<()> {
+/// Prints the script, by way of its tokens and declarations, and then whole.
+pub fn print_again(rt: &HostRuntime, script: &Script) -> Option<()> {
     let alloc = rt.alloc();
     let found = again(rt, "tokens", || tokens(alloc, TEXT.as_bytes()))?;
     let decls = again(rt, "declarations", || declarations(alloc, &found.tokens))?;
     let (actors, roots) = parts(rt, decls)?;
     let printed = again(rt, "print", || print(alloc, &actors, &roots))?;
+    let whole = again(rt, "print_script", || print_script(alloc, script))?;
+    if whole.as_bytes() != printed.as_slice() {
+        wrong(rt, "print_script");
+    }
     write_all(&mut rt.stdout(), &printed).ok()
 }
