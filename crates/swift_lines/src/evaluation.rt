@@ -15,19 +15,26 @@ use swift_types::{Operator, Priority};
 pub fn value(formula: &Formula, sight: Sight<'_>) -> Option<i64>
     ensures { result ≡ ev (term_of formula.now) (scene_of sight.entry) }
 {
+    evaluate(formula, &sight)
+}
+
+// The same, over one reference, which is cheaper to hand on to each operand.
+fn evaluate(formula: &Formula, sight: &Sight<'_>) -> Option<i64>
+    ensures { result ≡ ev (term_of formula.now) (scene_of sight.now) }
+{
     match formula {
         Formula::Number(n) => Some(*n),
         Formula::Variable(x) => Some(number(sight.variables, *x)),
         Formula::Field(f) => Some(number(sight.fields, *f)),
-        Formula::Negate(e) => value(e, sight)?.checked_neg(),
-        Formula::Not(e) => Some(flag_of(value(e, sight)? == 0)),
+        Formula::Negate(e) => evaluate(e, sight)?.checked_neg(),
+        Formula::Not(e) => Some(flag_of(evaluate(e, sight)? == 0)),
         Formula::Binary(operator, left, right) => {
-            let x = value(left, sight)?;
+            let x = evaluate(left, sight)?;
             match operator {
                 Operator::And if x == 0 => Some(0),
                 Operator::Or if x != 0 => Some(1),
                 _ => {
-                    let y = value(right, sight)?;
+                    let y = evaluate(right, sight)?;
                     join(*operator, x, y)
                 }
             }
