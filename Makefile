@@ -20,7 +20,7 @@ examples: $(PROGRAM)
 	done
 
 # More allocations than a run of swift_refusals makes.
-ALLOCATIONS = 1200
+ALLOCATIONS = 1300
 
 # Runs swift_refusals once for each of its allocations, with that one refused, and compares what it writes with its file
 # stdout. Each run has a file with the number of allocations that are made and given back first; the run of the file 0

@@ -47,13 +47,13 @@ fn call_of(event: Event) -> &'static str {
 
 // A task of each kind, a ring of waits, and a raise along it.
 const EVENTS: [Event; 8] = [
+    Event::Free(TaskId(2), Priority::Medium),
     Event::Root(TaskId(0), Priority::Low),
     Event::Child(TaskId(1), TaskId(0)),
-    Event::Free(TaskId(2), Priority::Medium),
     Event::Wait(TaskId(2), TaskId(0)),
-    Event::Wait(TaskId(1), TaskId(2)),
     Event::Root(TaskId(3), Priority::High),
     Event::Child(TaskId(4), TaskId(2)),
+    Event::Wait(TaskId(1), TaskId(2)),
     Event::Wait(TaskId(3), TaskId(1)),
 ];
 

@@ -49,7 +49,7 @@ fn open(rt: &HostRuntime, groups: &mut Groups, owner: u32) {
 pub fn open_again(rt: &HostRuntime) {
     let mut groups = Groups::new(rt.alloc());
     open(rt, &mut groups, 7);
-    for child in 0..6 {
+    for child in 0..9 {
         add(rt, &mut groups, 0, child);
     }
     if again_on(
