@@ -1,6 +1,7 @@
 """Measures turns, steps, reading, memory and the parts of the runtime, and prints tables. It asserts nothing.
 
-Each case is run some times, and the best time is told; the memory is the greatest. Words: how many times (3)."""
+Each case is run some times, and the best time is told. The peak of `swiftrun` is the greatest, that of `run` is of one run.
+Arguments: how many times (3)."""
 
 import os
 import re
