@@ -87,8 +87,6 @@ def rate(count, seconds):
 def whole_runs(times):
     rows = []
     for case, (_, steps) in scripts.SCRIPTS.items():
-        if case == "read":
-            continue
         script = scripts.path(case)
         # One after the other, so that a noisy moment meets each of them.
         start_peer = peer(case)
@@ -129,10 +127,13 @@ def whole_runs(times):
 
 
 def reading(times):
-    outcomes = best(2 * times + 1, [MEASURE, "read"], scripts.path("read"))
-    seconds = least(outcomes, "read")
-    size = os.path.getsize(scripts.path("read"))
-    table(["case", "bytes", "seconds", "bytes/s", "KB"], [["read", f"{size:,}", f"{seconds:.4f}", rate(size, seconds), f"{peak(outcomes):,}"]])
+    rows = []
+    for case in scripts.READ:
+        script = scripts.path("read " + case)
+        outcomes = best(2 * times + 1, [MEASURE, "read"], script)
+        seconds, size = least(outcomes, "read"), os.path.getsize(script)
+        rows.append([f"read {case}", f"{size:,}", f"{seconds:.4f}", rate(size, seconds), f"{peak(outcomes):,}"])
+    table(["case", "bytes", "seconds", "bytes/s", "KB"], rows)
 
 
 def parts(times):
@@ -151,7 +152,7 @@ def main():
     times = int(sys.argv[1]) if len(sys.argv) > 1 else 3
     subprocess.run(["make", "--no-print-directory", PROGRAM, MEASURE], cwd=TOP, check=True, stdin=subprocess.DEVNULL, stdout=sys.stderr)
     scripts.write()
-    print(f"Best of {times}. `run s` and `text s` are those stages alone, `swiftrun s` is the whole process with its text to")
+    print(f"Best of {times}, of reading the best of {2 * times + 1}. `run s` and `text s` are those stages alone, `swiftrun s` is the whole process with its text to")
     print("/dev/null. `B/turn` is the peak of reading and running, above that of reading alone. `Erlang s` is one scheduler,")
     print("which keeps no journal and undoes nothing.\n")
     whole_runs(times)

@@ -99,9 +99,31 @@ def to_be_read():
             methods[made % 64] -= 1
             break
         made += 1
-    text = "".join(actor(a, methods) for a in range(64))
+    return filled("".join(actor(a, methods) for a in range(64)))
+
+
+def filled(text):
+    """A script, and a comment or spaces that make it the longest."""
     left = LONGEST - len(text)
     return text + ("//" + "." * (left - 2) if left >= 2 else " " * left)
+
+
+def deep():
+    """Expressions of the greatest height, one after the other."""
+    statement = "return " + "(" * 15 + "1" + "+2)*3" * 15 + ";\n"
+    front, end = "actor Deep { func f() {\n", "} }\n"
+    return filled(front + statement * ((LONGEST - len(front) - len(end)) // len(statement)) + end)
+
+
+def long_name():
+    """An actor whose name is half of the script, with as many methods as fit."""
+    name = "a" * (LONGEST // 2)
+    front, end = f"actor {name} {{\n", "}\n"
+    methods, k = "", 0
+    while len(front) + len(methods) + 20 + len(end) <= LONGEST:
+        methods += f"func m{k}(){{}}\n"
+        k += 1
+    return filled(front + methods + end)
 
 
 def actor(number, methods):
@@ -123,7 +145,14 @@ SCRIPTS = {
     # statements, a test and two statements.
     "loop": (LOOPER + roots(1, "Looper.loop(250000)"), 250_000 * 4 + (250_000 // 2400) * 2 + 5),
     "roots": (COUNTER + roots(1024, "Counter.once(7)"), None),
-    "read": (to_be_read(), None),
+}
+
+# What is read alone, each of the greatest length.
+READ = {
+    "actors": to_be_read(),
+    "deep": deep(),
+    "roots": filled("actor A { func f() { return 1; } }\n" + roots(1024, "A.f()")),
+    "long name": long_name(),
 }
 
 
@@ -133,7 +162,8 @@ def path(name):
 
 def write():
     os.makedirs(FOLDER, exist_ok=True)
-    for name, (text, _) in SCRIPTS.items():
+    texts = {name: text for name, (text, _) in SCRIPTS.items()}
+    for name, text in {**texts, **{"read " + name: text for name, text in READ.items()}}.items():
         with open(path(name), "w", encoding="ascii", newline="\n") as file:
             file.write(text)
 

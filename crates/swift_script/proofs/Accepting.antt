@@ -43,17 +43,17 @@ no_false_start text t a f =
     cc
 
 not_refused : (text : List ℕ) (t : ScriptTree) (k : ScriptFaultKind) → IsAccepted text t → Refuses k text → k ≡ kind.Memory
-not_refused text t kind.NotText a r = let clash : false ≡ true = sym r ∙ a.plain in absurd cc
-not_refused text t kind.Unexpected a r = absurd (r a.decls a.spelled)
-not_refused text t kind.OutOfRange a r = absurd (r a.decls a.spelled)
+not_refused text t kind.NotText a r = let clash : false ≡ true = sym r.1 ∙ a.plain in absurd cc
+not_refused text t kind.Unexpected a r = absurd (r.1 a.decls a.spelled)
+not_refused text t kind.OutOfRange a r = absurd (r.1 a.decls a.spelled)
 not_refused text t kind.NameTwice a r = absurd (no_fault text t _ a r)
 not_refused text t kind.UnknownName a r = absurd (no_fault text t _ a r)
 not_refused text t kind.Arguments a r = absurd (no_fault text t _ a r)
 not_refused text t kind.InvariantFalse a r = absurd (no_false_start text t a r)
 not_refused text t kind.LimitPassed a (inl long) = absurd (omega (arith, a.short))
 not_refused text t kind.LimitPassed a (inr f) = absurd (no_fault text t _ a f)
-not_refused text t kind.EndsEarly a r = absurd (r a.decls a.spelled)
-not_refused text t kind.TooDeep a r = absurd (r a.decls a.spelled)
+not_refused text t kind.EndsEarly a r = absurd (r.1 a.decls a.spelled)
+not_refused text t kind.TooDeep a r = absurd (r.1 a.decls a.spelled)
 not_refused text t kind.Memory a r = refl
 
 pub is_accepted : (text : List ℕ) (r : Result Parts ScriptFault) → IfOk r (λ s. IsAccepted text (tree_of s)) → IfErr r (λ e. Refuses e.kind text) → (tree : ScriptTree) → IsAccepted text tree → IsReadAs tree r

@@ -11,7 +11,7 @@ use Rattle.swift_script.specs.declared.compiled.CompiledMethod.{CompiledMethod}
 use Rattle.swift_script.specs.declared.compiled.CompiledActor.{CompiledActor}
 use Rattle.swift_script.specs.Script.{ScriptTree, actors_in, roots_in, tree_in, starts_well, all_start_well}
 use Rattle.swift_script.specs.Scripts.{Parts, tree_of, directory_in, entries_in}
-use Rattle.swift_script.specs.Accepted.{SpellsDecls, IsAccepted, StartsFalse}
+use Rattle.swift_script.specs.Accepted.{SpellsDecls, IsAccepted, IsPlain, StartsFalse}
 use Rattle.swift_script.specs.Compiled.{method_is, compiled_of, actor_is, compiled_actor, all_hold, root_number, number_is}
 use Rattle.swift_script.specs.Fine.{ActorsFine, RootsFine}
 use Rattle.swift_script.specs.Whole.{IsWhole}
@@ -34,11 +34,11 @@ actors_in_order d xs actors lent l is e seen = let both = in_order d xs is e in 
 pub roots_in_order : (d : Directory) (xs : List DeclTree) (roots lent : List Root) → lent ≡ roots → d ≡ directory_of xs → names_fault xs ≡ None → map view_root roots ≡ roots_in xs → RootsFine d (map view_root lent)
 roots_in_order d xs roots lent l is e seen = let both = in_order d xs is e in subst (λ (ts : List RootTree). RootsFine d ts) (sym seen ∙ ap (map view_root) (sym l)) both.1
 
-pub starts_false : (text : List ℕ) (xs : List DeclTree) (actors lent : List Actor) (cs held : List CompiledActor) → lent ≡ actors → held ≡ cs → SpellsDecls 32 text xs → map view_actor actors ≡ actors_in xs
+pub starts_false : (text : List ℕ) (xs : List DeclTree) (actors lent : List Actor) (cs held : List CompiledActor) → lent ≡ actors → held ≡ cs → IsPlain text → SpellsDecls 32 text xs → names_fault xs ≡ None → map view_actor actors ≡ actors_in xs
     → map actor_is cs ≡ map compiled_actor (map view_actor lent) → all_hold (map actor_is held) ≡ false → StartsFalse text
-starts_false text xs actors lent cs held l h spelled seen same e =
+starts_false text xs actors lent cs held l h plain spelled names seen same e =
     let ts : map actor_is cs ≡ map compiled_actor (actors_in xs) = same ∙ ap (λ (zs : List Actor). map compiled_actor (map view_actor zs)) l ∙ ap (map compiled_actor) seen in
-    record { decls = xs; spelled = spelled; starts = starts_by (actors_in xs) cs false ts (ap (λ (zs : List CompiledActor). all_hold (map actor_is zs)) (sym h) ∙ e) }
+    record { plain = plain; decls = xs; spelled = spelled; names = names; starts = starts_by (actors_in xs) cs false ts (ap (λ (zs : List CompiledActor). all_hold (map actor_is zs)) (sym h) ∙ e) }
 
 pub whole : (text kept : List ℕ) (xs : List DeclTree) (d : Directory) (actors lent : List Actor) (roots lent_roots : List Root) (cs held : List CompiledActor) (ms : List CompiledMethod) (ns : List MethodId)
     → kept ≡ text → lent ≡ actors → lent_roots ≡ roots → held ≡ cs

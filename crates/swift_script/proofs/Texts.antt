@@ -10,8 +10,8 @@ use Rattle.swift_grammar.specs.declared.fault.ReadError.TheVariants as reading
 use Rattle.swift_grammar.specs.Tree.{DeclTree}
 use Rattle.swift_grammar.specs.Grammar.{IsScript}
 use Rattle.swift_grammar.specs.Answers.{SpellsNothing as NoneSpelled}
-use Rattle.swift_script.specs.Accepted.{SpellsNothing}
-use Rattle.swift_script.specs.Refuses.{Refuses, grammar_kind, read_kind}
+use Rattle.swift_script.specs.Accepted.{IsPlain, SpellsNothing}
+use Rattle.swift_script.specs.Refuses.{HasNoTree, Refuses, grammar_kind, read_kind}
 
 -- what the tokens of a text do not spell, the text does not spell
 nothing_spelled : (text : List ℕ) (pieces : List Piece) → Lexes text pieces → ((decls : List DeclTree) → IsScript 32 pieces decls → ⊥) → SpellsNothing text
@@ -19,12 +19,12 @@ nothing_spelled text pieces lexed none decls d =
     let same : d.pieces ≡ pieces = unique pieces d.lexed lexed in
     none decls (subst (λ (ps : List Piece). IsScript 32 ps decls) same d.spelled)
 
-of_kind : (text : List ℕ) (k : Kind) → SpellsNothing text → Refuses (grammar_kind k) text
+of_kind : (text : List ℕ) (k : Kind) → HasNoTree text → Refuses (grammar_kind k) text
 of_kind text grammar.Unexpected none = none
 of_kind text grammar.OutOfRange none = none
 of_kind text grammar.EndsEarly none = none
 of_kind text grammar.TooDeep none = none
 
-pub refuses_read : (text : List ℕ) (pieces : List Piece) (e : ReadError) → Lexes text pieces → NoneSpelled pieces e → Refuses (read_kind e) text
-refuses_read text pieces reading.Memory lexed none = tt
-refuses_read text pieces (reading.Fault f) lexed none = of_kind text f.kind (nothing_spelled text pieces lexed none)
+pub refuses_read : (text : List ℕ) (pieces : List Piece) (e : ReadError) → IsPlain text → Lexes text pieces → NoneSpelled pieces e → Refuses (read_kind e) text
+refuses_read text pieces reading.Memory plain lexed none = tt
+refuses_read text pieces (reading.Fault f) plain lexed none = of_kind text f.kind (plain, nothing_spelled text pieces lexed none)

@@ -43,14 +43,22 @@ WasAccepted tree = (text : List ℕ) × IsAccepted text tree
 abbrev pub SpellsNothing : List ℕ → Type 0
 SpellsNothing text = (decls : List DeclTree) → SpellsDecls nesting text decls → ⊥
 
--- What the text spells has this as the first fault of its names and counts.
+-- A text has at most 65,536 bytes, and only those that a text may have.
+pub record IsPlain (text : List ℕ) : Type 0 where
+  pub short : length text ≤ 65536
+  pub bytes : is_text text ≡ true
+
+-- What a plain text spells has this as the first fault of its names and counts.
 pub record HasFault (text : List ℕ) (misuse : Misuse) : Type 0 where
+  pub plain : IsPlain text
   pub decls : List DeclTree
   pub spelled : SpellsDecls nesting text decls
   pub first : names_fault decls ≡ Some misuse
 
--- What the text spells has an actor whose invariant does not hold at the start.
+-- What a plain text spells has names and counts in order, and an actor whose invariant does not hold at the start.
 pub record StartsFalse (text : List ℕ) : Type 0 where
+  pub plain : IsPlain text
   pub decls : List DeclTree
   pub spelled : SpellsDecls nesting text decls
+  pub names : names_fault decls ≡ None
   pub starts : all_start_well (actors_in decls) ≡ false

@@ -9,3 +9,7 @@ use Rattle.swift_script.specs.Scripts.{Parts, tree_of}
 abbrev pub IsReadAs : ScriptTree → Result Parts ScriptFault → Type 0
 IsReadAs tree (Ok s) = tree_of s ≡ tree
 IsReadAs tree (Err e) = e.kind ≡ Memory
+
+-- want of memory stands on no line
+abbrev pub IsPlaced : ScriptFault → Type 0
+IsPlaced fault = fault.kind ≡ Memory → fault.line ≡ 0

@@ -1,5 +1,5 @@
 -- What each refusal says of a text.
-use Rattle.std.specs.Prelude.{◌≡◌, ◌⊎◌, ◌<◌, ℕ, false, List, length}
+use Rattle.std.specs.Prelude.{◌≡◌, ◌⊎◌, ◌<◌, ◌≤◌, ℕ, false, List, length}
 use Rattle.swift_tokens.specs.Bytes.{is_text}
 use Rattle.swift_grammar.specs.declared.fault.Kind.{Kind}
 use Rattle.swift_grammar.specs.declared.fault.Kind.TheVariants as grammar
@@ -11,20 +11,24 @@ use Rattle.swift_names.specs.declared.misuse.Misuse.{Misuse}
 use Rattle.swift_names.specs.declared.misuse.Misuse.TheVariants.{Twice, Unknown, Arguments as OtherCount, TooMany}
 use Rattle.swift_script.specs.declared.fault.ScriptFaultKind.{ScriptFaultKind}
 use Rattle.swift_script.specs.declared.fault.ScriptFaultKind.TheVariants as kind
-use Rattle.swift_script.specs.Accepted.{SpellsNothing, HasFault, StartsFalse}
+use Rattle.swift_script.specs.Accepted.{IsPlain, SpellsNothing, HasFault, StartsFalse}
 
--- the cause of a refusal; want of memory says nothing of the text
+-- a fault of the grammar: the text is short and plain, and spells nothing within the limits
+abbrev pub HasNoTree : List ℕ → Type 0
+HasNoTree text = IsPlain text × SpellsNothing text
+
+-- The cause of a refusal, of which none that is looked for before it is met; want of memory says nothing of the text.
 abbrev pub Refuses : ScriptFaultKind → List ℕ → Type 0
-Refuses kind.NotText text = is_text text ≡ false
-Refuses kind.Unexpected text = SpellsNothing text
-Refuses kind.OutOfRange text = SpellsNothing text
+Refuses kind.NotText text = (length text ≤ 65536) × (is_text text ≡ false)
+Refuses kind.Unexpected text = HasNoTree text
+Refuses kind.OutOfRange text = HasNoTree text
 Refuses kind.NameTwice text = HasFault text Twice
 Refuses kind.UnknownName text = HasFault text Unknown
 Refuses kind.Arguments text = HasFault text OtherCount
 Refuses kind.InvariantFalse text = StartsFalse text
 Refuses kind.LimitPassed text = (65536 < length text) ⊎ HasFault text TooMany
-Refuses kind.EndsEarly text = SpellsNothing text
-Refuses kind.TooDeep text = SpellsNothing text
+Refuses kind.EndsEarly text = HasNoTree text
+Refuses kind.TooDeep text = HasNoTree text
 Refuses kind.Memory text = Unit {0}
 
 -- a fault of the grammar, as a refusal

@@ -62,7 +62,7 @@ impl ScriptFault {
 }
 
 impl From<AllocError> for ScriptFault {
-    ghost from_gives = { λ _ f. f.kind ≡ Memory };
+    ghost from_gives = { λ _ f. (f.kind ≡ Memory) × (f.line ≡ 0) };
 
     fn from(_e: AllocError) -> ScriptFault {
         ScriptFault::MEMORY
@@ -70,7 +70,7 @@ impl From<AllocError> for ScriptFault {
 }
 
 impl<T: Drop> From<AllocFailed<T>> for ScriptFault {
-    ghost from_gives = { λ _ f. f.kind ≡ Memory };
+    ghost from_gives = { λ _ f. (f.kind ≡ Memory) × (f.line ≡ 0) };
 
     fn from(_e: AllocFailed<T>) -> ScriptFault {
         ScriptFault::MEMORY

@@ -5,6 +5,8 @@ mod compile;
 mod compiled;
 mod equality;
 mod fault;
+// What holds of the definitions.
+pub mod laws;
 mod lines;
 mod named;
 mod names;

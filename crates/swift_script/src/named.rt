@@ -4,7 +4,8 @@ ghost use Rattle.std.specs.Prelude.{◌≡◌, ℕ, List, None, map, IfOk, IfErr
 ghost use Rattle.swift_grammar.specs.Tree.{view_decl};
 ghost use Rattle.swift_names.specs.Directory.{directory_of};
 ghost use Rattle.swift_names.specs.Rules.{names_fault};
-ghost use Rattle.swift_script.specs.Accepted.{SpellsDecls};
+ghost use Rattle.swift_script.specs.Accepted.{IsPlain, SpellsDecls};
+ghost use Rattle.swift_script.specs.Answers.{IsPlaced};
 ghost use Rattle.swift_script.specs.Refuses.{Refuses, names_kind, misnamed_kind};
 
 use crate::fault::{ScriptFault, ScriptFaultKind};
@@ -18,7 +19,8 @@ use swift_names::{Declared, Misuse, NamesError, check};
 pub(crate) fn named(alloc: Global, decls: &[Decl], lines: &Lines) -> Result<Declared, ScriptFault>
     ensures names { IfOk result (λ d. names_fault (map view_decl decls.now) ≡ None) }
     ensures directory { IfOk result (λ d. d ≡ directory_of (map view_decl decls.now)) }
-    ensures refused { (text : List ℕ) → SpellsDecls 32 text (map view_decl decls.now) → IfErr result (λ e. Refuses e.kind text) }
+    ensures refused { (text : List ℕ) → IsPlain text → SpellsDecls 32 text (map view_decl decls.now) → IfErr result (λ e. Refuses e.kind text) }
+    ensures placed { IfErr result IsPlaced }
 {
     match check(alloc, decls) {
         Ok(declared) => Ok(declared),
@@ -27,7 +29,8 @@ pub(crate) fn named(alloc: Global, decls: &[Decl], lines: &Lines) -> Result<Decl
 }
 
 fn refusal(lines: &Lines, error: NamesError) -> ScriptFault
-    ensures { result.kind ≡ misnamed_kind error }
+    ensures kind { result.kind ≡ misnamed_kind error }
+    ensures placed { IsPlaced result }
 {
     match error {
         NamesError::Memory => ScriptFault::MEMORY,

@@ -9,7 +9,7 @@ ghost use Rattle.swift_script.specs.Script.{ScriptTree};
 ghost use Rattle.swift_script.specs.Scripts.{tree_of};
 ghost use Rattle.swift_script.specs.Accepted.{SpellsDecls, IsAccepted};
 ghost use Rattle.swift_script.specs.Refuses.{Refuses};
-ghost use Rattle.swift_script.specs.Answers.{IsReadAs};
+ghost use Rattle.swift_script.specs.Answers.{IsPlaced, IsReadAs};
 
 use crate::compile::{compile, root_methods};
 use crate::fault::{ScriptFault, ScriptFaultKind};
@@ -33,8 +33,10 @@ pub fn read(alloc: Global, bytes: &[u8]) -> Result<Script, ScriptFault>
     ensures found { IfOk result (λ s. IsAccepted bytes.now (tree_of s)) }
     // What is accepted is read, unless memory runs out.
     ensures accepted { (tree : ScriptTree) → IsAccepted bytes.now tree → IsReadAs tree result }
-    // Each refusal stands for its own cause.
+    // Each refusal stands for its own cause, and for none that is looked for before it.
     ensures refused { IfErr result (λ e. Refuses e.kind bytes.now) }
+    // Want of memory stands on line 0.
+    ensures placed { IfErr result IsPlaced }
 {
     accept(alloc, bytes)
 }
@@ -42,6 +44,7 @@ pub fn read(alloc: Global, bytes: &[u8]) -> Result<Script, ScriptFault>
 fn accept(alloc: Global, text: &[u8]) -> Result<Script, ScriptFault>
     ensures found { IfOk result (λ s. IsAccepted text.now (tree_of s)) }
     ensures refused { IfErr result (λ e. Refuses e.kind text.now) }
+    ensures placed { IfErr result IsPlaced }
 {
     let Spelled { decls, lines } = spell(alloc, text)?;
     let declared = named(alloc, &decls, &lines)?;
@@ -63,6 +66,7 @@ fn build(
     requires directory { declared.now ≡ directory_of (map view_decl decls.items) }
     ensures found { IfOk result (λ s. IsAccepted text.now (tree_of s)) }
     ensures refused { IfErr result (λ e. Refuses e.kind text.now) }
+    ensures placed { IfErr result IsPlaced }
 {
     let (actors, roots) = split(alloc, decls)?;
     let compiled = compile(alloc, declared, &actors)?;

@@ -6,6 +6,7 @@ ghost use Rattle.swift_tokens.specs.Lexes.{Lexes};
 ghost use Rattle.swift_tokens.specs.Pieces.{piece};
 ghost use Rattle.swift_grammar.specs.Tree.{view_decl};
 ghost use Rattle.swift_script.specs.Accepted.{SpellsDecls};
+ghost use Rattle.swift_script.specs.Answers.{IsPlaced};
 ghost use Rattle.swift_script.specs.Refuses.{Refuses, grammar_kind, read_kind};
 
 use crate::fault::{ScriptFault, ScriptFaultKind};
@@ -30,6 +31,7 @@ pub(crate) fn spell(alloc: Global, text: &[u8]) -> Result<Spelled, ScriptFault>
     ensures plain { IfOk result (λ s. is_text text.now ≡ true) }
     ensures spelled { IfOk result (λ s. SpellsDecls 32 text.now (map view_decl s.decls.items)) }
     ensures refused { IfErr result (λ e. Refuses e.kind text.now) }
+    ensures placed { IfErr result IsPlaced }
 {
     if text.len() > LONGEST {
         return Err(fault(1, ScriptFaultKind::LimitPassed));
@@ -45,9 +47,12 @@ pub(crate) fn spell(alloc: Global, text: &[u8]) -> Result<Spelled, ScriptFault>
 
 // The declarations that a text's tokens spell.
 fn parse(alloc: Global, text: &[u8], found: Tokens) -> Result<Spelled, ScriptFault>
-    requires { Lexes text.now (map piece found.tokens.items) }
+    requires short { length text.now ≤ 65536 }
+    requires plain { is_text text.now ≡ true }
+    requires lexed { Lexes text.now (map piece found.tokens.items) }
     ensures spelled { IfOk result (λ s. SpellsDecls 32 text.now (map view_decl s.decls.items)) }
     ensures refused { IfErr result (λ e. Refuses e.kind text.now) }
+    ensures placed { IfErr result IsPlaced }
 {
     let Tokens {
         tokens,
@@ -62,7 +67,8 @@ fn parse(alloc: Global, text: &[u8], found: Tokens) -> Result<Spelled, ScriptFau
 }
 
 fn refusal(lines: &Lines, error: ReadError) -> ScriptFault
-    ensures { result.kind ≡ read_kind error }
+    ensures kind { result.kind ≡ read_kind error }
+    ensures placed { IsPlaced result }
 {
     match error {
         ReadError::Memory => ScriptFault::MEMORY,

@@ -24,13 +24,14 @@ fn refused(rt: &impl Abort, alloc: Global, rows: &[(&str, &str)]) -> Result<(), 
     Ok(())
 }
 
-/// Each text is accepted.
+/// Each text is accepted, and so is what is printed of it, as the same script.
 fn accepted(rt: &impl Abort, alloc: Global, rows: &[&str]) -> Result<(), Fail> {
     for text in rows {
         match read(alloc, text.as_bytes()) {
             Ok(_) => {}
             Err(fault) => assert!(rt; false, "{text}: {fault}"),
         }
+        let _ = printing::printed_again(rt, alloc, text)?;
     }
     Ok(())
 }

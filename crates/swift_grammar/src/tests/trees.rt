@@ -25,6 +25,18 @@ root b = Acc . take ( ) at medium ;
 ",
         ),
         (
+            "actor Acc { var bal = 10; invariant bal >= 0; func take(k) { bal = bal - k; return bal; } } root a = Acc.take(11);",
+            "actor Acc { var bal = 10 ; invariant ( bal >= 0 ) ; func take ( k ) { bal = ( bal - k ) ; return bal ; } }
+root a = Acc . take ( 11 ) at medium ;
+",
+        ),
+        (
+            "actor A { var x = 9223372036854775807; func up() { x = x + 1; return x; } } root a = A.up();",
+            "actor A { var x = 9223372036854775807 ; func up ( ) { x = ( x + 1 ) ; return x ; } }
+root a = A . up ( ) at medium ;
+",
+        ),
+        (
             "root d = A.f(1, -2, 003) at background;root c = A.f() at low; root b = A.f(- 0) at medium; root a = A.f(0) at high;",
             "root d = A . f ( 1 , -2 , 3 ) at background ;
 root c = A . f ( ) at low ;

@@ -15,7 +15,7 @@ pub returns-in-Some-clause-refused : goal.returns-in-Some-clause-refused
 returns-in-Some-clause-refused c =
     subst (λ (k : ScriptFaultKind). Refuses k c.args.text.now) (sym c.fault.ensures)
     (starts_false c.args.text.now (map view_decl c.args.decls.items) c.in_ok-actors.actors.items c.deref.result.now c.in_ok-compiled.compiled.actors.items c.deref-2.result.now
-    c.deref.ensures.value c.deref-2.ensures.value c.requires.spelled c.in_ok-actors.ensures.actors c.in_ok-compiled.ensures.actors c.in-Some.ensures.some)
+    c.deref.ensures.value c.deref-2.ensures.value (record { short = c.requires.short; bytes = c.requires.plain }) c.requires.spelled c.requires.names c.in_ok-actors.ensures.actors c.in_ok-compiled.ensures.actors c.in-Some.ensures.some)
 
 pub of-requires : goal.of-requires
 of-requires c =

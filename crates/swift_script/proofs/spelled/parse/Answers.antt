@@ -9,5 +9,5 @@ use Rattle.swift_script.proofs.spelled.parse.Goals as goal
 pub returns-clause-refused : goal.returns-clause-refused
 returns-clause-refused c =
     let none : NoneSpelled (map piece c.args.found.tokens.items) c.in-Err.error = rw (← c.deref.ensures.value) c.in-Err.ensures.refused in
-    subst (λ (k : ScriptFaultKind). Refuses k c.args.text.now) (sym c.refusal.ensures)
-    (refuses_read c.args.text.now (map piece c.args.found.tokens.items) c.in-Err.error c.requires none)
+    subst (λ (k : ScriptFaultKind). Refuses k c.args.text.now) (sym c.refusal.ensures.kind)
+    (refuses_read c.args.text.now (map piece c.args.found.tokens.items) c.in-Err.error (record { short = c.requires.short; bytes = c.requires.plain }) c.requires.lexed none)
