@@ -1,8 +1,8 @@
 -- What a script's names stand for: fields and variables by their places, actors and methods by their numbers.
 use Rattle.std.specs.Prelude.{ℕ, ◌+◌, max, List, length, map, Option, Some, None, if◌then◌else◌}
 use Rattle.swift_grammar.specs.Tree.{Tree, Number, Named, Negated, Inverted, Both, WaitTree, ValueTree, Computed, Awaited, Step, Defines, Assigns, Awaits, Tests, Chooses, Repeats, Returns, Throws, Yields, Steps, nothing, first_then}
-use Rattle.swift_names.specs.Texts.{is_among, place_of, qualified}
-use Rattle.swift_names.specs.Directory.{Directory}
+use Rattle.swift_names.specs.Texts.{is_among, place_of}
+use Rattle.swift_names.specs.Directory.{Directory, method_place}
 use Rattle.swift_names.specs.Rules.{variables_behind}
 use Rattle.swift_lines.specs.declared.line.Place.{Place}
 use Rattle.swift_lines.specs.declared.line.Place.TheVariants.{Variable, Field}
@@ -38,7 +38,7 @@ set_at (Field k) t rest = set_field k t rest
 -- an awaited call, whose value goes to a place, if there is one
 abbrev pub call_to : Directory → List (List ℕ) → List (List ℕ) → Option Place → WaitTree → Code → Code
 call_to d fields variables place w rest =
-    call (place_of d.actors w.call.actor) (place_of d.methods (qualified w.call.actor w.call.method))
+    call (place_of d.actors w.call.actor) (method_place d w.call.actor w.call.method)
     (map (lowered fields variables) w.call.args) place (lowered_if fields variables w.other) rest
 
 abbrev pub value_to : Directory → List (List ℕ) → List (List ℕ) → Place → ValueTree → Code → Code

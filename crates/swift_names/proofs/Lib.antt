@@ -1,4 +1,3 @@
 pub mod Keys
 pub mod Roots
-pub mod Qualified
 pub mod LeftOut

@@ -1,4 +1,5 @@
 pub mod Texts
+pub mod Methods
 pub mod Directory
 pub mod Rules
 pub mod Finds

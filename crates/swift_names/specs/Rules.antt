@@ -1,11 +1,10 @@
 -- The rules on names and counts: the first fault of a script, in order of place in its text.
 use Rattle.std.specs.Prelude.{ℕ, Bool, true, false, ◌||◌, ◌==◌, nat_lt, if◌then◌else◌, Option, Some, None, List, [], ◌∷◌, ◌++◌, length, map}
-use Rattle.std.specs.Prelude.{slice_get, unwrap_or}
 use Rattle.swift_grammar.specs.Tree.{Tree, Number, Named, Negated, Inverted, Both, WaitTree, ValueTree, Computed, Awaited, Step, Defines, Assigns, Awaits, Tests, Chooses, Repeats, Returns, Throws, Yields, Steps, nothing, first_then, steps_of, FieldTree, MethodTree, ActorTree, RootTree, DeclTree, Acts, Roots}
 use Rattle.swift_names.specs.declared.misuse.Misuse.{Misuse}
 use Rattle.swift_names.specs.declared.misuse.Misuse.TheVariants.{Twice, Unknown, Arguments, TooMany}
-use Rattle.swift_names.specs.Texts.{is_among, place_of, qualified}
-use Rattle.swift_names.specs.Directory.{Directory, directory_of}
+use Rattle.swift_names.specs.Texts.{is_among}
+use Rattle.swift_names.specs.Directory.{Directory, has_method, arity_of, directory_of}
 
 -- the earlier of two faults
 abbrev pub earlier : Option Misuse → Option Misuse → Option Misuse
@@ -21,17 +20,11 @@ where_so false m = None
 abbrev pub is_standing : List (List ℕ) → List (List ℕ) → List ℕ → Bool
 is_standing fields variables name = is_among fields name || is_among variables name
 
--- how many parameters a method of the directory has
-abbrev pub arity_of : Directory → List ℕ → ℕ
-arity_of d method = unwrap_or (slice_get d.params (place_of d.methods method)) 0
-
 -- A call names an actor, one of its methods, and as many arguments as that has parameters.
 abbrev pub call_fault : Directory → List ℕ → List ℕ → ℕ → Option Misuse
 call_fault d actor method count =
-    if is_among d.actors actor
-    then (if is_among d.methods (qualified actor method)
-    then (if arity_of d (qualified actor method) == count then None else Some Arguments)
-    else Some Unknown)
+    if has_method d actor method
+    then (if arity_of d actor method == count then None else Some Arguments)
     else Some Unknown
 
 -- Each name of an expression stands there.

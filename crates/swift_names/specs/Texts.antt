@@ -4,8 +4,11 @@ use Rattle.std.specs.Global.{Vec}
 use Rattle.std.specs.List.{list_any, position_or_len}
 use Rattle.std.specs.Str.{bytes_eq}
 
+abbrev pub text_is : Vec ℕ → List ℕ
+text_is v = v.items
+
 abbrev pub texts_of : List (Vec ℕ) → List (List ℕ)
-texts_of vs = map (λ v. v.items) vs
+texts_of vs = map text_is vs
 
 -- whether a name is one of these
 abbrev pub is_among : List (List ℕ) → List ℕ → Bool
@@ -18,7 +21,3 @@ place_of names name = position_or_len (bytes_eq name) names
 -- the names, with one at the end where it is new
 abbrev pub with_name : List (List ℕ) → List ℕ → List (List ℕ)
 with_name names name = if is_among names name then names else names ++ name ∷ []
-
--- an actor's method, by a name of its own: a name contains no dot
-abbrev pub qualified : List ℕ → List ℕ → List ℕ
-qualified actor method = actor ++ 46 ∷ method

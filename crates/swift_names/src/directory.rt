@@ -2,22 +2,25 @@
 
 ghost use Rattle.std.specs.Prelude.{◌≡◌, ◌<◌, ◌++◌, [], is_some, length, map, slice_get, if◌then◌else◌, IfOk, IfErr, IfSome, OnOk};
 ghost use Rattle.swift_grammar.specs.Tree.{text_of, view_method, view_actor, view_decl};
-ghost use Rattle.swift_names.specs.Texts.{is_among, place_of, with_name, qualified};
-ghost use Rattle.swift_names.specs.Directory.{Directory, with_method, with_methods, with_actor, directory_of};
+ghost use Rattle.swift_names.specs.Texts.{is_among, place_of};
+ghost use Rattle.swift_names.specs.Directory.{Directory, has_method, method_place, with_method, with_methods, with_actor, directory_of};
 ghost use Rattle.swift_names.specs.Rules.{call_fault};
 ghost use Rattle.swift_names.specs.Finds.{Finds, StandsAt};
 
+use crate::methods::Methods;
 use crate::misuse::{Misuse, NamesError, fault_at};
-use crate::texts::{Names, qualified_name};
+use crate::texts::Names;
 use std::alloc::{AllocError, Global};
 use std::marker::Model;
 use swift_grammar::{Actor, Decl, Method, Name};
 
-/// The actors of a script and their methods, wherever in the text they stand. Of two of one name the first one counts.
+/// The actors of a script and their methods, wherever in the text they stand. Of two of one name the first one counts; a
+/// second actor of a name adds nothing, its methods neither. A method is kept under its actor's place and its own name, so
+/// memory is linear in the names of the text (our own).
 #[derive(Drop)]
 pub struct Declared {
     actors: Names,
-    methods: Names,
+    methods: Methods,
     params: Vec<usize>,
 }
 
@@ -30,13 +33,13 @@ impl Model for Declared {
 }
 
 impl Declared {
-    /// What a script declares, in time linear in its actors and methods.
+    /// What a script declares, in time and memory linear in its declarations and the names of its actors and methods.
     pub fn of(alloc: Global, decls: &[Decl]) -> Result<Declared, AllocError>
         ensures { IfOk result (λ d. d ≡ directory_of (map view_decl decls.now)) }
     {
         let mut declared = Declared {
             actors: Names::new(alloc),
-            methods: Names::new(alloc),
+            methods: Methods::new(alloc),
             params: Vec::new(alloc),
         };
         for decl in decls {
@@ -57,19 +60,22 @@ impl Declared {
         self.actors.place(name)
     }
 
-    /// The place of an actor's method among the methods of all actors. `Err` says that there was no memory.
+    /// The place of an actor's method among the methods of all actors, in time linear in both names. `Err` says that there
+    /// was no memory.
     pub fn method(
         &self,
         alloc: Global,
         actor: &[u8],
         method: &[u8],
     ) -> Result<Option<usize>, AllocError>
-        ensures found { IfOk result (λ o. is_some o ≡ is_among self.now.methods (qualified actor.now method.now)) }
-        ensures place { IfOk result (λ o. IfSome o (λ n. n ≡ place_of self.now.methods (qualified actor.now method.now))) }
+        ensures found { IfOk result (λ o. is_some o ≡ has_method self.now actor.now method.now) }
+        ensures place { IfOk result (λ o. IfSome o (λ n. n ≡ method_place self.now actor.now method.now)) }
         ensures within { IfOk result (λ o. IfSome o (λ n. n < length self.now.methods)) }
     {
-        let name = qualified_name(alloc, actor, method)?;
-        Ok(self.methods.place(&name))
+        match self.actors.place(actor) {
+            Some(place) => self.methods.place(alloc, place, method),
+            None => Ok(None),
+        }
     }
 
     /// How many parameters the method at a place has.
@@ -91,10 +97,10 @@ impl Declared {
         ensures finds { Finds result (call_fault self.now (text_of actor.now) (text_of method.now) count) }
         ensures place { IfErr result (λ e. StandsAt e (if is_among self.now.actors (text_of actor.now) then method.now.left else actor.now.left)) }
     {
-        if self.actor(&actor.text).is_none() {
+        let Some(actor_place) = self.actor(&actor.text) else {
             return Err(fault_at(Misuse::Unknown, actor));
-        }
-        let Some(place) = self.method(alloc, &actor.text, &method.text)? else {
+        };
+        let Some(place) = self.methods.place(alloc, actor_place, &method.text)? else {
             return Err(fault_at(Misuse::Unknown, method));
         };
         if self.parameters(place).unwrap_or(0) == count {
@@ -107,17 +113,22 @@ impl Declared {
     fn add_actor(&mut self, alloc: Global, actor: &Actor) -> Result<(), AllocError>
         ensures { OnOk result (self.new ≡ with_actor (view_actor actor.now) self.old) }
     {
-        self.actors.add(alloc, &actor.name.text)?;
-        self.add_methods(alloc, &actor.name.text, &actor.methods)
+        let name = &actor.name.text;
+        if self.actors.contains(name) {
+            return Ok(());
+        }
+        let place = self.actors.len();
+        self.actors.add(alloc, name)?;
+        self.add_methods(alloc, place, &actor.methods)
     }
 
     fn add_methods(
         &mut self,
         alloc: Global,
-        actor: &[u8],
+        actor: usize,
         methods: &[Method],
     ) -> Result<(), AllocError>
-        ensures { OnOk result (self.new ≡ with_methods actor.now (map view_method methods.now) self.old) }
+        ensures { OnOk result (self.new ≡ with_methods actor (map view_method methods.now) self.old) }
     {
         for method in methods {
             self.add_method(alloc, actor, method)?;
@@ -125,15 +136,12 @@ impl Declared {
         Ok(())
     }
 
-    fn add_method(&mut self, alloc: Global, actor: &[u8], method: &Method) -> Result<(), AllocError>
-        ensures { OnOk result (self.new ≡ with_method actor.now (view_method method.now) self.old) }
+    fn add_method(&mut self, alloc: Global, actor: usize, method: &Method) -> Result<(), AllocError>
+        ensures { OnOk result (self.new ≡ with_method actor (view_method method.now) self.old) }
     {
-        let name = qualified_name(alloc, actor, &method.name.text)?;
-        if self.methods.contains(&name) {
-            return Ok(());
+        if self.methods.add(alloc, actor, &method.name.text)? {
+            self.params.push(method.params.len())?;
         }
-        self.methods.add(alloc, &name)?;
-        self.params.push(method.params.len())?;
         Ok(())
     }
 }

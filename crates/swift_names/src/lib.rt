@@ -9,6 +9,8 @@ mod directory;
 mod expressions;
 // What holds of the definitions.
 mod laws;
+// The methods of all actors.
+mod methods;
 // What is wrong with a name.
 mod misuse;
 // Statements.

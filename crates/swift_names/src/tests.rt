@@ -238,6 +238,39 @@ fn calls(rt: HostRuntime) -> Result<(), Fail> {
             "g(x, y) { } }",
             Misuse::Twice,
         ),
+        // Of two actors of one name too: the methods of the second are no one's.
+        (
+            "root a = A.",
+            "g();\nactor A { }\nactor A { func g() { } }",
+            Misuse::Unknown,
+        ),
+        (
+            "actor A { func f() { await A.",
+            "g(); } }\nactor A { func g() { } }",
+            Misuse::Unknown,
+        ),
+        // And where both have a method of one name.
+        (
+            "root a = A.",
+            "g(1); actor A { func g() { } } actor A { func g(x) { } }",
+            Misuse::Arguments,
+        ),
+        (
+            "root a = A.g(); actor A { func g() { } } actor ",
+            "A { func g(x) { } }",
+            Misuse::Twice,
+        ),
+        // Methods of one name in two actors.
+        (
+            "actor A { func f() { } } actor B { func f(x) { await A.f(); await B.f(x); await A.",
+            "f(x); } }",
+            Misuse::Arguments,
+        ),
+        (
+            "actor A { func f() { } } actor B { func f(x) { } } root a = A.f(); root b = B.f(1); root c = B.",
+            "f();",
+            Misuse::Arguments,
+        ),
     ];
     refused(&rt, rt.alloc(), rows.as_slice())
 }
@@ -257,7 +290,8 @@ fn in_order(rt: HostRuntime) -> Result<(), Fail> {
          actor B { var n = -1; invariant n < 0 && ! (n == 0); func g(x, y) { return x + y - n; }
          func h(x) { yield; throw x; } }",
         // Methods of one name in two actors.
-        "actor A { func f() { } } actor B { func f(x) { await A.f(); await B.f(x); } }",
+        "actor A { func f() { } } actor B { func f(x) { await A.f(); await B.f(x); } }
+         root a = A.f(); root b = B.f(1);",
         "actor A { var n = 0; func f(x) { n = x; let y = n; if y { y = n; return y; } } }",
     ];
     accepted(&rt, rt.alloc(), rows.as_slice())
@@ -341,6 +375,34 @@ fn directory(rt: HostRuntime) -> Result<(), Fail> {
         }
         assert_eq!(rt; declared.parameters(4), None);
     }
+    Ok(())
+}
+
+/// A second actor of a name adds nothing, and those behind it have the places that they would have without it.
+#[test]
+fn directory_of_two_of_one_name(rt: HostRuntime) -> Result<(), Fail> {
+    let alloc = rt.alloc();
+    let text = b"actor A { func f() { } func f(x) { } } actor A { func f(x, y) { } func g() { } }
+                 actor B { func g(x) { } }";
+    let decls = declarations(alloc, &tokens(alloc, text)?.tokens)?;
+    let declared = Declared::of(alloc, &decls)?;
+    assert_eq!(rt; declared.actor(b"A"), Some(0));
+    assert_eq!(rt; declared.actor(b"B"), Some(1));
+    let rows = [
+        (b"A", b"f", Some(0), Some(0)),
+        (b"A", b"g", None, None),
+        (b"B", b"f", None, None),
+        (b"B", b"g", Some(1), Some(1)),
+    ];
+    for (actor, method, place, parameters) in rows {
+        let found = declared.method(alloc, actor, method)?;
+        assert_eq!(rt; found, place);
+        assert_eq!(rt;
+            found.and_then(|place| declared.parameters(place)),
+            parameters
+        );
+    }
+    assert_eq!(rt; declared.parameters(2), None);
     Ok(())
 }
 

@@ -1,7 +1,7 @@
 //! Lists of names without repeats, in which a name is found by its hash.
 
 ghost use Rattle.std.specs.Prelude.{◌≡◌, ◌<◌, [], is_some, length, take, IfOk, IfSome, OnOk, OnErr};
-ghost use Rattle.swift_names.specs.Texts.{is_among, place_of, with_name, qualified};
+ghost use Rattle.swift_names.specs.Texts.{is_among, place_of, with_name};
 
 use indexmap::IndexSet;
 use std::alloc::{AllocError, Global};
@@ -70,19 +70,4 @@ impl Names {
     {
         self.set.truncate(len);
     }
-}
-
-/// The name of an actor's method among the methods of all actors.
-pub(crate) fn qualified_name(
-    alloc: Global,
-    actor: &[u8],
-    method: &[u8],
-) -> Result<Vec<u8>, AllocError>
-    ensures { IfOk result (λ v. v.items ≡ qualified actor.now method.now) }
-{
-    let mut name = Vec::with_capacity(alloc, actor.len() + 1 + method.len())?;
-    name.extend_from_slice(actor)?;
-    name.push(b'.')?;
-    name.extend_from_slice(method)?;
-    Ok(name)
 }

@@ -3,8 +3,7 @@ use Rattle.std.specs.Prelude.{if◌then◌else◌}
 use Rattle.std.proofs.Common.{◌≡◌, ℕ, Bool, true, false, Option, Some, None, List, [], ◌∷◌, ◌++◌, length, refl}
 use Rattle.swift_grammar.specs.Tree.{MethodTree, ActorTree, DeclTree, Acts, Roots, steps_of}
 use Rattle.swift_names.specs.declared.misuse.Misuse.{Misuse}
-use Rattle.swift_names.specs.Texts.{is_among, qualified}
-use Rattle.swift_names.specs.Directory.{Directory, with_decl, with_decls}
+use Rattle.swift_names.specs.Directory.{Directory, has_method, with_decl, with_decls}
 use Rattle.swift_names.specs.Rules.{earlier, call_fault, parameters_fault, statements_fault, fields_fault, field_names, optional_fault, method_fault, methods_fault, actor_fault, root_fault, declarations_fault}
 use Rattle.swift_script.specs.Script.{actors_in, roots_in}
 use Rattle.swift_script.specs.Scripts.{with_actors}
@@ -30,10 +29,9 @@ actor_fine d seen a e =
     let four = earlier_none (optional_fault (field_names a.fields) [] a.invariant) (methods_fault d (field_names a.fields) [] a.methods) three.1 in
     (three.0, methods_fine d (field_names a.fields) [] a.methods four.1)
 
-call_known : (actors methods : Bool) (rest : Option Misuse) (m n : Misuse) → (if actors then (if methods then rest else Some m) else Some n) ≡ None → methods ≡ true
-call_known true true rest m n e = refl
-call_known true false rest m n e = absurd cc
-call_known false methods rest m n e = absurd cc
+call_known : (known : Bool) (rest : Option Misuse) (m : Misuse) → (if known then rest else Some m) ≡ None → known ≡ true
+call_known true rest m e = refl
+call_known false rest m e = absurd cc
 
 pub names_fine : (d : Directory) (actors roots : List (List ℕ)) (xs : List DeclTree) → declarations_fault d actors roots xs ≡ None → ActorsFine d (actors_in xs) × RootsFine d (roots_in xs)
 names_fine d actors roots [] e = (tt, tt)
@@ -46,7 +44,7 @@ names_fine d actors roots (Roots r ∷ xs) e =
     let one = earlier_none _ _ both.0 in
     let two = earlier_none _ (call_fault d r.actor r.method (length r.args)) one.1 in
     let others = names_fine d actors (roots ++ r.name ∷ []) xs both.1 in
-    (others.0, (call_known (is_among d.actors r.actor) (is_among d.methods (qualified r.actor r.method)) _ _ _ two.1, others.1))
+    (others.0, (call_known (has_method d r.actor r.method) _ _ two.1, others.1))
 
 -- what a script declares is what its actors declare
 pub directory_by_actors : (xs : List DeclTree) (d : Directory) → with_decls xs d ≡ with_actors (actors_in xs) d

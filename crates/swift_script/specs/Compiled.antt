@@ -5,8 +5,7 @@ use Rattle.swift_lines.specs.Tree.{Term, term_if}
 use Rattle.swift_lines.specs.Flat.{Meaning, meaning_of, flat_method}
 use Rattle.swift_types.specs.declared.id.MethodId.{MethodId}
 use Rattle.swift_grammar.specs.Tree.{ActorTree, RootTree}
-use Rattle.swift_names.specs.Texts.{place_of, qualified}
-use Rattle.swift_names.specs.Directory.{Directory}
+use Rattle.swift_names.specs.Directory.{Directory, method_place}
 use Rattle.swift_script.specs.declared.compiled.CompiledMethod.{CompiledMethod}
 use Rattle.swift_script.specs.declared.compiled.CompiledActor.{CompiledActor}
 use Rattle.swift_script.specs.Script.{start_of, invariant_of}
@@ -41,7 +40,7 @@ compiled_actor a = record { start = start_of a; invariant = invariant_of a }
 
 -- the number of the method that a root calls
 abbrev pub root_number : Directory → RootTree → ℕ
-root_number d r = place_of d.methods (qualified r.actor r.method)
+root_number d r = method_place d r.actor r.method
 
 abbrev pub number_is : MethodId → ℕ
 number_is m = m.0

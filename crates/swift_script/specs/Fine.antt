@@ -1,8 +1,7 @@
 -- The rules on names, actor by actor and method by method.
 use Rattle.std.specs.Prelude.{◌≡◌, ℕ, true, None, List, [], ◌∷◌}
 use Rattle.swift_grammar.specs.Tree.{MethodTree, ActorTree, RootTree, steps_of}
-use Rattle.swift_names.specs.Texts.{is_among, qualified}
-use Rattle.swift_names.specs.Directory.{Directory}
+use Rattle.swift_names.specs.Directory.{Directory, has_method}
 use Rattle.swift_names.specs.Rules.{parameters_fault, statements_fault, fields_fault, field_names}
 
 -- the names of a method are in order
@@ -24,4 +23,4 @@ ActorsFine d (a ∷ others) = ActorFine d a × (ActorsFine d others)
 -- a root calls a method that is declared
 abbrev pub RootsFine : Directory → List RootTree → Type 0
 RootsFine d [] = Unit {0}
-RootsFine d (r ∷ rs) = (is_among d.methods (qualified r.actor r.method) ≡ true) × (RootsFine d rs)
+RootsFine d (r ∷ rs) = (has_method d r.actor r.method ≡ true) × (RootsFine d rs)

@@ -5,8 +5,7 @@ use Rattle.swift_types.specs.declared.priority.Priority.TheVariants.{Medium}
 use Rattle.swift_grammar.specs.Tree.{FieldTree, MethodTree, ActorTree, RootTree, view_actor, view_root, steps_of}
 use Rattle.swift_grammar.specs.declared.declared.Actor.{Actor}
 use Rattle.swift_grammar.specs.declared.declared.Root.{Root}
-use Rattle.swift_names.specs.Texts.{place_of, qualified}
-use Rattle.swift_names.specs.Directory.{Directory, with_actor}
+use Rattle.swift_names.specs.Directory.{Directory, with_actor, method_place}
 use Rattle.swift_names.specs.Rules.{field_names}
 use Rattle.swift_lines.specs.Tree.{Term, Code, end}
 use Rattle.swift_lowering.specs.Lowered.{code_of, most_of}
@@ -115,7 +114,7 @@ root_count p = length p.roots
 
 abbrev pub root_method_if : Directory → Option RootTree → ℕ
 root_method_if d None = 0
-root_method_if d (Some r) = place_of d.methods (qualified r.actor r.method)
+root_method_if d (Some r) = method_place d r.actor r.method
 
 -- the number of the method that a root calls
 abbrev pub root_method : Parts → ℕ → ℕ

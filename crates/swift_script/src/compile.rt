@@ -4,7 +4,7 @@ ghost use Rattle.std.specs.Prelude.{◌≡◌, ◌++◌, [], true, map, IfOk, On
 ghost use Rattle.swift_grammar.specs.Tree.{text_of, view_field, view_invariant, view_method, view_actor, view_root};
 ghost use Rattle.swift_lines.specs.Tree.{term_if};
 ghost use Rattle.swift_lowering.specs.Lowered.{lowered_if};
-ghost use Rattle.swift_names.specs.Texts.{is_among, qualified};
+ghost use Rattle.swift_names.specs.Directory.{has_method};
 ghost use Rattle.swift_names.specs.Rules.{field_names};
 ghost use Rattle.swift_script.specs.Scripts.{entries_of, entries_in};
 ghost use Rattle.swift_script.specs.Compiled.{method_is, compiled_of, actor_is, compiled_actor, number_is, root_number};
@@ -135,7 +135,7 @@ pub(crate) fn compile(
 }
 
 fn root_method(alloc: Global, declared: &Declared, root: &Root) -> Result<MethodId, AllocError>
-    requires { is_among declared.now.methods (qualified (text_of root.now.actor) (text_of root.now.method)) ≡ true }
+    requires { has_method declared.now (text_of root.now.actor) (text_of root.now.method) ≡ true }
     ensures { IfOk result (λ m. m.0 ≡ root_number declared.now (view_root root.now)) }
 {
     let Some(place) = declared.method(alloc, &root.actor.text, &root.method.text)? else {
