@@ -187,8 +187,8 @@ impl Script {
     }
 
     /// Whether two scripts have equal trees: they declare the same, whatever their spaces, comments, redundant
-    /// parentheses, and the order of actors against roots. Scripts of one text are told at once, others in time linear
-    /// in them.
+    /// parentheses, and the order of actors against roots. Scripts of one text are told without a look at their trees.
+    /// Linear in the texts and the trees.
     pub fn says_the_same(&self, other: &Script) -> bool
         ensures { IsTrue result ↔ (tree_of self.now ≡ tree_of other.now) }
     {
