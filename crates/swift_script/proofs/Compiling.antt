@@ -1,15 +1,17 @@
--- One more actor, as it is compiled.
-use Rattle.std.proofs.Common.{◌≡◌, ℕ, zero, suc, ◌+◌, ◌<◌, List, [], ◌∷◌, ◌++◌, length, map, drop, get_or, add-one, sym, ap, subst, ◌∙◌, append_assoc, arith}
+-- One more actor or root, as it is compiled.
+use Rattle.std.proofs.Common.{◌≡◌, ℕ, zero, suc, ◌+◌, ◌<◌, true, List, [], ◌∷◌, ◌++◌, length, map, drop, get_or, add-one, sym, ap, subst, ◌∙◌, append_assoc, arith}
 use Rattle.std.proofs.lemmas.List.{map_push, map-append}
 use Rattle.swift_grammar.specs.declared.declared.Actor.{Actor}
-use Rattle.swift_grammar.specs.Tree.{view_actor}
-use Rattle.swift_names.specs.Directory.{Directory}
+use Rattle.swift_grammar.specs.declared.declared.Root.{Root}
+use Rattle.swift_grammar.specs.Tree.{view_actor, view_root}
+use Rattle.swift_names.specs.Directory.{Directory, has_method}
 use Rattle.swift_names.specs.Rules.{field_names}
+use Rattle.swift_types.specs.declared.id.MethodId.{MethodId}
 use Rattle.swift_script.specs.declared.compiled.CompiledMethod.{CompiledMethod}
 use Rattle.swift_script.specs.declared.compiled.CompiledActor.{CompiledActor}
 use Rattle.swift_script.specs.Scripts.{entries_of, entries_from}
-use Rattle.swift_script.specs.Compiled.{MethodIs, method_is, compiled_of, ActorIs, actor_is, compiled_actor}
-use Rattle.swift_script.specs.Fine.{ActorsFine}
+use Rattle.swift_script.specs.Compiled.{MethodIs, method_is, compiled_of, ActorIs, actor_is, compiled_actor, number_is, root_number}
+use Rattle.swift_script.specs.Fine.{ActorsFine, RootsFine}
 
 pub cut : {A : Type 0} (xs : List A) (k : ℕ) (x : A) → k < length xs → x ≡ get_or xs k x → drop k xs ≡ x ∷ drop (suc k) xs
 cut [] k x lt e = absurd (omega arith)
@@ -43,3 +45,21 @@ one_more d actors k a done more c ms ns all whole lt is fine soon later compiled
     ∙ ap (λ (xs : List MethodIs). map method_is ms ++ xs) (sym (map-append (compiled_of d) here behind))
     ∙ ap (λ (xs : List Actor). map method_is ms ++ map (compiled_of d) (entries_from k (map view_actor xs))) (sym front) ∙ later in
     (fines.1, actors_so, methods_so)
+
+root_first : (roots : List Root) (k : ℕ) (r : Root) → k < length roots → r ≡ get_or roots k r → drop k roots ≡ r ∷ drop (k + 1) roots
+root_first roots k r lt is = cut roots k r lt is ∙ ap (λ (n : ℕ). r ∷ drop n roots) (sym (add-one k))
+
+-- the next root calls a method, and so do those behind it
+pub root_fine : (d : Directory) (roots : List Root) (k : ℕ) (r : Root) → k < length roots → r ≡ get_or roots k r → RootsFine d (map view_root (drop k roots))
+    → (has_method d (view_root r).actor (view_root r).method ≡ true) × RootsFine d (map view_root (drop (k + 1) roots))
+root_fine d roots k r lt is fine = subst (λ (xs : List Root). RootsFine d (map view_root xs)) (root_first roots k r lt is) fine
+
+pub one_root : (d : Directory) (roots : List Root) (k : ℕ) (r : Root) (done more : List MethodId) (m : MethodId) (whole : List ℕ) → k < length roots → r ≡ get_or roots k r
+    → map number_is done ++ map (root_number d) (map view_root (drop k roots)) ≡ whole → number_is m ≡ root_number d (view_root r) → more ≡ done ++ m ∷ []
+    → map number_is more ++ map (root_number d) (map view_root (drop (k + 1) roots)) ≡ whole
+one_root d roots k r done more m whole lt is soon compiled pushed =
+    let rest = map (root_number d) (map view_root (drop (k + 1) roots)) in
+    let one : map number_is more ≡ map number_is done ++ root_number d (view_root r) ∷ [] = ap (map number_is) pushed ∙ map_push number_is done m ∙ ap (λ (n : ℕ). map number_is done ++ n ∷ []) compiled in
+    ap (λ (ns : List ℕ). ns ++ rest) one
+    ∙ append_assoc (map number_is done) (root_number d (view_root r) ∷ []) rest
+    ∙ ap (λ (xs : List Root). map number_is done ++ map (root_number d) (map view_root xs)) (sym (root_first roots k r lt is)) ∙ soon
