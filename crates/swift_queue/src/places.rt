@@ -67,11 +67,11 @@ fn unlink(list: &mut LinkedList<Entry>, at: usize) -> LinkedList<Entry>
     one
 }
 
-/// What a task's number is multiplied by, so that tasks whose numbers rise by equal steps are spread: 2^64 by the
+/// What a task's number is multiplied by, so that numbers that rise by equal steps are spread: 2^64 divided by the
 /// golden ratio.
 const SPREAD: u64 = 0x9E37_79B9_7F4A_7C15;
 
-/// The bucket of a task, of this many.
+/// The bucket of a task, of so many buckets.
 #[tactic(auto, unfolding(crate::specs::Places::hash))]
 fn bucket_of(count: usize, task: TaskId) -> usize
     requires { 0 < count }
@@ -99,7 +99,7 @@ fn lift(buckets: &mut [LinkedList<Entry>], task: TaskId) -> LinkedList<Entry>
     unlink(&mut buckets[bucket], at)
 }
 
-/// Writes a task and a place into a list of one entry, and adds that to the task's bucket.
+/// Writes a task that has no entry and its place into a list of one entry, and adds that to the task's bucket.
 fn file(buckets: &mut [LinkedList<Entry>], mut one: LinkedList<Entry>, task: TaskId, place: usize)
     requires missing { place_of buckets.old task ≡ None }
     requires some { 0 < length buckets.old }
@@ -123,13 +123,13 @@ fn file(buckets: &mut [LinkedList<Entry>], mut one: LinkedList<Entry>, task: Tas
     join(&mut buckets[bucket], one);
 }
 
-/// The place of each task's job, by hashing: an entry stands in the bucket that the task's number has, counted by
-/// the number of buckets, which is the room. In a clause it is the list of its buckets, each a list of entries, and
-/// the room.
+/// The place of each task's job, by hashing: the entry of a task stands in the bucket of its number. In a clause it is
+/// the list of its buckets, each a list of entries, and the room.
 ///
-/// All entries are made at the start. Those that are not in use stand in `spare`, and go from there to a bucket and
-/// back. So no call but `with_room` takes memory, and each takes constant time in expectation: it passes the entries
-/// of one bucket, which has one on the average or fewer.
+/// There are as many buckets as there is room for tasks, and at least one. All entries are made at the start: those
+/// not in use stand in `spare`, and go from there to a bucket and back, so that no call but `with_room` takes memory.
+/// Each call but that one passes the entries of one bucket, and beside that takes a constant number of steps. Where
+/// numbers are spread, a bucket has one entry on average, or fewer; at worst one bucket has all.
 #[derive(Drop)]
 pub(crate) struct Places {
     buckets: Vec<LinkedList<Entry>>,
