@@ -1,6 +1,6 @@
 -- The leaves of a tournament and the entries of the tasks, when keys are added, removed and changed.
-use Rattle.std.proofs.Common.{◌≡◌, ◌≢◌, ℕ, ◌+◌, ◌≤◌, ◌<◌, List, [], ◌∷◌, ◌++◌, Option, None, Some, IsSome, length, get_or, set, refl, ap, sym, subst, ◌∙◌, inl, inr, arith, length-append}
-use Rattle.std.proofs.lemmas.List.{get_or-set_same, get_or-set_other, get_or_default, get_or_append_left, get_or_push, length-set}
+use Rattle.std.proofs.Common.{◌≡◌, ◌≢◌, ℕ, ◌+◌, ◌≤◌, ◌<◌, List, [], ◌∷◌, ◌++◌, Option, None, Some, IsSome, length, get_or, set, replicate, refl, ap, sym, subst, ◌∙◌, inl, inr, arith, length-append}
+use Rattle.std.proofs.lemmas.List.{get_or-set_same, get_or-set_other, get_or_default, get_or_append_left, get_or_push, length-set, length-replicate, get_or-replicate}
 use Rattle.std.proofs.lemmas.Option.{same_Some}
 use Rattle.std.proofs.lemmas.Bool.{cases_eq, cases_lt}
 use Rattle.std.specs.List.{All, Contains}
@@ -11,7 +11,8 @@ use Rattle.swift_queue.specs.declared.places.Entry.{Entry}
 use Rattle.swift_queue.specs.declared.tournament.Contender.{Contender}
 use Rattle.swift_queue.specs.Keys.{contender}
 use Rattle.swift_queue.specs.KeysInside.{IsLeaves, IsListed}
-use Rattle.swift_queue.specs.Places.{place_in, place_of, Updates}
+use Rattle.swift_queue.specs.Places.{place_in, place_of, total, Updates}
+use Rattle.swift_queue.proofs.Entries.{none_inside}
 use Rattle.swift_queue.proofs.Removed.{SwapRemoves}
 use Rattle.swift_queue.specs.Tournament.{Beats, ComesFirst}
 
@@ -121,8 +122,28 @@ same_place i j e = same_Some i j e
 some_none : (o : Option ℕ) (i : ℕ) {P : Type 0} → o ≡ Some i → o ≡ None → P
 some_none o i e n = cc
 
+-- where there is no key
+pub leaves_empty : (f : Key → ℕ) (room : ℕ) (keys : List Key) (leaves : List (Option Contender)) → keys ≡ [] → leaves ≡ replicate room None → IsLeaves f room keys leaves
+leaves_empty f room keys leaves e l =
+    let none : Option Contender = None in
+    let len = ap (λ (s : List Key). length s) e in
+    record {
+      len = ap (λ (s : List (Option Contender)). length s) l ∙ length-replicate room none;
+      at = λ i d lt. absurd (omega (arith, lt, len));
+      past = λ i _ lt. ap (λ (s : List (Option Contender)). get_or s i none) l ∙ get_or-replicate room i none none lt;
+    }
+
+pub listed_empty : (keys : List Key) (es : List (List Entry)) → keys ≡ [] → total es ≡ 0 → IsListed keys es
+listed_empty keys es e h =
+    let len = ap (λ (s : List Key). length s) e in
+    record {
+      listed = λ k d lt. absurd (omega (arith, lt, len));
+      within = λ t k some. some_none (place_in es t) k some (none_inside es h t);
+      points = λ t k d some. some_none (place_in es t) k some (none_inside es h t);
+    }
+
 -- a task that no key has is not listed
-pub unlisted : (keys : List Key) (es : List Entry) (task : TaskId) → IsListed keys es → All (λ k. k.task ≢ task) keys → place_of es task ≡ None
+pub unlisted : (keys : List Key) (es : List (List Entry)) (task : TaskId) → IsListed keys es → All (λ k. k.task ≢ task) keys → place_of es task ≡ None
 unlisted keys es task h apart =
     elim (place_of es task) as (λ (o : Option ℕ). place_of es task ≡ o → o ≡ None) [
       | None ↦ λ _. refl
@@ -131,10 +152,10 @@ unlisted keys es task h apart =
     ] refl
 
 -- a task that some key has is listed
-pub is_listed : (keys : List Key) (es : List Entry) (k : ℕ) (d : Key) → IsListed keys es → k < length keys → IsSome (place_of es (get_or keys k d).task)
+pub is_listed : (keys : List Key) (es : List (List Entry)) (k : ℕ) (d : Key) → IsListed keys es → k < length keys → IsSome (place_of es (get_or keys k d).task)
 is_listed keys es k d h lt = subst (λ (o : Option ℕ). IsSome o) (sym (h.listed k d lt)) refl
 
-pub listed_push : (keys : List Key) (es es' : List Entry) (key : Key) → IsListed keys es → place_of es key.task ≡ None → Updates es es' key.task (Some (length keys)) → IsListed (keys ++ key ∷ []) es'
+pub listed_push : (keys : List Key) (es es' : List (List Entry)) (key : Key) → IsListed keys es → place_of es key.task ≡ None → Updates es es' key.task (Some (length keys)) → IsListed (keys ++ key ∷ []) es'
 listed_push keys es es' key h missing u =
     let longer = length-append keys (key ∷ []) in
     let old : (t k : ℕ) → t ≢ key.task.0 → place_in es' t ≡ Some k → k < length keys = λ t k n e. h.within t k (sym (u.others t n) ∙ e) in
@@ -158,7 +179,7 @@ listed_push keys es es' key h missing u =
     }
 
 -- a key is changed, but not its task
-pub listed_set : (keys : List Key) (es : List Entry) (place : ℕ) (key : Key) → IsListed keys es → place < length keys → ((d : Key) → key.task ≡ (get_or keys place d).task) → IsListed (set keys place key) es
+pub listed_set : (keys : List Key) (es : List (List Entry)) (place : ℕ) (key : Key) → IsListed keys es → place < length keys → ((d : Key) → key.task ≡ (get_or keys place d).task) → IsListed (set keys place key) es
 listed_set keys es place key h within same =
     let len = length-set keys place key in
     let task : (k : ℕ) (d : Key) → (get_or (set keys place key) k d).task ≡ (get_or keys k d).task = λ k d. elim (cases_eq k place) [
@@ -172,7 +193,7 @@ listed_set keys es place key h within same =
     }
 
 -- the key that was last is removed
-pub listed_clear : (xs ys : List Key) (es es' : List Entry) (place : ℕ) (gone : Key) → SwapRemoves xs ys place → ((d : Key) → gone ≡ get_or xs place d) → length ys ≤ place
+pub listed_clear : (xs ys : List Key) (es es' : List (List Entry)) (place : ℕ) (gone : Key) → SwapRemoves xs ys place → ((d : Key) → gone ≡ get_or xs place d) → length ys ≤ place
     → IsListed xs es → Updates es es' gone.task None → IsListed ys es'
 listed_clear xs ys es es' place gone r is at_end h u =
     let shorter = r.len in let within = r.within in
@@ -196,7 +217,7 @@ listed_clear xs ys es es' place gone r is at_end h u =
     }
 
 -- another key is removed, and the last takes its place
-pub listed_move : (xs ys : List Key) (es mid es' : List Entry) (place : ℕ) (gone moved : Key) → SwapRemoves xs ys place → ((d : Key) → gone ≡ get_or xs place d) → place < length ys
+pub listed_move : (xs ys : List Key) (es mid es' : List (List Entry)) (place : ℕ) (gone moved : Key) → SwapRemoves xs ys place → ((d : Key) → gone ≡ get_or xs place d) → place < length ys
     → ((d : Key) → moved ≡ get_or ys place d) → IsListed xs es → Updates es mid gone.task None → Updates mid es' moved.task (Some place) → IsListed ys es'
 listed_move xs ys es mid es' place gone moved r is before now h u v =
     let shorter = r.len in let within = r.within in

@@ -13,7 +13,7 @@ pub record IsLeaves (f : Key → ℕ) (room : ℕ) (keys : List Key) (leaves : L
   pub past : (i : ℕ) → length keys ≤ i → i < room → slice_index_or leaves i None ≡ None
 
 -- the entries say of each key's task its place, and of no other task any
-pub record IsListed (keys : List Key) (entries : List Entry) : Type 0 where
-  pub listed : (k : ℕ) (d : Key) → k < length keys → place_of entries (slice_index_or keys k d).task ≡ Some k
-  pub within : (t k : ℕ) → place_in entries t ≡ Some k → k < length keys
-  pub points : (t k : ℕ) (d : Key) → place_in entries t ≡ Some k → (slice_index_or keys k d).task.0 ≡ t
+pub record IsListed (keys : List Key) (buckets : List (List Entry)) : Type 0 where
+  pub listed : (k : ℕ) (d : Key) → k < length keys → place_of buckets (slice_index_or keys k d).task ≡ Some k
+  pub within : (t k : ℕ) → place_in buckets t ≡ Some k → k < length keys
+  pub points : (t k : ℕ) (d : Key) → place_in buckets t ≡ Some k → (slice_index_or keys k d).task.0 ≡ t

@@ -1,7 +1,7 @@
--- A list of entries, and the room for them.
+-- Buckets of entries, and the room for entries.
 use Rattle.std.specs.Prelude.{ℕ, List}
 use Rattle.swift_queue.specs.declared.places.Entry.{Entry}
 
 pub record PlacesAre : Type 0 where
-  pub entries : List Entry
+  pub buckets : List (List Entry)
   pub room : ℕ

@@ -7,9 +7,9 @@ use swift_types::{Resume, TaskId};
 
 /// One turn of a task that is still to be run (SE-0392 speaks of such jobs; that they must be spent is our own).
 ///
-/// It can be neither cloned nor dropped: whoever holds it hands it on, or gives it up by `spend`. So no turn is run
-/// twice, and none is forgotten. In a clause a job is the record of its four parts, `job.task`, `job.number`,
-/// `job.resume` and `job.body`.
+/// It can be neither cloned nor dropped: whoever holds it hands it on, or gives it up by `spend`. So each job that was
+/// made is spent at most once and cannot be lost unseen; that only one is made of a turn is for its maker. In a clause
+/// a job is the record of its four parts, `job.task`, `job.number`, `job.resume` and `job.body`.
 pub struct Job<B> {
     task: TaskId,
     number: u32,

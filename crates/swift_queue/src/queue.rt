@@ -23,7 +23,7 @@ struct Waiting<B> {
 /// the number of arrivals. A queue can be neither cloned nor dropped: it is emptied, and then given up by `close`.
 ///
 /// Of a room of n, `put`, `restore`, `raise`, `take` and `take_oldest` take a number of steps that is the logarithm
-/// of n, and beside that move at most n pairs of words: 16 KB at a room of 1,024.
+/// of n, and beside that find a task by hashing, as `holds` does: a constant number of steps in expectation.
 pub struct Queue<B> {
     inside: Vec<Waiting<B>>,
     index: Index,
@@ -97,7 +97,8 @@ impl<B> Queue<B> {
         self.index.find(task).is_some()
     }
 
-    /// Adds a job of a task that has none inside, as the newest.
+    /// Adds a job of a task that has none inside, as the newest. There has to be room, and fewer than 2^64 - 1
+    /// arrivals.
     pub fn put(&mut self, job: Job<B>, priority: Priority)
         requires room { length self.old.jobs < self.old.room }
         requires arrived { self.old.arrived + 1 < 2 ^ 64 }
@@ -109,7 +110,8 @@ impl<B> Queue<B> {
         self.restore(job, arrival, priority);
     }
 
-    /// Adds a job that was inside once, with the arrival number that it had.
+    /// Adds a job that was inside once, with the arrival number that it had. There has to be room; the number is below
+    /// `arrived` and not inside, and neither is a job of the task.
     pub fn restore(&mut self, job: Job<B>, arrival: u64, priority: Priority)
         requires { IsRestorable self.old job.task arrival }
         ensures { self.new ≡ record self.old { jobs = self.old.jobs ++ waiting job priority arrival ∷ [] } }

@@ -11,7 +11,7 @@ use Rattle.swift_queue.proofs.index.Index.push.Goals as goal
 pub add-requires-clause-missing : goal.add-requires-clause-missing
 add-requires-clause-missing c =
     let keys = ap (λ (i : IndexIs). i.keys) c.self.view_is in
-    unlisted c.self.inside.keys.items c.self.inside.tasks.entries c.args.key.task c.self.invariant.tasks
+    unlisted c.self.inside.keys.items c.self.inside.tasks.buckets c.args.key.task c.self.invariant.tasks
     (subst (λ (s : List Key). All (λ k. k.task ≢ c.args.key.task) s) (sym keys) c.requires.apart)
 
 pub invariant_of-self : goal.invariant_of-self
@@ -26,9 +26,9 @@ invariant_of-self c =
     let room : length keys < x.room = omega (arith, c.requires.room, ap (λ (i : IndexIs). length i.keys) c.self.view_is, ap (λ (i : IndexIs). i.room) c.self.view_is) in
     let urgent = c.enter.ensures.urgent ∙ ap (λ (p : ℕ). set x.urgent p (Some (contender by_priority p key))) place in
     let oldest = c.enter.ensures.oldest ∙ ap (λ (p : ℕ). set x.oldest p (Some (contender by_age p key))) place in
-    let added : Updates x.tasks.entries c.add.new.self.entries key.task (Some (length keys)) =
-    subst (λ (p : ℕ). Updates x.tasks.entries c.add.new.self.entries key.task (Some p)) place c.add.ensures.added in
-    let missing = unlisted keys x.tasks.entries key.task inv.tasks
+    let added : Updates x.tasks.buckets c.add.new.self.buckets key.task (Some (length keys)) =
+    subst (λ (p : ℕ). Updates x.tasks.buckets c.add.new.self.buckets key.task (Some p)) place c.add.ensures.added in
+    let missing = unlisted keys x.tasks.buckets key.task inv.tasks
     (subst (λ (s : List Key). All (λ k. k.task ≢ key.task) s) (sym (ap (λ (i : IndexIs). i.keys) c.self.view_is)) c.requires.apart) in
     let len = ap (λ (s : List Key). length s) items in
     let made = inv.made in let cap = c.in-Ok.ensures.capacity in
@@ -39,7 +39,7 @@ invariant_of-self c =
       oldest = subst (λ (s : List (Option Contender)). IsLeaves by_age x.room new s) (sym oldest)
           (subst (λ (s : List Key). IsLeaves by_age x.room s (set x.oldest (length keys) (Some (contender by_age (length keys) key)))) (sym items)
           (leaves_push by_age x.room keys x.oldest key room inv.oldest));
-      tasks = subst (λ (s : List Key). IsListed s c.add.new.self.entries) (sym items) (listed_push keys x.tasks.entries c.add.new.self.entries key inv.tasks missing added);
+      tasks = subst (λ (s : List Key). IsListed s c.add.new.self.buckets) (sym items) (listed_push keys x.tasks.buckets c.add.new.self.buckets key inv.tasks missing added);
       count = c.add.ensures.len ∙ omega (arith, inv.count, len, length-append keys (key ∷ []));
       few = omega (arith, len, room, length-append keys (key ∷ []));
       made = omega (arith, made, cap);

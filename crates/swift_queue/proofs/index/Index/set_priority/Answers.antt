@@ -23,7 +23,7 @@ invariant_of-self c =
     record {
       urgent = subst (λ (s : List (Option Contender)). IsLeaves by_priority x.room (set xs place key) s) (sym c.enter.ensures.urgent) (leaves_set by_priority x.room xs x.urgent place key few within inv.urgent);
       oldest = subst (λ (s : List (Option Contender)). IsLeaves by_age x.room (set xs place key) s) (sym c.enter.ensures.oldest) (leaves_set by_age x.room xs x.oldest place key few within inv.oldest);
-      tasks = listed_set xs x.tasks.entries place key inv.tasks within (λ d. ap (λ (k : Key). k.task) (get_or_read xs place old within c.index-old.ensures d));
+      tasks = listed_set xs x.tasks.buckets place key inv.tasks within (λ d. ap (λ (k : Key). k.task) (get_or_read xs place old within c.index-old.ensures d));
       count = inv.count ∙ sym len;
       few = omega (arith, few, len);
       made = made;

@@ -37,7 +37,7 @@ invariant_of-self c =
     record {
       urgent = subst (λ (s : List (Option Contender)). IsLeaves by_priority x.room ys s) (sym urgent) (leaves_clear by_priority x.room xs ys x.urgent place few r inv.urgent at_end);
       oldest = subst (λ (s : List (Option Contender)). IsLeaves by_age x.room ys s) (sym oldest) (leaves_clear by_age x.room xs ys x.oldest place few r inv.oldest at_end);
-      tasks = listed_clear xs ys x.tasks.entries c.remove.new.self.entries place gone r was at_end inv.tasks c.remove.ensures.removed;
+      tasks = listed_clear xs ys x.tasks.buckets c.remove.new.self.buckets place gone r was at_end inv.tasks c.remove.ensures.removed;
       count = omega (arith, inv.count, c.remove.ensures.len, r.len);
       few = omega (arith, few, r.len);
       made = omega (arith, made, cap);
@@ -76,7 +76,7 @@ invariant_of-self-2 c =
     record {
       urgent = subst (λ (s : List (Option Contender)). IsLeaves by_priority x.room ys s) (sym urgent) (leaves_move by_priority x.room xs ys x.urgent place moved few r inv.urgent before now);
       oldest = subst (λ (s : List (Option Contender)). IsLeaves by_age x.room ys s) (sym oldest) (leaves_move by_age x.room xs ys x.oldest place moved few r inv.oldest before now);
-      tasks = listed_move xs ys x.tasks.entries c.remove.new.self.entries c.set.new.self.entries place gone moved r was before now inv.tasks c.remove.ensures.removed c.set.ensures.moved;
+      tasks = listed_move xs ys x.tasks.buckets c.remove.new.self.buckets c.set.new.self.buckets place gone moved r was before now inv.tasks c.remove.ensures.removed c.set.ensures.moved;
       count = omega (arith, inv.count, c.remove.ensures.len, c.set.ensures.len, r.len);
       few = omega (arith, few, r.len);
       made = omega (arith, made, cap);
