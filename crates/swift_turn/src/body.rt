@@ -1,12 +1,12 @@
 //! A task's stack of frames, as a future.
 
-ghost use Rattle.std.specs.Prelude.{◌≡◌, ◌<◌, ◌⊎◌, ◌↔◌, true, [], IsTrue, IsSome, IfSome, IfOk, OnOk, IfErr, OnErr, Some};
+ghost use Rattle.std.specs.Prelude.{◌≡◌, ◌+◌, ◌<◌, ◌⊎◌, ◌↔◌, true, [], IsTrue, IsSome, IfSome, IfOk, OnOk, IfErr, OnErr, Some, length};
 ghost use Rattle.std.specs.Arc.{arc_value};
 ghost use Rattle.futures.specs.Poll.{IfReady, OnPending};
 ghost use Rattle.futures.specs.Task.{Covers, Keeps};
 ghost use Rattle.swift_lines.specs.Lines.{code_at};
 ghost use Rattle.swift_script.specs.Scripts.{method_actor, method_code, method_count};
-ghost use Rattle.swift_turn.specs.Body.{CanAdvance, GoesOn, Hands, IsPolled, Polls, Registers, WaitsIn, advanced, answer_of, called, ending_if, ends_with, entered, idle, lacking, opening, resumed};
+ghost use Rattle.swift_turn.specs.Body.{BeginsFrame, CanAdvance, GoesOn, Hands, IsPolled, Polls, Registers, WaitsIn, advanced, answer_of, called, ending_if, ends_with, entered, idle, lacking, most_frames, opening, resumed};
 ghost use Rattle.swift_turn.specs.Frame.{deeds_of, frame_parts};
 ghost use Rattle.swift_turn.specs.Runs.{leaving_of};
 
@@ -210,9 +210,10 @@ impl Body {
         }
     }
 
-    /// Follows the exit of a turn: a call begins a frame, whose variables are its arguments and then zeros, and where a frame is left its caller goes on (SE-0306).
-    /// It takes memory for a call alone, and for want of it the body is as it was. A call from a task with 64 frames
-    /// begins none, and the same frame gets the fault `depth`.
+    /// Follows the exit of a turn: a call begins a frame, whose variables are its arguments and then zeros, and where a
+    /// frame is left its caller goes on (SE-0306). It takes memory for a call that begins a frame alone, so it answers
+    /// want of memory nowhere else, and the body is then as it was. A call from a task with 64 frames begins none, and
+    /// the same frame gets the fault `depth`.
     pub fn advance(&mut self, exit: &Exit) -> Result<Step, AllocError>
         requires idle { self.old.here.phase ≡ idle }
         requires running { IsSome self.old.here.top }
@@ -222,6 +223,7 @@ impl Body {
         ensures rest { self.new ≡ record self.old { here = record self.old.here { top = self.new.here.top }; callers = self.new.callers } }
         ensures running { IfOk result (λ step. GoesOn step → IsSome self.new.here.top) }
         ensures err { OnErr result (self.new ≡ self.old) }
+        ensures memory { OnErr result (BeginsFrame self.old.callers (leaving_of exit.now)) }
     {
         match exit {
             Exit::Call(_, method, args) => self.call(*method, args),
@@ -299,6 +301,7 @@ impl Body {
             record { top = self.new.here.top; callers = self.new.callers; step = step } ≡ called self.old.script p self.old.callers method.0 args.now)) }
         ensures rest { self.new ≡ record self.old { here = record self.old.here { top = self.new.here.top }; callers = self.new.callers } }
         ensures err { OnErr result (self.new ≡ self.old) }
+        ensures memory { OnErr result (length self.old.callers + 1 < most_frames) }
     {
         if self.callers.len() >= FRAMES - 1 {
             return Ok(Step::Run(self.actor(), Resume::Fault(Fault::Depth)));
