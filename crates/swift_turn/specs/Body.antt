@@ -39,7 +39,7 @@ pub record BodyParts : Type 0 where
   pub callers : List FrameParts
   -- the name of what it waits at
   pub source : ℕ
-  -- a waker lies in its slot
+  -- a waker lies in the slot of its source: that of the turn that was entered last
   pub armed : Bool
 
 -- how many steps a turn may have, and how many frames a task

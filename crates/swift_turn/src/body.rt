@@ -1,6 +1,6 @@
 //! A task's stack of frames, as a future.
 
-ghost use Rattle.std.specs.Prelude.{◌≡◌, ◌+◌, ◌<◌, ◌⊎◌, ◌↔◌, true, [], IsTrue, IsSome, IfSome, IfOk, OnOk, IfErr, OnErr, Some, length};
+ghost use Rattle.std.specs.Prelude.{◌≡◌, ◌+◌, ◌<◌, ◌⊎◌, ◌↔◌, true, false, [], IsTrue, IsSome, IfSome, IfOk, OnOk, IfErr, OnErr, Some, length};
 ghost use Rattle.std.specs.Arc.{arc_value};
 ghost use Rattle.futures.specs.Poll.{IfReady, OnPending};
 ghost use Rattle.futures.specs.Task.{Covers, Keeps};
@@ -103,6 +103,8 @@ impl Future for Body {
         ensures turned { Polls self.old.script self.old.here self.old.here.top self.old.here.phase self.new.here }
         // Where it waits, its waker lies in the slot of its own source, unless none could be made.
         ensures waits { OnPending result (WaitsIn self.new.here.phase → WaitsIn self.old.here.phase ⊎ ((cx.new.lacks_waker ≡ true) ⊎ (self.new.armed ≡ true))) }
+        // A waker comes there only where it waits.
+        ensures armed { self.new.armed ≡ true → self.old.armed ≡ true ⊎ WaitsIn self.new.here.phase }
         ensures rest { self.new ≡ record self.old { here = self.new.here; armed = self.new.armed } }
         ensures answer { result ≡ answer_of self.old.callers self.old.here.phase self.new.here.phase }
     {
@@ -174,8 +176,9 @@ impl Body {
         })
     }
 
-    /// Enters a turn of the frame that runs, on the fields of its actor. Room for undoing it is made here, so it may
-    /// answer want of memory, and then hands the fields back and leaves the body as it was.
+    /// Enters a turn of the frame that runs, on the fields of its actor. What an earlier turn waited for is over, so the
+    /// slot of its waker is emptied: a waker that lies there after the poll is that of its poll. Room for undoing the
+    /// turn is made here, so it may answer want of memory, and then hands the fields back and leaves the body as it was.
     pub fn enter(
         &mut self,
         fields: Vec<i64>,
@@ -184,13 +187,14 @@ impl Body {
     ) -> Result<(), (Vec<i64>, AllocError)>
         requires idle { self.old.here.phase ≡ idle }
         requires running { IsSome self.old.here.top }
-        ensures ok { OnOk result (self.new ≡ record self.old { here = record self.old.here { phase = entered fields.items resume env } }) }
+        ensures ok { OnOk result (self.new ≡ record self.old { here = record self.old.here { phase = entered fields.items resume env }; armed = false }) }
         ensures err { IfErr result (λ e. (self.new ≡ self.old) × (e.0.items ≡ fields.items)) }
     {
         let Some(top) = &self.top else { unreachable!() };
         if make_room(&mut self.spare, top, &fields).is_err() {
             return Err((fields, AllocError));
         }
+        self.waker = None;
         self.turn = Turn::Entered(fields, resume, env);
         Ok(())
     }
