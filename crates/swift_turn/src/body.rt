@@ -94,6 +94,9 @@ impl Future for Body {
 
     ghost gives = { λ b e. ends_with b ≡ Some e };
 
+    /// Plays the turn that was entered (SE-0304); without one it yields and changes nothing. It is Ready with the ending
+    /// where the turn leaves the first frame, else Pending. For want of memory it is Pending too, which `leave` then
+    /// answers.
     fn poll(&mut self, cx: &mut Context<'_>) -> Poll<Ending>
         ensures value { IfReady result (λ e. ends_with self.old ≡ Some e) }
         ensures same { OnPending result ((x : _) → ends_with self.new ≡ Some x → ends_with self.old ≡ Some x) }
