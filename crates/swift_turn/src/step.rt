@@ -1,12 +1,12 @@
 //! Statements, one after another.
 
-ghost use Rattle.std.specs.Prelude.{◌≡◌, IfOk, OnOk, slice_set};
+ghost use Rattle.std.specs.Prelude.{◌≡◌, IfOk, OnOk, Some, slice_set};
 ghost use Rattle.swift_lines.specs.Lines.{Stands, code_at, first};
 ghost use Rattle.swift_lines.specs.Seen.{scene_of};
 ghost use Rattle.swift_lines.specs.Tree.{terms_of};
 ghost use Rattle.swift_lines.specs.Value.{evs};
 ghost use Rattle.swift_turn.specs.Runs.{next_of, state_of, values_of};
-ghost use Rattle.swift_turn.specs.Turn.{act, given, goes};
+ghost use Rattle.swift_turn.specs.Turn.{act, given, goes, with_value};
 
 use crate::exit::Exit;
 use crate::run::Run;
@@ -36,20 +36,12 @@ pub fn step(
     match &line.act {
         Act::End => Ok(Some(Exit::Return(0))),
         Act::SetVariable(x, e) => {
-            let Some(v) = value(e, sight) else {
-                return Ok(Some(Exit::Fault(Fault::Overflow)));
-            };
-            put(&mut run.frame.vars, *x, v);
-            run.frame.line = line.next;
-            Ok(None)
+            let v = value(e, sight);
+            Ok(set(run, Place::Variable(*x), line.next, v))
         }
         Act::SetField(f, e) => {
-            let Some(v) = value(e, sight) else {
-                return Ok(Some(Exit::Fault(Fault::Overflow)));
-            };
-            put(&mut run.fields, *f, v);
-            run.frame.line = line.next;
-            Ok(None)
+            let v = value(e, sight);
+            Ok(set(run, Place::Field(*f), line.next, v))
         }
         Act::Test(e) => {
             let Some(v) = value(e, sight) else {
@@ -82,6 +74,19 @@ pub fn step(
             Ok(None)
         }
     }
+}
+
+// A value goes to its place, and the frame goes on at the line behind. Without one the turn overflows.
+fn set(run: &mut Run, place: Place, next: u32, v: Option<i64>) -> Option<Exit>
+    ensures next { (code : _) → next_of (state_of code run.new) result
+        ≡ with_value v (state_of code run.old) (given (Some place) (code_at code next) (state_of code run.old)) }
+    ensures method { run.new.frame.method ≡ run.old.frame.method }
+{
+    let Some(v) = v else {
+        return Some(Exit::Fault(Fault::Overflow));
+    };
+    give(run, Some(place), next, v);
+    None
 }
 
 // An await is given its value, and the frame goes on at the line behind it.
