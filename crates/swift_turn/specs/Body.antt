@@ -1,5 +1,5 @@
 -- What callers see of a body, and what its calls do to it.
-use Rattle.std.specs.Prelude.{◌≡◌, ℕ, ◌-◌, ◌<◌, nat_lt, if◌then◌else◌, ◌++◌, replicate, ℤ, pos, Bool, Option, Some, None, List, [], ◌∷◌, length}
+use Rattle.std.specs.Prelude.{◌≡◌, ℕ, ◌+◌, ◌-◌, ◌<◌, nat_lt, if◌then◌else◌, ◌++◌, replicate, ℤ, pos, Bool, Option, Some, None, List, [], ◌∷◌, length}
 use Rattle.futures.specs.declared.task.Poll.{Poll}
 use Rattle.futures.specs.declared.task.Poll.TheVariants.{Ready, Pending}
 use Rattle.swift_types.specs.declared.outcome.Fault.TheVariants.{Depth}
@@ -39,7 +39,7 @@ pub record BodyParts : Type 0 where
   pub callers : List FrameParts
   -- the name of what it waits at
   pub source : ℕ
-  -- a waker lies in its slot
+  -- a waker lies in the slot of its source: that of the turn that was entered last
   pub armed : Bool
 
 -- how many steps a turn may have, and how many frames a task
@@ -157,6 +157,11 @@ called script p callers m args =
     if nat_lt (length (p ∷ callers)) most_frames
     then runs script (opening script m args p.bindings) (p ∷ callers) Start
     else runs script p callers (Raise Depth)
+
+-- a call that begins a frame, since fewer than 64 are there
+abbrev pub BeginsFrame : List FrameParts → Leaving → Type 0
+BeginsFrame callers (calling a m args) = length callers + 1 < most_frames
+BeginsFrame callers _ = ⊥
 
 -- what follows from the exit of a turn
 abbrev pub advanced : Parts → FrameParts → List FrameParts → Leaving → Advanced

@@ -1,4 +1,5 @@
 pub mod Turn
+pub mod Laws
 pub mod Frame
 pub mod Runs
 pub mod Body

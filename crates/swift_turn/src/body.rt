@@ -1,12 +1,12 @@
 //! A task's stack of frames, as a future.
 
-ghost use Rattle.std.specs.Prelude.{◌≡◌, ◌<◌, ◌⊎◌, ◌↔◌, true, [], IsTrue, IsSome, IfSome, IfOk, OnOk, IfErr, OnErr, Some};
+ghost use Rattle.std.specs.Prelude.{◌≡◌, ◌+◌, ◌<◌, ◌⊎◌, ◌↔◌, true, false, [], IsTrue, IsSome, IfSome, IfOk, OnOk, IfErr, OnErr, Some, length};
 ghost use Rattle.std.specs.Arc.{arc_value};
 ghost use Rattle.futures.specs.Poll.{IfReady, OnPending};
 ghost use Rattle.futures.specs.Task.{Covers, Keeps};
 ghost use Rattle.swift_lines.specs.Lines.{code_at};
 ghost use Rattle.swift_script.specs.Scripts.{method_actor, method_code, method_count};
-ghost use Rattle.swift_turn.specs.Body.{CanAdvance, GoesOn, Hands, IsPolled, Polls, Registers, WaitsIn, advanced, answer_of, called, ending_if, ends_with, entered, idle, lacking, opening, resumed};
+ghost use Rattle.swift_turn.specs.Body.{BeginsFrame, CanAdvance, GoesOn, Hands, IsPolled, Polls, Registers, WaitsIn, advanced, answer_of, called, ending_if, ends_with, entered, idle, lacking, most_frames, opening, resumed};
 ghost use Rattle.swift_turn.specs.Frame.{deeds_of, frame_parts};
 ghost use Rattle.swift_turn.specs.Runs.{leaving_of};
 
@@ -94,6 +94,9 @@ impl Future for Body {
 
     ghost gives = { λ b e. ends_with b ≡ Some e };
 
+    /// Plays the turn that was entered (SE-0304); without one it yields and changes nothing. It is Ready with the ending
+    /// where the turn leaves the first frame, else Pending. For want of memory it is Pending too, which `leave` then
+    /// answers.
     fn poll(&mut self, cx: &mut Context<'_>) -> Poll<Ending>
         ensures value { IfReady result (λ e. ends_with self.old ≡ Some e) }
         ensures same { OnPending result ((x : _) → ends_with self.new ≡ Some x → ends_with self.old ≡ Some x) }
@@ -103,6 +106,8 @@ impl Future for Body {
         ensures turned { Polls self.old.script self.old.here self.old.here.top self.old.here.phase self.new.here }
         // Where it waits, its waker lies in the slot of its own source, unless none could be made.
         ensures waits { OnPending result (WaitsIn self.new.here.phase → WaitsIn self.old.here.phase ⊎ ((cx.new.lacks_waker ≡ true) ⊎ (self.new.armed ≡ true))) }
+        // A waker comes there only where it waits.
+        ensures armed { self.new.armed ≡ true → self.old.armed ≡ true ⊎ WaitsIn self.new.here.phase }
         ensures rest { self.new ≡ record self.old { here = self.new.here; armed = self.new.armed } }
         ensures answer { result ≡ answer_of self.old.callers self.old.here.phase self.new.here.phase }
     {
@@ -174,8 +179,9 @@ impl Body {
         })
     }
 
-    /// Enters a turn of the frame that runs, on the fields of its actor. Room for undoing it is made here, so it may
-    /// answer want of memory, and then hands the fields back and leaves the body as it was.
+    /// Enters a turn of the frame that runs, on the fields of its actor. What an earlier turn waited for is over, so the
+    /// slot of its waker is emptied: a waker that lies there after the poll is that of its poll. Room for undoing the
+    /// turn is made here, so it may answer want of memory, and then hands the fields back and leaves the body as it was.
     pub fn enter(
         &mut self,
         fields: Vec<i64>,
@@ -184,13 +190,14 @@ impl Body {
     ) -> Result<(), (Vec<i64>, AllocError)>
         requires idle { self.old.here.phase ≡ idle }
         requires running { IsSome self.old.here.top }
-        ensures ok { OnOk result (self.new ≡ record self.old { here = record self.old.here { phase = entered fields.items resume env } }) }
+        ensures ok { OnOk result (self.new ≡ record self.old { here = record self.old.here { phase = entered fields.items resume env }; armed = false }) }
         ensures err { IfErr result (λ e. (self.new ≡ self.old) × (e.0.items ≡ fields.items)) }
     {
         let Some(top) = &self.top else { unreachable!() };
         if make_room(&mut self.spare, top, &fields).is_err() {
             return Err((fields, AllocError));
         }
+        self.waker = None;
         self.turn = Turn::Entered(fields, resume, env);
         Ok(())
     }
@@ -210,9 +217,10 @@ impl Body {
         }
     }
 
-    /// Follows the exit of a turn: a call begins a frame, whose variables are its arguments and then zeros, and where a frame is left its caller goes on (SE-0306).
-    /// It takes memory for a call alone, and for want of it the body is as it was. A call from a task with 64 frames
-    /// begins none, and the same frame gets the fault `depth`.
+    /// Follows the exit of a turn: a call begins a frame, whose variables are its arguments and then zeros, and where a
+    /// frame is left its caller goes on (SE-0306). It takes memory for a call that begins a frame alone, so it answers
+    /// want of memory nowhere else, and the body is then as it was. A call from a task with 64 frames begins none, and
+    /// the same frame gets the fault `depth`.
     pub fn advance(&mut self, exit: &Exit) -> Result<Step, AllocError>
         requires idle { self.old.here.phase ≡ idle }
         requires running { IsSome self.old.here.top }
@@ -222,6 +230,7 @@ impl Body {
         ensures rest { self.new ≡ record self.old { here = record self.old.here { top = self.new.here.top }; callers = self.new.callers } }
         ensures running { IfOk result (λ step. GoesOn step → IsSome self.new.here.top) }
         ensures err { OnErr result (self.new ≡ self.old) }
+        ensures memory { OnErr result (BeginsFrame self.old.callers (leaving_of exit.now)) }
     {
         match exit {
             Exit::Call(_, method, args) => self.call(*method, args),
@@ -299,6 +308,7 @@ impl Body {
             record { top = self.new.here.top; callers = self.new.callers; step = step } ≡ called self.old.script p self.old.callers method.0 args.now)) }
         ensures rest { self.new ≡ record self.old { here = record self.old.here { top = self.new.here.top }; callers = self.new.callers } }
         ensures err { OnErr result (self.new ≡ self.old) }
+        ensures memory { OnErr result (length self.old.callers + 1 < most_frames) }
     {
         if self.callers.len() >= FRAMES - 1 {
             return Ok(Step::Run(self.actor(), Resume::Fault(Fault::Depth)));

@@ -8,6 +8,7 @@ mod exit;
 mod fail;
 mod frame;
 mod kept;
+pub mod laws;
 mod phase;
 mod play;
 mod run;

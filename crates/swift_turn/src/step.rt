@@ -1,12 +1,13 @@
 //! Statements, one after another.
 
-ghost use Rattle.std.specs.Prelude.{◌≡◌, IfOk, OnOk, slice_set};
+ghost use Rattle.std.specs.Prelude.{◌≡◌, IfOk, OnOk, Some, if◌then◌else◌, slice_set};
 ghost use Rattle.swift_lines.specs.Lines.{Stands, code_at, first};
 ghost use Rattle.swift_lines.specs.Seen.{scene_of};
 ghost use Rattle.swift_lines.specs.Tree.{terms_of};
-ghost use Rattle.swift_lines.specs.Value.{evs};
-ghost use Rattle.swift_turn.specs.Runs.{next_of, state_of, values_of};
-ghost use Rattle.swift_turn.specs.Turn.{act, given, goes};
+ghost use Rattle.swift_lines.specs.Value.{evs, is_zero};
+ghost use Rattle.swift_types.specs.declared.outcome.Fault.TheVariants.{Thrown};
+ghost use Rattle.swift_turn.specs.Runs.{leaving_of, next_of, state_of, values_of};
+ghost use Rattle.swift_turn.specs.Turn.{act, failing, given, goes, leaves, returning, with_value};
 
 use crate::exit::Exit;
 use crate::run::Run;
@@ -35,37 +36,11 @@ pub fn step(
     };
     match &line.act {
         Act::End => Ok(Some(Exit::Return(0))),
-        Act::SetVariable(x, e) => {
-            let Some(v) = value(e, sight) else {
-                return Ok(Some(Exit::Fault(Fault::Overflow)));
-            };
-            put(&mut run.frame.vars, *x, v);
-            run.frame.line = line.next;
-            Ok(None)
-        }
-        Act::SetField(f, e) => {
-            let Some(v) = value(e, sight) else {
-                return Ok(Some(Exit::Fault(Fault::Overflow)));
-            };
-            put(&mut run.fields, *f, v);
-            run.frame.line = line.next;
-            Ok(None)
-        }
-        Act::Test(e) => {
-            let Some(v) = value(e, sight) else {
-                return Ok(Some(Exit::Fault(Fault::Overflow)));
-            };
-            run.frame.line = if v == 0 { line.other } else { line.next };
-            Ok(None)
-        }
-        Act::Return(e) => Ok(Some(match value(e, sight) {
-            Some(v) => Exit::Return(v),
-            None => Exit::Fault(Fault::Overflow),
-        })),
-        Act::Throw(e) => Ok(Some(match value(e, sight) {
-            Some(v) => Exit::Fault(Fault::Thrown(v)),
-            None => Exit::Fault(Fault::Overflow),
-        })),
+        Act::SetVariable(x, e) => Ok(set(value(e, sight), run, Place::Variable(*x), line.next)),
+        Act::SetField(f, e) => Ok(set(value(e, sight), run, Place::Field(*f), line.next)),
+        Act::Test(e) => Ok(branch(value(e, sight), run, line)),
+        Act::Return(e) => Ok(Some(returned(value(e, sight)))),
+        Act::Throw(e) => Ok(Some(thrown(value(e, sight)))),
         Act::Yield => {
             run.frame.line = line.next;
             Ok(Some(Exit::Yield))
@@ -81,6 +56,52 @@ pub fn step(
             give(run, *place, line.next, 0);
             Ok(None)
         }
+    }
+}
+
+// A value goes to its place, and the frame goes on at the line behind. Without one the turn overflows.
+fn set(v: Option<i64>, run: &mut Run, place: Place, next: u32) -> Option<Exit>
+    ensures next { (code : _) → next_of (state_of code run.new) result
+        ≡ with_value v (state_of code run.old) (given (Some place) (code_at code next) (state_of code run.old)) }
+    ensures method { run.new.frame.method ≡ run.old.frame.method }
+{
+    let Some(v) = v else {
+        return Some(Exit::Fault(Fault::Overflow));
+    };
+    give(run, Some(place), next, v);
+    None
+}
+
+// The frame goes on behind a test, where its value is 0 at the other line. Without one the turn overflows.
+fn branch(v: Option<i64>, run: &mut Run, line: &Line) -> Option<Exit>
+    ensures next { (code : _) → let s = state_of code run.old in next_of (state_of code run.new) result
+        ≡ with_value v s (λ x. goes (record s { todo = if is_zero x then code_at code line.now.other else code_at code line.now.next })) }
+    ensures method { run.new.frame.method ≡ run.old.frame.method }
+{
+    let Some(v) = v else {
+        return Some(Exit::Fault(Fault::Overflow));
+    };
+    run.frame.line = if v == 0 { line.other } else { line.next };
+    None
+}
+
+// The frame is left with a value. Without one the turn overflows.
+fn returned(v: Option<i64>) -> Exit
+    ensures { (s : _) → leaves s (leaving_of result) ≡ with_value v s (λ x. leaves s (returning x)) }
+{
+    match v {
+        Some(v) => Exit::Return(v),
+        None => Exit::Fault(Fault::Overflow),
+    }
+}
+
+// The frame is left with a throw of a value. Without one the turn overflows.
+fn thrown(v: Option<i64>) -> Exit
+    ensures { (s : _) → leaves s (leaving_of result) ≡ with_value v s (λ x. leaves s (failing (Thrown x))) }
+{
+    match v {
+        Some(v) => Exit::Fault(Fault::Thrown(v)),
+        None => Exit::Fault(Fault::Overflow),
     }
 }
 
