@@ -6,19 +6,10 @@
 //! device that failed.
 #![tactic(auto)]
 
-// Why nothing, or not all, was printed.
-mod fault;
-// A script from a device.
-mod input;
-// From a script's text to a report's.
-mod run;
-#[cfg(test)]
-mod tests;
-
-use fault::ToolFault;
 use std::env;
 use std::process::ExitCode;
 use swift_keeper::Open;
+use swift_tool::{ToolFault, read_input, run_text};
 
 fn main(rt: HostRuntime) -> ExitCode {
     let Ok(words) = env::args(&rt) else {
@@ -40,6 +31,6 @@ fn main(rt: HostRuntime) -> ExitCode {
 }
 
 fn whole(rt: &HostRuntime) -> Result<bool, ToolFault> {
-    let text = input::read_input(rt.alloc(), &mut rt.stdin())?;
-    run::run_text(rt, &text, 1, false, &Open, &mut rt.stdout())
+    let text = read_input(rt.alloc(), &mut rt.stdin())?;
+    run_text(rt, &text, 1, false, &Open, &mut rt.stdout())
 }

@@ -10,8 +10,8 @@ use Rattle.swift_script.specs.Refuses.{Refuses}
 use Rattle.swift_output.specs.Part.{WritesPart}
 use Rattle.swift_keeper.specs.declared.fault.RunFault.{RunFault}
 use Rattle.swift_keeper.specs.declared.fault.RunFault.TheVariants.{Workers, Memory, Unfinished}
-use Rattle.swiftrun.specs.declared.fault.ToolFault.{ToolFault}
-use Rattle.swiftrun.specs.declared.fault.ToolFault.TheVariants as tool
+use Rattle.swift_tool.specs.declared.fault.ToolFault.{ToolFault}
+use Rattle.swift_tool.specs.declared.fault.ToolFault.TheVariants as tool
 use Rattle.swift_script.specs.Scripts.{Parts, tree_of, actor_count, root_count}
 use Rattle.swift_report.specs.declared.report.Report.{Report}
 use Rattle.swift_report.specs.Lawful.{AreLawful}

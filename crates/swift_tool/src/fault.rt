@@ -2,7 +2,7 @@
 
 ghost use Rattle.std.specs.Prelude.{◌≡◌};
 ghost use Rattle.swift_keeper.specs.declared.fault.RunFault.TheVariants.{Memory};
-ghost use Rattle.swiftrun.specs.declared.fault.ToolFault.TheVariants.{Device, Run, Script};
+ghost use Rattle.swift_tool.specs.declared.fault.ToolFault.TheVariants.{Device, Run, Script};
 
 use std::alloc::{AllocError, AllocFailed};
 use swift_keeper::RunFault;

@@ -3,8 +3,8 @@ use Rattle.std.specs.Arc.{arc_value}
 use Rattle.swift_script.specs.Scripts.{Parts, actor_count, root_count}
 use Rattle.swift_report.specs.Lawful.{AreLawful}
 use Rattle.swift_report.specs.Text.{report_text}
-use Rattle.swiftrun.specs.Run.{end_well}
-use Rattle.swiftrun.proofs.run.ran.Goals as goal
+use Rattle.swift_tool.specs.Run.{end_well}
+use Rattle.swift_tool.proofs.run.ran.Goals as goal
 
 pub returns-clause-ran : goal.returns-clause-ran
 returns-clause-ran g c =

@@ -1,7 +1,7 @@
 //! From a script's text to a report's.
 
 ghost use Rattle.std.specs.Prelude.{◌≡◌, IfErr, IfOk};
-ghost use Rattle.swiftrun.specs.Run.{IsRefusal, IsRunOf, Leaves, WritesRun, end_well};
+ghost use Rattle.swift_tool.specs.Run.{IsRefusal, IsRunOf, Leaves, WritesRun, end_well};
 
 use crate::fault::ToolFault;
 use std::alloc::AllocGlobal;

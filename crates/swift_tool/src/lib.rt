@@ -1,0 +1,15 @@
+//! From a script's text to the text of its report, for any program.
+#![tactic(auto)]
+
+// Why nothing, or not all, was printed.
+mod fault;
+// A script from a device.
+mod input;
+// From a script's text to a report's.
+mod run;
+#[cfg(test)]
+mod tests;
+
+pub use fault::ToolFault;
+pub use input::read_input;
+pub use run::run_text;
