@@ -20,6 +20,7 @@ returns-clause-ran g c =
       journals = c.in_ok-report.ensures.journals ∙ ap actor_count same;
       fields = c.in_ok-report.ensures.fields ∙ ap actor_count same;
       tasks = c.in_ok-report.ensures.tasks ∙ ap root_count same;
+      roots = c.in_ok-report.ensures.roots;
       ended = c.all_ended_well-is_well.ensures ∙ ap end_well c.deref-2.ensures.value;
       printed = c.in_ok-text.ensures ∙ ap (λ (p : Parts). report_text p c.in_ok-report.report c.args.quiet) (lent ∙ made);
     }
