@@ -6,40 +6,25 @@
 //! device that failed.
 #![tactic(auto)]
 
-// Why nothing, or not all, was printed.
-mod fault;
-// A script from a device.
-mod input;
-// From a script's text to a report's.
-mod run;
-#[cfg(test)]
-mod tests;
-
-use fault::ToolFault;
 use std::env;
 use std::process::ExitCode;
 use swift_keeper::Open;
+use swift_tool::{ProgramFault, read_input, run_text, status, take_words};
 
 fn main(rt: HostRuntime) -> ExitCode {
-    let Ok(words) = env::args(&rt) else {
-        let _ = eprintln!(rt; "swiftrun: words refused");
-        return ExitCode::from(2);
-    };
-    if words.len() > 1 {
-        let _ = eprintln!(rt; "swiftrun: words refused");
-        return ExitCode::from(2);
+    let ended = whole(&rt);
+    if let Err(fault) = ended {
+        let _ = eprintln!(rt; "{fault}");
     }
-    match whole(&rt) {
-        Ok(true) => ExitCode::SUCCESS,
-        Ok(false) => ExitCode::from(1),
-        Err(fault) => {
-            let _ = eprintln!(rt; "swiftrun: {fault}");
-            ExitCode::from(fault.status())
-        }
-    }
+    ExitCode::from(status(&ended))
 }
 
-fn whole(rt: &HostRuntime) -> Result<bool, ToolFault> {
-    let text = input::read_input(rt.alloc(), &mut rt.stdin())?;
-    run::run_text(rt, &text, 1, false, &Open, &mut rt.stdout())
+// Whether each task ended with a value.
+fn whole(rt: &HostRuntime) -> Result<bool, ProgramFault> {
+    let Ok(words) = env::args(rt) else {
+        return Err(ProgramFault::Words);
+    };
+    take_words(words.len())?;
+    let text = read_input(rt.alloc(), &mut rt.stdin())?;
+    Ok(run_text(rt, &text, 1, false, &Open, &mut rt.stdout())?)
 }

@@ -2,7 +2,8 @@
 
 ghost use Rattle.std.specs.Prelude.{◌≡◌};
 ghost use Rattle.swift_keeper.specs.declared.fault.RunFault.TheVariants.{Memory};
-ghost use Rattle.swiftrun.specs.declared.fault.ToolFault.TheVariants.{Device, Run, Script};
+ghost use Rattle.swift_tool.specs.Ended.{status_of_fault};
+ghost use Rattle.swift_tool.specs.declared.fault.ToolFault.TheVariants.{Device, Run, Script};
 
 use std::alloc::{AllocError, AllocFailed};
 use swift_keeper::RunFault;
@@ -25,7 +26,9 @@ pub enum ToolFault {
 
 impl ToolFault {
     /// The status of a program that it ends: 3 for a script that was refused, else 4.
-    pub fn status(self) -> u8 {
+    pub fn status(self) -> u8
+        ensures { result ≡ status_of_fault self }
+    {
         match self {
             ToolFault::Script(_) => 3,
             ToolFault::Run(_) | ToolFault::Device => 4,

@@ -8,10 +8,11 @@ use Rattle.swift_script.specs.Accepted.{IsAccepted}
 use Rattle.swift_script.specs.Script.{ScriptTree}
 use Rattle.swift_script.specs.Refuses.{Refuses}
 use Rattle.swift_output.specs.Part.{WritesPart}
+use Rattle.swift_keeper.specs.Lanes.{AreRootsFrom}
 use Rattle.swift_keeper.specs.declared.fault.RunFault.{RunFault}
 use Rattle.swift_keeper.specs.declared.fault.RunFault.TheVariants.{Workers, Memory, Unfinished}
-use Rattle.swiftrun.specs.declared.fault.ToolFault.{ToolFault}
-use Rattle.swiftrun.specs.declared.fault.ToolFault.TheVariants as tool
+use Rattle.swift_tool.specs.declared.fault.ToolFault.{ToolFault}
+use Rattle.swift_tool.specs.declared.fault.ToolFault.TheVariants as tool
 use Rattle.swift_script.specs.Scripts.{Parts, tree_of, actor_count, root_count}
 use Rattle.swift_report.specs.declared.report.Report.{Report}
 use Rattle.swift_report.specs.Lawful.{AreLawful}
@@ -27,7 +28,8 @@ end_well [] = true
 end_well (e ∷ es) = ends_well e.1 (end_well es)
 
 -- A text is that of a run of the script that these bytes spell: the journal of each executor is lawful, the fields are
--- what replaying it gives, and there is one ending for each root. `well` says whether each is a value.
+-- what replaying it gives, and there is one ending for each root, in order of declaration. `well` says whether each is
+-- a value.
 pub record IsRunOf (bytes : List ℕ) (quiet : Bool) (text : List ℕ) (well : Bool) : Type 0 where
   pub script : Parts
   pub report : Report
@@ -36,6 +38,7 @@ pub record IsRunOf (bytes : List ℕ) (quiet : Bool) (text : List ℕ) (well : B
   pub journals : length report.journals.items ≡ actor_count script
   pub fields : length report.fields.items ≡ actor_count script
   pub tasks : length report.endings.items ≡ root_count script
+  pub roots : AreRootsFrom 0 report.endings.items
   pub ended : well ≡ end_well report.endings.items
   pub printed : text ≡ report_text script report quiet
 

@@ -70,8 +70,6 @@ fn refusals(rt: HostRuntime) -> Result<(), Fail> {
         assert!(rt; refused == Err(ToolFault::Run(RunFault::Workers)));
         assert!(rt; out.is_empty());
     }
-    assert!(rt; ToolFault::Run(RunFault::Workers).status() == 4);
-    assert!(rt; ToolFault::Device.status() == 4);
     Ok(())
 }
 
@@ -89,5 +87,20 @@ fn long_inputs(rt: HostRuntime) -> Result<(), Fail> {
     assert!(rt; out.as_slice() == b"journals\ntasks\nfields\n".as_slice());
     spaces.push(b' ')?;
     let text = read_input(alloc, &mut spaces.as_slice())?;
+    assert!(rt; text.len() == 65_537);
     is_refused(&rt, &text, "line 1: S11 a limit is passed")
+}
+
+#[test]
+fn longer_inputs(rt: HostRuntime) -> Result<(), Fail> {
+    let alloc = rt.alloc();
+    let mut spaces = Vec::new(alloc);
+    for _ in 0..70_000 {
+        spaces.push(b' ')?;
+    }
+    let mut rest = spaces.as_slice();
+    let text = read_input(alloc, &mut rest)?;
+    assert!(rt; text.len() == 65_537);
+    assert!(rt; rest.len() == 70_000 - 65_537);
+    Ok(())
 }

@@ -1,9 +1,10 @@
 // The scripts of examples/, and what they print.
 use crate::run::run_text;
+use std::alloc::Global;
 use std::test::Fail;
 use swift_keeper::Open;
 
-// The text of an example, and the text of its report.
+// The text of an example, and the text of its report. examples/depth.actors stands below.
 const EXAMPLES: [(&str, &str); 4] = [
     (
         "// An account that may not be overdrawn, and a withdrawal that lets others in between its test and its change: both
@@ -143,5 +144,51 @@ fn examples(rt: HostRuntime) -> Result<(), Fail> {
         let _ = run_text(&rt, script.as_bytes(), 1, false, &Open, &mut out)?;
         assert!(rt; out.as_slice() == want.as_bytes(), "{script}");
     }
+    Ok(())
+}
+
+// examples/depth.actors
+const DEPTH: &str =
+    "// A method that calls itself without end: the call from the 64th frame begins none, and `else` catches that fault.
+actor Diver {
+    var deepest = 0;
+
+    func dive(level) {
+        deepest = level;
+        let reached = await Diver.dive(level + 1) else level;
+        return reached;
+    }
+}
+
+root dive = Diver.dive(1);
+";
+
+// What examples/depth.out has: 64 frames, the last of which is given a fault, and all of them return 64.
+fn depth_text(alloc: Global) -> Result<String, Fail> {
+    let mut text = String::new(alloc);
+    text.push_str("journals\nexecutor Diver priority turns 128\n")?;
+    for turn in 0..64u32 {
+        let line = format!(in alloc;
+            "{turn} t0.{turn} w0 Diver.dive p2 c0 start -> call Diver.dive\n"
+        )?;
+        text.push_str(&line)?;
+    }
+    text.push_str("64 t0.64 w0 Diver.dive p2 c0 fault depth -> return 64\n")?;
+    for turn in 65..128u32 {
+        let line = format!(in alloc;
+            "{turn} t0.{turn} w0 Diver.dive p2 c0 value 64 -> return 64\n"
+        )?;
+        text.push_str(&line)?;
+    }
+    text.push_str("tasks\nt0 root dive value 64\nfields\nDiver.deepest 64\n")?;
+    Ok(text)
+}
+
+#[test]
+fn depth_example(rt: HostRuntime) -> Result<(), Fail> {
+    let alloc = rt.alloc();
+    let mut out = Vec::new(alloc);
+    assert!(rt; run_text(&rt, DEPTH.as_bytes(), 1, false, &Open, &mut out) == Ok(true));
+    assert!(rt; out.as_slice() == depth_text(alloc)?.as_bytes());
     Ok(())
 }

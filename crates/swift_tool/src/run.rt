@@ -1,7 +1,7 @@
 //! From a script's text to a report's.
 
 ghost use Rattle.std.specs.Prelude.{◌≡◌, IfErr, IfOk};
-ghost use Rattle.swiftrun.specs.Run.{IsRefusal, IsRunOf, Leaves, WritesRun, end_well};
+ghost use Rattle.swift_tool.specs.Run.{IsRefusal, IsRunOf, Leaves, WritesRun, end_well};
 
 use crate::fault::ToolFault;
 use std::alloc::AllocGlobal;
@@ -14,8 +14,8 @@ use swift_report::{Origin, report_text};
 use swift_script::read;
 use swift_types::Ending;
 
-/// Runs the script that a text spells, and writes the text of its report, in one piece as far as the device takes it.
-/// True where every task ended with a value. The gate is told of the moments of the run.
+/// Runs the script that a text spells, with one worker, and writes the text of its report, in one piece as far as the
+/// device takes it. True where every task ended with a value. The gate is told of the moments of the run.
 ///
 /// # Errors
 ///
@@ -34,6 +34,7 @@ where
     G: Gate + Sync,
     W: Write,
     ensures ran { IfOk result (λ well. WritesRun bytes.now quiet well (W.contents out.old) (W.contents out.new)) }
+    ensures workers { IfOk result (λ _. workers ≡ 1) }
     ensures refused { IfErr result (λ e. Leaves bytes.now workers quiet (W.contents out.old) (W.contents out.new) e) }
 {
     let (text, is_well) = ran(rt, bytes, workers, quiet, gate)?;
@@ -53,6 +54,7 @@ where
     R: RandomSource + AllocGlobal,
     G: Gate + Sync,
     ensures ran { IfOk result (λ r. IsRunOf bytes.now quiet r.0.items r.1) }
+    ensures workers { IfOk result (λ _. workers ≡ 1) }
     ensures refused { IfErr result (λ e. IsRefusal bytes.now workers e) }
 {
     let alloc = rt.alloc();

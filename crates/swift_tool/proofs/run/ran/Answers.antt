@@ -3,8 +3,8 @@ use Rattle.std.specs.Arc.{arc_value}
 use Rattle.swift_script.specs.Scripts.{Parts, actor_count, root_count}
 use Rattle.swift_report.specs.Lawful.{AreLawful}
 use Rattle.swift_report.specs.Text.{report_text}
-use Rattle.swiftrun.specs.Run.{end_well}
-use Rattle.swiftrun.proofs.run.ran.Goals as goal
+use Rattle.swift_tool.specs.Run.{end_well}
+use Rattle.swift_tool.proofs.run.ran.Goals as goal
 
 pub returns-clause-ran : goal.returns-clause-ran
 returns-clause-ran g c =
@@ -20,6 +20,7 @@ returns-clause-ran g c =
       journals = c.in_ok-report.ensures.journals ∙ ap actor_count same;
       fields = c.in_ok-report.ensures.fields ∙ ap actor_count same;
       tasks = c.in_ok-report.ensures.tasks ∙ ap root_count same;
+      roots = c.in_ok-report.ensures.roots;
       ended = c.all_ended_well-is_well.ensures ∙ ap end_well c.deref-2.ensures.value;
       printed = c.in_ok-text.ensures ∙ ap (λ (p : Parts). report_text p c.in_ok-report.report c.args.quiet) (lent ∙ made);
     }

@@ -5,7 +5,7 @@ use std::test::Fail;
 use swift_keeper::Open;
 
 // A script, whether all its tasks end with a value, and the text of its report.
-pub const WHOLE: [(&str, bool, &str); 11] = [
+pub const WHOLE: [(&str, bool, &str); 13] = [
     ("", true, "journals\ntasks\nfields\n"),
     (
         "actor Acc { var bal = 10; invariant bal >= 0; func take(k) { bal = bal - k; return bal; } } root a = Acc.take(3);",
@@ -111,7 +111,7 @@ A.x 9223372036854775807
     ),
     // 5,000 tests, 4,999 assignments and the return are the 10,000 steps that a turn may have.
     (
-        "actor A { var n = 0; func fill(k) { while n < k { n = n + 1; } return n; } } root a = A.fill(4999);",
+        "actor A { var n = 0; func fill(k) { while n < k { n = n + 1; } return n; } func spin() { while 1 { yield; } } } root a = A.fill(4999);",
         true,
         "journals
 executor A priority turns 1
@@ -123,7 +123,7 @@ A.n 4999
 ",
     ),
     (
-        "actor A { var n = 0; func over(k) { let z = 0; while n < k { n = n + 1; } return n; } } root a = A.over(4999);",
+        "actor A { var n = 0; func fill(k) { while n < k { n = n + 1; } return n; } func spin() { while 1 { yield; } } func over(k) { let z = 0; while n < k { n = n + 1; } return n; } } root a = A.over(4999);",
         false,
         "journals
 executor A priority turns 1
@@ -148,6 +148,58 @@ executor A priority turns 5
 tasks
 t0 root r value 7
 fields
+",
+    ),
+    // The token of an executor with more jobs goes behind the others before the job that the turn made is enqueued: the
+    // task of the third root is the first to come to L.
+    (
+        "actor L { var n = 0; func f(k) { n = n * 10 + k; return n; } } actor P { func go(k) { yield; await L.f(k); return 0; } } actor Q { func go(k) { yield; await L.f(k); return 0; } } root a = P.go(1); root b = P.go(2); root c = Q.go(3);",
+        true,
+        "journals
+executor L priority turns 3
+0 t2.2 w0 L.f p2 c0 start -> return 3
+1 t0.2 w0 L.f p2 c0 start -> return 31
+2 t1.2 w0 L.f p2 c0 start -> return 312
+executor P priority turns 6
+0 t0.0 w0 P.go p2 c0 start -> yield
+1 t1.0 w0 P.go p2 c0 start -> yield
+2 t0.1 w0 P.go p2 c0 go -> call L.f
+3 t1.1 w0 P.go p2 c0 go -> call L.f
+4 t0.3 w0 P.go p2 c0 value 31 -> return 0
+5 t1.3 w0 P.go p2 c0 value 312 -> return 0
+executor Q priority turns 3
+0 t2.0 w0 Q.go p2 c0 start -> yield
+1 t2.1 w0 Q.go p2 c0 go -> call L.f
+2 t2.3 w0 Q.go p2 c0 value 3 -> return 0
+tasks
+t0 root a value 0
+t1 root b value 0
+t2 root c value 0
+fields
+L.n 312
+",
+    ),
+    // The way by L is longer: the task of the second root is the first to come to M.
+    (
+        "actor M { var n = 0; func g(k) { n = n * 10 + k; return n; } } actor L { func f() { await M.g(1); } } actor P { func one() { await L.f(); } func two() { await M.g(2); } } root a = P.one(); root b = P.two();",
+        true,
+        "journals
+executor M priority turns 2
+0 t1.1 w0 M.g p2 c0 start -> return 2
+1 t0.2 w0 M.g p2 c0 start -> return 21
+executor L priority turns 2
+0 t0.1 w0 L.f p2 c0 start -> call M.g
+1 t0.3 w0 L.f p2 c0 value 21 -> return 0
+executor P priority turns 4
+0 t0.0 w0 P.one p2 c0 start -> call L.f
+1 t1.0 w0 P.two p2 c0 start -> call M.g
+2 t1.2 w0 P.two p2 c0 value 2 -> return 0
+3 t0.4 w0 P.one p2 c0 value 0 -> return 0
+tasks
+t0 root a value 0
+t1 root b value 0
+fields
+M.n 21
 ",
     ),
 ];
@@ -196,7 +248,7 @@ fn spun(alloc: Global) -> Result<String, Fail> {
         text.push_str(&line)?;
     }
     text.push_str("1000 t0.1000 w0 A.spin p2 c0 fault turns -> fault turns\n")?;
-    text.push_str("tasks\nt0 root a fault turns\nfields\n")?;
+    text.push_str("tasks\nt0 root a fault turns\nfields\nA.n 0\n")?;
     Ok(text)
 }
 
@@ -220,7 +272,8 @@ fn dived(alloc: Global) -> Result<String, Fail> {
 #[test]
 fn long_texts(rt: HostRuntime) -> Result<(), Fail> {
     let alloc = rt.alloc();
-    let spin = "actor A { func spin() { while 1 { yield; } } } root a = A.spin();";
+    let spin =
+        "actor A { var n = 0; func fill(k) { while n < k { n = n + 1; } return n; } func spin() { while 1 { yield; } } } root a = A.spin();";
     let mut out = Vec::new(alloc);
     assert!(rt; run_text(&rt, spin.as_bytes(), 1, false, &Open, &mut out) == Ok(false));
     assert!(rt; out.as_slice() == spun(alloc)?.as_bytes());

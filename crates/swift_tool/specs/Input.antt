@@ -1,0 +1,16 @@
+-- What a read of a script takes of its reader.
+use Rattle.std.specs.Prelude.{◌≡◌, ℕ, Option, List, ◌++◌, length}
+use Rattle.std.specs.Io.KnownBytes.{Consumes}
+use Rattle.swift_keeper.specs.declared.fault.RunFault.TheVariants as run
+use Rattle.swift_tool.specs.declared.fault.ToolFault.{ToolFault}
+use Rattle.swift_tool.specs.declared.fault.ToolFault.TheVariants.{Script, Run, Device}
+
+-- So many bytes left the reader, and stand behind the text.
+abbrev pub TakesMore : Option (List ℕ) → Option (List ℕ) → List ℕ → List ℕ → ℕ → Type 0
+TakesMore before after old new n = (bytes : List ℕ) × (length bytes ≡ n) × (new ≡ old ++ bytes) × Consumes before after bytes
+
+-- A device failed, or a growth was refused.
+abbrev pub IsInputFault : ToolFault → Type 0
+IsInputFault (Script fault) = ⊥
+IsInputFault (Run fault) = fault ≡ run.Memory
+IsInputFault Device = Unit {0}

@@ -1,0 +1,18 @@
+//! From a script's text to the text of its report, for any program.
+#![tactic(auto)]
+
+// How the program ends.
+mod ended;
+// Why nothing, or not all, was printed.
+mod fault;
+// A script from a device.
+mod input;
+// From a script's text to a report's.
+mod run;
+#[cfg(test)]
+mod tests;
+
+pub use ended::{ProgramFault, status, take_words};
+pub use fault::ToolFault;
+pub use input::read_input;
+pub use run::run_text;
