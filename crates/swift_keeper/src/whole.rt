@@ -4,7 +4,7 @@ ghost use Rattle.std.specs.Prelude.{◌≡◌, ◌≢◌, ◌↔◌, [], Err, le
 ghost use Rattle.std.specs.Arc.{arc_value};
 ghost use Rattle.swift_script.specs.Scripts.{actor_count, root_count};
 ghost use Rattle.swift_report.specs.Ended.{AreEnded};
-ghost use Rattle.swift_report.specs.Lawful.{AreLawful};
+ghost use Rattle.swift_report.specs.Lawful.{AreLawful, KeepInvariants};
 ghost use Rattle.swift_keeper.specs.Lanes.{AreRootsFrom};
 ghost use Rattle.swift_keeper.specs.Told.{AreTold};
 ghost use Rattle.swift_keeper.specs.declared.fault.RunFault.TheVariants.{Workers};
@@ -18,6 +18,7 @@ use std::alloc::AllocGlobal;
 use std::random::RandomSource;
 use std::sync::Arc;
 use swift_report::Report;
+use swift_report::laws::invariants_stay;
 use swift_script::Script;
 
 /// Runs a script to its end on the calling thread, and leaves the report of the run (SE-0304 for tasks, SE-0392 for
@@ -40,6 +41,8 @@ where
     ensures workers { (result ≡ Err Workers) ↔ (workers ≢ 1) }
     // Each journal is lawful, and replaying it gives the fields of its actor.
     ensures lawful { IfOk result (λ r. AreLawful (arc_value script) 0 r.journals.items r.fields.items) }
+    // The fields of each actor whose invariant holds at the start meet it.
+    ensures invariants { IfOk result (λ r. KeepInvariants (arc_value script) 0 r.fields.items) }
     // Each turn is one of a root's task, was told what belongs to that root, and ran on worker 0.
     ensures told { IfOk result (λ r. AreTold (arc_value script) r.journals.items) }
     ensures journals { IfOk result (λ r. length r.journals.items ≡ actor_count (arc_value script)) }
@@ -67,6 +70,7 @@ where
     R: RandomSource + AllocGlobal,
     G: Gate,
     ensures lawful { IfOk result (λ r. AreLawful (arc_value script.now) 0 r.journals.items r.fields.items) }
+    ensures invariants { IfOk result (λ r. KeepInvariants (arc_value script.now) 0 r.fields.items) }
     ensures told { IfOk result (λ r. AreTold (arc_value script.now) r.journals.items) }
     ensures journals { IfOk result (λ r. length r.journals.items ≡ actor_count (arc_value script.now)) }
     ensures fields { IfOk result (λ r. length r.fields.items ≡ actor_count (arc_value script.now)) }
@@ -75,6 +79,7 @@ where
     ensures roots { IfOk result (λ r. AreRootsFrom 0 r.endings.items) }
     ensures ended { IfOk result (λ r. AreEnded r.journals.items 0 r.endings.items) }
 {
+    invariants_stay();
     let alloc = rt.alloc();
     let Ok(solo) = Solo::new(rt, Doorbell::spinning()) else {
         return Err(Halt::Memory);

@@ -1,10 +1,11 @@
 -- The replay of a journal, and when a journal is lawful (SE-0392 for executors that run one job at a time).
-use Rattle.std.specs.Prelude.{◌≡◌, ℕ, ◌+◌, ◌<◌, ◌≤◌, ℤ, List, [], ◌∷◌}
+use Rattle.std.specs.Prelude.{◌≡◌, ℕ, ◌+◌, ◌<◌, ◌≤◌, ℤ, IsTrue, List, [], ◌∷◌}
 use Rattle.std.specs.declared.vec.Vec.{Vec}
 use Rattle.std.specs.declared.alloc.Global.{Global}
 use Rattle.swift_types.specs.declared.outcome.Fault.TheVariants.{Turns}
 use Rattle.swift_types.specs.declared.outcome.Resume.TheVariants.{Fault as Raise}
-use Rattle.swift_script.specs.Scripts.{Parts, actor_start, method_actor, method_count}
+use Rattle.swift_lines.specs.Value.{holds}
+use Rattle.swift_script.specs.Scripts.{Parts, actor_invariant, actor_start, method_actor, method_count}
 use Rattle.swift_turn.specs.Turn.{Played}
 use Rattle.swift_turn.specs.Body.{frame_turn}
 use Rattle.swift_turn.specs.Frame.{deeds_of}
@@ -48,3 +49,9 @@ AreLawful p k [] [] = Unit {0}
 AreLawful p k (journal ∷ journals) (fields ∷ others) =
     IsLawful p k (actor_start p k) journal.items × (fields.items ≡ replay p (actor_start p k) journal.items) × (AreLawful p (k + 1) journals others)
 AreLawful p k _ _ = ⊥
+
+-- Of each actor from a number on: where its invariant holds of what its fields start with, it holds of these fields.
+abbrev pub KeepInvariants : Parts → ℕ → List (Vec ℤ Global) → Type 0
+KeepInvariants p k [] = Unit {0}
+KeepInvariants p k (fields ∷ others) =
+    (IsTrue (holds (actor_invariant p k) (actor_start p k)) → IsTrue (holds (actor_invariant p k) fields.items)) × KeepInvariants p (k + 1) others
