@@ -1,7 +1,8 @@
 -- The executors of a board, and the bodies that may run there.
 use Rattle.std.proofs.Common.{◌≡◌, ℕ, zero, suc, ◌+◌, ◌<◌, Bool, true, false, if◌then◌else◌, nat_lt, ℤ, Option, Some, None, List, [], ◌∷◌, ◌++◌, length, map, get_or, refl, sym, subst, ap, ◌∙◌, arith, add-zero, add-one}
-use Rattle.std.specs.Prelude.{IsSomeAnd, slice_set, slice_index_or}
+use Rattle.std.specs.Prelude.{All, IsSomeAnd, slice_set, slice_index_or}
 use Rattle.std.specs.List.{AllByRecursion}
+use Rattle.std.proofs.lemmas.List.Elements.{All-from_recursion, All-nil, All-push}
 use Rattle.swift_script.specs.Scripts.{Parts, method_actor, actor_start}
 use Rattle.swift_types.specs.declared.outcome.Resume.{Resume}
 use Rattle.swift_types.specs.declared.outcome.Ending.{Ending}
@@ -20,6 +21,7 @@ use Rattle.swift_keeper.proofs.Journals.{replay-push, IsLawful-push}
 use Rattle.swift_keeper.specs.declared.lane.Lane.{Lane}
 use Rattle.swift_keeper.specs.declared.lane.Pending.{Pending}
 use Rattle.swift_keeper.specs.Lanes.{CanRun, IsLane, AreLanes, GoesTo, IsJobOf, AreRootsFrom, journal_of, fields_of}
+use Rattle.swift_keeper.specs.Told.{AreTold, IsToldTurn}
 
 -- the frame that runs next is of the actor that the task goes to
 abbrev pub TopGoes : Parts → Option FrameParts → Step → Type 0
@@ -62,36 +64,47 @@ AllByRecursion-push P [] x all is = (is, tt)
 AllByRecursion-push P (y ∷ xs) x all is = (all.0, AllByRecursion-push P xs x all.1 is)
 
 -- a lane with one job more
-pub lane_enqueued : (p : Parts) (k : ℕ) (lane new : Lane) (job : Pending) → IsLane p k lane → CanRun p k job.body.value → new.jobs.items ≡ lane.jobs.items ++ job ∷ [] → new.fields ≡ lane.fields → new.journal ≡ lane.journal → IsLane p k new
+pub lane_enqueued : (p : Parts) (k : ℕ) (lane new : Lane) (job : Pending) → IsLane p k lane → IsJobOf p k job → new.jobs.items ≡ lane.jobs.items ++ job ∷ [] → new.fields ≡ lane.fields → new.journal ≡ lane.journal → IsLane p k new
 lane_enqueued p k lane new job is can jobs fields journal = record {
   lawful = subst (λ (j : Vec Record Global). IsLawful p k (actor_start p k) j.items) (sym journal) is.lawful;
   replayed = ap (λ (f : Vec ℤ Global). f.items) fields ∙ is.replayed ∙ ap (λ (j : Vec Record Global). replay p (actor_start p k) j.items) (sym journal);
+  told = subst (λ (j : Vec Record Global). All (IsToldTurn p) j.items) (sym journal) is.told;
   jobs = subst (λ (js : List Pending). AllByRecursion (IsJobOf p k) js) (sym jobs) (AllByRecursion-push (IsJobOf p k) lane.jobs.items job is.jobs can);
 }
 
 -- a lane whose first job was run
-pub lane_turned : (p : Parts) (k : ℕ) (lane new : Lane) (job : Pending) (r : Record) → IsLane p k lane → lane.jobs.items ≡ job ∷ new.jobs.items → new.journal.items ≡ lane.journal.items ++ r ∷ [] → IsKept p k lane.fields.items r → new.fields.items ≡ fields_after p lane.fields.items r → IsLane p k new
-lane_turned p k lane new job r is jobs journal kept fields = record {
+pub lane_turned : (p : Parts) (k : ℕ) (lane new : Lane) (job : Pending) (r : Record) → IsLane p k lane → lane.jobs.items ≡ job ∷ new.jobs.items → new.journal.items ≡ lane.journal.items ++ r ∷ [] → IsKept p k lane.fields.items r → IsToldTurn p r → new.fields.items ≡ fields_after p lane.fields.items r → IsLane p k new
+lane_turned p k lane new job r is jobs journal kept told fields = record {
   lawful = subst (λ (rs : List Record). IsLawful p k (actor_start p k) rs) (sym journal)
       (IsLawful-push p k (actor_start p k) lane.journal.items r is.lawful (subst (λ (fs : List ℤ). IsKept p k fs r) is.replayed kept));
   replayed = fields ∙ ap (λ (fs : List ℤ). fields_after p fs r) is.replayed ∙ sym (replay-push p (actor_start p k) lane.journal.items r) ∙ ap (λ (rs : List Record). replay p (actor_start p k) rs) (sym journal);
+  told = subst (λ (rs : List Record). All (IsToldTurn p) rs) (sym journal) (All-push (IsToldTurn p) lane.journal.items r is.told told);
   jobs = (subst (λ (js : List Pending). AllByRecursion (IsJobOf p k) js) jobs is.jobs).1;
 }
 
--- the first job of a lane may run there
-pub first_can : (p : Parts) (k : ℕ) (lane : Lane) (job : Pending) (rest : List Pending) → IsLane p k lane → lane.jobs.items ≡ job ∷ rest → CanRun p k job.body.value
-first_can p k lane job rest is jobs = (subst (λ (js : List Pending). AllByRecursion (IsJobOf p k) js) jobs is.jobs).0
+-- the first job of a lane is one of its actor
+pub first_job : (p : Parts) (k : ℕ) (lane : Lane) (job : Pending) (rest : List Pending) → IsLane p k lane → lane.jobs.items ≡ job ∷ rest → IsJobOf p k job
+first_job p k lane job rest is jobs = (subst (λ (js : List Pending). AllByRecursion (IsJobOf p k) js) jobs is.jobs).0
 
 -- the journals and the fields of executors are those of a lawful report
 pub lanes_lawful : (p : Parts) (k : ℕ) (lanes : List Lane) → AreLanes p k lanes → AreLawful p k (map journal_of lanes) (map fields_of lanes)
 lanes_lawful p k [] are = tt
 lanes_lawful p k (x ∷ lanes) are = (are.0.lawful, are.0.replayed, lanes_lawful p (k + 1) lanes are.1)
 
+each_told : (p : Parts) (k : ℕ) (lanes : List Lane) → AreLanes p k lanes → AllByRecursion (λ (j : Vec Record Global). All (IsToldTurn p) j.items) (map journal_of lanes)
+each_told p k [] are = tt
+each_told p k (x ∷ lanes) are = (are.0.told, each_told p (k + 1) lanes are.1)
+
+-- the turns of the executors were told what belongs to their tasks
+pub lanes_told : (p : Parts) (lanes : List Lane) → AreLanes p 0 lanes → AreTold p (map journal_of lanes)
+lanes_told p lanes are = All-from_recursion (λ (j : Vec Record Global). All (IsToldTurn p) j.items) (map journal_of lanes) (each_told p 0 lanes are)
+
 -- a lane before its first job
 pub lane_new : (p : Parts) (k : ℕ) (lane : Lane) → lane.jobs.items ≡ [] → lane.fields.items ≡ actor_start p k → lane.journal.items ≡ [] → IsLane p k lane
 lane_new p k lane jobs fields journal = record {
   lawful = subst (λ (rs : List Record). IsLawful p k (actor_start p k) rs) (sym journal) tt;
   replayed = fields ∙ ap (λ (rs : List Record). replay p (actor_start p k) rs) (sym journal);
+  told = subst (λ (rs : List Record). All (IsToldTurn p) rs) (sym journal) (All-nil (IsToldTurn p));
   jobs = subst (λ (js : List Pending). AllByRecursion (IsJobOf p k) js) (sym jobs) tt;
 }
 

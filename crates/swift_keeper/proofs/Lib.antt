@@ -1,3 +1,4 @@
+pub mod Boards
 pub mod Journals
 pub mod Lanes
 pub mod Turned

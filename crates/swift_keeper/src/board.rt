@@ -1,9 +1,9 @@
 //! All executors, and the tokens of those that have jobs.
 
-ghost use Rattle.std.specs.Prelude.{◌≡◌, ◌<◌, ◌-◌, ◌+◌, min, [], length, IfOk, OnOk};
+ghost use Rattle.std.specs.Prelude.{◌≡◌, ◌<◌, ◌-◌, ◌+◌, min, [], length, map, IfOk, OnOk};
 ghost use Rattle.std.specs.Arc.{arc_value};
 ghost use Rattle.swift_script.specs.Scripts.{Parts, actor_count, root_count};
-ghost use Rattle.swift_keeper.specs.Lanes.{AreLanes, CanRun, GoesTo, resume_at};
+ghost use Rattle.swift_keeper.specs.Lanes.{EndsBy, IsBoard, IsJobOf, IsTurned, journal_of, resume_at};
 
 use crate::fault::Halt;
 use crate::gate::{Gate, Moment};
@@ -36,7 +36,7 @@ pub struct Board {
 
 // A board with an executor for each actor, and no job.
 pub fn empty_board(alloc: Global, script: &Script) -> Result<Board, Halt>
-    ensures lanes { IfOk result (λ b. AreLanes script.now 0 b.lanes.items) }
+    ensures board { IfOk result (λ b. IsBoard script.now b) }
     ensures actors { IfOk result (λ b. length b.lanes.items ≡ actor_count script.now) }
     ensures tasks { IfOk result (λ b. b.endings.items ≡ []) }
 {
@@ -58,7 +58,7 @@ pub fn empty_board(alloc: Global, script: &Script) -> Result<Board, Halt>
 
 // Puts a job behind the others of this actor's executor, whose token goes behind the others where it was idle.
 fn enqueue(board: &mut Board, actor: ActorId, job: Pending) -> Result<(), Halt>
-    ensures lanes { (p : Parts) → AreLanes p 0 board.old.lanes.items → CanRun p actor.0 job.body.value → OnOk result (AreLanes p 0 board.new.lanes.items) }
+    ensures board { (p : Parts) → IsBoard p board.old → IsJobOf p actor.0 job → OnOk result (IsBoard p board.new) }
     ensures actors { OnOk result (length board.new.lanes.items ≡ length board.old.lanes.items) }
     ensures endings { board.new.endings ≡ board.old.endings }
 {
@@ -83,14 +83,9 @@ fn room_of(roots: usize) -> u32
 }
 
 // The first job of a root's task, and the actor at whose executor it runs.
-fn first_job(
-    alloc: Global,
-    script: &Arc<Script>,
-    root: RootId,
-    room: u32,
-) -> Result<(ActorId, Pending), Halt>
+fn first_job(alloc: Global, script: &Arc<Script>, root: RootId) -> Result<(ActorId, Pending), Halt>
     requires { root.0 < root_count (arc_value script.now) }
-    ensures { IfOk result (λ r. CanRun (arc_value script.now) r.0.0 r.1.body.value) }
+    ensures { IfOk result (λ r. IsJobOf (arc_value script.now) r.0.0 r.1) }
 {
     let method = script.root_method(root);
     // No script that was read has a root that calls a method which it lacks.
@@ -101,7 +96,7 @@ fn first_job(
     let env = Env {
         priority: script.root_priority(root),
         cancelled: false,
-        room,
+        room: room_of(script.root_count()),
     };
     let actor = script.actor_of(method);
     let body = Box::new(
@@ -122,17 +117,16 @@ fn first_job(
 
 // Enqueues the first job of each root, in order of declaration.
 pub fn start_roots(alloc: Global, script: &Arc<Script>, board: &mut Board) -> Result<(), Halt>
-    requires { AreLanes (arc_value script.now) 0 board.old.lanes.items }
-    ensures lanes { OnOk result (AreLanes (arc_value script.now) 0 board.new.lanes.items) }
+    requires { IsBoard (arc_value script.now) board.old }
+    ensures board { OnOk result (IsBoard (arc_value script.now) board.new) }
     ensures actors { OnOk result (length board.new.lanes.items ≡ length board.old.lanes.items) }
     ensures tasks { OnOk result (length board.new.endings.items ≡ length board.old.endings.items + root_count (arc_value script.now)) }
 {
-    let room = room_of(script.root_count());
     for k in 0..script.root_count() {
         let Ok(root) = u32::try_from(k) else {
             return Err(Halt::Unfinished);
         };
-        let (actor, job) = first_job(alloc, script, RootId(root), room)?;
+        let (actor, job) = first_job(alloc, script, RootId(root))?;
         enqueue(board, actor, job)?;
         board.endings.push(None)?;
     }
@@ -141,7 +135,7 @@ pub fn start_roots(alloc: Global, script: &Arc<Script>, board: &mut Board) -> Re
 
 // What comes after a turn: the next job of its task, or the ending.
 fn go_on(board: &mut Board, turned: Turned) -> Result<(), Halt>
-    ensures lanes { (p : Parts) → AreLanes p 0 board.old.lanes.items → GoesTo p turned.body.value turned.step → OnOk result (AreLanes p 0 board.new.lanes.items) }
+    ensures board { (p : Parts) → IsBoard p board.old → IsTurned p turned → EndsBy (map journal_of board.old.lanes.items) turned.task.0 turned.step → OnOk result (IsBoard p board.new) }
     ensures actors { OnOk result (length board.new.lanes.items ≡ length board.old.lanes.items) }
     ensures tasks { OnOk result (length board.new.endings.items ≡ length board.old.endings.items) }
 {
@@ -199,8 +193,8 @@ fn play_oldest<G>(
 ) -> Result<bool, Halt>
 where
     G: Gate,
-    requires { AreLanes script.now 0 board.old.lanes.items }
-    ensures lanes { OnOk result (AreLanes script.now 0 board.new.lanes.items) }
+    requires { IsBoard script.now board.old }
+    ensures board { OnOk result (IsBoard script.now board.new) }
     ensures actors { OnOk result (length board.new.lanes.items ≡ length board.old.lanes.items) }
     ensures tasks { OnOk result (length board.new.endings.items ≡ length board.old.endings.items) }
 {
@@ -232,8 +226,8 @@ pub fn drain<G>(
 ) -> Result<(), Halt>
 where
     G: Gate,
-    requires { AreLanes script.now 0 board.old.lanes.items }
-    ensures lanes { OnOk result (AreLanes script.now 0 board.new.lanes.items) }
+    requires { IsBoard script.now board.old }
+    ensures board { OnOk result (IsBoard script.now board.new) }
     ensures actors { OnOk result (length board.new.lanes.items ≡ length board.old.lanes.items) }
     ensures tasks { OnOk result (length board.new.endings.items ≡ length board.old.endings.items) }
 {

@@ -12,7 +12,7 @@ pub enum RunFault {
     /// A growth was refused.
     #[error("N2 no memory")]
     Memory,
-    /// Jobs were left that no worker would ever run. No script that was read leads here.
+    /// Jobs were left that no worker would ever run, or a script asked for what no script that was read can.
     #[error("N3 unfinished jobs")]
     Unfinished,
 }

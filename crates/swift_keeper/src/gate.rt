@@ -13,6 +13,7 @@ pub enum Moment {
 
 /// Is told of each moment as it comes (our own). It can look on, and changes nothing of the run.
 pub trait Gate {
+    /// Called on the thread that runs the turns, twice a turn. The run waits until it returns.
     fn at(&self, moment: Moment);
 }
 

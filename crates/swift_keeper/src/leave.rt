@@ -2,8 +2,10 @@
 
 ghost use Rattle.std.specs.Prelude.{◌≡◌, [], length, map, IfOk};
 ghost use Rattle.swift_script.specs.Scripts.{Parts};
+ghost use Rattle.swift_report.specs.Ended.{AreEnded};
 ghost use Rattle.swift_report.specs.Lawful.{AreLawful};
-ghost use Rattle.swift_keeper.specs.Lanes.{AreLanes, AreRootsFrom, fields_of, journal_of};
+ghost use Rattle.swift_keeper.specs.Lanes.{AreRootsFrom, IsBoard, ending_in, fields_of, journal_of};
+ghost use Rattle.swift_keeper.specs.Told.{AreTold};
 
 use crate::board::Board;
 use crate::fault::Halt;
@@ -14,7 +16,9 @@ use swift_types::{Ending, RootId};
 
 // The report of a board whose tasks have all ended.
 pub fn report_of(alloc: Global, board: Board) -> Result<Report, Halt>
-    ensures lawful { IfOk result (λ r. (p : Parts) → AreLanes p 0 board.lanes.items → AreLawful p 0 r.journals.items r.fields.items) }
+    ensures lawful { IfOk result (λ r. (p : Parts) → IsBoard p board → AreLawful p 0 r.journals.items r.fields.items) }
+    ensures told { IfOk result (λ r. (p : Parts) → IsBoard p board → AreTold p r.journals.items) }
+    ensures ended { IfOk result (λ r. (p : Parts) → IsBoard p board → AreEnded r.journals.items 0 r.endings.items) }
     ensures journals { IfOk result (λ r. length r.journals.items ≡ length board.lanes.items) }
     ensures fields { IfOk result (λ r. length r.fields.items ≡ length board.lanes.items) }
     ensures log { IfOk result (λ r. r.log.items ≡ []) }
@@ -57,7 +61,7 @@ fn part(alloc: Global, lanes: Vec<Lane>) -> Result<(Vec<Vec<Record>>, Vec<Vec<i6
 
 // How each task ended, with the root that made it.
 fn endings_of(alloc: Global, endings: &[Option<Ending>]) -> Result<Vec<(Origin, Ending)>, Halt>
-    ensures tasks { IfOk result (λ r. length r.items ≡ length endings.now) }
+    ensures same { IfOk result (λ r. map ending_in r.items ≡ endings.now) }
     ensures roots { IfOk result (λ r. AreRootsFrom 0 r.items) }
 {
     let mut all = Vec::new(alloc);

@@ -1,7 +1,7 @@
 //! One turn of an executor's oldest job.
 
 ghost use Rattle.std.specs.Prelude.{IfOk, OnOk};
-ghost use Rattle.swift_keeper.specs.Lanes.{GoesTo, IsLane};
+ghost use Rattle.swift_keeper.specs.Lanes.{IsLane, IsTurned, Writes};
 
 use crate::fault::Halt;
 use crate::lane::{Lane, Pending};
@@ -35,7 +35,8 @@ pub fn take_turn(
 ) -> Result<Turned, Halt>
     requires { IsLane script.now actor.0 lane.old }
     ensures lane { OnOk result (IsLane script.now actor.0 lane.new) }
-    ensures next { IfOk result (λ t. GoesTo script.now t.body.value t.step) }
+    ensures next { IfOk result (λ t. IsTurned script.now t) }
+    ensures written { IfOk result (λ t. Writes lane.old.journal.items lane.new.journal.items t) }
 {
     // A token stands for at least one job.
     let Some(job) = lane.jobs.pop_front() else {

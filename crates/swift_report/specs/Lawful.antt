@@ -1,8 +1,11 @@
 -- The replay of a journal, and when a journal is lawful (SE-0392 for executors that run one job at a time).
-use Rattle.std.specs.Prelude.{◌≡◌, ℕ, ◌+◌, ℤ, List, [], ◌∷◌}
+use Rattle.std.specs.Prelude.{◌≡◌, ℕ, ◌+◌, ◌<◌, ◌≤◌, ℤ, IsTrue, List, [], ◌∷◌}
 use Rattle.std.specs.declared.vec.Vec.{Vec}
 use Rattle.std.specs.declared.alloc.Global.{Global}
-use Rattle.swift_script.specs.Scripts.{Parts, actor_start, method_actor}
+use Rattle.swift_types.specs.declared.outcome.Fault.TheVariants.{Turns}
+use Rattle.swift_types.specs.declared.outcome.Resume.TheVariants.{Fault as Raise}
+use Rattle.swift_lines.specs.Value.{holds}
+use Rattle.swift_script.specs.Scripts.{Parts, actor_invariant, actor_start, method_actor, method_count}
 use Rattle.swift_turn.specs.Turn.{Played}
 use Rattle.swift_turn.specs.Body.{frame_turn}
 use Rattle.swift_turn.specs.Frame.{deeds_of}
@@ -22,11 +25,18 @@ abbrev pub replay : Parts → List ℤ → List Record → List ℤ
 replay p fields [] = fields
 replay p fields (r ∷ rs) = replay p (fields_after p fields r) rs
 
--- a record's exit and effects are those of the kept turn, and its frame is of a method of this actor
+-- how many turns of a task may run statements
+abbrev pub most_turns : ℕ
+most_turns = 1000
+
+-- A record's exit and effects are those of the kept turn, its frame is of a method that the script has and that is one
+-- of this actor, and where its task has had 1,000 turns before, it begins with the fault that says so.
 pub record IsKept (p : Parts) (k : ℕ) (fields : List ℤ) (r : Record) : Type 0 where
   pub exit : leaving_of r.exit ≡ (turn_of p fields r).exit
   pub effects : deeds_of r.effects.items ≡ (turn_of p fields r).state.effects
+  pub method : r.frame.method.0 < method_count p
   pub actor : method_actor p r.frame.method.0 ≡ k
+  pub late : most_turns ≤ r.number → r.resume ≡ Raise Turns
 
 -- Each record's exit and effects are what the kept turn gives at that point of the replay.
 abbrev pub IsLawful : Parts → ℕ → List ℤ → List Record → Type 0
@@ -39,3 +49,9 @@ AreLawful p k [] [] = Unit {0}
 AreLawful p k (journal ∷ journals) (fields ∷ others) =
     IsLawful p k (actor_start p k) journal.items × (fields.items ≡ replay p (actor_start p k) journal.items) × (AreLawful p (k + 1) journals others)
 AreLawful p k _ _ = ⊥
+
+-- Of each actor from a number on: where its invariant holds of what its fields start with, it holds of these fields.
+abbrev pub KeepInvariants : Parts → ℕ → List (Vec ℤ Global) → Type 0
+KeepInvariants p k [] = Unit {0}
+KeepInvariants p k (fields ∷ others) =
+    (IsTrue (holds (actor_invariant p k) (actor_start p k)) → IsTrue (holds (actor_invariant p k) fields.items)) × KeepInvariants p (k + 1) others

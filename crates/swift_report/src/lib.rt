@@ -3,6 +3,8 @@
 
 // Numbers in decimal.
 mod append;
+// Laws of journals.
+pub mod laws;
 // Names by the places of journals and fields.
 mod named;
 // Records of turns, and reports.

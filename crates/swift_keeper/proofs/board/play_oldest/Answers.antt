@@ -1,9 +1,9 @@
-use Rattle.std.proofs.Common.{◌≡◌, ◌+◌, ℕ, sym, subst, arith, zero-add}
-use Rattle.std.specs.Prelude.{slice_set}
+use Rattle.std.proofs.Common.{◌<◌, ◌+◌, length, map, sym, subst, arith, zero-add}
 use Rattle.swift_keeper.specs.declared.lane.Lane.{Lane}
 use Rattle.swift_keeper.specs.declared.board.Board.{Board}
-use Rattle.swift_keeper.specs.Lanes.{AreLanes, IsLane}
-use Rattle.swift_keeper.proofs.Lanes.{lane_at, lane_set}
+use Rattle.swift_keeper.specs.Lanes.{EndsBy, IsBoard, IsLane, journal_of}
+use Rattle.swift_keeper.proofs.Lanes.{lane_at}
+use Rattle.swift_keeper.proofs.Boards.{board_turned}
 use Rattle.swift_keeper.proofs.board.play_oldest.Goals.{then-not-is_empty+in_ok-push_back, else-not-is_empty}
 use Rattle.swift_keeper.proofs.board.play_oldest.Goals as goal
 
@@ -13,14 +13,18 @@ take_turn-requires g c =
     let k = c.in-Some.actor.0 in
     subst (λ n. IsLane p n c.index_mut-lane.result.now) (zero-add k)
     (subst (λ (l : Lane). IsLane p (0 + k) l) (sym c.index_mut-lane.ensures.value)
-    (lane_at p 0 c.args.board.now.lanes.items k c.index_mut-lane.result.now c.requires (omega (arith, c.if-place-len.false, c.len.ensures))))
+    (lane_at p 0 c.args.board.now.lanes.items k c.index_mut-lane.result.now c.requires.lanes (omega (arith, c.if-place-len.false, c.len.ensures))))
 
-pub returns-clause-lanes : goal.returns-clause-lanes
-returns-clause-lanes g c =
+pub returns-clause-board : goal.returns-clause-board
+returns-clause-board g c =
     let p = c.args.script.now in
     let k = c.in-Some.actor.0 in
-    let base : AreLanes p 0 (slice_set c.args.board.now.lanes.items k c.take_turn.new.lane) =
-    lane_set p 0 c.args.board.now.lanes.items k c.take_turn.new.lane c.requires (subst (λ n. IsLane p n c.take_turn.new.lane) (sym (zero-add k)) c.in_ok-turned.ensures.lane) in
-    let board : AreLanes p 0 c.if-not-is_empty.board.lanes.items =
-    elim c.if-not-is_empty.branch [ then-not-is_empty+in_ok-push_back w ↦ subst (λ (b : Board). AreLanes p 0 b.lanes.items) (sym w.board-is) base | else-not-is_empty w ↦ subst (λ (b : Board). AreLanes p 0 b.lanes.items) (sym w.board-is) base ] in
-    c.in_ok-go_on.ensures.lanes p board c.in_ok-turned.ensures.next
+    let t = c.in_ok-turned.turned in
+    let within : k < length c.args.board.now.lanes.items = omega (arith, c.if-place-len.false, c.len.ensures) in
+    let turned = board_turned p c.args.board.now.lanes.items c.args.board.now.endings.items k c.index_mut-lane.result.now c.take_turn.new.lane t c.requires within c.index_mut-lane.ensures.value c.in_ok-turned.ensures.lane c.in_ok-turned.ensures.written in
+    let after : IsBoard p c.if-not-is_empty.board × EndsBy (map journal_of c.if-not-is_empty.board.lanes.items) t.task.0 t.step =
+    elim c.if-not-is_empty.branch [
+      | then-not-is_empty+in_ok-push_back w ↦ subst (λ (b : Board). IsBoard p b × EndsBy (map journal_of b.lanes.items) t.task.0 t.step) (sym w.board-is) turned
+      | else-not-is_empty w ↦ subst (λ (b : Board). IsBoard p b × EndsBy (map journal_of b.lanes.items) t.task.0 t.step) (sym w.board-is) turned
+    ] in
+    c.in_ok-go_on.ensures.board p after.0 c.in_ok-turned.ensures.next after.1

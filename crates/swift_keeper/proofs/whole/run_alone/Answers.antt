@@ -1,0 +1,22 @@
+use Rattle.std.proofs.Common.{Result, subst}
+use Rattle.std.specs.Arc.{arc_value}
+use Rattle.swift_script.specs.Scripts.{Parts}
+use Rattle.swift_report.specs.declared.report.Report.{Report}
+use Rattle.swift_report.specs.Lawful.{AreLawful, KeepInvariants}
+use Rattle.swift_keeper.specs.Lanes.{IsBoard}
+use Rattle.swift_keeper.specs.Told.{AreTold}
+use Rattle.swift_keeper.proofs.Boards.{IfOk-more}
+use Rattle.swift_keeper.proofs.whole.run_alone.Goals as goal
+
+pub returns-clause-told : goal.returns-clause-told
+returns-clause-told g c =
+    let p = arc_value c.args.script.now in
+    let kept : IsBoard p c.drain-drained.new.board = subst (λ (s : Parts). IsBoard s c.drain-drained.new.board) c.deref-2.ensures c.in_ok-drained.ensures.board in
+    IfOk-more c.report_of.result _ (λ (r : Report). AreTold p r.journals.items) (λ (r : Report) (told : (q : Parts) → IsBoard q c.drain-drained.new.board → AreTold q r.journals.items). told p kept) c.report_of.ensures.told
+
+pub returns-clause-invariants : goal.returns-clause-invariants
+returns-clause-invariants g c =
+    let p = arc_value c.args.script.now in
+    let kept : IsBoard p c.drain-drained.new.board = subst (λ (s : Parts). IsBoard s c.drain-drained.new.board) c.deref-2.ensures c.in_ok-drained.ensures.board in
+    IfOk-more c.report_of.result _ (λ (r : Report). KeepInvariants p 0 r.fields.items)
+    (λ (r : Report) (lawful : (q : Parts) → IsBoard q c.drain-drained.new.board → AreLawful q 0 r.journals.items r.fields.items). c.invariants_stay.ensures.report p 0 r.journals.items r.fields.items (lawful p kept)) c.report_of.ensures.lawful
