@@ -8,3 +8,4 @@ pub mod Compiling
 pub mod Building
 pub mod SameScripts
 pub mod Printing
+pub mod Starting

@@ -1,5 +1,7 @@
 -- What the program writes of a run.
-use Rattle.std.specs.Prelude.{◌≡◌, ◌≢◌, ⊤, ℕ, Bool, true, false, Option, List, [], ◌∷◌, length}
+use Rattle.std.specs.Prelude.{◌≡◌, ◌≢◌, ⊤, ℕ, ℤ, ◌+◌, Bool, true, false, IsTrue, Option, List, [], ◌∷◌, length}
+use Rattle.std.specs.declared.vec.Vec.{Vec}
+use Rattle.std.specs.declared.alloc.Global.{Global}
 use Rattle.swift_types.specs.declared.outcome.Ending.{Ending}
 use Rattle.swift_types.specs.declared.outcome.Ending.TheVariants.{Value, Fault}
 use Rattle.swift_report.specs.declared.report.Origin.{Origin}
@@ -9,13 +11,16 @@ use Rattle.swift_script.specs.Script.{ScriptTree}
 use Rattle.swift_script.specs.Refuses.{Refuses}
 use Rattle.swift_output.specs.Part.{WritesPart}
 use Rattle.swift_keeper.specs.Lanes.{AreRootsFrom}
+use Rattle.swift_keeper.specs.Told.{AreTold}
 use Rattle.swift_keeper.specs.declared.fault.RunFault.{RunFault}
 use Rattle.swift_keeper.specs.declared.fault.RunFault.TheVariants.{Workers, Memory, Unfinished}
 use Rattle.swift_tool.specs.declared.fault.ToolFault.{ToolFault}
 use Rattle.swift_tool.specs.declared.fault.ToolFault.TheVariants as tool
-use Rattle.swift_script.specs.Scripts.{Parts, tree_of, actor_count, root_count}
+use Rattle.swift_lines.specs.Value.{holds}
+use Rattle.swift_script.specs.Scripts.{Parts, tree_of, actor_count, actor_invariant, root_count}
 use Rattle.swift_report.specs.declared.report.Report.{Report}
 use Rattle.swift_report.specs.Lawful.{AreLawful}
+use Rattle.swift_report.specs.Ended.{AreEnded}
 use Rattle.swift_report.specs.Text.{report_text}
 
 -- whether each task ended with a value
@@ -27,9 +32,15 @@ abbrev pub end_well : List (Origin × Ending) → Bool
 end_well [] = true
 end_well (e ∷ es) = ends_well e.1 (end_well es)
 
--- A text is that of a run of the script that these bytes spell: the journal of each executor is lawful, the fields are
--- what replaying it gives, and there is one ending for each root, in order of declaration. `well` says whether each is
--- a value.
+-- Of each actor from a number on, the invariant, if it has one, holds of these fields.
+abbrev pub HoldInvariants : Parts → ℕ → List (Vec ℤ Global) → Type 0
+HoldInvariants p k [] = Unit {0}
+HoldInvariants p k (fields ∷ others) = IsTrue (holds (actor_invariant p k) fields.items) × HoldInvariants p (k + 1) others
+
+-- A text is that of a run of the script that these bytes spell: the journal of each executor is lawful, and each of its
+-- turns was told what belongs to its root; the fields are what replaying the journals gives, and each invariant holds
+-- of them; there is one ending for each root, in order of declaration, and each comes from a turn of its task. `well`
+-- says whether each is a value.
 pub record IsRunOf (bytes : List ℕ) (quiet : Bool) (text : List ℕ) (well : Bool) : Type 0 where
   pub script : Parts
   pub report : Report
@@ -37,8 +48,11 @@ pub record IsRunOf (bytes : List ℕ) (quiet : Bool) (text : List ℕ) (well : B
   pub lawful : AreLawful script 0 report.journals.items report.fields.items
   pub journals : length report.journals.items ≡ actor_count script
   pub fields : length report.fields.items ≡ actor_count script
+  pub invariants : HoldInvariants script 0 report.fields.items
+  pub told : AreTold script report.journals.items
   pub tasks : length report.endings.items ≡ root_count script
   pub roots : AreRootsFrom 0 report.endings.items
+  pub turned : AreEnded report.journals.items 0 report.endings.items
   pub ended : well ≡ end_well report.endings.items
   pub printed : text ≡ report_text script report quiet
 

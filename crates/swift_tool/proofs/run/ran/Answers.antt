@@ -1,9 +1,11 @@
 use Rattle.std.proofs.Common.{◌≡◌, ap, subst, ◌∙◌}
 use Rattle.std.specs.Arc.{arc_value}
 use Rattle.swift_script.specs.Scripts.{Parts, actor_count, root_count}
-use Rattle.swift_report.specs.Lawful.{AreLawful}
+use Rattle.swift_report.specs.Lawful.{AreLawful, KeepInvariants}
+use Rattle.swift_keeper.specs.Told.{AreTold}
 use Rattle.swift_report.specs.Text.{report_text}
 use Rattle.swift_tool.specs.Run.{end_well}
+use Rattle.swift_tool.proofs.Invariants.{invariants_hold}
 use Rattle.swift_tool.proofs.run.ran.Goals as goal
 
 pub returns-clause-ran : goal.returns-clause-ran
@@ -19,8 +21,11 @@ returns-clause-ran g c =
       lawful = subst (λ (p : Parts). AreLawful p 0 c.in_ok-report.report.journals.items c.in_ok-report.report.fields.items) same c.in_ok-report.ensures.lawful;
       journals = c.in_ok-report.ensures.journals ∙ ap actor_count same;
       fields = c.in_ok-report.ensures.fields ∙ ap actor_count same;
+      invariants = invariants_hold c.args.bytes.now c.in_ok-found.found c.in_ok-report.report.fields.items c.in_ok-found.ensures.found (subst (λ (p : Parts). KeepInvariants p 0 c.in_ok-report.report.fields.items) same c.in_ok-report.ensures.invariants);
+      told = subst (λ (p : Parts). AreTold p c.in_ok-report.report.journals.items) same c.in_ok-report.ensures.told;
       tasks = c.in_ok-report.ensures.tasks ∙ ap root_count same;
       roots = c.in_ok-report.ensures.roots;
+      turned = c.in_ok-report.ensures.ended;
       ended = c.all_ended_well-is_well.ensures ∙ ap end_well c.deref-2.ensures.value;
       printed = c.in_ok-text.ensures ∙ ap (λ (p : Parts). report_text p c.in_ok-report.report c.args.quiet) (lent ∙ made);
     }
