@@ -1,6 +1,7 @@
 //! Why a call on groups is refused.
 
 use std::alloc::AllocError;
+use std::fmt::{self, Display, Formatter, Write};
 
 /// Why a call was refused (our own). Causes are tried in this order, and nothing has changed then.
 #[derive(Clone, Copy, Debug, PartialEq, Eq)]
@@ -14,6 +15,17 @@ pub enum GroupFault {
     Child,
     /// G4: a growth was refused.
     Memory,
+}
+
+impl Display for GroupFault {
+    fn fmt<W: Write>(&self, f: &mut Formatter<W>) -> fmt::Result {
+        match self {
+            GroupFault::Unknown => f.write_str("G1 unknown group"),
+            GroupFault::Closed => f.write_str("G2 group closed"),
+            GroupFault::Child => f.write_str("G3 no such child, or a child already"),
+            GroupFault::Memory => f.write_str("G4 no memory"),
+        }
+    }
 }
 
 impl From<AllocError> for GroupFault {

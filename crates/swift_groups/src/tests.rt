@@ -117,3 +117,19 @@ fn a_thousand_children_end_in_reverse(rt: HostRuntime) -> Result<(), Fail> {
     assert!(rt; groups.close(g) == Ok(Close::Done));
     Ok(())
 }
+
+#[test]
+fn refusals_as_texts(rt: HostRuntime) -> Result<(), Fail> {
+    let texts = format!(in rt.alloc();
+        "{}, {}, {}, {}",
+        GroupFault::Unknown,
+        GroupFault::Closed,
+        GroupFault::Child,
+        GroupFault::Memory
+    )?;
+    assert_eq!(rt;
+        texts.as_str(),
+        "G1 unknown group, G2 group closed, G3 no such child, or a child already, G4 no memory"
+    );
+    Ok(())
+}

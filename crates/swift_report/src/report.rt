@@ -31,7 +31,7 @@ pub enum Origin {
     Root(RootId),
 }
 
-/// An event of the book's log. No book writes one yet.
+/// An event of a run: what happened to a task, beside its turns. No run writes one yet.
 #[derive(Drop)]
 pub enum Event {}
 
@@ -40,7 +40,7 @@ pub enum Event {}
 pub struct Report {
     /// The journal of each executor, in the order of executors: an actor's own, in text order.
     pub journals: Vec<Vec<Record>>,
-    /// Empty until there is a book.
+    /// What happened to tasks, in order: empty, since no run writes events yet.
     pub log: Vec<Event>,
     /// What made each task, and how it ended, in the order of tasks.
     pub endings: Vec<(Origin, Ending)>,
