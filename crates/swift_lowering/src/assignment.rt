@@ -3,8 +3,6 @@
 ghost use Rattle.std.specs.Prelude.{◌≡◌, ◌++◌, length, map, None, IfOk, OnOk};
 ghost use Rattle.swift_grammar.specs.Tree.{view, view_call, view_value, view_wait};
 ghost use Rattle.swift_names.specs.Rules.{call_fault, value_fault, wait_fault};
-ghost use Rattle.swift_names.specs.Texts.{place_of};
-ghost use Rattle.swift_names.specs.Directory.{has_method, method_place};
 ghost use Rattle.swift_lines.specs.Tree.{end, terms_of};
 ghost use Rattle.swift_lines.specs.Flat.{flat, meaning_of};
 ghost use Rattle.swift_lowering.specs.Lowered.{lowered, call_to, value_to};
