@@ -1,5 +1,4 @@
--- Laws of kept turns, over whole turns: an actor's invariant stays true, and a turn that is undone has done nothing (our
--- own).
+-- Laws of kept turns: an actor's invariant stays true, and a turn that is undone has done nothing (our own).
 use Rattle.std.specs.Prelude.{◌≡◌, ℕ, Option, Some, None, IsTrue}
 use Rattle.swift_types.specs.declared.outcome.Fault.{Fault}
 use Rattle.swift_types.specs.declared.outcome.Fault.TheVariants.{Invariant, Overflow, Steps, Tasks}
