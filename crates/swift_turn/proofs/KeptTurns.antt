@@ -16,13 +16,17 @@ use Rattle.swift_turn.specs.Frame.{frame_parts, state_at}
 use Rattle.swift_turn.specs.Laws.{fault_of, SaysUndone, IsUndone, IsUntouched}
 use Rattle.swift_turn.specs.declared.frame.Frame.{Frame}
 
--- how a frame is left changes nothing of these
-exits_untouched : (s : State) (e : Leaving) → IsUntouched s (exits s e).state
-exits_untouched s (failing f) = record { todo = refl; vars = refl; handles = refl; made = refl; opened = refl; fields = refl; effects = refl }
-exits_untouched s e = record { todo = refl; vars = refl; handles = refl; made = refl; opened = refl; fields = refl; effects = refl }
+-- how a frame is left changes nothing else
+left_untouched : (s : State) (f : Fault) → IsUntouched s (exits s (failing f)).state
+left_untouched s f = record { todo = refl; vars = refl; handles = refl; made = refl; opened = refl; fields = refl; effects = refl; depth = refl; bindings = refl; groups = refl }
+
+undoing_untouched : (s : State) (e : Leaving) → undoes e ≡ true → IsUntouched s (exits s e).state
+undoing_untouched s (failing f) is = left_untouched s f
+undoing_untouched s e is = absurd (cc)
 
 exits_fields : (s : State) (e : Leaving) → (exits s e).state.fields ≡ s.fields
-exits_fields s e = (exits_untouched s e).fields
+exits_fields s (failing f) = refl
+exits_fields s e = refl
 
 -- a fault that leaves a frame is seen, also where a group is closed first
 fault_of-exit_by : (f : Fault) (group : Option ℕ) → fault_of (exit_by f group) ≡ Some f
@@ -182,14 +186,15 @@ frame_keeps_invariant p frame fields resume env held =
 -- what is kept, where its end says that the turn was undone
 untouched_by : (before : State) (after : Played) (undone good : Bool) → Ends before after → undoes after.exit ≡ undone
     → IsUndone (kept_by undone good before after) → IsUntouched before (kept_by undone good before after).state
-untouched_by before after true good how u is = exits_untouched before after.exit
+untouched_by before after true good how u is = undoing_untouched before after.exit u
 untouched_by before after false true (inl plain) u is =
     let undoing = plain_undoes after.state after.exit plain is in
     let never : true ≡ false = sym undoing ∙ u in
     absurd (cc)
 untouched_by before after false true (inr refused) u is =
-    subst (λ (s : State). IsUntouched s (exits after.state after.exit).state) refused.1 (exits_untouched after.state after.exit)
-untouched_by before after false false how u is = exits_untouched before (failing Invariant)
+    let at = subst (λ (e : Leaving). IsUntouched after.state (exits after.state e).state) (sym refused.2) (left_untouched after.state refused.0) in
+    subst (λ (s : State). IsUntouched s (exits after.state after.exit).state) refused.1 at
+untouched_by before after false false how u is = left_untouched before Invariant
 
 pub undone_changes_nothing : (env : Env) (n : ℕ) (invariant : Option Term) (s : State) (resume : Resume)
     → IsUndone (kept env n invariant s resume) → IsUntouched s (kept env n invariant s resume).state

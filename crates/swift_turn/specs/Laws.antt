@@ -1,5 +1,4 @@
--- Laws of kept turns, over whole turns: an actor's invariant stays true, and a turn that is undone has done nothing (our
--- own).
+-- Laws of kept turns: an actor's invariant stays true, and a turn that is undone has done nothing (our own).
 use Rattle.std.specs.Prelude.{◌≡◌, ℕ, Option, Some, None, IsTrue}
 use Rattle.swift_types.specs.declared.outcome.Fault.{Fault}
 use Rattle.swift_types.specs.declared.outcome.Fault.TheVariants.{Invariant, Overflow, Steps, Tasks}
@@ -7,7 +6,7 @@ use Rattle.swift_types.specs.declared.outcome.Resume.{Resume}
 use Rattle.swift_lines.specs.Tree.{Term}
 use Rattle.swift_lines.specs.Value.{holds}
 use Rattle.swift_lines.specs.declared.env.Env.{Env}
-use Rattle.swift_turn.specs.Turn.{State, Leaving, closing, failing, Played, whole_turn, exits, kept}
+use Rattle.swift_turn.specs.Turn.{State, Leaving, closing, failing, Played, whole_turn, oldest, tail, exits, kept}
 
 -- the fault with which a turn ends, if it ends with one; where a group is closed first it is pending
 abbrev pub fault_of : Leaving → Option Fault
@@ -27,7 +26,8 @@ SaysUndone _ = ⊥
 abbrev pub IsUndone : Played → Type 0
 IsUndone p = SaysUndone (fault_of p.exit)
 
--- all that statements may change is as it was
+-- All is as it was, but for how the frame is left: its bindings are cut, and its innermost group, if one is open, is
+-- closed.
 pub record IsUntouched (before after : State) : Type 0 where
   pub todo : after.todo ≡ before.todo
   pub vars : after.vars ≡ before.vars
@@ -36,6 +36,9 @@ pub record IsUntouched (before after : State) : Type 0 where
   pub opened : after.opened ≡ before.opened
   pub fields : after.fields ≡ before.fields
   pub effects : after.effects ≡ before.effects
+  pub depth : after.depth ≡ before.depth
+  pub bindings : after.bindings ≡ oldest before.depth before.bindings
+  pub groups : after.groups ≡ tail before.groups
 
 -- Where an actor's invariant holds before a turn, it holds after it.
 abbrev pub InvariantIsKept : Type 0

@@ -94,9 +94,9 @@ impl Future for Body {
 
     ghost gives = { λ b e. ends_with b ≡ Some e };
 
-    /// Plays the turn that was entered (SE-0304); without one it yields and changes nothing. It is Ready with the ending
-    /// where the turn leaves the first frame, else Pending. For want of memory it is Pending too, which `leave` then
-    /// answers.
+    /// Plays the turn that was entered (SE-0304); without one it yields and changes nothing. It is Ready with the
+    /// ending where the turn leaves the first frame, else Pending. For want of memory it is Pending too, which `leave`
+    /// then answers.
     fn poll(&mut self, cx: &mut Context<'_>) -> Poll<Ending>
         ensures value { IfReady result (λ e. ends_with self.old ≡ Some e) }
         ensures same { OnPending result ((x : _) → ends_with self.new ≡ Some x → ends_with self.old ≡ Some x) }
@@ -179,9 +179,10 @@ impl Body {
         })
     }
 
-    /// Enters a turn of the frame that runs, on the fields of its actor. What an earlier turn waited for is over, so the
-    /// slot of its waker is emptied: a waker that lies there after the poll is that of its poll. Room for undoing the
-    /// turn is made here, so it may answer want of memory, and then hands the fields back and leaves the body as it was.
+    /// Enters a turn of the frame that runs, on the fields of its actor. What an earlier turn waited for is over, so
+    /// the slot of its waker is emptied: a waker that lies there after the poll comes from that poll. Room for undoing
+    /// the turn is made here, so it may answer want of memory, and then hands the fields back and leaves the body as
+    /// it was.
     pub fn enter(
         &mut self,
         fields: Vec<i64>,

@@ -8,8 +8,9 @@ pub fn invariant_is_kept()
     ensures { InvariantIsKept }
 {}
 
-/// A turn that ends with a false invariant, `overflow`, `steps` or `tasks` changes nothing: its frame's variables and
-/// the statements still to do, its task's counts and its actor's fields are as before, and it has no effect (our own).
+/// A turn that ends with a false invariant, `overflow`, `steps` or `tasks` changes nothing but how its frame is left:
+/// the frame's variables and the statements still to do, its task's counts and its actor's fields are as before, it has
+/// no effect, and no binding and no group of that turn stands (our own).
 pub fn undone_turn_changes_nothing()
     ensures { UndoneChangesNothing }
 {}
