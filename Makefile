@@ -20,11 +20,12 @@ examples: $(PROGRAM)
 	done
 
 # More allocations than a run of swift_refusals makes.
-ALLOCATIONS = 1300
+ALLOCATIONS = 1700
 
 # Runs swift_refusals once for each of its allocations, with that one refused, and compares what it writes with its file
 # stdout. Each run has a file with the number of allocations that are made and given back first; the run of the file 0
-# has to be refused none. The last line counts the runs: all of them have ended, and none differs. It takes ten minutes.
+# has to be refused none. The last line counts the runs: all of them have ended, and none differs. It takes a quarter of
+# an hour.
 refusals:
 	@cases=$$(mktemp -d); \
 	for n in $$(seq 0 $$(($(ALLOCATIONS) - 1))); do \

@@ -14,7 +14,7 @@ use swift_script::{Script, ScriptFault, ScriptFaultKind, print_script, read};
 use swift_tokens::tokens;
 
 /// A script with each kind of declaration, of statement and of operator.
-const TEXT: &str = "// A bank and a client.
+pub const TEXT: &str = "// A bank and a client.
 actor Bank {
     var total = 3;
     var lent = -1;
