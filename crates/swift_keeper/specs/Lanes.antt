@@ -18,6 +18,7 @@ use Rattle.swift_turn.specs.declared.exit.Step.{Step}
 use Rattle.swift_turn.specs.declared.exit.Step.TheVariants.{Run, Ended}
 use Rattle.swift_report.specs.Lawful.{IsLawful, most_turns, replay}
 use Rattle.swift_report.specs.Ended.{IsEndedBy, exit_of}
+use Rattle.swift_report.specs.Numbered.{HaveBefore}
 use Rattle.swift_keeper.specs.declared.board.Board.{Board}
 use Rattle.swift_keeper.specs.declared.lane.Lane.{Lane}
 use Rattle.swift_keeper.specs.declared.lane.Pending.{Pending}
@@ -59,9 +60,15 @@ abbrev pub AreEndings : List (Vec Record Global) → ℕ → List (Option Ending
 AreEndings journals task [] = Unit {0}
 AreEndings journals task (e ∷ es) = IfSome e (IsEndedBy journals task) × AreEndings journals (task + 1) es
 
+-- before each job and each turn of an executor, the turns of its task stand in these journals
+pub record IsNumbered (journals : List (Vec Record Global)) (lane : Lane) : Type 0 where
+  pub jobs : AllByRecursion (λ (job : Pending). HaveBefore journals job.task.0 job.number) lane.jobs.items
+  pub turns : All (λ (r : Record). HaveBefore journals r.task.0 r.number) lane.journal.items
+
 pub record AreKept (p : Parts) (all : List Lane) (ends : List (Option Ending)) : Type 0 where
   pub lanes : AreLanes p 0 all
   pub endings : AreEndings (map journal_of all) 0 ends
+  pub numbered : AllByRecursion (IsNumbered (map journal_of all)) all
 
 -- the executors of all actors, with the endings of the tasks whose turns they ran
 abbrev pub IsBoard : Parts → Board → Type 0
@@ -89,6 +96,13 @@ pub record Writes (old new : List Record) (t : Turned) : Type 0 where
   pub task : turn.task ≡ t.task
   pub number : turn.number ≡ t.number
   pub left : LeavesBy turn.exit t.step
+
+-- the first job is the one whose turn the task has had
+pub record Takes (old new : List Pending) (t : Turned) : Type 0 where
+  pub job : Pending
+  pub first : old ≡ job ∷ new
+  pub task : job.task ≡ t.task
+  pub number : job.number ≡ t.number
 
 -- where a task has ended, it did so by a turn in one of these journals
 abbrev pub EndsBy : List (Vec Record Global) → ℕ → Step → Type 0

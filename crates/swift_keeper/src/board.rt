@@ -3,6 +3,7 @@
 ghost use Rattle.std.specs.Prelude.{◌≡◌, ◌<◌, ◌-◌, ◌+◌, min, [], length, map, IfOk, OnOk};
 ghost use Rattle.std.specs.Arc.{arc_value};
 ghost use Rattle.swift_script.specs.Scripts.{Parts, actor_count, root_count};
+ghost use Rattle.swift_report.specs.Numbered.{HaveBefore};
 ghost use Rattle.swift_keeper.specs.Lanes.{EndsBy, IsBoard, IsJobOf, IsTurned, journal_of, resume_at};
 
 use crate::fault::Halt;
@@ -58,7 +59,7 @@ pub fn empty_board(alloc: Global, script: &Script) -> Result<Board, Halt>
 
 // Puts a job behind the others of this actor's executor, whose token goes behind the others where it was idle.
 fn enqueue(board: &mut Board, actor: ActorId, job: Pending) -> Result<(), Halt>
-    ensures board { (p : Parts) → IsBoard p board.old → IsJobOf p actor.0 job → OnOk result (IsBoard p board.new) }
+    ensures board { (p : Parts) → IsBoard p board.old → IsJobOf p actor.0 job → HaveBefore (map journal_of board.old.lanes.items) job.task.0 job.number → OnOk result (IsBoard p board.new) }
     ensures actors { OnOk result (length board.new.lanes.items ≡ length board.old.lanes.items) }
     ensures endings { board.new.endings ≡ board.old.endings }
 {
@@ -85,7 +86,8 @@ fn room_of(roots: usize) -> u32
 // The first job of a root's task, and the actor at whose executor it runs.
 fn first_job(alloc: Global, script: &Arc<Script>, root: RootId) -> Result<(ActorId, Pending), Halt>
     requires { root.0 < root_count (arc_value script.now) }
-    ensures { IfOk result (λ r. IsJobOf (arc_value script.now) r.0.0 r.1) }
+    ensures job { IfOk result (λ r. IsJobOf (arc_value script.now) r.0.0 r.1) }
+    ensures first { IfOk result (λ r. r.1.number ≡ 0) }
 {
     let method = script.root_method(root);
     // No script that was read has a root that calls a method which it lacks.
@@ -135,7 +137,7 @@ pub fn start_roots(alloc: Global, script: &Arc<Script>, board: &mut Board) -> Re
 
 // What comes after a turn: the next job of its task, or the ending.
 fn go_on(board: &mut Board, turned: Turned) -> Result<(), Halt>
-    ensures board { (p : Parts) → IsBoard p board.old → IsTurned p turned → EndsBy (map journal_of board.old.lanes.items) turned.task.0 turned.step → OnOk result (IsBoard p board.new) }
+    ensures board { (p : Parts) → IsBoard p board.old → IsTurned p turned → EndsBy (map journal_of board.old.lanes.items) turned.task.0 turned.step → HaveBefore (map journal_of board.old.lanes.items) turned.task.0 (turned.number + 1) → OnOk result (IsBoard p board.new) }
     ensures actors { OnOk result (length board.new.lanes.items ≡ length board.old.lanes.items) }
     ensures tasks { OnOk result (length board.new.endings.items ≡ length board.old.endings.items) }
 {

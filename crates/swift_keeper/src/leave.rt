@@ -4,6 +4,7 @@ ghost use Rattle.std.specs.Prelude.{◌≡◌, [], length, map, IfOk};
 ghost use Rattle.swift_script.specs.Scripts.{Parts};
 ghost use Rattle.swift_report.specs.Ended.{AreEnded};
 ghost use Rattle.swift_report.specs.Lawful.{AreLawful};
+ghost use Rattle.swift_report.specs.Numbered.{HaveNoGaps};
 ghost use Rattle.swift_keeper.specs.Lanes.{AreRootsFrom, IsBoard, ending_in, fields_of, journal_of};
 ghost use Rattle.swift_keeper.specs.Told.{AreTold};
 
@@ -18,6 +19,7 @@ use swift_types::{Ending, RootId};
 pub fn report_of(alloc: Global, board: Board) -> Result<Report, Halt>
     ensures lawful { IfOk result (λ r. (p : Parts) → IsBoard p board → AreLawful p 0 r.journals.items r.fields.items) }
     ensures told { IfOk result (λ r. (p : Parts) → IsBoard p board → AreTold p r.journals.items) }
+    ensures numbered { IfOk result (λ r. (p : Parts) → IsBoard p board → HaveNoGaps r.journals.items) }
     ensures ended { IfOk result (λ r. (p : Parts) → IsBoard p board → AreEnded r.journals.items 0 r.endings.items) }
     ensures journals { IfOk result (λ r. length r.journals.items ≡ length board.lanes.items) }
     ensures fields { IfOk result (λ r. length r.fields.items ≡ length board.lanes.items) }

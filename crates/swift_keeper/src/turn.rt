@@ -1,7 +1,7 @@
 //! One turn of an executor's oldest job.
 
 ghost use Rattle.std.specs.Prelude.{IfOk, OnOk};
-ghost use Rattle.swift_keeper.specs.Lanes.{IsLane, IsTurned, Writes};
+ghost use Rattle.swift_keeper.specs.Lanes.{IsLane, IsTurned, Takes, Writes};
 
 use crate::fault::Halt;
 use crate::lane::{Lane, Pending};
@@ -36,6 +36,7 @@ pub fn take_turn(
     requires { IsLane script.now actor.0 lane.old }
     ensures lane { OnOk result (IsLane script.now actor.0 lane.new) }
     ensures next { IfOk result (λ t. IsTurned script.now t) }
+    ensures taken { IfOk result (λ t. Takes lane.old.jobs.items lane.new.jobs.items t) }
     ensures written { IfOk result (λ t. Writes lane.old.journal.items lane.new.journal.items t) }
 {
     // A token stands for at least one job.

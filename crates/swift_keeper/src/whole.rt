@@ -5,6 +5,7 @@ ghost use Rattle.std.specs.Arc.{arc_value};
 ghost use Rattle.swift_script.specs.Scripts.{actor_count, root_count};
 ghost use Rattle.swift_report.specs.Ended.{AreEnded};
 ghost use Rattle.swift_report.specs.Lawful.{AreLawful, KeepInvariants};
+ghost use Rattle.swift_report.specs.Numbered.{HaveNoGaps};
 ghost use Rattle.swift_keeper.specs.Lanes.{AreRootsFrom};
 ghost use Rattle.swift_keeper.specs.Told.{AreTold};
 ghost use Rattle.swift_keeper.specs.declared.fault.RunFault.TheVariants.{Workers};
@@ -45,6 +46,8 @@ where
     ensures invariants { IfOk result (λ r. KeepInvariants (arc_value script) 0 r.fields.items) }
     // Each turn is one of a root's task, was told what belongs to that root, and ran on worker 0.
     ensures told { IfOk result (λ r. AreTold (arc_value script) r.journals.items) }
+    // The turns of each task are numbered without gaps.
+    ensures numbered { IfOk result (λ r. HaveNoGaps r.journals.items) }
     ensures journals { IfOk result (λ r. length r.journals.items ≡ actor_count (arc_value script)) }
     ensures fields { IfOk result (λ r. length r.fields.items ≡ actor_count (arc_value script)) }
     ensures log { IfOk result (λ r. r.log.items ≡ []) }
@@ -72,6 +75,7 @@ where
     ensures lawful { IfOk result (λ r. AreLawful (arc_value script.now) 0 r.journals.items r.fields.items) }
     ensures invariants { IfOk result (λ r. KeepInvariants (arc_value script.now) 0 r.fields.items) }
     ensures told { IfOk result (λ r. AreTold (arc_value script.now) r.journals.items) }
+    ensures numbered { IfOk result (λ r. HaveNoGaps r.journals.items) }
     ensures journals { IfOk result (λ r. length r.journals.items ≡ actor_count (arc_value script.now)) }
     ensures fields { IfOk result (λ r. length r.fields.items ≡ actor_count (arc_value script.now)) }
     ensures log { IfOk result (λ r. r.log.items ≡ []) }

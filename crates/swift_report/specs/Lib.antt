@@ -1,3 +1,4 @@
 pub mod Ended
 pub mod Lawful
+pub mod Numbered
 pub mod Text

@@ -11,7 +11,7 @@ loop-k-preserved c =
     let lanes = c.enqueue.new.board.lanes.items in
     let old = c.enqueue.new.board.endings.items in
     let pushed : c.push.new.self.items ≡ old ++ None ∷ [] = c.in_ok-push.ensures.items in
-    let one : IsBoard p c.enqueue.new.board = c.in_ok-enqueue.ensures.board p c.loop-k.invariant.board c.in_ok-actor.ensures in
+    let one : IsBoard p c.enqueue.new.board = c.in_ok-enqueue.ensures.board p c.loop-k.invariant.board c.in_ok-actor.ensures.job (λ n below. absurd (omega (arith, below, c.in_ok-actor.ensures.first))) in
     record {
       board = subst (λ (es : List (Option Ending)). AreKept p lanes es) (sym pushed) (board_more p lanes old one);
       actors = c.in_ok-enqueue.ensures.actors ∙ c.loop-k.invariant.actors;

@@ -7,7 +7,8 @@ use Rattle.swift_report.specs.Ended.{AreEnded}
 use Rattle.swift_report.specs.Lawful.{AreLawful}
 use Rattle.swift_keeper.specs.Lanes.{AreEndings, fields_of, journal_of}
 use Rattle.swift_keeper.specs.Told.{AreTold}
-use Rattle.swift_keeper.proofs.Boards.{all_ended}
+use Rattle.swift_report.specs.Numbered.{HaveNoGaps}
+use Rattle.swift_keeper.proofs.Boards.{all_ended, no_gaps}
 use Rattle.swift_keeper.proofs.Lanes.{lanes_lawful, lanes_told}
 use Rattle.swift_keeper.proofs.leave.report_of.Goals as goal
 
@@ -27,3 +28,7 @@ returns-clause-ended c = λ p kept.
     let endings = c.in_ok-endings.endings.items in
     subst (λ (js : List (Vec Record Global)). AreEnded js 0 endings) (sym c.in_ok-journals.ensures.journals)
     (all_ended js 0 endings (subst (λ (es : List (Option Ending)). AreEndings js 0 es) (sym (c.in_ok-endings.ensures.same ∙ c.deref.ensures.value)) kept.endings))
+
+pub returns-clause-numbered : goal.returns-clause-numbered
+returns-clause-numbered c = λ p kept.
+    subst (λ (js : List (Vec Record Global)). HaveNoGaps js) (sym c.in_ok-journals.ensures.journals) (no_gaps c.args.board.lanes.items kept.numbered)

@@ -37,6 +37,9 @@ returns-clause-next c = record {
   told = (first_job c.args.script.now c.args.actor.0 c.args.lane.now c.in-Some.job c.pop_front.new.self.items c.requires c.in-Some.ensures.items).told;
 }
 
+pub returns-clause-taken : goal.returns-clause-taken
+returns-clause-taken c = record { job = c.in-Some.job; first = c.in-Some.ensures.items; task = refl; number = refl }
+
 pub returns-clause-written : goal.returns-clause-written
 returns-clause-written c = record {
   turn = record { task = c.in-Some.job.task; number = c.in-Some.job.number; worker = 0; frame = c.in_ok-frame.frame; resume = c.in-Some.job.resume; env = c.in-Some.job.env; exit = c.in-Ok.exit; effects = c.in-Ok.effects };
