@@ -21,6 +21,7 @@ use Rattle.swift_script.specs.Scripts.{Parts, tree_of, actor_count, actor_invari
 use Rattle.swift_report.specs.declared.report.Report.{Report}
 use Rattle.swift_report.specs.Lawful.{AreLawful}
 use Rattle.swift_report.specs.Ended.{AreEnded}
+use Rattle.swift_report.specs.Numbered.{HaveNoGaps}
 use Rattle.swift_report.specs.Text.{report_text}
 
 -- whether each task ended with a value
@@ -38,9 +39,9 @@ HoldInvariants p k [] = Unit {0}
 HoldInvariants p k (fields ∷ others) = IsTrue (holds (actor_invariant p k) fields.items) × HoldInvariants p (k + 1) others
 
 -- A text is that of a run of the script that these bytes spell: the journal of each executor is lawful, and each of its
--- turns was told what belongs to its root; the fields are what replaying the journals gives, and each invariant holds
--- of them; there is one ending for each root, in order of declaration, and each comes from a turn of its task. `well`
--- says whether each is a value.
+-- turns was told what belongs to its root; the turns of each task are numbered without gaps; the fields are what
+-- replaying the journals gives, and each invariant holds of them; there is one ending for each root, in order of
+-- declaration, and each comes from a turn of its task. `well` says whether each is a value.
 pub record IsRunOf (bytes : List ℕ) (quiet : Bool) (text : List ℕ) (well : Bool) : Type 0 where
   pub script : Parts
   pub report : Report
@@ -50,6 +51,7 @@ pub record IsRunOf (bytes : List ℕ) (quiet : Bool) (text : List ℕ) (well : B
   pub fields : length report.fields.items ≡ actor_count script
   pub invariants : HoldInvariants script 0 report.fields.items
   pub told : AreTold script report.journals.items
+  pub numbered : HaveNoGaps report.journals.items
   pub tasks : length report.endings.items ≡ root_count script
   pub roots : AreRootsFrom 0 report.endings.items
   pub turned : AreEnded report.journals.items 0 report.endings.items

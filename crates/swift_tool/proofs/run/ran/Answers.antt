@@ -23,6 +23,7 @@ returns-clause-ran g c =
       fields = c.in_ok-report.ensures.fields ∙ ap actor_count same;
       invariants = invariants_hold c.args.bytes.now c.in_ok-found.found c.in_ok-report.report.fields.items c.in_ok-found.ensures.found (subst (λ (p : Parts). KeepInvariants p 0 c.in_ok-report.report.fields.items) same c.in_ok-report.ensures.invariants);
       told = subst (λ (p : Parts). AreTold p c.in_ok-report.report.journals.items) same c.in_ok-report.ensures.told;
+      numbered = c.in_ok-report.ensures.numbered;
       tasks = c.in_ok-report.ensures.tasks ∙ ap root_count same;
       roots = c.in_ok-report.ensures.roots;
       turned = c.in_ok-report.ensures.ended;
