@@ -142,39 +142,18 @@ plain_undoes s (calling a m vs) plain undone = absurd undone
 plain_undoes s yielding plain undone = absurd undone
 plain_undoes s (returning v) plain undone = absurd undone
 
--- what is kept, by whether the end undoes the turn, and whether the invariant holds after it
-abbrev kept_by : Bool → Bool → State → Played → Played
-kept_by true good before after = exits before after.exit
-kept_by false true before after = exits after.state after.exit
-kept_by false false before after = exits before (failing Invariant)
-
-kept_of-by : (invariant : Option Term) (before : State) (after : Played) (undone good : Bool) → undoes after.exit ≡ undone → holds invariant after.state.fields ≡ good
-    → kept_by undone good before after ≡ kept_of invariant before after
-kept_of-by invariant before after true good u g = rw u refl
-kept_of-by invariant before after false true u g = rw (u, g) refl
-kept_of-by invariant before after false false u g = rw (u, g) refl
-
--- a fact of what is kept, if it is so in each of the three ways
-in_each : (P : Played → Type 0) (invariant : Option Term) (before : State) (after : Played)
-    → ((undone good : Bool) → undoes after.exit ≡ undone → holds invariant after.state.fields ≡ good → P (kept_by undone good before after))
-    → P (kept_of invariant before after)
-in_each P invariant before after h =
-    let u = undoes after.exit in
-    let g = holds invariant after.state.fields in
-    subst P (kept_of-by invariant before after u g refl refl) (h u g refl refl)
-
--- the invariant after what is kept
-invariant_by : (invariant : Option Term) (before : State) (after : Played) (undone good : Bool) → IsTrue (holds invariant before.fields)
-    → holds invariant after.state.fields ≡ good → IsTrue (holds invariant (kept_by undone good before after).state.fields)
-invariant_by invariant before after true good held is = ap (holds invariant) (exits_fields before after.exit) ∙ held
-invariant_by invariant before after false true held is = ap (holds invariant) (exits_fields after.state after.exit) ∙ is
-invariant_by invariant before after false false held is = ap (holds invariant) (exits_fields before (failing Invariant)) ∙ held
+-- the invariant after what is kept, by whether the end undoes the turn, and whether the invariant holds after it
+invariant_by : (invariant : Option Term) (before : State) (after : Played) (undone good : Bool) → undoes after.exit ≡ undone → holds invariant after.state.fields ≡ good
+    → IsTrue (holds invariant before.fields) → IsTrue (holds invariant (kept_of invariant before after).state.fields)
+invariant_by invariant before after true good u g held = rw u (ap (holds invariant) (exits_fields before after.exit) ∙ held)
+invariant_by invariant before after false true u g held = rw (u, g) (ap (holds invariant) (exits_fields after.state after.exit) ∙ g)
+invariant_by invariant before after false false u g held = rw (u, g) (ap (holds invariant) (exits_fields before (failing Invariant)) ∙ held)
 
 pub invariant_kept : (env : Env) (n : ℕ) (invariant : Option Term) (s : State) (resume : Resume)
     → IsTrue (holds invariant s.fields) → IsTrue (holds invariant (kept env n invariant s resume).state.fields)
 invariant_kept env n invariant s resume held =
     let after = whole_turn env n s resume in
-    in_each (λ p. IsTrue (holds invariant p.state.fields)) invariant s after (λ undone good u g. invariant_by invariant s after undone good held g)
+    invariant_by invariant s after (undoes after.exit) (holds invariant after.state.fields) refl refl held
 
 -- the same of a frame that was handed out: the invariant of its actor
 pub frame_keeps_invariant : (p : Parts) (frame : Frame) (fields : List ℤ) (resume : Resume) (env : Env)
@@ -184,37 +163,39 @@ frame_keeps_invariant p frame fields resume env held =
     invariant_kept env most_steps (actor_invariant p (method_actor p (frame_parts frame).method)) (state_at p (frame_parts frame) frame.made frame.opened fields []) resume held
 
 -- what is kept, where its end says that the turn was undone
-untouched_by : (before : State) (after : Played) (undone good : Bool) → Ends before after → undoes after.exit ≡ undone
-    → IsUndone (kept_by undone good before after) → IsUntouched before (kept_by undone good before after).state
-untouched_by before after true good how u is = undoing_untouched before after.exit u
-untouched_by before after false true (inl plain) u is =
-    let undoing = plain_undoes after.state after.exit plain is in
+untouched_by : (invariant : Option Term) (before : State) (after : Played) (undone good : Bool) → Ends before after → undoes after.exit ≡ undone → holds invariant after.state.fields ≡ good
+    → IsUndone (kept_of invariant before after) → IsUntouched before (kept_of invariant before after).state
+untouched_by invariant before after true good how u g is = rw u (undoing_untouched before after.exit u)
+untouched_by invariant before after false true (inl plain) u g is =
+    let says : IsUndone (exits after.state after.exit) = rw (u, g) at is in
+    let undoing = plain_undoes after.state after.exit plain says in
     let never : true ≡ false = sym undoing ∙ u in
     absurd (cc)
-untouched_by before after false true (inr refused) u is =
-    let at = subst (λ (e : Leaving). IsUntouched after.state (exits after.state e).state) (sym refused.2) (left_untouched after.state refused.0) in
-    subst (λ (s : State). IsUntouched s (exits after.state after.exit).state) refused.1 at
-untouched_by before after false false how u is = left_untouched before Invariant
+untouched_by invariant before after false true (inr refused) u g is =
+    let at : IsUntouched after.state (exits after.state after.exit).state =
+    subst (λ (e : Leaving). IsUntouched after.state (exits after.state e).state) (sym refused.2) (left_untouched after.state refused.0) in
+    let here : IsUntouched before (exits after.state after.exit).state = subst (λ (s : State). IsUntouched s (exits after.state after.exit).state) refused.1 at in
+    rw (u, g) here
+untouched_by invariant before after false false how u g is = rw (u, g) (left_untouched before Invariant)
 
 pub undone_changes_nothing : (env : Env) (n : ℕ) (invariant : Option Term) (s : State) (resume : Resume)
     → IsUndone (kept env n invariant s resume) → IsUntouched s (kept env n invariant s resume).state
-undone_changes_nothing env n invariant s resume =
+undone_changes_nothing env n invariant s resume is =
     let after = whole_turn env n s resume in
-    in_each (λ p. IsUndone p → IsUntouched s p.state) invariant s after (λ undone good u g. untouched_by s after undone good (whole_ends env n s resume) u)
+    untouched_by invariant s after (undoes after.exit) (holds invariant after.state.fields) (whole_ends env n s resume) refl refl is
 
 -- what is kept, where its end doesn't say that the turn was undone
 others_by : (invariant : Option Term) (before : State) (after : Played) (undone good : Bool) → undoes after.exit ≡ undone → holds invariant after.state.fields ≡ good
-    → (IsUndone (kept_by undone good before after) → ⊥)
-    → (kept_by undone good before after ≡ exits after.state after.exit) × IsTrue (holds invariant (kept_by undone good before after).state.fields)
-others_by invariant before after true good u g never = absurd (never (undoes_says before after.exit u))
-others_by invariant before after false true u g never = (refl, ap (holds invariant) (exits_fields after.state after.exit) ∙ g)
-others_by invariant before after false false u g never = absurd (never (undone_by before Invariant tt))
+    → (IsUndone (kept_of invariant before after) → ⊥)
+    → (kept_of invariant before after ≡ exits after.state after.exit) × IsTrue (holds invariant (kept_of invariant before after).state.fields)
+others_by invariant before after true good u g never = absurd (never (rw u (undoes_says before after.exit u)))
+others_by invariant before after false true u g never = rw (u, g) (refl, ap (holds invariant) (exits_fields after.state after.exit) ∙ g)
+others_by invariant before after false false u g never = absurd (never (rw (u, g) (undone_by before Invariant tt)))
 
 pub others_are_kept : (env : Env) (n : ℕ) (invariant : Option Term) (s : State) (resume : Resume)
     → (IsUndone (kept env n invariant s resume) → ⊥)
     → (kept env n invariant s resume ≡ exits (whole_turn env n s resume).state (whole_turn env n s resume).exit)
     × IsTrue (holds invariant (kept env n invariant s resume).state.fields)
-others_are_kept env n invariant s resume =
+others_are_kept env n invariant s resume never =
     let after = whole_turn env n s resume in
-    in_each (λ p. (IsUndone p → ⊥) → (p ≡ exits after.state after.exit) × IsTrue (holds invariant p.state.fields)) invariant s after
-    (λ undone good u g. others_by invariant s after undone good u g)
+    others_by invariant s after (undoes after.exit) (holds invariant after.state.fields) refl refl never
