@@ -20,7 +20,7 @@ use Rattle.swift_report.specs.Numbered.{HaveBefore, HaveNoGaps, IsTurnOf}
 use Rattle.swift_keeper.specs.declared.lane.Lane.{Lane}
 use Rattle.swift_keeper.specs.declared.lane.Pending.{Pending}
 use Rattle.swift_keeper.specs.declared.turn.Turned.{Turned}
-use Rattle.swift_keeper.specs.Lanes.{AreEndings, AreKept, AreLanes, EndsBy, IsJobOf, IsLane, IsNumbered, LeavesBy, Takes, Writes, ending_in, journal_of}
+use Rattle.swift_keeper.specs.Lanes.{AreEndings, AreKept, EndsBy, IsJobOf, IsLane, IsNumbered, LeavesBy, Takes, Writes, ending_in, journal_of}
 use Rattle.swift_keeper.proofs.Lanes.{AllByRecursion-push, lane_at, lane_set, lane_enqueued}
 
 -- what holds of a success and gives more

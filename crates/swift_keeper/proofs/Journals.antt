@@ -1,5 +1,5 @@
 -- A journal with one record more.
-use Rattle.std.proofs.Common.{◌≡◌, ℕ, ℤ, List, [], ◌∷◌, ◌++◌, refl, subst, sym}
+use Rattle.std.proofs.Common.{◌≡◌, ℕ, ℤ, List, [], ◌∷◌, ◌++◌, refl}
 use Rattle.swift_script.specs.Scripts.{Parts}
 use Rattle.swift_report.specs.declared.report.Record.{Record}
 use Rattle.swift_report.specs.Lawful.{IsKept, IsLawful, replay, fields_after}

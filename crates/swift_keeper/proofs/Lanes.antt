@@ -1,16 +1,15 @@
 -- The executors of a board, and the bodies that may run there.
-use Rattle.std.proofs.Common.{◌≡◌, ℕ, zero, suc, ◌+◌, ◌<◌, Bool, true, false, if◌then◌else◌, nat_lt, ℤ, Option, Some, None, List, [], ◌∷◌, ◌++◌, length, map, get_or, refl, sym, subst, ap, ◌∙◌, arith, add-zero, add-one}
+use Rattle.std.proofs.Common.{◌≡◌, ℕ, zero, suc, ◌+◌, ◌<◌, Bool, true, false, nat_lt, ℤ, Option, List, [], ◌∷◌, ◌++◌, length, map, refl, sym, subst, ap, ◌∙◌, arith, add-zero}
 use Rattle.std.specs.Prelude.{All, IsSomeAnd, slice_set, slice_index_or}
 use Rattle.std.specs.List.{AllByRecursion}
 use Rattle.std.proofs.lemmas.List.Elements.{All-from_recursion, All-nil, All-push}
 use Rattle.swift_script.specs.Scripts.{Parts, method_actor, actor_start}
-use Rattle.swift_types.specs.declared.outcome.Resume.{Resume}
 use Rattle.swift_types.specs.declared.outcome.Ending.{Ending}
 use Rattle.swift_turn.specs.Turn.{Leaving, calling, yielding, closing, returning, failing}
 use Rattle.swift_turn.specs.Frame.{FrameParts}
-use Rattle.swift_turn.specs.Body.{BodyParts, Advanced, advanced, called, resumed, opening, most_frames}
+use Rattle.swift_turn.specs.Body.{advanced, called, most_frames}
 use Rattle.swift_turn.specs.declared.exit.Step.{Step}
-use Rattle.swift_turn.specs.declared.exit.Step.TheVariants.{Run, Ended, Await}
+use Rattle.swift_turn.specs.declared.exit.Step.TheVariants.{Run}
 use Rattle.std.specs.declared.vec.Vec.{Vec}
 use Rattle.std.specs.declared.alloc.Global.{Global}
 use Rattle.swift_report.specs.declared.report.Record.{Record}
@@ -20,7 +19,7 @@ use Rattle.swift_report.specs.Lawful.{IsKept, IsLawful, AreLawful, replay, field
 use Rattle.swift_keeper.proofs.Journals.{replay-push, IsLawful-push}
 use Rattle.swift_keeper.specs.declared.lane.Lane.{Lane}
 use Rattle.swift_keeper.specs.declared.lane.Pending.{Pending}
-use Rattle.swift_keeper.specs.Lanes.{CanRun, IsLane, AreLanes, GoesTo, IsJobOf, AreRootsFrom, journal_of, fields_of}
+use Rattle.swift_keeper.specs.Lanes.{IsLane, AreLanes, IsJobOf, AreRootsFrom, journal_of, fields_of}
 use Rattle.swift_keeper.specs.Told.{AreTold, IsToldTurn}
 
 -- the frame that runs next is of the actor that the task goes to

@@ -1,5 +1,5 @@
 use Rattle.swift_types.specs.declared.outcome.Ending.{Ending}
-use Rattle.std.proofs.Common.{◌≡◌, ◌+◌, ℕ, Option, map, List, ◌∷◌, [], ◌++◌, length, sym, subst, ap, ◌∙◌, arith, zero-add, length-append}
+use Rattle.std.proofs.Common.{◌≡◌, ◌+◌, Option, map, List, ◌∷◌, [], ◌++◌, length, sym, subst, ap, ◌∙◌, arith, zero-add, length-append}
 use Rattle.swift_keeper.specs.declared.lane.Lane.{Lane}
 use Rattle.std.specs.List.{AllByRecursion}
 use Rattle.std.specs.declared.vec.Vec.{Vec}

@@ -1,4 +1,4 @@
-use Rattle.std.proofs.Common.{◌≡◌, ◌+◌, ◌≤◌, map, nat_le, sym, subst, ◌∙◌, arith, le-leb}
+use Rattle.std.proofs.Common.{◌≡◌, ◌+◌, ◌≤◌, map, nat_le, subst, ◌∙◌, arith, le-leb}
 use Rattle.std.proofs.lemmas.Bool.{cond-true}
 use Rattle.swift_types.specs.declared.outcome.Fault.TheVariants.{Turns}
 use Rattle.swift_types.specs.declared.outcome.Resume.TheVariants.{Fault as Raise}

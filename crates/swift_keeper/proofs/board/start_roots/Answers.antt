@@ -1,4 +1,4 @@
-use Rattle.std.proofs.Common.{◌≡◌, ◌+◌, Option, None, List, [], ◌∷◌, ◌++◌, length, sym, subst, ap, ◌∙◌, arith, length-append}
+use Rattle.std.proofs.Common.{◌≡◌, Option, None, List, [], ◌∷◌, ◌++◌, length, sym, subst, ap, ◌∙◌, arith, length-append}
 use Rattle.std.specs.Arc.{arc_value}
 use Rattle.swift_types.specs.declared.outcome.Ending.{Ending}
 use Rattle.swift_keeper.specs.Lanes.{AreKept, IsBoard}

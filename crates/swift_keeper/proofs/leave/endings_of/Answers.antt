@@ -1,4 +1,4 @@
-use Rattle.std.proofs.Common.{◌≡◌, ◌+◌, Option, Some, None, List, ◌∷◌, [], ◌++◌, length, map, take, refl, sym, subst, ap, ◌∙◌, arith, length-append}
+use Rattle.std.proofs.Common.{◌≡◌, Option, Some, None, List, ◌∷◌, [], ◌++◌, length, map, take, refl, sym, subst, ap, ◌∙◌, arith, length-append}
 use Rattle.std.proofs.lemmas.List.{map-append, take_more}
 use Rattle.swift_types.specs.declared.outcome.Ending.{Ending}
 use Rattle.swift_report.specs.declared.report.Origin.{Origin}

@@ -5,7 +5,7 @@ use Rattle.swift_types.specs.declared.outcome.Ending.{Ending}
 use Rattle.swift_report.specs.declared.report.Record.{Record}
 use Rattle.swift_report.specs.Ended.{AreEnded}
 use Rattle.swift_report.specs.Lawful.{AreLawful}
-use Rattle.swift_keeper.specs.Lanes.{AreEndings, fields_of, journal_of}
+use Rattle.swift_keeper.specs.Lanes.{AreEndings, journal_of}
 use Rattle.swift_keeper.specs.Told.{AreTold}
 use Rattle.swift_report.specs.Numbered.{HaveNoGaps}
 use Rattle.swift_keeper.proofs.Boards.{all_ended, no_gaps}

@@ -7,7 +7,6 @@ use Rattle.std.specs.declared.vec.Vec.{Vec}
 use Rattle.std.specs.declared.alloc.Global.{Global}
 use Rattle.swift_report.specs.Lawful.{IsKept, fields_after}
 use Rattle.swift_report.specs.declared.report.Record.{Record}
-use Rattle.swift_keeper.specs.Lanes.{IsLane}
 use Rattle.swift_keeper.proofs.Lanes.{lane_turned, first_job}
 use Rattle.std.proofs.Common.{rules}
 use Rattle.swift_keeper.proofs.Turned.{IsTurn, kept_record, leaves_by}

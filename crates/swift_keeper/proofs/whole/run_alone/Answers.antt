@@ -1,4 +1,4 @@
-use Rattle.std.proofs.Common.{Result, subst}
+use Rattle.std.proofs.Common.{subst}
 use Rattle.std.specs.Arc.{arc_value}
 use Rattle.swift_script.specs.Scripts.{Parts}
 use Rattle.swift_report.specs.declared.report.Report.{Report}
