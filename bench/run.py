@@ -152,8 +152,8 @@ def main():
     times = int(sys.argv[1]) if len(sys.argv) > 1 else 3
     subprocess.run(["make", "--no-print-directory", PROGRAM, MEASURE], cwd=TOP, check=True, stdin=subprocess.DEVNULL, stdout=sys.stderr)
     scripts.write()
-    print(f"Best of {times}, of reading the best of {2 * times + 1}. `run s` and `text s` are those stages alone, `swiftrun s` is the whole process with its text to")
-    print("/dev/null. `B/turn` is the peak of reading and running, above that of reading alone. `Erlang s` is one scheduler,")
+    print(f"Best of {times}, of reading the best of {2 * times + 1}. `run s` and `text s` are those stages alone, `swiftrun s` is")
+    print("the whole process with its text to /dev/null. `B/turn` is the peak of reading and running, above that of reading alone. `Erlang s` is one scheduler,")
     print("which keeps no journal and undoes nothing.\n")
     whole_runs(times)
     reading(times)

@@ -110,7 +110,7 @@ def filled(text):
 
 def deep():
     """Expressions of the greatest height, one after the other."""
-    statement = "return " + "(" * 15 + "1" + "+2)*3" * 15 + ";\n"
+    statement = "return " + "(" * 15 + "1" + "+2)*3" * 15 + "+2;\n"
     front, end = "actor Deep { func f() {\n", "} }\n"
     return filled(front + statement * ((LONGEST - len(front) - len(end)) // len(statement)) + end)
 
