@@ -23,7 +23,8 @@ struct Waiting<B> {
 /// the number of arrivals. A queue can be neither cloned nor dropped: it is emptied, and then given up by `close`.
 ///
 /// Of a room of n, `put`, `restore`, `raise`, `take` and `take_oldest` take a number of steps that is the logarithm
-/// of n, and beside that find a task by hashing, as `holds` does: a constant number of steps in expectation.
+/// of n, and beside that find a task by hashing, as `holds` does: a constant number of steps where the numbers of tasks
+/// are spread, at worst as many as there are jobs inside.
 pub struct Queue<B> {
     inside: Vec<Waiting<B>>,
     index: Index,

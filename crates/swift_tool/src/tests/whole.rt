@@ -150,8 +150,8 @@ t0 root r value 7
 fields
 ",
     ),
-    // The token of an executor with more jobs goes behind the others before the job that the turn made is enqueued: the
-    // task of the third root is the first to come to L.
+    // The token of an executor with more jobs goes behind the others: the task of the third root is the first to come to
+    // L.
     (
         "actor L { var n = 0; func f(k) { n = n * 10 + k; return n; } } actor P { func go(k) { yield; await L.f(k); return 0; } } actor Q { func go(k) { yield; await L.f(k); return 0; } } root a = P.go(1); root b = P.go(2); root c = Q.go(3);",
         true,
@@ -179,7 +179,8 @@ fields
 L.n 312
 ",
     ),
-    // The way by L is longer: the task of the second root is the first to come to M.
+    // It goes there before the job that the turn made is enqueued: P runs its other job before L has its first, and the
+    // task of the second root is the first to come to M.
     (
         "actor M { var n = 0; func g(k) { n = n * 10 + k; return n; } } actor L { func f() { await M.g(1); } } actor P { func one() { await L.f(); } func two() { await M.g(2); } } root a = P.one(); root b = P.two();",
         true,
