@@ -16,7 +16,7 @@ import scripts
 
 TOP = os.path.dirname(os.path.dirname(os.path.abspath(__file__)))
 PROGRAM = "crates/swiftrun/out/swiftrun"
-MEASURE = "crates/swift_bench/out/swift_bench"
+MEASURE = "crates/bench_parts/out/bench_parts"
 PARTS = ["queue", "locals", "groups", "escalation"]
 FEW, MANY = 16, 1024
 

@@ -3,8 +3,8 @@ use Rattle.std.proofs.Common.{◌≡◌, ℕ, ◌+◌, ℤ, Bool, true, false, i
 use Rattle.std.specs.declared.vec.Vec.{Vec}
 use Rattle.std.specs.declared.alloc.Global.{Global}
 use Rattle.swift_types.specs.declared.outcome.Fault.TheVariants.{Invariant}
-use Rattle.swift_lines.specs.Tree.{Term}
-use Rattle.swift_lines.specs.Value.{holds}
+use Rattle.script_code.specs.Tree.{Term}
+use Rattle.script_code.specs.Value.{holds}
 use Rattle.swift_script.specs.Scripts.{Parts, actor_invariant, actor_start, method_actor}
 use Rattle.swift_turn.specs.Turn.{State, Leaving, calling, yielding, closing, returning, failing, Played, exits, kept_of, undoes, whole_turn}
 use Rattle.swift_turn.specs.Frame.{frame_parts, state_at}

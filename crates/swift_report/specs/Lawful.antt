@@ -4,7 +4,7 @@ use Rattle.std.specs.declared.vec.Vec.{Vec}
 use Rattle.std.specs.declared.alloc.Global.{Global}
 use Rattle.swift_types.specs.declared.outcome.Fault.TheVariants.{Turns}
 use Rattle.swift_types.specs.declared.outcome.Resume.TheVariants.{Fault as Raise}
-use Rattle.swift_lines.specs.Value.{holds}
+use Rattle.script_code.specs.Value.{holds}
 use Rattle.swift_script.specs.Scripts.{Parts, actor_invariant, actor_start, method_actor, method_count}
 use Rattle.swift_turn.specs.Turn.{Played}
 use Rattle.swift_turn.specs.Body.{frame_turn}

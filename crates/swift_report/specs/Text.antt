@@ -10,7 +10,7 @@ use Rattle.swift_types.specs.declared.outcome.Resume.{Resume}
 use Rattle.swift_types.specs.declared.outcome.Resume.TheVariants.{Start, Go, Value, Fault as Raise}
 use Rattle.swift_types.specs.declared.outcome.Ending.{Ending}
 use Rattle.swift_types.specs.declared.outcome.Ending.TheVariants.{Value as Returned, Fault as Failed}
-use Rattle.swift_lines.specs.declared.env.Env.{Env}
+use Rattle.script_code.specs.declared.env.Env.{Env}
 use Rattle.swift_script.specs.Scripts.{Parts, Entry, entry_at, actor_name, field_name, root_name}
 use Rattle.swift_turn.specs.declared.exit.Exit.{Exit}
 use Rattle.swift_turn.specs.declared.exit.Exit.TheVariants.{Call, Yield, Close, Return, Fault as Fails}

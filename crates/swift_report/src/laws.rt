@@ -3,7 +3,7 @@
 ghost use Rattle.std.specs.Prelude.{ℕ, ℤ, IsTrue, List};
 ghost use Rattle.std.specs.declared.vec.Vec.{Vec};
 ghost use Rattle.std.specs.declared.alloc.Global.{Global};
-ghost use Rattle.swift_lines.specs.Value.{holds};
+ghost use Rattle.script_code.specs.Value.{holds};
 ghost use Rattle.swift_script.specs.Scripts.{Parts, actor_invariant};
 ghost use Rattle.swift_report.specs.declared.report.Record.{Record};
 ghost use Rattle.swift_report.specs.Lawful.{AreLawful, IsLawful, KeepInvariants, replay};

@@ -1,6 +1,6 @@
 //! Records of turns, and reports of runs.
 
-use swift_lines::Env;
+use script_code::Env;
 use swift_turn::{Effect, Exit, Frame};
 use swift_types::{Ending, Resume, RootId, TaskId};
 

@@ -3,7 +3,7 @@ use crate::{Origin, Record, Report, report_text};
 use std::alloc::{AllocError, Global};
 use std::process::Abort;
 use std::test::Fail;
-use swift_lines::Env;
+use script_code::Env;
 use swift_script::{Script, read};
 use swift_turn::{Exit, Frame};
 use swift_types::{ActorId, Ending, Fault, MethodId, Priority, Resume, RootId, TaskId};

@@ -8,7 +8,7 @@ use crate::named::actor_name;
 use crate::report::Record;
 use crate::word;
 use std::alloc::AllocError;
-use swift_lines::Env;
+use script_code::Env;
 use swift_script::Script;
 use swift_turn::Exit;
 use swift_types::MethodId;

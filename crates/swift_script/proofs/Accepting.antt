@@ -1,13 +1,13 @@
 -- What is accepted is read.
 use Rattle.std.proofs.Common.{◌≡◌, ℕ, true, false, Some, None, List, Result, Ok, Err, inl, inr, refl, sym, ap, subst, ◌∙◌, arith}
 use Rattle.std.specs.Prelude.{IfOk, IfErr}
-use Rattle.swift_tokens.specs.Pieces.{Piece}
-use Rattle.swift_tokens.proofs.Unique.{unique}
-use Rattle.swift_grammar.specs.Tree.{DeclTree}
-use Rattle.swift_grammar.specs.Grammar.{IsScript}
-use Rattle.swift_grammar.proofs.Whole.{one}
-use Rattle.swift_names.specs.declared.misuse.Misuse.{Misuse}
-use Rattle.swift_names.specs.Rules.{names_fault}
+use Rattle.script_tokens.specs.Pieces.{Piece}
+use Rattle.script_tokens.proofs.Unique.{unique}
+use Rattle.script_grammar.specs.Tree.{DeclTree}
+use Rattle.script_grammar.specs.Grammar.{IsScript}
+use Rattle.script_grammar.proofs.Whole.{one}
+use Rattle.script_names.specs.declared.misuse.Misuse.{Misuse}
+use Rattle.script_names.specs.Rules.{names_fault}
 use Rattle.swift_script.specs.declared.fault.ScriptFault.{ScriptFault}
 use Rattle.swift_script.specs.declared.fault.ScriptFaultKind.{ScriptFaultKind}
 use Rattle.swift_script.specs.declared.fault.ScriptFaultKind.TheVariants as kind

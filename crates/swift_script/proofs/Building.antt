@@ -1,12 +1,12 @@
 -- What was compiled from declarations whose names are in order is a whole script.
 use Rattle.std.proofs.Common.{◌≡◌, ◌≤◌, ℕ, Bool, true, false, ◌&&◌, None, List, [], ◌∷◌, length, map, refl, sym, ap, subst, ◌∙◌}
 use Rattle.swift_types.specs.declared.id.MethodId.{MethodId}
-use Rattle.swift_tokens.specs.Bytes.{is_text}
-use Rattle.swift_grammar.specs.declared.declared.Actor.{Actor}
-use Rattle.swift_grammar.specs.declared.declared.Root.{Root}
-use Rattle.swift_grammar.specs.Tree.{ActorTree, RootTree, DeclTree, view_actor, view_root}
-use Rattle.swift_names.specs.Directory.{Directory, directory_of}
-use Rattle.swift_names.specs.Rules.{names_fault}
+use Rattle.script_tokens.specs.Bytes.{is_text}
+use Rattle.script_grammar.specs.declared.declared.Actor.{Actor}
+use Rattle.script_grammar.specs.declared.declared.Root.{Root}
+use Rattle.script_grammar.specs.Tree.{ActorTree, RootTree, DeclTree, view_actor, view_root}
+use Rattle.script_names.specs.Directory.{Directory, directory_of}
+use Rattle.script_names.specs.Rules.{names_fault}
 use Rattle.swift_script.specs.declared.compiled.CompiledMethod.{CompiledMethod}
 use Rattle.swift_script.specs.declared.compiled.CompiledActor.{CompiledActor}
 use Rattle.swift_script.specs.Script.{ScriptTree, actors_in, roots_in, tree_in, starts_well, all_start_well}

@@ -1,11 +1,11 @@
 -- One more actor or root, as it is compiled.
 use Rattle.std.proofs.Common.{◌≡◌, ℕ, zero, suc, ◌+◌, ◌<◌, true, List, [], ◌∷◌, ◌++◌, length, map, drop, get_or, add-one, sym, ap, subst, ◌∙◌, append_assoc, arith}
 use Rattle.std.proofs.lemmas.List.{map_push, map-append}
-use Rattle.swift_grammar.specs.declared.declared.Actor.{Actor}
-use Rattle.swift_grammar.specs.declared.declared.Root.{Root}
-use Rattle.swift_grammar.specs.Tree.{view_actor, view_root}
-use Rattle.swift_names.specs.Directory.{Directory, has_method}
-use Rattle.swift_names.specs.Rules.{field_names}
+use Rattle.script_grammar.specs.declared.declared.Actor.{Actor}
+use Rattle.script_grammar.specs.declared.declared.Root.{Root}
+use Rattle.script_grammar.specs.Tree.{view_actor, view_root}
+use Rattle.script_names.specs.Directory.{Directory, has_method}
+use Rattle.script_names.specs.Rules.{field_names}
 use Rattle.swift_types.specs.declared.id.MethodId.{MethodId}
 use Rattle.swift_script.specs.declared.compiled.CompiledMethod.{CompiledMethod}
 use Rattle.swift_script.specs.declared.compiled.CompiledActor.{CompiledActor}

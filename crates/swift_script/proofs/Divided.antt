@@ -1,11 +1,11 @@
 -- Declarations by kinds.
 use Rattle.std.proofs.Common.{◌≡◌, List, [], ◌∷◌, ◌++◌, map, refl, sym, ap, ◌∙◌}
 use Rattle.std.proofs.lemmas.List.{map_push}
-use Rattle.swift_grammar.specs.declared.declared.Actor.{Actor}
-use Rattle.swift_grammar.specs.declared.declared.Root.{Root}
-use Rattle.swift_grammar.specs.declared.declared.Decl.{Decl}
-use Rattle.swift_grammar.specs.declared.declared.Decl.TheVariants as decl
-use Rattle.swift_grammar.specs.Tree.{ActorTree, RootTree, DeclTree, Acts, Roots, view_actor, view_root, view_decl}
+use Rattle.script_grammar.specs.declared.declared.Actor.{Actor}
+use Rattle.script_grammar.specs.declared.declared.Root.{Root}
+use Rattle.script_grammar.specs.declared.declared.Decl.{Decl}
+use Rattle.script_grammar.specs.declared.declared.Decl.TheVariants as decl
+use Rattle.script_grammar.specs.Tree.{ActorTree, RootTree, DeclTree, Acts, Roots, view_actor, view_root, view_decl}
 use Rattle.swift_script.specs.Script.{actors_in, roots_in}
 
 pub actors_in-acts : (xs : List DeclTree) (a : ActorTree) → actors_in (xs ++ Acts a ∷ []) ≡ actors_in xs ++ a ∷ []

@@ -3,12 +3,12 @@ use Rattle.std.proofs.Common.{◌≡◌, ℕ, ◌+◌, ◌≤◌, Bool, true, fa
 use Rattle.std.specs.Prelude.{nat_lt}
 use Rattle.std.proofs.lemmas.Bool.{ltb-false}
 use Rattle.std.proofs.lemmas.List.{length-map}
-use Rattle.swift_grammar.specs.Tree.{DeclTree, Acts, Roots, view_actor}
-use Rattle.swift_names.specs.declared.misuse.Misuse.{Misuse}
-use Rattle.swift_names.specs.declared.misuse.Misuse.TheVariants.{Twice, TooMany}
-use Rattle.swift_names.specs.Texts.{is_among}
-use Rattle.swift_names.specs.Directory.{Directory, directory_of}
-use Rattle.swift_names.specs.Rules.{earlier, where_so, actor_fault, declarations_fault}
+use Rattle.script_grammar.specs.Tree.{DeclTree, Acts, Roots, view_actor}
+use Rattle.script_names.specs.declared.misuse.Misuse.{Misuse}
+use Rattle.script_names.specs.declared.misuse.Misuse.TheVariants.{Twice, TooMany}
+use Rattle.script_names.specs.Texts.{is_among}
+use Rattle.script_names.specs.Directory.{Directory, directory_of}
+use Rattle.script_names.specs.Rules.{earlier, where_so, actor_fault, declarations_fault}
 use Rattle.swift_script.specs.Script.{ScriptTree, actors_in}
 use Rattle.swift_script.specs.Scripts.{Parts, tree_of, actor_count}
 use Rattle.swift_script.specs.Accepted.{IsAccepted}

@@ -1,10 +1,10 @@
 -- Where a script has no fault, the names of each actor, method and root are in order.
 use Rattle.std.specs.Prelude.{if◌then◌else◌}
 use Rattle.std.proofs.Common.{◌≡◌, ℕ, Bool, true, false, Option, Some, None, List, [], ◌∷◌, ◌++◌, length, refl}
-use Rattle.swift_grammar.specs.Tree.{MethodTree, ActorTree, DeclTree, Acts, Roots, steps_of}
-use Rattle.swift_names.specs.declared.misuse.Misuse.{Misuse}
-use Rattle.swift_names.specs.Directory.{Directory, has_method, with_decl, with_decls}
-use Rattle.swift_names.specs.Rules.{earlier, call_fault, parameters_fault, statements_fault, fields_fault, field_names, optional_fault, method_fault, methods_fault, actor_fault, root_fault, declarations_fault}
+use Rattle.script_grammar.specs.Tree.{MethodTree, ActorTree, DeclTree, Acts, Roots, steps_of}
+use Rattle.script_names.specs.declared.misuse.Misuse.{Misuse}
+use Rattle.script_names.specs.Directory.{Directory, has_method, with_decl, with_decls}
+use Rattle.script_names.specs.Rules.{earlier, call_fault, parameters_fault, statements_fault, fields_fault, field_names, optional_fault, method_fault, methods_fault, actor_fault, root_fault, declarations_fault}
 use Rattle.swift_script.specs.Script.{actors_in, roots_in}
 use Rattle.swift_script.specs.Scripts.{with_actors}
 use Rattle.swift_script.specs.Fine.{MethodsFine, ActorFine, ActorsFine, RootsFine}

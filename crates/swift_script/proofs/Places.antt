@@ -3,10 +3,10 @@ use Rattle.std.proofs.Common.{◌≡◌, ℕ, zero, suc, ◌<◌, ◌≤◌, get
 use Rattle.std.specs.Prelude.{slice_get}
 use Rattle.std.specs.Option.{option_map}
 use Rattle.std.proofs.lemmas.Option.{slice_get-map}
-use Rattle.swift_lines.proofs.Flats.{flat_stands}
+use Rattle.script_code.proofs.Flats.{flat_stands}
 use Rattle.swift_types.specs.declared.id.MethodId.{MethodId}
-use Rattle.swift_grammar.specs.Tree.{ActorTree, RootTree}
-use Rattle.swift_names.specs.Directory.{Directory}
+use Rattle.script_grammar.specs.Tree.{ActorTree, RootTree}
+use Rattle.script_names.specs.Directory.{Directory}
 use Rattle.swift_script.specs.declared.compiled.CompiledMethod.{CompiledMethod}
 use Rattle.swift_script.specs.declared.compiled.CompiledActor.{CompiledActor}
 use Rattle.swift_script.specs.Scripts.{Entry, code_in, root_method_if}

@@ -2,17 +2,17 @@
 use Rattle.std.proofs.Common.{◌≡◌, ◌≤◌, ℕ, true, Option, Some, None, List, [], ◌∷◌, ◌++◌, length, map, refl, sym, ap, subst, ◌∙◌}
 use Rattle.std.specs.Str.{IsUtf8}
 use Rattle.std.proofs.lemmas.Str.{IsUtf8-from_ascii}
-use Rattle.swift_tokens.specs.Bytes.{is_text}
-use Rattle.swift_grammar.specs.Tree.{ActorTree, RootTree, DeclTree, Acts, Roots}
-use Rattle.swift_names.specs.declared.misuse.Misuse.{Misuse}
-use Rattle.swift_names.specs.Directory.{Directory, directory_of}
-use Rattle.swift_names.specs.Rules.{earlier, actor_fault, root_fault, declarations_fault, names_fault}
-use Rattle.swift_printing.specs.Pieces.{pieces_of_script, declarations_of, actors_in as actors_printed, roots_in as roots_printed}
-use Rattle.swift_printing.specs.Printed.{printed}
-use Rattle.swift_printing.proofs.Again.{readable_again}
-use Rattle.swift_printing.proofs.Lexed.{script_lexes}
-use Rattle.swift_printing.proofs.Plain.{script_is_text, text_is_ascii}
-use Rattle.swift_printing.proofs.Read.{spelled_again}
+use Rattle.script_tokens.specs.Bytes.{is_text}
+use Rattle.script_grammar.specs.Tree.{ActorTree, RootTree, DeclTree, Acts, Roots}
+use Rattle.script_names.specs.declared.misuse.Misuse.{Misuse}
+use Rattle.script_names.specs.Directory.{Directory, directory_of}
+use Rattle.script_names.specs.Rules.{earlier, actor_fault, root_fault, declarations_fault, names_fault}
+use Rattle.script_printing.specs.Pieces.{pieces_of_script, declarations_of, actors_in as actors_printed, roots_in as roots_printed}
+use Rattle.script_printing.specs.Printed.{printed}
+use Rattle.script_printing.proofs.Again.{readable_again}
+use Rattle.script_printing.proofs.Lexed.{script_lexes}
+use Rattle.script_printing.proofs.Plain.{script_is_text, text_is_ascii}
+use Rattle.script_printing.proofs.Read.{spelled_again}
 use Rattle.swift_script.specs.Script.{ScriptTree, actors_in, roots_in, tree_in, all_start_well}
 use Rattle.swift_script.specs.Scripts.{with_actors}
 use Rattle.swift_script.specs.Accepted.{SpellsDecls, Spells, IsAccepted}

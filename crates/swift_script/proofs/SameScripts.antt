@@ -3,8 +3,8 @@ use Rattle.std.proofs.Common.{◌≡◌, true, refl}
 use Rattle.std.specs.Bool.{Decides}
 use Rattle.std.specs.Cmp.Lexicographic.{pointwise}
 use Rattle.std.proofs.lemmas.Bool.{and_parts, and_from}
-use Rattle.swift_equality.specs.SameTrees.{same_actor_tree, same_root_tree}
-use Rattle.swift_equality.proofs.SameTrees.{DecidesEqual, decided, lists, actors, roots}
+use Rattle.script_equality.specs.SameTrees.{same_actor_tree, same_root_tree}
+use Rattle.script_equality.proofs.SameTrees.{DecidesEqual, decided, lists, actors, roots}
 use Rattle.swift_script.specs.Script.{ScriptTree}
 use Rattle.swift_script.specs.Scripts.{Parts, tree_of}
 use Rattle.swift_script.specs.SameScripts.{same_script, same_parts}

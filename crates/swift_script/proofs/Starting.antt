@@ -2,8 +2,8 @@
 use Rattle.std.proofs.Common.{◌≡◌, ℕ, zero, suc, true, List, [], ◌∷◌, map, refl, ap, ◌∙◌}
 use Rattle.std.specs.Prelude.{IsTrue, slice_get}
 use Rattle.std.proofs.lemmas.Bool.{and_parts}
-use Rattle.swift_lines.specs.Value.{holds}
-use Rattle.swift_grammar.specs.Tree.{ActorTree, view_actor}
+use Rattle.script_code.specs.Value.{holds}
+use Rattle.script_grammar.specs.Tree.{ActorTree, view_actor}
 use Rattle.swift_script.specs.Script.{ScriptTree, starts_well, all_start_well}
 use Rattle.swift_script.specs.Scripts.{Parts, tree_of, invariant_if, start_if, actor_invariant, actor_start}
 use Rattle.swift_script.specs.Accepted.{IsAccepted}

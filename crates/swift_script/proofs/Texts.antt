@@ -1,15 +1,15 @@
 -- What the reader of tokens says of a text.
 use Rattle.std.proofs.Common.{◌≡◌, ℕ, List, subst}
-use Rattle.swift_tokens.specs.Pieces.{Piece}
-use Rattle.swift_tokens.specs.Lexes.{Lexes}
-use Rattle.swift_tokens.proofs.Unique.{unique}
-use Rattle.swift_grammar.specs.declared.fault.Kind.{Kind}
-use Rattle.swift_grammar.specs.declared.fault.Kind.TheVariants as grammar
-use Rattle.swift_grammar.specs.declared.fault.ReadError.{ReadError}
-use Rattle.swift_grammar.specs.declared.fault.ReadError.TheVariants as reading
-use Rattle.swift_grammar.specs.Tree.{DeclTree}
-use Rattle.swift_grammar.specs.Grammar.{IsScript}
-use Rattle.swift_grammar.specs.Answers.{SpellsNothing as NoneSpelled}
+use Rattle.script_tokens.specs.Pieces.{Piece}
+use Rattle.script_tokens.specs.Lexes.{Lexes}
+use Rattle.script_tokens.proofs.Unique.{unique}
+use Rattle.script_grammar.specs.declared.fault.Kind.{Kind}
+use Rattle.script_grammar.specs.declared.fault.Kind.TheVariants as grammar
+use Rattle.script_grammar.specs.declared.fault.ReadError.{ReadError}
+use Rattle.script_grammar.specs.declared.fault.ReadError.TheVariants as reading
+use Rattle.script_grammar.specs.Tree.{DeclTree}
+use Rattle.script_grammar.specs.Grammar.{IsScript}
+use Rattle.script_grammar.specs.Answers.{SpellsNothing as NoneSpelled}
 use Rattle.swift_script.specs.Accepted.{IsPlain, SpellsNothing}
 use Rattle.swift_script.specs.Refuses.{HasNoTree, Refuses, grammar_kind, read_kind}
 

@@ -1,12 +1,12 @@
 -- Which texts are accepted.
 use Rattle.std.specs.Prelude.{◌≡◌, ◌≤◌, ℕ, true, false, Some, None, List, length}
-use Rattle.swift_tokens.specs.Bytes.{is_text}
-use Rattle.swift_tokens.specs.Pieces.{Piece}
-use Rattle.swift_tokens.specs.Lexes.{Lexes}
-use Rattle.swift_grammar.specs.Tree.{DeclTree}
-use Rattle.swift_grammar.specs.Grammar.{IsScript}
-use Rattle.swift_names.specs.declared.misuse.Misuse.{Misuse}
-use Rattle.swift_names.specs.Rules.{names_fault}
+use Rattle.script_tokens.specs.Bytes.{is_text}
+use Rattle.script_tokens.specs.Pieces.{Piece}
+use Rattle.script_tokens.specs.Lexes.{Lexes}
+use Rattle.script_grammar.specs.Tree.{DeclTree}
+use Rattle.script_grammar.specs.Grammar.{IsScript}
+use Rattle.script_names.specs.declared.misuse.Misuse.{Misuse}
+use Rattle.script_names.specs.Rules.{names_fault}
 use Rattle.swift_script.specs.Script.{ScriptTree, actors_in, tree_in, all_start_well}
 
 -- the limit of open blocks, of open parentheses and of an expression's height

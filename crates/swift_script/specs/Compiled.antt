@@ -1,16 +1,16 @@
 -- Methods as they were compiled.
 use Rattle.std.specs.Prelude.{◌≡◌, ℕ, ℤ, Bool, true, ◌&&◌, Option, Some, None, List, [], ◌∷◌, length, map}
 use denote.Bor.{Bor}
-use Rattle.swift_lines.specs.Tree.{Term, term_if}
-use Rattle.swift_lines.specs.Flat.{Meaning, meaning_of, flat_method}
+use Rattle.script_code.specs.Tree.{Term, term_if}
+use Rattle.script_code.specs.Flat.{Meaning, meaning_of, flat_method}
 use Rattle.swift_types.specs.declared.id.MethodId.{MethodId}
-use Rattle.swift_grammar.specs.Tree.{ActorTree, RootTree}
-use Rattle.swift_names.specs.Directory.{Directory, method_place}
+use Rattle.script_grammar.specs.Tree.{ActorTree, RootTree}
+use Rattle.script_names.specs.Directory.{Directory, method_place}
 use Rattle.swift_script.specs.declared.compiled.CompiledMethod.{CompiledMethod}
 use Rattle.swift_script.specs.declared.compiled.CompiledActor.{CompiledActor}
 use Rattle.swift_script.specs.Script.{start_of, invariant_of}
-use Rattle.swift_lines.specs.Value.{holds}
-use Rattle.swift_lines.specs.Lines.{Stands}
+use Rattle.script_code.specs.Value.{holds}
+use Rattle.script_code.specs.Lines.{Stands}
 use Rattle.swift_script.specs.Scripts.{Entry, code_in, slots_in, name_if, actor_if, params_if, slots_if, code_if, start_if, invariant_if}
 
 -- a compiled method, without where it lies in memory

@@ -1,8 +1,8 @@
 -- The rules on names, actor by actor and method by method.
 use Rattle.std.specs.Prelude.{◌≡◌, ℕ, true, None, List, [], ◌∷◌}
-use Rattle.swift_grammar.specs.Tree.{MethodTree, ActorTree, RootTree, steps_of}
-use Rattle.swift_names.specs.Directory.{Directory, has_method}
-use Rattle.swift_names.specs.Rules.{parameters_fault, statements_fault, fields_fault, field_names}
+use Rattle.script_grammar.specs.Tree.{MethodTree, ActorTree, RootTree, steps_of}
+use Rattle.script_names.specs.Directory.{Directory, has_method}
+use Rattle.script_names.specs.Rules.{parameters_fault, statements_fault, fields_fault, field_names}
 
 -- the names of a method are in order
 abbrev pub MethodFine : Directory → List (List ℕ) → MethodTree → Type 0

@@ -1,9 +1,9 @@
 -- Declarations behind references, as trees.
 use Rattle.std.specs.Prelude.{Option, Some, None}
 use denote.Bor.{Bor}
-use Rattle.swift_grammar.specs.Tree.{ActorTree, RootTree, view_actor, view_root}
-use Rattle.swift_grammar.specs.declared.declared.Actor.{Actor}
-use Rattle.swift_grammar.specs.declared.declared.Root.{Root}
+use Rattle.script_grammar.specs.Tree.{ActorTree, RootTree, view_actor, view_root}
+use Rattle.script_grammar.specs.declared.declared.Actor.{Actor}
+use Rattle.script_grammar.specs.declared.declared.Root.{Root}
 
 -- what an actor behind a reference declares, if there is one
 abbrev pub actor_if_lent : Option (Bor Actor) → Option ActorTree

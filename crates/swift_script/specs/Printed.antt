@@ -1,6 +1,6 @@
 -- The printed form of a script.
 use Rattle.std.specs.Prelude.{ℕ, List}
-use Rattle.swift_printing.specs.Printed.{printed}
+use Rattle.script_printing.specs.Printed.{printed}
 use Rattle.swift_script.specs.Script.{ScriptTree}
 
 -- the text that a script is printed as: its actors and then its roots

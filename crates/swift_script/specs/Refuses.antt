@@ -1,14 +1,14 @@
 -- What each refusal says of a text.
 use Rattle.std.specs.Prelude.{◌≡◌, ◌⊎◌, ◌<◌, ◌≤◌, ℕ, false, List, length}
-use Rattle.swift_tokens.specs.Bytes.{is_text}
-use Rattle.swift_grammar.specs.declared.fault.Kind.{Kind}
-use Rattle.swift_grammar.specs.declared.fault.Kind.TheVariants as grammar
-use Rattle.swift_grammar.specs.declared.fault.ReadError.{ReadError}
-use Rattle.swift_grammar.specs.declared.fault.ReadError.TheVariants as reading
-use Rattle.swift_names.specs.declared.misuse.NamesError.{NamesError}
-use Rattle.swift_names.specs.declared.misuse.NamesError.TheVariants as naming
-use Rattle.swift_names.specs.declared.misuse.Misuse.{Misuse}
-use Rattle.swift_names.specs.declared.misuse.Misuse.TheVariants.{Twice, Unknown, Arguments as OtherCount, TooMany}
+use Rattle.script_tokens.specs.Bytes.{is_text}
+use Rattle.script_grammar.specs.declared.fault.Kind.{Kind}
+use Rattle.script_grammar.specs.declared.fault.Kind.TheVariants as grammar
+use Rattle.script_grammar.specs.declared.fault.ReadError.{ReadError}
+use Rattle.script_grammar.specs.declared.fault.ReadError.TheVariants as reading
+use Rattle.script_names.specs.declared.misuse.NamesError.{NamesError}
+use Rattle.script_names.specs.declared.misuse.NamesError.TheVariants as naming
+use Rattle.script_names.specs.declared.misuse.Misuse.{Misuse}
+use Rattle.script_names.specs.declared.misuse.Misuse.TheVariants.{Twice, Unknown, Arguments as OtherCount, TooMany}
 use Rattle.swift_script.specs.declared.fault.ScriptFaultKind.{ScriptFaultKind}
 use Rattle.swift_script.specs.declared.fault.ScriptFaultKind.TheVariants as kind
 use Rattle.swift_script.specs.Accepted.{IsPlain, SpellsNothing, HasFault, StartsFalse}

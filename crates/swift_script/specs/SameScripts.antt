@@ -1,7 +1,7 @@
 -- Whether two scripts have equal trees, as a test.
 use Rattle.std.specs.Prelude.{Bool, ◌&&◌}
 use Rattle.std.specs.Cmp.Lexicographic.{pointwise}
-use Rattle.swift_equality.specs.SameTrees.{same_actor_tree, same_root_tree}
+use Rattle.script_equality.specs.SameTrees.{same_actor_tree, same_root_tree}
 use Rattle.swift_script.specs.Script.{ScriptTree}
 use Rattle.swift_script.specs.Scripts.{Parts, tree_of}
 

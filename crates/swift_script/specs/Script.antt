@@ -1,10 +1,10 @@
 -- The tree of a script: its actors and its roots, each in text order.
 use Rattle.std.specs.Prelude.{ℤ, Bool, true, ◌&&◌, Option, List, [], ◌∷◌, map}
-use Rattle.swift_grammar.specs.Tree.{ActorTree, RootTree, DeclTree, Acts, Roots}
-use Rattle.swift_names.specs.Rules.{field_names}
-use Rattle.swift_lines.specs.Tree.{Term}
-use Rattle.swift_lines.specs.Value.{holds}
-use Rattle.swift_lowering.specs.Lowered.{lowered_if}
+use Rattle.script_grammar.specs.Tree.{ActorTree, RootTree, DeclTree, Acts, Roots}
+use Rattle.script_names.specs.Rules.{field_names}
+use Rattle.script_code.specs.Tree.{Term}
+use Rattle.script_code.specs.Value.{holds}
+use Rattle.script_lowering.specs.Lowered.{lowered_if}
 
 pub record ScriptTree : Type 0 where
   pub actors : List ActorTree

@@ -2,13 +2,13 @@
 use Rattle.std.specs.Prelude.{ℕ, ◌+◌, ℤ, Option, Some, None, List, [], ◌∷◌, ◌++◌, length, map, slice_get}
 use Rattle.swift_types.specs.declared.priority.Priority.{Priority}
 use Rattle.swift_types.specs.declared.priority.Priority.TheVariants.{Medium}
-use Rattle.swift_grammar.specs.Tree.{FieldTree, MethodTree, ActorTree, RootTree, view_actor, view_root, steps_of}
-use Rattle.swift_grammar.specs.declared.declared.Actor.{Actor}
-use Rattle.swift_grammar.specs.declared.declared.Root.{Root}
-use Rattle.swift_names.specs.Directory.{Directory, with_actor, method_place}
-use Rattle.swift_names.specs.Rules.{field_names}
-use Rattle.swift_lines.specs.Tree.{Term, Code, end}
-use Rattle.swift_lowering.specs.Lowered.{code_of, most_of}
+use Rattle.script_grammar.specs.Tree.{FieldTree, MethodTree, ActorTree, RootTree, view_actor, view_root, steps_of}
+use Rattle.script_grammar.specs.declared.declared.Actor.{Actor}
+use Rattle.script_grammar.specs.declared.declared.Root.{Root}
+use Rattle.script_names.specs.Directory.{Directory, with_actor, method_place}
+use Rattle.script_names.specs.Rules.{field_names}
+use Rattle.script_code.specs.Tree.{Term, Code, end}
+use Rattle.script_lowering.specs.Lowered.{code_of, most_of}
 use Rattle.swift_script.specs.Script.{ScriptTree, start_of, invariant_of}
 
 -- the declarations of a script, by kinds, in text order

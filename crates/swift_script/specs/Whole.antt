@@ -1,6 +1,6 @@
 -- What a script keeps: its text is accepted, and its methods, actors and roots were compiled from it.
 use Rattle.std.specs.Prelude.{◌≡◌, ℕ, List, map}
-use Rattle.swift_grammar.specs.Tree.{view_actor, view_root}
+use Rattle.script_grammar.specs.Tree.{view_actor, view_root}
 use Rattle.swift_types.specs.declared.id.MethodId.{MethodId}
 use Rattle.swift_script.specs.declared.compiled.CompiledMethod.{CompiledMethod}
 use Rattle.swift_script.specs.declared.compiled.CompiledActor.{CompiledActor}

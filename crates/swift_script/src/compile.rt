@@ -1,21 +1,21 @@
 //! From declarations to what turns run.
 
 ghost use Rattle.std.specs.Prelude.{◌≡◌, ◌++◌, [], true, map, IfOk, OnOk};
-ghost use Rattle.swift_grammar.specs.Tree.{text_of, view_field, view_invariant, view_method, view_actor, view_root};
-ghost use Rattle.swift_lines.specs.Tree.{term_if};
-ghost use Rattle.swift_lowering.specs.Lowered.{lowered_if};
-ghost use Rattle.swift_names.specs.Directory.{has_method};
-ghost use Rattle.swift_names.specs.Rules.{field_names};
+ghost use Rattle.script_grammar.specs.Tree.{text_of, view_field, view_invariant, view_method, view_actor, view_root};
+ghost use Rattle.script_code.specs.Tree.{term_if};
+ghost use Rattle.script_lowering.specs.Lowered.{lowered_if};
+ghost use Rattle.script_names.specs.Directory.{has_method};
+ghost use Rattle.script_names.specs.Rules.{field_names};
 ghost use Rattle.swift_script.specs.Scripts.{entries_of, entries_in};
 ghost use Rattle.swift_script.specs.Compiled.{method_is, compiled_of, actor_is, compiled_actor, number_is, root_number};
 ghost use Rattle.swift_script.specs.Fine.{MethodFine, MethodsFine, ActorsFine, RootsFine};
 
 use crate::compiled::{CompiledActor, CompiledMethod};
 use std::alloc::{AllocError, Global};
-use swift_grammar::{Actor, Field, Invariant, Method, Root};
-use swift_lines::Formula;
-use swift_lowering::{field_places, formula, lower};
-use swift_names::{Declared, Names};
+use script_grammar::{Actor, Field, Invariant, Method, Root};
+use script_code::Formula;
+use script_lowering::{field_places, formula, lower};
+use script_names::{Declared, Names};
 use swift_types::{ActorId, MethodId};
 
 /// What turns need of a script's actors.

@@ -1,6 +1,6 @@
 //! Actors and methods as they were compiled.
 
-use swift_lines::{Formula, Line};
+use script_code::{Formula, Line};
 use swift_types::ActorId;
 
 /// A method, ready to run.

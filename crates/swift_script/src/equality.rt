@@ -1,7 +1,7 @@
 //! Equality of scripts.
 
 ghost use Rattle.std.specs.Cmp.{partial_equiv_from_equiv, on_equiv, and_equiv};
-ghost use Rattle.swift_equality.proofs.SameTrees.{actors_equivalence, roots_equivalence};
+ghost use Rattle.script_equality.proofs.SameTrees.{actors_equivalence, roots_equivalence};
 ghost use Rattle.swift_script.specs.Scripts.{tree_of};
 ghost use Rattle.swift_script.specs.SameScripts.{same_parts};
 

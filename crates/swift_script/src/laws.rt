@@ -1,7 +1,7 @@
 //! Laws of scripts. They call nothing: each is its contract.
 
 ghost use Rattle.std.specs.Prelude.{◌≡◌, ℕ, List, IsTrue};
-ghost use Rattle.swift_lines.specs.Value.{holds};
+ghost use Rattle.script_code.specs.Value.{holds};
 ghost use Rattle.swift_script.specs.Script.{ScriptTree};
 ghost use Rattle.swift_script.specs.Scripts.{Parts, tree_of, actor_invariant, actor_start};
 ghost use Rattle.swift_script.specs.Accepted.{Spells, IsAccepted};

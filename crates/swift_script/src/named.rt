@@ -1,9 +1,9 @@
 //! The rules on names and counts.
 
 ghost use Rattle.std.specs.Prelude.{◌≡◌, ℕ, List, None, map, IfOk, IfErr};
-ghost use Rattle.swift_grammar.specs.Tree.{view_decl};
-ghost use Rattle.swift_names.specs.Directory.{directory_of};
-ghost use Rattle.swift_names.specs.Rules.{names_fault};
+ghost use Rattle.script_grammar.specs.Tree.{view_decl};
+ghost use Rattle.script_names.specs.Directory.{directory_of};
+ghost use Rattle.script_names.specs.Rules.{names_fault};
 ghost use Rattle.swift_script.specs.Accepted.{IsPlain, SpellsDecls};
 ghost use Rattle.swift_script.specs.Answers.{IsPlaced};
 ghost use Rattle.swift_script.specs.Refuses.{Refuses, names_kind, misnamed_kind};
@@ -12,8 +12,8 @@ use crate::fault::{ScriptFault, ScriptFaultKind};
 use crate::lines::Lines;
 use crate::spelled::fault;
 use std::alloc::Global;
-use swift_grammar::Decl;
-use swift_names::{Declared, Misuse, NamesError, check};
+use script_grammar::Decl;
+use script_names::{Declared, Misuse, NamesError, check};
 
 /// What the declarations declare, where their names are in order.
 pub(crate) fn named(alloc: Global, decls: &[Decl], lines: &Lines) -> Result<Declared, ScriptFault>

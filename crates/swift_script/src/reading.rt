@@ -1,10 +1,10 @@
 //! From text to a script.
 
 ghost use Rattle.std.specs.Prelude.{◌≡◌, ◌≤◌, ℕ, None, true, length, map, IfOk, IfErr};
-ghost use Rattle.swift_tokens.specs.Bytes.{is_text};
-ghost use Rattle.swift_grammar.specs.Tree.{view_decl};
-ghost use Rattle.swift_names.specs.Directory.{directory_of};
-ghost use Rattle.swift_names.specs.Rules.{names_fault};
+ghost use Rattle.script_tokens.specs.Bytes.{is_text};
+ghost use Rattle.script_grammar.specs.Tree.{view_decl};
+ghost use Rattle.script_names.specs.Directory.{directory_of};
+ghost use Rattle.script_names.specs.Rules.{names_fault};
 ghost use Rattle.swift_script.specs.Script.{ScriptTree};
 ghost use Rattle.swift_script.specs.Scripts.{tree_of};
 ghost use Rattle.swift_script.specs.Accepted.{SpellsDecls, IsAccepted};
@@ -20,8 +20,8 @@ use crate::spelled::{Spelled, fault, spell};
 use crate::split::split;
 use crate::start::first_false;
 use std::alloc::Global;
-use swift_grammar::{Actor, Decl};
-use swift_names::Declared;
+use script_grammar::{Actor, Decl};
+use script_names::Declared;
 
 /// The script that a text spells (the language is our own), in time and memory linear in the text.
 ///

@@ -1,21 +1,21 @@
 //! Scripts that were read.
 
 ghost use Rattle.std.specs.Prelude.{◌≡◌, ◌↔◌, ◌<◌, ◌≤◌, IsTrue, map, slice_get};
-ghost use Rattle.swift_grammar.specs.Tree.{view_actor, view_root};
+ghost use Rattle.script_grammar.specs.Tree.{view_actor, view_root};
 ghost use Rattle.swift_script.specs.Whole.{IsWhole};
 ghost use Rattle.swift_script.specs.Compiled.{IsMethodOf, IsActorOrNone};
 ghost use Rattle.swift_script.specs.Accepted.{WasAccepted};
 ghost use Rattle.swift_script.specs.Lent.{actor_if_lent, root_if_lent};
-ghost use Rattle.swift_lines.specs.Lines.{Stands};
-ghost use Rattle.swift_lines.specs.Seen.{term_if_lent};
+ghost use Rattle.script_code.specs.Lines.{Stands};
+ghost use Rattle.script_code.specs.Seen.{term_if_lent};
 ghost use Rattle.swift_script.specs.Scripts.{tree_of, directory_in, entry_at, method_count, method_code, method_actor, method_slots, method_params, method_name, actor_count, actor_invariant, actor_start, root_count, root_method, root_args, root_priority};
 
 use crate::compile::Compiled;
 use crate::compiled::{CompiledActor, CompiledMethod};
 use std::marker::Model;
-use swift_equality::{same_actors, same_roots};
-use swift_grammar::{Actor, Root};
-use swift_lines::{Formula, Line};
+use script_equality::{same_actors, same_roots};
+use script_grammar::{Actor, Root};
+use script_code::{Formula, Line};
 use swift_types::{ActorId, MethodId, Priority, RootId};
 
 /// A script that `read` accepted: no rule on its names, counts and invariants is broken, and its methods are lines.
@@ -34,8 +34,8 @@ pub struct Script {
 impl Model for Script {
     ghost use Rattle.swift_script.specs.Scripts.{Parts};
     ghost use Rattle.swift_script.specs.Whole.{IsWhole};
-    ghost use Rattle.swift_grammar.specs.contracts.tree.Expr as e;
-    ghost use Rattle.swift_grammar.specs.contracts.tree.Stmt as s;
+    ghost use Rattle.script_grammar.specs.contracts.tree.Expr as e;
+    ghost use Rattle.script_grammar.specs.contracts.tree.Stmt as s;
     ghost use Rattle.std.specs.Coded.{codes};
 
     ghost Value = { Parts };

@@ -1,10 +1,10 @@
 //! From bytes to declarations.
 
 ghost use Rattle.std.specs.Prelude.{◌≡◌, ◌≤◌, map, length, true, IfOk, IfErr};
-ghost use Rattle.swift_tokens.specs.Bytes.{is_text};
-ghost use Rattle.swift_tokens.specs.Lexes.{Lexes};
-ghost use Rattle.swift_tokens.specs.Pieces.{piece};
-ghost use Rattle.swift_grammar.specs.Tree.{view_decl};
+ghost use Rattle.script_tokens.specs.Bytes.{is_text};
+ghost use Rattle.script_tokens.specs.Lexes.{Lexes};
+ghost use Rattle.script_tokens.specs.Pieces.{piece};
+ghost use Rattle.script_grammar.specs.Tree.{view_decl};
 ghost use Rattle.swift_script.specs.Accepted.{SpellsDecls};
 ghost use Rattle.swift_script.specs.Answers.{IsPlaced};
 ghost use Rattle.swift_script.specs.Refuses.{Refuses, grammar_kind, read_kind};
@@ -12,8 +12,8 @@ ghost use Rattle.swift_script.specs.Refuses.{Refuses, grammar_kind, read_kind};
 use crate::fault::{ScriptFault, ScriptFaultKind};
 use crate::lines::Lines;
 use std::alloc::Global;
-use swift_grammar::{Decl, Kind, ReadError, declarations};
-use swift_tokens::{Tokens, stray_line, tokens};
+use script_grammar::{Decl, Kind, ReadError, declarations};
+use script_tokens::{Tokens, stray_line, tokens};
 
 /// The most bytes that a script may have.
 pub const LONGEST: usize = 65_536;

@@ -4,7 +4,7 @@ ghost use Rattle.std.specs.Prelude.{◌≡◌, true, false, map, IfSome, IfNone}
 ghost use Rattle.swift_script.specs.Compiled.{actor_is, all_hold};
 
 use crate::compiled::CompiledActor;
-use swift_lines::holds;
+use script_code::holds;
 
 /// The first actor whose invariant does not hold of what its fields start with.
 pub(crate) fn first_false(actors: &[CompiledActor]) -> Option<usize>

@@ -4,7 +4,7 @@ use super::*;
 use std::alloc::Global;
 use std::process::Abort;
 use std::test::Fail;
-use swift_lines::Act;
+use script_code::Act;
 use swift_types::{ActorId, MethodId};
 
 mod places;

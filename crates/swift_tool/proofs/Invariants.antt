@@ -3,7 +3,7 @@ use Rattle.std.proofs.Common.{ℕ, ℤ, ◌+◌, List, [], ◌∷◌}
 use Rattle.std.specs.Prelude.{IsTrue}
 use Rattle.std.specs.declared.vec.Vec.{Vec}
 use Rattle.std.specs.declared.alloc.Global.{Global}
-use Rattle.swift_lines.specs.Value.{holds}
+use Rattle.script_code.specs.Value.{holds}
 use Rattle.swift_script.specs.Scripts.{Parts, tree_of, actor_invariant, actor_start}
 use Rattle.swift_script.specs.Accepted.{IsAccepted}
 use Rattle.swift_script.proofs.Starting.{start_well}

@@ -10,13 +10,13 @@ use Rattle.swift_script.specs.Accepted.{IsAccepted}
 use Rattle.swift_script.specs.Script.{ScriptTree}
 use Rattle.swift_script.specs.Refuses.{Refuses}
 use Rattle.swift_output.specs.Part.{WritesPart}
-use Rattle.swift_keeper.specs.Lanes.{AreRootsFrom}
-use Rattle.swift_keeper.specs.Told.{AreTold}
-use Rattle.swift_keeper.specs.declared.fault.RunFault.{RunFault}
-use Rattle.swift_keeper.specs.declared.fault.RunFault.TheVariants.{Workers, Memory, Unfinished}
+use Rattle.swift_one_thread.specs.Lanes.{AreRootsFrom}
+use Rattle.swift_one_thread.specs.Told.{AreTold}
+use Rattle.swift_one_thread.specs.declared.fault.RunFault.{RunFault}
+use Rattle.swift_one_thread.specs.declared.fault.RunFault.TheVariants.{Workers, Memory, Unfinished}
 use Rattle.swift_tool.specs.declared.fault.ToolFault.{ToolFault}
 use Rattle.swift_tool.specs.declared.fault.ToolFault.TheVariants as tool
-use Rattle.swift_lines.specs.Value.{holds}
+use Rattle.script_code.specs.Value.{holds}
 use Rattle.swift_script.specs.Scripts.{Parts, tree_of, actor_count, actor_invariant, root_count}
 use Rattle.swift_report.specs.declared.report.Report.{Report}
 use Rattle.swift_report.specs.Lawful.{AreLawful}

@@ -1,12 +1,12 @@
 //! Why nothing, or not all, was printed.
 
 ghost use Rattle.std.specs.Prelude.{◌≡◌};
-ghost use Rattle.swift_keeper.specs.declared.fault.RunFault.TheVariants.{Memory};
+ghost use Rattle.swift_one_thread.specs.declared.fault.RunFault.TheVariants.{Memory};
 ghost use Rattle.swift_tool.specs.Ended.{status_of_fault};
 ghost use Rattle.swift_tool.specs.declared.fault.ToolFault.TheVariants.{Device, Run, Script};
 
 use std::alloc::{AllocError, AllocFailed};
-use swift_keeper::RunFault;
+use swift_one_thread::RunFault;
 use swift_output::Device;
 use swift_script::ScriptFault;
 use thiserror::Error;

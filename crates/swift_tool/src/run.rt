@@ -8,7 +8,7 @@ use std::alloc::AllocGlobal;
 use std::io::Write;
 use std::random::RandomSource;
 use std::sync::Arc;
-use swift_keeper::{Gate, run};
+use swift_one_thread::{Gate, run};
 use swift_output::write_all;
 use swift_report::{Origin, report_text};
 use swift_script::read;

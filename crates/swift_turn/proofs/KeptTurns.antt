@@ -5,10 +5,10 @@ use Rattle.swift_types.specs.declared.outcome.Fault.{Fault}
 use Rattle.swift_types.specs.declared.outcome.Fault.TheVariants.{Thrown, Cancelled, Invariant, Overflow, Steps, Turns, Depth, Tasks, Empty}
 use Rattle.swift_types.specs.declared.outcome.Resume.{Resume}
 use Rattle.swift_types.specs.declared.outcome.Resume.TheVariants.{Start, Go, Value, Fault as Raise}
-use Rattle.swift_lines.specs.Tree.{Term}
-use Rattle.swift_lines.specs.Value.{ev, evs, is_zero, holds}
-use Rattle.swift_lines.specs.Lines.{First, first, ends, sets_variable, sets_field, tests, returns, throws, yields, calls, receives}
-use Rattle.swift_lines.specs.declared.env.Env.{Env}
+use Rattle.script_code.specs.Tree.{Term}
+use Rattle.script_code.specs.Value.{ev, evs, is_zero, holds}
+use Rattle.script_code.specs.Lines.{First, first, ends, sets_variable, sets_field, tests, returns, throws, yields, calls, receives}
+use Rattle.script_code.specs.declared.env.Env.{Env}
 use Rattle.swift_script.specs.Scripts.{Parts, actor_invariant, method_actor}
 use Rattle.swift_turn.specs.Turn.{State, Leaving, calling, yielding, closing, returning, failing, Next, goes, leaves, Played, scene, with_value, with_values, given, act, at_limit, on, end_of, turn, caught, taken_by, taken, whole_turn, head, exit_by, exits, undoes, kept_of, kept}
 use Rattle.swift_turn.specs.Body.{most_steps, frame_turn}

@@ -1,7 +1,7 @@
 -- A turn, a step at a time.
 use Rattle.std.proofs.Common.{◌≡◌, ℕ, ◌+◌, ap, add-one}
-use Rattle.swift_lines.specs.Lines.{first}
-use Rattle.swift_lines.specs.declared.env.Env.{Env}
+use Rattle.script_code.specs.Lines.{first}
+use Rattle.script_code.specs.declared.env.Env.{Env}
 use Rattle.swift_turn.specs.Turn.{State, Leaving, goes, leaves, act, at_limit, on, end_of, Played, turn}
 
 -- no step is left

@@ -7,7 +7,7 @@ use Rattle.swift_types.specs.declared.outcome.Ending.{Ending}
 use Rattle.swift_types.specs.declared.outcome.Ending.TheVariants.{Value, Fault}
 use Rattle.swift_types.specs.declared.outcome.Resume.{Resume}
 use Rattle.swift_types.specs.declared.outcome.Resume.TheVariants.{Start, Go, Value as GivenValue, Fault as Raise}
-use Rattle.swift_lines.specs.declared.env.Env.{Env}
+use Rattle.script_code.specs.declared.env.Env.{Env}
 use Rattle.swift_script.specs.Scripts.{Parts, actor_invariant, method_actor, method_count, method_slots}
 use Rattle.swift_turn.specs.Frame.{FrameParts, frame_parts, state_at}
 use Rattle.swift_turn.specs.Turn.{Deed, Leaving, calling, yielding, closing, returning, failing, Played, kept}

@@ -1,8 +1,8 @@
 -- A frame, without where it lies in memory.
 use Rattle.std.specs.Prelude.{ℕ, ℤ, Option, Some, None, List, [], map, reverse}
 use Rattle.swift_types.specs.declared.outcome.Fault.{Fault}
-use Rattle.swift_lines.specs.Lines.{code_at}
-use Rattle.swift_lines.specs.Tree.{Code}
+use Rattle.script_code.specs.Lines.{code_at}
+use Rattle.script_code.specs.Tree.{Code}
 use Rattle.swift_script.specs.Scripts.{Parts, method_code}
 use Rattle.swift_turn.specs.Turn.{State, Deed, oldest, head, tail, pending_by}
 use Rattle.swift_turn.specs.declared.activation.Activation.{Activation}

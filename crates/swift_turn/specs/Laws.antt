@@ -3,9 +3,9 @@ use Rattle.std.specs.Prelude.{◌≡◌, ℕ, Option, Some, None, IsTrue}
 use Rattle.swift_types.specs.declared.outcome.Fault.{Fault}
 use Rattle.swift_types.specs.declared.outcome.Fault.TheVariants.{Invariant, Overflow, Steps, Tasks}
 use Rattle.swift_types.specs.declared.outcome.Resume.{Resume}
-use Rattle.swift_lines.specs.Tree.{Term}
-use Rattle.swift_lines.specs.Value.{holds}
-use Rattle.swift_lines.specs.declared.env.Env.{Env}
+use Rattle.script_code.specs.Tree.{Term}
+use Rattle.script_code.specs.Value.{holds}
+use Rattle.script_code.specs.declared.env.Env.{Env}
 use Rattle.swift_turn.specs.Turn.{State, Leaving, closing, failing, Played, whole_turn, oldest, tail, exits, kept}
 
 -- the fault with which a turn ends, if it ends with one; where a group is closed first it is pending

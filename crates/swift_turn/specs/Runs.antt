@@ -2,7 +2,7 @@
 use Rattle.std.specs.Prelude.{ℕ, ℤ, Option, Some, None, List}
 use Rattle.std.specs.declared.vec.Vec.{Vec}
 use Rattle.std.specs.declared.alloc.Global.{Global}
-use Rattle.swift_lines.specs.Tree.{Code}
+use Rattle.script_code.specs.Tree.{Code}
 use Rattle.swift_turn.specs.Frame.{FrameParts, parts_of, state_in, deeds_of}
 use Rattle.swift_turn.specs.Turn.{State, Deed, Leaving, calling, yielding, closing, returning, failing, Next, goes, leaves, Played}
 use Rattle.swift_turn.specs.declared.exit.Exit.{Exit}

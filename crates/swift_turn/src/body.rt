@@ -4,7 +4,7 @@ ghost use Rattle.std.specs.Prelude.{◌≡◌, ◌+◌, ◌<◌, ◌⊎◌, ◌�
 ghost use Rattle.std.specs.Arc.{arc_value};
 ghost use Rattle.futures.specs.Poll.{IfReady, OnPending};
 ghost use Rattle.futures.specs.Task.{Covers, Keeps};
-ghost use Rattle.swift_lines.specs.Lines.{code_at};
+ghost use Rattle.script_code.specs.Lines.{code_at};
 ghost use Rattle.swift_script.specs.Scripts.{method_actor, method_code, method_count};
 ghost use Rattle.swift_turn.specs.Body.{BeginsFrame, CanAdvance, GoesOn, Hands, IsPolled, Polls, Registers, WaitsIn, advanced, answer_of, called, ending_if, ends_with, entered, idle, lacking, most_frames, opening, resumed};
 ghost use Rattle.swift_turn.specs.Frame.{deeds_of, frame_parts};
@@ -24,8 +24,8 @@ use std::alloc::{AllocError, Global};
 use std::marker::Model;
 use std::mem;
 use std::sync::Arc;
-use swift_lines::Env;
-use swift_lines::laws::first_line_begins;
+use script_code::Env;
+use script_code::laws::first_line_begins;
 use swift_script::Script;
 use swift_types::{ActorId, Ending, Fault, MethodId, Resume};
 
@@ -65,8 +65,8 @@ impl Model for Body {
     ghost use Rattle.std.specs.Arc.{arc_value};
     ghost use Rattle.std.specs.Coded.{codes};
     ghost use Rattle.std.specs.Prelude.{is_some};
-    ghost use Rattle.swift_grammar.specs.contracts.tree.Expr as e;
-    ghost use Rattle.swift_grammar.specs.contracts.tree.Stmt as s;
+    ghost use Rattle.script_grammar.specs.contracts.tree.Expr as e;
+    ghost use Rattle.script_grammar.specs.contracts.tree.Stmt as s;
     ghost use Rattle.swift_turn.specs.Body.{BodyParts};
 
     ghost Value = { BodyParts };

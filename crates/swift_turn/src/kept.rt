@@ -1,9 +1,9 @@
 //! A whole turn, and what is kept of it.
 
 ghost use Rattle.std.specs.Prelude.{◌≡◌, ◌<◌, IfOk, OnErr, OnOk, []};
-ghost use Rattle.swift_lines.specs.Lines.{Stands, code_at, first};
-ghost use Rattle.swift_lines.specs.Seen.{term_if_lent};
-ghost use Rattle.swift_lines.specs.Tree.{term_if};
+ghost use Rattle.script_code.specs.Lines.{Stands, code_at, first};
+ghost use Rattle.script_code.specs.Seen.{term_if_lent};
+ghost use Rattle.script_code.specs.Tree.{term_if};
 ghost use Rattle.swift_script.specs.Scripts.{actor_invariant, method_actor, method_code, method_count};
 ghost use Rattle.swift_turn.specs.Runs.{leaving_of, next_of, played_of, run_parts, state_of};
 ghost use Rattle.swift_turn.specs.Turn.{caught, given, kept, taken, undoes as undoes_spec, whole_turn};
@@ -15,7 +15,7 @@ use crate::run::{Run, copy_run};
 use crate::step::give;
 use std::alloc::{AllocError, Global};
 use std::mem;
-use swift_lines::{Act, Env, Formula, Line, Place, Sight, holds, value};
+use script_code::{Act, Env, Formula, Line, Place, Sight, holds, value};
 use swift_script::Script;
 use swift_types::{Fault, Priority, Resume};
 

@@ -22,5 +22,5 @@ pub use body::{Body, FRAMES, STEPS};
 pub use effect::Effect;
 pub use exit::{Exit, Step};
 pub use frame::Frame;
-pub use swift_lines::Env;
+pub use script_code::Env;
 pub use whole::run_turn;

@@ -2,7 +2,7 @@
 
 use crate::effect::Effect;
 use crate::exit::Exit;
-use swift_lines::Env;
+use script_code::Env;
 use swift_types::Resume;
 
 /// Where a body is with its turn.

@@ -1,7 +1,7 @@
 //! The statements of one turn.
 
 ghost use Rattle.std.specs.Prelude.{◌≡◌, IfOk, OnOk};
-ghost use Rattle.swift_lines.specs.Lines.{Stands, first};
+ghost use Rattle.script_code.specs.Lines.{Stands, first};
 ghost use Rattle.swift_turn.specs.Runs.{played_of, state_of};
 ghost use Rattle.swift_turn.specs.Turn.{at_limit, end_of, turn};
 
@@ -9,7 +9,7 @@ use crate::exit::Exit;
 use crate::run::Run;
 use crate::step::step;
 use std::alloc::{AllocError, Global};
-use swift_lines::{Act, Env, Line};
+use script_code::{Act, Env, Line};
 use swift_types::Fault;
 
 // At most `limit` steps.

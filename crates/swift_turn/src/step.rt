@@ -1,10 +1,10 @@
 //! Statements, one after another.
 
 ghost use Rattle.std.specs.Prelude.{◌≡◌, IfOk, OnOk, Some, if◌then◌else◌, slice_set};
-ghost use Rattle.swift_lines.specs.Lines.{Stands, code_at, first};
-ghost use Rattle.swift_lines.specs.Seen.{scene_of};
-ghost use Rattle.swift_lines.specs.Tree.{terms_of};
-ghost use Rattle.swift_lines.specs.Value.{evs, is_zero};
+ghost use Rattle.script_code.specs.Lines.{Stands, code_at, first};
+ghost use Rattle.script_code.specs.Seen.{scene_of};
+ghost use Rattle.script_code.specs.Tree.{terms_of};
+ghost use Rattle.script_code.specs.Value.{evs, is_zero};
 ghost use Rattle.swift_types.specs.declared.outcome.Fault.TheVariants.{Thrown};
 ghost use Rattle.swift_turn.specs.Runs.{leaving_of, next_of, state_of, values_of};
 ghost use Rattle.swift_turn.specs.Turn.{act, failing, given, goes, leaves, returning, with_value};
@@ -12,7 +12,7 @@ ghost use Rattle.swift_turn.specs.Turn.{act, failing, given, goes, leaves, retur
 use crate::exit::Exit;
 use crate::run::Run;
 use std::alloc::{AllocError, Global};
-use swift_lines::{Act, Env, Formula, Line, Place, Sight, value};
+use script_code::{Act, Env, Formula, Line, Place, Sight, value};
 use swift_types::Fault;
 
 // One statement. None where the turn goes on.

@@ -8,7 +8,7 @@
 
 use std::env;
 use std::process::ExitCode;
-use swift_keeper::Open;
+use swift_one_thread::Open;
 use swift_tool::{ProgramFault, read_input, run_text, status, take_words};
 
 fn main(rt: HostRuntime) -> ExitCode {

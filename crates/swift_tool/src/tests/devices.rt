@@ -5,7 +5,7 @@ use crate::run::run_text;
 use std::alloc::Global;
 use std::io::{Error, ErrorKind, Write};
 use std::test::Fail;
-use swift_keeper::Open;
+use swift_one_thread::Open;
 
 // Takes at most three bytes a call. Behind `room` bytes it fails, or takes none.
 #[derive(Drop)]

@@ -2,7 +2,7 @@
 use crate::ended::{ProgramFault, status, take_words};
 use crate::fault::ToolFault;
 use std::test::Fail;
-use swift_keeper::RunFault;
+use swift_one_thread::RunFault;
 use swift_script::{ScriptFault, ScriptFaultKind};
 
 // A fault, and what it prints.

@@ -2,7 +2,7 @@
 use crate::run::run_text;
 use std::alloc::Global;
 use std::test::Fail;
-use swift_keeper::Open;
+use swift_one_thread::Open;
 
 // The text of an example, and the text of its report. examples/depth.actors stands below.
 const EXAMPLES: [(&str, &str); 4] = [

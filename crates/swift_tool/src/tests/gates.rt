@@ -2,7 +2,7 @@
 use crate::run::run_text;
 use std::sync::atomic::{AtomicU32, Ordering};
 use std::test::Fail;
-use swift_keeper::{Gate, Moment};
+use swift_one_thread::{Gate, Moment};
 use swift_types::{ActorId, TaskId};
 
 // Counts the tokens that were taken, and the turns of task 1 at actor 0.

@@ -6,7 +6,7 @@ use std::alloc::AllocGlobal;
 use std::process::Abort;
 use std::random::RandomSource;
 use std::test::Fail;
-use swift_keeper::{Open, RunFault};
+use swift_one_thread::{Open, RunFault};
 
 // A text, and the message of its refusal.
 const REFUSED: [(&[u8], &str); 10] = [

@@ -2,7 +2,7 @@
 use crate::run::run_text;
 use std::alloc::Global;
 use std::test::Fail;
-use swift_keeper::Open;
+use swift_one_thread::Open;
 
 // A script, whether all its tasks end with a value, and the text of its report.
 pub const WHOLE: [(&str, bool, &str); 13] = [

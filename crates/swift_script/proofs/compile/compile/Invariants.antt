@@ -1,5 +1,5 @@
 use Rattle.std.proofs.Common.{◌≡◌, ◌++◌, map, drop}
-use Rattle.swift_grammar.specs.Tree.{view_actor}
+use Rattle.script_grammar.specs.Tree.{view_actor}
 use Rattle.swift_script.specs.Scripts.{entries_from}
 use Rattle.swift_script.specs.Compiled.{actor_is, compiled_actor, method_is, compiled_of}
 use Rattle.swift_script.specs.Fine.{ActorsFine}

@@ -1,5 +1,5 @@
 use Rattle.std.proofs.Common.{◌≡◌, ◌++◌, map, drop}
-use Rattle.swift_grammar.specs.Tree.{view_method}
+use Rattle.script_grammar.specs.Tree.{view_method}
 use Rattle.swift_script.specs.Scripts.{entries_of}
 use Rattle.swift_script.specs.Compiled.{method_is, compiled_of}
 use Rattle.swift_script.specs.Fine.{MethodsFine}

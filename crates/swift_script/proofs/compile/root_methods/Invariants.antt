@@ -1,5 +1,5 @@
 use Rattle.std.proofs.Common.{◌≡◌, ◌++◌, map, drop}
-use Rattle.swift_grammar.specs.Tree.{view_root}
+use Rattle.script_grammar.specs.Tree.{view_root}
 use Rattle.swift_script.specs.Compiled.{number_is, root_number}
 use Rattle.swift_script.specs.Fine.{RootsFine}
 use Rattle.swift_script.proofs.compile.root_methods.Given as goal

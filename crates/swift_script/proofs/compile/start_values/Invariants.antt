@@ -1,5 +1,5 @@
 use Rattle.std.proofs.Common.{◌≡◌, ◌++◌, map, drop}
-use Rattle.swift_grammar.specs.Tree.{view_field}
+use Rattle.script_grammar.specs.Tree.{view_field}
 use Rattle.swift_script.proofs.compile.start_values.Given as goal
 
 abbrev pub invariant-loop-field : goal.invariant-loop-field

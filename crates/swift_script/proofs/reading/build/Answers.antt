@@ -1,5 +1,5 @@
 use Rattle.std.proofs.Common.{map, sym, subst}
-use Rattle.swift_grammar.specs.Tree.{view_decl}
+use Rattle.script_grammar.specs.Tree.{view_decl}
 use Rattle.swift_script.specs.declared.fault.ScriptFaultKind.{ScriptFaultKind}
 use Rattle.swift_script.specs.Refuses.{Refuses}
 use Rattle.swift_script.proofs.Building.{actors_in_order, roots_in_order, starts_false, whole}

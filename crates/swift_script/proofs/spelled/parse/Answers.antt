@@ -1,6 +1,6 @@
 use Rattle.std.proofs.Common.{map, sym, subst}
-use Rattle.swift_tokens.specs.Pieces.{piece}
-use Rattle.swift_grammar.specs.Answers.{SpellsNothing as NoneSpelled}
+use Rattle.script_tokens.specs.Pieces.{piece}
+use Rattle.script_grammar.specs.Answers.{SpellsNothing as NoneSpelled}
 use Rattle.swift_script.specs.declared.fault.ScriptFaultKind.{ScriptFaultKind}
 use Rattle.swift_script.specs.Refuses.{Refuses}
 use Rattle.swift_script.proofs.Texts.{refuses_read}

@@ -1,5 +1,5 @@
 use Rattle.std.proofs.Common.{◌≡◌, map}
-use Rattle.swift_grammar.specs.Tree.{view_actor, view_root, view_decl}
+use Rattle.script_grammar.specs.Tree.{view_actor, view_root, view_decl}
 use Rattle.swift_script.specs.Script.{actors_in, roots_in}
 use Rattle.swift_script.proofs.split.split.Given as goal
 

@@ -2,7 +2,7 @@ use Rattle.std.proofs.Common.{◌≡◌, ap, subst, ◌∙◌}
 use Rattle.std.specs.Arc.{arc_value}
 use Rattle.swift_script.specs.Scripts.{Parts, actor_count, root_count}
 use Rattle.swift_report.specs.Lawful.{AreLawful, KeepInvariants}
-use Rattle.swift_keeper.specs.Told.{AreTold}
+use Rattle.swift_one_thread.specs.Told.{AreTold}
 use Rattle.swift_report.specs.Text.{report_text}
 use Rattle.swift_tool.specs.Run.{end_well}
 use Rattle.swift_tool.proofs.Invariants.{invariants_hold}

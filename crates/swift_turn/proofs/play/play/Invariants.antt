@@ -1,6 +1,6 @@
 use Rattle.std.proofs.Common.{◌≡◌, ◌-◌}
-use Rattle.swift_lines.specs.Lines.{Stands}
-use Rattle.swift_lines.specs.Tree.{Code}
+use Rattle.script_code.specs.Lines.{Stands}
+use Rattle.script_code.specs.Tree.{Code}
 use Rattle.swift_turn.specs.Runs.{state_of}
 use Rattle.swift_turn.specs.Turn.{turn}
 use Rattle.swift_turn.proofs.play.play.Given as goal

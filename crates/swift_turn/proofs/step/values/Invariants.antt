@@ -1,7 +1,7 @@
 use Rattle.std.proofs.Common.{◌≡◌, drop}
-use Rattle.swift_lines.specs.Seen.{scene_of}
-use Rattle.swift_lines.specs.Tree.{terms_of}
-use Rattle.swift_lines.specs.Value.{evs}
+use Rattle.script_code.specs.Seen.{scene_of}
+use Rattle.script_code.specs.Tree.{terms_of}
+use Rattle.script_code.specs.Value.{evs}
 use Rattle.swift_turn.proofs.Values.{after}
 use Rattle.swift_turn.proofs.step.values.Given as goal
 

@@ -1,7 +1,7 @@
 use Rattle.std.proofs.Common.{◌≡◌, List, Some, None, map, subst, ap, ◌∙◌}
 use Rattle.std.specs.Prelude.{slice_get}
-use Rattle.swift_grammar.specs.Tree.{view_actor}
-use Rattle.swift_grammar.specs.declared.declared.Actor.{Actor}
+use Rattle.script_grammar.specs.Tree.{view_actor}
+use Rattle.script_grammar.specs.declared.declared.Actor.{Actor}
 use Rattle.swift_script.specs.Scripts.{Parts}
 use Rattle.swift_script.proofs.Places.{seen_at, unseen_at}
 use Rattle.swift_script.proofs.script.Script.actor.Goals as goal

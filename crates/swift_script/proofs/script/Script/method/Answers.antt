@@ -1,6 +1,6 @@
 use Rattle.std.proofs.Common.{◌≡◌, List, Some, map, sym, ap, subst, ◌∙◌}
 use Rattle.std.specs.Prelude.{slice_get}
-use Rattle.swift_grammar.specs.Tree.{view_actor}
+use Rattle.script_grammar.specs.Tree.{view_actor}
 use Rattle.swift_script.specs.declared.compiled.CompiledMethod.{CompiledMethod}
 use Rattle.swift_script.specs.Scripts.{Parts, directory_in, entries_in, entry_at}
 use Rattle.swift_script.specs.Compiled.{IsMethodOf}

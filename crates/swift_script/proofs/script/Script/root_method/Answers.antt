@@ -1,7 +1,7 @@
 use Rattle.std.proofs.Common.{◌≡◌, List, Some, map, sym, ap, subst, ◌∙◌}
 use Rattle.std.specs.Prelude.{slice_get}
 use Rattle.swift_types.specs.declared.id.MethodId.{MethodId}
-use Rattle.swift_grammar.specs.Tree.{view_actor, view_root}
+use Rattle.script_grammar.specs.Tree.{view_actor, view_root}
 use Rattle.swift_script.specs.Scripts.{Parts, directory_in, root_method}
 use Rattle.swift_script.proofs.Places.{got, root_method_at}
 use Rattle.swift_script.proofs.script.Script.root_method.Goals as goal

@@ -1,0 +1,65 @@
+//! A script as far as a stage of a run.
+
+ghost use Rattle.std.specs.Prelude.{◌≡◌, IfOk, sum_by, vec_len};
+
+use crate::fault::BenchFault;
+use crate::told;
+use std::io;
+use std::sync::Arc;
+use std::time::Instant;
+use swift_one_thread::{Open, run};
+use swift_report::{Record, report_text};
+use swift_script::read;
+
+/// How far a script is taken.
+#[derive(Clone, Copy, Debug, PartialEq, Eq)]
+pub enum Stage {
+    /// It is read.
+    Read,
+    /// It is run too, by one worker.
+    Run,
+    /// The text of its report is made too.
+    Text,
+}
+
+// Takes the script on standard input as far as a stage, and says how long each one took.
+pub fn measure(rt: &HostRuntime, stage: Stage) -> Result<(), BenchFault> {
+    let alloc = rt.alloc();
+    let text = io::read_to_string(alloc, rt.stdin())?;
+    let start = Instant::now(rt)?;
+    let script = Arc::new(alloc, read(alloc, text.as_bytes())?)?;
+    told(rt, "read", start.elapsed(rt)?)?;
+    if stage == Stage::Read {
+        let bytes = text.len();
+        println!(rt; "read {bytes} bytes")?;
+        return Ok(());
+    }
+    let start = Instant::now(rt)?;
+    let report = run(rt, Arc::clone(&script)?, 1, &Open)?;
+    told(rt, "run", start.elapsed(rt)?)?;
+    let turns = turns_of(&report.journals)?;
+    println!(rt; "run {turns} turns")?;
+    if stage == Stage::Run {
+        return Ok(());
+    }
+    let start = Instant::now(rt)?;
+    let told_text = report_text(alloc, &script, &report, false)?;
+    told(rt, "text", start.elapsed(rt)?)?;
+    let bytes = told_text.len();
+    println!(rt; "text {bytes} bytes")?;
+    Ok(())
+}
+
+/// How many turns the executors ran. `Refused` where that is no number of 64 bits.
+pub fn turns_of(journals: &[Vec<Record>]) -> Result<u64, BenchFault>
+    ensures { IfOk result (λ n. n ≡ sum_by (λ j. vec_len j) journals.now) }
+{
+    let mut turns = 0u64;
+    for journal in journals {
+        let Some(sum) = turns.checked_add(journal.len() as u64) else {
+            return Err(BenchFault::Refused);
+        };
+        turns = sum;
+    }
+    Ok(turns)
+}

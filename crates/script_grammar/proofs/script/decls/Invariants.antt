@@ -1,0 +1,10 @@
+use Rattle.std.proofs.Common.{◌≡◌, ◌-◌, ◌+◌, map, length}
+use Rattle.script_tokens.specs.Pieces.{piece}
+use Rattle.script_grammar.specs.Tree.{view_decl}
+use Rattle.script_grammar.specs.Parts.{items_at}
+use Rattle.script_grammar.specs.Declarations.{decls_end, decl_at}
+use Rattle.script_grammar.proofs.Front.{with_front}
+use Rattle.script_grammar.proofs.script.decls.Given as goal
+
+abbrev pub invariant-loop : goal.invariant-loop
+invariant-loop l = with_front (map view_decl l.items.items) (items_at decls_end (decl_at 32) (length l.tokens + 1 - l.counter) (map piece l.rest)) ≡ (items_at decls_end (decl_at 32) (length l.tokens + 1) (map piece l.tokens))

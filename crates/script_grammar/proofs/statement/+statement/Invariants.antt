@@ -1,0 +1,21 @@
+use Rattle.std.proofs.Common.{◌≡◌, ◌-◌, ◌+◌, ◌*◌, map, length}
+use Rattle.script_tokens.specs.Pieces.{piece}
+use Rattle.script_grammar.specs.Tree.{view_stmt}
+use Rattle.script_grammar.specs.Statements.{many_at, block_at}
+use Rattle.script_grammar.proofs.Front.{with_front}
+use Rattle.script_grammar.proofs.statement.+statement.Given as goal
+
+abbrev pub decreases-block : goal.decreases-block
+decreases-block l = l.blocks * 4
+
+abbrev pub decreases-choice : goal.decreases-choice
+decreases-choice l = l.blocks * 4 + 1
+
+abbrev pub decreases-stmt : goal.decreases-stmt
+decreases-stmt l = l.blocks * 4 + 2
+
+abbrev pub decreases-many : goal.decreases-many
+decreases-many l = l.blocks * 4 + 3
+
+abbrev pub invariant-many-loop : goal.invariant-many-loop
+invariant-many-loop l = with_front (map view_stmt l.stmts.items) (many_at 32 (block_at 32 l.blocks) (length l.tokens - l.counter) (map piece l.rest)) ≡ many_at 32 (block_at 32 l.blocks) (length l.tokens) (map piece l.tokens)

@@ -1,0 +1,55 @@
+//! Whole numbers, from tokens.
+
+ghost use Rattle.std.specs.Prelude.{◌≡◌, map, IfOk, FitsSigned};
+ghost use Rattle.std.specs.Int.{w64};
+ghost use Rattle.script_tokens.specs.Pieces.{piece};
+ghost use Rattle.script_grammar.specs.Reading.{Gives};
+ghost use Rattle.script_grammar.specs.Declarations.{number_at, opposite_at, int_at};
+
+use crate::fault::{Kind, ReadError};
+use crate::part::{Tokens, refused};
+use script_tokens::{Mark, Token};
+
+#[tactic(auto, unfolding(crate::specs::Declarations::number_at))]
+fn number(tokens: Tokens<'_>) -> Result<(i64, Tokens<'_>), ReadError>
+    ensures gives { Gives (λ x. (x.0, map piece x.1.now)) result (number_at (map piece tokens.now)) }
+    ensures fits { IfOk result (λ x. FitsSigned w64 x.0) }
+{
+    match tokens {
+        [] => Err(refused(Kind::EndsEarly, tokens)),
+        [Token::Num(value), rest @ ..] => Ok((*value, rest)),
+        [Token::Huge, ..] => Err(refused(Kind::OutOfRange, tokens)),
+        _ => Err(refused(Kind::Unexpected, tokens)),
+    }
+}
+
+// The opposite of the number at `digits`.
+#[tactic(auto, unfolding(crate::specs::Declarations::opposite_at))]
+fn opposite<'a>(
+    value: i64,
+    digits: Tokens<'_>,
+    rest: Tokens<'a>,
+) -> Result<(i64, Tokens<'a>), ReadError>
+    ensures gives { Gives (λ x. (x.0, map piece x.1.now)) result (opposite_at value (map piece rest.now)) }
+    ensures fits { IfOk result (λ x. FitsSigned w64 x.0) }
+{
+    if value == i64::MIN {
+        return Err(refused(Kind::OutOfRange, digits));
+    }
+    Ok((-value, rest))
+}
+
+// A number, perhaps behind a minus.
+#[tactic(auto, unfolding(crate::specs::Declarations::int_at))]
+pub(crate) fn int(tokens: Tokens<'_>) -> Result<(i64, Tokens<'_>), ReadError>
+    ensures gives { Gives (λ x. (x.0, map piece x.1.now)) result (int_at (map piece tokens.now)) }
+    ensures fits { IfOk result (λ x. FitsSigned w64 x.0) }
+{
+    match tokens {
+        [Token::Sign(Mark::Minus), digits @ ..] => {
+            let (value, rest) = number(digits)?;
+            opposite(value, digits, rest)
+        }
+        _ => number(tokens),
+    }
+}

@@ -1,0 +1,134 @@
+//! Roots, from tokens.
+
+ghost use Rattle.std.specs.Prelude.{◌≡◌, ◌+◌, ◌++◌, ◌∷◌, [], map, length, IfOk, OnOk, IfErr, FitsSigned};
+ghost use Rattle.std.specs.Int.{w64};
+ghost use Rattle.script_grammar.specs.declared.fault.ReadError.TheVariants.{Memory};
+ghost use Rattle.script_tokens.specs.Pieces.{piece};
+ghost use Rattle.script_grammar.specs.Tree.{view_root};
+ghost use Rattle.script_grammar.specs.Grammar.{priority_of};
+ghost use Rattle.script_grammar.specs.Reading.{Gives};
+ghost use Rattle.script_grammar.specs.Parts.{with_first, close_at, comma_at, list_at, items_at};
+ghost use Rattle.script_grammar.specs.Declarations.{int_at, level_named_at, priority_at, root_at};
+
+use crate::declared::Root;
+use crate::fault::{Kind, ReadError};
+use crate::number::int;
+use crate::part::{Tokens, closing, name, refused, sign};
+use std::alloc::Global;
+use script_tokens::{Keyword, Mark, Token};
+use swift_types::Priority;
+
+#[tactic(auto, unfolding(crate::specs::Parts::comma_at))]
+fn next_int(tokens: Tokens<'_>) -> Result<(i64, Tokens<'_>), ReadError>
+    ensures gives { Gives (λ x. (x.0, map piece x.1.now)) result (comma_at int_at (map piece tokens.now)) }
+    ensures fits { IfOk result (λ x. FitsSigned w64 x.0) }
+{
+    let rest = sign(Mark::Comma, tokens)?;
+    int(rest)
+}
+
+// One more number. It is unchanged after an error.
+fn add_int(items: &mut Vec<i64>, value: i64) -> Result<(), ReadError>
+    ensures ok { OnOk result (items.new.items ≡ items.old.items ++ value ∷ []) }
+    ensures memory { IfErr result (λ e. e ≡ Memory) }
+{
+    items.push(value)?;
+    Ok(())
+}
+
+fn more_ints<'a>(
+    alloc: Global,
+    first: &i64,
+    tokens: Tokens<'a>,
+) -> Result<(Vec<i64>, Tokens<'a>), ReadError>
+    ensures { Gives (λ x. (x.0.items, map piece x.1.now)) result (with_first first.now (items_at close_at (comma_at int_at) (length tokens.now + 1) (map piece tokens.now))) }
+{
+    let mut items = Vec::new(alloc);
+    add_int(&mut items, *first)?;
+    let mut rest = tokens;
+    for _ in 0..tokens.len() + 1 {
+        match closing(rest) {
+            Some(after) => return Ok((items, after)),
+            None => {}
+        }
+        let (next, after) = next_int(rest)?;
+        add_int(&mut items, next)?;
+        rest = after;
+    }
+    Err(refused(Kind::EndsEarly, rest))
+}
+
+#[tactic(auto, unfolding(crate::specs::Parts::list_at))]
+fn ints(alloc: Global, tokens: Tokens<'_>) -> Result<(Vec<i64>, Tokens<'_>), ReadError>
+    ensures { Gives (λ x. (x.0.items, map piece x.1.now)) result (list_at int_at (map piece tokens.now)) }
+{
+    match closing(tokens) {
+        Some(rest) => Ok((Vec::new(alloc), rest)),
+        None => {
+            let (first, rest) = int(tokens)?;
+            more_ints(alloc, &first, rest)
+        }
+    }
+}
+
+fn named(keyword: Keyword) -> Option<Priority>
+    ensures { result ≡ priority_of keyword }
+{
+    match keyword {
+        Keyword::Background => Some(Priority::Background),
+        Keyword::Low => Some(Priority::Low),
+        Keyword::Medium => Some(Priority::Medium),
+        Keyword::High => Some(Priority::High),
+        _ => None,
+    }
+}
+
+#[tactic(auto, unfolding(crate::specs::Declarations::level_named_at))]
+fn level_named(tokens: Tokens<'_>) -> Result<(Priority, Tokens<'_>), ReadError>
+    ensures { Gives (λ x. (x.0, map piece x.1.now)) result (level_named_at (map piece tokens.now)) }
+{
+    match tokens {
+        [] => Err(refused(Kind::EndsEarly, tokens)),
+        [Token::Key(keyword), rest @ ..] => match named(*keyword) {
+            Some(priority) => Ok((priority, rest)),
+            None => Err(refused(Kind::Unexpected, tokens)),
+        },
+        _ => Err(refused(Kind::Unexpected, tokens)),
+    }
+}
+
+#[tactic(auto, unfolding(crate::specs::Declarations::priority_at))]
+fn priority(tokens: Tokens<'_>) -> Result<(Priority, Tokens<'_>), ReadError>
+    ensures { Gives (λ x. (x.0, map piece x.1.now)) result (priority_at (map piece tokens.now)) }
+{
+    match tokens {
+        [Token::Key(Keyword::At), rest @ ..] => level_named(rest),
+        _ => Ok((Priority::Medium, tokens)),
+    }
+}
+
+// A root behind its keyword.
+#[tactic(auto, unfolding(crate::specs::Declarations::root_at))]
+pub(crate) fn root(alloc: Global, tokens: Tokens<'_>) -> Result<(Root, Tokens<'_>), ReadError>
+    ensures { Gives (λ x. (view_root x.0, map piece x.1.now)) result (root_at (map piece tokens.now)) }
+{
+    let (root, rest) = name(alloc, tokens)?;
+    let rest = sign(Mark::Assign, rest)?;
+    let (actor, rest) = name(alloc, rest)?;
+    let rest = sign(Mark::Dot, rest)?;
+    let (method, rest) = name(alloc, rest)?;
+    let rest = sign(Mark::Open, rest)?;
+    let (args, rest) = ints(alloc, rest)?;
+    let (priority, rest) = priority(rest)?;
+    let rest = sign(Mark::Semicolon, rest)?;
+    Ok((
+        Root {
+            name: root,
+            actor,
+            method,
+            args,
+            priority,
+        },
+        rest,
+    ))
+}

@@ -1,0 +1,162 @@
+//! Names and calls inside declarations, and whole scripts.
+
+ghost use Rattle.std.specs.Prelude.{◌≡◌, [], ◌∷◌, ◌++◌, map, IfOk, OnOk};
+ghost use Rattle.script_grammar.specs.Tree.{text_of, view_field, view_invariant, view_method, view_actor, view_root, view_decl};
+ghost use Rattle.script_names.specs.Directory.{directory_of};
+ghost use Rattle.script_names.specs.declared.misuse.Misuse.TheVariants.{Twice};
+ghost use Rattle.script_names.specs.Texts.{is_among};
+ghost use Rattle.script_names.specs.Rules.{where_so, optional_fault, parameters_fault, method_fault, methods_fault, fields_fault, field_names, actor_fault, root_fault, declarations_fault, names_fault};
+ghost use Rattle.script_names.specs.Finds.{Finds};
+
+use crate::directory::Declared;
+use crate::expressions::{expression, stands};
+use crate::misuse::{Misuse, NamesError, fault_at};
+use crate::statements::statements;
+use crate::texts::Names;
+use std::alloc::Global;
+use script_grammar::{Actor, Decl, Field, Invariant, Method, Name, Root};
+
+// The name is none of those.
+fn unless_seen(seen: &Names, name: &Name) -> Result<(), NamesError>
+    ensures { Finds result (where_so (is_among seen.now (text_of name.now)) Twice) }
+{
+    if seen.contains(&name.text) {
+        Err(fault_at(Misuse::Twice, name))
+    } else {
+        Ok(())
+    }
+}
+
+// The parameters are distinct, and distinct from the fields.
+fn parameters(alloc: Global, fields: &Names, params: &[Name]) -> Result<Names, NamesError>
+    ensures finds { Finds result (parameters_fault fields.now [] (map text_of params.now)) }
+    ensures names { IfOk result (λ n. n ≡ map text_of params.now) }
+{
+    let mut variables = Names::new(alloc);
+    for param in params {
+        if stands(fields, &variables, param) {
+            return Err(fault_at(Misuse::Twice, param));
+        }
+        variables.add(alloc, &param.text)?;
+    }
+    Ok(variables)
+}
+
+fn method(
+    alloc: Global,
+    declared: &Declared,
+    fields: &Names,
+    seen: &Names,
+    method: &Method,
+) -> Result<(), NamesError>
+    ensures { Finds result (method_fault declared.now fields.now seen.now (view_method method.now)) }
+{
+    unless_seen(seen, &method.name)?;
+    let mut variables = parameters(alloc, fields, &method.params)?;
+    statements(alloc, declared, fields, &mut variables, &method.body)
+}
+
+fn methods(
+    alloc: Global,
+    declared: &Declared,
+    fields: &Names,
+    methods: &[Method],
+) -> Result<(), NamesError>
+    ensures { Finds result (methods_fault declared.now fields.now [] (map view_method methods.now)) }
+{
+    let mut seen = Names::new(alloc);
+    for next in methods {
+        method(alloc, declared, fields, &seen, next)?;
+        seen.add(alloc, &next.name.text)?;
+    }
+    Ok(())
+}
+
+// The fields are distinct.
+fn fields(alloc: Global, fields: &[Field]) -> Result<Names, NamesError>
+    ensures finds { Finds result (fields_fault [] (map view_field fields.now)) }
+    ensures names { IfOk result (λ n. n ≡ field_names (map view_field fields.now)) }
+{
+    let mut seen = Names::new(alloc);
+    for field in fields {
+        unless_seen(&seen, &field.name)?;
+        seen.add(alloc, &field.name.text)?;
+    }
+    Ok(seen)
+}
+
+// An invariant names fields alone.
+fn invariant(alloc: Global, fields: &Names, invariant: &Option<Invariant>) -> Result<(), NamesError>
+    ensures { Finds result (optional_fault fields.now [] (view_invariant invariant.now)) }
+{
+    match invariant {
+        Some(invariant) => expression(fields, &Names::new(alloc), &invariant.test),
+        None => Ok(()),
+    }
+}
+
+// The names of an actor are in order, and its own is seen from then on.
+fn actor(
+    alloc: Global,
+    declared: &Declared,
+    seen: &mut Names,
+    actor: &Actor,
+) -> Result<(), NamesError>
+    ensures finds { Finds result (actor_fault declared.now seen.old (view_actor actor.now)) }
+    ensures seen { OnOk result (seen.new ≡ seen.old ++ text_of actor.now.name ∷ []) }
+{
+    unless_seen(seen, &actor.name)?;
+    if seen.len() > 63 {
+        return Err(fault_at(Misuse::TooMany, &actor.name));
+    }
+    let fields = fields(alloc, &actor.fields)?;
+    invariant(alloc, &fields, &actor.invariant)?;
+    methods(alloc, declared, &fields, &actor.methods)?;
+    seen.add(alloc, &actor.name.text)?;
+    Ok(())
+}
+
+// The names of a root are in order, and its own is seen from then on.
+fn root(alloc: Global, declared: &Declared, seen: &mut Names, root: &Root) -> Result<(), NamesError>
+    ensures finds { Finds result (root_fault declared.now seen.old (view_root root.now)) }
+    ensures seen { OnOk result (seen.new ≡ seen.old ++ text_of root.now.name ∷ []) }
+{
+    unless_seen(seen, &root.name)?;
+    if seen.len() > 1023 {
+        return Err(fault_at(Misuse::TooMany, &root.name));
+    }
+    declared.check_call(alloc, &root.actor, &root.method, root.args.len())?;
+    seen.add(alloc, &root.name.text)?;
+    Ok(())
+}
+
+fn declarations(alloc: Global, declared: &Declared, decls: &[Decl]) -> Result<(), NamesError>
+    ensures { Finds result (declarations_fault declared.now [] [] (map view_decl decls.now)) }
+{
+    let mut actors = Names::new(alloc);
+    let mut roots = Names::new(alloc);
+    for decl in decls {
+        match decl {
+            Decl::Actor(next) => actor(alloc, declared, &mut actors, next)?,
+            Decl::Root(next) => root(alloc, declared, &mut roots, next)?,
+        }
+    }
+    Ok(())
+}
+
+/// Checks the names and counts of a script that the grammar accepted, and hands out what it declares, in time linear
+/// in the script.
+///
+/// A fault is the first one in the order of the text. It stands at the name that is concerned: the second of two of
+/// one name, a name that nothing stands under, the actor or the method of a call, and for a wrong number of arguments
+/// the method. The rules are our own.
+pub fn check(alloc: Global, decls: &[Decl]) -> Result<Declared, NamesError>
+    // It is the first fault, and there is none where it answers Ok, unless memory runs out.
+    ensures finds { Finds result (names_fault (map view_decl decls.now)) }
+    // What is handed out is what the script declares.
+    ensures directory { IfOk result (λ d. d ≡ directory_of (map view_decl decls.now)) }
+{
+    let declared = Declared::of(alloc, decls)?;
+    declarations(alloc, &declared, decls)?;
+    Ok(declared)
+}

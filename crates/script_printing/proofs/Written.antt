@@ -1,0 +1,58 @@
+-- What is written, token by token.
+use Rattle.std.proofs.Common.{◌≡◌, ◌++◌, ◌∷◌, [], ℕ, List, ap, sym, refl, ◌∙◌, append_assoc, ◌+◌, ◌<◌, length, map, take, drop, ◌≤◌, ℤ, arith, Result, Ok, Err, OnOk}
+use Rattle.std.proofs.lemmas.List.{append-nil, map-id, map_more}
+use Rattle.std.proofs.lemmas.List.Concat.{flat_map-append}
+use Rattle.std.proofs.Math.ListN.{get_or}
+use Rattle.std.specs.List.{flat_map}
+use Rattle.script_tokens.specs.Pieces.{Piece}
+use Rattle.script_printing.specs.Pieces.{behind_comma, listed}
+use Rattle.script_printing.specs.Words.{text_of}
+use Rattle.script_printing.specs.Printed.{spaced, after}
+
+pub spaced-append : (ps qs : List Piece) → spaced (ps ++ qs) ≡ spaced ps ++ spaced qs
+spaced-append [] qs = refl
+spaced-append (p ∷ ps) qs = ap (λ bs. 32 ∷ (text_of p ++ bs)) (spaced-append ps qs) ∙ ap (λ bs. 32 ∷ bs) (sym (append_assoc (text_of p) (spaced ps) (spaced qs)))
+
+-- tokens behind tokens
+pub after_after : (bytes : List ℕ) (ps qs : List Piece) → after (after bytes ps) qs ≡ after bytes (ps ++ qs)
+unfolding after
+after_after bytes ps qs = append_assoc bytes (spaced ps) (spaced qs) ∙ ap (λ bs. bytes ++ bs) (sym (spaced-append ps qs))
+
+-- tokens behind tokens, unless memory ran out
+pub then_after : {A E : Type 0} (r : Result A E) (start before now : List ℕ) (ps qs : List Piece) → before ≡ after start ps → OnOk r (now ≡ after before qs) → OnOk r (now ≡ after start (ps ++ qs))
+then_after (Ok x) start before now ps qs p q = q ∙ ap (λ bytes. after bytes qs) p ∙ after_after start ps qs
+then_after (Err e) start before now ps qs p q = q
+
+-- no tokens
+pub after_none : (bytes : List ℕ) → after bytes [] ≡ bytes
+unfolding after
+after_none bytes = append-nil bytes
+
+-- one more of a list
+flat_map_next : {X A B : Type 0} (f : A → List B) (view : X → A) (xs : List X) (i : ℕ) (x : X) → i < length xs → x ≡ get_or xs i x → flat_map f (map view (take (i + 1) xs)) ≡ flat_map f (map view (take i xs)) ++ f (view x)
+flat_map_next f view xs i x h e =
+    ap (flat_map f) (map_more view xs i x h) ∙ flat_map-append f (map view (take i xs)) (view (get_or xs i x) ∷ []) ∙ ap (λ ps. flat_map f (map view (take i xs)) ++ ps) (append-nil (f (view (get_or xs i x))) ∙ ap (λ y. f (view y)) (sym e))
+
+-- the bytes of one more of a list
+pub wrote_next : {X A : Type 0} (f : A → List ℕ) (view : X → A) (xs : List X) (i : ℕ) (x : X) → i < length xs → x ≡ get_or xs i x → (start before now : List ℕ) → before ≡ start ++ flat_map f (map view (take i xs)) → now ≡ before ++ f (view x) → now ≡ start ++ flat_map f (map view (take (i + 1) xs))
+wrote_next f view xs i x h e start before now p q =
+    q ∙ ap (λ bytes. bytes ++ f (view x)) p ∙ append_assoc start (flat_map f (map view (take i xs))) (f (view x)) ∙ ap (λ bytes. start ++ bytes) (sym (flat_map_next f view xs i x h e))
+
+-- the tokens of one more of a list
+pub after_next : {X A : Type 0} (f : A → List Piece) (view : X → A) (xs : List X) (i : ℕ) (x : X) → i < length xs → x ≡ get_or xs i x → (start before now : List ℕ) → before ≡ after start (flat_map f (map view (take i xs))) → now ≡ after before (f (view x)) → now ≡ after start (flat_map f (map view (take (i + 1) xs)))
+after_next f view xs i x h e start before now p q =
+    q ∙ ap (λ bytes. after bytes (f (view x))) p ∙ after_after start (flat_map f (map view (take i xs))) (f (view x)) ∙ ap (after start) (sym (flat_map_next f view xs i x h e))
+
+-- an empty list
+pub after_no_list : {X A : Type 0} (f : A → List Piece) (view : X → A) (xs : List X) → length xs < 1 → (bytes : List ℕ) → bytes ≡ after bytes (listed f (map view xs))
+after_no_list f view [] h bytes = sym (after_none bytes)
+after_no_list f view (x ∷ xs) h bytes = absurd (omega arith)
+
+-- the first of a list, and the others
+pub after_list : {X A : Type 0} (f : A → List Piece) (view : X → A) (xs : List X) (x : X) → 1 ≤ length xs → x ≡ get_or xs 0 x → (start before now : List ℕ) → before ≡ after start (f (view x)) → now ≡ after before (flat_map (behind_comma f) (map view (drop 1 xs))) → now ≡ after start (listed f (map view xs))
+after_list f view [] x h e start before now p q = absurd (omega arith)
+after_list f view (y ∷ xs) x h e start before now p q =
+    q ∙ ap (λ bytes. after bytes (flat_map (behind_comma f) (map view xs))) (p ∙ ap (λ z. after start (f (view z))) e) ∙ after_after start (f (view y)) (flat_map (behind_comma f) (map view xs))
+
+pub same_list : (ns : List ℤ) → map (λ n. n) ns ≡ ns
+same_list ns = map-id ns

@@ -1,0 +1,25 @@
+-- The printed form of a script's declarations.
+use Rattle.std.specs.Prelude.{ℕ, List, [], ◌∷◌, ◌++◌, codes}
+use Rattle.std.specs.List.{flat_map}
+use Rattle.script_tokens.specs.Pieces.{Piece}
+use Rattle.script_grammar.specs.Tree.{ActorTree, RootTree}
+use Rattle.script_printing.specs.Words.{text_of}
+use Rattle.script_printing.specs.Pieces.{pieces_of_actor, pieces_of_root}
+
+-- tokens, each behind a space
+abbrev pub spaced : List Piece → List ℕ
+spaced [] = []
+spaced (p ∷ ps) = codes " " ++ (text_of p ++ spaced ps)
+
+-- tokens on one line, with one space between them, and the LF that ends it
+abbrev pub line_of : List Piece → List ℕ
+line_of [] = codes "\n"
+line_of (p ∷ ps) = text_of p ++ (spaced ps ++ codes "\n")
+
+-- actors and then roots, each on one line
+abbrev pub printed : List ActorTree → List RootTree → List ℕ
+printed actors roots = flat_map (λ a. line_of (pieces_of_actor a)) actors ++ flat_map (λ r. line_of (pieces_of_root r)) roots
+
+-- what is written, with tokens put behind it
+unfoldable pub after : List ℕ → List Piece → List ℕ
+after bytes ps = bytes ++ spaced ps

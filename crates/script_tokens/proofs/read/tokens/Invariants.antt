@@ -1,0 +1,10 @@
+use Rattle.std.proofs.Common.{map, length}
+use Rattle.script_tokens.specs.Pieces.{piece}
+use Rattle.script_tokens.proofs.Reading.{Reading}
+use Rattle.script_tokens.proofs.read.tokens.Given as goal
+
+abbrev pub invariant-loop-rest : goal.invariant-loop-rest
+invariant-loop-rest l = Reading l.text l.rest (map piece l.found.tokens.items) l.found.lines.items l.found.last_line
+
+abbrev pub decreases-loop-rest : goal.decreases-loop-rest
+decreases-loop-rest l = length l.rest

@@ -1,0 +1,70 @@
+//! The kinds of bytes, and how many of a kind stand at the front.
+
+ghost use Rattle.std.specs.Prelude.{◌≡◌, ◌≤◌, length};
+ghost use Rattle.std.specs.List.{prefix_len};
+ghost use Rattle.script_tokens.specs.Bytes.{is_space, is_digit, is_letter, is_name_byte, is_no_line_feed, is_text_byte};
+
+/// Whether the byte is a space, a tab, an LF or a CR.
+pub(crate) fn space(byte: u8) -> bool
+    ensures { result ≡ is_space byte }
+{
+    byte == b' ' || byte == b'\t' || byte == b'\n' || byte == b'\r'
+}
+
+pub(crate) fn digit(byte: u8) -> bool
+    ensures { result ≡ is_digit byte }
+{
+    b'0' <= byte && byte <= b'9'
+}
+
+/// Whether a word may begin with the byte.
+pub(crate) fn letter(byte: u8) -> bool
+    ensures { result ≡ is_letter byte }
+{
+    (b'A' <= byte && byte <= b'Z') || (b'a' <= byte && byte <= b'z') || byte == b'_'
+}
+
+fn name_byte(byte: u8) -> bool
+    ensures { result ≡ is_name_byte byte }
+{
+    letter(byte) || digit(byte)
+}
+
+/// Whether a script may contain the byte.
+fn text_byte(byte: u8) -> bool
+    ensures { result ≡ is_text_byte byte }
+{
+    (32 <= byte && byte <= 126) || byte == b'\t' || byte == b'\n' || byte == b'\r'
+}
+
+/// How many digits stand at the front.
+pub(crate) fn digits_len(bytes: &[u8]) -> usize
+    ensures len { result ≡ prefix_len is_digit bytes.now }
+    ensures within { result ≤ length bytes.now }
+{
+    bytes.iter().take_while(|b| digit(**b)).count()
+}
+
+/// How many bytes of a name stand at the front.
+pub(crate) fn name_len(bytes: &[u8]) -> usize
+    ensures len { result ≡ prefix_len is_name_byte bytes.now }
+    ensures within { result ≤ length bytes.now }
+{
+    bytes.iter().take_while(|b| name_byte(**b)).count()
+}
+
+/// How many bytes stand before the first LF.
+pub(crate) fn line_len(bytes: &[u8]) -> usize
+    ensures len { result ≡ prefix_len is_no_line_feed bytes.now }
+    ensures within { result ≤ length bytes.now }
+{
+    bytes.iter().take_while(|b| **b != b'\n').count()
+}
+
+/// How many bytes that a script may contain stand at the front.
+pub(crate) fn text_len(bytes: &[u8]) -> usize
+    ensures len { result ≡ prefix_len is_text_byte bytes.now }
+    ensures within { result ≤ length bytes.now }
+{
+    bytes.iter().take_while(|b| text_byte(**b)).count()
+}

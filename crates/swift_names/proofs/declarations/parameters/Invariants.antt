@@ -1,9 +1,0 @@
-use Rattle.std.proofs.Common.{◌≡◌, ◌++◌, [], drop, map}
-use Rattle.swift_grammar.specs.Tree.{text_of}
-use Rattle.swift_names.specs.Rules.{parameters_fault}
-use Rattle.swift_names.proofs.declarations.parameters.Given as goal
-
-abbrev pub invariant-loop-param : goal.invariant-loop-param
-invariant-loop-param l =
-    (parameters_fault l.fields l.variables (map text_of (drop l.param-index l.params)) ≡ parameters_fault l.fields [] (map text_of l.params))
-    × (l.variables ++ map text_of (drop l.param-index l.params) ≡ map text_of l.params)

@@ -1,0 +1,80 @@
+//! What a run leaves.
+
+ghost use Rattle.std.specs.Prelude.{◌≡◌, [], length, map, IfOk};
+ghost use Rattle.swift_script.specs.Scripts.{Parts};
+ghost use Rattle.swift_report.specs.Ended.{AreEnded};
+ghost use Rattle.swift_report.specs.Lawful.{AreLawful};
+ghost use Rattle.swift_report.specs.Numbered.{HaveNoGaps};
+ghost use Rattle.swift_one_thread.specs.Lanes.{AreRootsFrom, IsBoard, ending_in, fields_of, journal_of};
+ghost use Rattle.swift_one_thread.specs.Told.{AreTold};
+
+use crate::board::Board;
+use crate::fault::Halt;
+use crate::lane::Lane;
+use std::alloc::Global;
+use swift_report::{Origin, Record, Report};
+use swift_types::{Ending, RootId};
+
+// The report of a board whose tasks have all ended.
+pub fn report_of(alloc: Global, board: Board) -> Result<Report, Halt>
+    ensures lawful { IfOk result (λ r. (p : Parts) → IsBoard p board → AreLawful p 0 r.journals.items r.fields.items) }
+    ensures told { IfOk result (λ r. (p : Parts) → IsBoard p board → AreTold p r.journals.items) }
+    ensures numbered { IfOk result (λ r. (p : Parts) → IsBoard p board → HaveNoGaps r.journals.items) }
+    ensures ended { IfOk result (λ r. (p : Parts) → IsBoard p board → AreEnded r.journals.items 0 r.endings.items) }
+    ensures journals { IfOk result (λ r. length r.journals.items ≡ length board.lanes.items) }
+    ensures fields { IfOk result (λ r. length r.fields.items ≡ length board.lanes.items) }
+    ensures log { IfOk result (λ r. r.log.items ≡ []) }
+    ensures tasks { IfOk result (λ r. length r.endings.items ≡ length board.endings.items) }
+    ensures roots { IfOk result (λ r. AreRootsFrom 0 r.endings.items) }
+{
+    let Board {
+        lanes,
+        tokens: _,
+        endings,
+    } = board;
+    let endings = endings_of(alloc, &endings)?;
+    let (journals, fields) = part(alloc, lanes)?;
+    Ok(Report {
+        journals,
+        log: Vec::new(alloc),
+        endings,
+        fields,
+    })
+}
+
+// The journals and the fields of executors.
+fn part(alloc: Global, lanes: Vec<Lane>) -> Result<(Vec<Vec<Record>>, Vec<Vec<i64>>), Halt>
+    ensures journals { IfOk result (λ r. r.0.items ≡ map journal_of lanes.items) }
+    ensures fields { IfOk result (λ r. r.1.items ≡ map fields_of lanes.items) }
+{
+    let mut journals = Vec::new(alloc);
+    let mut all = Vec::new(alloc);
+    for lane in lanes {
+        let Lane {
+            jobs: _,
+            fields,
+            journal,
+        } = lane;
+        journals.push(journal)?;
+        all.push(fields)?;
+    }
+    Ok((journals, all))
+}
+
+// How each task ended, with the root that made it.
+fn endings_of(alloc: Global, endings: &[Option<Ending>]) -> Result<Vec<(Origin, Ending)>, Halt>
+    ensures same { IfOk result (λ r. map ending_in r.items ≡ endings.now) }
+    ensures roots { IfOk result (λ r. AreRootsFrom 0 r.items) }
+{
+    let mut all = Vec::new(alloc);
+    for (k, ending) in endings.iter().enumerate() {
+        let Ok(root) = u32::try_from(k) else {
+            return Err(Halt::Unfinished);
+        };
+        let Some(ending) = ending else {
+            return Err(Halt::Unfinished);
+        };
+        all.push((Origin::Root(RootId(root)), *ending))?;
+    }
+    Ok(all)
+}

@@ -1,0 +1,81 @@
+//! One turn of an executor's oldest job.
+
+ghost use Rattle.std.specs.Prelude.{IfOk, OnOk};
+ghost use Rattle.swift_one_thread.specs.Lanes.{IsLane, IsTurned, Takes, Writes};
+
+use crate::fault::Halt;
+use crate::lane::{Lane, Pending};
+use futures::task::Context;
+use std::alloc::Global;
+use std::mem;
+use script_code::Env;
+use swift_report::Record;
+use swift_script::Script;
+use swift_turn::{Body, Step, run_turn};
+use swift_types::{ActorId, TaskId};
+
+/// A task after its turn, with what comes next.
+#[derive(Drop)]
+pub struct Turned {
+    pub task: TaskId,
+    pub number: u32,
+    pub env: Env,
+    pub body: Box<Body>,
+    pub step: Step,
+}
+
+// Runs the oldest job of the executor of this actor, and writes its record. Where the run is given up, the fields and
+// the job are lost.
+pub fn take_turn(
+    alloc: Global,
+    cx: &mut Context<'_>,
+    script: &Script,
+    actor: ActorId,
+    lane: &mut Lane,
+) -> Result<Turned, Halt>
+    requires { IsLane script.now actor.0 lane.old }
+    ensures lane { OnOk result (IsLane script.now actor.0 lane.new) }
+    ensures next { IfOk result (λ t. IsTurned script.now t) }
+    ensures taken { IfOk result (λ t. Takes lane.old.jobs.items lane.new.jobs.items t) }
+    ensures written { IfOk result (λ t. Writes lane.old.journal.items lane.new.journal.items t) }
+{
+    // A token stands for at least one job.
+    let Some(job) = lane.jobs.pop_front() else {
+        return Err(Halt::Unfinished);
+    };
+    let Pending {
+        task,
+        number,
+        resume,
+        env,
+        mut body,
+    } = job;
+    let frame = body.frame()?;
+    let entered = mem::replace(&mut lane.fields, Vec::new(alloc));
+    let Ok((fields, effects, exit)) = run_turn(&mut body, cx, entered, resume, env) else {
+        return Err(Halt::Memory);
+    };
+    lane.fields = fields;
+    // No script that was read calls a method that it lacks.
+    if !body.can_advance(&exit) {
+        return Err(Halt::Unfinished);
+    }
+    let step = body.advance(&exit)?;
+    lane.journal.push(Record {
+        task,
+        number,
+        worker: 0,
+        frame,
+        resume,
+        env,
+        exit,
+        effects,
+    })?;
+    Ok(Turned {
+        task,
+        number,
+        env,
+        body,
+        step,
+    })
+}

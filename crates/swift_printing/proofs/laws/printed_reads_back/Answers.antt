@@ -1,8 +1,0 @@
-use Rattle.swift_printing.specs.Pieces.{actors_in, roots_in}
-use Rattle.swift_printing.proofs.Again.{readable_again}
-use Rattle.swift_printing.proofs.Lexed.{script_lexes}
-use Rattle.swift_printing.proofs.Read.{spelled_again}
-use Rattle.swift_printing.proofs.laws.printed_reads_back.Goals as goal
-
-pub returns : goal.returns
-returns c = λ limit text ts ds l d. (script_lexes (actors_in ds) (roots_in ds) (readable_again limit text ts ds l d), spelled_again limit ts ds d)

@@ -1,5 +1,0 @@
-use Rattle.swift_printing.proofs.Read.{spelled_again}
-use Rattle.swift_printing.proofs.laws.printed_spells_again.Goals as goal
-
-pub returns : goal.returns
-returns c = spelled_again

@@ -1,0 +1,12 @@
+-- Which faults say that a growth was refused, and nothing else.
+use Rattle.std.specs.Prelude.{◌≡◌}
+use Rattle.swift_script.specs.declared.fault.ScriptFaultKind.TheVariants as kind
+use Rattle.swift_one_thread.specs.declared.fault.RunFault.TheVariants as run
+use Rattle.swift_tool.specs.declared.fault.ToolFault.{ToolFault}
+use Rattle.swift_tool.specs.declared.fault.ToolFault.TheVariants.{Script, Run, Device}
+
+-- while the script was read, on no line of it, or in the run
+abbrev pub IsWantOfMemory : ToolFault → Type 0
+IsWantOfMemory (Script fault) = (fault.line ≡ 0) × (fault.kind ≡ kind.Memory)
+IsWantOfMemory (Run fault) = fault ≡ run.Memory
+IsWantOfMemory Device = ⊥
