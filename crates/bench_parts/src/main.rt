@@ -53,7 +53,7 @@ fn whole(rt: &HostRuntime) -> Result<(), BenchFault> {
     match count {
         None => stage(rt, name.as_str()),
         Some(word) => match word.parse::<u32>() {
-            Ok(entries) => part(rt, name.as_str(), entries),
+            Ok(entries) => measure_part(rt, name.as_str(), entries),
             Err(_) => Err(BenchFault::Words),
         },
     }
@@ -70,7 +70,7 @@ fn stage(rt: &HostRuntime, name: &str) -> Result<(), BenchFault> {
 }
 
 // Measures the part of this name.
-fn part(rt: &HostRuntime, name: &str, entries: u32) -> Result<(), BenchFault> {
+fn measure_part(rt: &HostRuntime, name: &str, entries: u32) -> Result<(), BenchFault> {
     if entries == 0 || entries > MOST {
         return Err(BenchFault::Words);
     }

@@ -1,5 +1,5 @@
 pub mod Tree
 pub mod Value
 pub mod Seen
-pub mod Lines
+pub mod Instructions
 pub mod Flat

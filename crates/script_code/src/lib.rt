@@ -1,11 +1,11 @@
-//! Methods as numbered lines: what each line does, which lines may follow it, and what its formulas are worth.
+//! Methods as numbered instructions: what each line does, which instructions may follow it, and what its formulas are worth.
 #![tactic(auto)]
 
 mod env;
 mod evaluation;
 mod formula;
 pub mod laws;
-mod line;
+mod instruction;
 mod sight;
 #[cfg(test)]
 mod tests;
@@ -13,5 +13,5 @@ mod tests;
 pub use env::Env;
 pub use evaluation::{holds, value};
 pub use formula::{Call, Formula};
-pub use line::{Act, Line, Place, push_line};
+pub use instruction::{Act, Instruction, Place, push_instruction};
 pub use sight::Sight;

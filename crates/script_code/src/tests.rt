@@ -1,5 +1,5 @@
-use crate::laws::{first_line_begins, flat_lines_count, flat_lines_join, flat_lines_stand};
-use crate::{Act, Env, Formula, Sight, push_line, value};
+use crate::laws::{first_instruction_begins, flat_code_counts, flat_code_joins, flat_code_implements};
+use crate::{Act, Env, Formula, Sight, push_instruction, value};
 use std::alloc::{AllocError, Global};
 use std::test::Fail;
 use swift_types::{Operator, Priority};
@@ -107,11 +107,11 @@ fn places(rt: HostRuntime) -> Result<(), Fail> {
     let zero = Box::new(alloc, Formula::Number(0))?;
     assert_eq!(rt; seen(&Formula::Not(zero)), Some(1));
     let mut lines = Vec::new(alloc);
-    push_line(&mut lines, Act::End, 1, 2)?;
+    push_instruction(&mut lines, Act::End, 1, 2)?;
     assert!(rt; lines.len() == 1);
-    first_line_begins();
-    flat_lines_stand();
-    flat_lines_join();
-    flat_lines_count();
+    first_instruction_begins();
+    flat_code_implements();
+    flat_code_joins();
+    flat_code_counts();
     Ok(())
 }

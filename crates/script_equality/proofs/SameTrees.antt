@@ -14,7 +14,7 @@ use Rattle.swift_types.specs.declared.operator.Operator.TheVariants.{Or, And, Eq
 use Rattle.swift_types.specs.declared.priority.Priority.{Priority}
 use Rattle.swift_types.specs.declared.priority.Priority.TheVariants.{Background, Low, Medium, High}
 use Rattle.swift_types.specs.Priority.{rank}
-use Rattle.script_grammar.specs.Tree.{Tree, Number, Named, Negated, Inverted, Both, CallTree, WaitTree, ValueTree, Computed, Awaited, Step, Steps, Defines, Assigns, Awaits, Tests, Chooses, Repeats, Returns, Throws, Yields, nothing, first_then, FieldTree, MethodTree, ActorTree, RootTree}
+use Rattle.script_grammar.specs.Tree.{ExprTree, Number, Named, Negated, Inverted, Both, CallTree, WaitTree, ValueTree, Computed, Awaited, StmtTree, BlockTree, Let, Assign, Await, If, IfElse, While, Return, Throw, Yield, nothing, first_then, FieldTree, MethodTree, ActorTree, RootTree}
 use Rattle.script_equality.specs.SameTrees.{place_of, same_operator, same_priority, same_tree, same_if, same_call, same_wait, same_value, same_step, same_steps, same_field, same_method, same_actor_tree, same_root_tree}
 
 -- a test decides whether two values are equal
@@ -69,7 +69,7 @@ same_priority_is p q e = sym (priority_at p) ∙ ap (λ n. get_or priorities n H
 same_priority_itself : (p : Priority) → same_priority p p ≡ true
 same_priority_itself p = eq-eqb (rank p) (rank p) refl
 
-pub same_tree_is : (a b : Tree) → same_tree a b ≡ true → a ≡ b
+pub same_tree_is : (a b : ExprTree) → same_tree a b ≡ true → a ≡ b
 same_tree_is (Number m) (Number n) e = ap Number ((Decides-int_eq m n).0 e)
 same_tree_is (Named m) (Named n) e = ap Named ((texts m n).0 e)
 same_tree_is (Negated a) (Negated b) e = ap Negated (same_tree_is a b e)
@@ -80,7 +80,7 @@ same_tree_is (Both o a c) (Both p b d) e =
     λ i. Both (same_operator_is o p h.0 i) (same_tree_is a b k.0 i) (same_tree_is c d k.1 i)
 same_tree_is a b e = absurd (false≢true e)
 
-pub same_tree_itself : (a : Tree) → same_tree a a ≡ true
+pub same_tree_itself : (a : ExprTree) → same_tree a a ≡ true
 same_tree_itself (Number m) = (Decides-int_eq m m).1 refl
 same_tree_itself (Named m) = (texts m m).1 refl
 same_tree_itself (Negated a) = same_tree_itself a
@@ -133,30 +133,30 @@ same_value_itself (Computed a) = same_tree_itself a
 same_value_itself (Awaited a) = same_wait_itself a
 
 mutual
-  pub same_step_is : (a b : Step) → same_step a b ≡ true → a ≡ b
-  same_step_is (Defines m a) (Defines n b) e =
+  pub same_step_is : (a b : StmtTree) → same_step a b ≡ true → a ≡ b
+  same_step_is (Let m a) (Let n b) e =
       let h = and_parts (bytes_eq m n) (same_value a b) e in
-      λ i. Defines ((texts m n).0 h.0 i) (same_value_is a b h.1 i)
-  same_step_is (Assigns m a) (Assigns n b) e =
+      λ i. Let ((texts m n).0 h.0 i) (same_value_is a b h.1 i)
+  same_step_is (Assign m a) (Assign n b) e =
       let h = and_parts (bytes_eq m n) (same_value a b) e in
-      λ i. Assigns ((texts m n).0 h.0 i) (same_value_is a b h.1 i)
-  same_step_is (Awaits a) (Awaits b) e = ap Awaits (same_wait_is a b e)
-  same_step_is (Tests a c) (Tests b d) e =
+      λ i. Assign ((texts m n).0 h.0 i) (same_value_is a b h.1 i)
+  same_step_is (Await a) (Await b) e = ap Await (same_wait_is a b e)
+  same_step_is (If a c) (If b d) e =
       let h = and_parts (same_tree a b) (same_steps c d) e in
-      λ i. Tests (same_tree_is a b h.0 i) (same_steps_is c d h.1 i)
-  same_step_is (Chooses a c x) (Chooses b d y) e =
+      λ i. If (same_tree_is a b h.0 i) (same_steps_is c d h.1 i)
+  same_step_is (IfElse a c x) (IfElse b d y) e =
       let h = and_parts (same_tree a b) (same_steps c d && same_steps x y) e in
       let k = and_parts (same_steps c d) (same_steps x y) h.1 in
-      λ i. Chooses (same_tree_is a b h.0 i) (same_steps_is c d k.0 i) (same_steps_is x y k.1 i)
-  same_step_is (Repeats a c) (Repeats b d) e =
+      λ i. IfElse (same_tree_is a b h.0 i) (same_steps_is c d k.0 i) (same_steps_is x y k.1 i)
+  same_step_is (While a c) (While b d) e =
       let h = and_parts (same_tree a b) (same_steps c d) e in
-      λ i. Repeats (same_tree_is a b h.0 i) (same_steps_is c d h.1 i)
-  same_step_is (Returns a) (Returns b) e = ap Returns (same_tree_is a b e)
-  same_step_is (Throws a) (Throws b) e = ap Throws (same_tree_is a b e)
-  same_step_is Yields Yields e = refl
+      λ i. While (same_tree_is a b h.0 i) (same_steps_is c d h.1 i)
+  same_step_is (Return a) (Return b) e = ap Return (same_tree_is a b e)
+  same_step_is (Throw a) (Throw b) e = ap Throw (same_tree_is a b e)
+  same_step_is Yield Yield e = refl
   same_step_is a b e = absurd (false≢true e)
 
-  pub same_steps_is : (a b : Steps) → same_steps a b ≡ true → a ≡ b
+  pub same_steps_is : (a b : BlockTree) → same_steps a b ≡ true → a ≡ b
   same_steps_is nothing nothing e = refl
   same_steps_is (first_then a c) (first_then b d) e =
       let h = and_parts (same_step a b) (same_steps c d) e in
@@ -164,18 +164,18 @@ mutual
   same_steps_is a b e = absurd (false≢true e)
 
 mutual
-  pub same_step_itself : (a : Step) → same_step a a ≡ true
-  same_step_itself (Defines m a) = and_from _ _ ((texts m m).1 refl) (same_value_itself a)
-  same_step_itself (Assigns m a) = and_from _ _ ((texts m m).1 refl) (same_value_itself a)
-  same_step_itself (Awaits a) = same_wait_itself a
-  same_step_itself (Tests a c) = and_from _ _ (same_tree_itself a) (same_steps_itself c)
-  same_step_itself (Chooses a c x) = and_from _ _ (same_tree_itself a) (and_from _ _ (same_steps_itself c) (same_steps_itself x))
-  same_step_itself (Repeats a c) = and_from _ _ (same_tree_itself a) (same_steps_itself c)
-  same_step_itself (Returns a) = same_tree_itself a
-  same_step_itself (Throws a) = same_tree_itself a
-  same_step_itself Yields = refl
+  pub same_step_itself : (a : StmtTree) → same_step a a ≡ true
+  same_step_itself (Let m a) = and_from _ _ ((texts m m).1 refl) (same_value_itself a)
+  same_step_itself (Assign m a) = and_from _ _ ((texts m m).1 refl) (same_value_itself a)
+  same_step_itself (Await a) = same_wait_itself a
+  same_step_itself (If a c) = and_from _ _ (same_tree_itself a) (same_steps_itself c)
+  same_step_itself (IfElse a c x) = and_from _ _ (same_tree_itself a) (and_from _ _ (same_steps_itself c) (same_steps_itself x))
+  same_step_itself (While a c) = and_from _ _ (same_tree_itself a) (same_steps_itself c)
+  same_step_itself (Return a) = same_tree_itself a
+  same_step_itself (Throw a) = same_tree_itself a
+  same_step_itself Yield = refl
 
-  pub same_steps_itself : (a : Steps) → same_steps a a ≡ true
+  pub same_steps_itself : (a : BlockTree) → same_steps a a ≡ true
   same_steps_itself nothing = refl
   same_steps_itself (first_then a c) = and_from _ _ (same_step_itself a) (same_steps_itself c)
 

@@ -7,7 +7,7 @@ use Rattle.swift_types.specs.declared.operator.Operator.{Operator}
 use Rattle.swift_types.specs.declared.operator.Operator.TheVariants.{Or, And, Equal, Unequal, Less, AtMost, Greater, AtLeast, Plus, Minus, Times}
 use Rattle.swift_types.specs.declared.priority.Priority.{Priority}
 use Rattle.swift_types.specs.Priority.{rank}
-use Rattle.script_grammar.specs.Tree.{Tree, Number, Named, Negated, Inverted, Both, CallTree, WaitTree, ValueTree, Computed, Awaited, Step, Steps, Defines, Assigns, Awaits, Tests, Chooses, Repeats, Returns, Throws, Yields, nothing, first_then, FieldTree, MethodTree, ActorTree, RootTree}
+use Rattle.script_grammar.specs.Tree.{ExprTree, Number, Named, Negated, Inverted, Both, CallTree, WaitTree, ValueTree, Computed, Awaited, StmtTree, BlockTree, Let, Assign, Await, If, IfElse, While, Return, Throw, Yield, nothing, first_then, FieldTree, MethodTree, ActorTree, RootTree}
 
 -- the place of an operator in the list of operators
 abbrev pub place_of : Operator → ℕ
@@ -29,7 +29,7 @@ same_operator o p = place_of o == place_of p
 abbrev pub same_priority : Priority → Priority → Bool
 same_priority p q = rank p == rank q
 
-abbrev pub same_tree : Tree → Tree → Bool
+abbrev pub same_tree : ExprTree → ExprTree → Bool
 same_tree (Number m) (Number n) = int_eq m n
 same_tree (Named m) (Named n) = bytes_eq m n
 same_tree (Negated a) (Negated b) = same_tree a b
@@ -55,19 +55,19 @@ same_value (Awaited a) (Awaited b) = same_wait a b
 same_value a b = false
 
 abbrev mutual
-  pub same_step : Step → Step → Bool
-  same_step (Defines m a) (Defines n b) = bytes_eq m n && same_value a b
-  same_step (Assigns m a) (Assigns n b) = bytes_eq m n && same_value a b
-  same_step (Awaits a) (Awaits b) = same_wait a b
-  same_step (Tests a c) (Tests b d) = same_tree a b && same_steps c d
-  same_step (Chooses a c e) (Chooses b d f) = same_tree a b && (same_steps c d && same_steps e f)
-  same_step (Repeats a c) (Repeats b d) = same_tree a b && same_steps c d
-  same_step (Returns a) (Returns b) = same_tree a b
-  same_step (Throws a) (Throws b) = same_tree a b
-  same_step Yields Yields = true
+  pub same_step : StmtTree → StmtTree → Bool
+  same_step (Let m a) (Let n b) = bytes_eq m n && same_value a b
+  same_step (Assign m a) (Assign n b) = bytes_eq m n && same_value a b
+  same_step (Await a) (Await b) = same_wait a b
+  same_step (If a c) (If b d) = same_tree a b && same_steps c d
+  same_step (IfElse a c e) (IfElse b d f) = same_tree a b && (same_steps c d && same_steps e f)
+  same_step (While a c) (While b d) = same_tree a b && same_steps c d
+  same_step (Return a) (Return b) = same_tree a b
+  same_step (Throw a) (Throw b) = same_tree a b
+  same_step Yield Yield = true
   same_step a b = false
 
-  pub same_steps : Steps → Steps → Bool
+  pub same_steps : BlockTree → BlockTree → Bool
   same_steps nothing nothing = true
   same_steps (first_then a c) (first_then b d) = same_step a b && same_steps c d
   same_steps a b = false

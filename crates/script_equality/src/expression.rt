@@ -20,9 +20,9 @@ impl Same for Name {
 }
 
 impl Same for Expr {
-    ghost use Rattle.script_grammar.specs.Tree.{Tree};
+    ghost use Rattle.script_grammar.specs.Tree.{ExprTree};
 
-    ghost View = { Tree };
+    ghost View = { ExprTree };
 
     ghost view = { view };
 

@@ -1,7 +1,7 @@
 //! Statements and blocks.
 
 ghost use Rattle.std.specs.Prelude.{◌≡◌, ◌↔◌, IsTrue, map};
-ghost use Rattle.script_grammar.specs.Tree.{view_call, view_wait, view_value, view_stmt, steps_of};
+ghost use Rattle.script_grammar.specs.Tree.{view_call, view_wait, view_value, view_stmt, block_tree};
 
 use crate::expression::same_option;
 use crate::same::{Same, same_all};
@@ -51,7 +51,7 @@ fn same_stmt(a: &Stmt, b: &Stmt) -> bool
 
 #[cycle(statement)]
 fn same_block(a: &[Stmt], b: &[Stmt]) -> bool
-    ensures { IsTrue result ↔ (steps_of (map view_stmt a.now) ≡ steps_of (map view_stmt b.now)) }
+    ensures { IsTrue result ↔ (block_tree (map view_stmt a.now) ≡ block_tree (map view_stmt b.now)) }
 {
     same_stmts(a, b)
 }

@@ -7,7 +7,7 @@ use Rattle.swift_types.specs.declared.operator.Operator.TheVariants as op
 use Rattle.script_tokens.specs.declared.mark.Mark.TheVariants as mark
 use Rattle.script_tokens.specs.Pieces.{Piece}
 use Rattle.script_tokens.specs.Pieces.{Num, Name, Sign}
-use Rattle.script_grammar.specs.Tree.{Tree, Number, Named, Negated, Inverted, Both, height_of}
+use Rattle.script_grammar.specs.Tree.{ExprTree, Number, Named, Negated, Inverted, Both, height_of}
 use Rattle.script_grammar.specs.Grammar.{mark_of, tightness_of, Spells, IsExpression, number, name, parenthesis, negated, inverted, alone, chained, compared}
 use Rattle.script_grammar.specs.Reading.{Read, operator_in, of_tightness, with_rest, operator_at, most_operators, checked, closed_at, unary_at, operands_at, level_at, inside_at, expr_in}
 
@@ -50,58 +50,58 @@ stops_close : (k : ℕ) (rest : List Piece) → Stops k (Sign mark.Close ∷ res
 unfolding operator_at
 stops_close k rest j le = refl
 
-pub height_pos : (t : Tree) → 0 < height_of t
+pub height_pos : (t : ExprTree) → 0 < height_of t
 height_pos (Number n) = omega arith
 height_pos (Named n) = omega arith
 height_pos (Negated a) = omega arith
 height_pos (Inverted a) = omega arith
 height_pos (Both o a b) = omega arith
 
-pub checked_low : (limit : ℕ) (t : Tree) → height_of t ≤ limit → checked limit t ≡ Ok t
+pub checked_low : (limit : ℕ) (t : ExprTree) → height_of t ≤ limit → checked limit t ≡ Ok t
 unfolding checked
 checked_low limit t h = rw (le-ltb limit (height_of t) h) refl
 
-operands_stop : (limit : ℕ) (operand : Read) (k n : ℕ) (t : Tree) (rest : List Piece) → operator_at k rest ≡ None → operands_at limit operand k n t rest ≡ Ok (t, rest)
+operands_stop : (limit : ℕ) (operand : Read) (k n : ℕ) (t : ExprTree) (rest : List Piece) → operator_at k rest ≡ None → operands_at limit operand k n t rest ≡ Ok (t, rest)
 unfolding operands_at
 operands_stop limit operand k zero t rest e = refl
 operands_stop limit operand k (suc n) t rest e = rw e refl
 
-operands_next : (limit : ℕ) (operand : Read) (k n : ℕ) (o : Operator) (a b : Tree) (behind rest : List Piece) → suc k ≡ tightness_of o → operand behind ≡ Ok (b, rest) → height_of (Both o a b) ≤ limit
+operands_next : (limit : ℕ) (operand : Read) (k n : ℕ) (o : Operator) (a b : ExprTree) (behind rest : List Piece) → suc k ≡ tightness_of o → operand behind ≡ Ok (b, rest) → height_of (Both o a b) ≤ limit
     → operands_at limit operand (suc k) (suc n) a (Sign (mark_of o) ∷ behind) ≡ operands_at limit operand (suc k) n (Both o a b) rest
 unfolding operands_at
 operands_next limit operand k n o a b behind rest e read low =
     rw (found_at o (suc k) behind e, read, checked_low limit (Both o a b) low) refl
 
-level_next : (limit : ℕ) (inside : Read) (k : ℕ) (ts : List Piece) (t : Tree) (rest : List Piece) → level_at limit inside k ts ≡ Ok (t, rest) → level_at limit inside (suc k) ts ≡ operands_at limit (level_at limit inside k) (suc k) (most_operators limit (suc k)) t rest
+level_next : (limit : ℕ) (inside : Read) (k : ℕ) (ts : List Piece) (t : ExprTree) (rest : List Piece) → level_at limit inside k ts ≡ Ok (t, rest) → level_at limit inside (suc k) ts ≡ operands_at limit (level_at limit inside k) (suc k) (most_operators limit (suc k)) t rest
 unfolding level_at
 level_next limit inside k ts t rest e = rw e refl
 
-abbrev Final : ℕ → ℕ → ℕ → List Piece → Tree → Type 0
+abbrev Final : ℕ → ℕ → ℕ → List Piece → ExprTree → Type 0
 Final limit o k ts t = (rest : List Piece) → height_of t ≤ limit → Stops k rest → level_at limit (inside_at limit o) k (ts ++ rest) ≡ Ok (t, rest)
 
 -- Behind operands of tightness k + 1 reading stands there with the tree, and may read on.
-abbrev Again : ℕ → ℕ → ℕ → List Piece → Tree → Type 0
+abbrev Again : ℕ → ℕ → ℕ → List Piece → ExprTree → Type 0
 Again limit o zero ts t = (n : ℕ) (rest : List Piece) → height_of t ≤ suc n → height_of t ≤ limit → unary_at limit (inside_at limit o) n (ts ++ rest) ≡ Ok (t, rest)
 Again limit o (suc k) ts t = (rest : List Piece) → height_of t ≤ limit → Stops k rest → (n : ℕ) × (most_operators limit (suc k) < n + height_of t) × (level_at limit (inside_at limit o) (suc k) (ts ++ rest) ≡ operands_at limit (level_at limit (inside_at limit o) k) (suc k) n t rest)
 
-final : (limit o k : ℕ) (ts : List Piece) (t : Tree) → Again limit o k ts t → Final limit o k ts t
+final : (limit o k : ℕ) (ts : List Piece) (t : ExprTree) → Again limit o k ts t → Final limit o k ts t
 unfolding level_at
 final limit o zero ts t a rest h s = a (limit - 1) rest (omega arith) h
 final limit o (suc k) ts t a rest h s =
     let w = a rest h (λ j le. s j (omega arith)) in
     w.2 ∙ operands_stop limit (level_at limit (inside_at limit o) k) (suc k) w.0 t rest (s (suc k) (omega arith))
 
-negated_again : (limit : ℕ) (inside : Read) (n : ℕ) (ts : List Piece) (t : Tree) (rest : List Piece) → ((m : ℕ) → height_of t ≤ suc m → unary_at limit inside m ts ≡ Ok (t, rest)) → suc (height_of t) ≤ suc n → suc (height_of t) ≤ limit → unary_at limit inside n (Sign mark.Minus ∷ ts) ≡ Ok (Negated t, rest)
+negated_again : (limit : ℕ) (inside : Read) (n : ℕ) (ts : List Piece) (t : ExprTree) (rest : List Piece) → ((m : ℕ) → height_of t ≤ suc m → unary_at limit inside m ts ≡ Ok (t, rest)) → suc (height_of t) ≤ suc n → suc (height_of t) ≤ limit → unary_at limit inside n (Sign mark.Minus ∷ ts) ≡ Ok (Negated t, rest)
 unfolding unary_at
 negated_again limit inside zero ts t rest ih h low = absurd (omega (arith, height_pos t))
 negated_again limit inside (suc n) ts t rest ih h low = rw (ih n (omega arith), checked_low limit (Negated t) low) refl
 
-inverted_again : (limit : ℕ) (inside : Read) (n : ℕ) (ts : List Piece) (t : Tree) (rest : List Piece) → ((m : ℕ) → height_of t ≤ suc m → unary_at limit inside m ts ≡ Ok (t, rest)) → suc (height_of t) ≤ suc n → suc (height_of t) ≤ limit → unary_at limit inside n (Sign mark.Bang ∷ ts) ≡ Ok (Inverted t, rest)
+inverted_again : (limit : ℕ) (inside : Read) (n : ℕ) (ts : List Piece) (t : ExprTree) (rest : List Piece) → ((m : ℕ) → height_of t ≤ suc m → unary_at limit inside m ts ≡ Ok (t, rest)) → suc (height_of t) ≤ suc n → suc (height_of t) ≤ limit → unary_at limit inside n (Sign mark.Bang ∷ ts) ≡ Ok (Inverted t, rest)
 unfolding unary_at
 inverted_again limit inside zero ts t rest ih h low = absurd (omega (arith, height_pos t))
 inverted_again limit inside (suc n) ts t rest ih h low = rw (ih n (omega arith), checked_low limit (Inverted t) low) refl
 
-parenthesis_again : (limit o n : ℕ) (ts : List Piece) (t : Tree) (rest : List Piece) → Final limit o 5 ts t → height_of t ≤ limit → unary_at limit (inside_at limit (suc o)) n (Sign mark.Open ∷ ((ts ++ Sign mark.Close ∷ []) ++ rest)) ≡ Ok (t, rest)
+parenthesis_again : (limit o n : ℕ) (ts : List Piece) (t : ExprTree) (rest : List Piece) → Final limit o 5 ts t → height_of t ≤ limit → unary_at limit (inside_at limit (suc o)) n (Sign mark.Open ∷ ((ts ++ Sign mark.Close ∷ []) ++ rest)) ≡ Ok (t, rest)
 unfolding unary_at inside_at closed_at
 parenthesis_again limit o n ts t rest f low =
     let regrouped : (ts ++ Sign mark.Close ∷ []) ++ rest ≡ ts ++ (Sign mark.Close ∷ rest) = append_assoc ts (Sign mark.Close ∷ []) rest in
@@ -113,12 +113,12 @@ most_many limit k ne = grind (arith, nat_tests)
 most_one : (limit k : ℕ) → k ≡ 3 → most_operators limit k ≡ 1
 most_one limit k e = rw e refl
 
-chained_again : (limit o k n : ℕ) (q : Operator) (a b : Tree) (behind rest : List Piece) → suc k ≡ tightness_of q → limit < n + height_of a → level_at limit (inside_at limit o) k behind ≡ Ok (b, rest) → height_of (Both q a b) ≤ limit
+chained_again : (limit o k n : ℕ) (q : Operator) (a b : ExprTree) (behind rest : List Piece) → suc k ≡ tightness_of q → limit < n + height_of a → level_at limit (inside_at limit o) k behind ≡ Ok (b, rest) → height_of (Both q a b) ≤ limit
     → (m : ℕ) × (limit < m + height_of (Both q a b)) × (operands_at limit (level_at limit (inside_at limit o) k) (suc k) n a (Sign (mark_of q) ∷ behind) ≡ operands_at limit (level_at limit (inside_at limit o) k) (suc k) m (Both q a b) rest)
 chained_again limit o k zero q a b behind rest e lt read low = absurd (omega arith)
 chained_again limit o k (suc n) q a b behind rest e lt read low = (n, omega arith, operands_next limit (level_at limit (inside_at limit o) k) k n q a b behind rest e read low)
 
-again : (limit : ℕ) {o k : ℕ} {ts : List Piece} {t : Tree} → Spells o k ts t → Again limit o k ts t
+again : (limit : ℕ) {o k : ℕ} {ts : List Piece} {t : ExprTree} → Spells o k ts t → Again limit o k ts t
 unfolding unary_at
 again limit (number v) = λ n rest h low. refl
 again limit (name v) = λ n rest h low. refl
@@ -139,7 +139,7 @@ again limit (compared {o} {k} {ls} {rs} {a} {b} q e three da db) = λ rest h s.
     (0, omega (arith, height_pos a), ap (level_at limit (inside_at limit o) (suc k)) (append_assoc ls (Sign (mark_of q) ∷ rs) rest) ∙ begun ∙ ap (λ (m : ℕ). operands_at limit (level_at limit (inside_at limit o) k) (suc k) m a (Sign (mark_of q) ∷ (rs ++ rest))) one ∙ next)
 
 -- An expression within the limits is read, up to where it stops.
-pub expr_again : (limit o : ℕ) (ts : List Piece) (t : Tree) (rest : List Piece) → IsExpression limit o ts t → Stops 5 rest → expr_in limit o (ts ++ rest) ≡ Ok (t, rest)
+pub expr_again : (limit o : ℕ) (ts : List Piece) (t : ExprTree) (rest : List Piece) → IsExpression limit o ts t → Stops 5 rest → expr_in limit o (ts ++ rest) ≡ Ok (t, rest)
 expr_again limit o ts t rest d = final limit o 5 ts t (again limit d.spelled) rest d.low
 
 -- what an expression begins with
@@ -160,7 +160,7 @@ pub record Begins (ts : List Piece) : Type 0 where
 begins_then : (ts us : List Piece) → Begins ts → Begins (ts ++ us)
 begins_then ts us b = record { head = b.head; behind = b.behind ++ us; parts = ap (λ (w : List Piece). w ++ us) b.parts; opens = b.opens }
 
-pub spelled_begins : {o k : ℕ} {ts : List Piece} {t : Tree} → Spells o k ts t → Begins ts
+pub spelled_begins : {o k : ℕ} {ts : List Piece} {t : ExprTree} → Spells o k ts t → Begins ts
 spelled_begins (number v) = record { head = Num v; behind = []; parts = refl; opens = refl }
 spelled_begins (name v) = record { head = Name v; behind = []; parts = refl; opens = refl }
 spelled_begins (parenthesis {o} {ts} {t} d) = record { head = Sign mark.Open; behind = ts ++ Sign mark.Close ∷ []; parts = refl; opens = refl }

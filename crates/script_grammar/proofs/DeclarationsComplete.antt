@@ -5,7 +5,7 @@ use Rattle.swift_types.specs.declared.priority.Priority.{Priority}
 use Rattle.script_tokens.specs.declared.keyword.Keyword.TheVariants as key
 use Rattle.script_tokens.specs.declared.mark.Mark.TheVariants as mark
 use Rattle.script_tokens.specs.Pieces.{Piece, Num, Name, Key, Sign}
-use Rattle.script_grammar.specs.Tree.{Tree, FieldTree, MethodTree, ActorTree, RootTree, DeclTree, Acts, Roots}
+use Rattle.script_grammar.specs.Tree.{ExprTree, FieldTree, MethodTree, ActorTree, RootTree, DeclTree, Acts, Roots}
 use Rattle.script_grammar.specs.Grammar.{Each, no_more, one_more, Listed, least, IsInt, plain, opposite, IsName, IsField, IsInvariant, no_invariant, an_invariant, IsMethod, IsActor, priority_of, IsPriority, not_given, given, IsRoot, IsDecl, an_actor, a_root, IsScript}
 use Rattle.script_grammar.specs.Reading.{expr_in}
 use Rattle.script_grammar.specs.Parts.{name_at, sign_at, brace_at, close_at, items_at, list_at}
@@ -104,7 +104,7 @@ module _ (limit : ℕ) where
   method_goes us m r d = (omega (arith, ap length d.all), rw d.all refl)
 
   -- neither an invariant nor a method begins as a field does
-  fields_stop : {is ts : List Piece} {i : Option Tree} {ms : List MethodTree} (rest : List Piece) → IsInvariant limit is i → Each (IsMethod limit) ts ms → fields_end (is ++ (ts ++ (Sign mark.CloseBrace ∷ rest))) ≡ Some (is ++ (ts ++ (Sign mark.CloseBrace ∷ rest)))
+  fields_stop : {is ts : List Piece} {i : Option ExprTree} {ms : List MethodTree} (rest : List Piece) → IsInvariant limit is i → Each (IsMethod limit) ts ms → fields_end (is ++ (ts ++ (Sign mark.CloseBrace ∷ rest))) ≡ Some (is ++ (ts ++ (Sign mark.CloseBrace ∷ rest)))
   unfolding fields_end
   fields_stop rest no_invariant no_more = refl
   fields_stop rest no_invariant (one_more {ts} {us} d ds) = rw d.all refl
@@ -115,11 +115,11 @@ module _ (limit : ℕ) where
   no_invariant_again rest no_more = refl
   no_invariant_again rest (one_more {ts} {us} d ds) = rw d.all refl
 
-  an_invariant_again : (ts : List Piece) (t : Tree) (rest : List Piece) → expr_in limit limit ts ≡ Ok (t, Sign mark.Semicolon ∷ rest) → invariant_at limit (Key key.Invariant ∷ ts) ≡ Ok (Some t, rest)
+  an_invariant_again : (ts : List Piece) (t : ExprTree) (rest : List Piece) → expr_in limit limit ts ≡ Ok (t, Sign mark.Semicolon ∷ rest) → invariant_at limit (Key key.Invariant ∷ ts) ≡ Ok (Some t, rest)
   unfolding invariant_at sign_at
   an_invariant_again ts t rest e = rw e refl
 
-  invariant_again : {is ts : List Piece} {i : Option Tree} {ms : List MethodTree} (rest : List Piece) → IsInvariant limit is i → Each (IsMethod limit) ts ms → invariant_at limit (is ++ (ts ++ (Sign mark.CloseBrace ∷ rest))) ≡ Ok (i, ts ++ (Sign mark.CloseBrace ∷ rest))
+  invariant_again : {is ts : List Piece} {i : Option ExprTree} {ms : List MethodTree} (rest : List Piece) → IsInvariant limit is i → Each (IsMethod limit) ts ms → invariant_at limit (is ++ (ts ++ (Sign mark.CloseBrace ∷ rest))) ≡ Ok (i, ts ++ (Sign mark.CloseBrace ∷ rest))
   invariant_again rest no_invariant ds = no_invariant_again rest ds
   invariant_again {ts = us} rest (an_invariant {ts} {t} d) ds =
       let tail = us ++ (Sign mark.CloseBrace ∷ rest) in

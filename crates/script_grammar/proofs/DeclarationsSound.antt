@@ -10,7 +10,7 @@ use Rattle.script_tokens.specs.declared.keyword.Keyword.{Keyword}
 use Rattle.script_tokens.specs.declared.keyword.Keyword.TheVariants as key
 use Rattle.script_tokens.specs.declared.mark.Mark.TheVariants as mark
 use Rattle.script_tokens.specs.Pieces.{Piece, Num, Huge, Name, Key, Sign}
-use Rattle.script_grammar.specs.Tree.{Tree, Step, FieldTree, MethodTree, ActorTree, RootTree, DeclTree, Acts, Roots}
+use Rattle.script_grammar.specs.Tree.{ExprTree, StmtTree, FieldTree, MethodTree, ActorTree, RootTree, DeclTree, Acts, Roots}
 use Rattle.script_grammar.specs.Grammar.{least, IsInt, plain, opposite, IsName, IsField, IsInvariant, no_invariant, an_invariant, IsMethod, IsActor, priority_of, IsPriority, not_given, given, IsRoot, IsDecl, an_actor, a_root, IsScript}
 use Rattle.script_grammar.specs.Reading.{◌>>=◌, expr_in}
 use Rattle.script_grammar.specs.Parts.{name_at, sign_at, brace_at, items_at, list_at}
@@ -163,14 +163,14 @@ root_takes ts x e =
     ap (λ (u : List Piece). Key key.Root ∷ u) (w.parts ∙ ap (λ (u : List Piece). Name w.name ∷ Sign mark.Assign ∷ Name w.actor ∷ Sign mark.Dot ∷ Name w.method ∷ Sign mark.Open ∷ u) all) in
     taken_as IsRoot (Key key.Root ∷ ts) front s.0 r x parts is s.2
 
-abbrev method_made : List ℕ → List (List ℕ) → List Step → List Piece → Result (MethodTree × List Piece) Kind
+abbrev method_made : List ℕ → List (List ℕ) → List StmtTree → List Piece → Result (MethodTree × List Piece) Kind
 method_made n ps b rest = Ok (record { name = n; params = ps; body = b }, rest)
 
-abbrev actor_made : List ℕ → List FieldTree → Option Tree → List MethodTree → List Piece → Result (ActorTree × List Piece) Kind
+abbrev actor_made : List ℕ → List FieldTree → Option ExprTree → List MethodTree → List Piece → Result (ActorTree × List Piece) Kind
 actor_made n fs i ms rest = Ok (record { name = n; fields = fs; invariant = i; methods = ms }, rest)
 
 module _ (limit : ℕ) (positive : 0 < limit) where
-  invariant_takes : (ts : List Piece) (x : Option Tree × List Piece) → invariant_at limit ts ≡ Ok x → Taken (IsInvariant limit) ts x
+  invariant_takes : (ts : List Piece) (x : Option ExprTree × List Piece) → invariant_at limit ts ≡ Ok x → Taken (IsInvariant limit) ts x
   unfolding invariant_at
   invariant_takes (Key key.Invariant ∷ ts) x e =
       let v = bind_ok (expr_in limit limit ts) (λ e. sign_at mark.Semicolon e.1 >>= λ s. Ok (Some e.0, s)) x e in

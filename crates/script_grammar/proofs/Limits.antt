@@ -1,10 +1,10 @@
 -- What is spelled within a limit is spelled within a greater one.
 use Rattle.std.proofs.Common.{ℕ, zero, suc, ◌-◌, ◌≤◌, List, Option, arith}
 use Rattle.script_tokens.specs.Pieces.{Piece}
-use Rattle.script_grammar.specs.Tree.{Tree, CallTree, WaitTree, ValueTree, Step, MethodTree, ActorTree, DeclTree}
+use Rattle.script_grammar.specs.Tree.{ExprTree, CallTree, WaitTree, ValueTree, StmtTree, MethodTree, ActorTree, DeclTree}
 use Rattle.script_grammar.specs.Grammar.{Spells, number, name, parenthesis, negated, inverted, alone, chained, compared, IsExpression, Each, no_more, one_more, IsNext, Listed, none_listed, some_listed, IsCall, IsElse, without_else, with_else, IsWait, IsValue, computed, awaited, SpellsStmt, SpellsBlock, SpellsStmts, defines, assigns, awaits, tests, chooses, repeats, returns, throws, yields, braces, none, more, IsInvariant, no_invariant, an_invariant, IsMethod, IsActor, IsDecl, an_actor, a_root, IsScript}
 
-spelled_more : {m : ℕ} {k : ℕ} {ts : List Piece} {t : Tree} (n : ℕ) → Spells m k ts t → m ≤ n → Spells n k ts t
+spelled_more : {m : ℕ} {k : ℕ} {ts : List Piece} {t : ExprTree} (n : ℕ) → Spells m k ts t → m ≤ n → Spells n k ts t
 spelled_more n (number v) le = number v
 spelled_more n (name v) le = name v
 spelled_more zero (parenthesis {o} {ts} {t} d) le = absurd (omega arith)
@@ -24,13 +24,13 @@ listed_more Is Are f none_listed = none_listed
 listed_more Is Are f (some_listed {ts} {us} {x} {xs} d ds) = some_listed (f ts x d) (each_more (IsNext Is) (IsNext Are) (λ vs y e. record { item = e.item; is = f e.item y e.is; all = e.all }) ds)
 
 module _ (m n : ℕ) (le : m ≤ n) where
-  expression_more : (o p : ℕ) → o ≤ p → (ts : List Piece) (t : Tree) → IsExpression m o ts t → IsExpression n p ts t
+  expression_more : (o p : ℕ) → o ≤ p → (ts : List Piece) (t : ExprTree) → IsExpression m o ts t → IsExpression n p ts t
   expression_more o p lp ts t d = record { spelled = spelled_more p d.spelled lp; low = omega (arith, d.low) }
 
   call_more : (ts : List Piece) (c : CallTree) → IsCall m ts c → IsCall n ts c
   call_more ts c d = record { args = d.args; has_args = listed_more (IsExpression m (m - 1)) (IsExpression n (n - 1)) (expression_more (m - 1) (n - 1) (omega arith)) d.has_args; all = d.all }
 
-  else_more : (ts : List Piece) (o : Option Tree) → IsElse m ts o → IsElse n ts o
+  else_more : (ts : List Piece) (o : Option ExprTree) → IsElse m ts o → IsElse n ts o
   else_more ts o without_else = without_else
   else_more _ o (with_else {ts} {t} d) = with_else (expression_more m n le ts t d)
 
@@ -42,7 +42,7 @@ module _ (m n : ℕ) (le : m ≤ n) where
   value_more _ v (awaited {ts} {w} d) = awaited (wait_more ts w d)
 
   mutual
-    stmt_more : {o : ℕ} {ts : List Piece} {s : Step} (p : ℕ) → SpellsStmt m o ts s → o ≤ p → SpellsStmt n p ts s
+    stmt_more : {o : ℕ} {ts : List Piece} {s : StmtTree} (p : ℕ) → SpellsStmt m o ts s → o ≤ p → SpellsStmt n p ts s
     stmt_more p (defines {o} x {ts} {v} d) lp = defines x (value_more ts v d)
     stmt_more p (assigns {o} x {ts} {v} d) lp = assigns x (value_more ts v d)
     stmt_more p (awaits {o} {ts} {w} d) lp = awaits (wait_more ts w d)
@@ -53,15 +53,15 @@ module _ (m n : ℕ) (le : m ≤ n) where
     stmt_more p (throws {o} {ts} {t} d) lp = throws (expression_more m n le ts t d)
     stmt_more p (yields {o}) lp = yields
 
-    block_more : {o : ℕ} {ts : List Piece} {ss : List Step} (p : ℕ) → SpellsBlock m o ts ss → o ≤ p → SpellsBlock n p ts ss
+    block_more : {o : ℕ} {ts : List Piece} {ss : List StmtTree} (p : ℕ) → SpellsBlock m o ts ss → o ≤ p → SpellsBlock n p ts ss
     block_more zero (braces {o} d) lp = absurd (omega arith)
     block_more (suc p) (braces {o} d) lp = braces (stmts_more p d (omega arith))
 
-    stmts_more : {o : ℕ} {ts : List Piece} {ss : List Step} (p : ℕ) → SpellsStmts m o ts ss → o ≤ p → SpellsStmts n p ts ss
+    stmts_more : {o : ℕ} {ts : List Piece} {ss : List StmtTree} (p : ℕ) → SpellsStmts m o ts ss → o ≤ p → SpellsStmts n p ts ss
     stmts_more p (none {o}) lp = none
     stmts_more p (more {o} d ds) lp = more (stmt_more p d lp) (stmts_more p ds lp)
 
-  invariant_more : (ts : List Piece) (o : Option Tree) → IsInvariant m ts o → IsInvariant n ts o
+  invariant_more : (ts : List Piece) (o : Option ExprTree) → IsInvariant m ts o → IsInvariant n ts o
   invariant_more ts o no_invariant = no_invariant
   invariant_more _ o (an_invariant {ts} {t} d) = an_invariant (expression_more m n le ts t d)
 

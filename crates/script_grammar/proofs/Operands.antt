@@ -5,11 +5,11 @@ use Rattle.script_grammar.specs.declared.fault.ReadError.{ReadError}
 use Rattle.script_grammar.specs.declared.fault.ReadError.TheVariants as errors
 use Rattle.swift_types.specs.declared.operator.Operator.{Operator}
 use Rattle.script_tokens.specs.Pieces.{Piece}
-use Rattle.script_grammar.specs.Tree.{Tree, Both}
+use Rattle.script_grammar.specs.Tree.{ExprTree, Both}
 use Rattle.script_grammar.specs.Reading.{Fails, Read, operator_at, checked, operands_at}
 
 module _ (operand : Read) (k : ℕ) where
-  pub next_operand : (count i : ℕ) (a : Tree) (ts : List Piece) (o : Operator) (behind : List Piece) (b t : Tree) (after : List Piece) (total : Result (Tree × List Piece) Kind) → i < count
+  pub next_operand : (count i : ℕ) (a : ExprTree) (ts : List Piece) (o : Operator) (behind : List Piece) (b t : ExprTree) (after : List Piece) (total : Result (ExprTree × List Piece) Kind) → i < count
       → operator_at k ts ≡ Some (o, behind) → operand behind ≡ Ok (b, after) → checked 32 (Both o a b) ≡ Ok t
       → operands_at 32 operand k (count - i) a ts ≡ total → operands_at 32 operand k (count - (i + 1)) t after ≡ total
   unfolding operands_at
@@ -18,7 +18,7 @@ module _ (operand : Read) (k : ℕ) where
       let one : operands_at 32 operand k (count - i) a ts ≡ operands_at 32 operand k (count - (i + 1)) t after = rw (n, at, read, low) refl in
       sym one ∙ so_far
 
-  pub operand_fails : (e : ReadError) (count i : ℕ) (a : Tree) (ts : List Piece) (o : Operator) (behind : List Piece) (total : Result (Tree × List Piece) Kind) → i < count
+  pub operand_fails : (e : ReadError) (count i : ℕ) (a : ExprTree) (ts : List Piece) (o : Operator) (behind : List Piece) (total : Result (ExprTree × List Piece) Kind) → i < count
       → operator_at k ts ≡ Some (o, behind) → Fails e (operand behind)
       → operands_at 32 operand k (count - i) a ts ≡ total → Fails e total
   unfolding operands_at
@@ -28,7 +28,7 @@ module _ (operand : Read) (k : ℕ) where
       let one : operands_at 32 operand k (count - i) a ts ≡ Err f.kind = rw (n, at, fails) refl in
       sym so_far ∙ one
 
-  pub operand_too_high : (e : ReadError) (count i : ℕ) (a : Tree) (ts : List Piece) (o : Operator) (behind : List Piece) (b : Tree) (after : List Piece) (total : Result (Tree × List Piece) Kind) → i < count
+  pub operand_too_high : (e : ReadError) (count i : ℕ) (a : ExprTree) (ts : List Piece) (o : Operator) (behind : List Piece) (b : ExprTree) (after : List Piece) (total : Result (ExprTree × List Piece) Kind) → i < count
       → operator_at k ts ≡ Some (o, behind) → operand behind ≡ Ok (b, after) → Fails e (checked 32 (Both o a b))
       → operands_at 32 operand k (count - i) a ts ≡ total → Fails e total
   unfolding operands_at

@@ -10,7 +10,7 @@ use Rattle.script_tokens.specs.declared.mark.Mark.{Mark}
 use Rattle.script_tokens.specs.declared.mark.Mark.TheVariants as mark
 use Rattle.script_tokens.specs.Pieces.{Piece}
 use Rattle.script_tokens.specs.Pieces.{Num, Name, Sign}
-use Rattle.script_grammar.specs.Tree.{Tree, Number, Named, Negated, Inverted, Both, height_of}
+use Rattle.script_grammar.specs.Tree.{ExprTree, Number, Named, Negated, Inverted, Both, height_of}
 use Rattle.script_grammar.specs.Grammar.{mark_of, tightness_of, Spells, IsExpression, number, name, parenthesis, negated, inverted, alone, chained, compared}
 use Rattle.script_grammar.specs.Reading.{◌>>=◌, Read, operator_in, of_tightness, with_rest, operator_at, most_operators, checked, closed_at, on_operator, unary_at, operands_at, level_at, inside_at, expr_in}
 
@@ -34,45 +34,45 @@ guard_ok true d x y e = absurd cc
 guard_ok false d x y e = (refl, cc)
 
 -- What was taken from the front, and what is left.
-pub record Takes (limit o k : ℕ) (ts : List Piece) (t : Tree) (rest : List Piece) : Type 0 where
+pub record Takes (limit o k : ℕ) (ts : List Piece) (t : ExprTree) (rest : List Piece) : Type 0 where
   pub front : List Piece
   pub parts : ts ≡ front ++ rest
   pub spells : Spells o k front t
   pub low : height_of t ≤ limit
 
 abbrev IsSound : ℕ → ℕ → ℕ → Read → Type 0
-IsSound limit o k read = (ts : List Piece) (x : Tree × List Piece) → read ts ≡ Ok x → Takes limit o k ts x.0 x.1
+IsSound limit o k read = (ts : List Piece) (x : ExprTree × List Piece) → read ts ≡ Ok x → Takes limit o k ts x.0 x.1
 
 -- what is read behind an opening parenthesis
 abbrev IsSoundInside : ℕ → ℕ → Type 0
-IsSoundInside limit o = (ts : List Piece) (x : Tree × List Piece) → inside_at limit o ts ≡ Ok x → (p : ℕ) × (o ≡ suc p) × Takes limit p 5 ts x.0 x.1
+IsSoundInside limit o = (ts : List Piece) (x : ExprTree × List Piece) → inside_at limit o ts ≡ Ok x → (p : ℕ) × (o ≡ suc p) × Takes limit p 5 ts x.0 x.1
 
 -- An expression that is read is spelled by what was taken.
-pub record TakesExpr (limit o : ℕ) (ts : List Piece) (t : Tree) (rest : List Piece) : Type 0 where
+pub record TakesExpr (limit o : ℕ) (ts : List Piece) (t : ExprTree) (rest : List Piece) : Type 0 where
   pub front : List Piece
   pub parts : ts ≡ front ++ rest
   pub spells : IsExpression limit o front t
 
 module _ (limit : ℕ) (positive : 0 < limit) where
-  checked_ok : (t u : Tree) → checked limit t ≡ Ok u → (t ≡ u) × (height_of t ≤ limit)
+  checked_ok : (t u : ExprTree) → checked limit t ≡ Ok u → (t ≡ u) × (height_of t ≤ limit)
   unfolding checked
   checked_ok t u e =
       let g = guard_ok (ltb limit (height_of t)) TooDeep t u e in
       (g.1, ltb-false _ _ g.0)
 
-  closed_ok : (t : Tree) (ts : List Piece) (x : Tree × List Piece) → closed_at t ts ≡ Ok x → (t ≡ x.0) × (ts ≡ Sign mark.Close ∷ x.1)
+  closed_ok : (t : ExprTree) (ts : List Piece) (x : ExprTree × List Piece) → closed_at t ts ≡ Ok x → (t ≡ x.0) × (ts ≡ Sign mark.Close ∷ x.1)
   unfolding closed_at
   closed_ok t [] x e = absurd cc
-  closed_ok t (Sign mark.Close ∷ ts) x e = let is = ok_is (t, ts) x e in (ap (λ (y : Tree × List Piece). y.0) is, ap (λ (y : Tree × List Piece). Sign mark.Close ∷ y.1) is)
+  closed_ok t (Sign mark.Close ∷ ts) x e = let is = ok_is (t, ts) x e in (ap (λ (y : ExprTree × List Piece). y.0) is, ap (λ (y : ExprTree × List Piece). Sign mark.Close ∷ y.1) is)
   closed_ok t (_ ∷ ts) x e = absurd cc
 
-  inside_takes : (o : ℕ) → IsSoundInside limit o → (ts : List Piece) (x : Tree × List Piece) → (inside_at limit o ts >>= λ a. closed_at a.0 a.1) ≡ Ok x → Takes limit o zero (Sign mark.Open ∷ ts) x.0 x.1
+  inside_takes : (o : ℕ) → IsSoundInside limit o → (ts : List Piece) (x : ExprTree × List Piece) → (inside_at limit o ts >>= λ a. closed_at a.0 a.1) ≡ Ok x → Takes limit o zero (Sign mark.Open ∷ ts) x.0 x.1
   inside_takes o sound ts x e =
       let b = bind_ok (inside_at limit o ts) (λ a. closed_at a.0 a.1) x e in
       let c = closed_ok b.0.0 b.0.1 x b.2 in
       let s = sound ts b.0 b.1 in
-      let low : height_of x.0 ≤ limit = subst (λ (t : Tree). height_of t ≤ limit) c.0 s.2.low in
-      let spells : Spells (suc s.0) zero (Sign mark.Open ∷ (s.2.front ++ Sign mark.Close ∷ [])) x.0 = subst (λ (t : Tree). Spells (suc s.0) zero (Sign mark.Open ∷ (s.2.front ++ Sign mark.Close ∷ [])) t) c.0 (parenthesis s.2.spells) in
+      let low : height_of x.0 ≤ limit = subst (λ (t : ExprTree). height_of t ≤ limit) c.0 s.2.low in
+      let spells : Spells (suc s.0) zero (Sign mark.Open ∷ (s.2.front ++ Sign mark.Close ∷ [])) x.0 = subst (λ (t : ExprTree). Spells (suc s.0) zero (Sign mark.Open ∷ (s.2.front ++ Sign mark.Close ∷ [])) t) c.0 (parenthesis s.2.spells) in
       record {
         front = Sign mark.Open ∷ (s.2.front ++ Sign mark.Close ∷ []);
         parts = ap (λ (w : List Piece). Sign mark.Open ∷ w) (s.2.parts ∙ ap (λ (w : List Piece). s.2.front ++ w) c.1 ∙ sym (append_assoc s.2.front (Sign mark.Close ∷ []) x.1));
@@ -80,25 +80,25 @@ module _ (limit : ℕ) (positive : 0 < limit) where
         low = low;
       }
 
-  negated_takes : (o : ℕ) (ts : List Piece) (a : Tree × List Piece) (x : Tree × List Piece) → Takes limit o zero ts a.0 a.1 → (checked limit (Negated a.0) >>= λ t. Ok (t, a.1)) ≡ Ok x → Takes limit o zero (Sign mark.Minus ∷ ts) x.0 x.1
+  negated_takes : (o : ℕ) (ts : List Piece) (a : ExprTree × List Piece) (x : ExprTree × List Piece) → Takes limit o zero ts a.0 a.1 → (checked limit (Negated a.0) >>= λ t. Ok (t, a.1)) ≡ Ok x → Takes limit o zero (Sign mark.Minus ∷ ts) x.0 x.1
   negated_takes o ts a x taken e =
       let b = bind_ok (checked limit (Negated a.0)) (λ t. Ok (t, a.1)) x e in
       let c = checked_ok (Negated a.0) b.0 b.1 in
-      let is : (Negated a.0, a.1) ≡ x = ap (λ (t : Tree). (t, a.1)) c.0 ∙ ok_is (b.0, a.1) x b.2 in
-      subst (λ (y : Tree × List Piece). Takes limit o zero (Sign mark.Minus ∷ ts) y.0 y.1) is (record { front = Sign mark.Minus ∷ taken.front; parts = ap (λ (w : List Piece). Sign mark.Minus ∷ w) taken.parts; spells = negated taken.spells; low = c.1 })
+      let is : (Negated a.0, a.1) ≡ x = ap (λ (t : ExprTree). (t, a.1)) c.0 ∙ ok_is (b.0, a.1) x b.2 in
+      subst (λ (y : ExprTree × List Piece). Takes limit o zero (Sign mark.Minus ∷ ts) y.0 y.1) is (record { front = Sign mark.Minus ∷ taken.front; parts = ap (λ (w : List Piece). Sign mark.Minus ∷ w) taken.parts; spells = negated taken.spells; low = c.1 })
 
-  inverted_takes : (o : ℕ) (ts : List Piece) (a : Tree × List Piece) (x : Tree × List Piece) → Takes limit o zero ts a.0 a.1 → (checked limit (Inverted a.0) >>= λ t. Ok (t, a.1)) ≡ Ok x → Takes limit o zero (Sign mark.Bang ∷ ts) x.0 x.1
+  inverted_takes : (o : ℕ) (ts : List Piece) (a : ExprTree × List Piece) (x : ExprTree × List Piece) → Takes limit o zero ts a.0 a.1 → (checked limit (Inverted a.0) >>= λ t. Ok (t, a.1)) ≡ Ok x → Takes limit o zero (Sign mark.Bang ∷ ts) x.0 x.1
   inverted_takes o ts a x taken e =
       let b = bind_ok (checked limit (Inverted a.0)) (λ t. Ok (t, a.1)) x e in
       let c = checked_ok (Inverted a.0) b.0 b.1 in
-      let is : (Inverted a.0, a.1) ≡ x = ap (λ (t : Tree). (t, a.1)) c.0 ∙ ok_is (b.0, a.1) x b.2 in
-      subst (λ (y : Tree × List Piece). Takes limit o zero (Sign mark.Bang ∷ ts) y.0 y.1) is (record { front = Sign mark.Bang ∷ taken.front; parts = ap (λ (w : List Piece). Sign mark.Bang ∷ w) taken.parts; spells = inverted taken.spells; low = c.1 })
+      let is : (Inverted a.0, a.1) ≡ x = ap (λ (t : ExprTree). (t, a.1)) c.0 ∙ ok_is (b.0, a.1) x b.2 in
+      subst (λ (y : ExprTree × List Piece). Takes limit o zero (Sign mark.Bang ∷ ts) y.0 y.1) is (record { front = Sign mark.Bang ∷ taken.front; parts = ap (λ (w : List Piece). Sign mark.Bang ∷ w) taken.parts; spells = inverted taken.spells; low = c.1 })
 
-  unary_takes : (o : ℕ) → IsSoundInside limit o → (n : ℕ) (ts : List Piece) (x : Tree × List Piece) → unary_at limit (inside_at limit o) n ts ≡ Ok x → Takes limit o zero ts x.0 x.1
+  unary_takes : (o : ℕ) → IsSoundInside limit o → (n : ℕ) (ts : List Piece) (x : ExprTree × List Piece) → unary_at limit (inside_at limit o) n ts ≡ Ok x → Takes limit o zero ts x.0 x.1
   unfolding unary_at
   unary_takes o sound n [] x e = absurd cc
-  unary_takes o sound n (Num v ∷ ts) x e = subst (λ (y : Tree × List Piece). Takes limit o zero (Num v ∷ ts) y.0 y.1) (ok_is (Number v, ts) x e) (record { front = Num v ∷ []; parts = refl; spells = number v; low = omega arith })
-  unary_takes o sound n (Name v ∷ ts) x e = subst (λ (y : Tree × List Piece). Takes limit o zero (Name v ∷ ts) y.0 y.1) (ok_is (Named v, ts) x e) (record { front = Name v ∷ []; parts = refl; spells = name v; low = omega arith })
+  unary_takes o sound n (Num v ∷ ts) x e = subst (λ (y : ExprTree × List Piece). Takes limit o zero (Num v ∷ ts) y.0 y.1) (ok_is (Number v, ts) x e) (record { front = Num v ∷ []; parts = refl; spells = number v; low = omega arith })
+  unary_takes o sound n (Name v ∷ ts) x e = subst (λ (y : ExprTree × List Piece). Takes limit o zero (Name v ∷ ts) y.0 y.1) (ok_is (Named v, ts) x e) (record { front = Name v ∷ []; parts = refl; spells = name v; low = omega arith })
   unary_takes o sound n (Sign mark.Open ∷ ts) x e = inside_takes o sound ts x e
   unary_takes o sound zero (Sign mark.Minus ∷ ts) x e = absurd cc
   unary_takes o sound (suc n) (Sign mark.Minus ∷ ts) x e =
@@ -145,10 +145,10 @@ module _ (limit : ℕ) (positive : 0 < limit) where
   operator_at_is k (_ ∷ ts) o behind e = absurd cc
 
   -- what reading of operands stands on: it may join a further one
-  abbrev MayJoin : ℕ → ℕ → ℕ → List Piece → Tree → Type 0
+  abbrev MayJoin : ℕ → ℕ → ℕ → List Piece → ExprTree → Type 0
   MayJoin o k n front left = (m : ℕ) → n ≡ suc m → (suc k ≢ 3) ⊎ ((m ≡ 0) × Spells o k front left)
 
-  joined : (o k m : ℕ) (q : Operator) (front rs : List Piece) (left right : Tree) → suc k ≡ tightness_of q → (suc k ≢ 3) ⊎ ((m ≡ 0) × Spells o k front left) → Spells o (suc k) front left → Spells o k rs right → suc k ≡ 3 ⊎ (suc k ≢ 3)
+  joined : (o k m : ℕ) (q : Operator) (front rs : List Piece) (left right : ExprTree) → suc k ≡ tightness_of q → (suc k ≢ 3) ⊎ ((m ≡ 0) × Spells o k front left) → Spells o (suc k) front left → Spells o k rs right → suc k ≡ 3 ⊎ (suc k ≢ 3)
       → Spells o (suc k) (front ++ Sign (mark_of q) ∷ rs) (Both q left right)
   joined o k m q front rs left right e (inl ne) whole operand d = chained q e ne whole operand
   joined o k m q front rs left right e (inr p) whole operand (inl three) = compared q e three p.1 operand
@@ -157,17 +157,17 @@ module _ (limit : ℕ) (positive : 0 < limit) where
   is_three : (k : ℕ) → k ≡ 3 ⊎ (k ≢ 3)
   is_three k = search (arith, nat_tests)
 
-  may_join_next : (o k n : ℕ) (front : List Piece) (left : Tree) (front' : List Piece) (left' : Tree) → (suc k ≢ 3) ⊎ ((n ≡ 0) × Spells o k front left) → MayJoin o k n front' left'
+  may_join_next : (o k n : ℕ) (front : List Piece) (left : ExprTree) (front' : List Piece) (left' : ExprTree) → (suc k ≢ 3) ⊎ ((n ≡ 0) × Spells o k front left) → MayJoin o k n front' left'
   may_join_next o k n front left front' left' (inl ne) = λ m e. inl ne
   may_join_next o k n front left front' left' (inr p) = λ m e. absurd (omega (arith, p.0))
 
   -- how one further operand is joined, where the rest is sound
-  operands_step : (o k : ℕ) → IsSound limit o k (level_at limit (inside_at limit o) k) → (n : ℕ) (left : Tree) (all front ts : List Piece) (x : Tree × List Piece) → all ≡ front ++ ts → Spells o (suc k) front left → height_of left ≤ limit → MayJoin o k (suc n) front left
-      → ((left' : Tree) (front' ts' : List Piece) → all ≡ front' ++ ts' → Spells o (suc k) front' left' → height_of left' ≤ limit → MayJoin o k n front' left' → operands_at limit (level_at limit (inside_at limit o) k) (suc k) n left' ts' ≡ Ok x → Takes limit o (suc k) all x.0 x.1)
+  operands_step : (o k : ℕ) → IsSound limit o k (level_at limit (inside_at limit o) k) → (n : ℕ) (left : ExprTree) (all front ts : List Piece) (x : ExprTree × List Piece) → all ≡ front ++ ts → Spells o (suc k) front left → height_of left ≤ limit → MayJoin o k (suc n) front left
+      → ((left' : ExprTree) (front' ts' : List Piece) → all ≡ front' ++ ts' → Spells o (suc k) front' left' → height_of left' ≤ limit → MayJoin o k n front' left' → operands_at limit (level_at limit (inside_at limit o) k) (suc k) n left' ts' ≡ Ok x → Takes limit o (suc k) all x.0 x.1)
       → (found : Option (Operator × List Piece)) → operator_at (suc k) ts ≡ found
       → on_operator found (Ok (left, ts)) (λ q rest. level_at limit (inside_at limit o) k rest >>= λ right. checked limit (Both q left right.0) >>= λ t. operands_at limit (level_at limit (inside_at limit o) k) (suc k) n t right.1) ≡ Ok x
       → Takes limit o (suc k) all x.0 x.1
-  operands_step o k sound n left all front ts x parts spells low may next None is e = subst (λ (y : Tree × List Piece). Takes limit o (suc k) all y.0 y.1) (ok_is (left, ts) x e) (record { front = front; parts = parts; spells = spells; low = low })
+  operands_step o k sound n left all front ts x parts spells low may next None is e = subst (λ (y : ExprTree × List Piece). Takes limit o (suc k) all y.0 y.1) (ok_is (left, ts) x e) (record { front = front; parts = parts; spells = spells; low = low })
   operands_step o k sound n left all front ts x parts spells low may next (Some f) is e =
       let b = bind_ok (level_at limit (inside_at limit o) k f.1) (λ right. checked limit (Both f.0 left right.0) >>= λ t. operands_at limit (level_at limit (inside_at limit o) k) (suc k) n t right.1) x e in
       let c = bind_ok (checked limit (Both f.0 left b.0.0)) (λ t. operands_at limit (level_at limit (inside_at limit o) k) (suc k) n t b.0.1) x b.2 in
@@ -178,15 +178,15 @@ module _ (limit : ℕ) (positive : 0 < limit) where
       let parts' : all ≡ front' ++ b.0.1 = parts ∙ ap (λ (w : List Piece). front ++ w) (at.0 ∙ ap (λ (w : List Piece). Sign (mark_of f.0) ∷ w) right.parts) ∙ sym (append_assoc front (Sign (mark_of f.0) ∷ right.front) b.0.1) in
       let whole = joined o k n f.0 front right.front left b.0.0 at.1 (may n refl) spells right.spells (is_three (suc k)) in
       next c.0 front' b.0.1 parts'
-      (subst (λ (t : Tree). Spells o (suc k) front' t) d.0 whole)
-      (subst (λ (t : Tree). height_of t ≤ limit) d.0 d.1)
+      (subst (λ (t : ExprTree). Spells o (suc k) front' t) d.0 whole)
+      (subst (λ (t : ExprTree). height_of t ≤ limit) d.0 d.1)
       (may_join_next o k n front left front' c.0 (may n refl))
       c.2
 
-  operands_takes : (o k : ℕ) → IsSound limit o k (level_at limit (inside_at limit o) k) → (n : ℕ) (left : Tree) (all front ts : List Piece) (x : Tree × List Piece) → all ≡ front ++ ts → Spells o (suc k) front left → height_of left ≤ limit → MayJoin o k n front left
+  operands_takes : (o k : ℕ) → IsSound limit o k (level_at limit (inside_at limit o) k) → (n : ℕ) (left : ExprTree) (all front ts : List Piece) (x : ExprTree × List Piece) → all ≡ front ++ ts → Spells o (suc k) front left → height_of left ≤ limit → MayJoin o k n front left
       → operands_at limit (level_at limit (inside_at limit o) k) (suc k) n left ts ≡ Ok x → Takes limit o (suc k) all x.0 x.1
   unfolding operands_at
-  operands_takes o k sound zero left all front ts x parts spells low may e = subst (λ (y : Tree × List Piece). Takes limit o (suc k) all y.0 y.1) (ok_is (left, ts) x e) (record { front = front; parts = parts; spells = spells; low = low })
+  operands_takes o k sound zero left all front ts x parts spells low may e = subst (λ (y : ExprTree × List Piece). Takes limit o (suc k) all y.0 y.1) (ok_is (left, ts) x e) (record { front = front; parts = parts; spells = spells; low = low })
   operands_takes o k sound (suc n) left all front ts x parts spells low may e =
       operands_step o k sound n left all front ts x parts spells low may
       (λ left' front' ts' parts' spells' low' may' e'. operands_takes o k sound n left' all front' ts' x parts' spells' low' may' e')
@@ -195,7 +195,7 @@ module _ (limit : ℕ) (positive : 0 < limit) where
   one_more : (k m : ℕ) → k ≡ 3 → most_operators limit k ≡ suc m → m ≡ 0
   one_more k m three e = grind (arith, nat_tests)
 
-  may_join_first : (o k : ℕ) (front : List Piece) (left : Tree) → Spells o k front left → (suc k ≡ 3) ⊎ (suc k ≢ 3) → MayJoin o k (most_operators limit (suc k)) front left
+  may_join_first : (o k : ℕ) (front : List Piece) (left : ExprTree) → Spells o k front left → (suc k ≡ 3) ⊎ (suc k ≢ 3) → MayJoin o k (most_operators limit (suc k)) front left
   may_join_first o k front left spells (inl three) = λ m e. inr (one_more (suc k) m three e, spells)
   may_join_first o k front left spells (inr ne) = λ m e. inl ne
 
@@ -212,7 +212,7 @@ module _ (limit : ℕ) (positive : 0 < limit) where
   inside_sound zero ts x e = absurd cc
   inside_sound (suc p) ts x e = (p, refl, level_takes p (inside_sound p) 5 ts x e)
 
-  pub expr_takes : (o : ℕ) (ts : List Piece) (x : Tree × List Piece) → expr_in limit o ts ≡ Ok x → TakesExpr limit o ts x.0 x.1
+  pub expr_takes : (o : ℕ) (ts : List Piece) (x : ExprTree × List Piece) → expr_in limit o ts ≡ Ok x → TakesExpr limit o ts x.0 x.1
   expr_takes o ts x e =
       let t = level_takes o (inside_sound o) 5 ts x e in
       record { front = t.front; parts = t.parts; spells = record { spelled = t.spells; low = t.low } }

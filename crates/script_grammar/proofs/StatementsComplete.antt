@@ -3,7 +3,7 @@ use Rattle.std.proofs.Common.{◌≡◌, ℕ, zero, suc, ◌-◌, ◌<◌, Bool,
 use Rattle.script_tokens.specs.declared.keyword.Keyword.TheVariants as key
 use Rattle.script_tokens.specs.declared.mark.Mark.TheVariants as mark
 use Rattle.script_tokens.specs.Pieces.{Piece, Key, Sign}
-use Rattle.script_grammar.specs.Tree.{Tree, CallTree, WaitTree, ValueTree, Computed, Awaited, Step, Tests, Chooses, steps_of}
+use Rattle.script_grammar.specs.Tree.{ExprTree, CallTree, WaitTree, ValueTree, Computed, Awaited, StmtTree, If, IfElse, block_tree}
 use Rattle.script_grammar.specs.Grammar.{IsExpression, Listed, IsCall, IsElse, without_else, with_else, IsWait, IsValue, computed, awaited, SpellsStmt, SpellsBlock, SpellsStmts, defines, assigns, awaits, tests, chooses, repeats, returns, throws, yields, braces, none, more}
 use Rattle.script_grammar.specs.Reading.{◌>>=◌, operator_at, expr_in}
 use Rattle.script_grammar.specs.Parts.{name_at, sign_at, brace_at, close_at, items_at, list_at}
@@ -30,7 +30,7 @@ stays_before [] b = refl
 stays_before (Sign mark.Close ∷ ts) b = let e : opens_expression (Sign mark.Close) ≡ true = (let same : Sign mark.Close ≡ b.head = (let p = b.parts in cc) in ap opens_expression same ∙ b.opens) in absurd cc
 stays_before (_ ∷ ts) b = refl
 
-begins_before : (limit o : ℕ) (ts rest : List Piece) (t : Tree) → IsExpression limit o ts t → Begins (ts ++ rest)
+begins_before : (limit o : ℕ) (ts rest : List Piece) (t : ExprTree) → IsExpression limit o ts t → Begins (ts ++ rest)
 begins_before limit o ts rest t d =
     let b = spelled_begins d.spelled in
     record { head = b.head; behind = b.behind ++ rest; parts = ap (λ (w : List Piece). w ++ rest) b.parts; opens = b.opens }
@@ -45,7 +45,7 @@ not_awaited limit ts b = refl
 abbrev BeginsBlock : List Piece → Type 0
 BeginsBlock ts = (us : List Piece) × (ts ≡ Sign mark.OpenBrace ∷ us)
 
-block_begins : {limit o : ℕ} {ts : List Piece} {ss : List Step} → SpellsBlock limit o ts ss → BeginsBlock ts
+block_begins : {limit o : ℕ} {ts : List Piece} {ss : List StmtTree} → SpellsBlock limit o ts ss → BeginsBlock ts
 block_begins (braces {o} {ts} d) = (ts ++ Sign mark.CloseBrace ∷ [], refl)
 
 stops_brace : (rest : List Piece) → Stops 5 (Sign mark.OpenBrace ∷ rest)
@@ -66,7 +66,7 @@ record BeginsStmt (ts : List Piece) : Type 0 where
   no_brace : (rest : List Piece) → brace_at (ts ++ rest) ≡ None
   no_else : (rest : List Piece) → is_else (ts ++ rest) ≡ false
 
-stmt_begins : {limit o : ℕ} {ts : List Piece} {s : Step} → SpellsStmt limit o ts s → BeginsStmt ts
+stmt_begins : {limit o : ℕ} {ts : List Piece} {s : StmtTree} → SpellsStmt limit o ts s → BeginsStmt ts
 unfolding brace_at
 stmt_begins (defines n d) = record { some = omega arith; no_brace = λ rest. refl; no_else = λ rest. refl }
 stmt_begins (assigns n d) = record { some = omega arith; no_brace = λ rest. refl; no_else = λ rest. refl }
@@ -78,7 +78,7 @@ stmt_begins (returns d) = record { some = omega arith; no_brace = λ rest. refl;
 stmt_begins (throws d) = record { some = omega arith; no_brace = λ rest. refl; no_else = λ rest. refl }
 stmt_begins yields = record { some = omega arith; no_brace = λ rest. refl; no_else = λ rest. refl }
 
-many_next : (limit : ℕ) (block : ReadSteps) (n : ℕ) (ts : List Piece) (s : Step) (rest : List Piece) (ss : List Step) (after : List Piece) → brace_at ts ≡ None → stmt_at limit block ts ≡ Ok (s, rest) → many_at limit block n rest ≡ Ok (ss, after) → many_at limit block (suc n) ts ≡ Ok (s ∷ ss, after)
+many_next : (limit : ℕ) (block : ReadSteps) (n : ℕ) (ts : List Piece) (s : StmtTree) (rest : List Piece) (ss : List StmtTree) (after : List Piece) → brace_at ts ≡ None → stmt_at limit block ts ≡ Ok (s, rest) → many_at limit block n rest ≡ Ok (ss, after) → many_at limit block (suc n) ts ≡ Ok (s ∷ ss, after)
 unfolding items_at
 many_next limit block n ts s rest ss after stays one others = rw (stays, one, others) refl
 
@@ -86,21 +86,21 @@ many_end : (limit : ℕ) (block : ReadSteps) (n : ℕ) (rest : List Piece) → m
 unfolding items_at brace_at
 many_end limit block n rest = refl
 
-choice_stays : (block : ReadSteps) (t : Tree) (held : List Step) (ts : List Piece) → is_else ts ≡ false → choice_at block t held ts ≡ Ok (Tests t (steps_of held), ts)
+choice_stays : (block : ReadSteps) (t : ExprTree) (held : List StmtTree) (ts : List Piece) → is_else ts ≡ false → choice_at block t held ts ≡ Ok (If t (block_tree held), ts)
 unfolding choice_at
 choice_stays block t held (Key key.Else ∷ ts) e = absurd cc
 choice_stays block t held ts e = refl
 
-choice_goes : (block : ReadSteps) (t : Tree) (held : List Step) (ts : List Piece) (ss : List Step) (rest : List Piece) → block ts ≡ Ok (ss, rest) → choice_at block t held (Key key.Else ∷ ts) ≡ Ok (Chooses t (steps_of held) (steps_of ss), rest)
+choice_goes : (block : ReadSteps) (t : ExprTree) (held : List StmtTree) (ts : List Piece) (ss : List StmtTree) (rest : List Piece) → block ts ≡ Ok (ss, rest) → choice_at block t held (Key key.Else ∷ ts) ≡ Ok (IfElse t (block_tree held) (block_tree ss), rest)
 unfolding choice_at
 choice_goes block t held ts ss rest e = rw e refl
 
-else_again : (limit : ℕ) (us rest : List Piece) (o : Option Tree) → IsElse limit us o → else_at limit (us ++ (Sign mark.Semicolon ∷ rest)) ≡ Ok (o, Sign mark.Semicolon ∷ rest)
+else_again : (limit : ℕ) (us rest : List Piece) (o : Option ExprTree) → IsElse limit us o → else_at limit (us ++ (Sign mark.Semicolon ∷ rest)) ≡ Ok (o, Sign mark.Semicolon ∷ rest)
 unfolding else_at
 else_again limit us rest o without_else = refl
 else_again limit us rest o (with_else {ts} {t} d) = rw (expr_again limit limit ts t (Sign mark.Semicolon ∷ rest) d (stops_semicolon rest)) refl
 
-args_again : (limit o : ℕ) {ts : List Piece} {es : List Tree} (rest : List Piece) → Listed (IsExpression limit o) ts es → list_at (expr_in limit o) (ts ++ (Sign mark.Close ∷ rest)) ≡ Ok (es, rest)
+args_again : (limit o : ℕ) {ts : List Piece} {es : List ExprTree} (rest : List Piece) → Listed (IsExpression limit o) ts es → list_at (expr_in limit o) (ts ++ (Sign mark.Close ∷ rest)) ≡ Ok (es, rest)
 args_again limit o rest d =
     list_again (expr_in limit o) (IsExpression limit o)
     (λ us x r is s. expr_again limit o us x r is (stops_separated r s))
@@ -133,7 +133,7 @@ value_again limit us rest v (awaited {ts} {w} d) = awaited_again limit (ts ++ (S
 
 module _ (limit : ℕ) where
   -- a part before a semicolon
-  expr_before : (ts : List Piece) (t : Tree) (rest : List Piece) → IsExpression limit limit ts t → expr_in limit limit ((ts ++ Sign mark.Semicolon ∷ []) ++ rest) ≡ Ok (t, Sign mark.Semicolon ∷ rest)
+  expr_before : (ts : List Piece) (t : ExprTree) (rest : List Piece) → IsExpression limit limit ts t → expr_in limit limit ((ts ++ Sign mark.Semicolon ∷ []) ++ rest) ≡ Ok (t, Sign mark.Semicolon ∷ rest)
   expr_before ts t rest d = ap (expr_in limit limit) (append_assoc ts (Sign mark.Semicolon ∷ []) rest) ∙ expr_again limit limit ts t (Sign mark.Semicolon ∷ rest) d (stops_semicolon rest)
 
   value_before : (ts : List Piece) (v : ValueTree) (rest : List Piece) → IsValue limit ts v → value_at limit ((ts ++ Sign mark.Semicolon ∷ []) ++ rest) ≡ Ok (v, Sign mark.Semicolon ∷ rest)
@@ -142,13 +142,13 @@ module _ (limit : ℕ) where
   wait_before : (ts : List Piece) (w : WaitTree) (rest : List Piece) → IsWait limit ts w → wait_at limit ((ts ++ Sign mark.Semicolon ∷ []) ++ rest) ≡ Ok (w, Sign mark.Semicolon ∷ rest)
   wait_before ts w rest d = ap (wait_at limit) (append_assoc ts (Sign mark.Semicolon ∷ []) rest) ∙ wait_again limit ts rest w d
 
-  expr_before_block : (ts us : List Piece) (t : Tree) (rest : List Piece) → IsExpression limit limit ts t → BeginsBlock us → expr_in limit limit ((ts ++ us) ++ rest) ≡ Ok (t, us ++ rest)
+  expr_before_block : (ts us : List Piece) (t : ExprTree) (rest : List Piece) → IsExpression limit limit ts t → BeginsBlock us → expr_in limit limit ((ts ++ us) ++ rest) ≡ Ok (t, us ++ rest)
   expr_before_block ts us t rest d b = ap (expr_in limit limit) (append_assoc ts us rest) ∙ expr_again limit limit ts t (us ++ rest) d (stops_block us rest b)
 
   mutual
     unfolding stmt_at name_at sign_at block_at
 
-    stmt_again : {o : ℕ} {ts : List Piece} {s : Step} (rest : List Piece) → SpellsStmt limit o ts s → is_else rest ≡ false → stmt_at limit (block_at limit o) (ts ++ rest) ≡ Ok (s, rest)
+    stmt_again : {o : ℕ} {ts : List Piece} {s : StmtTree} (rest : List Piece) → SpellsStmt limit o ts s → is_else rest ≡ false → stmt_at limit (block_at limit o) (ts ++ rest) ≡ Ok (s, rest)
     stmt_again rest (defines {o} n {ts} {v} d) free = rw (value_before ts v rest d) refl
     stmt_again rest (assigns {o} n {ts} {v} d) free = rw (value_before ts v rest d) refl
     stmt_again rest (awaits {o} {ts} {w} d) free = rw (wait_before ts w rest d) refl
@@ -166,12 +166,12 @@ module _ (limit : ℕ) where
     stmt_again rest (throws {o} {ts} {t} d) free = rw (expr_before ts t rest d) refl
     stmt_again rest (yields {o}) free = refl
 
-    block_again : {o : ℕ} {ts : List Piece} {ss : List Step} (rest : List Piece) → SpellsBlock limit o ts ss → block_at limit o (ts ++ rest) ≡ Ok (ss, rest)
+    block_again : {o : ℕ} {ts : List Piece} {ss : List StmtTree} (rest : List Piece) → SpellsBlock limit o ts ss → block_at limit o (ts ++ rest) ≡ Ok (ss, rest)
     block_again rest (braces {o} {ts} {ss} d) =
         let regrouped : (ts ++ Sign mark.CloseBrace ∷ []) ++ rest ≡ ts ++ (Sign mark.CloseBrace ∷ rest) = append_assoc ts (Sign mark.CloseBrace ∷ []) rest in
         rw regrouped (many_again (length (ts ++ (Sign mark.CloseBrace ∷ rest))) rest d (omega (arith, length-append ts (Sign mark.CloseBrace ∷ rest))))
 
-    many_again : {o : ℕ} {ts : List Piece} {ss : List Step} (n : ℕ) (rest : List Piece) → SpellsStmts limit o ts ss → length ts < n → many_at limit (block_at limit o) n (ts ++ (Sign mark.CloseBrace ∷ rest)) ≡ Ok (ss, rest)
+    many_again : {o : ℕ} {ts : List Piece} {ss : List StmtTree} (n : ℕ) (rest : List Piece) → SpellsStmts limit o ts ss → length ts < n → many_at limit (block_at limit o) n (ts ++ (Sign mark.CloseBrace ∷ rest)) ≡ Ok (ss, rest)
     many_again zero rest d lt = absurd (omega arith)
     many_again (suc n) rest (none {o}) lt = many_end limit (block_at limit o) n rest
     many_again (suc n) rest (more {o} {ts} {us} {s} {ss} d ds) lt =
@@ -180,11 +180,11 @@ module _ (limit : ℕ) where
         ∙ many_next limit (block_at limit o) n (ts ++ (us ++ (Sign mark.CloseBrace ∷ rest))) s (us ++ (Sign mark.CloseBrace ∷ rest)) ss rest (begins.no_brace (us ++ (Sign mark.CloseBrace ∷ rest))) (stmt_again (us ++ (Sign mark.CloseBrace ∷ rest)) d (no_else_next rest ds)) (many_again n rest ds (omega (arith, length-append ts us, begins.some)))
 
     -- no `else` stands behind a statement
-    no_else_next : {o : ℕ} {ts : List Piece} {ss : List Step} (rest : List Piece) → SpellsStmts limit o ts ss → is_else (ts ++ (Sign mark.CloseBrace ∷ rest)) ≡ false
+    no_else_next : {o : ℕ} {ts : List Piece} {ss : List StmtTree} (rest : List Piece) → SpellsStmts limit o ts ss → is_else (ts ++ (Sign mark.CloseBrace ∷ rest)) ≡ false
     no_else_next rest (none {o}) = refl
     no_else_next rest (more {o} {ts} {us} {s} {ss} d ds) =
         let begins = stmt_begins d in
         ap is_else (append_assoc ts us (Sign mark.CloseBrace ∷ rest)) ∙ begins.no_else (us ++ (Sign mark.CloseBrace ∷ rest))
 
-  pub block_is_read : (o : ℕ) (ts : List Piece) (ss : List Step) (rest : List Piece) → SpellsBlock limit o ts ss → block_at limit o (ts ++ rest) ≡ Ok (ss, rest)
+  pub block_is_read : (o : ℕ) (ts : List Piece) (ss : List StmtTree) (rest : List Piece) → SpellsBlock limit o ts ss → block_at limit o (ts ++ rest) ≡ Ok (ss, rest)
   block_is_read o ts ss rest d = block_again rest d

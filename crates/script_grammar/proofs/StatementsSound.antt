@@ -4,7 +4,7 @@ use Rattle.script_grammar.specs.declared.fault.Kind.{Kind}
 use Rattle.script_tokens.specs.declared.keyword.Keyword.TheVariants as key
 use Rattle.script_tokens.specs.declared.mark.Mark.TheVariants as mark
 use Rattle.script_tokens.specs.Pieces.{Piece, Name, Key, Sign}
-use Rattle.script_grammar.specs.Tree.{Tree, CallTree, WaitTree, ValueTree, Computed, Awaited, Step, Defines, Assigns, Awaits, Tests, Chooses, Repeats, Returns, Throws, Yields, steps_of}
+use Rattle.script_grammar.specs.Tree.{ExprTree, CallTree, WaitTree, ValueTree, Computed, Awaited, StmtTree, Let, Assign, Await, If, IfElse, While, Return, Throw, Yield, block_tree}
 use Rattle.script_grammar.specs.Grammar.{IsExpression, IsCall, IsElse, without_else, with_else, IsWait, IsValue, computed, awaited, SpellsStmt, SpellsBlock, SpellsStmts, defines, assigns, awaits, tests, chooses, repeats, returns, throws, yields, braces, none, more}
 use Rattle.script_grammar.specs.Reading.{◌>>=◌, expr_in}
 use Rattle.script_grammar.specs.Parts.{name_at, sign_at, brace_at, on_stop, items_at, list_at}
@@ -15,18 +15,18 @@ use Rattle.script_grammar.proofs.Items.{Taken}
 use Rattle.script_grammar.proofs.Lists.{list_take}
 
 -- what was taken from the front is spelled so
-pub record TakesStmt (limit o : ℕ) (ts : List Piece) (x : Step × List Piece) : Type 0 where
+pub record TakesStmt (limit o : ℕ) (ts : List Piece) (x : StmtTree × List Piece) : Type 0 where
   pub front : List Piece
   pub parts : ts ≡ front ++ x.1
   pub spells : SpellsStmt limit o front x.0
 
-pub record TakesBlock (limit o : ℕ) (ts : List Piece) (x : List Step × List Piece) : Type 0 where
+pub record TakesBlock (limit o : ℕ) (ts : List Piece) (x : List StmtTree × List Piece) : Type 0 where
   pub front : List Piece
   pub parts : ts ≡ front ++ x.1
   pub spells : SpellsBlock limit o front x.0
 
 -- what stands before the closing brace
-record TakesMany (limit o : ℕ) (ts : List Piece) (x : List Step × List Piece) : Type 0 where
+record TakesMany (limit o : ℕ) (ts : List Piece) (x : List StmtTree × List Piece) : Type 0 where
   front : List Piece
   parts : ts ≡ front ++ (Sign mark.CloseBrace ∷ x.1)
   spells : SpellsStmts limit o front x.0
@@ -34,21 +34,21 @@ record TakesMany (limit o : ℕ) (ts : List Piece) (x : List Step × List Piece)
 pub taken_as : {A : Type 0} (Is : List Piece → A → Type 0) (ts front rest : List Piece) (v : A) (x : A × List Piece) → ts ≡ front ++ rest → Is front v → (let read : Result (A × List Piece) Kind = Ok (v, rest) in read ≡ Ok x) → Taken Is ts x
 taken_as Is ts front rest v x parts is e = subst (λ y. Taken Is ts y) (ok_is (v, rest) x e) (record { front = front; parts = parts; is = is })
 
-made : (limit o : ℕ) (ts front rest : List Piece) (s : Step) (x : Step × List Piece) → ts ≡ front ++ rest → SpellsStmt limit o front s → (let step : Result (Step × List Piece) Kind = Ok (s, rest) in step ≡ Ok x) → TakesStmt limit o ts x
-made limit o ts front rest s x parts spells e = subst (λ (y : Step × List Piece). TakesStmt limit o ts y) (ok_is (s, rest) x e) (record { front = front; parts = parts; spells = spells })
+made : (limit o : ℕ) (ts front rest : List Piece) (s : StmtTree) (x : StmtTree × List Piece) → ts ≡ front ++ rest → SpellsStmt limit o front s → (let step : Result (StmtTree × List Piece) Kind = Ok (s, rest) in step ≡ Ok x) → TakesStmt limit o ts x
+made limit o ts front rest s x parts spells e = subst (λ (y : StmtTree × List Piece). TakesStmt limit o ts y) (ok_is (s, rest) x e) (record { front = front; parts = parts; spells = spells })
 
 -- a part with a semicolon behind it
 pub closed_by : (front between rest : List Piece) → between ≡ Sign mark.Semicolon ∷ rest → front ++ between ≡ (front ++ Sign mark.Semicolon ∷ []) ++ rest
 closed_by front between rest e = ap (λ (w : List Piece). front ++ w) e ∙ sym (append_assoc front (Sign mark.Semicolon ∷ []) rest)
 
-abbrev call_made : List ℕ → List ℕ → List Tree × List Piece → Result (CallTree × List Piece) Kind
+abbrev call_made : List ℕ → List ℕ → List ExprTree × List Piece → Result (CallTree × List Piece) Kind
 call_made a m args = Ok (record { actor = a; method = m; args = args.0 }, args.1)
 
-abbrev wait_made : CallTree → Option Tree × List Piece → Result (WaitTree × List Piece) Kind
+abbrev wait_made : CallTree → Option ExprTree × List Piece → Result (WaitTree × List Piece) Kind
 wait_made c other = Ok (record { call = c; other = other.0 }, other.1)
 
 module _ (limit : ℕ) (positive : 0 < limit) where
-  pub expression_takes : (o : ℕ) (ts : List Piece) (x : Tree × List Piece) → expr_in limit o ts ≡ Ok x → Taken (IsExpression limit o) ts x
+  pub expression_takes : (o : ℕ) (ts : List Piece) (x : ExprTree × List Piece) → expr_in limit o ts ≡ Ok x → Taken (IsExpression limit o) ts x
   expression_takes o ts x e =
       let t = expr_takes limit positive o ts x e in
       record { front = t.front; parts = t.parts; is = t.spells }
@@ -73,7 +73,7 @@ module _ (limit : ℕ) (positive : 0 < limit) where
       let parts : ts ≡ front ++ l.0.1 = cc in
       taken_as (IsCall limit) ts front l.0.1 c x parts is l.2
 
-  else_takes : (ts : List Piece) (x : Option Tree × List Piece) → else_at limit ts ≡ Ok x → Taken (IsElse limit) ts x
+  else_takes : (ts : List Piece) (x : Option ExprTree × List Piece) → else_at limit ts ≡ Ok x → Taken (IsElse limit) ts x
   unfolding else_at
   else_takes (Key key.Else ∷ ts) x e =
       let v = bind_ok (expr_in limit limit ts) (λ e. Ok (Some e.0, e.1)) x e in
@@ -107,48 +107,48 @@ module _ (limit : ℕ) (positive : 0 < limit) where
       taken_as (IsValue limit) (Key key.Await ∷ ts) (Key key.Await ∷ t.front) v.0.1 (Awaited v.0.0) x (ap (λ (w : List Piece). Key key.Await ∷ w) t.parts) (awaited t.is) v.2
   value_takes ts x e = computed_takes ts x e
 
-  choice_takes : (o : ℕ) → ((ts : List Piece) (x : List Step × List Piece) → block_at limit o ts ≡ Ok x → TakesBlock limit o ts x) → (all tf bf : List Piece) (t : Tree) (held : List Step) (ts : List Piece) (x : Step × List Piece)
+  choice_takes : (o : ℕ) → ((ts : List Piece) (x : List StmtTree × List Piece) → block_at limit o ts ≡ Ok x → TakesBlock limit o ts x) → (all tf bf : List Piece) (t : ExprTree) (held : List StmtTree) (ts : List Piece) (x : StmtTree × List Piece)
       → all ≡ Key key.If ∷ (tf ++ (bf ++ ts)) → IsExpression limit limit tf t → SpellsBlock limit o bf held → choice_at (block_at limit o) t held ts ≡ Ok x → TakesStmt limit o all x
   unfolding choice_at
   choice_takes o block all tf bf t held (Key key.Else ∷ ts) x parts test body e =
-      let b = bind_ok (block_at limit o ts) (λ b. Ok (Chooses t (steps_of held) (steps_of b.0), b.1)) x e in
+      let b = bind_ok (block_at limit o ts) (λ b. Ok (IfElse t (block_tree held) (block_tree b.0), b.1)) x e in
       let failed = block ts b.0 b.1 in
       let inner : bf ++ (Key key.Else ∷ ts) ≡ (bf ++ Key key.Else ∷ failed.front) ++ b.0.1 = ap (λ (w : List Piece). bf ++ (Key key.Else ∷ w)) failed.parts ∙ sym (append_assoc bf (Key key.Else ∷ failed.front) b.0.1) in
       let outer : tf ++ (bf ++ (Key key.Else ∷ ts)) ≡ (tf ++ (bf ++ Key key.Else ∷ failed.front)) ++ b.0.1 = ap (λ (w : List Piece). tf ++ w) inner ∙ sym (append_assoc tf (bf ++ Key key.Else ∷ failed.front) b.0.1) in
-      made limit o all (Key key.If ∷ (tf ++ (bf ++ Key key.Else ∷ failed.front))) b.0.1 (Chooses t (steps_of held) (steps_of b.0.0)) x
+      made limit o all (Key key.If ∷ (tf ++ (bf ++ Key key.Else ∷ failed.front))) b.0.1 (IfElse t (block_tree held) (block_tree b.0.0)) x
       (parts ∙ ap (λ (w : List Piece). Key key.If ∷ w) outer) (chooses test body failed.spells) b.2
   choice_takes o block all tf bf t held ts x parts test body e =
-      made limit o all (Key key.If ∷ (tf ++ bf)) ts (Tests t (steps_of held)) x
+      made limit o all (Key key.If ∷ (tf ++ bf)) ts (If t (block_tree held)) x
       (parts ∙ ap (λ (w : List Piece). Key key.If ∷ w) (sym (append_assoc tf bf ts))) (tests test body) e
 
-  stmt_takes : (o : ℕ) → ((ts : List Piece) (x : List Step × List Piece) → block_at limit o ts ≡ Ok x → TakesBlock limit o ts x) → (ts : List Piece) (x : Step × List Piece) → stmt_at limit (block_at limit o) ts ≡ Ok x → TakesStmt limit o ts x
+  stmt_takes : (o : ℕ) → ((ts : List Piece) (x : List StmtTree × List Piece) → block_at limit o ts ≡ Ok x → TakesBlock limit o ts x) → (ts : List Piece) (x : StmtTree × List Piece) → stmt_at limit (block_at limit o) ts ≡ Ok x → TakesStmt limit o ts x
   unfolding stmt_at
   stmt_takes o block [] x e = absurd cc
   stmt_takes o block (Key key.Let ∷ ts) x e =
-      let n = bind_ok (name_at ts) (λ n. sign_at mark.Assign n.1 >>= λ a. value_at limit a >>= λ v. sign_at mark.Semicolon v.1 >>= λ s. Ok (Defines n.0 v.0, s)) x e in
-      let a = bind_ok (sign_at mark.Assign n.0.1) (λ a. value_at limit a >>= λ v. sign_at mark.Semicolon v.1 >>= λ s. Ok (Defines n.0.0 v.0, s)) x n.2 in
-      let v = bind_ok (value_at limit a.0) (λ v. sign_at mark.Semicolon v.1 >>= λ s. Ok (Defines n.0.0 v.0, s)) x a.2 in
-      let s = bind_ok (sign_at mark.Semicolon v.0.1) (λ s. Ok (Defines n.0.0 v.0.0, s)) x v.2 in
+      let n = bind_ok (name_at ts) (λ n. sign_at mark.Assign n.1 >>= λ a. value_at limit a >>= λ v. sign_at mark.Semicolon v.1 >>= λ s. Ok (Let n.0 v.0, s)) x e in
+      let a = bind_ok (sign_at mark.Assign n.0.1) (λ a. value_at limit a >>= λ v. sign_at mark.Semicolon v.1 >>= λ s. Ok (Let n.0.0 v.0, s)) x n.2 in
+      let v = bind_ok (value_at limit a.0) (λ v. sign_at mark.Semicolon v.1 >>= λ s. Ok (Let n.0.0 v.0, s)) x a.2 in
+      let s = bind_ok (sign_at mark.Semicolon v.0.1) (λ s. Ok (Let n.0.0 v.0.0, s)) x v.2 in
       let taken = value_takes a.0 v.0 v.1 in
       let last = taken.parts ∙ closed_by taken.front v.0.1 s.0 (sign_is mark.Semicolon v.0.1 s.0 s.1) in
-      made limit o (Key key.Let ∷ ts) (Key key.Let ∷ Name n.0.0 ∷ Sign mark.Assign ∷ (taken.front ++ Sign mark.Semicolon ∷ [])) s.0 (Defines n.0.0 v.0.0) x
+      made limit o (Key key.Let ∷ ts) (Key key.Let ∷ Name n.0.0 ∷ Sign mark.Assign ∷ (taken.front ++ Sign mark.Semicolon ∷ [])) s.0 (Let n.0.0 v.0.0) x
       (ap (λ (w : List Piece). Key key.Let ∷ w) (name_is ts n.0 n.1 ∙ ap (λ (w : List Piece). Name n.0.0 ∷ w) (sign_is mark.Assign n.0.1 a.0 a.1 ∙ ap (λ (w : List Piece). Sign mark.Assign ∷ w) last)))
       (defines n.0.0 taken.is) s.2
   stmt_takes o block (Name n ∷ ts) x e =
-      let a = bind_ok (sign_at mark.Assign ts) (λ a. value_at limit a >>= λ v. sign_at mark.Semicolon v.1 >>= λ s. Ok (Assigns n v.0, s)) x e in
-      let v = bind_ok (value_at limit a.0) (λ v. sign_at mark.Semicolon v.1 >>= λ s. Ok (Assigns n v.0, s)) x a.2 in
-      let s = bind_ok (sign_at mark.Semicolon v.0.1) (λ s. Ok (Assigns n v.0.0, s)) x v.2 in
+      let a = bind_ok (sign_at mark.Assign ts) (λ a. value_at limit a >>= λ v. sign_at mark.Semicolon v.1 >>= λ s. Ok (Assign n v.0, s)) x e in
+      let v = bind_ok (value_at limit a.0) (λ v. sign_at mark.Semicolon v.1 >>= λ s. Ok (Assign n v.0, s)) x a.2 in
+      let s = bind_ok (sign_at mark.Semicolon v.0.1) (λ s. Ok (Assign n v.0.0, s)) x v.2 in
       let taken = value_takes a.0 v.0 v.1 in
       let last = taken.parts ∙ closed_by taken.front v.0.1 s.0 (sign_is mark.Semicolon v.0.1 s.0 s.1) in
-      made limit o (Name n ∷ ts) (Name n ∷ Sign mark.Assign ∷ (taken.front ++ Sign mark.Semicolon ∷ [])) s.0 (Assigns n v.0.0) x
+      made limit o (Name n ∷ ts) (Name n ∷ Sign mark.Assign ∷ (taken.front ++ Sign mark.Semicolon ∷ [])) s.0 (Assign n v.0.0) x
       (ap (λ (w : List Piece). Name n ∷ w) (sign_is mark.Assign ts a.0 a.1 ∙ ap (λ (w : List Piece). Sign mark.Assign ∷ w) last))
       (assigns n taken.is) s.2
   stmt_takes o block (Key key.Await ∷ ts) x e =
-      let v = bind_ok (wait_at limit ts) (λ w. sign_at mark.Semicolon w.1 >>= λ s. Ok (Awaits w.0, s)) x e in
-      let s = bind_ok (sign_at mark.Semicolon v.0.1) (λ s. Ok (Awaits v.0.0, s)) x v.2 in
+      let v = bind_ok (wait_at limit ts) (λ w. sign_at mark.Semicolon w.1 >>= λ s. Ok (Await w.0, s)) x e in
+      let s = bind_ok (sign_at mark.Semicolon v.0.1) (λ s. Ok (Await v.0.0, s)) x v.2 in
       let taken = wait_takes ts v.0 v.1 in
       let last = taken.parts ∙ closed_by taken.front v.0.1 s.0 (sign_is mark.Semicolon v.0.1 s.0 s.1) in
-      made limit o (Key key.Await ∷ ts) (Key key.Await ∷ (taken.front ++ Sign mark.Semicolon ∷ [])) s.0 (Awaits v.0.0) x
+      made limit o (Key key.Await ∷ ts) (Key key.Await ∷ (taken.front ++ Sign mark.Semicolon ∷ [])) s.0 (Await v.0.0) x
       (ap (λ (w : List Piece). Key key.Await ∷ w) last) (awaits taken.is) s.2
   stmt_takes o block (Key key.If ∷ ts) x e =
       let v = bind_ok (expr_in limit limit ts) (λ v. block_at limit o v.1 >>= λ b. choice_at (block_at limit o) v.0 b.0 b.1) x e in
@@ -158,51 +158,51 @@ module _ (limit : ℕ) (positive : 0 < limit) where
       choice_takes o block (Key key.If ∷ ts) test.front body.front v.0.0 b.0.0 b.0.1 x
       (ap (λ (w : List Piece). Key key.If ∷ w) (test.parts ∙ ap (λ (w : List Piece). test.front ++ w) body.parts)) test.is body.spells b.2
   stmt_takes o block (Key key.While ∷ ts) x e =
-      let v = bind_ok (expr_in limit limit ts) (λ v. block_at limit o v.1 >>= λ b. Ok (Repeats v.0 (steps_of b.0), b.1)) x e in
-      let b = bind_ok (block_at limit o v.0.1) (λ b. Ok (Repeats v.0.0 (steps_of b.0), b.1)) x v.2 in
+      let v = bind_ok (expr_in limit limit ts) (λ v. block_at limit o v.1 >>= λ b. Ok (While v.0 (block_tree b.0), b.1)) x e in
+      let b = bind_ok (block_at limit o v.0.1) (λ b. Ok (While v.0.0 (block_tree b.0), b.1)) x v.2 in
       let test = expression_takes limit ts v.0 v.1 in
       let body = block v.0.1 b.0 b.1 in
-      made limit o (Key key.While ∷ ts) (Key key.While ∷ (test.front ++ body.front)) b.0.1 (Repeats v.0.0 (steps_of b.0.0)) x
+      made limit o (Key key.While ∷ ts) (Key key.While ∷ (test.front ++ body.front)) b.0.1 (While v.0.0 (block_tree b.0.0)) x
       (ap (λ (w : List Piece). Key key.While ∷ w) (test.parts ∙ ap (λ (w : List Piece). test.front ++ w) body.parts ∙ sym (append_assoc test.front body.front b.0.1)))
       (repeats test.is body.spells) b.2
   stmt_takes o block (Key key.Return ∷ ts) x e =
-      let v = bind_ok (expr_in limit limit ts) (λ v. sign_at mark.Semicolon v.1 >>= λ s. Ok (Returns v.0, s)) x e in
-      let s = bind_ok (sign_at mark.Semicolon v.0.1) (λ s. Ok (Returns v.0.0, s)) x v.2 in
+      let v = bind_ok (expr_in limit limit ts) (λ v. sign_at mark.Semicolon v.1 >>= λ s. Ok (Return v.0, s)) x e in
+      let s = bind_ok (sign_at mark.Semicolon v.0.1) (λ s. Ok (Return v.0.0, s)) x v.2 in
       let taken = expression_takes limit ts v.0 v.1 in
       let last = taken.parts ∙ closed_by taken.front v.0.1 s.0 (sign_is mark.Semicolon v.0.1 s.0 s.1) in
-      made limit o (Key key.Return ∷ ts) (Key key.Return ∷ (taken.front ++ Sign mark.Semicolon ∷ [])) s.0 (Returns v.0.0) x
+      made limit o (Key key.Return ∷ ts) (Key key.Return ∷ (taken.front ++ Sign mark.Semicolon ∷ [])) s.0 (Return v.0.0) x
       (ap (λ (w : List Piece). Key key.Return ∷ w) last) (returns taken.is) s.2
   stmt_takes o block (Key key.Throw ∷ ts) x e =
-      let v = bind_ok (expr_in limit limit ts) (λ v. sign_at mark.Semicolon v.1 >>= λ s. Ok (Throws v.0, s)) x e in
-      let s = bind_ok (sign_at mark.Semicolon v.0.1) (λ s. Ok (Throws v.0.0, s)) x v.2 in
+      let v = bind_ok (expr_in limit limit ts) (λ v. sign_at mark.Semicolon v.1 >>= λ s. Ok (Throw v.0, s)) x e in
+      let s = bind_ok (sign_at mark.Semicolon v.0.1) (λ s. Ok (Throw v.0.0, s)) x v.2 in
       let taken = expression_takes limit ts v.0 v.1 in
       let last = taken.parts ∙ closed_by taken.front v.0.1 s.0 (sign_is mark.Semicolon v.0.1 s.0 s.1) in
-      made limit o (Key key.Throw ∷ ts) (Key key.Throw ∷ (taken.front ++ Sign mark.Semicolon ∷ [])) s.0 (Throws v.0.0) x
+      made limit o (Key key.Throw ∷ ts) (Key key.Throw ∷ (taken.front ++ Sign mark.Semicolon ∷ [])) s.0 (Throw v.0.0) x
       (ap (λ (w : List Piece). Key key.Throw ∷ w) last) (throws taken.is) s.2
   stmt_takes o block (Key key.Yield ∷ ts) x e =
-      let s = bind_ok (sign_at mark.Semicolon ts) (λ s. Ok (Yields, s)) x e in
-      made limit o (Key key.Yield ∷ ts) (Key key.Yield ∷ Sign mark.Semicolon ∷ []) s.0 Yields x
+      let s = bind_ok (sign_at mark.Semicolon ts) (λ s. Ok (Yield, s)) x e in
+      made limit o (Key key.Yield ∷ ts) (Key key.Yield ∷ Sign mark.Semicolon ∷ []) s.0 Yield x
       (ap (λ (w : List Piece). Key key.Yield ∷ w) (sign_is mark.Semicolon ts s.0 s.1)) yields s.2
   stmt_takes o block (_ ∷ ts) x e = absurd cc
 
-  many_step : (o n : ℕ) (ts : List Piece) (x : List Step × List Piece) → ((us : List Piece) (y : Step × List Piece) → stmt_at limit (block_at limit o) us ≡ Ok y → TakesStmt limit o us y) → ((us : List Piece) (y : List Step × List Piece) → many_at limit (block_at limit o) n us ≡ Ok y → TakesMany limit o us y)
+  many_step : (o n : ℕ) (ts : List Piece) (x : List StmtTree × List Piece) → ((us : List Piece) (y : StmtTree × List Piece) → stmt_at limit (block_at limit o) us ≡ Ok y → TakesStmt limit o us y) → ((us : List Piece) (y : List StmtTree × List Piece) → many_at limit (block_at limit o) n us ≡ Ok y → TakesMany limit o us y)
       → (found : Option (List Piece)) → brace_at ts ≡ found → on_stop found (λ rest. Ok ([], rest)) (stmt_at limit (block_at limit o) ts >>= λ s. many_at limit (block_at limit o) n s.1 >>= λ ss. Ok (s.0 ∷ ss.0, ss.1)) ≡ Ok x → TakesMany limit o ts x
   many_step o n ts x one others (Some rest) is e =
-      subst (λ (y : List Step × List Piece). TakesMany limit o ts y) (ok_is ([], rest) x e) (record { front = []; parts = brace_is ts rest is; spells = none })
+      subst (λ (y : List StmtTree × List Piece). TakesMany limit o ts y) (ok_is ([], rest) x e) (record { front = []; parts = brace_is ts rest is; spells = none })
   many_step o n ts x one others None is e =
       let s = bind_ok (stmt_at limit (block_at limit o) ts) (λ s. many_at limit (block_at limit o) n s.1 >>= λ ss. Ok (s.0 ∷ ss.0, ss.1)) x e in
       let ss = bind_ok (many_at limit (block_at limit o) n s.0.1) (λ ss. Ok (s.0.0 ∷ ss.0, ss.1)) x s.2 in
       let first = one ts s.0 s.1 in
       let second = others s.0.1 ss.0 ss.1 in
-      subst (λ (y : List Step × List Piece). TakesMany limit o ts y) (ok_is (s.0.0 ∷ ss.0.0, ss.0.1) x ss.2)
+      subst (λ (y : List StmtTree × List Piece). TakesMany limit o ts y) (ok_is (s.0.0 ∷ ss.0.0, ss.0.1) x ss.2)
       (record { front = first.front ++ second.front; parts = first.parts ∙ ap (λ (w : List Piece). first.front ++ w) second.parts ∙ sym (append_assoc first.front second.front (Sign mark.CloseBrace ∷ ss.0.1)); spells = more first.spells second.spells })
 
-  many_takes : (o : ℕ) → ((us : List Piece) (y : Step × List Piece) → stmt_at limit (block_at limit o) us ≡ Ok y → TakesStmt limit o us y) → (n : ℕ) (ts : List Piece) (x : List Step × List Piece) → many_at limit (block_at limit o) n ts ≡ Ok x → TakesMany limit o ts x
+  many_takes : (o : ℕ) → ((us : List Piece) (y : StmtTree × List Piece) → stmt_at limit (block_at limit o) us ≡ Ok y → TakesStmt limit o us y) → (n : ℕ) (ts : List Piece) (x : List StmtTree × List Piece) → many_at limit (block_at limit o) n ts ≡ Ok x → TakesMany limit o ts x
   unfolding items_at
   many_takes o one zero ts x e = absurd cc
   many_takes o one (suc n) ts x e = many_step o n ts x one (λ us y. many_takes o one n us y) (brace_at ts) refl e
 
-  pub block_takes : (o : ℕ) (ts : List Piece) (x : List Step × List Piece) → block_at limit o ts ≡ Ok x → TakesBlock limit o ts x
+  pub block_takes : (o : ℕ) (ts : List Piece) (x : List StmtTree × List Piece) → block_at limit o ts ≡ Ok x → TakesBlock limit o ts x
   unfolding block_at
   block_takes o [] x e = absurd cc
   block_takes zero (Sign mark.OpenBrace ∷ ts) x e = absurd cc

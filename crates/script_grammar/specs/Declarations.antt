@@ -8,7 +8,7 @@ use Rattle.script_grammar.specs.declared.fault.Kind.TheVariants.{Unexpected, Out
 use Rattle.script_tokens.specs.declared.keyword.Keyword.TheVariants as key
 use Rattle.script_tokens.specs.declared.mark.Mark.TheVariants as mark
 use Rattle.script_tokens.specs.Pieces.{Piece, Num, Huge, Key, Sign}
-use Rattle.script_grammar.specs.Tree.{Tree, FieldTree, MethodTree, ActorTree, RootTree, DeclTree, Acts, Roots}
+use Rattle.script_grammar.specs.Tree.{ExprTree, FieldTree, MethodTree, ActorTree, RootTree, DeclTree, Acts, Roots}
 use Rattle.script_grammar.specs.Grammar.{least, priority_of}
 use Rattle.script_grammar.specs.Reading.{◌>>=◌, expr_in}
 use Rattle.script_grammar.specs.Parts.{name_at, sign_at, brace_at, items_at, list_at}
@@ -49,7 +49,7 @@ field_at (Key key.Var ∷ ts) = do
 field_at (_ ∷ ts) = Err Unexpected
 
 -- an invariant, if one stands there
-unfoldable pub invariant_at : ℕ → List Piece → Result (Option Tree × List Piece) Kind
+unfoldable pub invariant_at : ℕ → List Piece → Result (Option ExprTree × List Piece) Kind
 invariant_at limit (Key key.Invariant ∷ ts) = do
   e ← expr_in limit limit ts
   s ← sign_at mark.Semicolon e.1

@@ -11,7 +11,7 @@ use Rattle.script_tokens.specs.declared.keyword.Keyword.TheVariants as key
 use Rattle.script_tokens.specs.Pieces.{Num, Name, Key, Sign}
 use Rattle.swift_types.specs.declared.priority.Priority.{Priority}
 use Rattle.swift_types.specs.declared.priority.Priority.TheVariants.{Background, Low, Medium, High}
-use Rattle.script_grammar.specs.Tree.{Tree, Number, Named, Negated, Inverted, Both, height_of, CallTree, WaitTree, ValueTree, Computed, Awaited, Step, Defines, Assigns, Awaits, Tests, Chooses, Repeats, Returns, Throws, Yields, steps_of, FieldTree, MethodTree, ActorTree, RootTree, DeclTree, Acts, Roots}
+use Rattle.script_grammar.specs.Tree.{ExprTree, Number, Named, Negated, Inverted, Both, height_of, CallTree, WaitTree, ValueTree, Computed, Awaited, StmtTree, Let, Assign, Await, If, IfElse, While, Return, Throw, Yield, block_tree, FieldTree, MethodTree, ActorTree, RootTree, DeclTree, Acts, Roots}
 
 -- the mark of an operator between two operands
 abbrev pub mark_of : Operator → Mark
@@ -43,21 +43,21 @@ tightness_of op.Times = 1
 
 -- Spells opens level tokens tree: the tokens spell the tree, with at most so many parentheses open at once.
 -- Level 0 is an atom behind prefixes; level n + 1 is operands of level n between operators of tightness n + 1.
-pub data Spells : ℕ → ℕ → List Piece → Tree → Type 0 where
+pub data Spells : ℕ → ℕ → List Piece → ExprTree → Type 0 where
   number : {o : ℕ} (n : _) → Spells o zero (Num n ∷ []) (Number n)
   name : {o : ℕ} (n : List ℕ) → Spells o zero (Name n ∷ []) (Named n)
-  parenthesis : {o : ℕ} {ts : List Piece} {t : Tree} → Spells o 5 ts t → Spells (suc o) zero (Sign mark.Open ∷ (ts ++ Sign mark.Close ∷ [])) t
-  negated : {o : ℕ} {ts : List Piece} {t : Tree} → Spells o zero ts t → Spells o zero (Sign mark.Minus ∷ ts) (Negated t)
-  inverted : {o : ℕ} {ts : List Piece} {t : Tree} → Spells o zero ts t → Spells o zero (Sign mark.Bang ∷ ts) (Inverted t)
+  parenthesis : {o : ℕ} {ts : List Piece} {t : ExprTree} → Spells o 5 ts t → Spells (suc o) zero (Sign mark.Open ∷ (ts ++ Sign mark.Close ∷ [])) t
+  negated : {o : ℕ} {ts : List Piece} {t : ExprTree} → Spells o zero ts t → Spells o zero (Sign mark.Minus ∷ ts) (Negated t)
+  inverted : {o : ℕ} {ts : List Piece} {t : ExprTree} → Spells o zero ts t → Spells o zero (Sign mark.Bang ∷ ts) (Inverted t)
   -- One operand alone is an expression of the next level.
-  alone : {o k : ℕ} {ts : List Piece} {t : Tree} → Spells o k ts t → Spells o (suc k) ts t
+  alone : {o k : ℕ} {ts : List Piece} {t : ExprTree} → Spells o k ts t → Spells o (suc k) ts t
   -- Repeated operators group to the left, and are no comparisons.
-  chained : {o k : ℕ} {ls rs : List Piece} {a b : Tree} (op : Operator) → suc k ≡ tightness_of op → suc k ≢ 3 → Spells o (suc k) ls a → Spells o k rs b → Spells o (suc k) (ls ++ Sign (mark_of op) ∷ rs) (Both op a b)
+  chained : {o k : ℕ} {ls rs : List Piece} {a b : ExprTree} (op : Operator) → suc k ≡ tightness_of op → suc k ≢ 3 → Spells o (suc k) ls a → Spells o k rs b → Spells o (suc k) (ls ++ Sign (mark_of op) ∷ rs) (Both op a b)
   -- A comparison has two operands, neither of which is a comparison outside a parenthesis.
-  compared : {o k : ℕ} {ls rs : List Piece} {a b : Tree} (op : Operator) → suc k ≡ tightness_of op → suc k ≡ 3 → Spells o k ls a → Spells o k rs b → Spells o (suc k) (ls ++ Sign (mark_of op) ∷ rs) (Both op a b)
+  compared : {o k : ℕ} {ls rs : List Piece} {a b : ExprTree} (op : Operator) → suc k ≡ tightness_of op → suc k ≡ 3 → Spells o k ls a → Spells o k rs b → Spells o (suc k) (ls ++ Sign (mark_of op) ∷ rs) (Both op a b)
 
 -- Tokens are an expression: they spell a tree no higher than the limit, with at most so many parentheses open at once.
-pub record IsExpression (limit opens : ℕ) (tokens : List Piece) (tree : Tree) : Type 0 where
+pub record IsExpression (limit opens : ℕ) (tokens : List Piece) (tree : ExprTree) : Type 0 where
   pub spelled : Spells opens 5 tokens tree
   pub low : height_of tree ≤ limit
 
@@ -84,9 +84,9 @@ pub record IsCall (limit : ℕ) (ts : List Piece) (c : CallTree) : Type 0 where
   pub all : ts ≡ Name c.actor ∷ Sign mark.Dot ∷ Name c.method ∷ Sign mark.Open ∷ (args ++ Sign mark.Close ∷ [])
 
 -- Tokens are an `else` with its value, or there are none.
-pub data IsElse (limit : ℕ) : List Piece → Option Tree → Type 0 where
+pub data IsElse (limit : ℕ) : List Piece → Option ExprTree → Type 0 where
   without_else : IsElse limit [] None
-  with_else : {ts : List Piece} {t : Tree} → IsExpression limit limit ts t → IsElse limit (Key key.Else ∷ ts) (Some t)
+  with_else : {ts : List Piece} {t : ExprTree} → IsExpression limit limit ts t → IsElse limit (Key key.Else ∷ ts) (Some t)
 
 -- Tokens are a call, and perhaps an `else`.
 pub record IsWait (limit : ℕ) (ts : List Piece) (w : WaitTree) : Type 0 where
@@ -98,30 +98,30 @@ pub record IsWait (limit : ℕ) (ts : List Piece) (w : WaitTree) : Type 0 where
 
 -- Tokens are an expression, or `await` and what is waited for.
 pub data IsValue (limit : ℕ) : List Piece → ValueTree → Type 0 where
-  computed : {ts : List Piece} {t : Tree} → IsExpression limit limit ts t → IsValue limit ts (Computed t)
+  computed : {ts : List Piece} {t : ExprTree} → IsExpression limit limit ts t → IsValue limit ts (Computed t)
   awaited : {ts : List Piece} {w : WaitTree} → IsWait limit ts w → IsValue limit (Key key.Await ∷ ts) (Awaited w)
 
 -- Statements, with at most so many further blocks open at once. Each form of a statement has a case of its own.
 mutual
-  pub data SpellsStmt (limit : ℕ) : ℕ → List Piece → Step → Type 0 where
-    defines : {o : ℕ} (n : List ℕ) {ts : List Piece} {v : ValueTree} → IsValue limit ts v → SpellsStmt limit o (Key key.Let ∷ Name n ∷ Sign mark.Assign ∷ (ts ++ Sign mark.Semicolon ∷ [])) (Defines n v)
-    assigns : {o : ℕ} (n : List ℕ) {ts : List Piece} {v : ValueTree} → IsValue limit ts v → SpellsStmt limit o (Name n ∷ Sign mark.Assign ∷ (ts ++ Sign mark.Semicolon ∷ [])) (Assigns n v)
-    awaits : {o : ℕ} {ts : List Piece} {w : WaitTree} → IsWait limit ts w → SpellsStmt limit o (Key key.Await ∷ (ts ++ Sign mark.Semicolon ∷ [])) (Awaits w)
-    tests : {o : ℕ} {ts us : List Piece} {t : Tree} {ss : List Step} → IsExpression limit limit ts t → SpellsBlock limit o us ss → SpellsStmt limit o (Key key.If ∷ (ts ++ us)) (Tests t (steps_of ss))
-    chooses : {o : ℕ} {ts us vs : List Piece} {t : Tree} {ss rs : List Step} → IsExpression limit limit ts t → SpellsBlock limit o us ss → SpellsBlock limit o vs rs → SpellsStmt limit o (Key key.If ∷ (ts ++ (us ++ Key key.Else ∷ vs))) (Chooses t (steps_of ss) (steps_of rs))
-    repeats : {o : ℕ} {ts us : List Piece} {t : Tree} {ss : List Step} → IsExpression limit limit ts t → SpellsBlock limit o us ss → SpellsStmt limit o (Key key.While ∷ (ts ++ us)) (Repeats t (steps_of ss))
-    returns : {o : ℕ} {ts : List Piece} {t : Tree} → IsExpression limit limit ts t → SpellsStmt limit o (Key key.Return ∷ (ts ++ Sign mark.Semicolon ∷ [])) (Returns t)
-    throws : {o : ℕ} {ts : List Piece} {t : Tree} → IsExpression limit limit ts t → SpellsStmt limit o (Key key.Throw ∷ (ts ++ Sign mark.Semicolon ∷ [])) (Throws t)
-    yields : {o : ℕ} → SpellsStmt limit o (Key key.Yield ∷ Sign mark.Semicolon ∷ []) Yields
+  pub data SpellsStmt (limit : ℕ) : ℕ → List Piece → StmtTree → Type 0 where
+    defines : {o : ℕ} (n : List ℕ) {ts : List Piece} {v : ValueTree} → IsValue limit ts v → SpellsStmt limit o (Key key.Let ∷ Name n ∷ Sign mark.Assign ∷ (ts ++ Sign mark.Semicolon ∷ [])) (Let n v)
+    assigns : {o : ℕ} (n : List ℕ) {ts : List Piece} {v : ValueTree} → IsValue limit ts v → SpellsStmt limit o (Name n ∷ Sign mark.Assign ∷ (ts ++ Sign mark.Semicolon ∷ [])) (Assign n v)
+    awaits : {o : ℕ} {ts : List Piece} {w : WaitTree} → IsWait limit ts w → SpellsStmt limit o (Key key.Await ∷ (ts ++ Sign mark.Semicolon ∷ [])) (Await w)
+    tests : {o : ℕ} {ts us : List Piece} {t : ExprTree} {ss : List StmtTree} → IsExpression limit limit ts t → SpellsBlock limit o us ss → SpellsStmt limit o (Key key.If ∷ (ts ++ us)) (If t (block_tree ss))
+    chooses : {o : ℕ} {ts us vs : List Piece} {t : ExprTree} {ss rs : List StmtTree} → IsExpression limit limit ts t → SpellsBlock limit o us ss → SpellsBlock limit o vs rs → SpellsStmt limit o (Key key.If ∷ (ts ++ (us ++ Key key.Else ∷ vs))) (IfElse t (block_tree ss) (block_tree rs))
+    repeats : {o : ℕ} {ts us : List Piece} {t : ExprTree} {ss : List StmtTree} → IsExpression limit limit ts t → SpellsBlock limit o us ss → SpellsStmt limit o (Key key.While ∷ (ts ++ us)) (While t (block_tree ss))
+    returns : {o : ℕ} {ts : List Piece} {t : ExprTree} → IsExpression limit limit ts t → SpellsStmt limit o (Key key.Return ∷ (ts ++ Sign mark.Semicolon ∷ [])) (Return t)
+    throws : {o : ℕ} {ts : List Piece} {t : ExprTree} → IsExpression limit limit ts t → SpellsStmt limit o (Key key.Throw ∷ (ts ++ Sign mark.Semicolon ∷ [])) (Throw t)
+    yields : {o : ℕ} → SpellsStmt limit o (Key key.Yield ∷ Sign mark.Semicolon ∷ []) Yield
 
   -- Tokens are a block: statements in braces, which are one more open block.
-  pub data SpellsBlock (limit : ℕ) : ℕ → List Piece → List Step → Type 0 where
-    braces : {o : ℕ} {ts : List Piece} {ss : List Step} → SpellsStmts limit o ts ss → SpellsBlock limit (suc o) (Sign mark.OpenBrace ∷ (ts ++ Sign mark.CloseBrace ∷ [])) ss
+  pub data SpellsBlock (limit : ℕ) : ℕ → List Piece → List StmtTree → Type 0 where
+    braces : {o : ℕ} {ts : List Piece} {ss : List StmtTree} → SpellsStmts limit o ts ss → SpellsBlock limit (suc o) (Sign mark.OpenBrace ∷ (ts ++ Sign mark.CloseBrace ∷ [])) ss
 
   -- Tokens are those of the statements, one after the other.
-  pub data SpellsStmts (limit : ℕ) : ℕ → List Piece → List Step → Type 0 where
+  pub data SpellsStmts (limit : ℕ) : ℕ → List Piece → List StmtTree → Type 0 where
     none : {o : ℕ} → SpellsStmts limit o [] []
-    more : {o : ℕ} {ts us : List Piece} {s : Step} {ss : List Step} → SpellsStmt limit o ts s → SpellsStmts limit o us ss → SpellsStmts limit o (ts ++ us) (s ∷ ss)
+    more : {o : ℕ} {ts us : List Piece} {s : StmtTree} {ss : List StmtTree} → SpellsStmt limit o ts s → SpellsStmts limit o us ss → SpellsStmts limit o (ts ++ us) (s ∷ ss)
 
 -- the least number of 64 bits, whose opposite is none
 abbrev pub least : ℤ
@@ -143,9 +143,9 @@ pub record IsField (ts : List Piece) (f : FieldTree) : Type 0 where
   pub all : ts ≡ Key key.Var ∷ Name f.name ∷ Sign mark.Assign ∷ (start ++ Sign mark.Semicolon ∷ [])
 
 -- Tokens are `invariant test;`, or there are none.
-pub data IsInvariant (limit : ℕ) : List Piece → Option Tree → Type 0 where
+pub data IsInvariant (limit : ℕ) : List Piece → Option ExprTree → Type 0 where
   no_invariant : IsInvariant limit [] None
-  an_invariant : {ts : List Piece} {t : Tree} → IsExpression limit limit ts t → IsInvariant limit (Key key.Invariant ∷ (ts ++ Sign mark.Semicolon ∷ [])) (Some t)
+  an_invariant : {ts : List Piece} {t : ExprTree} → IsExpression limit limit ts t → IsInvariant limit (Key key.Invariant ∷ (ts ++ Sign mark.Semicolon ∷ [])) (Some t)
 
 -- Tokens are a method: `func name(..)` and its block, which is the first open one.
 pub record IsMethod (limit : ℕ) (ts : List Piece) (m : MethodTree) : Type 0 where

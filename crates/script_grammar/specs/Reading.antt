@@ -11,7 +11,7 @@ use Rattle.script_tokens.specs.declared.mark.Mark.{Mark}
 use Rattle.script_tokens.specs.declared.mark.Mark.TheVariants as mark
 use Rattle.script_tokens.specs.Pieces.{Piece}
 use Rattle.script_tokens.specs.Pieces.{Num, Huge, Name, Sign}
-use Rattle.script_grammar.specs.Tree.{Tree, Number, Named, Negated, Inverted, Both, height_of}
+use Rattle.script_grammar.specs.Tree.{ExprTree, Number, Named, Negated, Inverted, Both, height_of}
 use Rattle.script_grammar.specs.Grammar.{tightness_of}
 
 -- What is read first, and then what f reads behind it; the first fault ends it.
@@ -37,7 +37,7 @@ IsOfKind (errors.Fault f) kind = f.kind ≡ kind
 
 -- Reading an expression gives its tree and the tokens behind it.
 abbrev pub Read : Type 0
-Read = List Piece → Result (Tree × List Piece) Kind
+Read = List Piece → Result (ExprTree × List Piece) Kind
 
 -- the operator that a mark stands for between two operands
 abbrev pub operator_in : Mark → Option Operator
@@ -79,11 +79,11 @@ abbrev pub most_operators : ℕ → ℕ → ℕ
 most_operators limit k = if k == 3 then 1 else limit
 
 -- the tree, if it is no higher than the limit
-unfoldable pub checked : ℕ → Tree → Result Tree Kind
+unfoldable pub checked : ℕ → ExprTree → Result ExprTree Kind
 checked limit t = if nat_lt limit (height_of t) then Err TooDeep else Ok t
 
 -- the tree, and what is behind the parenthesis that closes it
-unfoldable pub closed_at : Tree → List Piece → Result (Tree × List Piece) Kind
+unfoldable pub closed_at : ExprTree → List Piece → Result (ExprTree × List Piece) Kind
 closed_at t [] = Err EndsEarly
 closed_at t (Sign mark.Close ∷ rest) = Ok (t, rest)
 closed_at t (_ ∷ rest) = Err Unexpected
@@ -115,7 +115,7 @@ on_operator None stop go = stop
 on_operator (Some x) stop go = go x.0 x.1
 
 -- at most n further operands, each behind an operator of tightness k
-unfoldable pub operands_at : ℕ → Read → ℕ → ℕ → Tree → Read
+unfoldable pub operands_at : ℕ → Read → ℕ → ℕ → ExprTree → Read
 operands_at limit operand k zero left ts = Ok (left, ts)
 operands_at limit operand k (suc n) left ts = on_operator (operator_at k ts) (Ok (left, ts)) (λ o rest. operand rest >>= λ right. checked limit (Both o left right.0) >>= λ t. operands_at limit operand k n t right.1)
 

@@ -5,7 +5,7 @@ use Rattle.script_grammar.specs.declared.fault.Kind.TheVariants.{Unexpected, End
 use Rattle.script_tokens.specs.declared.keyword.Keyword.TheVariants as key
 use Rattle.script_tokens.specs.declared.mark.Mark.TheVariants as mark
 use Rattle.script_tokens.specs.Pieces.{Piece, Name, Key, Sign}
-use Rattle.script_grammar.specs.Tree.{Tree, CallTree, WaitTree, ValueTree, Computed, Awaited, Step, Defines, Assigns, Awaits, Tests, Chooses, Repeats, Returns, Throws, Yields, steps_of}
+use Rattle.script_grammar.specs.Tree.{ExprTree, CallTree, WaitTree, ValueTree, Computed, Awaited, StmtTree, Let, Assign, Await, If, IfElse, While, Return, Throw, Yield, block_tree}
 use Rattle.script_grammar.specs.Reading.{◌>>=◌, expr_in}
 use Rattle.script_grammar.specs.Parts.{name_at, sign_at, brace_at, items_at, list_at}
 
@@ -20,7 +20,7 @@ call_at limit ts = do
   Ok (record { actor = a.0; method = m.0; args = args.0 }, args.1)
 
 -- an `else` with its value, if one stands there
-unfoldable pub else_at : ℕ → List Piece → Result (Option Tree × List Piece) Kind
+unfoldable pub else_at : ℕ → List Piece → Result (Option ExprTree × List Piece) Kind
 else_at limit (Key key.Else ∷ ts) = do
   e ← expr_in limit limit ts
   Ok (Some e.0, e.1)
@@ -44,33 +44,33 @@ value_at limit ts = do
 
 -- Reading a block gives its statements and the tokens behind it.
 abbrev pub ReadSteps : Type 0
-ReadSteps = List Piece → Result (List Step × List Piece) Kind
+ReadSteps = List Piece → Result (List StmtTree × List Piece) Kind
 
 -- an `if` whose test and first block are read: with an `else` where one stands there
-unfoldable pub choice_at : ReadSteps → Tree → List Step → List Piece → Result (Step × List Piece) Kind
+unfoldable pub choice_at : ReadSteps → ExprTree → List StmtTree → List Piece → Result (StmtTree × List Piece) Kind
 choice_at block t held (Key key.Else ∷ ts) = do
   b ← block ts
-  Ok (Chooses t (steps_of held) (steps_of b.0), b.1)
-choice_at block t held ts = Ok (Tests t (steps_of held), ts)
+  Ok (IfElse t (block_tree held) (block_tree b.0), b.1)
+choice_at block t held ts = Ok (If t (block_tree held), ts)
 
 -- one statement, where block reads the blocks in it
-unfoldable pub stmt_at : ℕ → ReadSteps → List Piece → Result (Step × List Piece) Kind
+unfoldable pub stmt_at : ℕ → ReadSteps → List Piece → Result (StmtTree × List Piece) Kind
 stmt_at limit block [] = Err EndsEarly
 stmt_at limit block (Key key.Let ∷ ts) = do
   n ← name_at ts
   a ← sign_at mark.Assign n.1
   v ← value_at limit a
   s ← sign_at mark.Semicolon v.1
-  Ok (Defines n.0 v.0, s)
+  Ok (Let n.0 v.0, s)
 stmt_at limit block (Name n ∷ ts) = do
   a ← sign_at mark.Assign ts
   v ← value_at limit a
   s ← sign_at mark.Semicolon v.1
-  Ok (Assigns n v.0, s)
+  Ok (Assign n v.0, s)
 stmt_at limit block (Key key.Await ∷ ts) = do
   w ← wait_at limit ts
   s ← sign_at mark.Semicolon w.1
-  Ok (Awaits w.0, s)
+  Ok (Await w.0, s)
 stmt_at limit block (Key key.If ∷ ts) = do
   e ← expr_in limit limit ts
   b ← block e.1
@@ -78,18 +78,18 @@ stmt_at limit block (Key key.If ∷ ts) = do
 stmt_at limit block (Key key.While ∷ ts) = do
   e ← expr_in limit limit ts
   b ← block e.1
-  Ok (Repeats e.0 (steps_of b.0), b.1)
+  Ok (While e.0 (block_tree b.0), b.1)
 stmt_at limit block (Key key.Return ∷ ts) = do
   e ← expr_in limit limit ts
   s ← sign_at mark.Semicolon e.1
-  Ok (Returns e.0, s)
+  Ok (Return e.0, s)
 stmt_at limit block (Key key.Throw ∷ ts) = do
   e ← expr_in limit limit ts
   s ← sign_at mark.Semicolon e.1
-  Ok (Throws e.0, s)
+  Ok (Throw e.0, s)
 stmt_at limit block (Key key.Yield ∷ ts) = do
   s ← sign_at mark.Semicolon ts
-  Ok (Yields, s)
+  Ok (Yield, s)
 stmt_at limit block (_ ∷ ts) = Err Unexpected
 
 -- the statements up to the brace that closes them

@@ -10,7 +10,8 @@ use Rattle.script_grammar.specs.declared.tree.Wait.{Wait}
 use Rattle.script_grammar.specs.declared.tree.Value.{Value}
 use Rattle.script_grammar.specs.declared.tree.Value.TheVariants as value
 use Rattle.script_grammar.specs.declared.tree.Stmt.{Stmt}
-use Rattle.script_grammar.specs.declared.tree.Stmt.TheOpen.{Stmt-F, Let, Assign, Await, If, IfElse, While, Return, Throw, Yield}
+use Rattle.script_grammar.specs.declared.tree.Stmt.TheOpen.{Stmt-F}
+use Rattle.script_grammar.specs.declared.tree.Stmt.TheOpen as stmt
 use Rattle.script_grammar.specs.declared.tree.Stmt.TheFolds.{fold-Stmt}
 use Rattle.script_grammar.specs.declared.declared.Field.{Field}
 use Rattle.script_grammar.specs.declared.declared.Invariant.{Invariant}
@@ -21,51 +22,51 @@ use Rattle.script_grammar.specs.declared.declared.Decl.{Decl}
 use Rattle.script_grammar.specs.declared.declared.Decl.TheVariants as decl
 
 -- An expression is a number, a name, a prefix of an expression, or an operator between two.
-pub data Tree : Type 0 where
-  Number : ℤ → Tree
-  Named : List ℕ → Tree
-  Negated : Tree → Tree
-  Inverted : Tree → Tree
-  Both : Operator → Tree → Tree → Tree
+pub data ExprTree : Type 0 where
+  Number : ℤ → ExprTree
+  Named : List ℕ → ExprTree
+  Negated : ExprTree → ExprTree
+  Inverted : ExprTree → ExprTree
+  Both : Operator → ExprTree → ExprTree → ExprTree
 
 -- A call names an actor and one of its methods, and has arguments.
 pub record CallTree : Type 0 where
   pub actor : List ℕ
   pub method : List ℕ
-  pub args : List Tree
+  pub args : List ExprTree
 
 -- A wait is an awaited call, and perhaps what it gives where the call ends with a fault.
 pub record WaitTree : Type 0 where
   pub call : CallTree
-  pub other : Option Tree
+  pub other : Option ExprTree
 
 -- A variable or a field is set to an expression's value, or to what an awaited call gives.
 pub data ValueTree : Type 0 where
-  Computed : Tree → ValueTree
+  Computed : ExprTree → ValueTree
   Awaited : WaitTree → ValueTree
 
 mutual
   -- A statement makes a variable, sets one or a field, waits, chooses, repeats, or ends the turn.
-  pub data Step : Type 0 where
-    Defines : List ℕ → ValueTree → Step
-    Assigns : List ℕ → ValueTree → Step
-    Awaits : WaitTree → Step
-    Tests : Tree → Steps → Step
-    Chooses : Tree → Steps → Steps → Step
-    Repeats : Tree → Steps → Step
-    Returns : Tree → Step
-    Throws : Tree → Step
-    Yields : Step
+  pub data StmtTree : Type 0 where
+    Let : List ℕ → ValueTree → StmtTree
+    Assign : List ℕ → ValueTree → StmtTree
+    Await : WaitTree → StmtTree
+    If : ExprTree → BlockTree → StmtTree
+    IfElse : ExprTree → BlockTree → BlockTree → StmtTree
+    While : ExprTree → BlockTree → StmtTree
+    Return : ExprTree → StmtTree
+    Throw : ExprTree → StmtTree
+    Yield : StmtTree
 
   -- The statements of a block stand in order.
-  pub data Steps : Type 0 where
-    nothing : Steps
-    first_then : Step → Steps → Steps
+  pub data BlockTree : Type 0 where
+    nothing : BlockTree
+    first_then : StmtTree → BlockTree → BlockTree
 
 -- The statements of a list, as those of a block.
-abbrev pub steps_of : List Step → Steps
-steps_of [] = nothing
-steps_of (s ∷ ss) = first_then s (steps_of ss)
+abbrev pub block_tree : List StmtTree → BlockTree
+block_tree [] = nothing
+block_tree (s ∷ ss) = first_then s (block_tree ss)
 
 -- A field has a name and a start value.
 pub record FieldTree : Type 0 where
@@ -76,13 +77,13 @@ pub record FieldTree : Type 0 where
 pub record MethodTree : Type 0 where
   pub name : List ℕ
   pub params : List (List ℕ)
-  pub body : List Step
+  pub body : List StmtTree
 
 -- An actor has a name, fields, perhaps an invariant, and methods.
 pub record ActorTree : Type 0 where
   pub name : List ℕ
   pub fields : List FieldTree
-  pub invariant : Option Tree
+  pub invariant : Option ExprTree
   pub methods : List MethodTree
 
 -- A root has a name, the actor and the method that it runs, arguments and a priority.
@@ -103,7 +104,7 @@ abbrev pub text_of : NameAt → List ℕ
 text_of n = n.text.items
 
 -- the tree of an expression of the code, whose boxes and places it leaves out
-abbrev pub view : Expr → Tree
+abbrev pub view : Expr → ExprTree
 view (Num n) = Number n
 view (Name n) = Named n.text.items
 view (Negate' p a) = Negated (view a)
@@ -111,7 +112,7 @@ view (Not' p a) = Inverted (view a)
 view (Binary' o p a q b) = Both o (view a) (view b)
 
 -- the tree of an expression of the code, where there is one
-abbrev pub view_if : Option Expr → Option Tree
+abbrev pub view_if : Option Expr → Option ExprTree
 view_if None = None
 view_if (Some e) = Some (view e)
 
@@ -129,27 +130,27 @@ view_value (value.Expr e) = Computed (view e)
 view_value (value.Await w) = Awaited (view_wait w)
 
 -- the tree of one statement of the code, in which the inner ones are trees already
-abbrev pub view_one : Stmt-F Step → Step
-view_one (Let n v) = Defines n.text.items (view_value v)
-view_one (Assign n v) = Assigns n.text.items (view_value v)
-view_one (Await w) = Awaits (view_wait w)
-view_one (If e a) = Tests (view e) (steps_of a.items)
-view_one (IfElse e a b) = Chooses (view e) (steps_of a.items) (steps_of b.items)
-view_one (While e a) = Repeats (view e) (steps_of a.items)
-view_one (Return e) = Returns (view e)
-view_one (Throw e) = Throws (view e)
-view_one Yield = Yields
+abbrev pub view_one : Stmt-F StmtTree → StmtTree
+view_one (stmt.Let n v) = Let n.text.items (view_value v)
+view_one (stmt.Assign n v) = Assign n.text.items (view_value v)
+view_one (stmt.Await w) = Await (view_wait w)
+view_one (stmt.If e a) = If (view e) (block_tree a.items)
+view_one (stmt.IfElse e a b) = IfElse (view e) (block_tree a.items) (block_tree b.items)
+view_one (stmt.While e a) = While (view e) (block_tree a.items)
+view_one (stmt.Return e) = Return (view e)
+view_one (stmt.Throw e) = Throw (view e)
+view_one stmt.Yield = Yield
 
 -- the tree of a statement of the code
-abbrev pub view_stmt : Stmt → Step
-view_stmt = fold-Stmt Step view_one
+abbrev pub view_stmt : Stmt → StmtTree
+view_stmt = fold-Stmt StmtTree view_one
 
 -- the tree of a field of the code
 abbrev pub view_field : Field → FieldTree
 view_field f = record { name = f.name.text.items; start = f.start }
 
 -- the test of an invariant of the code, where there is one
-abbrev pub view_invariant : Option Invariant → Option Tree
+abbrev pub view_invariant : Option Invariant → Option ExprTree
 view_invariant None = None
 view_invariant (Some i) = Some (view i.test)
 
@@ -171,7 +172,7 @@ view_decl (decl.Actor a) = Acts (view_actor a)
 view_decl (decl.Root r) = Roots (view_root r)
 
 -- A number or a name has height 1, and a prefix or an operator has one more than its highest operand.
-abbrev pub height_of : Tree → ℕ
+abbrev pub height_of : ExprTree → ℕ
 height_of (Number n) = 1
 height_of (Named n) = 1
 height_of (Negated a) = suc (height_of a)

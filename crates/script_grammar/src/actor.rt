@@ -12,7 +12,7 @@ use crate::declared::{Actor, Field, Invariant, Method};
 use crate::expression::expr;
 use crate::fault::{Kind, ReadError};
 use crate::number::int;
-use crate::part::{Tokens, closing, closing_brace, name, refused, sign};
+use crate::one_token::{Tokens, closing, closing_brace, name, refused, sign};
 use crate::statement::block;
 use crate::tree::Name;
 use std::alloc::Global;
@@ -114,10 +114,10 @@ fn invariant(
 {
     match tokens {
         [Token::Key(Keyword::Invariant), rest @ ..] => {
-            let left = tokens.len();
+            let tokens_left = tokens.len();
             let (test, rest) = expr(alloc, 32, rest)?;
             let rest = sign(Mark::Semicolon, rest)?;
-            Ok((Some(Invariant { left, test }), rest))
+            Ok((Some(Invariant { tokens_left, test }), rest))
         }
         _ => Ok((None, tokens)),
     }

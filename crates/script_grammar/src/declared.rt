@@ -16,7 +16,7 @@ pub struct Field {
 #[derive(Debug, Drop)]
 pub struct Invariant {
     /// How many tokens are left at its keyword, itself included.
-    pub left: usize,
+    pub tokens_left: usize,
     /// What is to be other than 0.
     pub test: Expr,
 }

@@ -9,7 +9,7 @@ ghost use Rattle.script_grammar.specs.Reading.{Gives, checked, closed_at, operat
 
 use crate::fault::{Kind, ReadError};
 use crate::measured::Measured;
-use crate::part::{Tokens, name_of, refused};
+use crate::one_token::{Tokens, name_of, refused};
 use crate::tree::Expr;
 use std::alloc::Global;
 use script_tokens::{Mark, Token};

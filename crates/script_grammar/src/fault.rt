@@ -27,7 +27,7 @@ pub struct Fault {
     pub kind: Kind,
     /// How many tokens are left at the one that is at fault, itself included: 0 where the text ends early. In a run of
     /// more than 31 prefixes the first one is at fault.
-    pub left: usize,
+    pub tokens_left: usize,
 }
 
 /// Why nothing was read.

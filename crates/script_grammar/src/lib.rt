@@ -16,7 +16,7 @@ mod measured;
 // Whole numbers.
 mod number;
 // The parts of a rule that are one token.
-mod part;
+mod one_token;
 // Roots with their arguments and priority.
 mod root;
 // Whole scripts.

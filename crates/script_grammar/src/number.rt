@@ -7,7 +7,7 @@ ghost use Rattle.script_grammar.specs.Reading.{Gives};
 ghost use Rattle.script_grammar.specs.Declarations.{number_at, opposite_at, int_at};
 
 use crate::fault::{Kind, ReadError};
-use crate::part::{Tokens, refused};
+use crate::one_token::{Tokens, refused};
 use script_tokens::{Mark, Token};
 
 #[tactic(auto, unfolding(crate::specs::Declarations::number_at))]

@@ -13,7 +13,7 @@ ghost use Rattle.script_grammar.specs.Declarations.{int_at, level_named_at, prio
 use crate::declared::Root;
 use crate::fault::{Kind, ReadError};
 use crate::number::int;
-use crate::part::{Tokens, closing, name, refused, sign};
+use crate::one_token::{Tokens, closing, name, refused, sign};
 use std::alloc::Global;
 use script_tokens::{Keyword, Mark, Token};
 use swift_types::Priority;
@@ -71,7 +71,7 @@ fn ints(alloc: Global, tokens: Tokens<'_>) -> Result<(Vec<i64>, Tokens<'_>), Rea
     }
 }
 
-fn named(keyword: Keyword) -> Option<Priority>
+fn priority_named(keyword: Keyword) -> Option<Priority>
     ensures { result ≡ priority_of keyword }
 {
     match keyword {
@@ -89,7 +89,7 @@ fn level_named(tokens: Tokens<'_>) -> Result<(Priority, Tokens<'_>), ReadError>
 {
     match tokens {
         [] => Err(refused(Kind::EndsEarly, tokens)),
-        [Token::Key(keyword), rest @ ..] => match named(*keyword) {
+        [Token::Key(keyword), rest @ ..] => match priority_named(*keyword) {
             Some(priority) => Ok((priority, rest)),
             None => Err(refused(Kind::Unexpected, tokens)),
         },

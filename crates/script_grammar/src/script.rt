@@ -13,7 +13,7 @@ ghost use Rattle.script_grammar.specs.Answers.{IsReadAs, SpellsNothing};
 use crate::actor::actor;
 use crate::declared::Decl;
 use crate::fault::{Kind, ReadError};
-use crate::part::{Tokens, refused};
+use crate::one_token::{Tokens, refused};
 use crate::root::root;
 use std::alloc::Global;
 use script_tokens::{Keyword, Token};

@@ -9,7 +9,7 @@ ghost use Rattle.script_grammar.specs.Statements.{call_at, else_at, wait_at, val
 
 use crate::expression::expr;
 use crate::fault::{Kind, ReadError};
-use crate::part::{Tokens, closing, closing_brace, name, name_of, refused, sign};
+use crate::one_token::{Tokens, closing, closing_brace, name, name_of, refused, sign};
 use crate::tree::{Call, Expr, Stmt, Value, Wait};
 use std::alloc::Global;
 use script_tokens::{Keyword, Mark, Token};
@@ -194,7 +194,7 @@ fn stmt(alloc: Global, blocks: u32, tokens: Tokens<'_>) -> Result<(Stmt, Tokens<
 
 // The statements up to the closing brace, which is taken too.
 #[cycle(statement)]
-fn many(
+fn statements(
     alloc: Global,
     blocks: u32,
     tokens: Tokens<'_>,
@@ -231,7 +231,7 @@ pub(crate) fn block(
             if blocks == 0 {
                 return Err(refused(Kind::TooDeep, tokens));
             }
-            many(alloc, blocks - 1, rest)
+            statements(alloc, blocks - 1, rest)
         }
         _ => Err(refused(Kind::Unexpected, tokens)),
     }

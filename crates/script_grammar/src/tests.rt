@@ -50,7 +50,7 @@ fn answer(alloc: Global, text: &[u8]) -> Result<String, Fail> {
             }
         }
         Err(ReadError::Memory) => Ok(String::from_str(alloc, "no memory")?),
-        Err(ReadError::Fault(Fault { kind, left })) => {
+        Err(ReadError::Fault(Fault { kind, tokens_left })) => {
             let line = line(&found, left);
             Ok(format!(in alloc; "line {line}: {kind:?}")?)
         }

@@ -8,7 +8,7 @@ pub struct Name {
     /// Its bytes.
     pub text: Vec<u8>,
     /// How many tokens are left there, itself included.
-    pub left: usize,
+    pub tokens_left: usize,
 }
 
 /// An expression, of height 32 at most: an atom has height 1, and an operator one more than its highest operand.

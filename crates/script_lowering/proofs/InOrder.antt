@@ -1,19 +1,19 @@
 -- What is in order in a script whose names are.
 use Rattle.std.proofs.Common.{◌≡◌, ℕ, zero, suc, ◌<◌, Option, Some, None, List, [], ◌∷◌, ◌++◌, length, map, refl, sym, ap, ◌∙◌, get_or, arith}
 use Rattle.std.specs.Prelude.{slice_get, nat_lt}
-use Rattle.script_grammar.specs.Tree.{MethodTree, ActorTree, DeclTree, Acts, Roots, steps_of}
-use Rattle.script_names.specs.declared.misuse.Misuse.{Misuse}
-use Rattle.script_names.specs.declared.misuse.Misuse.TheVariants.{Twice, TooMany}
+use Rattle.script_grammar.specs.Tree.{MethodTree, ActorTree, DeclTree, Acts, Roots, block_tree}
+use Rattle.script_names.specs.declared.error.NameErrorKind.{NameErrorKind}
+use Rattle.script_names.specs.declared.error.NameErrorKind.TheVariants.{Twice, TooMany}
 use Rattle.script_names.specs.Texts.{is_among}
 use Rattle.script_names.specs.Directory.{Directory, directory_of}
 use Rattle.script_names.specs.Rules.{earlier, where_so, optional_fault, fields_fault, field_names, parameters_fault, statements_fault, method_fault, methods_fault, actor_fault, root_fault, declarations_fault, names_fault}
 
 -- no fault at the front, and none behind it
-pub none_front : (a b : Option Misuse) → earlier a b ≡ None → a ≡ None
+pub none_front : (a b : Option NameErrorKind) → earlier a b ≡ None → a ≡ None
 none_front None b e = refl
 none_front (Some m) b e = e
 
-pub none_behind : (a b : Option Misuse) → earlier a b ≡ None → b ≡ None
+pub none_behind : (a b : Option NameErrorKind) → earlier a b ≡ None → b ≡ None
 none_behind None b e = e
 none_behind (Some m) b e = absurd (cc)
 
@@ -55,7 +55,7 @@ script_actor d decls i a e same is =
 -- the names of its statements are in order
 pub method_in_order : (d : Directory) (fields seen : List (List ℕ)) (ms : List MethodTree) (i : ℕ) (m : MethodTree)
     → methods_fault d fields seen ms ≡ None → slice_get ms i ≡ Some m
-    → (parameters_fault fields [] m.params ≡ None) × (statements_fault d fields m.params (steps_of m.body) ≡ None)
+    → (parameters_fault fields [] m.params ≡ None) × (statements_fault d fields m.params (block_tree m.body) ≡ None)
 method_in_order d fields seen [] i m e is = absurd (cc)
 method_in_order d fields seen (n ∷ ms) zero m e is =
     let same : n ≡ m = cc in

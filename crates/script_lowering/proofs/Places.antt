@@ -2,8 +2,8 @@
 use Rattle.std.proofs.Common.{◌≡◌, ℕ, suc, ◌+◌, Bool, true, false, cond, Option, None, List, [], ◌∷◌, ◌++◌, length, refl, arith}
 use Rattle.std.specs.Prelude.{◌||◌, not}
 use Rattle.std.specs.Str.{bytes_eq}
-use Rattle.script_names.specs.declared.misuse.Misuse.{Misuse}
-use Rattle.script_names.specs.declared.misuse.Misuse.TheVariants.{Twice}
+use Rattle.script_names.specs.declared.error.NameErrorKind.{NameErrorKind}
+use Rattle.script_names.specs.declared.error.NameErrorKind.TheVariants.{Twice}
 use Rattle.script_names.specs.Rules.{earlier, where_so, parameters_fault}
 use Rattle.script_names.specs.Texts.{is_among, place_of}
 
@@ -16,7 +16,7 @@ pub behind_last : (names : List (List ℕ)) (name : List ℕ) → is_among names
 behind_last [] name e = refl
 behind_last (n ∷ names) name e = one_behind (bytes_eq name n) (is_among names name) (length names) (place_of names name) e (behind_last names name)
 
-distinct_more : (b c : Bool) (x y : Option Misuse) → earlier (where_so (b || c) Twice) x ≡ None → (x ≡ None → y ≡ None) → earlier (where_so c Twice) y ≡ None
+distinct_more : (b c : Bool) (x y : Option NameErrorKind) → earlier (where_so (b || c) Twice) x ≡ None → (x ≡ None → y ≡ None) → earlier (where_so c Twice) y ≡ None
 distinct_more true c x y e more = absurd (cc)
 distinct_more false true x y e more = absurd (cc)
 distinct_more false false x y e more = more e

@@ -1,6 +1,6 @@
 -- Expressions, one by one.
 use Rattle.std.proofs.Common.{◌≡◌, ℕ, suc, ◌+◌, ◌<◌, List, [], ◌∷◌, ◌++◌, length, map, refl, sym, ap, ◌∙◌, get_or, drop, add-one, drop-cons}
-use Rattle.script_grammar.specs.Tree.{Tree, view}
+use Rattle.script_grammar.specs.Tree.{ExprTree, view}
 use Rattle.script_grammar.specs.declared.tree.Expr.{Expr}
 use Rattle.script_code.specs.Tree.{Term, term_of, terms_of}
 use Rattle.script_code.specs.declared.formula.Formula.{Formula}
@@ -10,7 +10,7 @@ one_more : (fs : List Formula) (f : Formula) (ts : List Term) → terms_of (fs +
 one_more [] f ts = refl
 one_more (x ∷ fs) f ts = ap (λ us. term_of x ∷ us) (one_more fs f ts)
 
-pub formula_more : (g : Tree → Term) (fs fs' : List Formula) (f : Formula) (es : List Expr) (i : ℕ) (e : Expr) → i < length es → e ≡ get_or es i e
+pub formula_more : (g : ExprTree → Term) (fs fs' : List Formula) (f : Formula) (es : List Expr) (i : ℕ) (e : Expr) → i < length es → e ≡ get_or es i e
     → term_of f ≡ g (view e) → fs' ≡ fs ++ f ∷ []
     → terms_of fs' ++ map g (map view (drop (i + 1) es)) ≡ terms_of fs ++ map g (map view (drop i es))
 formula_more g fs fs' f es i e h is made pushed =

@@ -9,11 +9,11 @@ ghost use Rattle.script_lowering.specs.Lowered.{lowered, call_to, value_to};
 ghost use Rattle.script_lowering.specs.Calls.{IsCallOf};
 
 use crate::expression::{formula, formula_if, formulas};
-use crate::line::set;
-use crate::number::{numbered, sum};
+use crate::instruction::set;
+use crate::number::{to_u32, sum};
 use std::alloc::{AllocError, Global};
 use script_grammar::{Call, Value, Wait};
-use script_code::{Act, Line, Place, push_line};
+use script_code::{Act, Instruction, Place, push_instruction};
 use script_names::{Declared, Names};
 use swift_types::{ActorId, MethodId};
 
@@ -42,8 +42,8 @@ fn call_of(
         unreachable!()
     };
     Ok(script_code::Call {
-        actor: ActorId(numbered(actor_place)?),
-        method: MethodId(numbered(method_place)?),
+        actor: ActorId(to_u32(actor_place)?),
+        method: MethodId(to_u32(method_place)?),
         args: formulas(alloc, scope.fields, variables, &call.args)?,
     })
 }
@@ -53,19 +53,19 @@ pub(crate) fn call(
     alloc: Global,
     scope: Scope<'_>,
     variables: &Names,
-    lines: &mut Vec<Line>,
+    instructions: &mut Vec<Instruction>,
     place: Option<Place>,
     wait: &Wait,
     next: u32,
 ) -> Result<(), AllocError>
     requires { wait_fault scope.declared.now scope.fields.now variables.now (view_wait wait.now) ≡ None }
-    ensures { OnOk result (map meaning_of lines.new.items ≡ map meaning_of lines.old.items ++ flat (call_to scope.entry.declared.now scope.entry.fields.now variables.now place (view_wait wait.now) end) (length lines.old.items) next) }
+    ensures { OnOk result (map meaning_of instructions.new.items ≡ map meaning_of instructions.old.items ++ flat (call_to scope.entry.declared.now scope.entry.fields.now variables.now place (view_wait wait.now) end) (length instructions.old.items) next) }
 {
     let call = call_of(alloc, scope, variables, &wait.call)?;
     let other = formula_if(alloc, scope.fields, variables, &wait.other)?;
-    let answer = sum(numbered(lines.len())?, 1)?;
-    push_line(lines, Act::Call(call), answer, answer)?;
-    push_line(lines, Act::Receive(place, other), next, next)
+    let answer = sum(to_u32(instructions.len())?, 1)?;
+    push_instruction(instructions, Act::Call(call), answer, answer)?;
+    push_instruction(instructions, Act::Receive(place, other), next, next)
 }
 
 /// A place is set to a value.
@@ -73,19 +73,19 @@ pub(crate) fn assignment(
     alloc: Global,
     scope: Scope<'_>,
     variables: &Names,
-    lines: &mut Vec<Line>,
+    instructions: &mut Vec<Instruction>,
     place: Place,
     value: &Value,
     next: u32,
 ) -> Result<(), AllocError>
     requires { value_fault scope.declared.now scope.fields.now variables.now (view_value value.now) ≡ None }
-    ensures { OnOk result (map meaning_of lines.new.items ≡ map meaning_of lines.old.items ++ flat (value_to scope.entry.declared.now scope.entry.fields.now variables.now place (view_value value.now) end) (length lines.old.items) next) }
+    ensures { OnOk result (map meaning_of instructions.new.items ≡ map meaning_of instructions.old.items ++ flat (value_to scope.entry.declared.now scope.entry.fields.now variables.now place (view_value value.now) end) (length instructions.old.items) next) }
 {
     match value {
         Value::Expr(expr) => {
             let formula = formula(alloc, scope.fields, variables, expr)?;
-            set(lines, place, formula, next)
+            set(instructions, place, formula, next)
         }
-        Value::Await(wait) => call(alloc, scope, variables, lines, Some(place), wait, next),
+        Value::Await(wait) => call(alloc, scope, variables, instructions, Some(place), wait, next),
     }
 }

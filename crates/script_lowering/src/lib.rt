@@ -1,4 +1,4 @@
-//! From the trees of a script to what its turns run: numbered lines whose names are places.
+//! From the trees of a script to what its turns run: to_u32 instructions whose names are places.
 #![tactic(auto)]
 
 // Awaited calls, and what is set to a value.
@@ -8,14 +8,14 @@ mod block;
 // Expressions.
 mod expression;
 // Lines, one by one.
-mod line;
+mod instruction;
 // Whole methods.
 mod method;
 // Counts of 32 bits.
 mod number;
 // What a name stands for.
 mod place;
-// How many lines statements take.
+// How many instructions statements take.
 mod size;
 // How many variables stand at most.
 mod slots;

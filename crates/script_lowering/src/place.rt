@@ -4,7 +4,7 @@ ghost use Rattle.std.specs.Prelude.{◌≡◌, IfOk};
 ghost use Rattle.script_names.specs.Texts.{place_of};
 ghost use Rattle.script_lowering.specs.Lowered.{place_named};
 
-use crate::number::numbered;
+use crate::number::to_u32;
 use std::alloc::AllocError;
 use script_code::Place;
 use script_names::Names;
@@ -15,8 +15,8 @@ pub(crate) fn place(fields: &Names, variables: &Names, name: &[u8]) -> Result<Pl
     ensures { IfOk result (λ p. p ≡ place_named fields.now variables.now name.now) }
 {
     match fields.place(name) {
-        Some(k) => Ok(Place::Field(numbered(k)?)),
-        None => Ok(Place::Variable(numbered(variable(variables, name))?)),
+        Some(k) => Ok(Place::Field(to_u32(k)?)),
+        None => Ok(Place::Variable(to_u32(variable(variables, name))?)),
     }
 }
 

@@ -1,17 +1,17 @@
-//! How many lines statements take.
+//! How many instructions statements take.
 
 ghost use Rattle.std.specs.Prelude.{◌≡◌, map, IfOk};
-ghost use Rattle.script_grammar.specs.Tree.{view_stmt, steps_of};
+ghost use Rattle.script_grammar.specs.Tree.{view_stmt, block_tree};
 ghost use Rattle.script_lowering.specs.Sizes.{lines_in, lines_of};
 
 use crate::number::sum;
 use std::alloc::AllocError;
 use script_grammar::{Stmt, Value};
 
-/// How many lines the statements of a block take, in time linear in these and in all within them.
+/// How many instructions the statements of a block take, in time linear in these and in all within them.
 #[cycle(size)]
 pub(crate) fn size(block: &[Stmt]) -> Result<u32, AllocError>
-    ensures { IfOk result (λ n. n ≡ lines_of (steps_of (map view_stmt block.now))) }
+    ensures { IfOk result (λ n. n ≡ lines_of (block_tree (map view_stmt block.now))) }
 {
     let mut count = 0;
     for stmt in block {
@@ -20,7 +20,7 @@ pub(crate) fn size(block: &[Stmt]) -> Result<u32, AllocError>
     Ok(count)
 }
 
-/// How many lines a statement takes.
+/// How many instructions a statement takes.
 #[cycle(size)]
 pub(crate) fn size_of(stmt: &Stmt) -> Result<u32, AllocError>
     ensures { IfOk result (λ n. n ≡ lines_in (view_stmt stmt.now)) }

@@ -1,7 +1,7 @@
 //! How many variables stand at most.
 
 ghost use Rattle.std.specs.Prelude.{◌≡◌, map, IfOk};
-ghost use Rattle.script_grammar.specs.Tree.{view_stmt, steps_of};
+ghost use Rattle.script_grammar.specs.Tree.{view_stmt, block_tree};
 ghost use Rattle.script_lowering.specs.Lowered.{most_in, most_of};
 
 use crate::number::sum;
@@ -12,7 +12,7 @@ use script_grammar::Stmt;
 /// these and in all within them.
 #[cycle(slots)]
 pub(crate) fn slots(standing: u32, block: &[Stmt]) -> Result<u32, AllocError>
-    ensures { IfOk result (λ n. n ≡ most_of standing (steps_of (map view_stmt block.now))) }
+    ensures { IfOk result (λ n. n ≡ most_of standing (block_tree (map view_stmt block.now))) }
 {
     let mut count = standing;
     let mut most = 0;

@@ -2,7 +2,7 @@
 use Rattle.std.specs.Prelude.{ℕ, ◌+◌, Bool, ◌&&◌, List, [], ◌∷◌, ◌++◌, length, map, slice_get, unwrap_or, if◌then◌else◌}
 use Rattle.script_grammar.specs.Tree.{MethodTree, ActorTree, DeclTree, Acts, Roots}
 use Rattle.script_names.specs.Texts.{is_among, place_of}
-use Rattle.script_names.specs.Methods.{numbered}
+use Rattle.script_names.specs.Methods.{method_key}
 
 -- the actors, the keys of their methods, and how many parameters each method has
 pub record Directory : Type 0 where
@@ -12,7 +12,7 @@ pub record Directory : Type 0 where
 
 -- the key of an actor's method
 abbrev pub key_of : Directory → List ℕ → List ℕ → List ℕ
-key_of d actor method = numbered (place_of d.actors actor) method
+key_of d actor method = method_key (place_of d.actors actor) method
 
 -- whether an actor is declared, and has a method of that name
 abbrev pub has_method : Directory → List ℕ → List ℕ → Bool
@@ -29,8 +29,8 @@ arity_of d actor method = unwrap_or (slice_get d.params (method_place d actor me
 -- a method of the actor at a place
 abbrev pub with_method : ℕ → MethodTree → Directory → Directory
 with_method actor m d =
-    if is_among d.methods (numbered actor m.name) then d
-    else record d { methods = d.methods ++ numbered actor m.name ∷ []; params = d.params ++ length m.params ∷ [] }
+    if is_among d.methods (method_key actor m.name) then d
+    else record d { methods = d.methods ++ method_key actor m.name ∷ []; params = d.params ++ length m.params ∷ [] }
 
 abbrev pub with_methods : ℕ → List MethodTree → Directory → Directory
 with_methods actor [] d = d
@@ -63,7 +63,7 @@ actors_in (Roots r ∷ xs) = actors_in xs
 -- the keys of the methods, where the first actor has this place
 abbrev pub methods_from : ℕ → List DeclTree → List (List ℕ)
 methods_from actor [] = []
-methods_from actor (Acts a ∷ xs) = map (λ m. numbered actor m.name) a.methods ++ methods_from (actor + 1) xs
+methods_from actor (Acts a ∷ xs) = map (λ m. method_key actor m.name) a.methods ++ methods_from (actor + 1) xs
 methods_from actor (Roots r ∷ xs) = methods_from actor xs
 
 -- the methods in the order of the text, by their keys, each as often as it stands there

@@ -3,39 +3,39 @@
 ghost use Rattle.std.specs.Prelude.{◌≡◌, [], ◌∷◌, ◌++◌, map, IfOk, OnOk};
 ghost use Rattle.script_grammar.specs.Tree.{text_of, view_field, view_invariant, view_method, view_actor, view_root, view_decl};
 ghost use Rattle.script_names.specs.Directory.{directory_of};
-ghost use Rattle.script_names.specs.declared.misuse.Misuse.TheVariants.{Twice};
+ghost use Rattle.script_names.specs.declared.error.NameErrorKind.TheVariants.{Twice};
 ghost use Rattle.script_names.specs.Texts.{is_among};
 ghost use Rattle.script_names.specs.Rules.{where_so, optional_fault, parameters_fault, method_fault, methods_fault, fields_fault, field_names, actor_fault, root_fault, declarations_fault, names_fault};
 ghost use Rattle.script_names.specs.Finds.{Finds};
 
 use crate::directory::Declared;
 use crate::expressions::{expression, stands};
-use crate::misuse::{Misuse, NamesError, fault_at};
+use crate::error::{NameErrorKind, CheckError, fault_at};
 use crate::statements::statements;
 use crate::texts::Names;
 use std::alloc::Global;
 use script_grammar::{Actor, Decl, Field, Invariant, Method, Name, Root};
 
 // The name is none of those.
-fn unless_seen(seen: &Names, name: &Name) -> Result<(), NamesError>
+fn unless_seen(seen: &Names, name: &Name) -> Result<(), CheckError>
     ensures { Finds result (where_so (is_among seen.now (text_of name.now)) Twice) }
 {
     if seen.contains(&name.text) {
-        Err(fault_at(Misuse::Twice, name))
+        Err(fault_at(NameErrorKind::Twice, name))
     } else {
         Ok(())
     }
 }
 
 // The parameters are distinct, and distinct from the fields.
-fn parameters(alloc: Global, fields: &Names, params: &[Name]) -> Result<Names, NamesError>
+fn parameters(alloc: Global, fields: &Names, params: &[Name]) -> Result<Names, CheckError>
     ensures finds { Finds result (parameters_fault fields.now [] (map text_of params.now)) }
     ensures names { IfOk result (λ n. n ≡ map text_of params.now) }
 {
     let mut variables = Names::new(alloc);
     for param in params {
         if stands(fields, &variables, param) {
-            return Err(fault_at(Misuse::Twice, param));
+            return Err(fault_at(NameErrorKind::Twice, param));
         }
         variables.add(alloc, &param.text)?;
     }
@@ -48,7 +48,7 @@ fn method(
     fields: &Names,
     seen: &Names,
     method: &Method,
-) -> Result<(), NamesError>
+) -> Result<(), CheckError>
     ensures { Finds result (method_fault declared.now fields.now seen.now (view_method method.now)) }
 {
     unless_seen(seen, &method.name)?;
@@ -61,7 +61,7 @@ fn methods(
     declared: &Declared,
     fields: &Names,
     methods: &[Method],
-) -> Result<(), NamesError>
+) -> Result<(), CheckError>
     ensures { Finds result (methods_fault declared.now fields.now [] (map view_method methods.now)) }
 {
     let mut seen = Names::new(alloc);
@@ -73,7 +73,7 @@ fn methods(
 }
 
 // The fields are distinct.
-fn fields(alloc: Global, fields: &[Field]) -> Result<Names, NamesError>
+fn fields(alloc: Global, fields: &[Field]) -> Result<Names, CheckError>
     ensures finds { Finds result (fields_fault [] (map view_field fields.now)) }
     ensures names { IfOk result (λ n. n ≡ field_names (map view_field fields.now)) }
 {
@@ -86,7 +86,7 @@ fn fields(alloc: Global, fields: &[Field]) -> Result<Names, NamesError>
 }
 
 // An invariant names fields alone.
-fn invariant(alloc: Global, fields: &Names, invariant: &Option<Invariant>) -> Result<(), NamesError>
+fn invariant(alloc: Global, fields: &Names, invariant: &Option<Invariant>) -> Result<(), CheckError>
     ensures { Finds result (optional_fault fields.now [] (view_invariant invariant.now)) }
 {
     match invariant {
@@ -101,13 +101,13 @@ fn actor(
     declared: &Declared,
     seen: &mut Names,
     actor: &Actor,
-) -> Result<(), NamesError>
+) -> Result<(), CheckError>
     ensures finds { Finds result (actor_fault declared.now seen.old (view_actor actor.now)) }
     ensures seen { OnOk result (seen.new ≡ seen.old ++ text_of actor.now.name ∷ []) }
 {
     unless_seen(seen, &actor.name)?;
     if seen.len() > 63 {
-        return Err(fault_at(Misuse::TooMany, &actor.name));
+        return Err(fault_at(NameErrorKind::TooMany, &actor.name));
     }
     let fields = fields(alloc, &actor.fields)?;
     invariant(alloc, &fields, &actor.invariant)?;
@@ -117,20 +117,20 @@ fn actor(
 }
 
 // The names of a root are in order, and its own is seen from then on.
-fn root(alloc: Global, declared: &Declared, seen: &mut Names, root: &Root) -> Result<(), NamesError>
+fn root(alloc: Global, declared: &Declared, seen: &mut Names, root: &Root) -> Result<(), CheckError>
     ensures finds { Finds result (root_fault declared.now seen.old (view_root root.now)) }
     ensures seen { OnOk result (seen.new ≡ seen.old ++ text_of root.now.name ∷ []) }
 {
     unless_seen(seen, &root.name)?;
     if seen.len() > 1023 {
-        return Err(fault_at(Misuse::TooMany, &root.name));
+        return Err(fault_at(NameErrorKind::TooMany, &root.name));
     }
     declared.check_call(alloc, &root.actor, &root.method, root.args.len())?;
     seen.add(alloc, &root.name.text)?;
     Ok(())
 }
 
-fn declarations(alloc: Global, declared: &Declared, decls: &[Decl]) -> Result<(), NamesError>
+fn declarations(alloc: Global, declared: &Declared, decls: &[Decl]) -> Result<(), CheckError>
     ensures { Finds result (declarations_fault declared.now [] [] (map view_decl decls.now)) }
 {
     let mut actors = Names::new(alloc);
@@ -150,7 +150,7 @@ fn declarations(alloc: Global, declared: &Declared, decls: &[Decl]) -> Result<()
 /// A fault is the first one in the order of the text. It stands at the name that is concerned: the second of two of
 /// one name, a name that nothing stands under, the actor or the method of a call, and for a wrong number of arguments
 /// the method. The rules are our own.
-pub fn check(alloc: Global, decls: &[Decl]) -> Result<Declared, NamesError>
+pub fn check(alloc: Global, decls: &[Decl]) -> Result<Declared, CheckError>
     // It is the first fault, and there is none where it answers Ok, unless memory runs out.
     ensures finds { Finds result (names_fault (map view_decl decls.now)) }
     // What is handed out is what the script declares.

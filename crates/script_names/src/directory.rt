@@ -8,7 +8,7 @@ ghost use Rattle.script_names.specs.Rules.{call_fault};
 ghost use Rattle.script_names.specs.Finds.{Finds, StandsAt};
 
 use crate::methods::Methods;
-use crate::misuse::{Misuse, NamesError, fault_at};
+use crate::error::{NameErrorKind, CheckError, fault_at};
 use crate::texts::Names;
 use std::alloc::{AllocError, Global};
 use std::marker::Model;
@@ -93,20 +93,20 @@ impl Declared {
         actor: &Name,
         method: &Name,
         count: usize,
-    ) -> Result<(), NamesError>
+    ) -> Result<(), CheckError>
         ensures finds { Finds result (call_fault self.now (text_of actor.now) (text_of method.now) count) }
-        ensures place { IfErr result (λ e. StandsAt e (if is_among self.now.actors (text_of actor.now) then method.now.left else actor.now.left)) }
+        ensures place { IfErr result (λ e. StandsAt e (if is_among self.now.actors (text_of actor.now) then method.now.tokens_left else actor.now.tokens_left)) }
     {
         let Some(actor_place) = self.actor(&actor.text) else {
-            return Err(fault_at(Misuse::Unknown, actor));
+            return Err(fault_at(NameErrorKind::Unknown, actor));
         };
         let Some(place) = self.methods.place(alloc, actor_place, &method.text)? else {
-            return Err(fault_at(Misuse::Unknown, method));
+            return Err(fault_at(NameErrorKind::Unknown, method));
         };
         if self.parameters(place).unwrap_or(0) == count {
             Ok(())
         } else {
-            Err(fault_at(Misuse::Arguments, method))
+            Err(fault_at(NameErrorKind::Arguments, method))
         }
     }
 

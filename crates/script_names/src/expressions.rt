@@ -6,7 +6,7 @@ ghost use Rattle.script_names.specs.Rules.{is_standing, name_fault, expression_f
 ghost use Rattle.script_names.specs.Finds.{Finds};
 
 use crate::directory::Declared;
-use crate::misuse::{Misuse, NamesError, fault_at};
+use crate::error::{NameErrorKind, CheckError, fault_at};
 use crate::texts::Names;
 use std::alloc::Global;
 use script_grammar::{Expr, Name, Value, Wait};
@@ -19,18 +19,18 @@ pub(crate) fn stands(fields: &Names, variables: &Names, name: &Name) -> bool
 }
 
 /// The name stands there.
-pub(crate) fn name(fields: &Names, variables: &Names, name: &Name) -> Result<(), NamesError>
+pub(crate) fn name(fields: &Names, variables: &Names, name: &Name) -> Result<(), CheckError>
     ensures { Finds result (name_fault fields.now variables.now (text_of name.now)) }
 {
     if stands(fields, variables, name) {
         Ok(())
     } else {
-        Err(fault_at(Misuse::Unknown, name))
+        Err(fault_at(NameErrorKind::Unknown, name))
     }
 }
 
 /// Each name of an expression stands there.
-pub(crate) fn expression(fields: &Names, variables: &Names, expr: &Expr) -> Result<(), NamesError>
+pub(crate) fn expression(fields: &Names, variables: &Names, expr: &Expr) -> Result<(), CheckError>
     ensures { Finds result (expression_fault fields.now variables.now (view expr.now)) }
 {
     match expr {
@@ -45,7 +45,7 @@ pub(crate) fn expression(fields: &Names, variables: &Names, expr: &Expr) -> Resu
     }
 }
 
-fn expressions(fields: &Names, variables: &Names, exprs: &[Expr]) -> Result<(), NamesError>
+fn expressions(fields: &Names, variables: &Names, exprs: &[Expr]) -> Result<(), CheckError>
     ensures { Finds result (expressions_fault fields.now variables.now (map view exprs.now)) }
 {
     for expr in exprs {
@@ -54,7 +54,7 @@ fn expressions(fields: &Names, variables: &Names, exprs: &[Expr]) -> Result<(), 
     Ok(())
 }
 
-fn optional(fields: &Names, variables: &Names, expr: &Option<Expr>) -> Result<(), NamesError>
+fn optional(fields: &Names, variables: &Names, expr: &Option<Expr>) -> Result<(), CheckError>
     ensures { Finds result (optional_fault fields.now variables.now (view_if expr.now)) }
 {
     match expr {
@@ -70,7 +70,7 @@ pub(crate) fn wait(
     fields: &Names,
     variables: &Names,
     wait: &Wait,
-) -> Result<(), NamesError>
+) -> Result<(), CheckError>
     ensures { Finds result (wait_fault declared.now fields.now variables.now (view_wait wait.now)) }
 {
     let call = &wait.call;
@@ -86,7 +86,7 @@ pub(crate) fn value(
     fields: &Names,
     variables: &Names,
     value: &Value,
-) -> Result<(), NamesError>
+) -> Result<(), CheckError>
     ensures { Finds result (value_fault declared.now fields.now variables.now (view_value value.now)) }
 {
     match value {

@@ -12,7 +12,7 @@ mod laws;
 // The methods of all actors.
 mod methods;
 // What is wrong with a name.
-mod misuse;
+mod error;
 // Statements.
 mod statements;
 // Lists of names.
@@ -21,7 +21,7 @@ mod texts;
 pub use declarations::check;
 pub use directory::Declared;
 pub use laws::nothing_left_out;
-pub use misuse::{Misnamed, Misuse, NamesError};
+pub use error::{NameError, NameErrorKind, CheckError};
 pub use texts::Names;
 
 #[cfg(test)]

@@ -2,7 +2,7 @@
 
 ghost use Rattle.std.specs.Prelude.{◌≡◌, ◌<◌, [], not, is_some, length, IfOk, IfSome, OnOk};
 ghost use Rattle.script_names.specs.Texts.{is_among, place_of, with_name};
-ghost use Rattle.script_names.specs.Methods.{numbered, key_is};
+ghost use Rattle.script_names.specs.Methods.{method_key, key_is};
 
 use indexmap::IndexSet;
 use std::alloc::{AllocError, Global};
@@ -17,7 +17,7 @@ pub(crate) struct MethodKey {
 
 impl MethodKey {
     fn new(alloc: Global, actor: usize, name: &[u8]) -> Result<MethodKey, AllocError>
-        ensures { IfOk result (λ k. key_is k ≡ numbered actor name.now) }
+        ensures { IfOk result (λ k. key_is k ≡ method_key actor name.now) }
     {
         let name = Vec::from_slice(alloc, name)?;
         Ok(MethodKey { actor, name })
@@ -55,8 +55,8 @@ impl Methods {
         actor: usize,
         name: &[u8],
     ) -> Result<Option<usize>, AllocError>
-        ensures found { IfOk result (λ o. is_some o ≡ is_among self.now (numbered actor name.now)) }
-        ensures place { IfOk result (λ o. IfSome o (λ n. n ≡ place_of self.now (numbered actor name.now))) }
+        ensures found { IfOk result (λ o. is_some o ≡ is_among self.now (method_key actor name.now)) }
+        ensures place { IfOk result (λ o. IfSome o (λ n. n ≡ place_of self.now (method_key actor name.now))) }
         ensures within { IfOk result (λ o. IfSome o (λ n. n < length self.now)) }
     {
         let key = MethodKey::new(alloc, actor, name)?;
@@ -70,8 +70,8 @@ impl Methods {
         actor: usize,
         name: &[u8],
     ) -> Result<bool, AllocError>
-        ensures new { IfOk result (λ b. b ≡ not (is_among self.old (numbered actor name.now))) }
-        ensures added { OnOk result (self.new ≡ with_name self.old (numbered actor name.now)) }
+        ensures new { IfOk result (λ b. b ≡ not (is_among self.old (method_key actor name.now))) }
+        ensures added { OnOk result (self.new ≡ with_name self.old (method_key actor name.now)) }
     {
         let key = MethodKey::new(alloc, actor, name)?;
         let (_, is_new) = self.set.insert_full(key)?;

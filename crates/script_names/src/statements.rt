@@ -1,13 +1,13 @@
 //! Names and calls inside statements, and the variables that stand at each.
 
 ghost use Rattle.std.specs.Prelude.{◌≡◌, map, OnOk};
-ghost use Rattle.script_grammar.specs.Tree.{view_stmt, steps_of};
+ghost use Rattle.script_grammar.specs.Tree.{view_stmt, block_tree};
 ghost use Rattle.script_names.specs.Rules.{statement_fault, statements_fault, variables_behind};
 ghost use Rattle.script_names.specs.Finds.{Finds};
 
 use crate::directory::Declared;
 use crate::expressions::{expression, name, stands, value, wait};
-use crate::misuse::{Misuse, NamesError, fault_at};
+use crate::error::{NameErrorKind, CheckError, fault_at};
 use crate::texts::Names;
 use std::alloc::Global;
 use script_grammar::Stmt;
@@ -20,14 +20,14 @@ fn statement(
     fields: &Names,
     variables: &mut Names,
     stmt: &Stmt,
-) -> Result<(), NamesError>
+) -> Result<(), CheckError>
     ensures finds { Finds result (statement_fault declared.now fields.now variables.old (view_stmt stmt.now)) }
     ensures behind { OnOk result (variables.new ≡ variables_behind variables.old (view_stmt stmt.now)) }
 {
     match stmt {
         Stmt::Let(defined, set_to) => {
             if stands(fields, variables, defined) {
-                return Err(fault_at(Misuse::Twice, defined));
+                return Err(fault_at(NameErrorKind::Twice, defined));
             }
             value(alloc, declared, fields, variables, set_to)?;
             variables.add(alloc, &defined.text)?;
@@ -64,8 +64,8 @@ pub(crate) fn statements(
     fields: &Names,
     variables: &mut Names,
     block: &[Stmt],
-) -> Result<(), NamesError>
-    ensures finds { Finds result (statements_fault declared.now fields.now variables.old (steps_of (map view_stmt block.now))) }
+) -> Result<(), CheckError>
+    ensures finds { Finds result (statements_fault declared.now fields.now variables.old (block_tree (map view_stmt block.now))) }
     ensures behind { OnOk result (variables.new ≡ variables.old) }
 {
     let outside = variables.len();

@@ -6,7 +6,7 @@ use script_grammar::declarations;
 use script_tokens::tokens;
 
 /// What is wrong in a text of two parts, and whether it is so with the first token of the second.
-fn fault_in(alloc: Global, before: &[u8], rest: &[u8]) -> Result<Option<(Misuse, bool)>, Fail> {
+fn fault_in(alloc: Global, before: &[u8], rest: &[u8]) -> Result<Option<(NameErrorKind, bool)>, Fail> {
     let place = tokens(alloc, before)?.tokens.len();
     let mut text = Vec::from_slice(alloc, before)?;
     text.extend_from_slice(rest)?;
@@ -14,19 +14,19 @@ fn fault_in(alloc: Global, before: &[u8], rest: &[u8]) -> Result<Option<(Misuse,
     let decls = declarations(alloc, &found.tokens)?;
     match check(alloc, &decls) {
         Ok(_) => Ok(None),
-        Err(NamesError::Misnamed(fault)) => {
-            let is_there = found.tokens.len().checked_sub(fault.left) == Some(place);
-            Ok(Some((fault.misuse, is_there)))
+        Err(CheckError::Name(fault)) => {
+            let is_there = found.tokens.len().checked_sub(fault.tokens_left) == Some(place);
+            Ok(Some((fault.kind, is_there)))
         }
         Err(error) => Err(Fail::from(error)),
     }
 }
 
 /// Each text of two parts has this fault first, at the first token of its second part.
-fn refused(rt: &impl Abort, alloc: Global, rows: &[(&str, &str, Misuse)]) -> Result<(), Fail> {
-    for (before, rest, misuse) in rows {
+fn refused(rt: &impl Abort, alloc: Global, rows: &[(&str, &str, NameErrorKind)]) -> Result<(), Fail> {
+    for (before, rest, kind) in rows {
         let fault = fault_in(alloc, before.as_bytes(), rest.as_bytes())?;
-        assert!(rt; fault == Some((*misuse, true)), "{before}{rest}: {fault:?}");
+        assert!(rt; fault == Some((*kind, true)), "{before}{rest}: {fault:?}");
     }
     Ok(())
 }
@@ -43,56 +43,56 @@ fn accepted(rt: &impl Abort, alloc: Global, rows: &[&str]) -> Result<(), Fail> {
 #[test]
 fn names_taken(rt: HostRuntime) -> Result<(), Fail> {
     let rows = [
-        ("actor A { }\nactor B { }\nactor ", "A { }", Misuse::Twice),
+        ("actor A { }\nactor B { }\nactor ", "A { }", NameErrorKind::Twice),
         (
             "actor A { func f() { } } root r = A.f(); root s = A.f(); root ",
             "r = A.f();",
-            Misuse::Twice,
+            NameErrorKind::Twice,
         ),
         (
             "actor A { var n = 0; var k = 1; var ",
             "n = 2; }",
-            Misuse::Twice,
+            NameErrorKind::Twice,
         ),
         (
             "actor A { func f() { } func g() { } func ",
             "f() { } }",
-            Misuse::Twice,
+            NameErrorKind::Twice,
         ),
-        ("actor A { func f(x, y, ", "x) { } }", Misuse::Twice),
-        ("actor A { var n = 0; func f(x, ", "n) { } }", Misuse::Twice),
+        ("actor A { func f(x, y, ", "x) { } }", NameErrorKind::Twice),
+        ("actor A { var n = 0; func f(x, ", "n) { } }", NameErrorKind::Twice),
         (
             "actor A { var n = 0; func f() { let ",
             "n = 1; } }",
-            Misuse::Twice,
+            NameErrorKind::Twice,
         ),
-        ("actor A { func f(x) { let ", "x = 1; } }", Misuse::Twice),
+        ("actor A { func f(x) { let ", "x = 1; } }", NameErrorKind::Twice),
         (
             "actor A { func f() { let x = 1; let ",
             "x = 2; } }",
-            Misuse::Twice,
+            NameErrorKind::Twice,
         ),
         (
             "actor A { func f() { let x = 1; while 1 { let ",
             "x = 2; } } }",
-            Misuse::Twice,
+            NameErrorKind::Twice,
         ),
         // Before faults in the value.
         (
             "actor A { func f(x) { let ",
             "x = nowhere; } }",
-            Misuse::Twice,
+            NameErrorKind::Twice,
         ),
         (
             "actor A { func f(x) { let ",
             "x = await B.g(nowhere); } }",
-            Misuse::Twice,
+            NameErrorKind::Twice,
         ),
         // A fault in a method before the second of two actors.
         (
             "actor A { func f() { return ",
             "x; } } actor A { }",
-            Misuse::Unknown,
+            NameErrorKind::Unknown,
         ),
     ];
     refused(&rt, rt.alloc(), rows.as_slice())
@@ -104,63 +104,63 @@ fn unknown_names(rt: HostRuntime) -> Result<(), Fail> {
         (
             "actor A { func f() { return 1 + ",
             "x; } }",
-            Misuse::Unknown,
+            NameErrorKind::Unknown,
         ),
-        ("actor A { func f() { ", "x = 1; } }", Misuse::Unknown),
-        ("actor A { func f() { ", "x = nowhere; } }", Misuse::Unknown),
+        ("actor A { func f() { ", "x = 1; } }", NameErrorKind::Unknown),
+        ("actor A { func f() { ", "x = nowhere; } }", NameErrorKind::Unknown),
         (
             "actor A { var n = 0; func f() { n = -(",
             "x) * y; } }",
-            Misuse::Unknown,
+            NameErrorKind::Unknown,
         ),
         (
             "actor A { func f() { if 1 { let x = 1; } return ",
             "x; } }",
-            Misuse::Unknown,
+            NameErrorKind::Unknown,
         ),
         (
             "actor A { func f() { if 1 { let x = 1; } else { throw ",
             "x; } } }",
-            Misuse::Unknown,
+            NameErrorKind::Unknown,
         ),
         (
             "actor A { func f() { while 1 { let x = 1; } ",
             "x = 2; } }",
-            Misuse::Unknown,
+            NameErrorKind::Unknown,
         ),
         (
             "actor A { func f() { if ! ",
             "x { yield; } } }",
-            Misuse::Unknown,
+            NameErrorKind::Unknown,
         ),
         (
             "actor A { func f() { while ",
             "x { yield; } } }",
-            Misuse::Unknown,
+            NameErrorKind::Unknown,
         ),
         // Its own name does not stand in the value of a `let`.
-        ("actor A { func f() { let x = ", "x; } }", Misuse::Unknown),
+        ("actor A { func f() { let x = ", "x; } }", NameErrorKind::Unknown),
         // Nor does a variable of another method, a method or an actor.
         (
             "actor A { func f(x) { } func g() { return ",
             "x; } }",
-            Misuse::Unknown,
+            NameErrorKind::Unknown,
         ),
         (
             "actor A { func f() { return ",
             "f + A; } }",
-            Misuse::Unknown,
+            NameErrorKind::Unknown,
         ),
         // Nor a field of another actor.
         (
             "actor A { var n = 0; } actor B { func f() { return ",
             "n; } }",
-            Misuse::Unknown,
+            NameErrorKind::Unknown,
         ),
         (
             "actor A { var n = 0; invariant n > ",
             "x; func f(x) { } }",
-            Misuse::Unknown,
+            NameErrorKind::Unknown,
         ),
     ];
     refused(&rt, rt.alloc(), rows.as_slice())
@@ -169,107 +169,107 @@ fn unknown_names(rt: HostRuntime) -> Result<(), Fail> {
 #[test]
 fn calls(rt: HostRuntime) -> Result<(), Fail> {
     let rows = [
-        ("actor A { func f() { await ", "B.f(); } }", Misuse::Unknown),
+        ("actor A { func f() { await ", "B.f(); } }", NameErrorKind::Unknown),
         (
             "actor A { func f() { await A.",
             "g(nowhere); } }",
-            Misuse::Unknown,
+            NameErrorKind::Unknown,
         ),
         (
             "actor A { func f() { } } root r = ",
             "B.f();",
-            Misuse::Unknown,
+            NameErrorKind::Unknown,
         ),
         (
             "actor A { func f() { } } root r = A.",
             "g();",
-            Misuse::Unknown,
+            NameErrorKind::Unknown,
         ),
         // A method of another actor.
         (
             "actor A { func f() { } } actor B { func g() { } } root r = B.",
             "f();",
-            Misuse::Unknown,
+            NameErrorKind::Unknown,
         ),
         (
             "actor A { func f(x) { await A.",
             "f(); } }",
-            Misuse::Arguments,
+            NameErrorKind::Arguments,
         ),
         (
             "actor A { func f(x) { await A.",
             "f(1, 2); } }",
-            Misuse::Arguments,
+            NameErrorKind::Arguments,
         ),
         (
             "actor A { func f(x) { } } root r = A.",
             "f();",
-            Misuse::Arguments,
+            NameErrorKind::Arguments,
         ),
         (
             "actor A { func f() { } } root r = A.",
             "f(1);",
-            Misuse::Arguments,
+            NameErrorKind::Arguments,
         ),
         // Before faults in the arguments and in the value of the `else`.
         (
             "actor A { func f(x) { let y = await A.",
             "f(nowhere, 2) else nowhere; } }",
-            Misuse::Arguments,
+            NameErrorKind::Arguments,
         ),
         (
             "actor A { func f(x) { x = await A.f(1 + ",
             "nowhere) else elsewhere; } }",
-            Misuse::Unknown,
+            NameErrorKind::Unknown,
         ),
         (
             "actor A { func f(x) { x = await A.f(1) else ",
             "nowhere; } }",
-            Misuse::Unknown,
+            NameErrorKind::Unknown,
         ),
         // Of two methods of one name the first one counts, also for a call in front of both.
         (
             "actor A { func f() { await A.",
             "g(1, 2); } func g(x) { } func g(x, y) { } }",
-            Misuse::Arguments,
+            NameErrorKind::Arguments,
         ),
         (
             "actor A { func f() { await A.g(1); } func g(x) { } func ",
             "g(x, y) { } }",
-            Misuse::Twice,
+            NameErrorKind::Twice,
         ),
         // Of two actors of one name too: the methods of the second are no one's.
         (
             "root a = A.",
             "g();\nactor A { }\nactor A { func g() { } }",
-            Misuse::Unknown,
+            NameErrorKind::Unknown,
         ),
         (
             "actor A { func f() { await A.",
             "g(); } }\nactor A { func g() { } }",
-            Misuse::Unknown,
+            NameErrorKind::Unknown,
         ),
         // And where both have a method of one name.
         (
             "root a = A.",
             "g(1); actor A { func g() { } } actor A { func g(x) { } }",
-            Misuse::Arguments,
+            NameErrorKind::Arguments,
         ),
         (
             "root a = A.g(); actor A { func g() { } } actor ",
             "A { func g(x) { } }",
-            Misuse::Twice,
+            NameErrorKind::Twice,
         ),
         // Methods of one name in two actors.
         (
             "actor A { func f() { } } actor B { func f(x) { await A.f(); await B.f(x); await A.",
             "f(x); } }",
-            Misuse::Arguments,
+            NameErrorKind::Arguments,
         ),
         (
             "actor A { func f() { } } actor B { func f(x) { } } root a = A.f(); root b = B.f(1); root c = B.",
             "f();",
-            Misuse::Arguments,
+            NameErrorKind::Arguments,
         ),
     ];
     refused(&rt, rt.alloc(), rows.as_slice())
@@ -316,12 +316,12 @@ fn counts_of_actors(rt: HostRuntime) -> Result<(), Fail> {
     text.extend_from_slice(b"actor ")?;
     assert_eq!(rt;
         fault_in(alloc, &text, b"B { }")?,
-        Some((Misuse::TooMany, true))
+        Some((NameErrorKind::TooMany, true))
     );
     // The lowest rule stands first at one place.
     assert_eq!(rt;
         fault_in(alloc, &text, b"A0 { }")?,
-        Some((Misuse::Twice, true))
+        Some((NameErrorKind::Twice, true))
     );
     Ok(())
 }
@@ -338,11 +338,11 @@ fn counts_of_roots(rt: HostRuntime) -> Result<(), Fail> {
     text.extend_from_slice(b"root ")?;
     assert_eq!(rt;
         fault_in(alloc, &text, b"r = A.f();")?,
-        Some((Misuse::TooMany, true))
+        Some((NameErrorKind::TooMany, true))
     );
     assert_eq!(rt;
         fault_in(alloc, &text, b"r7 = A.f();")?,
-        Some((Misuse::Twice, true))
+        Some((NameErrorKind::Twice, true))
     );
     Ok(())
 }

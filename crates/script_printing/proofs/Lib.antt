@@ -4,7 +4,7 @@ pub mod Spelled
 pub mod SpelledWhole
 pub mod Lexed
 pub mod Read
-pub mod Found
-pub mod Again
-pub mod Account
+pub mod WordsLexAgain
+pub mod PrintedSpells
+pub mod AnAccountPrinted
 pub mod Plain

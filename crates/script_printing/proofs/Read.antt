@@ -3,7 +3,7 @@ use Rattle.std.proofs.Common.{◌≡◌, ℕ, suc, ◌-◌, ◌<◌, List, [], �
 use Rattle.std.specs.List.{All}
 use Rattle.std.proofs.lemmas.List.Elements.{All-nil, All-cons, All-head, All-tail}
 use Rattle.script_tokens.specs.Pieces.{Piece}
-use Rattle.script_grammar.specs.Tree.{Tree, WaitTree, ValueTree, Step, steps_of, MethodTree, DeclTree, Acts, Roots}
+use Rattle.script_grammar.specs.Tree.{ExprTree, WaitTree, ValueTree, StmtTree, block_tree, MethodTree, DeclTree, Acts, Roots}
 use Rattle.script_grammar.specs.Grammar.{IsExpression, Each, no_more, one_more, IsNext, Listed, none_listed, some_listed, IsElse, without_else, with_else, IsWait, IsValue, computed, awaited, SpellsStmt, SpellsBlock, SpellsStmts, defines, assigns, awaits, tests, chooses, repeats, returns, throws, yields, braces, none, more, IsInvariant, no_invariant, an_invariant, IsMethod, IsDecl, an_actor, a_root, IsScript}
 use Rattle.script_printing.specs.Limits.{IsLow, IsLowIfAny, WaitFits, ValueFits, StepFits, StepsFit, MethodFits, ActorFits}
 use Rattle.script_printing.specs.Pieces.{pieces_of_script, declarations_of, actors_in, roots_in}
@@ -18,7 +18,7 @@ listed_all Is P is none_listed = All-nil P
 listed_all Is P is (some_listed {ts} {us} {x} {xs} d ds) =
     All-cons P x xs (is ts x d) (each_all (IsNext Is) P (λ vs y e. is e.item y e.is) ds)
 
-other_fits : (limit : ℕ) (ts : List Piece) (o : Option Tree) → IsElse limit ts o → IsLowIfAny limit o
+other_fits : (limit : ℕ) (ts : List Piece) (o : Option ExprTree) → IsElse limit ts o → IsLowIfAny limit o
 other_fits limit ts o without_else = tt
 other_fits limit ts o (with_else d) = d.low
 
@@ -33,7 +33,7 @@ value_fits limit ts v (computed d) = d.low
 value_fits limit _ v (awaited {ts} {w} d) = wait_fits limit ts w d
 
 mutual
-  stmt_fits : {limit o : ℕ} {ts : List Piece} {s : Step} → SpellsStmt limit o ts s → StepFits limit o s
+  stmt_fits : {limit o : ℕ} {ts : List Piece} {s : StmtTree} → SpellsStmt limit o ts s → StepFits limit o s
   stmt_fits {limit} (defines {o} x {ts} {v} d) = value_fits limit ts v d
   stmt_fits {limit} (assigns {o} x {ts} {v} d) = value_fits limit ts v d
   stmt_fits {limit} (awaits {o} {ts} {w} d) = wait_fits limit ts w d
@@ -44,15 +44,15 @@ mutual
   stmt_fits {limit} (throws {o} {ts} {t} d) = d.low
   stmt_fits {limit} (yields {o}) = tt
 
-  block_fits : {limit o : ℕ} {ts : List Piece} {ss : List Step} → SpellsBlock limit o ts ss → (0 < o) × StepsFit limit (o - 1) (steps_of ss)
+  block_fits : {limit o : ℕ} {ts : List Piece} {ss : List StmtTree} → SpellsBlock limit o ts ss → (0 < o) × StepsFit limit (o - 1) (block_tree ss)
   block_fits {limit} (braces {o} {ts} {ss} d) =
-      (omega arith, let e : o ≡ suc o - 1 = omega arith in subst (λ n. StepsFit limit n (steps_of ss)) e (stmts_fit d))
+      (omega arith, let e : o ≡ suc o - 1 = omega arith in subst (λ n. StepsFit limit n (block_tree ss)) e (stmts_fit d))
 
-  stmts_fit : {limit o : ℕ} {ts : List Piece} {ss : List Step} → SpellsStmts limit o ts ss → StepsFit limit o (steps_of ss)
+  stmts_fit : {limit o : ℕ} {ts : List Piece} {ss : List StmtTree} → SpellsStmts limit o ts ss → StepsFit limit o (block_tree ss)
   stmts_fit {limit} (none {o}) = tt
   stmts_fit {limit} (more {o} {ts} {us} {s} {ss} d ds) = (stmt_fits d, stmts_fit ds)
 
-invariant_fits : (limit : ℕ) (ts : List Piece) (o : Option Tree) → IsInvariant limit ts o → IsLowIfAny limit o
+invariant_fits : (limit : ℕ) (ts : List Piece) (o : Option ExprTree) → IsInvariant limit ts o → IsLowIfAny limit o
 invariant_fits limit ts o no_invariant = tt
 invariant_fits limit ts o (an_invariant d) = d.low
 

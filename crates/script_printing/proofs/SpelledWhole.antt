@@ -7,7 +7,7 @@ use Rattle.swift_types.specs.declared.priority.Priority.TheVariants.{Background,
 use Rattle.script_tokens.specs.declared.mark.Mark.TheVariants as mark
 use Rattle.script_tokens.specs.declared.keyword.Keyword.TheVariants as key
 use Rattle.script_tokens.specs.Pieces.{Piece, Name, Key, Sign}
-use Rattle.script_grammar.specs.Tree.{Tree, steps_of, FieldTree, MethodTree, ActorTree, RootTree, Roots}
+use Rattle.script_grammar.specs.Tree.{ExprTree, block_tree, FieldTree, MethodTree, ActorTree, RootTree, Roots}
 use Rattle.script_grammar.specs.Grammar.{no_more, one_more, IsInt, plain, opposite, IsName, IsField, IsInvariant, no_invariant, an_invariant, IsMethod, IsActor, IsPriority, given, IsRoot, an_actor, a_root, IsScript}
 use Rattle.script_printing.specs.Pieces.{listed, braced, pieces_of_int, pieces_of_name, pieces_of_field, pieces_of_invariant, pieces_of_method, pieces_of_steps, keyword_of_priority, pieces_of_actor, pieces_of_root, pieces_of_script, declarations_of}
 use Rattle.script_printing.specs.Limits.{IsLowIfAny, MethodFits, ActorFits}
@@ -26,14 +26,14 @@ name w h = refl
 field : (f : FieldTree) → Unit {0} → IsField (pieces_of_field f) f
 field f h = record { start = pieces_of_int f.start; has_start = int f.start tt; all = refl }
 
-invariant : (limit : ℕ) (o : Option Tree) → IsLowIfAny limit o → IsInvariant limit (pieces_of_invariant o) o
+invariant : (limit : ℕ) (o : Option ExprTree) → IsLowIfAny limit o → IsInvariant limit (pieces_of_invariant o) o
 invariant limit None h = no_invariant
 invariant limit (Some t) h = an_invariant (expression limit limit t h (omega arith))
 
 method : (limit : ℕ) (m : MethodTree) → MethodFits limit m → IsMethod limit (pieces_of_method m) m
 method limit m h = record {
   params = listed pieces_of_name m.params;
-  body = braced (pieces_of_steps (steps_of m.body));
+  body = braced (pieces_of_steps (block_tree m.body));
   has_params = listed_of IsName pieces_of_name (λ w. Unit {0}) name m.params (all_anything m.params);
   has_body = body limit m.body h.room h.body;
   all = refl;

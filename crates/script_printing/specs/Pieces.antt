@@ -8,10 +8,10 @@ use Rattle.script_tokens.specs.declared.keyword.Keyword.TheVariants as key
 use Rattle.script_tokens.specs.declared.mark.Mark.TheVariants as mark
 use Rattle.script_tokens.specs.Pieces.{Piece, Num, Name, Key, Sign}
 use Rattle.script_grammar.specs.Grammar.{mark_of}
-use Rattle.script_grammar.specs.Tree.{Tree, Number, Named, Negated, Inverted, Both, CallTree, WaitTree, ValueTree, Computed, Awaited, Step, Steps, nothing, first_then, steps_of, Defines, Assigns, Awaits, Tests, Chooses, Repeats, Returns, Throws, Yields, FieldTree, MethodTree, ActorTree, RootTree, DeclTree, Acts, Roots}
+use Rattle.script_grammar.specs.Tree.{ExprTree, Number, Named, Negated, Inverted, Both, CallTree, WaitTree, ValueTree, Computed, Awaited, StmtTree, BlockTree, nothing, first_then, block_tree, Let, Assign, Await, If, IfElse, While, Return, Throw, Yield, FieldTree, MethodTree, ActorTree, RootTree, DeclTree, Acts, Roots}
 
 -- an expression: each use of an operator stands in a parenthesis, and nothing else does
-abbrev pub pieces_of : Tree → List Piece
+abbrev pub pieces_of : ExprTree → List Piece
 pieces_of (Number n) = Num n ∷ []
 pieces_of (Named w) = Name w ∷ []
 pieces_of (Negated a) = Sign mark.Open ∷ Sign mark.Minus ∷ (pieces_of a ++ Sign mark.Close ∷ [])
@@ -39,7 +39,7 @@ abbrev pub pieces_of_call : CallTree → List Piece
 pieces_of_call c = Name c.actor ∷ Sign mark.Dot ∷ Name c.method ∷ Sign mark.Open ∷ (listed pieces_of c.args ++ Sign mark.Close ∷ [])
 
 -- an `else` that is absent is not printed
-abbrev pub pieces_of_else : Option Tree → List Piece
+abbrev pub pieces_of_else : Option ExprTree → List Piece
 pieces_of_else None = []
 pieces_of_else (Some t) = Key key.Else ∷ pieces_of t
 
@@ -63,18 +63,18 @@ abbrev pub assigned : List ℕ → ValueTree → List Piece
 assigned x v = Name x ∷ Sign mark.Assign ∷ ended (pieces_of_value v)
 
 abbrev mutual
-  pub pieces_of_step : Step → List Piece
-  pieces_of_step (Defines x v) = Key key.Let ∷ assigned x v
-  pieces_of_step (Assigns x v) = assigned x v
-  pieces_of_step (Awaits w) = Key key.Await ∷ ended (pieces_of_wait w)
-  pieces_of_step (Tests t ss) = Key key.If ∷ (pieces_of t ++ braced (pieces_of_steps ss))
-  pieces_of_step (Chooses t ss rs) = Key key.If ∷ (pieces_of t ++ (braced (pieces_of_steps ss) ++ Key key.Else ∷ braced (pieces_of_steps rs)))
-  pieces_of_step (Repeats t ss) = Key key.While ∷ (pieces_of t ++ braced (pieces_of_steps ss))
-  pieces_of_step (Returns t) = Key key.Return ∷ ended (pieces_of t)
-  pieces_of_step (Throws t) = Key key.Throw ∷ ended (pieces_of t)
-  pieces_of_step Yields = Key key.Yield ∷ Sign mark.Semicolon ∷ []
+  pub pieces_of_step : StmtTree → List Piece
+  pieces_of_step (Let x v) = Key key.Let ∷ assigned x v
+  pieces_of_step (Assign x v) = assigned x v
+  pieces_of_step (Await w) = Key key.Await ∷ ended (pieces_of_wait w)
+  pieces_of_step (If t ss) = Key key.If ∷ (pieces_of t ++ braced (pieces_of_steps ss))
+  pieces_of_step (IfElse t ss rs) = Key key.If ∷ (pieces_of t ++ (braced (pieces_of_steps ss) ++ Key key.Else ∷ braced (pieces_of_steps rs)))
+  pieces_of_step (While t ss) = Key key.While ∷ (pieces_of t ++ braced (pieces_of_steps ss))
+  pieces_of_step (Return t) = Key key.Return ∷ ended (pieces_of t)
+  pieces_of_step (Throw t) = Key key.Throw ∷ ended (pieces_of t)
+  pieces_of_step Yield = Key key.Yield ∷ Sign mark.Semicolon ∷ []
 
-  pub pieces_of_steps : Steps → List Piece
+  pub pieces_of_steps : BlockTree → List Piece
   pieces_of_steps nothing = []
   pieces_of_steps (first_then s ss) = pieces_of_step s ++ pieces_of_steps ss
 
@@ -82,12 +82,12 @@ abbrev pub pieces_of_field : FieldTree → List Piece
 pieces_of_field f = Key key.Var ∷ Name f.name ∷ Sign mark.Assign ∷ ended (pieces_of_int f.start)
 
 -- an invariant that is absent is not printed
-abbrev pub pieces_of_invariant : Option Tree → List Piece
+abbrev pub pieces_of_invariant : Option ExprTree → List Piece
 pieces_of_invariant None = []
 pieces_of_invariant (Some t) = Key key.Invariant ∷ ended (pieces_of t)
 
 abbrev pub pieces_of_method : MethodTree → List Piece
-pieces_of_method m = Key key.Func ∷ Name m.name ∷ Sign mark.Open ∷ (listed pieces_of_name m.params ++ Sign mark.Close ∷ braced (pieces_of_steps (steps_of m.body)))
+pieces_of_method m = Key key.Func ∷ Name m.name ∷ Sign mark.Open ∷ (listed pieces_of_name m.params ++ Sign mark.Close ∷ braced (pieces_of_steps (block_tree m.body)))
 
 -- an actor behind its keyword
 abbrev pub behind_actor : ActorTree → List Piece

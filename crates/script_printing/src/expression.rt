@@ -30,9 +30,9 @@ impl Write for Name {
 }
 
 impl Write for Expr {
-    ghost use Rattle.script_grammar.specs.Tree.{Tree};
+    ghost use Rattle.script_grammar.specs.Tree.{ExprTree};
 
-    ghost View = { Tree };
+    ghost View = { ExprTree };
 
     ghost view = { view };
 

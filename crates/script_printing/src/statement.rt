@@ -4,7 +4,7 @@ ghost use Rattle.std.specs.Prelude.{◌≡◌, [], ◌∷◌, OnOk, map};
 ghost use Rattle.script_tokens.specs.Pieces.{Key, Sign};
 ghost use Rattle.script_tokens.specs.declared.keyword.Keyword.TheVariants.{Await, Let, Yield};
 ghost use Rattle.script_tokens.specs.declared.mark.Mark.TheVariants.{Semicolon};
-ghost use Rattle.script_grammar.specs.Tree.{text_of, view, view_call, view_wait, view_value, view_stmt, steps_of};
+ghost use Rattle.script_grammar.specs.Tree.{text_of, view, view_call, view_wait, view_value, view_stmt, block_tree};
 ghost use Rattle.script_printing.specs.Pieces.{pieces_of, pieces_of_call, pieces_of_wait, pieces_of_value, pieces_of_step, pieces_of_steps, assigned, braced, ended};
 ghost use Rattle.script_printing.specs.Printed.{after};
 
@@ -139,7 +139,7 @@ fn write_stmt(out: &mut Vec<u8>, stmt: &Stmt) -> Result<(), AllocError>
 #[cycle(statement)]
 #[tactic(auto, using(crate::proofs::Written::after_after))]
 pub(crate) fn write_block(out: &mut Vec<u8>, block: &[Stmt]) -> Result<(), AllocError>
-    ensures { OnOk result (out.new.items ≡ after out.old.items (braced (pieces_of_steps (steps_of (map view_stmt block.now))))) }
+    ensures { OnOk result (out.new.items ≡ after out.old.items (braced (pieces_of_steps (block_tree (map view_stmt block.now))))) }
 {
     write_sign(out, Mark::OpenBrace)?;
     write_stmts(out, block)?;
@@ -150,7 +150,7 @@ pub(crate) fn write_block(out: &mut Vec<u8>, block: &[Stmt]) -> Result<(), Alloc
 #[cycle(statement)]
 #[tactic(auto, using(crate::proofs::Written::after_none))]
 fn write_stmts(out: &mut Vec<u8>, stmts: &[Stmt]) -> Result<(), AllocError>
-    ensures { OnOk result (out.new.items ≡ after out.old.items (pieces_of_steps (steps_of (map view_stmt stmts.now)))) }
+    ensures { OnOk result (out.new.items ≡ after out.old.items (pieces_of_steps (block_tree (map view_stmt stmts.now)))) }
 {
     for stmt in stmts {
         write_stmt(out, stmt)?;

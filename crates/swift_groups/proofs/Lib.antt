@@ -2,6 +2,6 @@ pub mod Lists
 pub mod Links
 pub mod Views
 pub mod Children
-pub mod Kept
+pub mod FieldsKept
 pub mod Calls
 pub mod Results

@@ -1,15 +1,15 @@
 -- A journal with one record more.
 use Rattle.std.proofs.Common.{◌≡◌, ℕ, ℤ, List, [], ◌∷◌, ◌++◌, refl}
-use Rattle.swift_script.specs.Scripts.{Parts}
+use Rattle.swift_script.specs.Scripts.{ScriptView}
 use Rattle.swift_report.specs.declared.report.Record.{Record}
 use Rattle.swift_report.specs.Lawful.{IsKept, IsLawful, replay, fields_after}
 
 -- the replay of a journal goes on with the record after it
-pub replay-push : (p : Parts) (fields : List ℤ) (rs : List Record) (r : Record) → replay p fields (rs ++ r ∷ []) ≡ fields_after p (replay p fields rs) r
+pub replay-push : (p : ScriptView) (fields : List ℤ) (rs : List Record) (r : Record) → replay p fields (rs ++ r ∷ []) ≡ fields_after p (replay p fields rs) r
 replay-push p fields [] r = refl
 replay-push p fields (x ∷ rs) r = replay-push p (fields_after p fields x) rs r
 
 -- a lawful journal stays so by a record that is kept on the fields of its replay
-pub IsLawful-push : (p : Parts) (k : ℕ) (fields : List ℤ) (rs : List Record) (r : Record) → IsLawful p k fields rs → IsKept p k (replay p fields rs) r → IsLawful p k fields (rs ++ r ∷ [])
+pub IsLawful-push : (p : ScriptView) (k : ℕ) (fields : List ℤ) (rs : List Record) (r : Record) → IsLawful p k fields rs → IsKept p k (replay p fields rs) r → IsLawful p k fields (rs ++ r ∷ [])
 IsLawful-push p k fields [] r lawful kept = (kept, tt)
 IsLawful-push p k fields (x ∷ rs) r lawful kept = (lawful.0, IsLawful-push p k (fields_after p fields x) rs r lawful.1 kept)

@@ -1,4 +1,4 @@
-pub mod Boards
+pub mod Pools
 pub mod Journals
-pub mod Lanes
+pub mod ExecutorsKept
 pub mod Turned

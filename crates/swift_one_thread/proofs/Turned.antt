@@ -3,50 +3,50 @@ use Rattle.std.proofs.Common.{◌≡◌, ℕ, ◌<◌, ◌≤◌, ℤ, Bool, tru
 use Rattle.std.specs.Prelude.{IfSome, IsSomeAnd}
 use Rattle.swift_types.specs.declared.outcome.Fault.TheVariants.{Turns}
 use Rattle.swift_types.specs.declared.outcome.Resume.TheVariants.{Fault as Raise}
-use Rattle.swift_script.specs.Scripts.{Parts, method_actor, method_count}
+use Rattle.swift_script.specs.Scripts.{ScriptView, method_actor, method_count}
 use Rattle.swift_turn.specs.Turn.{Played}
-use Rattle.swift_turn.specs.Frame.{FrameParts, frame_parts, state_at, deeds_of}
-use Rattle.swift_turn.specs.Runs.{leaving_of}
-use Rattle.swift_turn.specs.Body.{BodyParts, Advanced, advanced, called, kept_turn, most_frames}
+use Rattle.swift_turn.specs.Frame.{FrameView, frame_view, state_at, effect_views}
+use Rattle.swift_turn.specs.TurnStates.{exit_view}
+use Rattle.swift_turn.specs.Body.{BodyView, Advanced, advanced, called, kept_turn, most_frames}
 use Rattle.swift_turn.specs.declared.exit.Exit.{Exit}
 use Rattle.swift_turn.specs.declared.exit.Exit.TheVariants.{Call, Yield, Close, Return, Fault as Fails}
 use Rattle.swift_turn.specs.declared.exit.Step.{Step}
 use Rattle.swift_report.specs.declared.report.Record.{Record}
 use Rattle.swift_report.specs.Lawful.{IsKept, fields_after, most_turns, turn_of}
-use Rattle.swift_one_thread.specs.Lanes.{CanRun, LeavesBy}
+use Rattle.swift_one_thread.specs.Executors.{CanRun, LeavesBy}
 
 -- what was played is what the record and the fields say
-abbrev pub IsTurn : BodyParts → List ℤ → Record → Option FrameParts → Played → Type 0
-IsTurn after fields r top played = IsSomeAnd top (λ f. record { state = state_at after.script f after.here.made after.here.opened fields (deeds_of r.effects.items); exit = leaving_of r.exit } ≡ played)
+abbrev pub IsTurn : BodyView → List ℤ → Record → Option FrameView → Played → Type 0
+IsTurn after fields r top played = IsSomeAnd top (λ f. record { state = state_at after.script f after.here.made after.here.opened fields (effect_views r.effects.items); exit = exit_view r.exit } ≡ played)
 
-parts_kept : (after : BodyParts) (fields : List ℤ) (r : Record) (top : Option FrameParts) (played : Played) → IsTurn after fields r top played
-    → (leaving_of r.exit ≡ played.exit) × (deeds_of r.effects.items ≡ played.state.effects) × (fields ≡ played.state.fields)
+parts_kept : (after : BodyView) (fields : List ℤ) (r : Record) (top : Option FrameView) (played : Played) → IsTurn after fields r top played
+    → (exit_view r.exit ≡ played.exit) × (effect_views r.effects.items ≡ played.state.effects) × (fields ≡ played.state.fields)
 parts_kept after fields r None played is = absurd is
 parts_kept after fields r (Some f) played is = (ap (λ (x : Played). x.exit) is, ap (λ (x : Played). x.state.effects) is, ap (λ (x : Played). x.state.fields) is)
 
 -- the record of a frame that ran is kept, and gives the fields after it
-pub kept_record : (p : Parts) (k : ℕ) (b after : BodyParts) (fields fields' : List ℤ) (r : Record) → CanRun p k b
-    → b.here.top ≡ Some (frame_parts r.frame) → r.frame.made ≡ b.here.made → r.frame.opened ≡ b.here.opened
+pub kept_record : (p : ScriptView) (k : ℕ) (b after : BodyView) (fields fields' : List ℤ) (r : Record) → CanRun p k b
+    → b.here.top ≡ Some (frame_view r.frame) → r.frame.made ≡ b.here.made → r.frame.opened ≡ b.here.opened
     → r.frame.method.0 < method_count b.script → (most_turns ≤ r.number → r.resume ≡ Raise Turns)
     → IfSome b.here.top (λ f. IsTurn after fields' r after.here.top (kept_turn b.script f b.here.made b.here.opened fields r.resume r.env))
     → IsKept p k fields r × (fields' ≡ fields_after p fields r)
 kept_record p k b after fields fields' r can at made opened method late turn =
-    let g = frame_parts r.frame in
-    let actor : method_actor p g.method ≡ k = subst (λ (t : Option FrameParts). IsSomeAnd t (λ f. method_actor p f.method ≡ k)) at can.top in
+    let g = frame_view r.frame in
+    let actor : method_actor p g.method ≡ k = subst (λ (t : Option FrameView). IsSomeAnd t (λ f. method_actor p f.method ≡ k)) at can.top in
     let played : IsTurn after fields' r after.here.top (kept_turn b.script g b.here.made b.here.opened fields r.resume r.env) =
-    subst (λ (t : Option FrameParts). IfSome t (λ f. IsTurn after fields' r after.here.top (kept_turn b.script f b.here.made b.here.opened fields r.resume r.env))) at turn in
+    subst (λ (t : Option FrameView). IfSome t (λ f. IsTurn after fields' r after.here.top (kept_turn b.script f b.here.made b.here.opened fields r.resume r.env))) at turn in
     let same : kept_turn b.script g b.here.made b.here.opened fields r.resume r.env ≡ turn_of p fields r =
-    ap (λ (s : Parts). kept_turn s g b.here.made b.here.opened fields r.resume r.env) can.script
+    ap (λ (s : ScriptView). kept_turn s g b.here.made b.here.opened fields r.resume r.env) can.script
     ∙ ap (λ (m : ℕ). kept_turn p g m b.here.opened fields r.resume r.env) (sym made)
     ∙ ap (λ (o : ℕ). kept_turn p g r.frame.made o fields r.resume r.env) (sym opened) in
     let parts = parts_kept after fields' r after.here.top (turn_of p fields r) (subst (λ (x : Played). IsTurn after fields' r after.here.top x) same played) in
-    (record { exit = parts.0; effects = parts.1; method = subst (λ (s : Parts). r.frame.method.0 < method_count s) can.script method; actor = actor; late = late }, parts.2)
+    (record { exit = parts.0; effects = parts.1; method = subst (λ (s : ScriptView). r.frame.method.0 < method_count s) can.script method; actor = actor; late = late }, parts.2)
 
-called_leaves : (p : Parts) (f : FrameParts) (below : List FrameParts) (exit : Exit) (m : ℕ) (args : List ℤ) (b : Bool) → nat_lt (length (f ∷ below)) most_frames ≡ b → LeavesBy exit (called p f below m args).step
+called_leaves : (p : ScriptView) (f : FrameView) (below : List FrameView) (exit : Exit) (m : ℕ) (args : List ℤ) (b : Bool) → nat_lt (length (f ∷ below)) most_frames ≡ b → LeavesBy exit (called p f below m args).step
 called_leaves p f below exit m args true is = rw is tt
 called_leaves p f below exit m args false is = rw is tt
 
-advanced_leaves : (p : Parts) (f : FrameParts) (below : List FrameParts) (exit : Exit) → LeavesBy exit (advanced p f below (leaving_of exit)).step
+advanced_leaves : (p : ScriptView) (f : FrameView) (below : List FrameView) (exit : Exit) → LeavesBy exit (advanced p f below (exit_view exit)).step
 advanced_leaves p f below (Call a m args) = called_leaves p f below (Call a m args) m.0 args.items (nat_lt (length (f ∷ below)) most_frames) refl
 advanced_leaves p f below Yield = tt
 advanced_leaves p f below (Close g fault) = tt
@@ -56,7 +56,7 @@ advanced_leaves p f [] (Fails fault) = refl
 advanced_leaves p f (x ∷ below) (Fails fault) = tt
 
 -- where what follows from a turn is the end of its task, the turn left its frame with that ending
-pub leaves_by : (p : Parts) (was top : Option FrameParts) (below callers : List FrameParts) (exit : Exit) (step : Step) (Q : FrameParts → Type 0) → IsSomeAnd was Q
-    → IfSome was (λ f. record { top = top; callers = callers; step = step } ≡ advanced p f below (leaving_of exit)) → LeavesBy exit step
+pub leaves_by : (p : ScriptView) (was top : Option FrameView) (below callers : List FrameView) (exit : Exit) (step : Step) (Q : FrameView → Type 0) → IsSomeAnd was Q
+    → IfSome was (λ f. record { top = top; callers = callers; step = step } ≡ advanced p f below (exit_view exit)) → LeavesBy exit step
 leaves_by p None top below callers exit step Q is same = absurd is
 leaves_by p (Some f) top below callers exit step Q is same = subst (λ (s : Step). LeavesBy exit s) (sym (ap (λ (a : Advanced). a.step) same)) (advanced_leaves p f below exit)

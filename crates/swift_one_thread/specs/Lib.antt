@@ -1,2 +1,2 @@
-pub mod Lanes
-pub mod Told
+pub mod Executors
+pub mod Envs

@@ -1,39 +1,39 @@
 //! What a run leaves.
 
 ghost use Rattle.std.specs.Prelude.{◌≡◌, [], length, map, IfOk};
-ghost use Rattle.swift_script.specs.Scripts.{Parts};
+ghost use Rattle.swift_script.specs.Scripts.{ScriptView};
 ghost use Rattle.swift_report.specs.Ended.{AreEnded};
 ghost use Rattle.swift_report.specs.Lawful.{AreLawful};
 ghost use Rattle.swift_report.specs.Numbered.{HaveNoGaps};
-ghost use Rattle.swift_one_thread.specs.Lanes.{AreRootsFrom, IsBoard, ending_in, fields_of, journal_of};
-ghost use Rattle.swift_one_thread.specs.Told.{AreTold};
+ghost use Rattle.swift_one_thread.specs.Executors.{AreRootsFrom, IsPool, ending_in, fields_of, journal_of};
+ghost use Rattle.swift_one_thread.specs.Envs.{HaveTheirEnv};
 
-use crate::board::Board;
+use crate::pool::Pool;
 use crate::fault::Halt;
-use crate::lane::Lane;
+use crate::executor::Executor;
 use std::alloc::Global;
 use swift_report::{Origin, Record, Report};
 use swift_types::{Ending, RootId};
 
-// The report of a board whose tasks have all ended.
-pub fn report_of(alloc: Global, board: Board) -> Result<Report, Halt>
-    ensures lawful { IfOk result (λ r. (p : Parts) → IsBoard p board → AreLawful p 0 r.journals.items r.fields.items) }
-    ensures told { IfOk result (λ r. (p : Parts) → IsBoard p board → AreTold p r.journals.items) }
-    ensures numbered { IfOk result (λ r. (p : Parts) → IsBoard p board → HaveNoGaps r.journals.items) }
-    ensures ended { IfOk result (λ r. (p : Parts) → IsBoard p board → AreEnded r.journals.items 0 r.endings.items) }
-    ensures journals { IfOk result (λ r. length r.journals.items ≡ length board.lanes.items) }
-    ensures fields { IfOk result (λ r. length r.fields.items ≡ length board.lanes.items) }
+// The report of a pool whose tasks have all ended.
+pub fn report_of(alloc: Global, pool: Pool) -> Result<Report, Halt>
+    ensures lawful { IfOk result (λ r. (p : ScriptView) → IsPool p pool → AreLawful p 0 r.journals.items r.fields.items) }
+    ensures env_given { IfOk result (λ r. (p : ScriptView) → IsPool p pool → HaveTheirEnv p r.journals.items) }
+    ensures numbered { IfOk result (λ r. (p : ScriptView) → IsPool p pool → HaveNoGaps r.journals.items) }
+    ensures ended { IfOk result (λ r. (p : ScriptView) → IsPool p pool → AreEnded r.journals.items 0 r.endings.items) }
+    ensures journals { IfOk result (λ r. length r.journals.items ≡ length pool.executors.items) }
+    ensures fields { IfOk result (λ r. length r.fields.items ≡ length pool.executors.items) }
     ensures log { IfOk result (λ r. r.log.items ≡ []) }
-    ensures tasks { IfOk result (λ r. length r.endings.items ≡ length board.endings.items) }
+    ensures tasks { IfOk result (λ r. length r.endings.items ≡ length pool.endings.items) }
     ensures roots { IfOk result (λ r. AreRootsFrom 0 r.endings.items) }
 {
-    let Board {
-        lanes,
+    let Pool {
+        executors,
         tokens: _,
         endings,
-    } = board;
+    } = pool;
     let endings = endings_of(alloc, &endings)?;
-    let (journals, fields) = part(alloc, lanes)?;
+    let (journals, fields) = journals_and_fields(alloc, executors)?;
     Ok(Report {
         journals,
         log: Vec::new(alloc),
@@ -43,18 +43,18 @@ pub fn report_of(alloc: Global, board: Board) -> Result<Report, Halt>
 }
 
 // The journals and the fields of executors.
-fn part(alloc: Global, lanes: Vec<Lane>) -> Result<(Vec<Vec<Record>>, Vec<Vec<i64>>), Halt>
-    ensures journals { IfOk result (λ r. r.0.items ≡ map journal_of lanes.items) }
-    ensures fields { IfOk result (λ r. r.1.items ≡ map fields_of lanes.items) }
+fn journals_and_fields(alloc: Global, executors: Vec<Executor>) -> Result<(Vec<Vec<Record>>, Vec<Vec<i64>>), Halt>
+    ensures journals { IfOk result (λ r. r.0.items ≡ map journal_of executors.items) }
+    ensures fields { IfOk result (λ r. r.1.items ≡ map fields_of executors.items) }
 {
     let mut journals = Vec::new(alloc);
     let mut all = Vec::new(alloc);
-    for lane in lanes {
-        let Lane {
+    for executor in executors {
+        let Executor {
             jobs: _,
             fields,
             journal,
-        } = lane;
+        } = executor;
         journals.push(journal)?;
         all.push(fields)?;
     }

@@ -4,17 +4,17 @@
 // Why a run was given up.
 mod fault;
 
-// What is told of the moments of a run.
+// What is env_given of the moments of a run.
 mod gate;
 
 // The jobs, the fields and the journal of one executor.
-mod lane;
+mod executor;
 
 // One turn of an executor's oldest job.
 mod turn;
 
 // All executors, and the tokens of those that have jobs.
-mod board;
+mod pool;
 
 // What a run leaves.
 mod leave;

@@ -1,10 +1,10 @@
 //! One turn of an executor's oldest job.
 
 ghost use Rattle.std.specs.Prelude.{IfOk, OnOk};
-ghost use Rattle.swift_one_thread.specs.Lanes.{IsLane, IsTurned, Takes, Writes};
+ghost use Rattle.swift_one_thread.specs.Executors.{IsExecutor, IsTurned, Takes, Writes};
 
 use crate::fault::Halt;
-use crate::lane::{Lane, Pending};
+use crate::executor::{Executor, Job};
 use futures::task::Context;
 use std::alloc::Global;
 use std::mem;
@@ -31,19 +31,19 @@ pub fn take_turn(
     cx: &mut Context<'_>,
     script: &Script,
     actor: ActorId,
-    lane: &mut Lane,
+    executor: &mut Executor,
 ) -> Result<Turned, Halt>
-    requires { IsLane script.now actor.0 lane.old }
-    ensures lane { OnOk result (IsLane script.now actor.0 lane.new) }
+    requires { IsExecutor script.now actor.0 executor.old }
+    ensures executor { OnOk result (IsExecutor script.now actor.0 executor.new) }
     ensures next { IfOk result (λ t. IsTurned script.now t) }
-    ensures taken { IfOk result (λ t. Takes lane.old.jobs.items lane.new.jobs.items t) }
-    ensures written { IfOk result (λ t. Writes lane.old.journal.items lane.new.journal.items t) }
+    ensures taken { IfOk result (λ t. Takes executor.old.jobs.items executor.new.jobs.items t) }
+    ensures written { IfOk result (λ t. Writes executor.old.journal.items executor.new.journal.items t) }
 {
     // A token stands for at least one job.
-    let Some(job) = lane.jobs.pop_front() else {
+    let Some(job) = executor.jobs.pop_front() else {
         return Err(Halt::Unfinished);
     };
-    let Pending {
+    let Job {
         task,
         number,
         resume,
@@ -51,17 +51,17 @@ pub fn take_turn(
         mut body,
     } = job;
     let frame = body.frame()?;
-    let entered = mem::replace(&mut lane.fields, Vec::new(alloc));
+    let entered = mem::replace(&mut executor.fields, Vec::new(alloc));
     let Ok((fields, effects, exit)) = run_turn(&mut body, cx, entered, resume, env) else {
         return Err(Halt::Memory);
     };
-    lane.fields = fields;
+    executor.fields = fields;
     // No script that was read calls a method that it lacks.
     if !body.can_advance(&exit) {
         return Err(Halt::Unfinished);
     }
     let step = body.advance(&exit)?;
-    lane.journal.push(Record {
+    executor.journal.push(Record {
         task,
         number,
         worker: 0,

@@ -6,11 +6,11 @@ ghost use Rattle.swift_script.specs.Scripts.{actor_count, root_count};
 ghost use Rattle.swift_report.specs.Ended.{AreEnded};
 ghost use Rattle.swift_report.specs.Lawful.{AreLawful, KeepInvariants};
 ghost use Rattle.swift_report.specs.Numbered.{HaveNoGaps};
-ghost use Rattle.swift_one_thread.specs.Lanes.{AreRootsFrom};
-ghost use Rattle.swift_one_thread.specs.Told.{AreTold};
+ghost use Rattle.swift_one_thread.specs.Executors.{AreRootsFrom};
+ghost use Rattle.swift_one_thread.specs.Envs.{HaveTheirEnv};
 ghost use Rattle.swift_one_thread.specs.declared.fault.RunFault.TheVariants.{Workers};
 
-use crate::board::{drain, empty_board, start_roots};
+use crate::pool::{drain, empty_pool, start_roots};
 use crate::fault::{Halt, RunFault};
 use crate::gate::Gate;
 use crate::leave::report_of;
@@ -26,9 +26,9 @@ use swift_script::Script;
 /// executors that run one job at a time; the order of turns is our own, and is determined).
 ///
 /// An executor with jobs has a token, and the one whose token is the oldest runs its oldest job next. The roots are
-/// enqueued in order of declaration before the first turn. The runtime is used once, to make what a poll is told.
+/// enqueued in order of declaration before the first turn. The runtime is used once, to make what a poll is env_given.
 ///
-/// The gate is told of each turn's moments. Each turn costs a copy of its frame, which its journal keeps: memory grows
+/// The gate is env_given of each turn's moments. Each turn costs a copy of its frame, which its journal keeps: memory grows
 /// with the turns, at most some thousand for each root.
 ///
 /// # Errors
@@ -44,8 +44,8 @@ where
     ensures lawful { IfOk result (λ r. AreLawful (arc_value script) 0 r.journals.items r.fields.items) }
     // The fields of each actor whose invariant holds at the start meet it.
     ensures invariants { IfOk result (λ r. KeepInvariants (arc_value script) 0 r.fields.items) }
-    // Each turn is one of a root's task, was told what belongs to that root, and ran on worker 0.
-    ensures told { IfOk result (λ r. AreTold (arc_value script) r.journals.items) }
+    // Each turn is one of a root's task, was env_given what belongs to that root, and ran on worker 0.
+    ensures env_given { IfOk result (λ r. HaveTheirEnv (arc_value script) r.journals.items) }
     // The turns of each task are numbered without gaps.
     ensures numbered { IfOk result (λ r. HaveNoGaps r.journals.items) }
     ensures journals { IfOk result (λ r. length r.journals.items ≡ actor_count (arc_value script)) }
@@ -74,7 +74,7 @@ where
     G: Gate,
     ensures lawful { IfOk result (λ r. AreLawful (arc_value script.now) 0 r.journals.items r.fields.items) }
     ensures invariants { IfOk result (λ r. KeepInvariants (arc_value script.now) 0 r.fields.items) }
-    ensures told { IfOk result (λ r. AreTold (arc_value script.now) r.journals.items) }
+    ensures env_given { IfOk result (λ r. HaveTheirEnv (arc_value script.now) r.journals.items) }
     ensures numbered { IfOk result (λ r. HaveNoGaps r.journals.items) }
     ensures journals { IfOk result (λ r. length r.journals.items ≡ actor_count (arc_value script.now)) }
     ensures fields { IfOk result (λ r. length r.fields.items ≡ actor_count (arc_value script.now)) }
@@ -88,11 +88,11 @@ where
     let Ok(solo) = Solo::new(rt, Doorbell::spinning()) else {
         return Err(Halt::Memory);
     };
-    let mut board = empty_board(alloc, script)?;
-    start_roots(alloc, script, &mut board)?;
+    let mut pool = empty_pool(alloc, script)?;
+    start_roots(alloc, script, &mut pool)?;
     let mut cx = solo.begin();
-    let drained = drain(alloc, &mut cx, script, &mut board, gate);
+    let drained = drain(alloc, &mut cx, script, &mut pool, gate);
     cx.cancel();
     drained?;
-    report_of(alloc, board)
+    report_of(alloc, pool)
 }

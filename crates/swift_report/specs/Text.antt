@@ -11,7 +11,7 @@ use Rattle.swift_types.specs.declared.outcome.Resume.TheVariants.{Start, Go, Val
 use Rattle.swift_types.specs.declared.outcome.Ending.{Ending}
 use Rattle.swift_types.specs.declared.outcome.Ending.TheVariants.{Value as Returned, Fault as Failed}
 use Rattle.script_code.specs.declared.env.Env.{Env}
-use Rattle.swift_script.specs.Scripts.{Parts, Entry, entry_at, actor_name, field_name, root_name}
+use Rattle.swift_script.specs.Scripts.{ScriptView, Entry, entry_at, actor_name, field_name, root_name}
 use Rattle.swift_turn.specs.declared.exit.Exit.{Exit}
 use Rattle.swift_turn.specs.declared.exit.Exit.TheVariants.{Call, Yield, Close, Return, Fault as Fails}
 use Rattle.swift_report.specs.declared.report.Record.{Record}
@@ -43,12 +43,12 @@ abbrev pub ending_text : Ending → List ℕ
 ending_text (Returned v) = codes "value " ++ signed_decimal v
 ending_text (Failed f) = codes "fault " ++ fault_text f
 
-abbrev pub method_text_if : Parts → Option Entry → List ℕ
+abbrev pub method_text_if : ScriptView → Option Entry → List ℕ
 method_text_if p None = []
 method_text_if p (Some e) = actor_name p e.actor ++ codes "." ++ e.method.name
 
 -- a method by its names, that of its actor first; nothing for a method that the script lacks
-abbrev pub method_text : Parts → ℕ → List ℕ
+abbrev pub method_text : ScriptView → ℕ → List ℕ
 method_text p m = method_text_if p (entry_at p m)
 
 abbrev pub pending_text : Option Fault → List ℕ
@@ -56,7 +56,7 @@ pending_text None = []
 pending_text (Some f) = codes " fault " ++ fault_text f
 
 -- how a turn ended
-abbrev pub exit_text : Parts → Exit → List ℕ
+abbrev pub exit_text : ScriptView → Exit → List ℕ
 exit_text p (Call a m args) = codes "call " ++ method_text p m.0
 exit_text p Yield = codes "yield"
 exit_text p (Close g f) = codes "close" ++ pending_text f
@@ -67,7 +67,7 @@ abbrev pub flag_text : Bool → List ℕ
 flag_text false = codes "0"
 flag_text true = codes "1"
 
--- what a turn was told: the number of the task's priority, and whether the task was cancelled
+-- what a turn was env_given: the number of the task's priority, and whether the task was cancelled
 abbrev pub env_text : Env → List ℕ
 env_text e = codes " p" ++ decimal (rank e.priority) ++ codes " c" ++ flag_text e.cancelled
 
@@ -76,60 +76,60 @@ abbrev pub run_text : ℕ → Record → List ℕ
 run_text place r = decimal place ++ codes " t" ++ decimal r.task.0 ++ codes "." ++ decimal r.number ++ codes " w" ++ decimal r.worker
 
 -- how a turn began and how it ended
-abbrev pub course_text : Parts → Record → List ℕ
-course_text p r = resume_text r.resume ++ codes " -> " ++ exit_text p r.exit
+abbrev pub resume_and_exit_text : ScriptView → Record → List ℕ
+resume_and_exit_text p r = resume_text r.resume ++ codes " -> " ++ exit_text p r.exit
 
 -- the line of the turn at this place of a journal
-abbrev pub turn_text : Parts → ℕ → Record → List ℕ
-turn_text p place r = run_text place r ++ codes " " ++ method_text p r.frame.method.0 ++ env_text r.env ++ codes " " ++ course_text p r ++ codes "\n"
+abbrev pub turn_text : ScriptView → ℕ → Record → List ℕ
+turn_text p place r = run_text place r ++ codes " " ++ method_text p r.frame.method.0 ++ env_text r.env ++ codes " " ++ resume_and_exit_text p r ++ codes "\n"
 
 -- the lines of the turns from this place of a journal on
-abbrev pub turns_text : Parts → ℕ → List Record → List ℕ
+abbrev pub turns_text : ScriptView → ℕ → List Record → List ℕ
 turns_text p place [] = []
 turns_text p place (r ∷ rs) = turn_text p place r ++ turns_text p (place + 1) rs
 
 -- the line of an executor with so many turns; it is named as its actor
-abbrev pub heading_text : Parts → ℕ → ℕ → List ℕ
+abbrev pub heading_text : ScriptView → ℕ → ℕ → List ℕ
 heading_text p k turns = codes "executor " ++ actor_name p k ++ codes " priority turns " ++ decimal turns ++ codes "\n"
 
 -- the lines of the executors from this number on, each with its turns
-abbrev pub executors_text : Parts → ℕ → List (Vec Record Global) → List ℕ
+abbrev pub executors_text : ScriptView → ℕ → List (Vec Record Global) → List ℕ
 executors_text p k [] = []
 executors_text p k (j ∷ js) = (heading_text p k (length j.items) ++ turns_text p 0 j.items) ++ executors_text p (k + 1) js
 
 -- the journals, which a quiet report leaves out
-abbrev pub journals_text : Parts → Bool → List (Vec Record Global) → List ℕ
+abbrev pub journals_text : ScriptView → Bool → List (Vec Record Global) → List ℕ
 journals_text p true js = []
 journals_text p false js = codes "journals\n" ++ executors_text p 0 js
 
 -- what made a task
-abbrev pub origin_text : Parts → Origin → List ℕ
+abbrev pub origin_text : ScriptView → Origin → List ℕ
 origin_text p (Root r) = codes "root " ++ root_name p r.0
 
 -- the line of the task with this number
-abbrev pub task_text : Parts → ℕ → Origin × Ending → List ℕ
+abbrev pub task_text : ScriptView → ℕ → Origin × Ending → List ℕ
 task_text p k t = codes "t" ++ decimal k ++ codes " " ++ origin_text p t.0 ++ codes " " ++ ending_text t.1 ++ codes "\n"
 
 -- the lines of the tasks from this number on
-abbrev pub tasks_text : Parts → ℕ → List (Origin × Ending) → List ℕ
+abbrev pub tasks_text : ScriptView → ℕ → List (Origin × Ending) → List ℕ
 tasks_text p k [] = []
 tasks_text p k (t ∷ ts) = task_text p k t ++ tasks_text p (k + 1) ts
 
 -- the line of a field: by its actor's number and its own, with its value
-abbrev pub field_text : Parts → ℕ → ℕ → ℤ → List ℕ
+abbrev pub field_text : ScriptView → ℕ → ℕ → ℤ → List ℕ
 field_text p k i v = actor_name p k ++ codes "." ++ field_name p k i ++ codes " " ++ signed_decimal v ++ codes "\n"
 
 -- the lines of an actor's fields from this number on
-abbrev pub values_text : Parts → ℕ → ℕ → List ℤ → List ℕ
+abbrev pub values_text : ScriptView → ℕ → ℕ → List ℤ → List ℕ
 values_text p k i [] = []
 values_text p k i (v ∷ vs) = field_text p k i v ++ values_text p k (i + 1) vs
 
 -- the lines of the fields of the actors from this number on
-abbrev pub fields_text : Parts → ℕ → List (Vec ℤ Global) → List ℕ
+abbrev pub fields_text : ScriptView → ℕ → List (Vec ℤ Global) → List ℕ
 fields_text p k [] = []
 fields_text p k (f ∷ fs) = values_text p k 0 f.items ++ fields_text p (k + 1) fs
 
 -- The text of a report on a script: the journals unless it is quiet, the tasks, and the fields.
-abbrev pub report_text : Parts → Report → Bool → List ℕ
+abbrev pub report_text : ScriptView → Report → Bool → List ℕ
 report_text p r quiet =
     journals_text p quiet r.journals.items ++ codes "tasks\n" ++ tasks_text p 0 r.endings.items ++ codes "fields\n" ++ fields_text p 0 r.fields.items

@@ -6,7 +6,7 @@ mod append;
 // Laws of journals.
 pub mod laws;
 // Names by the places of journals and fields.
-mod named;
+mod names;
 // Records of turns, and reports.
 mod report;
 #[cfg(test)]

@@ -4,7 +4,7 @@ ghost use Rattle.std.specs.Prelude.{◌≡◌, ℤ, ◌++◌, IfOk, OnOk};
 ghost use Rattle.swift_report.specs.Text.{journals_text, origin_text, task_text, tasks_text, field_text, values_text, fields_text, report_text};
 
 use crate::append::number;
-use crate::named::{actor_name, field_name};
+use crate::names::{actor_name, field_name};
 use crate::report::{Origin, Record, Report};
 use crate::turns::executors;
 use crate::word;

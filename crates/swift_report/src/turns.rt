@@ -1,10 +1,10 @@
 //! Lines of turns, and of executors.
 
 ghost use Rattle.std.specs.Prelude.{◌≡◌, ◌++◌, OnOk};
-ghost use Rattle.swift_report.specs.Text.{method_text, exit_text, flag_text, env_text, run_text, course_text, turn_text, turns_text, heading_text, executors_text};
+ghost use Rattle.swift_report.specs.Text.{method_text, exit_text, flag_text, env_text, run_text, resume_and_exit_text, turn_text, turns_text, heading_text, executors_text};
 
 use crate::append::number;
-use crate::named::actor_name;
+use crate::names::actor_name;
 use crate::report::Record;
 use crate::word;
 use std::alloc::AllocError;
@@ -55,7 +55,7 @@ fn flag(set: bool) -> &'static [u8]
     if set { b"1" } else { b"0" }
 }
 
-// What a turn was told.
+// What a turn was env_given.
 fn env(out: &mut Vec<u8>, env: &Env) -> Result<(), AllocError>
     ensures { OnOk result (out.new.items ≡ out.old.items ++ env_text env.now) }
 {
@@ -79,8 +79,8 @@ fn run(out: &mut Vec<u8>, place: usize, entry: &Record) -> Result<(), AllocError
 }
 
 // How a turn began and how it ended.
-fn course(out: &mut Vec<u8>, script: &Script, entry: &Record) -> Result<(), AllocError>
-    ensures { OnOk result (out.new.items ≡ out.old.items ++ course_text script.now entry.now) }
+fn resume_and_exit(out: &mut Vec<u8>, script: &Script, entry: &Record) -> Result<(), AllocError>
+    ensures { OnOk result (out.new.items ≡ out.old.items ++ resume_and_exit_text script.now entry.now) }
 {
     word::resume(out, entry.resume)?;
     out.extend_from_slice(b" -> ")?;
@@ -95,7 +95,7 @@ fn turn(out: &mut Vec<u8>, script: &Script, place: usize, entry: &Record) -> Res
     method(out, script, entry.frame.method)?;
     env(out, &entry.env)?;
     out.extend_from_slice(b" ")?;
-    course(out, script, entry)?;
+    resume_and_exit(out, script, entry)?;
     out.extend_from_slice(b"\n")
 }
 

@@ -6,13 +6,13 @@ use Rattle.script_tokens.proofs.Unique.{unique}
 use Rattle.script_grammar.specs.Tree.{DeclTree}
 use Rattle.script_grammar.specs.Grammar.{IsScript}
 use Rattle.script_grammar.proofs.Whole.{one}
-use Rattle.script_names.specs.declared.misuse.Misuse.{Misuse}
+use Rattle.script_names.specs.declared.error.NameErrorKind.{NameErrorKind}
 use Rattle.script_names.specs.Rules.{names_fault}
 use Rattle.swift_script.specs.declared.fault.ScriptFault.{ScriptFault}
 use Rattle.swift_script.specs.declared.fault.ScriptFaultKind.{ScriptFaultKind}
 use Rattle.swift_script.specs.declared.fault.ScriptFaultKind.TheVariants as kind
 use Rattle.swift_script.specs.Script.{ScriptTree, actors_in, tree_in, all_start_well}
-use Rattle.swift_script.specs.Scripts.{Parts, tree_of}
+use Rattle.swift_script.specs.Scripts.{ScriptView, tree_of}
 use Rattle.swift_script.specs.Accepted.{SpellsDecls, Spells, IsAccepted, HasFault, StartsFalse}
 use Rattle.swift_script.specs.Refuses.{Refuses}
 use Rattle.swift_script.specs.Answers.{IsReadAs}
@@ -30,7 +30,7 @@ same_spelled m n text s t d e = d.is ∙ ap tree_in (same_decls m n text d.decls
 pub same_accepted : (text : List ℕ) (s t : ScriptTree) → IsAccepted text s → IsAccepted text t → s ≡ t
 same_accepted text s t a b = a.is ∙ ap tree_in (same_decls 32 32 text a.decls b.decls a.spelled b.spelled) ∙ sym b.is
 
-no_fault : (text : List ℕ) (t : ScriptTree) (m : Misuse) → IsAccepted text t → HasFault text m → ⊥
+no_fault : (text : List ℕ) (t : ScriptTree) (m : NameErrorKind) → IsAccepted text t → HasFault text m → ⊥
 no_fault text t m a f =
     let same : f.decls ≡ a.decls = same_decls 32 32 text f.decls a.decls f.spelled a.spelled in
     let clash : Some m ≡ None = sym f.first ∙ ap names_fault same ∙ a.names in
@@ -56,6 +56,6 @@ not_refused text t kind.EndsEarly a r = absurd (r.1 a.decls a.spelled)
 not_refused text t kind.TooDeep a r = absurd (r.1 a.decls a.spelled)
 not_refused text t kind.Memory a r = refl
 
-pub is_accepted : (text : List ℕ) (r : Result Parts ScriptFault) → IfOk r (λ s. IsAccepted text (tree_of s)) → IfErr r (λ e. Refuses e.kind text) → (tree : ScriptTree) → IsAccepted text tree → IsReadAs tree r
+pub is_accepted : (text : List ℕ) (r : Result ScriptView ScriptFault) → IfOk r (λ s. IsAccepted text (tree_of s)) → IfErr r (λ e. Refuses e.kind text) → (tree : ScriptTree) → IsAccepted text tree → IsReadAs tree r
 is_accepted text (Ok s) found refused tree a = same_accepted text (tree_of s) tree found a
 is_accepted text (Err e) found refused tree a = not_refused text tree e.kind a refused

@@ -11,7 +11,7 @@ use Rattle.swift_script.specs.declared.compiled.CompiledMethod.{CompiledMethod}
 use Rattle.swift_script.specs.declared.compiled.CompiledActor.{CompiledActor}
 use Rattle.swift_script.specs.Scripts.{entries_of, entries_from}
 use Rattle.swift_script.specs.Compiled.{MethodIs, method_is, compiled_of, ActorIs, actor_is, compiled_actor, number_is, root_number}
-use Rattle.swift_script.specs.Fine.{ActorsFine, RootsFine}
+use Rattle.swift_script.specs.WellScoped.{AreActorsWellScoped, CallMethods}
 
 pub cut : {A : Type 0} (xs : List A) (k : ℕ) (x : A) → k < length xs → x ≡ get_or xs k x → drop k xs ≡ x ∷ drop (suc k) xs
 cut [] k x lt e = absurd (omega arith)
@@ -20,18 +20,18 @@ cut (y ∷ xs) (suc k) x lt e = cut xs k x (omega arith) e
 
 pub one_more : (d : Directory) (actors : List Actor) (k : ℕ) (a : Actor) (done more : List CompiledActor) (c : CompiledActor) (ms ns : List CompiledMethod) (all : List ActorIs) (whole : List MethodIs)
     → k < length actors → a ≡ get_or actors k a
-    → ActorsFine d (map view_actor (drop k actors))
+    → AreActorsWellScoped d (map view_actor (drop k actors))
     → map actor_is done ++ map compiled_actor (map view_actor (drop k actors)) ≡ all
     → map method_is ms ++ map (compiled_of d) (entries_from k (map view_actor (drop k actors))) ≡ whole
     → actor_is c ≡ compiled_actor (view_actor a) → more ≡ done ++ c ∷ []
     → map method_is ns ≡ map method_is ms ++ map (compiled_of d) (entries_of k (field_names (view_actor a).fields) (view_actor a).methods)
-    → ActorsFine d (map view_actor (drop (k + 1) actors))
+    → AreActorsWellScoped d (map view_actor (drop (k + 1) actors))
     × (map actor_is more ++ map compiled_actor (map view_actor (drop (k + 1) actors)) ≡ all)
     × (map method_is ns ++ map (compiled_of d) (entries_from (k + 1) (map view_actor (drop (k + 1) actors))) ≡ whole)
 one_more d actors k a done more c ms ns all whole lt is fine soon later compiled pushed lowered =
     let rest = map view_actor (drop (k + 1) actors) in
     let front : drop k actors ≡ a ∷ drop (k + 1) actors = cut actors k a lt is ∙ ap (λ (n : ℕ). a ∷ drop n actors) (sym (add-one k)) in
-    let fines : ActorsFine d (view_actor a ∷ rest) = subst (λ (xs : List Actor). ActorsFine d (map view_actor xs)) front fine in
+    let fines : AreActorsWellScoped d (view_actor a ∷ rest) = subst (λ (xs : List Actor). AreActorsWellScoped d (map view_actor xs)) front fine in
     let one : map actor_is more ≡ map actor_is done ++ compiled_actor (view_actor a) ∷ [] = ap (map actor_is) pushed ∙ map_push actor_is done c ∙ ap (λ (x : ActorIs). map actor_is done ++ x ∷ []) compiled in
     let actors_so : map actor_is more ++ map compiled_actor rest ≡ all =
     ap (λ (xs : List ActorIs). xs ++ map compiled_actor rest) one
@@ -50,9 +50,9 @@ root_first : (roots : List Root) (k : ℕ) (r : Root) → k < length roots → r
 root_first roots k r lt is = cut roots k r lt is ∙ ap (λ (n : ℕ). r ∷ drop n roots) (sym (add-one k))
 
 -- the next root calls a method, and so do those behind it
-pub root_fine : (d : Directory) (roots : List Root) (k : ℕ) (r : Root) → k < length roots → r ≡ get_or roots k r → RootsFine d (map view_root (drop k roots))
-    → (has_method d (view_root r).actor (view_root r).method ≡ true) × RootsFine d (map view_root (drop (k + 1) roots))
-root_fine d roots k r lt is fine = subst (λ (xs : List Root). RootsFine d (map view_root xs)) (root_first roots k r lt is) fine
+pub root_fine : (d : Directory) (roots : List Root) (k : ℕ) (r : Root) → k < length roots → r ≡ get_or roots k r → CallMethods d (map view_root (drop k roots))
+    → (has_method d (view_root r).actor (view_root r).method ≡ true) × CallMethods d (map view_root (drop (k + 1) roots))
+root_fine d roots k r lt is fine = subst (λ (xs : List Root). CallMethods d (map view_root xs)) (root_first roots k r lt is) fine
 
 pub one_root : (d : Directory) (roots : List Root) (k : ℕ) (r : Root) (done more : List MethodId) (m : MethodId) (whole : List ℕ) → k < length roots → r ≡ get_or roots k r
     → map number_is done ++ map (root_number d) (map view_root (drop k roots)) ≡ whole → number_is m ≡ root_number d (view_root r) → more ≡ done ++ m ∷ []

@@ -1,9 +1,9 @@
 pub mod Texts
 pub mod Divided
-pub mod Fined
+pub mod NamesInScoped
 pub mod Places
 pub mod Accepting
-pub mod Few
+pub mod ActorsAndRootsAreFew
 pub mod Compiling
 pub mod Building
 pub mod SameScripts

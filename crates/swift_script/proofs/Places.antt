@@ -21,7 +21,7 @@ method_from d (Some x) m e =
       has_actor = ap (λ (y : MethodIs). y.actor) (sym same);
       has_params = ap (λ (y : MethodIs). y.params) (sym same);
       has_slots = ap (λ (y : MethodIs). y.slots) (sym same);
-      stands = flat_stands m.lines.items (code_in d x) (ap (λ (y : MethodIs). y.lines) (sym same));
+      stands = flat_stands m.instructions.items (code_in d x) (ap (λ (y : MethodIs). y.instructions) (sym same));
     }
 
 actor_from : (o : Option ActorTree) (a : CompiledActor) → option_map compiled_actor o ≡ Some (actor_is a) → IsActorOf o a

@@ -4,7 +4,7 @@ use Rattle.std.specs.Str.{IsUtf8}
 use Rattle.std.proofs.lemmas.Str.{IsUtf8-from_ascii}
 use Rattle.script_tokens.specs.Bytes.{is_text}
 use Rattle.script_grammar.specs.Tree.{ActorTree, RootTree, DeclTree, Acts, Roots}
-use Rattle.script_names.specs.declared.misuse.Misuse.{Misuse}
+use Rattle.script_names.specs.declared.error.NameErrorKind.{NameErrorKind}
 use Rattle.script_names.specs.Directory.{Directory, directory_of}
 use Rattle.script_names.specs.Rules.{earlier, actor_fault, root_fault, declarations_fault, names_fault}
 use Rattle.script_printing.specs.Pieces.{pieces_of_script, declarations_of, actors_in as actors_printed, roots_in as roots_printed}
@@ -17,7 +17,7 @@ use Rattle.swift_script.specs.Script.{ScriptTree, actors_in, roots_in, tree_in, 
 use Rattle.swift_script.specs.Scripts.{with_actors}
 use Rattle.swift_script.specs.Accepted.{SpellsDecls, Spells, IsAccepted}
 use Rattle.swift_script.specs.Printed.{printed_script}
-use Rattle.swift_script.proofs.Fined.{earlier_none, directory_by_actors}
+use Rattle.swift_script.proofs.NamesInScope.{earlier_none, directory_by_actors}
 
 -- the actors and the roots that the printer speaks of are those of the script
 same_actors : (xs : List DeclTree) → actors_printed xs ≡ actors_in xs
@@ -51,16 +51,16 @@ tree_again : (t : ScriptTree) → t ≡ tree_in (declarations_of t.actors t.root
 tree_again t = λ i. record { actors = sym (actors_of t.actors t.roots) i; roots = sym (roots_of t.actors t.roots) i }
 
 -- the first fault of actors alone, and of roots alone
-abbrev actors_fault : Directory → List (List ℕ) → List ActorTree → Option Misuse
+abbrev actors_fault : Directory → List (List ℕ) → List ActorTree → Option NameErrorKind
 actors_fault d seen [] = None
 actors_fault d seen (a ∷ ts) = earlier (actor_fault d seen a) (actors_fault d (seen ++ a.name ∷ []) ts)
 
-abbrev roots_fault : Directory → List (List ℕ) → List RootTree → Option Misuse
+abbrev roots_fault : Directory → List (List ℕ) → List RootTree → Option NameErrorKind
 roots_fault d seen [] = None
 roots_fault d seen (r ∷ rs) = earlier (root_fault d seen r) (roots_fault d (seen ++ r.name ∷ []) rs)
 
 -- where neither fault is one, the earlier of them is none
-none_of : (f g : Option Misuse) → f ≡ None → g ≡ None → earlier f g ≡ None
+none_of : (f g : Option NameErrorKind) → f ≡ None → g ≡ None → earlier f g ≡ None
 none_of None g h k = k
 none_of (Some m) g h k = absurd cc
 

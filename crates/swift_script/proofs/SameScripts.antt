@@ -6,8 +6,8 @@ use Rattle.std.proofs.lemmas.Bool.{and_parts, and_from}
 use Rattle.script_equality.specs.SameTrees.{same_actor_tree, same_root_tree}
 use Rattle.script_equality.proofs.SameTrees.{DecidesEqual, decided, lists, actors, roots}
 use Rattle.swift_script.specs.Script.{ScriptTree}
-use Rattle.swift_script.specs.Scripts.{Parts, tree_of}
-use Rattle.swift_script.specs.SameScripts.{same_script, same_parts}
+use Rattle.swift_script.specs.Scripts.{ScriptView, tree_of}
+use Rattle.swift_script.specs.SameScripts.{same_script, same_scripts}
 
 same_script_is : (a b : ScriptTree) → same_script a b ≡ true → a ≡ b
 same_script_is a b e =
@@ -20,5 +20,5 @@ same_script_itself a = and_from _ _ ((lists same_actor_tree actors a.actors a.ac
 pub scripts : DecidesEqual same_script
 scripts = decided same_script same_script_is same_script_itself
 
-pub same_parts-Decides : (a b : Parts) → Decides (same_parts a b) (tree_of a ≡ tree_of b)
-same_parts-Decides a b = scripts (tree_of a) (tree_of b)
+pub same_scripts-Decides : (a b : ScriptView) → Decides (same_scripts a b) (tree_of a ≡ tree_of b)
+same_scripts-Decides a b = scripts (tree_of a) (tree_of b)

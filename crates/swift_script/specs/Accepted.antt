@@ -5,7 +5,7 @@ use Rattle.script_tokens.specs.Pieces.{Piece}
 use Rattle.script_tokens.specs.Lexes.{Lexes}
 use Rattle.script_grammar.specs.Tree.{DeclTree}
 use Rattle.script_grammar.specs.Grammar.{IsScript}
-use Rattle.script_names.specs.declared.misuse.Misuse.{Misuse}
+use Rattle.script_names.specs.declared.error.NameErrorKind.{NameErrorKind}
 use Rattle.script_names.specs.Rules.{names_fault}
 use Rattle.swift_script.specs.Script.{ScriptTree, actors_in, tree_in, all_start_well}
 
@@ -49,11 +49,11 @@ pub record IsPlain (text : List ℕ) : Type 0 where
   pub bytes : is_text text ≡ true
 
 -- What a plain text spells has this as the first fault of its names and counts.
-pub record HasFault (text : List ℕ) (misuse : Misuse) : Type 0 where
+pub record HasFault (text : List ℕ) (kind : NameErrorKind) : Type 0 where
   pub plain : IsPlain text
   pub decls : List DeclTree
   pub spelled : SpellsDecls nesting text decls
-  pub first : names_fault decls ≡ Some misuse
+  pub first : names_fault decls ≡ Some kind
 
 -- What a plain text spells has names and counts in order, and an actor whose invariant does not hold at the start.
 pub record StartsFalse (text : List ℕ) : Type 0 where

@@ -10,7 +10,7 @@ use Rattle.swift_script.specs.declared.compiled.CompiledMethod.{CompiledMethod}
 use Rattle.swift_script.specs.declared.compiled.CompiledActor.{CompiledActor}
 use Rattle.swift_script.specs.Script.{start_of, invariant_of}
 use Rattle.script_code.specs.Value.{holds}
-use Rattle.script_code.specs.Lines.{Stands}
+use Rattle.script_code.specs.Instructions.{Implements}
 use Rattle.swift_script.specs.Scripts.{Entry, code_in, slots_in, name_if, actor_if, params_if, slots_if, code_if, start_if, invariant_if}
 
 -- a compiled method, without where it lies in memory
@@ -19,14 +19,14 @@ pub record MethodIs : Type 0 where
   pub actor : ℕ
   pub params : ℕ
   pub slots : ℕ
-  pub lines : List Meaning
+  pub instructions : List Meaning
 
 abbrev pub method_is : CompiledMethod → MethodIs
-method_is m = record { name = m.name.items; actor = m.actor.0; params = m.params; slots = m.slots; lines = map meaning_of m.lines.items }
+method_is m = record { name = m.name.items; actor = m.actor.0; params = m.params; slots = m.slots; instructions = map meaning_of m.instructions.items }
 
 -- what a method is compiled to
 abbrev pub compiled_of : Directory → Entry → MethodIs
-compiled_of d e = record { name = e.method.name; actor = e.actor; params = length e.method.params; slots = slots_in e; lines = flat_method (code_in d e) }
+compiled_of d e = record { name = e.method.name; actor = e.actor; params = length e.method.params; slots = slots_in e; instructions = flat_method (code_in d e) }
 
 pub record ActorIs : Type 0 where
   pub start : List ℤ
@@ -51,7 +51,7 @@ pub record IsMethodOf (d : Directory) (o : Option Entry) (m : CompiledMethod) : 
   pub has_actor : m.actor.0 ≡ actor_if o
   pub has_params : m.params ≡ params_if o
   pub has_slots : m.slots ≡ slots_if o
-  pub stands : Stands m.lines.items (code_if d o)
+  pub stands : Implements m.instructions.items (code_if d o)
 
 -- A compiled actor is that of a tree, if there is one.
 pub record IsActorOf (o : Option ActorTree) (a : CompiledActor) : Type 0 where

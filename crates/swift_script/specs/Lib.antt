@@ -3,8 +3,8 @@ pub mod Accepted
 pub mod Scripts
 pub mod Compiled
 pub mod Refuses
-pub mod Fine
-pub mod Whole
+pub mod WellScoped
+pub mod ScriptInvariant
 pub mod Answers
 pub mod Lent
 pub mod SameScripts

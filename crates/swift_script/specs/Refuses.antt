@@ -5,10 +5,10 @@ use Rattle.script_grammar.specs.declared.fault.Kind.{Kind}
 use Rattle.script_grammar.specs.declared.fault.Kind.TheVariants as grammar
 use Rattle.script_grammar.specs.declared.fault.ReadError.{ReadError}
 use Rattle.script_grammar.specs.declared.fault.ReadError.TheVariants as reading
-use Rattle.script_names.specs.declared.misuse.NamesError.{NamesError}
-use Rattle.script_names.specs.declared.misuse.NamesError.TheVariants as naming
-use Rattle.script_names.specs.declared.misuse.Misuse.{Misuse}
-use Rattle.script_names.specs.declared.misuse.Misuse.TheVariants.{Twice, Unknown, Arguments as OtherCount, TooMany}
+use Rattle.script_names.specs.declared.error.CheckError.{CheckError}
+use Rattle.script_names.specs.declared.error.CheckError.TheVariants as naming
+use Rattle.script_names.specs.declared.error.NameErrorKind.{NameErrorKind}
+use Rattle.script_names.specs.declared.error.NameErrorKind.TheVariants.{Twice, Unknown, Arguments as OtherCount, TooMany}
 use Rattle.swift_script.specs.declared.fault.ScriptFaultKind.{ScriptFaultKind}
 use Rattle.swift_script.specs.declared.fault.ScriptFaultKind.TheVariants as kind
 use Rattle.swift_script.specs.Accepted.{IsPlain, SpellsNothing, HasFault, StartsFalse}
@@ -44,12 +44,12 @@ read_kind reading.Memory = kind.Memory
 read_kind (reading.Fault f) = grammar_kind f.kind
 
 -- a fault of the names and counts, as a refusal
-abbrev pub names_kind : Misuse → ScriptFaultKind
+abbrev pub names_kind : NameErrorKind → ScriptFaultKind
 names_kind Twice = kind.NameTwice
 names_kind Unknown = kind.UnknownName
 names_kind OtherCount = kind.Arguments
 names_kind TooMany = kind.LimitPassed
 
-abbrev pub misnamed_kind : NamesError → ScriptFaultKind
-misnamed_kind naming.Memory = kind.Memory
-misnamed_kind (naming.Misnamed m) = names_kind m.misuse
+abbrev pub check_kind : CheckError → ScriptFaultKind
+check_kind naming.Memory = kind.Memory
+check_kind (naming.Name m) = names_kind m.kind

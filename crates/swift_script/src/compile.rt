@@ -8,7 +8,7 @@ ghost use Rattle.script_names.specs.Directory.{has_method};
 ghost use Rattle.script_names.specs.Rules.{field_names};
 ghost use Rattle.swift_script.specs.Scripts.{entries_of, entries_in};
 ghost use Rattle.swift_script.specs.Compiled.{method_is, compiled_of, actor_is, compiled_actor, number_is, root_number};
-ghost use Rattle.swift_script.specs.Fine.{MethodFine, MethodsFine, ActorsFine, RootsFine};
+ghost use Rattle.swift_script.specs.WellScoped.{IsWellScoped, AreWellScoped, AreActorsWellScoped, CallMethods};
 
 use crate::compiled::{CompiledActor, CompiledMethod};
 use std::alloc::{AllocError, Global};
@@ -67,7 +67,7 @@ fn compile_method(
     fields: &Names,
     method: &Method,
 ) -> Result<CompiledMethod, AllocError>
-    requires { MethodFine declared.now fields.now (view_method method.now) }
+    requires { IsWellScoped declared.now fields.now (view_method method.now) }
     ensures { IfOk result (λ m. method_is m ≡ compiled_of declared.now (record { actor = actor.0; fields = fields.now; method = view_method method.now })) }
 {
     let lowered = lower(alloc, declared, fields, &method.params, &method.body)?;
@@ -80,7 +80,7 @@ fn compile_method(
         actor,
         params,
         slots: lowered.slots,
-        lines: lowered.lines,
+        instructions: lowered.instructions,
     })
 }
 
@@ -93,7 +93,7 @@ fn compile_methods(
     methods: &[Method],
     all: &mut Vec<CompiledMethod>,
 ) -> Result<(), AllocError>
-    requires { MethodsFine declared.now fields.now (map view_method methods.now) }
+    requires { AreWellScoped declared.now fields.now (map view_method methods.now) }
     ensures { OnOk result (map method_is all.new.items ≡ map method_is all.old.items ++ map (compiled_of declared.now) (entries_of actor.0 fields.now (map view_method methods.now))) }
 {
     for method in methods {
@@ -108,7 +108,7 @@ pub(crate) fn compile(
     declared: &Declared,
     actors: &[Actor],
 ) -> Result<Compiled, AllocError>
-    requires { ActorsFine declared.now (map view_actor actors.now) }
+    requires { AreActorsWellScoped declared.now (map view_actor actors.now) }
     ensures actors { IfOk result (λ c. map actor_is c.actors.items ≡ map compiled_actor (map view_actor actors.now)) }
     ensures methods { IfOk result (λ c. map method_is c.methods.items ≡ map (compiled_of declared.now) (entries_in (map view_actor actors.now))) }
 {
@@ -153,7 +153,7 @@ pub(crate) fn root_methods(
     declared: &Declared,
     roots: &[Root],
 ) -> Result<Vec<MethodId>, AllocError>
-    requires { RootsFine declared.now (map view_root roots.now) }
+    requires { CallMethods declared.now (map view_root roots.now) }
     ensures { IfOk result (λ v. map number_is v.items ≡ map (root_number declared.now) (map view_root roots.now)) }
 {
     let mut methods = Vec::new(alloc);

@@ -1,6 +1,6 @@
 //! Actors and methods as they were compiled.
 
-use script_code::{Formula, Line};
+use script_code::{Formula, Instruction};
 use swift_types::ActorId;
 
 /// A method, ready to run.
@@ -12,7 +12,7 @@ pub struct CompiledMethod {
     pub params: u32,
     /// How many variables a frame of it has.
     pub slots: u32,
-    pub lines: Vec<Line>,
+    pub instructions: Vec<Instruction>,
 }
 
 /// What turns of an actor start from and are checked by.

@@ -3,7 +3,7 @@
 ghost use Rattle.std.specs.Cmp.{partial_equiv_from_equiv, on_equiv, and_equiv};
 ghost use Rattle.script_equality.proofs.SameTrees.{actors_equivalence, roots_equivalence};
 ghost use Rattle.swift_script.specs.Scripts.{tree_of};
-ghost use Rattle.swift_script.specs.SameScripts.{same_parts};
+ghost use Rattle.swift_script.specs.SameScripts.{same_scripts};
 
 use crate::script::Script;
 
@@ -11,7 +11,7 @@ use crate::script::Script;
 /// parentheses, and the order of actors against roots. It takes time linear in the two scripts, and no memory (our
 /// own).
 impl PartialEq for Script {
-    ghost eq = { same_parts };
+    ghost eq = { same_scripts };
 
     ghost laws = { partial_equiv_from_equiv (on_equiv tree_of (and_equiv (on_equiv (λ t. t.actors) actors_equivalence) (on_equiv (λ t. t.roots) roots_equivalence))) };
 

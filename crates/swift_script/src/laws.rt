@@ -3,7 +3,7 @@
 ghost use Rattle.std.specs.Prelude.{◌≡◌, ℕ, List, IsTrue};
 ghost use Rattle.script_code.specs.Value.{holds};
 ghost use Rattle.swift_script.specs.Script.{ScriptTree};
-ghost use Rattle.swift_script.specs.Scripts.{Parts, tree_of, actor_invariant, actor_start};
+ghost use Rattle.swift_script.specs.Scripts.{ScriptView, tree_of, actor_invariant, actor_start};
 ghost use Rattle.swift_script.specs.Accepted.{Spells, IsAccepted};
 
 /// A text spells at most one script, whatever the limits.
@@ -13,5 +13,5 @@ pub fn one_tree()
 
 /// Each actor's invariant, if it has one, holds of what its fields start with, in a script whose tree is accepted.
 pub fn invariants_hold_at_the_start()
-    ensures { (text : List ℕ) (p : Parts) (actor : ℕ) → IsAccepted text (tree_of p) → IsTrue (holds (actor_invariant p actor) (actor_start p actor)) }
+    ensures { (text : List ℕ) (p : ScriptView) (actor : ℕ) → IsAccepted text (tree_of p) → IsTrue (holds (actor_invariant p actor) (actor_start p actor)) }
 {}

@@ -8,7 +8,7 @@ mod fault;
 // What holds of the definitions.
 pub mod laws;
 mod lines;
-mod named;
+mod naming;
 mod names;
 mod printed;
 mod reading;

@@ -14,7 +14,7 @@ ghost use Rattle.swift_script.specs.Answers.{IsPlaced, IsReadAs};
 use crate::compile::{compile, root_methods};
 use crate::fault::{ScriptFault, ScriptFaultKind};
 use crate::lines::Lines;
-use crate::named::named;
+use crate::naming::check_names;
 use crate::script::Script;
 use crate::spelled::{Spelled, fault, spell};
 use crate::split::split;
@@ -47,7 +47,7 @@ fn accept(alloc: Global, text: &[u8]) -> Result<Script, ScriptFault>
     ensures placed { IfErr result IsPlaced }
 {
     let Spelled { decls, lines } = spell(alloc, text)?;
-    let declared = named(alloc, &decls, &lines)?;
+    let declared = check_names(alloc, &decls, &lines)?;
     build(alloc, text, decls, &declared, &lines)
 }
 
@@ -90,7 +90,7 @@ fn invariant_left(actors: &[Actor], place: usize) -> usize {
                 invariant: Some(invariant),
                 ..
             },
-        ) => invariant.left,
+        ) => invariant.tokens_left,
         _ => 0,
     }
 }

@@ -2,11 +2,11 @@
 
 ghost use Rattle.std.specs.Prelude.{◌≡◌, ◌↔◌, ◌<◌, ◌≤◌, IsTrue, map, slice_get};
 ghost use Rattle.script_grammar.specs.Tree.{view_actor, view_root};
-ghost use Rattle.swift_script.specs.Whole.{IsWhole};
+ghost use Rattle.swift_script.specs.ScriptInvariant.{ScriptInvariant};
 ghost use Rattle.swift_script.specs.Compiled.{IsMethodOf, IsActorOrNone};
 ghost use Rattle.swift_script.specs.Accepted.{WasAccepted};
 ghost use Rattle.swift_script.specs.Lent.{actor_if_lent, root_if_lent};
-ghost use Rattle.script_code.specs.Lines.{Stands};
+ghost use Rattle.script_code.specs.Instructions.{Implements};
 ghost use Rattle.script_code.specs.Seen.{term_if_lent};
 ghost use Rattle.swift_script.specs.Scripts.{tree_of, directory_in, entry_at, method_count, method_code, method_actor, method_slots, method_params, method_name, actor_count, actor_invariant, actor_start, root_count, root_method, root_args, root_priority};
 
@@ -15,7 +15,7 @@ use crate::compiled::{CompiledActor, CompiledMethod};
 use std::marker::Model;
 use script_equality::{same_actors, same_roots};
 use script_grammar::{Actor, Root};
-use script_code::{Formula, Line};
+use script_code::{Formula, Instruction};
 use swift_types::{ActorId, MethodId, Priority, RootId};
 
 /// A script that `read` accepted: no rule on its names, counts and invariants is broken, and its methods are lines.
@@ -32,19 +32,19 @@ pub struct Script {
 }
 
 impl Model for Script {
-    ghost use Rattle.swift_script.specs.Scripts.{Parts};
-    ghost use Rattle.swift_script.specs.Whole.{IsWhole};
+    ghost use Rattle.swift_script.specs.Scripts.{ScriptView};
+    ghost use Rattle.swift_script.specs.ScriptInvariant.{ScriptInvariant};
     ghost use Rattle.script_grammar.specs.contracts.tree.Expr as e;
     ghost use Rattle.script_grammar.specs.contracts.tree.Stmt as s;
     ghost use Rattle.std.specs.Coded.{codes};
 
-    ghost Value = { Parts };
+    ghost Value = { ScriptView };
 
     ghost coded = { Prim.hlevel (codes, e.the_row.coded, s.the_row.coded) };
 
     ghost view = { λ s. record { actors = s.actors.items; roots = s.roots.items } };
 
-    ghost invariant = { λ s. IsWhole s.text.items (record { actors = s.actors.items; roots = s.roots.items }) s.compiled.items s.methods.items s.root_methods.items };
+    ghost invariant = { λ s. ScriptInvariant s.text.items (record { actors = s.actors.items; roots = s.roots.items }) s.compiled.items s.methods.items s.root_methods.items };
 }
 
 impl Script {
@@ -56,7 +56,7 @@ impl Script {
         compiled: Compiled,
         root_methods: Vec<MethodId>,
     ) -> Script
-        requires { IsWhole text.items (record { actors = actors.items; roots = roots.items }) compiled.actors.items compiled.methods.items root_methods.items }
+        requires { ScriptInvariant text.items (record { actors = actors.items; roots = roots.items }) compiled.actors.items compiled.methods.items root_methods.items }
         ensures { result ≡ record { actors = actors.items; roots = roots.items } }
     {
         let Compiled {
@@ -96,11 +96,11 @@ impl Script {
     }
 
     /// The method as numbered lines. Following them from line 0 stands for the method's statements.
-    pub fn lines(&self, method: MethodId) -> &[Line]
+    pub fn instructions(&self, method: MethodId) -> &[Instruction]
         requires { method.0 < method_count self.now }
-        ensures { Stands result.now (method_code self.now method.0) }
+        ensures { Implements result.now (method_code self.now method.0) }
     {
-        &self.method(method).lines
+        &self.method(method).instructions
     }
 
     /// The actor that a method is of.

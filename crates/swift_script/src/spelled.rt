@@ -72,7 +72,7 @@ fn refusal(lines: &Lines, error: ReadError) -> ScriptFault
 {
     match error {
         ReadError::Memory => ScriptFault::MEMORY,
-        ReadError::Fault(found) => fault(lines.line(found.left), kind_of(found.kind)),
+        ReadError::Fault(found) => fault(lines.line(found.tokens_left), kind_of(found.kind)),
     }
 }
 

@@ -10,14 +10,14 @@ use Rattle.swift_script.specs.Accepted.{IsAccepted}
 use Rattle.swift_script.specs.Script.{ScriptTree}
 use Rattle.swift_script.specs.Refuses.{Refuses}
 use Rattle.swift_output.specs.Part.{WritesPart}
-use Rattle.swift_one_thread.specs.Lanes.{AreRootsFrom}
-use Rattle.swift_one_thread.specs.Told.{AreTold}
+use Rattle.swift_one_thread.specs.Executors.{AreRootsFrom}
+use Rattle.swift_one_thread.specs.Envs.{HaveTheirEnv}
 use Rattle.swift_one_thread.specs.declared.fault.RunFault.{RunFault}
 use Rattle.swift_one_thread.specs.declared.fault.RunFault.TheVariants.{Workers, Memory, Unfinished}
 use Rattle.swift_tool.specs.declared.fault.ToolFault.{ToolFault}
 use Rattle.swift_tool.specs.declared.fault.ToolFault.TheVariants as tool
 use Rattle.script_code.specs.Value.{holds}
-use Rattle.swift_script.specs.Scripts.{Parts, tree_of, actor_count, actor_invariant, root_count}
+use Rattle.swift_script.specs.Scripts.{ScriptView, tree_of, actor_count, actor_invariant, root_count}
 use Rattle.swift_report.specs.declared.report.Report.{Report}
 use Rattle.swift_report.specs.Lawful.{AreLawful}
 use Rattle.swift_report.specs.Ended.{AreEnded}
@@ -34,23 +34,23 @@ end_well [] = true
 end_well (e ∷ es) = ends_well e.1 (end_well es)
 
 -- Of each actor from a number on, the invariant, if it has one, holds of these fields.
-abbrev pub HoldInvariants : Parts → ℕ → List (Vec ℤ Global) → Type 0
+abbrev pub HoldInvariants : ScriptView → ℕ → List (Vec ℤ Global) → Type 0
 HoldInvariants p k [] = Unit {0}
 HoldInvariants p k (fields ∷ others) = IsTrue (holds (actor_invariant p k) fields.items) × HoldInvariants p (k + 1) others
 
 -- A text is that of a run of the script that these bytes spell: the journal of each executor is lawful, and each of its
--- turns was told what belongs to its root; the turns of each task are numbered without gaps; the fields are what
+-- turns was env_given what belongs to its root; the turns of each task are numbered without gaps; the fields are what
 -- replaying the journals gives, and each invariant holds of them; there is one ending for each root, in order of
 -- declaration, and each comes from a turn of its task. `well` says whether each is a value.
 pub record IsRunOf (bytes : List ℕ) (quiet : Bool) (text : List ℕ) (well : Bool) : Type 0 where
-  pub script : Parts
+  pub script : ScriptView
   pub report : Report
   pub accepted : IsAccepted bytes (tree_of script)
   pub lawful : AreLawful script 0 report.journals.items report.fields.items
   pub journals : length report.journals.items ≡ actor_count script
   pub fields : length report.fields.items ≡ actor_count script
   pub invariants : HoldInvariants script 0 report.fields.items
-  pub told : AreTold script report.journals.items
+  pub env_given : HaveTheirEnv script report.journals.items
   pub numbered : HaveNoGaps report.journals.items
   pub tasks : length report.endings.items ≡ root_count script
   pub roots : AreRootsFrom 0 report.endings.items

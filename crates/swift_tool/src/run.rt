@@ -15,7 +15,7 @@ use swift_script::read;
 use swift_types::Ending;
 
 /// Runs the script that a text spells, with one worker, and writes the text of its report, in one piece as far as the
-/// device takes it. True where every task ended with a value. The gate is told of the moments of the run.
+/// device takes it. True where every task ended with a value. The gate is env_given of the moments of the run.
 ///
 /// # Errors
 ///
@@ -33,17 +33,17 @@ where
     R: RandomSource + AllocGlobal,
     G: Gate + Sync,
     W: Write,
-    ensures ran { IfOk result (λ well. WritesRun bytes.now quiet well (W.contents out.old) (W.contents out.new)) }
+    ensures text { IfOk result (λ well. WritesRun bytes.now quiet well (W.contents out.old) (W.contents out.new)) }
     ensures workers { IfOk result (λ _. workers ≡ 1) }
     ensures refused { IfErr result (λ e. Leaves bytes.now workers quiet (W.contents out.old) (W.contents out.new) e) }
 {
-    let (text, is_well) = ran(rt, bytes, workers, quiet, gate)?;
+    let (text, is_well) = run_to_text(rt, bytes, workers, quiet, gate)?;
     write_all(out, &text)?;
     Ok(is_well)
 }
 
 // The text of a run's report, and whether each task ended with a value.
-fn ran<R, G>(
+fn run_to_text<R, G>(
     rt: &R,
     bytes: &[u8],
     workers: u32,
@@ -53,7 +53,7 @@ fn ran<R, G>(
 where
     R: RandomSource + AllocGlobal,
     G: Gate + Sync,
-    ensures ran { IfOk result (λ r. IsRunOf bytes.now quiet r.0.items r.1) }
+    ensures text { IfOk result (λ r. IsRunOf bytes.now quiet r.0.items r.1) }
     ensures workers { IfOk result (λ _. workers ≡ 1) }
     ensures refused { IfErr result (λ e. IsRefusal bytes.now workers e) }
 {

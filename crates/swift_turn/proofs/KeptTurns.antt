@@ -7,12 +7,12 @@ use Rattle.swift_types.specs.declared.outcome.Resume.{Resume}
 use Rattle.swift_types.specs.declared.outcome.Resume.TheVariants.{Start, Go, Value, Fault as Raise}
 use Rattle.script_code.specs.Tree.{Term}
 use Rattle.script_code.specs.Value.{ev, evs, is_zero, holds}
-use Rattle.script_code.specs.Lines.{First, first, ends, sets_variable, sets_field, tests, returns, throws, yields, calls, receives}
+use Rattle.script_code.specs.Instructions.{NextAction, first, ends, sets_variable, sets_field, tests, returns, throws, yields, calls, receives}
 use Rattle.script_code.specs.declared.env.Env.{Env}
-use Rattle.swift_script.specs.Scripts.{Parts, actor_invariant, method_actor}
-use Rattle.swift_turn.specs.Turn.{State, Leaving, calling, yielding, closing, returning, failing, Next, goes, leaves, Played, scene, with_value, with_values, given, act, at_limit, on, end_of, turn, caught, taken_by, taken, whole_turn, head, exit_by, exits, undoes, kept_of, kept}
+use Rattle.swift_script.specs.Scripts.{ScriptView, actor_invariant, method_actor}
+use Rattle.swift_turn.specs.Turn.{State, ExitView, calling, yielding, closing, returning, failing, Next, goes, leaves, Played, scene, with_value, with_values, given, act, at_limit, on, end_of, turn, caught, taken_by, taken, whole_turn, head, exit_by, exits, undoes, kept_of, kept}
 use Rattle.swift_turn.specs.Body.{most_steps, frame_turn}
-use Rattle.swift_turn.specs.Frame.{frame_parts, state_at}
+use Rattle.swift_turn.specs.Frame.{frame_view, state_at}
 use Rattle.swift_turn.specs.Laws.{fault_of, SaysUndone, IsUndone, IsUntouched}
 use Rattle.swift_turn.specs.declared.frame.Frame.{Frame}
 
@@ -20,11 +20,11 @@ use Rattle.swift_turn.specs.declared.frame.Frame.{Frame}
 left_untouched : (s : State) (f : Fault) → IsUntouched s (exits s (failing f)).state
 left_untouched s f = record { todo = refl; vars = refl; handles = refl; made = refl; opened = refl; fields = refl; effects = refl; depth = refl; bindings = refl; groups = refl }
 
-undoing_untouched : (s : State) (e : Leaving) → undoes e ≡ true → IsUntouched s (exits s e).state
+undoing_untouched : (s : State) (e : ExitView) → undoes e ≡ true → IsUntouched s (exits s e).state
 undoing_untouched s (failing f) is = left_untouched s f
 undoing_untouched s e is = absurd (cc)
 
-exits_fields : (s : State) (e : Leaving) → (exits s e).state.fields ≡ s.fields
+exits_fields : (s : State) (e : ExitView) → (exits s e).state.fields ≡ s.fields
 exits_fields s (failing f) = refl
 exits_fields s e = refl
 
@@ -40,14 +40,14 @@ says_of : (s : State) (f : Fault) → IsUndone (exits s (failing f)) → SaysUnd
 says_of s f undone = subst SaysUndone (fault_of-exit_by f (head s.groups)) undone
 
 -- what undoes its turn says so
-undoes_says : (s : State) (e : Leaving) → undoes e ≡ true → IsUndone (exits s e)
+undoes_says : (s : State) (e : ExitView) → undoes e ≡ true → IsUndone (exits s e)
 undoes_says s (failing Overflow) is = undone_by s Overflow tt
 undoes_says s (failing Steps) is = undone_by s Steps tt
 undoes_says s (failing Tasks) is = undone_by s Tasks tt
 undoes_says s e is = absurd (cc)
 
 -- the ends of statements: none closes a group, or has the fault of an invariant
-abbrev IsPlain : Leaving → Type 0
+abbrev IsPlain : ExitView → Type 0
 IsPlain (closing g f) = ⊥
 IsPlain (failing Invariant) = ⊥
 IsPlain e = Unit {0}
@@ -64,7 +64,7 @@ values_plain : (vs : Option (List ℤ)) (s : State) (go : List ℤ → Next) →
 values_plain None s go h = tt
 values_plain (Some xs) s go h = h xs
 
-act_plain : (env : Env) (here : First) (s : State) → PlainNext (act env here s)
+act_plain : (env : Env) (here : NextAction) (s : State) → PlainNext (act env here s)
 act_plain env ends s = tt
 act_plain env (sets_variable x t rest) s = value_plain (ev t (scene env s)) s (λ v. goes (record s { todo = rest; vars = slice_set s.vars x v })) (λ v. tt)
 act_plain env (sets_field f t rest) s = value_plain (ev t (scene env s)) s (λ v. goes (record s { todo = rest; fields = slice_set s.fields f v })) (λ v. tt)
@@ -75,7 +75,7 @@ act_plain env (yields rest) s = tt
 act_plain env (calls a m ts rest) s = values_plain (evs ts (scene env s)) s (λ vs. leaves (record s { todo = rest }) (calling a m vs)) (λ vs. tt)
 act_plain env (receives place other rest) s = tt
 
-limit_plain : (here : First) (s : State) → IsPlain (end_of (at_limit here s)).exit
+limit_plain : (here : NextAction) (s : State) → IsPlain (end_of (at_limit here s)).exit
 limit_plain ends s = tt
 limit_plain here s = tt
 
@@ -102,7 +102,7 @@ caught_refused env Turns other s go h = (Turns, refl, refl)
 caught_refused env f None s go h = (f, refl, refl)
 caught_refused env f (Some t) s go h = value_refused (ev t (scene env s)) s go h
 
-by_refused : (env : Env) (here : First) (resume : Resume) (s : State) → RefusedNext s (taken_by env here resume s)
+by_refused : (env : Env) (here : NextAction) (resume : Resume) (s : State) → RefusedNext s (taken_by env here resume s)
 by_refused env (receives place other rest) Start s = tt
 by_refused env (receives place other rest) Go s = tt
 by_refused env (receives place other rest) (Value v) s = tt
@@ -110,7 +110,7 @@ by_refused env (receives place other rest) (Raise f) s = caught_refused env f ot
 by_refused env here (Raise f) s = (f, refl, refl)
 by_refused env here resume s = tt
 
-taken_refused : (env : Env) (pending : Option Fault) (here : First) (resume : Resume) (s : State) → RefusedNext s (taken env pending here resume s)
+taken_refused : (env : Env) (pending : Option Fault) (here : NextAction) (resume : Resume) (s : State) → RefusedNext s (taken env pending here resume s)
 taken_refused env None here resume s = by_refused env here resume s
 taken_refused env (Some f) here resume s = (f, refl, refl)
 
@@ -127,7 +127,7 @@ whole_ends env n s resume =
     on_ends s (taken env s.pending (first s.todo) resume s) (turn env n) (taken_refused env s.pending (first s.todo) resume s) (turn_plain env n)
 
 -- an end of statements that says that its turn was undone undoes it
-plain_undoes : (s : State) (e : Leaving) → IsPlain e → IsUndone (exits s e) → undoes e ≡ true
+plain_undoes : (s : State) (e : ExitView) → IsPlain e → IsUndone (exits s e) → undoes e ≡ true
 plain_undoes s (failing Overflow) plain undone = refl
 plain_undoes s (failing Steps) plain undone = refl
 plain_undoes s (failing Tasks) plain undone = refl
@@ -156,11 +156,11 @@ invariant_kept env n invariant s resume held =
     invariant_by invariant s after (undoes after.exit) (holds invariant after.state.fields) refl refl held
 
 -- the same of a frame that was handed out: the invariant of its actor
-pub frame_keeps_invariant : (p : Parts) (frame : Frame) (fields : List ℤ) (resume : Resume) (env : Env)
-    → IsTrue (holds (actor_invariant p (method_actor p (frame_parts frame).method)) fields)
-    → IsTrue (holds (actor_invariant p (method_actor p (frame_parts frame).method)) (frame_turn p frame fields resume env).state.fields)
+pub frame_keeps_invariant : (p : ScriptView) (frame : Frame) (fields : List ℤ) (resume : Resume) (env : Env)
+    → IsTrue (holds (actor_invariant p (method_actor p (frame_view frame).method)) fields)
+    → IsTrue (holds (actor_invariant p (method_actor p (frame_view frame).method)) (frame_turn p frame fields resume env).state.fields)
 frame_keeps_invariant p frame fields resume env held =
-    invariant_kept env most_steps (actor_invariant p (method_actor p (frame_parts frame).method)) (state_at p (frame_parts frame) frame.made frame.opened fields []) resume held
+    invariant_kept env most_steps (actor_invariant p (method_actor p (frame_view frame).method)) (state_at p (frame_view frame) frame.made frame.opened fields []) resume held
 
 -- what is kept, where its end says that the turn was undone
 untouched_by : (invariant : Option Term) (before : State) (after : Played) (undone good : Bool) → Ends before after → undoes after.exit ≡ undone → holds invariant after.state.fields ≡ good
@@ -173,7 +173,7 @@ untouched_by invariant before after false true (inl plain) u g is =
     absurd (cc)
 untouched_by invariant before after false true (inr refused) u g is =
     let at : IsUntouched after.state (exits after.state after.exit).state =
-    subst (λ (e : Leaving). IsUntouched after.state (exits after.state e).state) (sym refused.2) (left_untouched after.state refused.0) in
+    subst (λ (e : ExitView). IsUntouched after.state (exits after.state e).state) (sym refused.2) (left_untouched after.state refused.0) in
     let here : IsUntouched before (exits after.state after.exit).state = subst (λ (s : State). IsUntouched s (exits after.state after.exit).state) refused.1 at in
     rw (u, g) here
 untouched_by invariant before after false false how u g is = rw (u, g) (left_untouched before Invariant)

@@ -1,8 +1,8 @@
 -- A turn, a step at a time.
 use Rattle.std.proofs.Common.{◌≡◌, ℕ, ◌+◌, ap, add-one}
-use Rattle.script_code.specs.Lines.{first}
+use Rattle.script_code.specs.Instructions.{first}
 use Rattle.script_code.specs.declared.env.Env.{Env}
-use Rattle.swift_turn.specs.Turn.{State, Leaving, goes, leaves, act, at_limit, on, end_of, Played, turn}
+use Rattle.swift_turn.specs.Turn.{State, ExitView, goes, leaves, act, at_limit, on, end_of, Played, turn}
 
 -- no step is left
 pub turn_limit : (env : Env) (s : State) (p : Played) → p ≡ end_of (at_limit (first s.todo) s) → p ≡ turn env 0 s
@@ -10,7 +10,7 @@ unfolding turn
 turn_limit env s p h = h
 
 -- a step ends the turn
-pub turn_out : (env : Env) (n m : ℕ) (s s' : State) (e : Leaving) → n ≡ m + 1 → leaves s' e ≡ act env (first s.todo) s → record { state = s'; exit = e } ≡ turn env n s
+pub turn_out : (env : Env) (n m : ℕ) (s s' : State) (e : ExitView) → n ≡ m + 1 → leaves s' e ≡ act env (first s.todo) s → record { state = s'; exit = e } ≡ turn env n s
 unfolding turn
 turn_out env n m s s' e k h = rw (k, add-one) (ap (λ x. on x (turn env m)) h)
 

@@ -8,35 +8,35 @@ use Rattle.swift_types.specs.declared.outcome.Ending.TheVariants.{Value, Fault}
 use Rattle.swift_types.specs.declared.outcome.Resume.{Resume}
 use Rattle.swift_types.specs.declared.outcome.Resume.TheVariants.{Start, Go, Value as GivenValue, Fault as Raise}
 use Rattle.script_code.specs.declared.env.Env.{Env}
-use Rattle.swift_script.specs.Scripts.{Parts, actor_invariant, method_actor, method_count, method_slots}
-use Rattle.swift_turn.specs.Frame.{FrameParts, frame_parts, state_at}
-use Rattle.swift_turn.specs.Turn.{Deed, Leaving, calling, yielding, closing, returning, failing, Played, kept}
+use Rattle.swift_script.specs.Scripts.{ScriptView, actor_invariant, method_actor, method_count, method_slots}
+use Rattle.swift_turn.specs.Frame.{FrameView, frame_view, state_at}
+use Rattle.swift_turn.specs.Turn.{EffectView, ExitView, calling, yielding, closing, returning, failing, Played, kept}
 use Rattle.swift_turn.specs.declared.exit.Step.{Step}
 use Rattle.swift_turn.specs.declared.exit.Step.TheVariants.{Run, Ended, Await}
 use Rattle.swift_turn.specs.declared.frame.Frame.{Frame}
 
 -- where a body is with its turn
-pub data Phase : Type 0 where
-  idle : Phase
+pub data PhaseView : Type 0 where
+  idle : PhaseView
   -- a turn on these fields is to be polled
-  entered : List ℤ → Resume → Env → Phase
+  entered : List ℤ → Resume → Env → PhaseView
   -- the fields, the effects and the exit that the turn has given
-  left : List ℤ → List Deed → Leaving → Phase
+  left : List ℤ → List EffectView → ExitView → PhaseView
   -- the fields from before a turn that met want of memory
-  lacking : List ℤ → Phase
+  out_of_memory : List ℤ → PhaseView
 
 -- the frame that runs, if the task has not ended, the task's counts, and where its turn is
-pub record Here : Type 0 where
-  pub top : Option FrameParts
+pub record TaskView : Type 0 where
+  pub top : Option FrameView
   pub made : ℕ
   pub opened : ℕ
-  pub phase : Phase
+  pub phase : PhaseView
 
-pub record BodyParts : Type 0 where
-  pub script : Parts
-  pub here : Here
+pub record BodyView : Type 0 where
+  pub script : ScriptView
+  pub here : TaskView
   -- the frames below the one that runs, the nearest first
-  pub callers : List FrameParts
+  pub callers : List FrameView
   -- the name of what it waits at
   pub source : ℕ
   -- a waker lies in the slot of its source: that of the turn that was entered last
@@ -50,44 +50,44 @@ abbrev pub most_frames : ℕ
 most_frames = 64
 
 -- the kept turn of a frame, by its task's counts, the fields of its actor, its resume and what it is told
-abbrev pub kept_turn : Parts → FrameParts → ℕ → ℕ → List ℤ → Resume → Env → Played
+abbrev pub kept_turn : ScriptView → FrameView → ℕ → ℕ → List ℤ → Resume → Env → Played
 kept_turn script p made opened fields resume env =
     kept env most_steps (actor_invariant script (method_actor script p.method)) (state_at script p made opened fields []) resume
 
 -- the same of a frame that was handed out
-abbrev pub frame_turn : Parts → Frame → List ℤ → Resume → Env → Played
-frame_turn script f = kept_turn script (frame_parts f) f.made f.opened
+abbrev pub frame_turn : ScriptView → Frame → List ℤ → Resume → Env → Played
+frame_turn script f = kept_turn script (frame_view f) f.made f.opened
 
 -- after the poll of a turn: its kept turn, or all as before and the fields handed back, for want of memory
-abbrev pub IsOutcome : Parts → FrameParts → Here → List ℤ → Resume → Env → Option FrameParts → Phase → ℕ → ℕ → Type 0
+abbrev pub IsOutcome : ScriptView → FrameView → TaskView → List ℤ → Resume → Env → Option FrameView → PhaseView → ℕ → ℕ → Type 0
 IsOutcome script p old fields resume env (Some p') (left fields' effects exit) made opened =
     (p'.method ≡ p.method) × (record { state = state_at script p' made opened fields' effects; exit = exit } ≡ kept_turn script p old.made old.opened fields resume env)
-IsOutcome script p old fields resume env (Some p') (lacking fields') made opened =
+IsOutcome script p old fields resume env (Some p') (out_of_memory fields') made opened =
     (fields' ≡ fields) × (p' ≡ p) × (made ≡ old.made) × (opened ≡ old.opened)
 IsOutcome script p old fields resume env _ _ made opened = ⊥
 
 -- a poll runs one turn where one was entered, and else changes nothing
-abbrev pub Polls : Parts → Here → Option FrameParts → Phase → Here → Type 0
+abbrev pub Polls : ScriptView → TaskView → Option FrameView → PhaseView → TaskView → Type 0
 Polls script old (Some p) (entered fields resume env) new = IsOutcome script p old fields resume env new.top new.phase new.made new.opened
 Polls script old _ _ new = new ≡ old
 
 -- the ending of a task whose first frame is left so
-abbrev pub ending_of : Leaving → Option Ending
+abbrev pub ending_of : ExitView → Option Ending
 ending_of (returning v) = Some (Value v)
 ending_of (failing f) = Some (Fault f)
 ending_of _ = None
 
 -- an exit leaves the first frame only where no other is below it
-abbrev pub ending_if : List FrameParts → Leaving → Option Ending
+abbrev pub ending_if : List FrameView → ExitView → Option Ending
 ending_if [] e = ending_of e
 ending_if (p ∷ ps) e = None
 
 -- the ending that the entered turn gives, if it leaves the first frame
-abbrev pub ends_by : BodyParts → Option FrameParts → Phase → Option Ending
+abbrev pub ends_by : BodyView → Option FrameView → PhaseView → Option Ending
 ends_by b (Some p) (entered fields resume env) = ending_if b.callers (kept_turn b.script p b.here.made b.here.opened fields resume env).exit
 ends_by b _ _ = None
 
-abbrev pub ends_with : BodyParts → Option Ending
+abbrev pub ends_with : BodyView → Option Ending
 ends_with b = ends_by b b.here.top b.here.phase
 
 abbrev pub poll_of : Option Ending → Poll Ending
@@ -95,27 +95,27 @@ poll_of None = Pending
 poll_of (Some e) = Ready e
 
 -- what a poll answers: the ending, where the turn has left the first frame
-abbrev pub answer_of : List FrameParts → Phase → Phase → Poll Ending
+abbrev pub answer_of : List FrameView → PhaseView → PhaseView → Poll Ending
 answer_of callers (entered fields resume env) (left fields' effects exit) = poll_of (ending_if callers exit)
 answer_of callers _ _ = Pending
 
 -- an exit at which the body waits at its own source
-abbrev pub Registers : Leaving → Type 0
+abbrev pub Registers : ExitView → Type 0
 Registers (closing g f) = Unit {0}
 Registers _ = ⊥
 
-abbrev pub WaitsIn : Phase → Type 0
+abbrev pub WaitsIn : PhaseView → Type 0
 WaitsIn (left fields effects exit) = Registers exit
 WaitsIn _ = ⊥
 
 -- a turn was entered, and was polled
-abbrev pub IsPolled : Phase → Type 0
+abbrev pub IsPolled : PhaseView → Type 0
 IsPolled (left fields effects exit) = Unit {0}
-IsPolled (lacking fields) = Unit {0}
+IsPolled (out_of_memory fields) = Unit {0}
 IsPolled _ = ⊥
 
 -- the fields, the effects and the exit that a turn has given
-abbrev pub Hands : Phase → List ℤ → List Deed → Leaving → Type 0
+abbrev pub Hands : PhaseView → List ℤ → List EffectView → ExitView → Type 0
 Hands (left fields effects exit) fields' effects' exit' = (fields' ≡ fields) × (effects' ≡ effects) × (exit' ≡ exit)
 Hands _ fields' effects' exit' = ⊥
 
@@ -124,7 +124,7 @@ abbrev pub padded : List ℤ → ℕ → List ℤ
 padded args slots = args ++ replicate (slots - length args) (pos 0)
 
 -- a frame that begins
-abbrev pub opening : Parts → ℕ → List ℤ → List (ℕ × ℤ) → FrameParts
+abbrev pub opening : ScriptView → ℕ → List ℤ → List (ℕ × ℤ) → FrameView
 opening script m args bindings = record {
   method = m;
   line = 0;
@@ -138,33 +138,33 @@ opening script m args bindings = record {
 
 -- the frames after the exit of a turn, and what comes next
 pub record Advanced : Type 0 where
-  pub top : Option FrameParts
-  pub callers : List FrameParts
+  pub top : Option FrameView
+  pub callers : List FrameView
   pub step : Step
 
 -- the next turn of this frame
-abbrev pub runs : Parts → FrameParts → List FrameParts → Resume → Advanced
+abbrev pub runs : ScriptView → FrameView → List FrameView → Resume → Advanced
 runs script p callers resume = record { top = Some p; callers = callers; step = Run (record { 0 = method_actor script p.method }) resume }
 
 -- the nearest caller goes on; without one the task has ended
-abbrev pub resumed : Parts → List FrameParts → Resume → Ending → Advanced
+abbrev pub resumed : ScriptView → List FrameView → Resume → Ending → Advanced
 resumed script [] resume ending = record { top = None; callers = []; step = Ended ending }
 resumed script (p ∷ callers) resume ending = runs script p callers resume
 
 -- a frame for the method that is called, if fewer than 64 are there; it has its caller's bindings
-abbrev pub called : Parts → FrameParts → List FrameParts → ℕ → List ℤ → Advanced
+abbrev pub called : ScriptView → FrameView → List FrameView → ℕ → List ℤ → Advanced
 called script p callers m args =
     if nat_lt (length (p ∷ callers)) most_frames
     then runs script (opening script m args p.bindings) (p ∷ callers) Start
     else runs script p callers (Raise Depth)
 
 -- a call that begins a frame, since fewer than 64 are there
-abbrev pub BeginsFrame : List FrameParts → Leaving → Type 0
+abbrev pub BeginsFrame : List FrameView → ExitView → Type 0
 BeginsFrame callers (calling a m args) = length callers + 1 < most_frames
 BeginsFrame callers _ = ⊥
 
 -- what follows from the exit of a turn
-abbrev pub advanced : Parts → FrameParts → List FrameParts → Leaving → Advanced
+abbrev pub advanced : ScriptView → FrameView → List FrameView → ExitView → Advanced
 advanced script p callers (calling a m args) = called script p callers m args
 advanced script p callers yielding = runs script p callers Go
 advanced script p callers (closing g f) = record { top = Some p; callers = callers; step = Await }
@@ -172,7 +172,7 @@ advanced script p callers (returning v) = resumed script callers (GivenValue v) 
 advanced script p callers (failing f) = resumed script callers (Raise f) (Fault f)
 
 -- a method that is called is one of the script
-abbrev pub CanAdvance : Parts → Leaving → Type 0
+abbrev pub CanAdvance : ScriptView → ExitView → Type 0
 CanAdvance script (calling a m args) = m < method_count script
 CanAdvance script _ = Unit {0}
 

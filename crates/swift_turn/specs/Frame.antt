@@ -1,16 +1,16 @@
 -- A frame, without where it lies in memory.
 use Rattle.std.specs.Prelude.{ℕ, ℤ, Option, Some, None, List, [], map, reverse}
 use Rattle.swift_types.specs.declared.outcome.Fault.{Fault}
-use Rattle.script_code.specs.Lines.{code_at}
+use Rattle.script_code.specs.Instructions.{code_at}
 use Rattle.script_code.specs.Tree.{Code}
-use Rattle.swift_script.specs.Scripts.{Parts, method_code}
-use Rattle.swift_turn.specs.Turn.{State, Deed, oldest, head, tail, pending_by}
+use Rattle.swift_script.specs.Scripts.{ScriptView, method_code}
+use Rattle.swift_turn.specs.Turn.{State, EffectView, oldest, head, tail, pending_by}
 use Rattle.swift_turn.specs.declared.activation.Activation.{Activation}
 use Rattle.swift_turn.specs.declared.effect.Effect.{Effect}
 use Rattle.swift_turn.specs.declared.frame.Frame.{Frame}
 
 -- a method that is under way: the line stands for the statements still to do
-pub record FrameParts : Type 0 where
+pub record FrameView : Type 0 where
   pub method : ℕ
   pub line : ℕ
   pub vars : List ℤ
@@ -23,25 +23,25 @@ pub record FrameParts : Type 0 where
   pub pending : Option Fault
 
 -- no statement binds a local yet
-abbrev pub parts_of : Activation → FrameParts
-parts_of a = record { method = a.method.0; line = a.line; vars = a.vars.items; handles = a.handles.items; bindings = []; depth = a.depth; groups = reverse a.groups.items; pending = a.pending }
+abbrev pub activation_view : Activation → FrameView
+activation_view a = record { method = a.method.0; line = a.line; vars = a.vars.items; handles = a.handles.items; bindings = []; depth = a.depth; groups = reverse a.groups.items; pending = a.pending }
 
-abbrev pub parts_if : Option Activation → Option FrameParts
-parts_if None = None
-parts_if (Some a) = Some (parts_of a)
+abbrev pub activation_view_if : Option Activation → Option FrameView
+activation_view_if None = None
+activation_view_if (Some a) = Some (activation_view a)
 
 -- the same of a frame that was handed out
-abbrev pub frame_parts : Frame → FrameParts
-frame_parts f = record { method = f.method.0; line = f.line; vars = f.vars.items; handles = f.handles.items; bindings = []; depth = f.depth; groups = reverse f.groups.items; pending = f.pending }
+abbrev pub frame_view : Frame → FrameView
+frame_view f = record { method = f.method.0; line = f.line; vars = f.vars.items; handles = f.handles.items; bindings = []; depth = f.depth; groups = reverse f.groups.items; pending = f.pending }
 
-abbrev pub deed_of : Effect → Deed
-deed_of e = elim e [ ]
+abbrev pub effect_view : Effect → EffectView
+effect_view e = elim e [ ]
 
-abbrev pub deeds_of : List Effect → List Deed
-deeds_of = map deed_of
+abbrev pub effect_views : List Effect → List EffectView
+effect_views = map effect_view
 
 -- the continuation that a frame of this code stands for, with these counts, fields and effects
-abbrev pub state_in : Code → FrameParts → ℕ → ℕ → List ℤ → List Deed → State
+abbrev pub state_in : Code → FrameView → ℕ → ℕ → List ℤ → List EffectView → State
 state_in code p made opened fields effects = record {
   todo = code_at code p.line;
   vars = p.vars;
@@ -57,9 +57,9 @@ state_in code p made opened fields effects = record {
 }
 
 -- the same of a frame of a script
-abbrev pub state_at : Parts → FrameParts → ℕ → ℕ → List ℤ → List Deed → State
+abbrev pub state_at : ScriptView → FrameView → ℕ → ℕ → List ℤ → List EffectView → State
 state_at script p = state_in (method_code script p.method) p
 
 -- a frame that a fault leaves
-abbrev pub parts_left : Fault → FrameParts → FrameParts
-parts_left f p = record p { bindings = oldest p.depth p.bindings; groups = tail p.groups; pending = pending_by f (head p.groups) p.pending }
+abbrev pub frame_left_by : Fault → FrameView → FrameView
+frame_left_by f p = record p { bindings = oldest p.depth p.bindings; groups = tail p.groups; pending = pending_by f (head p.groups) p.pending }

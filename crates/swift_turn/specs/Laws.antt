@@ -6,10 +6,10 @@ use Rattle.swift_types.specs.declared.outcome.Resume.{Resume}
 use Rattle.script_code.specs.Tree.{Term}
 use Rattle.script_code.specs.Value.{holds}
 use Rattle.script_code.specs.declared.env.Env.{Env}
-use Rattle.swift_turn.specs.Turn.{State, Leaving, closing, failing, Played, whole_turn, oldest, tail, exits, kept}
+use Rattle.swift_turn.specs.Turn.{State, ExitView, closing, failing, Played, whole_turn, oldest, tail, exits, kept}
 
 -- the fault with which a turn ends, if it ends with one; where a group is closed first it is pending
-abbrev pub fault_of : Leaving → Option Fault
+abbrev pub fault_of : ExitView → Option Fault
 fault_of (failing f) = Some f
 fault_of (closing g pending) = pending
 fault_of _ = None

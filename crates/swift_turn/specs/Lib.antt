@@ -1,6 +1,6 @@
 pub mod Turn
 pub mod Laws
 pub mod Frame
-pub mod Runs
+pub mod TurnStates
 pub mod Body
-pub mod Whole
+pub mod BodyInvariant

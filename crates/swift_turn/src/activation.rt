@@ -3,7 +3,7 @@
 ghost use Rattle.std.specs.Prelude.{◌≡◌, ◌<◌, [], IfOk};
 ghost use Rattle.swift_script.specs.Scripts.{method_count};
 ghost use Rattle.swift_turn.specs.Body.{opening};
-ghost use Rattle.swift_turn.specs.Frame.{parts_of};
+ghost use Rattle.swift_turn.specs.Frame.{activation_view};
 
 use std::alloc::{AllocError, Global};
 use swift_script::Script;
@@ -30,7 +30,7 @@ pub fn opening_of(
     args: Vec<i64>,
 ) -> Result<Activation, AllocError>
     requires { method.0 < method_count script.now }
-    ensures { IfOk result (λ a. parts_of a ≡ opening script.now method.0 args.items []) }
+    ensures { IfOk result (λ a. activation_view a ≡ opening script.now method.0 args.items []) }
 {
     let slots = script.slots(method) as usize;
     let mut vars = args;

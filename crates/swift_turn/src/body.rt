@@ -4,19 +4,19 @@ ghost use Rattle.std.specs.Prelude.{◌≡◌, ◌+◌, ◌<◌, ◌⊎◌, ◌�
 ghost use Rattle.std.specs.Arc.{arc_value};
 ghost use Rattle.futures.specs.Poll.{IfReady, OnPending};
 ghost use Rattle.futures.specs.Task.{Covers, Keeps};
-ghost use Rattle.script_code.specs.Lines.{code_at};
+ghost use Rattle.script_code.specs.Instructions.{code_at};
 ghost use Rattle.swift_script.specs.Scripts.{method_actor, method_code, method_count};
-ghost use Rattle.swift_turn.specs.Body.{BeginsFrame, CanAdvance, GoesOn, Hands, IsPolled, Polls, Registers, WaitsIn, advanced, answer_of, called, ending_if, ends_with, entered, idle, lacking, most_frames, opening, resumed};
-ghost use Rattle.swift_turn.specs.Frame.{deeds_of, frame_parts};
-ghost use Rattle.swift_turn.specs.Runs.{leaving_of};
+ghost use Rattle.swift_turn.specs.Body.{BeginsFrame, CanAdvance, GoesOn, Hands, IsPolled, Polls, Registers, WaitsIn, advanced, answer_of, called, ending_if, ends_with, entered, idle, out_of_memory, most_frames, opening, resumed};
+ghost use Rattle.swift_turn.specs.Frame.{effect_views, frame_view};
+ghost use Rattle.swift_turn.specs.TurnStates.{exit_view};
 
 use crate::activation::{Activation, opening_of};
 use crate::effect::Effect;
 use crate::exit::{Exit, Step};
 use crate::frame::Frame;
 use crate::kept::play_kept;
-use crate::phase::Turn;
-use crate::run::{Run, empty_run, make_room};
+use crate::phase::Phase;
+use crate::turn_state::{TurnState, empty_state, make_room};
 use crate::stack::Stack;
 use futures::Future;
 use futures::task::{Context, Poll, Source, Waker};
@@ -25,7 +25,7 @@ use std::marker::Model;
 use std::mem;
 use std::sync::Arc;
 use script_code::Env;
-use script_code::laws::first_line_begins;
+use script_code::laws::first_instruction_begins;
 use swift_script::Script;
 use swift_types::{ActorId, Ending, Fault, MethodId, Resume};
 
@@ -54,9 +54,9 @@ pub struct Body {
     made: u64,
     opened: u64,
     callers: Stack,
-    turn: Turn,
+    phase: Phase,
     // What a turn began with, to undo it. Its buffers are kept from turn to turn.
-    spare: Run,
+    spare: TurnState,
     source: Source,
     waker: Option<Waker>,
 }
@@ -67,24 +67,24 @@ impl Model for Body {
     ghost use Rattle.std.specs.Prelude.{is_some};
     ghost use Rattle.script_grammar.specs.contracts.tree.Expr as e;
     ghost use Rattle.script_grammar.specs.contracts.tree.Stmt as s;
-    ghost use Rattle.swift_turn.specs.Body.{BodyParts};
+    ghost use Rattle.swift_turn.specs.Body.{BodyView};
 
-    ghost Value = { BodyParts };
+    ghost Value = { BodyView };
 
     ghost coded = { Prim.hlevel (codes, e.the_row.coded, s.the_row.coded) };
 
-    ghost use Rattle.swift_turn.specs.Frame.{parts_if};
-    ghost use Rattle.swift_turn.specs.Whole.{IsWhole, phase_of};
+    ghost use Rattle.swift_turn.specs.Frame.{activation_view_if};
+    ghost use Rattle.swift_turn.specs.BodyInvariant.{BodyInvariant, phase_of};
 
     ghost view = { λ b. record {
       script = arc_value b.script;
-      here = record { top = parts_if b.top; made = b.made; opened = b.opened; phase = phase_of b.turn };
+      here = record { top = activation_view_if b.top; made = b.made; opened = b.opened; phase = phase_of b.phase };
       callers = b.callers;
       source = b.source.id;
       armed = is_some b.waker;
     } };
 
-    ghost invariant = { λ b. IsWhole (arc_value b.script) (parts_if b.top) b.callers };
+    ghost invariant = { λ b. BodyInvariant (arc_value b.script) (activation_view_if b.top) b.callers };
 }
 
 impl Future for Body {
@@ -111,11 +111,11 @@ impl Future for Body {
         ensures rest { self.new ≡ record self.old { here = self.new.here; armed = self.new.armed } }
         ensures answer { result ≡ answer_of self.old.callers self.old.here.phase self.new.here.phase }
     {
-        if !matches!(self.turn, Turn::Entered(_, _, _)) {
+        if !matches!(self.phase, Phase::Entered(_, _, _)) {
             return cx.yield_now();
         }
         self.play_turn();
-        let Turn::Played(_, _, exit) = &self.turn else {
+        let Phase::Played(_, _, exit) = &self.phase else {
             return cx.yield_now();
         };
         match last_ending(&self.callers, exit) {
@@ -128,7 +128,7 @@ impl Future for Body {
 
 // The ending, where this exit leaves the first frame.
 fn last_ending(callers: &Stack, exit: &Exit) -> Option<Ending>
-    ensures { result ≡ ending_if callers.now (leaving_of exit.now) }
+    ensures { result ≡ ending_if callers.now (exit_view exit.now) }
 {
     if !callers.is_empty() {
         return None;
@@ -142,7 +142,7 @@ fn last_ending(callers: &Stack, exit: &Exit) -> Option<Ending>
 
 // Whether the body waits at its own source.
 fn waits(exit: &Exit) -> bool
-    ensures { IsTrue result ↔ Registers (leaving_of exit.now) }
+    ensures { IsTrue result ↔ Registers (exit_view exit.now) }
 {
     matches!(exit, Exit::Close(_, _))
 }
@@ -163,7 +163,7 @@ impl Body {
         ensures statements { IfOk result (λ b. IfSome b.here.top (λ p. code_at (method_code b.script p.method) p.line ≡ method_code b.script method.0)) }
         ensures here { IfOk result (λ b. b.here ≡ record { top = Some (opening (arc_value script) method.0 args.items []); made = 0; opened = 0; phase = idle }) }
     {
-        first_line_begins();
+        first_instruction_begins();
         let top = opening_of(alloc, &script, method, args)?;
         Ok(Body {
             alloc,
@@ -172,8 +172,8 @@ impl Body {
             made: 0,
             opened: 0,
             callers: Stack::new(alloc),
-            turn: Turn::Idle,
-            spare: empty_run(alloc),
+            phase: Phase::Idle,
+            spare: empty_state(alloc),
             source: Source::new(),
             waker: None,
         })
@@ -199,7 +199,7 @@ impl Body {
             return Err((fields, AllocError));
         }
         self.waker = None;
-        self.turn = Turn::Entered(fields, resume, env);
+        self.phase = Phase::Entered(fields, resume, env);
         Ok(())
     }
 
@@ -207,13 +207,13 @@ impl Body {
     /// want of memory, the fields are those that were entered, and the body is as it was before.
     pub fn leave(&mut self) -> Result<(Vec<i64>, Vec<Effect>, Exit), (Vec<i64>, AllocError)>
         requires { IsPolled self.old.here.phase }
-        ensures ok { IfOk result (λ r. Hands self.old.here.phase r.0.items (deeds_of r.1.items) (leaving_of r.2)) }
-        ensures err { IfErr result (λ e. self.old.here.phase ≡ lacking e.0.items) }
+        ensures ok { IfOk result (λ r. Hands self.old.here.phase r.0.items (effect_views r.1.items) (exit_view r.2)) }
+        ensures err { IfErr result (λ e. self.old.here.phase ≡ out_of_memory e.0.items) }
         ensures rest { self.new ≡ record self.old { here = record self.old.here { phase = idle } } }
     {
-        match mem::replace(&mut self.turn, Turn::Idle) {
-            Turn::Played(fields, effects, exit) => Ok((fields, effects, exit)),
-            Turn::Lacking(fields) => Err((fields, AllocError)),
+        match mem::replace(&mut self.phase, Phase::Idle) {
+            Phase::Played(fields, effects, exit) => Ok((fields, effects, exit)),
+            Phase::OutOfMemory(fields) => Err((fields, AllocError)),
             _ => unreachable!(),
         }
     }
@@ -225,13 +225,13 @@ impl Body {
     pub fn advance(&mut self, exit: &Exit) -> Result<Step, AllocError>
         requires idle { self.old.here.phase ≡ idle }
         requires running { IsSome self.old.here.top }
-        requires call { CanAdvance self.old.script (leaving_of exit.now) }
+        requires call { CanAdvance self.old.script (exit_view exit.now) }
         ensures ok { IfOk result (λ step. IfSome self.old.here.top (λ p.
-            record { top = self.new.here.top; callers = self.new.callers; step = step } ≡ advanced self.old.script p self.old.callers (leaving_of exit.now))) }
+            record { top = self.new.here.top; callers = self.new.callers; step = step } ≡ advanced self.old.script p self.old.callers (exit_view exit.now))) }
         ensures rest { self.new ≡ record self.old { here = record self.old.here { top = self.new.here.top }; callers = self.new.callers } }
         ensures running { IfOk result (λ step. GoesOn step → IsSome self.new.here.top) }
         ensures err { OnErr result (self.new ≡ self.old) }
-        ensures memory { OnErr result (BeginsFrame self.old.callers (leaving_of exit.now)) }
+        ensures memory { OnErr result (BeginsFrame self.old.callers (exit_view exit.now)) }
     {
         match exit {
             Exit::Call(_, method, args) => self.call(*method, args),
@@ -244,7 +244,7 @@ impl Body {
 
     /// Whether `advance` can follow this exit: a call is of a method of the script.
     pub fn can_advance(&self, exit: &Exit) -> bool
-        ensures { IsTrue result ↔ CanAdvance self.now.script (leaving_of exit.now) }
+        ensures { IsTrue result ↔ CanAdvance self.now.script (exit_view exit.now) }
     {
         match exit {
             Exit::Call(_, method, _) => (method.0 as usize) < self.script.method_count(),
@@ -257,18 +257,18 @@ impl Body {
         ensures turned { Polls self.old.script self.old.here self.old.here.top self.old.here.phase self.new.here }
         ensures rest { self.new ≡ record self.old { here = self.new.here } }
     {
-        let (fields, resume, env) = match mem::replace(&mut self.turn, Turn::Idle) {
-            Turn::Entered(fields, resume, env) => (fields, resume, env),
+        let (fields, resume, env) = match mem::replace(&mut self.phase, Phase::Idle) {
+            Phase::Entered(fields, resume, env) => (fields, resume, env),
             other => {
-                self.turn = other;
+                self.phase = other;
                 return;
             }
         };
         let Some(frame) = self.top.take() else {
-            self.turn = Turn::Entered(fields, resume, env);
+            self.phase = Phase::Entered(fields, resume, env);
             return;
         };
-        let mut run = Run {
+        let mut run = TurnState {
             frame,
             made: self.made,
             opened: self.opened,
@@ -285,7 +285,7 @@ impl Body {
             resume,
             STEPS,
         );
-        let Run {
+        let TurnState {
             frame,
             made,
             opened,
@@ -295,9 +295,9 @@ impl Body {
         self.top = Some(frame);
         self.made = made;
         self.opened = opened;
-        self.turn = match played {
-            Ok(exit) => Turn::Played(fields, effects, exit),
-            Err(_) => Turn::Lacking(fields),
+        self.phase = match played {
+            Ok(exit) => Phase::Played(fields, effects, exit),
+            Err(_) => Phase::OutOfMemory(fields),
         };
     }
 
@@ -352,7 +352,7 @@ impl Body {
     /// A copy of the frame that runs, and its task's counts. It costs and takes memory for its variables.
     pub fn frame(&self) -> Result<Frame, AllocError>
         requires { IsSome self.now.here.top }
-        ensures frame { IfOk result (λ f. self.now.here.top ≡ Some (frame_parts f)) }
+        ensures frame { IfOk result (λ f. self.now.here.top ≡ Some (frame_view f)) }
         ensures counts { IfOk result (λ f. (f.made ≡ self.now.here.made) × (f.opened ≡ self.now.here.opened)) }
         ensures method { IfOk result (λ f. f.method.0 < method_count self.now.script) }
     {
@@ -376,7 +376,7 @@ impl Body {
         requires idle { self.old.here.phase ≡ idle }
         requires running { IsSome self.old.here.top }
         requires method { frame.method.0 < method_count self.old.script }
-        ensures { self.new ≡ record self.old { here = record { top = Some (frame_parts frame); made = frame.made; opened = frame.opened; phase = idle } } }
+        ensures { self.new ≡ record self.old { here = record { top = Some (frame_view frame); made = frame.made; opened = frame.opened; phase = idle } } }
     {
         self.top = Some(Activation {
             method: frame.method,

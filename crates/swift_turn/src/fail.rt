@@ -1,18 +1,18 @@
 //! A frame that a fault leaves.
 
 ghost use Rattle.std.specs.Prelude.{◌≡◌, reverse};
-ghost use Rattle.swift_turn.specs.Frame.{parts_left, parts_of};
-ghost use Rattle.swift_turn.specs.Runs.{leaving_of, played_of, state_of};
+ghost use Rattle.swift_turn.specs.Frame.{frame_left_by, activation_view};
+ghost use Rattle.swift_turn.specs.TurnStates.{exit_view, played_of, state_of};
 ghost use Rattle.swift_turn.specs.Turn.{exit_by, exits, head, tail};
 
 use crate::activation::Activation;
 use crate::exit::Exit;
-use crate::run::Run;
+use crate::turn_state::TurnState;
 use swift_types::Fault;
 
 // The frame is left as the exit says: a fault closes the innermost group first, if one is open.
-pub fn leave_run(run: &mut Run, exit: Exit) -> Exit
-    ensures left { (code : _) → played_of (state_of code run.new) result ≡ exits (state_of code run.old) (leaving_of exit) }
+pub fn leave_frame(run: &mut TurnState, exit: Exit) -> Exit
+    ensures left { (code : _) → played_of (state_of code run.new) result ≡ exits (state_of code run.old) (exit_view exit) }
     ensures method { run.new.frame.method ≡ run.old.frame.method }
 {
     match exit {
@@ -22,8 +22,8 @@ pub fn leave_run(run: &mut Run, exit: Exit) -> Exit
 }
 
 fn leave_by(frame: &mut Activation, f: Fault) -> Exit
-    ensures frame { parts_of frame.new ≡ parts_left f (parts_of frame.old) }
-    ensures exit { leaving_of result ≡ exit_by f (head (reverse frame.old.groups.items)) }
+    ensures frame { activation_view frame.new ≡ frame_left_by f (activation_view frame.old) }
+    ensures exit { exit_view result ≡ exit_by f (head (reverse frame.old.groups.items)) }
 {
     match pop_group(&mut frame.groups) {
         Some(group) => {

@@ -1,21 +1,21 @@
 //! A whole turn, and what is kept of it.
 
 ghost use Rattle.std.specs.Prelude.{◌≡◌, ◌<◌, IfOk, OnErr, OnOk, []};
-ghost use Rattle.script_code.specs.Lines.{Stands, code_at, first};
+ghost use Rattle.script_code.specs.Instructions.{Implements, code_at, first};
 ghost use Rattle.script_code.specs.Seen.{term_if_lent};
 ghost use Rattle.script_code.specs.Tree.{term_if};
 ghost use Rattle.swift_script.specs.Scripts.{actor_invariant, method_actor, method_code, method_count};
-ghost use Rattle.swift_turn.specs.Runs.{leaving_of, next_of, played_of, run_parts, state_of};
+ghost use Rattle.swift_turn.specs.TurnStates.{exit_view, next_of, played_of, turn_state_view, state_of};
 ghost use Rattle.swift_turn.specs.Turn.{caught, given, kept, taken, undoes as undoes_spec, whole_turn};
 
 use crate::exit::Exit;
-use crate::fail::leave_run;
+use crate::fail::leave_frame;
 use crate::play::play;
-use crate::run::{Run, copy_run};
+use crate::turn_state::{TurnState, copy_state};
 use crate::step::give;
 use std::alloc::{AllocError, Global};
 use std::mem;
-use script_code::{Act, Env, Formula, Line, Place, Sight, holds, value};
+use script_code::{Act, Env, Formula, Instruction, Place, Sight, holds, value};
 use swift_script::Script;
 use swift_types::{Fault, Priority, Resume};
 
@@ -24,8 +24,8 @@ pub fn play_kept(
     alloc: Global,
     script: &Script,
     env: &Env,
-    run: &mut Run,
-    spare: &mut Run,
+    run: &mut TurnState,
+    spare: &mut TurnState,
     resume: Resume,
     limit: u32,
 ) -> Result<Exit, AllocError>
@@ -34,47 +34,47 @@ pub fn play_kept(
     ensures kept { IfOk result (λ exit. let m = run.old.frame.method.0 in let code = method_code script.now m in
         played_of (state_of code run.new) exit
         ≡ kept env.now limit (actor_invariant script.now (method_actor script.now m)) (state_of code run.old) resume) }
-    ensures err { OnErr result (run_parts run.new ≡ run_parts run.old) }
+    ensures err { OnErr result (turn_state_view run.new ≡ turn_state_view run.old) }
     ensures method { run.new.frame.method ≡ run.old.frame.method }
 {
-    copy_run(run, spare)?;
+    copy_state(run, spare)?;
     let method = run.frame.method;
-    let Ok(exit) = play_whole(alloc, script.lines(method), env, run, resume, limit) else {
+    let Ok(exit) = play_whole(alloc, script.instructions(method), env, run, resume, limit) else {
         mem::swap(run, spare);
         return Err(AllocError);
     };
     if undoes(&exit) {
         mem::swap(run, spare);
-        return Ok(leave_run(run, exit));
+        return Ok(leave_frame(run, exit));
     }
     if !holds(script.invariant(script.actor_of(method)), &run.fields) {
         mem::swap(run, spare);
-        return Ok(leave_run(run, Exit::Fault(Fault::Invariant)));
+        return Ok(leave_frame(run, Exit::Fault(Fault::Invariant)));
     }
-    Ok(leave_run(run, exit))
+    Ok(leave_frame(run, exit))
 }
 
 fn play_whole(
     alloc: Global,
-    lines: &[Line],
+    instructions: &[Instruction],
     env: &Env,
-    run: &mut Run,
+    run: &mut TurnState,
     resume: Resume,
     limit: u32,
 ) -> Result<Exit, AllocError>
-    ensures played { IfOk result (λ exit. (code : _) → Stands lines.now code
+    ensures played { IfOk result (λ exit. (code : _) → Implements instructions.now code
         → played_of (state_of code run.new) exit ≡ whole_turn env.now limit (state_of code run.old) resume) }
     ensures method { OnOk result (run.new.frame.method ≡ run.old.frame.method) }
 {
-    if let Some(exit) = take(lines, env, run, resume) {
+    if let Some(exit) = take(instructions, env, run, resume) {
         return Ok(exit);
     }
-    play(alloc, lines, env, run, limit)
+    play(alloc, instructions, env, run, limit)
 }
 
 // The resume goes to the await that stands open, if one does. None where the frame goes on.
-fn take(lines: &[Line], env: &Env, run: &mut Run, resume: Resume) -> Option<Exit>
-    ensures next { (code : _) → Stands lines.now code
+fn take(instructions: &[Instruction], env: &Env, run: &mut TurnState, resume: Resume) -> Option<Exit>
+    ensures next { (code : _) → Implements instructions.now code
         → next_of (state_of code run.new) result ≡ taken env.now run.old.frame.pending (first (state_of code run.old).todo) resume (state_of code run.old) }
     ensures method { run.new.frame.method ≡ run.old.frame.method }
 {
@@ -82,12 +82,12 @@ fn take(lines: &[Line], env: &Env, run: &mut Run, resume: Resume) -> Option<Exit
         return Some(Exit::Fault(f));
     }
     let Some(
-        Line {
+        Instruction {
             act: Act::Receive(place, other),
             next,
             ..
         },
-    ) = lines.get(run.frame.line as usize)
+    ) = instructions.get(run.frame.line as usize)
     else {
         return match resume {
             Resume::Fault(f) => Some(Exit::Fault(f)),
@@ -108,7 +108,7 @@ fn catch(
     f: Fault,
     other: &Option<Formula>,
     env: &Env,
-    run: &mut Run,
+    run: &mut TurnState,
     place: Option<Place>,
     next: u32,
 ) -> Option<Exit>
@@ -135,7 +135,7 @@ fn catch(
 }
 
 fn undoes(exit: &Exit) -> bool
-    ensures { result ≡ undoes_spec (leaving_of exit.now) }
+    ensures { result ≡ undoes_spec (exit_view exit.now) }
 {
     matches!(
         exit,

@@ -11,7 +11,7 @@ mod kept;
 pub mod laws;
 mod phase;
 mod play;
-mod run;
+mod turn_state;
 mod stack;
 mod step;
 #[cfg(test)]

@@ -7,12 +7,12 @@ use swift_types::Resume;
 
 /// Where a body is with its turn.
 #[derive(Drop)]
-pub enum Turn {
+pub enum Phase {
     Idle,
     /// To be polled, on these fields.
     Entered(Vec<i64>, Resume, Env),
     /// What it has given.
     Played(Vec<i64>, Vec<Effect>, Exit),
     /// It met want of memory. The fields are those from before it.
-    Lacking(Vec<i64>),
+    OutOfMemory(Vec<i64>),
 }

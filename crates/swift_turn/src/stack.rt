@@ -1,7 +1,7 @@
 //! The frames below the one that runs.
 
 ghost use Rattle.std.specs.Prelude.{◌≡◌, ◌↔◌, ◌∷◌, [], IsTrue, OnOk, IfErr, length};
-ghost use Rattle.swift_turn.specs.Frame.{parts_if, parts_of};
+ghost use Rattle.swift_turn.specs.Frame.{activation_view_if, activation_view};
 ghost use Rattle.swift_turn.specs.Turn.{head, tail};
 
 use crate::activation::Activation;
@@ -16,11 +16,11 @@ pub struct Stack {
 
 impl Model for Stack {
     ghost use Rattle.std.specs.Prelude.{List, map, reverse};
-    ghost use Rattle.swift_turn.specs.Frame.{FrameParts, parts_of};
+    ghost use Rattle.swift_turn.specs.Frame.{FrameView, activation_view};
 
-    ghost Value = { List FrameParts };
+    ghost Value = { List FrameView };
 
-    ghost view = { λ s. reverse (map parts_of s.items.items) };
+    ghost view = { λ s. reverse (map activation_view s.items.items) };
 }
 
 impl Stack {
@@ -45,14 +45,14 @@ impl Stack {
     }
 
     pub fn pop(&mut self) -> Option<Activation>
-        ensures first { parts_if result ≡ head self.old }
+        ensures first { activation_view_if result ≡ head self.old }
         ensures rest { self.new ≡ tail self.old }
     {
         self.items.pop()
     }
 
     pub fn push(&mut self, frame: Activation) -> Result<(), AllocFailed<Activation>>
-        ensures ok { OnOk result (self.new ≡ parts_of frame ∷ self.old) }
+        ensures ok { OnOk result (self.new ≡ activation_view frame ∷ self.old) }
         ensures err { IfErr result (λ e. (self.new ≡ self.old) × (e.value ≡ frame)) }
     {
         self.items.push(frame)

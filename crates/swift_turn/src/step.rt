@@ -1,32 +1,32 @@
 //! Statements, one after another.
 
 ghost use Rattle.std.specs.Prelude.{◌≡◌, IfOk, OnOk, Some, if◌then◌else◌, slice_set};
-ghost use Rattle.script_code.specs.Lines.{Stands, code_at, first};
+ghost use Rattle.script_code.specs.Instructions.{Implements, code_at, first};
 ghost use Rattle.script_code.specs.Seen.{scene_of};
 ghost use Rattle.script_code.specs.Tree.{terms_of};
 ghost use Rattle.script_code.specs.Value.{evs, is_zero};
 ghost use Rattle.swift_types.specs.declared.outcome.Fault.TheVariants.{Thrown};
-ghost use Rattle.swift_turn.specs.Runs.{leaving_of, next_of, state_of, values_of};
+ghost use Rattle.swift_turn.specs.TurnStates.{exit_view, next_of, state_of, values_of};
 ghost use Rattle.swift_turn.specs.Turn.{act, failing, given, goes, leaves, returning, with_value};
 
 use crate::exit::Exit;
-use crate::run::Run;
+use crate::turn_state::TurnState;
 use std::alloc::{AllocError, Global};
-use script_code::{Act, Env, Formula, Line, Place, Sight, value};
+use script_code::{Act, Env, Formula, Instruction, Place, Sight, value};
 use swift_types::Fault;
 
 // One statement. None where the turn goes on.
 pub fn step(
     alloc: Global,
-    lines: &[Line],
+    instructions: &[Instruction],
     env: &Env,
-    run: &mut Run,
+    run: &mut TurnState,
 ) -> Result<Option<Exit>, AllocError>
-    ensures next { IfOk result (λ exit. (code : _) → Stands lines.now code
+    ensures next { IfOk result (λ exit. (code : _) → Implements instructions.now code
         → next_of (state_of code run.new) exit ≡ act env.now (first (state_of code run.old).todo) (state_of code run.old)) }
     ensures method { OnOk result (run.new.frame.method ≡ run.old.frame.method) }
 {
-    let Some(line) = lines.get(run.frame.line as usize) else {
+    let Some(instruction) = instructions.get(run.frame.line as usize) else {
         return Ok(Some(Exit::Return(0)));
     };
     let sight = Sight {
@@ -34,33 +34,33 @@ pub fn step(
         fields: &run.fields,
         env,
     };
-    match &line.act {
+    match &instruction.act {
         Act::End => Ok(Some(Exit::Return(0))),
-        Act::SetVariable(x, e) => Ok(set(value(e, sight), run, Place::Variable(*x), line.next)),
-        Act::SetField(f, e) => Ok(set(value(e, sight), run, Place::Field(*f), line.next)),
-        Act::Test(e) => Ok(branch(value(e, sight), run, line)),
+        Act::SetVariable(x, e) => Ok(set(value(e, sight), run, Place::Variable(*x), instruction.next)),
+        Act::SetField(f, e) => Ok(set(value(e, sight), run, Place::Field(*f), instruction.next)),
+        Act::Test(e) => Ok(branch(value(e, sight), run, instruction)),
         Act::Return(e) => Ok(Some(returned(value(e, sight)))),
         Act::Throw(e) => Ok(Some(thrown(value(e, sight)))),
         Act::Yield => {
-            run.frame.line = line.next;
+            run.frame.line = instruction.next;
             Ok(Some(Exit::Yield))
         }
         Act::Call(call) => {
             let Some(args) = values(alloc, &call.args, sight)? else {
                 return Ok(Some(Exit::Fault(Fault::Overflow)));
             };
-            run.frame.line = line.next;
+            run.frame.line = instruction.next;
             Ok(Some(Exit::Call(call.actor, call.method, args)))
         }
         Act::Receive(place, _) => {
-            give(run, *place, line.next, 0);
+            give(run, *place, instruction.next, 0);
             Ok(None)
         }
     }
 }
 
 // A value goes to its place, and the frame goes on at the line behind. Without one the turn overflows.
-fn set(v: Option<i64>, run: &mut Run, place: Place, next: u32) -> Option<Exit>
+fn set(v: Option<i64>, run: &mut TurnState, place: Place, next: u32) -> Option<Exit>
     ensures next { (code : _) → next_of (state_of code run.new) result
         ≡ with_value v (state_of code run.old) (given (Some place) (code_at code next) (state_of code run.old)) }
     ensures method { run.new.frame.method ≡ run.old.frame.method }
@@ -73,21 +73,21 @@ fn set(v: Option<i64>, run: &mut Run, place: Place, next: u32) -> Option<Exit>
 }
 
 // The frame goes on behind a test, where its value is 0 at the other line. Without one the turn overflows.
-fn branch(v: Option<i64>, run: &mut Run, line: &Line) -> Option<Exit>
+fn branch(v: Option<i64>, run: &mut TurnState, instruction: &Instruction) -> Option<Exit>
     ensures next { (code : _) → let s = state_of code run.old in next_of (state_of code run.new) result
-        ≡ with_value v s (λ x. goes (record s { todo = if is_zero x then code_at code line.now.other else code_at code line.now.next })) }
+        ≡ with_value v s (λ x. goes (record s { todo = if is_zero x then code_at code instruction.now.other else code_at code instruction.now.next })) }
     ensures method { run.new.frame.method ≡ run.old.frame.method }
 {
     let Some(v) = v else {
         return Some(Exit::Fault(Fault::Overflow));
     };
-    run.frame.line = if v == 0 { line.other } else { line.next };
+    run.frame.line = if v == 0 { instruction.other } else { instruction.next };
     None
 }
 
 // The frame is left with a value. Without one the turn overflows.
 fn returned(v: Option<i64>) -> Exit
-    ensures { (s : _) → leaves s (leaving_of result) ≡ with_value v s (λ x. leaves s (returning x)) }
+    ensures { (s : _) → leaves s (exit_view result) ≡ with_value v s (λ x. leaves s (returning x)) }
 {
     match v {
         Some(v) => Exit::Return(v),
@@ -97,7 +97,7 @@ fn returned(v: Option<i64>) -> Exit
 
 // The frame is left with a throw of a value. Without one the turn overflows.
 fn thrown(v: Option<i64>) -> Exit
-    ensures { (s : _) → leaves s (leaving_of result) ≡ with_value v s (λ x. leaves s (failing (Thrown x))) }
+    ensures { (s : _) → leaves s (exit_view result) ≡ with_value v s (λ x. leaves s (failing (Thrown x))) }
 {
     match v {
         Some(v) => Exit::Fault(Fault::Thrown(v)),
@@ -106,7 +106,7 @@ fn thrown(v: Option<i64>) -> Exit
 }
 
 // An await is given its value, and the frame goes on at the line behind it.
-pub fn give(run: &mut Run, place: Option<Place>, next: u32, v: i64)
+pub fn give(run: &mut TurnState, place: Option<Place>, next: u32, v: i64)
     ensures next { (code : _) → goes (state_of code run.new) ≡ given place (code_at code next) (state_of code run.old) v }
     ensures method { run.new.frame.method ≡ run.old.frame.method }
 {

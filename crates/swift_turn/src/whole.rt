@@ -3,8 +3,8 @@
 ghost use Rattle.std.specs.Prelude.{◌≡◌, IfOk, IfErr, IfSome, IsSome, IsSomeAnd};
 ghost use Rattle.futures.specs.Task.{Keeps};
 ghost use Rattle.swift_turn.specs.Body.{idle, kept_turn};
-ghost use Rattle.swift_turn.specs.Frame.{deeds_of, state_at};
-ghost use Rattle.swift_turn.specs.Runs.{leaving_of};
+ghost use Rattle.swift_turn.specs.Frame.{effect_views, state_at};
+ghost use Rattle.swift_turn.specs.TurnStates.{exit_view};
 
 use crate::body::Body;
 use crate::effect::Effect;
@@ -30,7 +30,7 @@ pub fn run_turn(
     requires running { IsSome body.old.here.top }
     // The theorem: what the three calls give is the kept turn of the frame that runs, and the body stands for it.
     ensures turn { IfOk result (λ r. IfSome body.old.here.top (λ p. IsSomeAnd body.new.here.top (λ p'.
-        record { state = state_at body.new.script p' body.new.here.made body.new.here.opened r.0.items (deeds_of r.1.items); exit = leaving_of r.2 }
+        record { state = state_at body.new.script p' body.new.here.made body.new.here.opened r.0.items (effect_views r.1.items); exit = exit_view r.2 }
         ≡ kept_turn body.old.script p body.old.here.made body.old.here.opened fields.items resume env))) }
     ensures method { IfSome body.old.here.top (λ p. IsSomeAnd body.new.here.top (λ p'. p'.method ≡ p.method)) }
     ensures rest { body.new ≡ record body.old { here = record body.new.here { phase = idle }; armed = body.new.armed } }

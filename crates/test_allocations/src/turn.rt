@@ -4,7 +4,7 @@ ghost use Rattle.std.specs.Prelude.{◌≡◌, ◌<◌, IfErr, IfOk, IfSome, IsS
 ghost use Rattle.std.specs.Arc.{arc_value};
 ghost use Rattle.swift_script.specs.Scripts.{method_count};
 ghost use Rattle.swift_turn.specs.Body.{CanAdvance, GoesOn, idle};
-ghost use Rattle.swift_turn.specs.Runs.{leaving_of};
+ghost use Rattle.swift_turn.specs.TurnStates.{exit_view};
 
 use crate::again::{TRIES, again, refused, wrong};
 use futures::Future;
@@ -152,7 +152,7 @@ fn turn_again(
 fn advance_again(rt: &HostRuntime, body: &mut Body, exit: &Exit) -> Option<Step>
     requires idle { body.old.here.phase ≡ idle }
     requires running { IsSome body.old.here.top }
-    requires call { CanAdvance body.old.script (leaving_of exit.now) }
+    requires call { CanAdvance body.old.script (exit_view exit.now) }
     ensures idle { body.new.here.phase ≡ idle }
     ensures running { IfSome result (λ step. GoesOn step → IsSome body.new.here.top) }
 {

@@ -19,7 +19,7 @@ fn name(out: &mut Shape, name: &Name) -> Result<(), AllocError> {
     for byte in name.text.iter() {
         out.text.push(*byte as char)?;
     }
-    out.lefts.push(name.left)?;
+    out.lefts.push(name.tokens_left)?;
     Ok(())
 }
 
@@ -165,7 +165,7 @@ fn actor(out: &mut Shape, tree: &Actor) -> Result<(), AllocError> {
     }
     match &tree.invariant {
         Some(invariant) => {
-            out.lefts.push(invariant.left)?;
+            out.lefts.push(invariant.tokens_left)?;
             keyed(out, "invariant ", &invariant.test, " ; ")?;
         }
         None => {}

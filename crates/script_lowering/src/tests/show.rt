@@ -1,14 +1,14 @@
 //! Lines as text: `v0` is a variable, `f0` a field, and the numbers at the end are the followers that a turn reads.
 
 ghost use Rattle.std.specs.Prelude.{◌≡◌, [], None};
-ghost use Rattle.script_grammar.specs.Tree.{steps_of, view_actor, view_method};
+ghost use Rattle.script_grammar.specs.Tree.{block_tree, view_actor, view_method};
 ghost use Rattle.script_names.specs.Rules.{field_names, fields_fault, methods_fault, parameters_fault, statements_fault};
 
 use crate::*;
 use std::alloc::{AllocError, Global};
 use std::test::*;
 use script_grammar::{Actor, Decl, Invariant, Method, declarations};
-use script_code::{Act, Call, Formula, Line, Place};
+use script_code::{Act, Call, Formula, Instruction, Place};
 use script_names::{Declared, Names, check};
 use script_tokens::tokens;
 
@@ -65,7 +65,7 @@ fn show_method(
     method: &Method,
     out: &mut String,
 ) -> Result<(), AllocError>
-    requires { (parameters_fault fields.now [] (view_method method.now).params ≡ None) × (statements_fault declared.now fields.now (view_method method.now).params (steps_of (view_method method.now).body) ≡ None) }
+    requires { (parameters_fault fields.now [] (view_method method.now).params ≡ None) × (statements_fault declared.now fields.now (view_method method.now).params (block_tree (view_method method.now).body) ≡ None) }
 {
     let made = lower(alloc, declared, fields, &method.params, &method.body)?;
     let slots = made.slots;
@@ -77,7 +77,7 @@ fn show_method(
     Ok(())
 }
 
-fn show_followers(alloc: Global, line: &Line, out: &mut String) -> Result<(), AllocError> {
+fn show_followers(alloc: Global, line: &Instruction, out: &mut String) -> Result<(), AllocError> {
     let next = line.next;
     let other = line.other;
     match &line.act {

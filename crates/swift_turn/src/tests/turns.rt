@@ -1,4 +1,4 @@
-//! First turns.
+//! NextAction turns.
 
 use super::*;
 
@@ -37,7 +37,7 @@ fn takes_from_the_field(rt: HostRuntime) -> Result<(), Fail> {
     Ok(())
 }
 
-// First turns: the method, its argument, the field, the resume; then the exit and the field.
+// NextAction turns: the method, its argument, the field, the resume; then the exit and the field.
 const TURNS: [(u32, Option<i64>, i64, Resume, Seen, i64); 16] = [
     (TAKE, None, 9, Resume::Start, Seen::Return(0), 9),
     (FILL, Some(3), 5, Resume::Start, Seen::Return(5), 5),

@@ -9,20 +9,20 @@ use Rattle.script_grammar.specs.Statements.{stmt_at, many_at, block_at}
 use Rattle.script_grammar.proofs.Front.{goes_on, fails, stops, runs_out, refused_fails}
 use Rattle.script_grammar.proofs.statement.+statement.Goals as goal
 
-pub many-returns-in-Some : goal.many-returns-in-Some
-many-returns-in-Some t c =
+pub statements-returns-in-Some : goal.statements-returns-in-Some
+statements-returns-in-Some t c =
     stops brace_at (stmt_at 32 (block_at 32 c.args.blocks)) (map view_stmt c.loop.stmts.items) (length c.args.tokens.now) c.loop.counter (map piece c.loop.rest.now) (map piece c.in-Some.after.now) _ c.loop-test.true (sym c.in-Some.ensures) c.loop.invariant
 
-pub many-returns-in_err-next : goal.many-returns-in_err-next
-many-returns-in_err-next t c =
+pub statements-returns-in_err-next : goal.statements-returns-in_err-next
+statements-returns-in_err-next t c =
     let p = err_from_is_err_and c.from_residual.result c.from_residual.ensures.1 in
     rw (p.1, p.2) (fails brace_at (stmt_at 32 (block_at 32 c.args.blocks)) c.in_err-next.field-0.0 (map view_stmt c.loop.stmts.items) (length c.args.tokens.now) c.loop.counter (map piece c.loop.rest.now) (many_at 32 (block_at 32 c.args.blocks) (length c.args.tokens.now) (map piece c.args.tokens.now)) c.loop-test.true (sym c.in-None.ensures) c.in_err-next.ensures c.loop.invariant)
 
-pub many-loop-preserved : goal.many-loop-preserved
-many-loop-preserved t c =
+pub statements-loop-preserved : goal.statements-loop-preserved
+statements-loop-preserved t c =
     let e : map view_stmt c.push.new.self.items ≡ map view_stmt c.loop.stmts.items ++ view_stmt c.in_ok-next.next ∷ [] = rw c.in_ok-push.ensures.items (map_push _ c.loop.stmts.items c.in_ok-next.next) in
     rw e (goes_on brace_at (stmt_at 32 (block_at 32 c.args.blocks)) (map view_stmt c.loop.stmts.items) (length c.args.tokens.now) c.loop.counter (map piece c.loop.rest.now) (view_stmt c.in_ok-next.next) (map piece c.in_ok-next.after.now) (many_at 32 (block_at 32 c.args.blocks) (length c.args.tokens.now) (map piece c.args.tokens.now)) c.loop-test.true (sym c.in-None.ensures) c.in_ok-next.ensures c.loop.invariant)
 
-pub many-returns : goal.many-returns
-many-returns t c =
+pub statements-returns : goal.statements-returns
+statements-returns t c =
     refused_fails c.refused.result EndsEarly _ c.refused.ensures (runs_out brace_at (stmt_at 32 (block_at 32 c.args.blocks)) (map view_stmt c.loop.stmts.items) (length c.args.tokens.now) c.loop.counter (map piece c.loop.rest.now) _ c.loop-test.false c.loop.invariant)

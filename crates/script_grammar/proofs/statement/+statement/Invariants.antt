@@ -14,8 +14,8 @@ decreases-choice l = l.blocks * 4 + 1
 abbrev pub decreases-stmt : goal.decreases-stmt
 decreases-stmt l = l.blocks * 4 + 2
 
-abbrev pub decreases-many : goal.decreases-many
-decreases-many l = l.blocks * 4 + 3
+abbrev pub decreases-statements : goal.decreases-statements
+decreases-statements l = l.blocks * 4 + 3
 
-abbrev pub invariant-many-loop : goal.invariant-many-loop
-invariant-many-loop l = with_front (map view_stmt l.stmts.items) (many_at 32 (block_at 32 l.blocks) (length l.tokens - l.counter) (map piece l.rest)) ≡ many_at 32 (block_at 32 l.blocks) (length l.tokens) (map piece l.tokens)
+abbrev pub invariant-statements-loop : goal.invariant-statements-loop
+invariant-statements-loop l = with_front (map view_stmt l.stmts.items) (many_at 32 (block_at 32 l.blocks) (length l.tokens - l.counter) (map piece l.rest)) ≡ many_at 32 (block_at 32 l.blocks) (length l.tokens) (map piece l.tokens)

@@ -1,6 +1,6 @@
 use Rattle.script_printing.specs.Pieces.{actors_in, roots_in}
 use Rattle.script_printing.specs.Printed.{printed}
-use Rattle.script_printing.proofs.Again.{readable_again}
+use Rattle.script_printing.proofs.PrintedSpells.{readable_again}
 use Rattle.script_printing.proofs.Plain.{script_is_text, text_is_ascii}
 use Rattle.script_printing.proofs.laws.printed_is_ascii.Goals as goal
 

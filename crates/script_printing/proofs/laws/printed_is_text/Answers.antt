@@ -1,5 +1,5 @@
 use Rattle.script_printing.specs.Pieces.{actors_in, roots_in}
-use Rattle.script_printing.proofs.Again.{readable_again}
+use Rattle.script_printing.proofs.PrintedSpells.{readable_again}
 use Rattle.script_printing.proofs.Plain.{script_is_text}
 use Rattle.script_printing.proofs.laws.printed_is_text.Goals as goal
 

@@ -1,5 +1,5 @@
 use Rattle.script_printing.specs.Pieces.{actors_in, roots_in}
-use Rattle.script_printing.proofs.Again.{readable_again}
+use Rattle.script_printing.proofs.PrintedSpells.{readable_again}
 use Rattle.script_printing.proofs.Lexed.{script_lexes}
 use Rattle.script_printing.proofs.Read.{spelled_again}
 use Rattle.script_printing.proofs.laws.printed_reads_back.Goals as goal

@@ -3,8 +3,8 @@ use Rattle.std.proofs.lemmas.List.{map-append, take_more}
 use Rattle.swift_types.specs.declared.outcome.Ending.{Ending}
 use Rattle.swift_report.specs.declared.report.Origin.{Origin}
 use Rattle.swift_report.specs.declared.report.Origin.TheVariants.{Root}
-use Rattle.swift_one_thread.specs.Lanes.{AreRootsFrom, ending_in}
-use Rattle.swift_one_thread.proofs.Lanes.{root_push}
+use Rattle.swift_one_thread.specs.Executors.{AreRootsFrom, ending_in}
+use Rattle.swift_one_thread.proofs.ExecutorsKept.{root_push}
 use Rattle.swift_one_thread.proofs.leave.endings_of.Goals as goal
 
 pub loop-k-preserved : goal.loop-k-preserved

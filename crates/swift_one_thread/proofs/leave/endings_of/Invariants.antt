@@ -1,5 +1,5 @@
 use Rattle.std.proofs.Common.{◌≡◌, ◌≤◌, length, map, take}
-use Rattle.swift_one_thread.specs.Lanes.{AreRootsFrom, ending_in}
+use Rattle.swift_one_thread.specs.Executors.{AreRootsFrom, ending_in}
 use Rattle.swift_one_thread.proofs.leave.endings_of.Given as goal
 
 abbrev pub invariant-loop-k : goal.invariant-loop-k

@@ -1,29 +1,29 @@
 use Rattle.std.proofs.Common.{subst}
 use Rattle.std.specs.Arc.{arc_value}
-use Rattle.swift_script.specs.Scripts.{Parts}
+use Rattle.swift_script.specs.Scripts.{ScriptView}
 use Rattle.swift_report.specs.declared.report.Report.{Report}
 use Rattle.swift_report.specs.Lawful.{AreLawful, KeepInvariants}
 use Rattle.swift_report.specs.Numbered.{HaveNoGaps}
-use Rattle.swift_one_thread.specs.Lanes.{IsBoard}
-use Rattle.swift_one_thread.specs.Told.{AreTold}
-use Rattle.swift_one_thread.proofs.Boards.{IfOk-more}
+use Rattle.swift_one_thread.specs.Executors.{IsPool}
+use Rattle.swift_one_thread.specs.Envs.{HaveTheirEnv}
+use Rattle.swift_one_thread.proofs.Pools.{IfOk-more}
 use Rattle.swift_one_thread.proofs.whole.run_alone.Goals as goal
 
-pub returns-clause-told : goal.returns-clause-told
-returns-clause-told g c =
+pub returns-clause-env_given : goal.returns-clause-env_given
+returns-clause-env_given g c =
     let p = arc_value c.args.script.now in
-    let kept : IsBoard p c.drain-drained.new.board = subst (λ (s : Parts). IsBoard s c.drain-drained.new.board) c.deref-2.ensures c.in_ok-drained.ensures.board in
-    IfOk-more c.report_of.result _ (λ (r : Report). AreTold p r.journals.items) (λ (r : Report) (told : (q : Parts) → IsBoard q c.drain-drained.new.board → AreTold q r.journals.items). told p kept) c.report_of.ensures.told
+    let kept : IsPool p c.drain-drained.new.pool = subst (λ (s : ScriptView). IsPool s c.drain-drained.new.pool) c.deref-2.ensures c.in_ok-drained.ensures.pool in
+    IfOk-more c.report_of.result _ (λ (r : Report). HaveTheirEnv p r.journals.items) (λ (r : Report) (env_given : (q : ScriptView) → IsPool q c.drain-drained.new.pool → HaveTheirEnv q r.journals.items). env_given p kept) c.report_of.ensures.env_given
 
 pub returns-clause-invariants : goal.returns-clause-invariants
 returns-clause-invariants g c =
     let p = arc_value c.args.script.now in
-    let kept : IsBoard p c.drain-drained.new.board = subst (λ (s : Parts). IsBoard s c.drain-drained.new.board) c.deref-2.ensures c.in_ok-drained.ensures.board in
+    let kept : IsPool p c.drain-drained.new.pool = subst (λ (s : ScriptView). IsPool s c.drain-drained.new.pool) c.deref-2.ensures c.in_ok-drained.ensures.pool in
     IfOk-more c.report_of.result _ (λ (r : Report). KeepInvariants p 0 r.fields.items)
-    (λ (r : Report) (lawful : (q : Parts) → IsBoard q c.drain-drained.new.board → AreLawful q 0 r.journals.items r.fields.items). c.invariants_stay.ensures.report p 0 r.journals.items r.fields.items (lawful p kept)) c.report_of.ensures.lawful
+    (λ (r : Report) (lawful : (q : ScriptView) → IsPool q c.drain-drained.new.pool → AreLawful q 0 r.journals.items r.fields.items). c.invariants_stay.ensures.report p 0 r.journals.items r.fields.items (lawful p kept)) c.report_of.ensures.lawful
 
 pub returns-clause-numbered : goal.returns-clause-numbered
 returns-clause-numbered g c =
     let p = arc_value c.args.script.now in
-    let kept : IsBoard p c.drain-drained.new.board = subst (λ (s : Parts). IsBoard s c.drain-drained.new.board) c.deref-2.ensures c.in_ok-drained.ensures.board in
-    IfOk-more c.report_of.result _ (λ (r : Report). HaveNoGaps r.journals.items) (λ (r : Report) (numbered : (q : Parts) → IsBoard q c.drain-drained.new.board → HaveNoGaps r.journals.items). numbered p kept) c.report_of.ensures.numbered
+    let kept : IsPool p c.drain-drained.new.pool = subst (λ (s : ScriptView). IsPool s c.drain-drained.new.pool) c.deref-2.ensures c.in_ok-drained.ensures.pool in
+    IfOk-more c.report_of.result _ (λ (r : Report). HaveNoGaps r.journals.items) (λ (r : Report) (numbered : (q : ScriptView) → IsPool q c.drain-drained.new.pool → HaveNoGaps r.journals.items). numbered p kept) c.report_of.ensures.numbered

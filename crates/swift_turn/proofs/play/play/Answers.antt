@@ -1,5 +1,5 @@
 use Rattle.std.proofs.Common.{◌≡◌, ◌+◌, ◌-◌, ◌∙◌, ap, arith}
-use Rattle.swift_turn.specs.Runs.{state_of, leaving_of}
+use Rattle.swift_turn.specs.TurnStates.{state_of, exit_view}
 use Rattle.swift_turn.specs.Turn.{turn}
 use Rattle.swift_turn.proofs.Turns.{turn_on, turn_out, turn_limit}
 use Rattle.swift_turn.proofs.play.play.Goals as goal
@@ -9,7 +9,7 @@ returns-in-Some-clause-played c = λ code stands.
     let left = c.args.limit - c.loop-used.used in
     let one : left ≡ (left - 1) + 1 = omega arith in
     let out = rw c.in-Some.is at c.in_ok-exit.ensures.next in
-    turn_out c.args.env.now left (left - 1) (state_of code c.loop-used.run) (state_of code c.step.new.run) (leaving_of c.in-Some.exit) one (out code stands)
+    turn_out c.args.env.now left (left - 1) (state_of code c.loop-used.run) (state_of code c.step.new.run) (exit_view c.in-Some.exit) one (out code stands)
     ∙ c.loop-used.invariant.same code stands
 
 pub loop-used-preserved : goal.loop-used-preserved

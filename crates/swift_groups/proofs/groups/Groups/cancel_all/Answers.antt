@@ -1,7 +1,7 @@
 use Rattle.std.proofs.Common.{arith, refl, sym, ap, ◌∙◌}
 use Rattle.swift_groups.specs.Groups.{GroupsIs, as_cancelled}
 use Rattle.swift_groups.specs.Answers.{accepted}
-use Rattle.swift_groups.proofs.Kept.{are_groups_changed}
+use Rattle.swift_groups.proofs.FieldsKept.{are_groups_changed}
 use Rattle.swift_groups.proofs.Calls.{found_live, refused_live, kept_by_refusal, changed, groups_are, err_from}
 use Rattle.swift_groups.proofs.groups.Groups.cancel_all.Goals as goal
 

@@ -3,7 +3,7 @@ use Rattle.swift_groups.specs.Groups.{GroupsIs}
 use Rattle.swift_groups.specs.Close.{close_of, closed_on}
 use Rattle.swift_groups.specs.Answers.{answer}
 use Rattle.swift_groups.proofs.Results.{close_done, closed_done, close_wait, closed_wait}
-use Rattle.swift_groups.proofs.Kept.{are_groups_changed}
+use Rattle.swift_groups.proofs.FieldsKept.{are_groups_changed}
 use Rattle.swift_groups.proofs.Calls.{found_live, refused_live, kept_by_refusal, changed, groups_are, err_from}
 use Rattle.swift_groups.proofs.groups.Groups.close.Goals as goal
 

@@ -11,7 +11,7 @@ use Rattle.swift_groups.specs.Inside.{ended_of}
 use Rattle.swift_groups.specs.Keys.{same_key, unended}
 use Rattle.swift_groups.proofs.Links.{ended_push_same, ended_push_other}
 use Rattle.swift_groups.proofs.Children.{mark_unended, unended_mark, mark_written}
-use Rattle.swift_groups.proofs.Kept.{are_groups_ended, ending_fits}
+use Rattle.swift_groups.proofs.FieldsKept.{are_groups_ended, ending_fits}
 use Rattle.swift_groups.proofs.Calls.{seen, found_live, refused_live, kept_by_refusal, changed, groups_are, err_from, with_unfinished, not_unfinished}
 use Rattle.swift_groups.proofs.groups.Groups.finished.Goals as goal
 

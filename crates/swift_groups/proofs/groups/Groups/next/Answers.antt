@@ -3,7 +3,7 @@ use Rattle.swift_groups.specs.Groups.{GroupsIs}
 use Rattle.swift_groups.specs.Next.{next_of, handed_on}
 use Rattle.swift_groups.specs.Answers.{answer}
 use Rattle.swift_groups.proofs.Results.{next_empty, next_wait, handed_none, first_within, handed_within, next_result, handed_one, group_handed}
-use Rattle.swift_groups.proofs.Kept.{are_groups_changed}
+use Rattle.swift_groups.proofs.FieldsKept.{are_groups_changed}
 use Rattle.swift_groups.proofs.Calls.{found_open, refused_open, kept_by_refusal, changed, unchanged, groups_are, err_from}
 use Rattle.swift_groups.proofs.groups.Groups.next.Goals as goal
 

@@ -6,7 +6,7 @@ use Rattle.swift_groups.specs.Inside.{added_of, ended_of}
 use Rattle.swift_groups.specs.GroupsInside.{AreGroups}
 use Rattle.swift_groups.specs.Keys.{same_key}
 use Rattle.swift_groups.proofs.Views.{length_view}
-use Rattle.swift_groups.proofs.Kept.{are_groups_opened}
+use Rattle.swift_groups.proofs.FieldsKept.{are_groups_opened}
 use Rattle.swift_groups.proofs.Calls.{opened, groups_are}
 use Rattle.swift_groups.proofs.groups.Groups.record_group.Goals as goal
 

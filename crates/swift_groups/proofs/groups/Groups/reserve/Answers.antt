@@ -1,7 +1,7 @@
 use Rattle.std.proofs.Common.{ℕ, List, Option, arith, sym, subst}
 use Rattle.swift_groups.specs.declared.group.Ended.{Ended}
 use Rattle.swift_groups.specs.Inside.{AreLinked}
-use Rattle.swift_groups.proofs.Kept.{are_groups_same}
+use Rattle.swift_groups.proofs.FieldsKept.{are_groups_same}
 use Rattle.swift_groups.proofs.groups.Groups.reserve.Goals as goal
 
 pub invariant_of-self : goal.invariant_of-self

@@ -1,5 +1,5 @@
 use Rattle.std.proofs.Common.{arith}
-use Rattle.swift_script.proofs.Few.{few_actors}
+use Rattle.swift_script.proofs.ActorsAndRootsAreFew.{few_actors}
 use Rattle.swift_script.proofs.script.Script.actor_count.Goals as goal
 
 pub returns-clause-few : goal.returns-clause-few

@@ -2,18 +2,18 @@ use Rattle.std.proofs.Common.{◌≡◌, List, Some, None, map, subst, ap, ◌�
 use Rattle.std.specs.Prelude.{slice_get}
 use Rattle.script_grammar.specs.Tree.{view_root}
 use Rattle.script_grammar.specs.declared.declared.Root.{Root}
-use Rattle.swift_script.specs.Scripts.{Parts}
+use Rattle.swift_script.specs.Scripts.{ScriptView}
 use Rattle.swift_script.proofs.Places.{seen_at, unseen_at}
 use Rattle.swift_script.proofs.script.Script.root.Goals as goal
 
 pub returns-in-Some : goal.returns-in-Some
 returns-in-Some c =
-    subst (λ (p : Parts). Some (view_root c.in-Some.found.now) ≡ slice_get (map view_root p.roots) c.args.root.0) c.self.view_is
+    subst (λ (p : ScriptView). Some (view_root c.in-Some.found.now) ≡ slice_get (map view_root p.roots) c.args.root.0) c.self.view_is
     (seen_at view_root c.deref.result.now c.args.root.0 c.in-Some.found.now c.in-Some.ensures.lookup.3.0 c.in-Some.ensures.lookup.1
     ∙ ap (λ (xs : List Root). slice_get (map view_root xs) c.args.root.0) c.deref.ensures.value)
 
 pub returns-in-None : goal.returns-in-None
 returns-in-None c =
-    subst (λ (p : Parts). None ≡ slice_get (map view_root p.roots) c.args.root.0) c.self.view_is
+    subst (λ (p : ScriptView). None ≡ slice_get (map view_root p.roots) c.args.root.0) c.self.view_is
     (unseen_at view_root c.deref.result.now c.args.root.0 c.in-None.ensures.lookup.3
     ∙ ap (λ (xs : List Root). slice_get (map view_root xs) c.args.root.0) c.deref.ensures.value)

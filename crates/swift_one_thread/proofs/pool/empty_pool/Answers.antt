@@ -1,0 +1,36 @@
+use Rattle.swift_types.specs.declared.outcome.Ending.{Ending}
+use Rattle.std.proofs.Common.{◌≡◌, ◌+◌, Option, map, List, ◌∷◌, [], ◌++◌, length, sym, subst, ap, ◌∙◌, arith, zero-add, length-append}
+use Rattle.swift_one_thread.specs.declared.executor.Executor.{Executor}
+use Rattle.std.specs.List.{AllByRecursion}
+use Rattle.std.specs.declared.vec.Vec.{Vec}
+use Rattle.std.specs.declared.alloc.Global.{Global}
+use Rattle.swift_report.specs.declared.report.Record.{Record}
+use Rattle.swift_one_thread.specs.Executors.{AreEndings, AreExecutors, IsExecutor, IsNumbered, journal_of}
+use Rattle.swift_one_thread.proofs.Pools.{numbered_new}
+use Rattle.swift_one_thread.proofs.ExecutorsKept.{AllByRecursion-push, lane_new, lane_push}
+use Rattle.swift_one_thread.proofs.pool.empty_pool.Goals as goal
+
+pub loop-preserved : goal.loop-preserved
+loop-preserved c =
+    let p = c.args.script.now in
+    let executor = c.in_ok-new.field-0 in
+    let old = c.loop.executors.items in
+    let new : IsExecutor p c.loop.actor executor = lane_new p c.loop.actor executor c.in_ok-new.ensures.jobs (c.in_ok-new.ensures.fields ∙ c.start.ensures) c.in_ok-new.ensures.journal in
+    let same : 0 + length old ≡ c.loop.actor = zero-add (length old) ∙ c.loop.invariant.place in
+    let pushed : c.push.new.self.items ≡ old ++ executor ∷ [] = c.in_ok-push.ensures.items in
+    record {
+      executors = subst (λ (ls : List Executor). AreExecutors p 0 ls) (sym pushed) (lane_push p 0 old executor c.loop.invariant.executors (subst (λ n. IsExecutor p n executor) (sym same) new));
+      numbered = λ (js : List (Vec Record Global)). subst (λ (ls : List Executor). AllByRecursion (IsNumbered js) ls) (sym pushed) (AllByRecursion-push (IsNumbered js) old executor (c.loop.invariant.numbered js) (numbered_new js executor c.in_ok-new.ensures.jobs c.in_ok-new.ensures.journal));
+      place = omega (arith, ap length pushed, length-append old (executor ∷ []), c.loop.invariant.place, c.in-Some.ensures);
+      count = omega (arith, c.in-Some.ensures, c.loop.invariant.count);
+      end = c.loop.invariant.end;
+    }
+
+pub returns-clause-pool : goal.returns-clause-pool
+returns-clause-pool c =
+    let journals = map journal_of c.loop.executors.items in
+    record {
+      executors = c.loop.invariant.executors;
+      endings = subst (λ (es : List (Option Ending)). AreEndings journals 0 es) (sym c.new-3.ensures.items) tt;
+      numbered = c.loop.invariant.numbered journals;
+    }

@@ -1,0 +1,123 @@
+-- What an executor keeps: a lawful journal, the fields that its replay gives, and jobs that may run there. What a pool
+-- of executors keeps beside: each task that has ended did so by a turn.
+use Rattle.std.specs.declared.vec.Vec.{Vec}
+use Rattle.std.specs.declared.alloc.Global.{Global}
+use Rattle.swift_report.specs.declared.report.Record.{Record}
+use Rattle.std.specs.Prelude.{◌≡◌, ℕ, ℤ, ◌+◌, ◌≤◌, All, List, [], ◌∷◌, ◌++◌, map, Option, Some, IfSome, IsSomeAnd, if◌then◌else◌, nat_le}
+use Rattle.std.specs.List.{AllByRecursion}
+use Rattle.swift_script.specs.Scripts.{ScriptView, actor_start, method_actor}
+use Rattle.swift_types.specs.declared.outcome.Fault.TheVariants.{Turns}
+use Rattle.swift_types.specs.declared.outcome.Resume.{Resume}
+use Rattle.swift_types.specs.declared.outcome.Resume.TheVariants.{Fault as Raise}
+use Rattle.swift_types.specs.declared.outcome.Ending.{Ending}
+use Rattle.swift_report.specs.declared.report.Origin.{Origin}
+use Rattle.swift_report.specs.declared.report.Origin.TheVariants.{Root}
+use Rattle.swift_turn.specs.Body.{BodyView, idle}
+use Rattle.swift_turn.specs.declared.exit.Exit.{Exit}
+use Rattle.swift_turn.specs.declared.exit.Step.{Step}
+use Rattle.swift_turn.specs.declared.exit.Step.TheVariants.{Run, Ended}
+use Rattle.swift_report.specs.Lawful.{IsLawful, most_turns, replay}
+use Rattle.swift_report.specs.Ended.{IsEndedBy, exit_of}
+use Rattle.swift_report.specs.Numbered.{HaveBefore}
+use Rattle.swift_one_thread.specs.declared.pool.Pool.{Pool}
+use Rattle.swift_one_thread.specs.declared.executor.Executor.{Executor}
+use Rattle.swift_one_thread.specs.declared.executor.Job.{Job}
+use Rattle.swift_one_thread.specs.declared.turn.Turned.{Turned}
+use Rattle.swift_one_thread.specs.Envs.{HasItsEnv, RanWithItsEnv}
+
+-- a body whose next turn is one of this actor's
+pub record CanRun (p : ScriptView) (actor : ℕ) (b : BodyView) : Type 0 where
+  pub script : b.script ≡ p
+  pub rests : b.here.phase ≡ idle
+  pub top : IsSomeAnd b.here.top (λ f. method_actor p f.method ≡ actor)
+
+-- a turn of this actor that may be run: it is env_given what belongs to its task, and begins with the fault `turns` where
+-- its task has had its turns
+pub record IsJobOf (p : ScriptView) (actor : ℕ) (job : Job) : Type 0 where
+  pub runs : CanRun p actor job.body.value
+  pub env_given : HasItsEnv p job.task.0 job.env
+  pub late : most_turns ≤ job.number → job.resume ≡ Raise Turns
+
+pub record IsExecutor (p : ScriptView) (actor : ℕ) (executor : Executor) : Type 0 where
+  pub lawful : IsLawful p actor (actor_start p actor) executor.journal.items
+  pub replayed : executor.fields.items ≡ replay p (actor_start p actor) executor.journal.items
+  pub env_given : All (RanWithItsEnv p) executor.journal.items
+  pub jobs : AllByRecursion (IsJobOf p actor) executor.jobs.items
+
+-- the executors of the actors from a number on
+abbrev pub AreExecutors : ScriptView → ℕ → List Executor → Type 0
+AreExecutors p k [] = Unit {0}
+AreExecutors p k (executor ∷ executors) = IsExecutor p k executor × AreExecutors p (k + 1) executors
+
+abbrev pub journal_of : Executor → Vec Record Global
+journal_of executor = executor.journal
+
+abbrev pub fields_of : Executor → Vec ℤ Global
+fields_of executor = executor.fields
+
+-- of the tasks from a number on, each that has ended did so by a turn in one of these journals
+abbrev pub AreEndings : List (Vec Record Global) → ℕ → List (Option Ending) → Type 0
+AreEndings journals task [] = Unit {0}
+AreEndings journals task (e ∷ es) = IfSome e (IsEndedBy journals task) × AreEndings journals (task + 1) es
+
+-- before each job and each turn of an executor, the turns of its task stand in these journals
+pub record IsNumbered (journals : List (Vec Record Global)) (executor : Executor) : Type 0 where
+  pub jobs : AllByRecursion (λ (job : Job). HaveBefore journals job.task.0 job.number) executor.jobs.items
+  pub turns : All (λ (r : Record). HaveBefore journals r.task.0 r.number) executor.journal.items
+
+pub record AreKept (p : ScriptView) (all : List Executor) (ends : List (Option Ending)) : Type 0 where
+  pub executors : AreExecutors p 0 all
+  pub endings : AreEndings (map journal_of all) 0 ends
+  pub numbered : AllByRecursion (IsNumbered (map journal_of all)) all
+
+-- the executors of all actors, with the endings of the tasks whose turns they ran
+abbrev pub IsPool : ScriptView → Pool → Type 0
+IsPool p pool = AreKept p pool.executors.items pool.endings.items
+
+-- where a task goes on, its body may run at the actor that it goes to
+abbrev pub GoesTo : ScriptView → BodyView → Step → Type 0
+GoesTo p b (Run actor resume) = CanRun p actor.0 b
+GoesTo p b _ = Unit {0}
+
+-- a task after its turn
+pub record IsTurned (p : ScriptView) (t : Turned) : Type 0 where
+  pub goes : GoesTo p t.body.value t.step
+  pub env_given : HasItsEnv p t.task.0 t.env
+
+-- where a task ends, its last turn left its frame with that ending
+abbrev pub LeavesBy : Exit → Step → Type 0
+LeavesBy exit (Ended e) = exit ≡ exit_of e
+LeavesBy exit _ = Unit {0}
+
+-- a journal has one turn more: the one that the task has had
+pub record Writes (old new : List Record) (t : Turned) : Type 0 where
+  pub turn : Record
+  pub last : new ≡ old ++ turn ∷ []
+  pub task : turn.task ≡ t.task
+  pub number : turn.number ≡ t.number
+  pub left : LeavesBy turn.exit t.step
+
+-- the first job is the one whose turn the task has had
+pub record Takes (old new : List Job) (t : Turned) : Type 0 where
+  pub job : Job
+  pub first : old ≡ job ∷ new
+  pub task : job.task ≡ t.task
+  pub number : job.number ≡ t.number
+
+-- where a task has ended, it did so by a turn in one of these journals
+abbrev pub EndsBy : List (Vec Record Global) → ℕ → Step → Type 0
+EndsBy journals task (Ended e) = IsEndedBy journals task e
+EndsBy journals task _ = Unit {0}
+
+-- what a task's turn of this number begins with: from number 1,000 on, the fault that stands for too many
+abbrev pub resume_at : ℕ → Resume → Resume
+resume_at number resume = if nat_le most_turns number then Raise Turns else resume
+
+-- these tasks are made by the roots from a number on, in order of declaration
+abbrev pub AreRootsFrom : ℕ → List (Origin × Ending) → Type 0
+AreRootsFrom k [] = Unit {0}
+AreRootsFrom k (e ∷ es) = (e.0 ≡ Root (record { 0 = k })) × AreRootsFrom (k + 1) es
+
+-- an ending of which nothing is left open
+abbrev pub ending_in : Origin × Ending → Option Ending
+ending_in e = Some e.1

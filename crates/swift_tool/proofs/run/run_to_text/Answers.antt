@@ -1,0 +1,32 @@
+use Rattle.std.proofs.Common.{◌≡◌, ap, subst, ◌∙◌}
+use Rattle.std.specs.Arc.{arc_value}
+use Rattle.swift_script.specs.Scripts.{ScriptView, actor_count, root_count}
+use Rattle.swift_report.specs.Lawful.{AreLawful, KeepInvariants}
+use Rattle.swift_one_thread.specs.Envs.{HaveTheirEnv}
+use Rattle.swift_report.specs.Text.{report_text}
+use Rattle.swift_tool.specs.Run.{end_well}
+use Rattle.swift_tool.proofs.Invariants.{invariants_hold}
+use Rattle.swift_tool.proofs.run.run_to_text.Goals as goal
+
+pub returns-clause-ran : goal.returns-clause-ran
+returns-clause-ran g c =
+    let made : arc_value c.in_ok-script.script ≡ c.in_ok-found.found = c.in_ok-script.ensures.ok in
+    let shared : arc_value c.in_ok-shared.shared ≡ arc_value c.in_ok-script.script = c.in_ok-shared.ensures.cases in
+    let lent : c.deref.result.now ≡ arc_value c.in_ok-script.script = c.deref.ensures in
+    let same = shared ∙ made in
+    record {
+      script = c.in_ok-found.found;
+      report = c.in_ok-report.report;
+      accepted = c.in_ok-found.ensures.found;
+      lawful = subst (λ (p : ScriptView). AreLawful p 0 c.in_ok-report.report.journals.items c.in_ok-report.report.fields.items) same c.in_ok-report.ensures.lawful;
+      journals = c.in_ok-report.ensures.journals ∙ ap actor_count same;
+      fields = c.in_ok-report.ensures.fields ∙ ap actor_count same;
+      invariants = invariants_hold c.args.bytes.now c.in_ok-found.found c.in_ok-report.report.fields.items c.in_ok-found.ensures.found (subst (λ (p : ScriptView). KeepInvariants p 0 c.in_ok-report.report.fields.items) same c.in_ok-report.ensures.invariants);
+      env_given = subst (λ (p : ScriptView). HaveTheirEnv p c.in_ok-report.report.journals.items) same c.in_ok-report.ensures.env_given;
+      numbered = c.in_ok-report.ensures.numbered;
+      tasks = c.in_ok-report.ensures.tasks ∙ ap root_count same;
+      roots = c.in_ok-report.ensures.roots;
+      turned = c.in_ok-report.ensures.ended;
+      ended = c.all_ended_well-is_well.ensures ∙ ap end_well c.deref-2.ensures.value;
+      printed = c.in_ok-text.ensures ∙ ap (λ (p : ScriptView). report_text p c.in_ok-report.report c.args.quiet) (lent ∙ made);
+    }
