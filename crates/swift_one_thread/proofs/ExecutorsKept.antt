@@ -94,7 +94,7 @@ each_told : (p : ScriptView) (k : ℕ) (executors : List Executor) → AreExecut
 each_told p k [] are = tt
 each_told p k (x ∷ executors) are = (are.0.env_given, each_told p (k + 1) executors are.1)
 
--- the turns of the executors were env_given what belongs to their tasks
+-- the turns of the executors were given what belongs to their tasks
 pub lanes_told : (p : ScriptView) (executors : List Executor) → AreExecutors p 0 executors → HaveTheirEnv p (map journal_of executors)
 lanes_told p executors are = All-from_recursion (λ (j : Vec Record Global). All (RanWithItsEnv p) j.items) (map journal_of executors) (each_told p 0 executors are)
 

@@ -15,7 +15,7 @@ pub struct Job {
     /// The turn's number among the turns of its task, from 0.
     pub number: u32,
     pub resume: Resume,
-    /// What each turn of the task is env_given.
+    /// What each turn of the task is given.
     pub env: Env,
     /// In a box, since a job is moved from place to place and its body stays.
     pub body: Box<Body>,
