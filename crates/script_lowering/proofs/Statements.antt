@@ -25,7 +25,7 @@ view-IfElse e a b = search (rules, the_lemmas)
 pub view-While : (e : Expr) (a : Vec Stmt) → view_stmt (While e a) ≡ tree.While (view e) (block_tree (map view_stmt a.items))
 view-While e a = search (rules, the_lemmas)
 
--- a test line
+-- a test instruction
 abbrev pub test_line : Term → ℕ → ℕ → Meaning
 test_line t held failed = λ at. tests t (at held) (at failed)
 
@@ -33,7 +33,7 @@ one_line : (f : Meaning) (ls ls1 : List Instruction) → map meaning_of ls1 ≡ 
 one_line f ls ls1 e =
     omega (arith, ap length e, length-map ls1 meaning_of, length-map ls meaning_of, length-append (map meaning_of ls) (f ∷ []))
 
--- a line, and a part behind it
+-- an instruction, and a part after it
 behind_line : (f : Meaning) (a : Code) (ls ls1 ls2 : List Instruction) (q : ℕ)
     → map meaning_of ls1 ≡ map meaning_of ls ++ f ∷ []
     → map meaning_of ls2 ≡ map meaning_of ls1 ++ flat a (length ls1) q

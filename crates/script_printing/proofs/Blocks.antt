@@ -1,4 +1,4 @@
--- The statements of a block, one behind the other.
+-- The statements of a block, one after the other.
 use Rattle.std.proofs.Common.{◌≡◌, ◌++◌, ◌∷◌, [], ℕ, List, ap, sym, refl, ◌∙◌, ◌+◌, ◌<◌, length, map, take, Vec, Global, rules}
 use Rattle.std.specs.List.{flat_map}
 use Rattle.std.proofs.Math.ListN.{get_or}

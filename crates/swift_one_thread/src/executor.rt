@@ -30,7 +30,7 @@ pub struct Executor {
 }
 
 impl Executor {
-    // A executor with no job whose fields are these.
+    // An executor with no job whose fields are these.
     pub fn new(alloc: Global, start: &[i64]) -> Result<Executor, AllocError>
         ensures jobs { IfOk result (λ executor. executor.jobs.items ≡ []) }
         ensures fields { IfOk result (λ executor. executor.fields.items ≡ start.now) }

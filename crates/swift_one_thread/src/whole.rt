@@ -33,8 +33,8 @@ use swift_script::Script;
 ///
 /// # Errors
 ///
-/// `Workers` stands for any number of workers but 1, `Memory` for a growth that was refused, and `Unfinished` for a task
-/// that did not end, or a script that asks for what none that was read can. Nothing of a refused run remains.
+/// `Workers` stands for any number of workers but 1, `Memory` for a growth that was refused, and `Unfinished` for a
+/// task that did not end, or a script that asks for what none that was read can. Nothing of a refused run remains.
 pub fn run<R, G>(rt: &R, script: Arc<Script>, workers: u32, gate: &G) -> Result<Report, RunFault>
 where
     R: RandomSource + AllocGlobal,

@@ -71,8 +71,8 @@ pub record WritesPrefix (bytes : List ℕ) (quiet : Bool) (old new : Option (Lis
   pub is : IsRunOf bytes quiet text well
   pub part : WritesPart old new text
 
--- Why a run of these bytes was refused: a number of workers other than 1, which is looked at first, or else, of a script
--- that is accepted, memory ran out or jobs were left.
+-- Why a run of these bytes was refused: a number of workers other than 1, which is looked at first, or else, of a
+-- script that is accepted, memory ran out or jobs were left.
 abbrev pub IsRunRefusal : List ℕ → ℕ → RunFault → Type 0
 IsRunRefusal bytes workers Workers = workers ≢ 1
 IsRunRefusal bytes workers Memory = (workers ≡ 1) × ((tree : ScriptTree) × IsAccepted bytes tree)
