@@ -1,6 +1,8 @@
-pub mod Nodes
-pub mod Leaves
-pub mod Entries
-pub mod Removed
-pub mod Keys
-pub mod Jobs
+pub mod PairsInAnyOrder
+pub mod PlaceByArrival
+pub mod OneListOfAll
+pub mod EditedListIsList
+pub mod FirstIsPicked
+pub mod RaiseChangesOne
+pub mod QueueStaysOrderly
+pub mod ArrivalsStayRight

@@ -1,12 +1,4 @@
 pub mod Job
-pub mod Tournament
-pub mod TournamentInside
-pub mod Places
-pub mod PlacesAre
-pub mod PlacesInside
-pub mod Keys
-pub mod KeysInside
-pub mod IndexIs
-pub mod IndexInside
+pub mod Picks
 pub mod Queue
-pub mod QueueInside
+pub mod Inside

@@ -1,19 +1,19 @@
-//! Jobs, each of which has to be spent once, and a queue of them with room that was made at the start.
+//! Jobs, each of which has to be spent once, and a run queue of them with room that was made at the start.
 #![tactic(auto)]
 
 // One turn of a task that is still to be run.
 mod job;
 
-// The first of a number of places, kept by a knockout tree.
-mod tournament;
+// A job that waits in a queue.
+mod waiting;
 
-// The place of each task's job.
-mod places;
+// The list of one priority, in the order of arrival.
+mod list;
 
-// Three ways to the place of a job.
-mod index;
+// The lists of all priorities.
+mod lists;
 
-// The queue.
+// The run queue.
 mod queue;
 
 pub use job::Job;

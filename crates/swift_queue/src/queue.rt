@@ -1,33 +1,59 @@
-//! Jobs that wait, by priority and arrival (SE-0306).
+//! The run queue: jobs that wait to be taken, by priority and arrival (SE-0306).
 
-ghost use Rattle.std.specs.Prelude.{◌≡◌, ◌≢◌, ℕ, ◌+◌, ◌<◌, ◌≤◌, ◌^◌, ◌↔◌, [], ◌∷◌, ◌++◌, All, IfOk, IfSome, IfNone, IsSome, IsTrue, length, map, false};
+ghost use Rattle.std.specs.Prelude.{◌≡◌, ◌≢◌, ℕ, ◌+◌, ◌<◌, ◌≤◌, ◌^◌, ◌↔◌, [], ◌∷◌, IfOk, IfSome, IfNone, IsSome, IsTrue, None, length, map, slice_set, false};
+ghost use Rattle.std.specs.List.Sorted.{IsPermutation};
 
-use crate::index::{Index, Key};
 use crate::job::Job;
+use crate::lists::Lists;
+use crate::waiting::Waiting;
 use std::alloc::{AllocError, Global};
 use std::marker::Model;
 use swift_types::{Priority, TaskId};
 
-/// A job that waits in a queue, with its priority and its arrival number.
-struct Waiting<B> {
-    job: Job<B>,
-    priority: Priority,
-    arrival: u64,
+/// How many tasks a run can have. Of so many, by number, a queue knows with no search which arrival number their job
+/// has. A smaller room needs as many, since tasks are numbered over all executors of a run.
+const TASKS: usize = 1_024;
+
+/// Notes the arrival number of the task's job, or that none is inside. Of a task that is numbered past the last nothing
+/// is noted.
+fn note(arrival_of: &mut Vec<Option<u64>>, task: TaskId, arrival: Option<u64>)
+    ensures { arrival_of.new.items ≡ slice_set arrival_of.old.items task.0 arrival }
+{
+    let at = task.0 as usize;
+    if at < arrival_of.len() {
+        arrival_of[at] = arrival;
+    }
 }
 
-/// Jobs that wait to be taken, at most one of each task, with room that was made at the start: no call but
+/// Notes that no job of the task is inside any more, and gives the job that was taken, with its arrival number.
+fn hand_out<B>(arrival_of: &mut Vec<Option<u64>>, taken: Waiting<B>) -> (Job<B>, u64)
+    ensures noted { arrival_of.new.items ≡ slice_set arrival_of.old.items taken.job.task.0 None }
+    ensures job { result ≡ (taken.job, taken.arrival) }
+{
+    note(arrival_of, taken.job.task(), None);
+    let Waiting {
+        job,
+        priority: _,
+        arrival,
+    } = taken;
+    (job, arrival)
+}
+
+/// A run queue: jobs that wait to be taken, at most one of each task, with room that was made at the start: no call but
 /// `with_room` takes memory (SE-0306 for the order by priority; the order among equals is our own).
 ///
 /// Each job has an arrival number, which counts the jobs that were ever put, from 0. In a clause a queue is the list
 /// of its jobs, each with its priority and its arrival number, in no order that means anything, with the room and
 /// the number of arrivals. A queue can be neither cloned nor dropped: it is emptied, and then given up by `close`.
 ///
-/// Of a room of n, `put`, `restore`, `raise`, `take` and `take_oldest` take a number of steps that is the logarithm
-/// of n, and beside that find a task by hashing, as `holds` does: a constant number of steps where the numbers of tasks
-/// are spread, at worst as many as there are jobs inside.
+/// There is a list for each priority, in the order of arrival. `put`, `take`, `take_oldest` and `holds` take a constant
+/// number of steps. `raise` finds the job by its arrival number, in a number of steps that is the logarithm of the room,
+/// and moves at most half the jobs of its list and half of those of the list that it goes to. `restore` moves at most
+/// half the jobs of one list, and none where the job arrived before all of these, as one that was just taken did where
+/// it keeps its priority. Of a task that is numbered 1,024 or more, `holds` and `raise` pass all jobs.
 pub struct Queue<B> {
-    inside: Vec<Waiting<B>>,
-    index: Index,
+    lists: Lists<B>,
+    arrival_of: Vec<Option<u64>>,
     arrived: u64,
 }
 
@@ -36,26 +62,27 @@ impl<B> Model for Queue<B> {
 
     ghost Value = { QueueIs B };
 
-    ghost use Rattle.swift_queue.specs.QueueInside.{IsQueue};
+    ghost use Rattle.swift_queue.specs.Inside.QueueInvariant.{QueueInvariant};
 
-    ghost view = { λ q. record { jobs = q.inside.items; room = q.index.room; arrived = q.arrived } };
+    ghost view = { λ q. record { jobs = q.lists.jobs; room = q.lists.room; arrived = q.arrived } };
 
-    ghost invariant = { IsQueue };
+    ghost invariant = { QueueInvariant };
 }
 
 impl<B> Queue<B> {
-    ghost use Rattle.swift_queue.specs.Queue.{QueueIs, IsOlder, IsOrderly, IsRestorable, IsWithout, PicksFirst, Takes, TakesAt, raised, waiting};
+    ghost use Rattle.swift_queue.specs.Picks.{IsOlder, PicksFirst, raised};
+    ghost use Rattle.swift_queue.specs.Queue.{IsOrderly, IsRestorable, IsWithout, QueueIs, Takes, waiting};
 
-    /// No job, with room for this many, which may be 0. Where so much is not to be had, or cannot be counted, it
-    /// answers the want of memory.
+    /// No job, with room for this many, which may be 0. The error says that it is out of memory, or that so much
+    /// cannot be counted; nothing is left of the queue then.
     pub fn with_room(alloc: Global, room: usize) -> Result<Queue<B>, AllocError>
         ensures { IfOk result (λ q. q ≡ record { jobs = []; room = room; arrived = 0 }) }
     {
-        let index = Index::with_room(alloc, room)?;
-        let inside = Vec::with_capacity(alloc, room)?;
+        let arrival_of = vec![in alloc; None; TASKS]?;
+        let lists = Lists::with_room(alloc, room)?;
         Ok(Queue {
-            inside,
-            index,
+            lists,
+            arrival_of,
             arrived: 0,
         })
     }
@@ -67,21 +94,21 @@ impl<B> Queue<B> {
         // What holds of every queue, for a caller that puts or restores.
         ensures orderly { IsOrderly self.now }
     {
-        self.inside.len()
+        self.lists.len()
     }
 
     /// Whether no job is inside.
     pub fn is_empty(&self) -> bool
         ensures { IsTrue result ↔ (self.now.jobs ≡ []) }
     {
-        self.inside.is_empty()
+        self.len() == 0
     }
 
     /// How many jobs there is room for.
     pub fn room(&self) -> usize
         ensures { result ≡ self.now.room }
     {
-        self.index.room()
+        self.lists.room()
     }
 
     /// How many jobs were ever put: the next one gets this arrival number.
@@ -95,7 +122,12 @@ impl<B> Queue<B> {
     pub fn holds(&self, task: TaskId) -> bool
         ensures { (result ≡ false) ↔ IsWithout self.now.jobs task }
     {
-        self.index.find(task).is_some()
+        let at = task.0 as usize;
+        if at < self.arrival_of.len() {
+            self.arrival_of[at].is_some()
+        } else {
+            self.lists.holds(task)
+        }
     }
 
     /// Adds a job of a task that has none inside, as the newest. There has to be room, and fewer than 2^64 - 1
@@ -104,66 +136,56 @@ impl<B> Queue<B> {
         requires room { length self.old.jobs < self.old.room }
         requires arrived { self.old.arrived + 1 < 2 ^ 64 }
         requires without { IsWithout self.old.jobs job.task }
-        ensures { self.new ≡ record self.old { jobs = self.old.jobs ++ waiting job priority self.old.arrived ∷ []; arrived = self.old.arrived + 1 } }
+        ensures jobs { IsPermutation (waiting job priority self.old.arrived ∷ self.old.jobs) self.new.jobs }
+        ensures len { length self.new.jobs ≡ length self.old.jobs + 1 }
+        ensures room { self.new.room ≡ self.old.room }
+        ensures arrived { self.new.arrived ≡ self.old.arrived + 1 }
     {
         let arrival = self.arrived;
         self.arrived += 1;
-        self.restore(job, arrival, priority);
+        note(&mut self.arrival_of, job.task(), Some(arrival));
+        let waiting = Waiting {
+            job,
+            priority,
+            arrival,
+        };
+        self.lists.push(waiting);
     }
 
     /// Adds a job that was inside once, with the arrival number that it had. There has to be room; the number is below
     /// `arrived` and not inside, and neither is a job of the task.
     pub fn restore(&mut self, job: Job<B>, arrival: u64, priority: Priority)
         requires { IsRestorable self.old job.task arrival }
-        ensures { self.new ≡ record self.old { jobs = self.old.jobs ++ waiting job priority arrival ∷ [] } }
+        ensures jobs { IsPermutation (waiting job priority arrival ∷ self.old.jobs) self.new.jobs }
+        ensures len { length self.new.jobs ≡ length self.old.jobs + 1 }
+        ensures room { self.new.room ≡ self.old.room }
+        ensures arrived { self.new.arrived ≡ self.old.arrived }
     {
-        let key = Key {
-            task: job.task(),
-            priority,
-            arrival,
-        };
+        note(&mut self.arrival_of, job.task(), Some(arrival));
         let waiting = Waiting {
             job,
             priority,
             arrival,
         };
-        match self.inside.push(waiting) {
-            Ok(()) => {}
-            Err(_refused) => unreachable!(),
-        }
-        self.index.push(key);
+        self.lists.insert(waiting);
     }
 
-    /// Raises the task's job to a priority, if it is inside and lower. Where it is not, nothing changes.
+    /// Raises the task's job to a priority, if it is inside and lower. All other jobs stay as they are.
     pub fn raise(&mut self, task: TaskId, priority: Priority)
-        ensures { self.new ≡ record self.old { jobs = map (raised task priority) self.old.jobs } }
-    {
-        let Some(place) = self.index.find(task) else {
-            return
-        };
-        if priority.number() <= self.inside[place].priority.number() {
-            return;
-        }
-        self.inside[place].priority = priority;
-        self.index.set_priority(place, priority);
-    }
-
-    /// Takes the job of a place, which the last job takes.
-    fn take_at(&mut self, place: usize) -> (Job<B>, u64)
-        requires { place < length self.old.jobs }
-        ensures taken { TakesAt self.old.jobs place result.0 result.1 self.new.jobs }
-        ensures len { length self.new.jobs + 1 ≡ length self.old.jobs }
+        ensures jobs { IsPermutation (map (raised task priority) self.old.jobs) self.new.jobs }
+        ensures len { length self.new.jobs ≡ length self.old.jobs }
         ensures room { self.new.room ≡ self.old.room }
         ensures arrived { self.new.arrived ≡ self.old.arrived }
-        ensures restorable { IsRestorable self.new result.0.task result.1 }
     {
-        let Waiting {
-            job,
-            priority: _,
-            arrival,
-        } = self.inside.swap_remove(place);
-        let _key = self.index.swap_remove(place);
-        (job, arrival)
+        let at = task.0 as usize;
+        let mut arrival = None;
+        if at < self.arrival_of.len() {
+            arrival = self.arrival_of[at];
+            if arrival.is_none() {
+                return;
+            }
+        }
+        self.lists.raise(task, arrival, priority);
     }
 
     /// Takes the job of the greatest priority, of those the one that arrived first, with its arrival number. None
@@ -177,8 +199,8 @@ impl<B> Queue<B> {
         ensures restorable { IfSome result (λ r. IsRestorable self.new r.0.task r.1) }
         ensures none { IfNone result (self.new ≡ self.old) }
     {
-        match self.index.most_urgent() {
-            Some(place) => Some(self.take_at(place)),
+        match self.lists.take() {
+            Some(taken) => Some(hand_out(&mut self.arrival_of, taken)),
             None => None,
         }
     }
@@ -194,8 +216,8 @@ impl<B> Queue<B> {
         ensures restorable { IfSome result (λ r. IsRestorable self.new r.0.task r.1) }
         ensures none { IfNone result (self.new ≡ self.old) }
     {
-        match self.index.oldest() {
-            Some(place) => Some(self.take_at(place)),
+        match self.lists.take_oldest() {
+            Some(taken) => Some(hand_out(&mut self.arrival_of, taken)),
             None => None,
         }
     }
@@ -205,10 +227,10 @@ impl<B> Queue<B> {
         requires { length self.jobs ≡ 0 }
     {
         let Queue {
-            inside,
-            index: _,
+            lists,
+            arrival_of: _,
             arrived: _,
         } = self;
-        inside.destroy_empty();
+        lists.close();
     }
 }

@@ -1,82 +1,59 @@
-use Rattle.std.proofs.Common.{◌≡◌, ◌≢◌, ℕ, ◌<◌, ◌≤◌, List, Some, All, slice_get, length, map, get_or, set, ap, sym, subst, ◌∙◌, arith}
-use Rattle.std.proofs.lemmas.List.{get_or_read, map-set, length-map}
-use Rattle.swift_types.specs.Priority.{rank}
-use Rattle.swift_queue.specs.IndexIs.{IndexIs}
-use Rattle.swift_queue.specs.Keys.{IsPlaceOf}
-use Rattle.swift_queue.specs.Queue.{QueueIs, IsOrderly, raised}
-use Rattle.swift_queue.specs.declared.queue.Waiting.{Waiting}
-use Rattle.swift_queue.specs.QueueInside.{key_of}
-use Rattle.swift_queue.specs.declared.index.Key.{Key}
-use Rattle.swift_queue.proofs.Jobs.{keys, key_is, without_keys, raise_none, raise_high, raise_low, orderly_set}
+use Rattle.std.proofs.Common.{◌≡◌, ◌<◌, get_or, is_some, false, ℕ, List, None, Option, IfSome, ◌∙◌, lit<, length, map, ap, sym, subst, arith}
+use Rattle.std.proofs.lemmas.List.{get_or_default, length-map}
+use Rattle.std.proofs.lemmas.List.Sorted.{IsPermutation-refl, length_permutation}
+use Rattle.std.specs.List.Sorted.{IsPermutation}
+use Rattle.swift_queue.specs.Inside.List.{HasArrival}
+use Rattle.swift_queue.specs.Picks.{raised}
+use Rattle.swift_queue.specs.Queue.{IsOrderly, IsWithout, QueueIs}
+use Rattle.swift_queue.specs.declared.waiting.Waiting.{Waiting}
+use Rattle.swift_queue.proofs.ArrivalsStayRight.{arrivals_raise, no_arrival}
+use Rattle.swift_queue.proofs.QueueStaysOrderly.{orderly_raise}
+use Rattle.swift_queue.proofs.RaiseChangesOne.{raise_without}
 use Rattle.swift_queue.proofs.queue.Queue.raise.Goals as goal
-
-pub returns-in_default : goal.returns-in_default
-returns-in_default g c =
-    let xs : List (Waiting g.row.B.Denot) = c.self.inside.inside.items in
-    let without = without_keys xs c.args.task (subst (λ (s : List Key). All (λ k. k.task ≢ c.args.task) s) c.self.invariant.keys c.in_default.ensures.missing) in
-    subst (λ (q : QueueIs g.row.B.Denot). q ≡ record { jobs = map (raised {B = g.row.B.Denot} c.args.task c.args.priority) q.jobs; room = q.room; arrived = q.arrived }) c.self.view_is
-    (ap (λ (s : List (Waiting g.row.B.Denot)). let q : QueueIs g.row.B.Denot = record { jobs = s; room = c.self.inside.index.room; arrived = c.self.inside.arrived } in q)
-    (sym (raise_none c.args.task c.args.priority xs without)))
-
-pub returns-then-number : goal.returns-then-number
-returns-then-number g c =
-    let xs : List (Waiting g.row.B.Denot) = c.self.inside.inside.items in
-    let place = c.in-Some.place in
-    let found : IsPlaceOf (keys xs) c.args.task place = subst (λ (s : List Key). IsPlaceOf s c.args.task place) c.self.invariant.keys c.in-Some.ensures.found in
-    let w = found.within in
-    let within : place < length xs = omega (arith, w, length-map xs (key_of {B = g.row.B.Denot})) in
-    let x = c.index.result.now in
-    let is : (d : Waiting g.row.B.Denot) → x ≡ get_or xs place d = λ d. get_or_read xs place x within c.index.ensures d in
-    let high : rank c.args.priority ≤ rank x.priority = omega (arith, c.if-number.true, c.number.ensures, c.number-2.ensures) in
-    subst (λ (q : QueueIs g.row.B.Denot). q ≡ record { jobs = map (raised {B = g.row.B.Denot} c.args.task c.args.priority) q.jobs; room = q.room; arrived = q.arrived }) c.self.view_is
-    (ap (λ (s : List (Waiting g.row.B.Denot)). let q : QueueIs g.row.B.Denot = record { jobs = s; room = c.self.inside.index.room; arrived = c.self.inside.arrived } in q)
-    (sym (raise_high c.args.task c.args.priority xs place x found is high)))
+use Rattle.swift_queue.proofs.queue.Queue.raise.Goals.{then-at-len+else-is_none, else-at-len}
 
 pub invariant_of-self : goal.invariant_of-self
 invariant_of-self g c =
-    let xs : List (Waiting g.row.B.Denot) = c.self.inside.inside.items in
-    let place = c.in-Some.place in
-    let found : IsPlaceOf (keys xs) c.args.task place = subst (λ (s : List Key). IsPlaceOf s c.args.task place) c.self.invariant.keys c.in-Some.ensures.found in
-    let w = found.within in
-    let within : place < length xs = omega (arith, w, length-map xs (key_of {B = g.row.B.Denot})) in
-    let x = c.index.result.now in
-    let is : (d : Waiting g.row.B.Denot) → x ≡ get_or xs place d = λ d. get_or_read xs place x within c.index.ensures d in
-    let y = c.index_mut.result.now in
-    let y_is : (d : Waiting g.row.B.Denot) → y ≡ get_or xs place d = λ d. get_or_read xs place y within c.index_mut.ensures.value d in
-    let lower : rank y.priority < rank c.args.priority =
-    subst (λ (z : Waiting g.row.B.Denot). rank z.priority < rank c.args.priority) (is x ∙ sym (y_is x)) (omega (arith, c.if-number.false, c.number.ensures, c.number-2.ensures)) in
-    let new : Waiting g.row.B.Denot = record y { priority = c.args.priority } in
-    let key : Key = record { task = y.job.task; priority = c.args.priority; arrival = y.arrival } in
-    let index = c.set_priority.ensures (key_of y) (subst (λ (s : List Key). slice_get s place ≡ Some (key_of y)) (sym c.self.invariant.keys) (key_is xs place y within y_is)) in
-    let room = ap (λ (i : IndexIs). i.room) index in
-    let old : QueueIs g.row.B.Denot = record { jobs = xs; room = c.self.inside.index.room; arrived = c.self.inside.arrived } in
-    let made = c.self.invariant.made in
+    let x = c.self.inside in
+    let old : QueueIs g.row.B.Denot = record { jobs = x.lists.jobs; room = x.lists.room; arrived = x.arrived } in
+    let new = c.raise.new.self.jobs in
     record {
-      keys = ap (λ (i : IndexIs). i.keys) index ∙ ap (λ (s : List Key). set s place key) c.self.invariant.keys ∙ sym (map-set (key_of {B = g.row.B.Denot}) xs place new);
-      made = omega (arith, made, room);
-      orderly = subst (λ (n : ℕ). IsOrderly (record { jobs = set xs place new; room = n; arrived = c.self.inside.arrived })) (sym room)
-          (orderly_set old place y c.args.priority y_is within c.self.invariant.orderly);
+      orderly = subst (λ (n : ℕ). IsOrderly (record { jobs = new; room = n; arrived = x.arrived })) (sym c.raise.ensures.room) (orderly_raise old c.args.task c.args.priority new c.self.invariant.orderly c.raise.ensures.jobs);
+      arrivals = arrivals_raise x.arrival_of.items c.args.task c.args.priority x.lists.jobs new c.self.invariant.arrivals c.raise.ensures.jobs;
     }
 
-pub returns : goal.returns
-returns g c =
-    let xs : List (Waiting g.row.B.Denot) = c.self.inside.inside.items in
-    let place = c.in-Some.place in
-    let found : IsPlaceOf (keys xs) c.args.task place = subst (λ (s : List Key). IsPlaceOf s c.args.task place) c.self.invariant.keys c.in-Some.ensures.found in
-    let w = found.within in
-    let within : place < length xs = omega (arith, w, length-map xs (key_of {B = g.row.B.Denot})) in
-    let x = c.index.result.now in
-    let is : (d : Waiting g.row.B.Denot) → x ≡ get_or xs place d = λ d. get_or_read xs place x within c.index.ensures d in
-    let y = c.index_mut.result.now in
-    let y_is : (d : Waiting g.row.B.Denot) → y ≡ get_or xs place d = λ d. get_or_read xs place y within c.index_mut.ensures.value d in
-    let lower : rank y.priority < rank c.args.priority =
-    subst (λ (z : Waiting g.row.B.Denot). rank z.priority < rank c.args.priority) (is x ∙ sym (y_is x)) (omega (arith, c.if-number.false, c.number.ensures, c.number-2.ensures)) in
-    let new : Waiting g.row.B.Denot = record y { priority = c.args.priority } in
-    let key : Key = record { task = y.job.task; priority = c.args.priority; arrival = y.arrival } in
-    let index = c.set_priority.ensures (key_of y) (subst (λ (s : List Key). slice_get s place ≡ Some (key_of y)) (sym c.self.invariant.keys) (key_is xs place y within y_is)) in
-    let room = ap (λ (i : IndexIs). i.room) index in
-    let n = c.set_priority.new.self.room in
-    let a = c.self.inside.arrived in
-    ap (λ (s : List (Waiting g.row.B.Denot)). let q : QueueIs g.row.B.Denot = record { jobs = s; room = n; arrived = a } in q) (sym (raise_low c.args.task c.args.priority xs place y found y_is lower))
-    ∙ ap (λ (m : ℕ). let q : QueueIs g.row.B.Denot = record { jobs = map (raised {B = g.row.B.Denot} c.args.task c.args.priority) xs; room = m; arrived = a } in q) room
-    ∙ ap (λ (q : QueueIs g.row.B.Denot). let r : QueueIs g.row.B.Denot = record { jobs = map (raised {B = g.row.B.Denot} c.args.task c.args.priority) q.jobs; room = q.room; arrived = q.arrived } in r) c.self.view_is
+pub returns-clause-len : goal.returns-clause-len
+returns-clause-len g c =
+    let jobs = c.self.inside.lists.jobs in
+    let r : Waiting g.row.B.Denot → Waiting g.row.B.Denot = raised {B = g.row.B.Denot} c.args.task c.args.priority in
+    let view = ap (λ (q : QueueIs g.row.B.Denot). length q.jobs) c.self.view_is in
+    let len = length_permutation (map r jobs) c.raise.new.self.jobs c.raise.ensures.jobs in
+    let size = length-map jobs r in
+    omega (arith, view, len, size)
+
+pub raise-requires : goal.raise-requires
+raise-requires g c =
+    let x = c.self.inside in
+    let jobs = x.lists.jobs in
+    let known : IfSome c.if-at-len.arrival (HasArrival jobs c.args.task) = elim c.if-at-len.branch [
+      | then-at-len+else-is_none w ↦
+          let ok = x.arrival_of.ok in
+          let lt : c.args.task.0 < length x.arrival_of.items = omega (arith, w.if-at-len.true, c.len.ensures, ok) in
+          let read = w.arrival-is ∙ w.index.ensures ∙ get_or_default x.arrival_of.items c.args.task.0 w.index.result.now None lt in
+          subst (λ (o : Option ℕ). IfSome o (HasArrival jobs c.args.task)) (sym read) (c.self.invariant.arrivals c.args.task.0 lt).some
+      | else-at-len w ↦ subst (λ (o : Option ℕ). IfSome o (HasArrival jobs c.args.task)) (sym w.arrival-is) tt
+    ] in
+    let h = c.self.invariant.orderly in
+    (lit< tt, (known, (h.arrivals, (h.tasks, h.few))))
+
+pub returns-then-is_none-clause-jobs : goal.returns-then-is_none-clause-jobs
+returns-then-is_none-clause-jobs g c =
+    let x = c.self.inside in
+    let ok = x.arrival_of.ok in
+    let lt : c.args.task.0 < length x.arrival_of.items = omega (arith, c.if-at-len.true, c.len.ensures, ok) in
+    let read = c.index.ensures ∙ get_or_default x.arrival_of.items c.args.task.0 c.index.result.now None lt in
+    let empty : is_some (get_or x.arrival_of.items c.args.task.0 None) ≡ false = ap is_some (sym read) ∙ c.if-is_none.ensures in
+    let without = no_arrival (get_or x.arrival_of.items c.args.task.0 None) x.lists.jobs c.args.task (c.self.invariant.arrivals c.args.task.0 lt) empty in
+    let jobs = c.args.self.now.jobs in
+    let here : IsWithout jobs c.args.task = subst (λ (q : QueueIs g.row.B.Denot). IsWithout q.jobs c.args.task) c.self.view_is without in
+    subst (λ (s : List (Waiting g.row.B.Denot)). IsPermutation s jobs) (sym (raise_without c.args.task c.args.priority jobs here)) (IsPermutation-refl jobs)

@@ -1,12 +1,35 @@
-use Rattle.std.proofs.Common.{List, subst}
-use Rattle.swift_queue.specs.Keys.{IsOldest}
-use Rattle.swift_queue.specs.Queue.{QueueIs}
-use Rattle.swift_queue.specs.declared.index.Key.{Key}
-use Rattle.swift_queue.proofs.Jobs.{takes_oldest, keys}
+use Rattle.std.proofs.Common.{ℕ, List, ◌∷◌, length, ap, sym, subst, arith}
+use Rattle.std.proofs.lemmas.List.Sorted.{length_permutation}
+use Rattle.swift_queue.specs.Inside.ArrivalOf.{AreArrivals}
+use Rattle.swift_queue.specs.Job.{JobIs}
+use Rattle.swift_queue.specs.Queue.{IsOrderly, IsRestorable, QueueIs}
+use Rattle.swift_queue.proofs.ArrivalsStayRight.{arrivals_take}
+use Rattle.swift_queue.proofs.QueueStaysOrderly.{orderly_take, restorable}
 use Rattle.swift_queue.proofs.queue.Queue.take_oldest.Goals as goal
 
-pub returns-in-Some-clause-first : goal.returns-in-Some-clause-first
-returns-in-Some-clause-first g c =
-    let oldest = subst (λ (s : List Key). IsOldest s c.in-Some.place) c.self.invariant.keys c.in-Some.ensures.first in
-    takes_oldest c.args.self.now.jobs c.take_at.new.self.jobs c.in-Some.place c.take_at.result.0 c.take_at.result.1 c.take_at.ensures.taken
-    (subst (λ (q : QueueIs g.row.B.Denot). IsOldest (keys q.jobs) c.in-Some.place) c.self.view_is oldest)
+pub invariant_of-self : goal.invariant_of-self
+invariant_of-self g c =
+    let x = c.self.inside in
+    let old : QueueIs g.row.B.Denot = record { jobs = x.lists.jobs; room = x.lists.room; arrived = x.arrived } in
+    let job = c.in-Some.taken in
+    let new = c.take_oldest.new.self.jobs in
+    record {
+      orderly = subst (λ (n : ℕ). IsOrderly (record { jobs = new; room = n; arrived = x.arrived })) (sym c.take_oldest.ensures.room) (orderly_take old job new c.self.invariant.orderly c.in-Some.ensures.rest);
+      arrivals = subst (λ (s : List _). AreArrivals s new) (sym c.hand_out.ensures.noted)
+          (arrivals_take x.arrival_of.items job x.lists.jobs new c.self.invariant.arrivals c.self.invariant.orderly.tasks c.in-Some.ensures.rest);
+    }
+
+pub returns-in-Some-clause-len : goal.returns-in-Some-clause-len
+returns-in-Some-clause-len g c =
+    let view = ap (λ (q : QueueIs g.row.B.Denot). length q.jobs) c.self.view_is in
+    let len = length_permutation c.self.inside.lists.jobs (c.in-Some.taken ∷ c.take_oldest.new.self.jobs) c.in-Some.ensures.rest in
+    omega (arith, view, len)
+
+pub returns-in-Some-clause-restorable : goal.returns-in-Some-clause-restorable
+returns-in-Some-clause-restorable g c =
+    let x = c.self.inside in
+    let old : QueueIs g.row.B.Denot = record { jobs = x.lists.jobs; room = x.lists.room; arrived = x.arrived } in
+    let job = c.in-Some.taken in
+    let new = c.take_oldest.new.self.jobs in
+    subst (λ (r : JobIs g.row.B.Denot × ℕ). IsRestorable (record { jobs = new; room = c.take_oldest.new.self.room; arrived = x.arrived }) r.0.task r.1) (sym c.hand_out.ensures.job)
+    (subst (λ (n : ℕ). IsRestorable (record { jobs = new; room = n; arrived = x.arrived }) job.job.task job.arrival) (sym c.take_oldest.ensures.room) (restorable old job new c.self.invariant.orderly c.in-Some.ensures.rest))

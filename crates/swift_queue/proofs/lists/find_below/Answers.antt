@@ -1,0 +1,9 @@
+use Rattle.std.proofs.Common.{arith}
+use Rattle.swift_queue.proofs.RaiseChangesOne.{known_list}
+use Rattle.swift_queue.proofs.lists.find_below.Goals as goal
+
+pub place_of-requires-clause-known : goal.place_of-requires-clause-known
+place_of-requires-clause-known g c =
+    let end = c.loop-lower.auto.lower-end in
+    let four = c.requires.lists.1.four in
+    known_list c.args.lists.now c.loop-lower.lower c.index-lists-lower.result c.args.task c.args.arrival (omega (arith, c.loop-lower-test.true, c.requires.level, four)) c.requires.known
