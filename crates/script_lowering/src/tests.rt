@@ -1,6 +1,6 @@
-//! Texts of scripts, and the lines of their methods.
+//! Texts of scripts, and the instructions of their methods.
 
-// The lines of whole scripts.
+// The instructions of whole scripts.
 mod scripts;
-// Lines as text.
+// Instructions as text.
 mod show;

@@ -1,11 +1,11 @@
-//! The lines of whole scripts.
+//! The instructions of whole scripts.
 
 use crate::tests::show::compiled;
 use std::alloc::Global;
 use std::process::Abort;
 use std::test::*;
 
-/// Each text is compiled to these lines.
+/// Each text is compiled to these instructions.
 fn compare(rt: &impl Abort, alloc: Global, rows: &[(&str, &str)]) -> Result<(), Fail> {
     for (text, want) in rows {
         let found = compiled(alloc, text.as_bytes())?;
@@ -35,7 +35,7 @@ end
 ",
         ),
         (
-            // A variable stands behind its statement.
+            // A variable stands after its statement.
             "actor A { func f(x) { let a = x; let b = a; return b; } func g(b, x) { return x; } }",
             "slots 3
 v1 = v0 > 1

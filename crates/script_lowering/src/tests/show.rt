@@ -1,4 +1,5 @@
-//! Lines as text: `v0` is a variable, `f0` a field, and the numbers at the end are the followers that a turn reads.
+//! Instructions as text: `v0` is a variable, `f0` a field, and the numbers at the end are the followers that a turn
+//! reads.
 
 ghost use Rattle.std.specs.Prelude.{◌≡◌, [], None};
 ghost use Rattle.script_grammar.specs.Tree.{block_tree, view_actor, view_method};
@@ -12,7 +13,7 @@ use script_code::{Act, Call, Formula, Instruction, Place};
 use script_names::{Declared, Names, check};
 use script_tokens::tokens;
 
-/// The methods of a script, actor by actor, behind the actor's invariant.
+/// The methods of a script, actor by actor, after the actor's invariant.
 pub(crate) fn compiled(alloc: Global, text: &[u8]) -> Result<String, Fail> {
     let decls = declarations(alloc, &tokens(alloc, text)?.tokens)?;
     let declared = check(alloc, &decls)?;

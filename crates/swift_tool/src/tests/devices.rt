@@ -7,7 +7,7 @@ use std::io::{Error, ErrorKind, Write};
 use std::test::Fail;
 use swift_one_thread::Open;
 
-// Takes at most three bytes a call. Behind `room` bytes it fails, or takes none.
+// Takes at most three bytes a call. After `room` bytes it fails, or takes none.
 #[derive(Drop)]
 struct Slow {
     taken: Vec<u8>,

@@ -36,7 +36,7 @@ fields
 Acc.bal 0
 ",
     ),
-    // The same with the test made again behind the yield.
+    // The same with the test made again after the yield.
     (
         "actor Acc { var bal = 10; invariant bal >= 0; func take() { yield; if bal >= 10 { bal = bal - 10; return 1; } return 0; } } root a = Acc.take(); root b = Acc.take();",
         true,
@@ -150,7 +150,7 @@ t0 root r value 7
 fields
 ",
     ),
-    // The token of an executor with more jobs goes behind the others: the task of the third root is the first to come to
+    // The token of an executor with more jobs goes after the others: the task of the third root is the first to come to
     // L.
     (
         "actor L { var n = 0; func f(k) { n = n * 10 + k; return n; } } actor P { func go(k) { yield; await L.f(k); return 0; } } actor Q { func go(k) { yield; await L.f(k); return 0; } } root a = P.go(1); root b = P.go(2); root c = Q.go(3);",
