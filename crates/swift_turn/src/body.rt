@@ -300,11 +300,11 @@ impl Body {
             STEPS,
         );
         let TurnState {
-            frame,
+            frame: left,
             fields,
             effects,
         } = run;
-        self.top = Some(frame);
+        self.top = Some(left);
         self.phase = match played {
             Ok(exit) => Phase::Played(fields, effects, exit),
             Err(_) => Phase::OutOfMemory(fields),
