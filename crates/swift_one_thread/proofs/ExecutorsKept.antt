@@ -4,10 +4,11 @@ use Rattle.std.specs.Prelude.{All, IsSomeAnd, slice_set, slice_index_or}
 use Rattle.std.specs.List.{AllByRecursion}
 use Rattle.std.proofs.lemmas.List.Elements.{All-from_recursion, All-nil, All-push}
 use Rattle.swift_script.specs.Scripts.{ScriptView, method_actor, actor_start}
+use Rattle.swift_types.specs.declared.limits.TheConstants.{FRAMES}
 use Rattle.swift_types.specs.declared.outcome.Ending.{Ending}
 use Rattle.swift_turn.specs.Turn.{ExitView, calling, yielding, closing, returning, failing}
 use Rattle.swift_turn.specs.Frame.{FrameView}
-use Rattle.swift_turn.specs.Body.{advanced, called, most_frames}
+use Rattle.swift_turn.specs.Body.{advanced, called}
 use Rattle.swift_turn.specs.declared.exit.Step.{Step}
 use Rattle.swift_turn.specs.declared.exit.Step.TheVariants.{Run}
 use Rattle.std.specs.declared.vec.Vec.{Vec}
@@ -27,12 +28,12 @@ abbrev pub TopGoes : ScriptView → Option FrameView → Step → Type 0
 TopGoes p top (Run a r) = IsSomeAnd top (λ f. method_actor p f.method ≡ a.0)
 TopGoes p top _ = Unit {0}
 
-called_goes : (p : ScriptView) (f : FrameView) (below : List FrameView) (m : ℕ) (args : List ℤ) (b : Bool) → nat_lt (length (f ∷ below)) most_frames ≡ b → TopGoes p (called p f below m args).top (called p f below m args).step
+called_goes : (p : ScriptView) (f : FrameView) (below : List FrameView) (m : ℕ) (args : List ℤ) (b : Bool) → nat_lt (length (f ∷ below)) FRAMES ≡ b → TopGoes p (called p f below m args).top (called p f below m args).step
 called_goes p f below m args true is = rw is refl
 called_goes p f below m args false is = rw is refl
 
 pub advanced_goes : (p : ScriptView) (f : FrameView) (below : List FrameView) (e : ExitView) → TopGoes p (advanced p f below e).top (advanced p f below e).step
-advanced_goes p f below (calling a m args) = called_goes p f below m args (nat_lt (length (f ∷ below)) most_frames) refl
+advanced_goes p f below (calling a m args) = called_goes p f below m args (nat_lt (length (f ∷ below)) FRAMES) refl
 advanced_goes p f below yielding = refl
 advanced_goes p f below (closing g fault) = tt
 advanced_goes p f [] (returning v) = tt

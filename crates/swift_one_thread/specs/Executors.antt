@@ -6,6 +6,7 @@ use Rattle.swift_report.specs.declared.report.Record.{Record}
 use Rattle.std.specs.Prelude.{◌≡◌, ℕ, ℤ, ◌+◌, ◌≤◌, All, List, [], ◌∷◌, ◌++◌, map, Option, Some, IfSome, IsSomeAnd, if◌then◌else◌, nat_le}
 use Rattle.std.specs.List.{AllByRecursion}
 use Rattle.swift_script.specs.Scripts.{ScriptView, actor_start, method_actor}
+use Rattle.swift_types.specs.declared.limits.TheConstants.{TURNS}
 use Rattle.swift_types.specs.declared.outcome.Fault.TheVariants.{Turns}
 use Rattle.swift_types.specs.declared.outcome.Resume.{Resume}
 use Rattle.swift_types.specs.declared.outcome.Resume.TheVariants.{Fault as Raise}
@@ -16,7 +17,7 @@ use Rattle.swift_turn.specs.Body.{BodyView, idle}
 use Rattle.swift_turn.specs.declared.exit.Exit.{Exit}
 use Rattle.swift_turn.specs.declared.exit.Step.{Step}
 use Rattle.swift_turn.specs.declared.exit.Step.TheVariants.{Run, Ended}
-use Rattle.swift_report.specs.Lawful.{IsLawful, most_turns, replay}
+use Rattle.swift_report.specs.Lawful.{IsLawful, replay}
 use Rattle.swift_report.specs.Ended.{IsEndedBy, exit_of}
 use Rattle.swift_report.specs.Numbered.{HaveBefore}
 use Rattle.swift_one_thread.specs.declared.pool.Pool.{Pool}
@@ -36,7 +37,7 @@ pub record CanRun (p : ScriptView) (actor : ℕ) (b : BodyView) : Type 0 where
 pub record IsJobOf (p : ScriptView) (actor : ℕ) (job : Job) : Type 0 where
   pub runs : CanRun p actor job.body.value
   pub env_given : HasItsEnv p job.task.0 job.env
-  pub late : most_turns ≤ job.number → job.resume ≡ Raise Turns
+  pub late : TURNS ≤ job.number → job.resume ≡ Raise Turns
 
 pub record IsExecutor (p : ScriptView) (actor : ℕ) (executor : Executor) : Type 0 where
   pub lawful : IsLawful p actor (actor_start p actor) executor.journal.items
@@ -111,7 +112,7 @@ EndsBy journals task _ = Unit {0}
 
 -- what a task's turn of this number begins with: from number 1,000 on, the fault that stands for too many
 abbrev pub resume_at : ℕ → Resume → Resume
-resume_at number resume = if nat_le most_turns number then Raise Turns else resume
+resume_at number resume = if nat_le TURNS number then Raise Turns else resume
 
 -- these tasks are made by the roots from a number on, in order of declaration
 abbrev pub AreRootsFrom : ℕ → List (Origin × Ending) → Type 0

@@ -17,10 +17,8 @@ use std::sync::Arc;
 use script_code::Env;
 use swift_script::Script;
 use swift_turn::{Body, Step};
+use swift_types::limits::TURNS;
 use swift_types::{ActorId, Ending, Fault, Resume, RootId, TaskId};
-
-// The number of a task's first turn that runs no statement.
-const TURNS: u32 = 1_000;
 
 // How many tasks a run may have, and how many a turn may make.
 const TASKS: usize = 1_024;

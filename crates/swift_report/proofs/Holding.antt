@@ -2,13 +2,13 @@
 use Rattle.std.proofs.Common.{◌≡◌, ℕ, ◌+◌, ℤ, Bool, true, false, if◌then◌else◌, IsTrue, Option, List, [], ◌∷◌, refl, sym, subst}
 use Rattle.std.specs.declared.vec.Vec.{Vec}
 use Rattle.std.specs.declared.alloc.Global.{Global}
+use Rattle.swift_types.specs.declared.limits.TheConstants.{STEPS}
 use Rattle.swift_types.specs.declared.outcome.Fault.TheVariants.{Invariant}
 use Rattle.script_code.specs.Tree.{Term}
 use Rattle.script_code.specs.Value.{holds}
 use Rattle.swift_script.specs.Scripts.{ScriptView, actor_invariant, actor_start, method_actor}
 use Rattle.swift_turn.specs.Turn.{State, ExitView, calling, yielding, closing, returning, failing, Played, exits, kept_of, undoes, whole_turn}
 use Rattle.swift_turn.specs.Frame.{frame_view, state_at}
-use Rattle.swift_turn.specs.Body.{most_steps}
 use Rattle.swift_report.specs.declared.report.Record.{Record}
 use Rattle.swift_report.specs.Lawful.{AreLawful, IsLawful, KeepInvariants, fields_after, replay}
 
@@ -38,9 +38,9 @@ kept_holds invariant before after is =
 turn_holds : (p : ScriptView) (k : ℕ) (fields : List ℤ) (r : Record) → method_actor p r.frame.method.0 ≡ k → IsTrue (holds (actor_invariant p k) fields) → IsTrue (holds (actor_invariant p k) (fields_after p fields r))
 turn_holds p k fields r actor is =
     let a = method_actor p r.frame.method.0 in
-    let before : State = state_at p (frame_view r.frame) r.frame.made r.frame.opened fields [] in
+    let before : State = state_at p (frame_view r.frame) fields [] in
     let held : IsTrue (holds (actor_invariant p a) fields) = subst (λ (n : ℕ). IsTrue (holds (actor_invariant p n) fields)) (sym actor) is in
-    let kept : IsTrue (holds (actor_invariant p a) (fields_after p fields r)) = kept_holds (actor_invariant p a) before (whole_turn r.env most_steps before r.resume) held in
+    let kept : IsTrue (holds (actor_invariant p a) (fields_after p fields r)) = kept_holds (actor_invariant p a) before (whole_turn r.env STEPS before r.resume) held in
     subst (λ (n : ℕ). IsTrue (holds (actor_invariant p n) (fields_after p fields r))) actor kept
 
 -- an invariant that holds of fields holds after a lawful journal

@@ -2,6 +2,7 @@
 use Rattle.std.specs.Prelude.{◌≡◌, ℕ, ◌+◌, ◌<◌, ◌≤◌, ℤ, IsTrue, List, [], ◌∷◌}
 use Rattle.std.specs.declared.vec.Vec.{Vec}
 use Rattle.std.specs.declared.alloc.Global.{Global}
+use Rattle.swift_types.specs.declared.limits.TheConstants.{TURNS}
 use Rattle.swift_types.specs.declared.outcome.Fault.TheVariants.{Turns}
 use Rattle.swift_types.specs.declared.outcome.Resume.TheVariants.{Fault as Raise}
 use Rattle.script_code.specs.Value.{holds}
@@ -25,10 +26,6 @@ abbrev pub replay : ScriptView → List ℤ → List Record → List ℤ
 replay p fields [] = fields
 replay p fields (r ∷ rs) = replay p (fields_after p fields r) rs
 
--- how many turns of a task may run statements
-abbrev pub most_turns : ℕ
-most_turns = 1000
-
 -- A record's exit and effects are those of the kept turn, its frame is of a method that the script has and that is one
 -- of this actor, and where its task has had 1,000 turns before, it begins with the fault that says so.
 pub record IsKept (p : ScriptView) (k : ℕ) (fields : List ℤ) (r : Record) : Type 0 where
@@ -36,7 +33,7 @@ pub record IsKept (p : ScriptView) (k : ℕ) (fields : List ℤ) (r : Record) : 
   pub effects : effect_views r.effects.items ≡ (turn_of p fields r).state.effects
   pub method : r.frame.method.0 < method_count p
   pub actor : method_actor p r.frame.method.0 ≡ k
-  pub late : most_turns ≤ r.number → r.resume ≡ Raise Turns
+  pub late : TURNS ≤ r.number → r.resume ≡ Raise Turns
 
 -- Each record's exit and effects are what the kept turn gives at that point of the replay.
 abbrev pub IsLawful : ScriptView → ℕ → List ℤ → List Record → Type 0

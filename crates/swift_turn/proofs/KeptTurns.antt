@@ -1,5 +1,5 @@
 -- What is kept of a turn.
-use Rattle.std.proofs.Common.{◌≡◌, ℕ, zero, suc, ℤ, Bool, true, false, if◌then◌else◌, Option, Some, None, List, [], refl, sym, subst, ap, ◌∙◌, ◌⊎◌, inl, inr}
+use Rattle.std.proofs.Common.{◌≡◌, ℕ, zero, suc, ℤ, Bool, true, false, if◌then◌else◌, Option, Some, None, List, refl, sym, subst, ap, ◌∙◌, ◌⊎◌, inl, inr}
 use Rattle.std.specs.Prelude.{IsTrue, slice_set}
 use Rattle.swift_types.specs.declared.outcome.Fault.{Fault}
 use Rattle.swift_types.specs.declared.outcome.Fault.TheVariants.{Thrown, Cancelled, Invariant, Overflow, Steps, Turns, Depth, Tasks, Empty}
@@ -9,12 +9,8 @@ use Rattle.script_code.specs.Tree.{Term}
 use Rattle.script_code.specs.Value.{ev, evs, is_zero, holds}
 use Rattle.script_code.specs.Instructions.{NextAction, first, ends, sets_variable, sets_field, tests, returns, throws, yields, calls, receives}
 use Rattle.script_code.specs.declared.env.Env.{Env}
-use Rattle.swift_script.specs.Scripts.{ScriptView, actor_invariant, method_actor}
 use Rattle.swift_turn.specs.Turn.{State, ExitView, calling, yielding, closing, returning, failing, Next, goes, leaves, Played, scene, with_value, with_values, given, act, at_limit, on, end_of, turn, caught, taken_by, taken, whole_turn, head, exit_by, exits, undoes, kept_of, kept}
-use Rattle.swift_turn.specs.Body.{most_steps, frame_turn}
-use Rattle.swift_turn.specs.Frame.{frame_view, state_at}
 use Rattle.swift_turn.specs.Laws.{fault_of, SaysUndone, IsUndone, IsUntouched}
-use Rattle.swift_turn.specs.declared.frame.Frame.{Frame}
 
 -- how a frame is left changes nothing else
 left_untouched : (s : State) (f : Fault) → IsUntouched s (exits s (failing f)).state
@@ -154,13 +150,6 @@ pub invariant_kept : (env : Env) (n : ℕ) (invariant : Option Term) (s : State)
 invariant_kept env n invariant s resume held =
     let after = whole_turn env n s resume in
     invariant_by invariant s after (undoes after.exit) (holds invariant after.state.fields) refl refl held
-
--- the same of a frame that was handed out: the invariant of its actor
-pub frame_keeps_invariant : (p : ScriptView) (frame : Frame) (fields : List ℤ) (resume : Resume) (env : Env)
-    → IsTrue (holds (actor_invariant p (method_actor p (frame_view frame).method)) fields)
-    → IsTrue (holds (actor_invariant p (method_actor p (frame_view frame).method)) (frame_turn p frame fields resume env).state.fields)
-frame_keeps_invariant p frame fields resume env held =
-    invariant_kept env most_steps (actor_invariant p (method_actor p (frame_view frame).method)) (state_at p (frame_view frame) frame.made frame.opened fields []) resume held
 
 -- what is kept, where its end says that the turn was undone
 untouched_by : (invariant : Option Term) (before : State) (after : Played) (undone good : Bool) → Ends before after → undoes after.exit ≡ undone → holds invariant after.state.fields ≡ good

@@ -1,7 +1,8 @@
 -- What callers see of a body, and what its calls do to it.
-use Rattle.std.specs.Prelude.{◌≡◌, ℕ, ◌+◌, ◌-◌, ◌<◌, nat_lt, if◌then◌else◌, ◌++◌, replicate, ℤ, pos, Bool, Option, Some, None, List, [], ◌∷◌, length}
+use Rattle.std.specs.Prelude.{◌≡◌, ℕ, ◌+◌, ◌-◌, ◌<◌, nat_lt, if◌then◌else◌, ◌++◌, replicate, ℤ, pos, Bool, true, Option, Some, None, List, [], ◌∷◌, length}
 use Rattle.futures.specs.declared.task.Poll.{Poll}
 use Rattle.futures.specs.declared.task.Poll.TheVariants.{Ready, Pending}
+use Rattle.swift_types.specs.declared.limits.TheConstants.{FRAMES, STEPS}
 use Rattle.swift_types.specs.declared.outcome.Fault.TheVariants.{Depth}
 use Rattle.swift_types.specs.declared.outcome.Ending.{Ending}
 use Rattle.swift_types.specs.declared.outcome.Ending.TheVariants.{Value, Fault}
@@ -22,14 +23,12 @@ pub data PhaseView : Type 0 where
   entered : List ℤ → Resume → Env → PhaseView
   -- the fields, the effects and the exit that the turn has given
   left : List ℤ → List EffectView → ExitView → PhaseView
-  -- the fields from before a turn that met want of memory
+  -- the fields from before a turn that ran out of memory
   out_of_memory : List ℤ → PhaseView
 
--- the frame that runs, if the task has not ended, the task's counts, and where its turn is
+-- the frame that runs, if the task has not ended, and where its turn is
 pub record TaskView : Type 0 where
   pub top : Option FrameView
-  pub made : ℕ
-  pub opened : ℕ
   pub phase : PhaseView
 
 pub record BodyView : Type 0 where
@@ -39,36 +38,28 @@ pub record BodyView : Type 0 where
   pub callers : List FrameView
   -- the name of what it waits at
   pub source : ℕ
-  -- a waker lies in the slot of its source: that of the turn that was entered last
+  -- a waker lies in the slot of its source: that of the last turn that was played
   pub armed : Bool
 
--- how many steps a turn may have, and how many frames a task
-abbrev pub most_steps : ℕ
-most_steps = 10000
-
-abbrev pub most_frames : ℕ
-most_frames = 64
-
--- the kept turn of a frame, by its task's counts, the fields of its actor, its resume and what it is told
-abbrev pub kept_turn : ScriptView → FrameView → ℕ → ℕ → List ℤ → Resume → Env → Played
-kept_turn script p made opened fields resume env =
-    kept env most_steps (actor_invariant script (method_actor script p.method)) (state_at script p made opened fields []) resume
+-- the kept turn of a frame, by the fields of its actor, its resume and what it is given
+abbrev pub kept_turn : ScriptView → FrameView → List ℤ → Resume → Env → Played
+kept_turn script p fields resume env =
+    kept env STEPS (actor_invariant script (method_actor script p.method)) (state_at script p fields []) resume
 
 -- the same of a frame that was handed out
 abbrev pub frame_turn : ScriptView → Frame → List ℤ → Resume → Env → Played
-frame_turn script f = kept_turn script (frame_view f) f.made f.opened
+frame_turn script f = kept_turn script (frame_view f)
 
--- after the poll of a turn: its kept turn, or all as before and the fields handed back, for want of memory
-abbrev pub IsOutcome : ScriptView → FrameView → TaskView → List ℤ → Resume → Env → Option FrameView → PhaseView → ℕ → ℕ → Type 0
-IsOutcome script p old fields resume env (Some p') (left fields' effects exit) made opened =
-    (p'.method ≡ p.method) × (record { state = state_at script p' made opened fields' effects; exit = exit } ≡ kept_turn script p old.made old.opened fields resume env)
-IsOutcome script p old fields resume env (Some p') (out_of_memory fields') made opened =
-    (fields' ≡ fields) × (p' ≡ p) × (made ≡ old.made) × (opened ≡ old.opened)
-IsOutcome script p old fields resume env _ _ made opened = ⊥
+-- after the poll of a turn: its kept turn; out of memory, the frame as before and the fields handed back
+abbrev pub IsOutcome : ScriptView → FrameView → List ℤ → Resume → Env → Option FrameView → PhaseView → Type 0
+IsOutcome script p fields resume env (Some p') (left fields' effects exit) =
+    (p'.method ≡ p.method) × (record { state = state_at script p' fields' effects; exit = exit } ≡ kept_turn script p fields resume env)
+IsOutcome script p fields resume env (Some p') (out_of_memory fields') = (fields' ≡ fields) × (p' ≡ p)
+IsOutcome script p fields resume env _ _ = ⊥
 
 -- a poll runs one turn where one was entered, and else changes nothing
 abbrev pub Polls : ScriptView → TaskView → Option FrameView → PhaseView → TaskView → Type 0
-Polls script old (Some p) (entered fields resume env) new = IsOutcome script p old fields resume env new.top new.phase new.made new.opened
+Polls script old (Some p) (entered fields resume env) new = IsOutcome script p fields resume env new.top new.phase
 Polls script old _ _ new = new ≡ old
 
 -- the ending of a task whose first frame is left so
@@ -84,7 +75,7 @@ ending_if (p ∷ ps) e = None
 
 -- the ending that the entered turn gives, if it leaves the first frame
 abbrev pub ends_by : BodyView → Option FrameView → PhaseView → Option Ending
-ends_by b (Some p) (entered fields resume env) = ending_if b.callers (kept_turn b.script p b.here.made b.here.opened fields resume env).exit
+ends_by b (Some p) (entered fields resume env) = ending_if b.callers (kept_turn b.script p fields resume env).exit
 ends_by b _ _ = None
 
 abbrev pub ends_with : BodyView → Option Ending
@@ -108,6 +99,17 @@ abbrev pub WaitsIn : PhaseView → Type 0
 WaitsIn (left fields effects exit) = Registers exit
 WaitsIn _ = ⊥
 
+-- from before a poll to after it: the turn that was entered has been played, and the body waits from now on
+abbrev pub BeginsToWait : PhaseView → PhaseView → Type 0
+BeginsToWait (entered fields resume env) new = WaitsIn new
+BeginsToWait _ new = ⊥
+
+-- the slot of its waker, before a poll and after it: a turn that was played empties it, and leaves a waker only where
+-- it waits; a poll that played none leaves it as it is
+abbrev pub KeepsSlot : PhaseView → PhaseView → Bool → Bool → Type 0
+KeepsSlot (entered fields resume env) (left fields' effects exit) was is = is ≡ true → Registers exit
+KeepsSlot _ _ was is = is ≡ was
+
 -- a turn was entered, and was polled
 abbrev pub IsPolled : PhaseView → Type 0
 IsPolled (left fields effects exit) = Unit {0}
@@ -119,13 +121,17 @@ abbrev pub Hands : PhaseView → List ℤ → List EffectView → ExitView → T
 Hands (left fields effects exit) fields' effects' exit' = (fields' ≡ fields) × (effects' ≡ effects) × (exit' ≡ exit)
 Hands _ fields' effects' exit' = ⊥
 
+-- the same body with no turn under way
+abbrev pub at_rest : BodyView → BodyView
+at_rest b = record b { here = record b.here { phase = idle } }
+
 -- the variables of a frame that begins: its arguments, and 0 for each other
 abbrev pub padded : List ℤ → ℕ → List ℤ
 padded args slots = args ++ replicate (slots - length args) (pos 0)
 
--- a frame that begins
-abbrev pub opening : ScriptView → ℕ → List ℤ → List (ℕ × ℤ) → FrameView
-opening script m args bindings = record {
+-- a frame that begins, in a task with these bindings and counts
+abbrev pub opening : ScriptView → ℕ → List ℤ → List (ℕ × ℤ) → ℕ → ℕ → FrameView
+opening script m args bindings made opened = record {
   method = m;
   line = 0;
   vars = padded args (method_slots script m);
@@ -134,6 +140,8 @@ opening script m args bindings = record {
   depth = length bindings;
   groups = [];
   pending = None;
+  made = made;
+  opened = opened;
 }
 
 -- the frames after the exit of a turn, and what comes next
@@ -146,21 +154,21 @@ pub record Advanced : Type 0 where
 abbrev pub runs : ScriptView → FrameView → List FrameView → Resume → Advanced
 runs script p callers resume = record { top = Some p; callers = callers; step = Run (record { 0 = method_actor script p.method }) resume }
 
--- the nearest caller goes on; without one the task has ended
-abbrev pub resumed : ScriptView → List FrameView → Resume → Ending → Advanced
-resumed script [] resume ending = record { top = None; callers = []; step = Ended ending }
-resumed script (p ∷ callers) resume ending = runs script p callers resume
+-- this frame is left: the nearest caller goes on, with its counts; without a caller the task has ended
+abbrev pub resumed : ScriptView → FrameView → List FrameView → Resume → Ending → Advanced
+resumed script p [] resume ending = record { top = None; callers = []; step = Ended ending }
+resumed script p (q ∷ callers) resume ending = runs script (record q { made = p.made; opened = p.opened }) callers resume
 
--- a frame for the method that is called, if fewer than 64 are there; it has its caller's bindings
+-- a frame for the method that is called, if there is room for one; it has its caller's bindings and counts
 abbrev pub called : ScriptView → FrameView → List FrameView → ℕ → List ℤ → Advanced
 called script p callers m args =
-    if nat_lt (length (p ∷ callers)) most_frames
-    then runs script (opening script m args p.bindings) (p ∷ callers) Start
+    if nat_lt (length (p ∷ callers)) FRAMES
+    then runs script (opening script m args p.bindings p.made p.opened) (p ∷ callers) Start
     else runs script p callers (Raise Depth)
 
--- a call that begins a frame, since fewer than 64 are there
+-- a call that begins a frame, since there is room for one
 abbrev pub BeginsFrame : List FrameView → ExitView → Type 0
-BeginsFrame callers (calling a m args) = length callers + 1 < most_frames
+BeginsFrame callers (calling a m args) = length callers + 1 < FRAMES
 BeginsFrame callers _ = ⊥
 
 -- what follows from the exit of a turn
@@ -168,8 +176,8 @@ abbrev pub advanced : ScriptView → FrameView → List FrameView → ExitView �
 advanced script p callers (calling a m args) = called script p callers m args
 advanced script p callers yielding = runs script p callers Go
 advanced script p callers (closing g f) = record { top = Some p; callers = callers; step = Await }
-advanced script p callers (returning v) = resumed script callers (GivenValue v) (Value v)
-advanced script p callers (failing f) = resumed script callers (Raise f) (Fault f)
+advanced script p callers (returning v) = resumed script p callers (GivenValue v) (Value v)
+advanced script p callers (failing f) = resumed script p callers (Raise f) (Fault f)
 
 -- a method that is called is one of the script
 abbrev pub CanAdvance : ScriptView → ExitView → Type 0

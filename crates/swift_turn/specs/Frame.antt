@@ -5,11 +5,10 @@ use Rattle.script_code.specs.Instructions.{code_at}
 use Rattle.script_code.specs.Tree.{Code}
 use Rattle.swift_script.specs.Scripts.{ScriptView, method_code}
 use Rattle.swift_turn.specs.Turn.{State, EffectView, oldest, head, tail, pending_by}
-use Rattle.swift_turn.specs.declared.activation.Activation.{Activation}
 use Rattle.swift_turn.specs.declared.effect.Effect.{Effect}
 use Rattle.swift_turn.specs.declared.frame.Frame.{Frame}
 
--- a method that is under way: the line stands for the statements still to do
+-- a method that is under way, with its task's counts: the line stands for the statements still to do
 pub record FrameView : Type 0 where
   pub method : ℕ
   pub line : ℕ
@@ -21,18 +20,16 @@ pub record FrameView : Type 0 where
   -- the innermost first
   pub groups : List ℕ
   pub pending : Option Fault
+  pub made : ℕ
+  pub opened : ℕ
 
 -- no statement binds a local yet
-abbrev pub activation_view : Activation → FrameView
-activation_view a = record { method = a.method.0; line = a.line; vars = a.vars.items; handles = a.handles.items; bindings = []; depth = a.depth; groups = reverse a.groups.items; pending = a.pending }
-
-abbrev pub activation_view_if : Option Activation → Option FrameView
-activation_view_if None = None
-activation_view_if (Some a) = Some (activation_view a)
-
--- the same of a frame that was handed out
 abbrev pub frame_view : Frame → FrameView
-frame_view f = record { method = f.method.0; line = f.line; vars = f.vars.items; handles = f.handles.items; bindings = []; depth = f.depth; groups = reverse f.groups.items; pending = f.pending }
+frame_view f = record { method = f.method.0; line = f.line; vars = f.vars.items; handles = f.handles.items; bindings = []; depth = f.depth; groups = reverse f.groups.items; pending = f.pending; made = f.made; opened = f.opened }
+
+abbrev pub frame_view_if : Option Frame → Option FrameView
+frame_view_if None = None
+frame_view_if (Some f) = Some (frame_view f)
 
 abbrev pub effect_view : Effect → EffectView
 effect_view e = elim e [ ]
@@ -40,9 +37,9 @@ effect_view e = elim e [ ]
 abbrev pub effect_views : List Effect → List EffectView
 effect_views = map effect_view
 
--- the continuation that a frame of this code stands for, with these counts, fields and effects
-abbrev pub state_in : Code → FrameView → ℕ → ℕ → List ℤ → List EffectView → State
-state_in code p made opened fields effects = record {
+-- the continuation that a frame of this code stands for, with these fields and effects
+abbrev pub state_in : Code → FrameView → List ℤ → List EffectView → State
+state_in code p fields effects = record {
   todo = code_at code p.line;
   vars = p.vars;
   handles = p.handles;
@@ -50,14 +47,14 @@ state_in code p made opened fields effects = record {
   depth = p.depth;
   groups = p.groups;
   pending = p.pending;
-  made = made;
-  opened = opened;
+  made = p.made;
+  opened = p.opened;
   fields = fields;
   effects = effects;
 }
 
 -- the same of a frame of a script
-abbrev pub state_at : ScriptView → FrameView → ℕ → ℕ → List ℤ → List EffectView → State
+abbrev pub state_at : ScriptView → FrameView → List ℤ → List EffectView → State
 state_at script p = state_in (method_code script p.method) p
 
 -- a frame that a fault leaves

@@ -1,12 +1,12 @@
 //! A frame that a fault leaves.
 
 ghost use Rattle.std.specs.Prelude.{◌≡◌, reverse};
-ghost use Rattle.swift_turn.specs.Frame.{frame_left_by, activation_view};
+ghost use Rattle.swift_turn.specs.Frame.{frame_left_by, frame_view};
 ghost use Rattle.swift_turn.specs.TurnStates.{exit_view, played_of, state_of};
 ghost use Rattle.swift_turn.specs.Turn.{exit_by, exits, head, tail};
 
-use crate::activation::Activation;
 use crate::exit::Exit;
+use crate::frame::Frame;
 use crate::turn_state::TurnState;
 use swift_types::Fault;
 
@@ -21,8 +21,8 @@ pub fn leave_frame(run: &mut TurnState, exit: Exit) -> Exit
     }
 }
 
-fn leave_by(frame: &mut Activation, f: Fault) -> Exit
-    ensures frame { activation_view frame.new ≡ frame_left_by f (activation_view frame.old) }
+fn leave_by(frame: &mut Frame, f: Fault) -> Exit
+    ensures frame { frame_view frame.new ≡ frame_left_by f (frame_view frame.old) }
     ensures exit { exit_view result ≡ exit_by f (head (reverse frame.old.groups.items)) }
 {
     match pop_group(&mut frame.groups) {

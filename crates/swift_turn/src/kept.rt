@@ -19,7 +19,7 @@ use script_code::{Act, Env, Formula, Instruction, Place, Sight, holds, value};
 use swift_script::Script;
 use swift_types::{Fault, Priority, Resume};
 
-// The turn as it is kept. `spare` is overwritten. For want of memory the run is as before.
+// The turn as it is kept. `spare` is overwritten. Out of memory, `run` is as before.
 pub fn play_kept(
     alloc: Global,
     script: &Script,

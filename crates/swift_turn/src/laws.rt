@@ -3,7 +3,7 @@
 ghost use Rattle.swift_turn.specs.Laws.{InvariantIsKept, OthersAreKept, UndoneChangesNothing};
 
 /// Where an actor's invariant holds before a turn, it holds after it, whatever the turn's statements, its resume and
-/// what it is told (our own).
+/// its environment (our own).
 pub fn invariant_is_kept()
     ensures { InvariantIsKept }
 {}

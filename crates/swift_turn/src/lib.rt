@@ -1,7 +1,6 @@
 //! Turns of a task: a stack of frames that is entered, polled and left by hand, as a future.
 #![tactic(auto)]
 
-mod activation;
 mod body;
 mod effect;
 mod exit;
@@ -14,11 +13,9 @@ mod play;
 mod turn_state;
 mod stack;
 mod step;
-#[cfg(test)]
-mod tests;
 mod whole;
 
-pub use body::{Body, FRAMES, STEPS};
+pub use body::Body;
 pub use effect::Effect;
 pub use exit::{Exit, Step};
 pub use frame::Frame;

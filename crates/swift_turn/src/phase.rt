@@ -13,6 +13,6 @@ pub enum Phase {
     Entered(Vec<i64>, Resume, Env),
     /// What it has given.
     Played(Vec<i64>, Vec<Effect>, Exit),
-    /// It met want of memory. The fields are those from before it.
+    /// It ran out of memory. The fields are those from before it.
     OutOfMemory(Vec<i64>),
 }

@@ -1,26 +1,26 @@
 //! The frames below the one that runs.
 
 ghost use Rattle.std.specs.Prelude.{◌≡◌, ◌↔◌, ◌∷◌, [], IsTrue, OnOk, IfErr, length};
-ghost use Rattle.swift_turn.specs.Frame.{activation_view_if, activation_view};
+ghost use Rattle.swift_turn.specs.Frame.{frame_view, frame_view_if};
 ghost use Rattle.swift_turn.specs.Turn.{head, tail};
 
-use crate::activation::Activation;
+use crate::frame::Frame;
 use std::alloc::{AllocFailed, Global};
 use std::marker::Model;
 
 /// The frames below the one that runs. Callers see them as a list, the nearest first.
 #[derive(Drop)]
 pub struct Stack {
-    items: Vec<Activation>,
+    items: Vec<Frame>,
 }
 
 impl Model for Stack {
     ghost use Rattle.std.specs.Prelude.{List, map, reverse};
-    ghost use Rattle.swift_turn.specs.Frame.{FrameView, activation_view};
+    ghost use Rattle.swift_turn.specs.Frame.{FrameView, frame_view};
 
     ghost Value = { List FrameView };
 
-    ghost view = { λ s. reverse (map activation_view s.items.items) };
+    ghost view = { λ s. reverse (map frame_view s.items.items) };
 }
 
 impl Stack {
@@ -44,15 +44,15 @@ impl Stack {
         self.items.is_empty()
     }
 
-    pub fn pop(&mut self) -> Option<Activation>
-        ensures first { activation_view_if result ≡ head self.old }
+    pub fn pop(&mut self) -> Option<Frame>
+        ensures first { frame_view_if result ≡ head self.old }
         ensures rest { self.new ≡ tail self.old }
     {
         self.items.pop()
     }
 
-    pub fn push(&mut self, frame: Activation) -> Result<(), AllocFailed<Activation>>
-        ensures ok { OnOk result (self.new ≡ activation_view frame ∷ self.old) }
+    pub fn push(&mut self, frame: Frame) -> Result<(), AllocFailed<Frame>>
+        ensures ok { OnOk result (self.new ≡ frame_view frame ∷ self.old) }
         ensures err { IfErr result (λ e. (self.new ≡ self.old) × (e.value ≡ frame)) }
     {
         self.items.push(frame)

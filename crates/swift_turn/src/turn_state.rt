@@ -1,30 +1,28 @@
-//! A frame in the midst of a turn.
+//! A turn that is under way.
 
 ghost use Rattle.std.specs.Prelude.{◌≡◌, [], OnOk};
-ghost use Rattle.swift_turn.specs.Frame.{activation_view};
+ghost use Rattle.swift_turn.specs.Frame.{frame_view};
 ghost use Rattle.swift_turn.specs.TurnStates.{turn_state_view};
 
-use crate::activation::Activation;
 use crate::effect::Effect;
+use crate::frame::Frame;
 use std::alloc::{AllocError, Global};
 use swift_types::MethodId;
 
-/// A frame in the midst of a turn, its task's counts, the fields of its actor, and the turn's effects so far.
+/// A turn that is under way: its frame, the fields of its actor, and its effects so far.
 #[derive(Drop)]
 pub struct TurnState {
-    pub frame: Activation,
-    pub made: u64,
-    pub opened: u64,
+    pub frame: Frame,
     pub fields: Vec<i64>,
     pub effects: Vec<Effect>,
 }
 
-// A run whose buffers hold nothing. It takes no memory.
+// A turn whose buffers hold nothing. It takes no memory.
 pub fn empty_state(alloc: Global) -> TurnState
     ensures { (result.frame.vars.items ≡ []) × (result.fields.items ≡ []) }
 {
     TurnState {
-        frame: Activation {
+        frame: Frame {
             method: MethodId(0),
             line: 0,
             vars: Vec::new(alloc),
@@ -32,15 +30,15 @@ pub fn empty_state(alloc: Global) -> TurnState
             depth: 0,
             groups: Vec::new(alloc),
             pending: None,
+            made: 0,
+            opened: 0,
         },
-        made: 0,
-        opened: 0,
         fields: Vec::new(alloc),
         effects: Vec::new(alloc),
     }
 }
 
-// The same run once more, in the buffers of another. They grow only where they are too small.
+// The same once more, in the buffers of another. They grow only where they are too small.
 pub fn copy_state(from: &TurnState, to: &mut TurnState) -> Result<(), AllocError>
     requires { from.now.effects.items ≡ [] }
     ensures same { OnOk result (turn_state_view to.new ≡ turn_state_view from.now) }
@@ -48,14 +46,12 @@ pub fn copy_state(from: &TurnState, to: &mut TurnState) -> Result<(), AllocError
 {
     copy_frame(&from.frame, &mut to.frame)?;
     copy_into(&from.fields, &mut to.fields)?;
-    to.made = from.made;
-    to.opened = from.opened;
     to.effects.clear();
     Ok(())
 }
 
-fn copy_frame(from: &Activation, to: &mut Activation) -> Result<(), AllocError>
-    ensures parts { OnOk result (activation_view to.new ≡ activation_view from.now) }
+fn copy_frame(from: &Frame, to: &mut Frame) -> Result<(), AllocError>
+    ensures parts { OnOk result (frame_view to.new ≡ frame_view from.now) }
     ensures method { OnOk result (to.new.method ≡ from.now.method) }
 {
     to.method = from.method;
@@ -65,6 +61,8 @@ fn copy_frame(from: &Activation, to: &mut Activation) -> Result<(), AllocError>
     to.depth = from.depth;
     copy_into(&from.groups, &mut to.groups)?;
     to.pending = from.pending;
+    to.made = from.made;
+    to.opened = from.opened;
     Ok(())
 }
 
@@ -76,7 +74,7 @@ fn copy_into<T: Copy>(from: &[T], to: &mut Vec<T>) -> Result<(), AllocError>
 }
 
 // Room for a copy of a frame and of fields, so that a poll seldom has to grow a buffer.
-pub fn make_room(spare: &mut TurnState, top: &Activation, fields: &[i64]) -> Result<(), AllocError> {
+pub fn make_room(spare: &mut TurnState, top: &Frame, fields: &[i64]) -> Result<(), AllocError> {
     spare.fields.clear();
     spare.fields.reserve(fields.len())?;
     spare.frame.vars.clear();

@@ -1,8 +1,8 @@
 //! One turn: entered, polled and left.
 
-ghost use Rattle.std.specs.Prelude.{◌≡◌, IfOk, IfErr, IfSome, IsSome, IsSomeAnd};
+ghost use Rattle.std.specs.Prelude.{◌≡◌, ◌⊎◌, IfErr, IfOk, IfSome, IsSome, IsSomeAnd, OnErr, OnOk};
 ghost use Rattle.futures.specs.Task.{Keeps};
-ghost use Rattle.swift_turn.specs.Body.{idle, kept_turn};
+ghost use Rattle.swift_turn.specs.Body.{at_rest, idle, kept_turn};
 ghost use Rattle.swift_turn.specs.Frame.{effect_views, state_at};
 ghost use Rattle.swift_turn.specs.TurnStates.{exit_view};
 
@@ -16,9 +16,10 @@ use script_code::Env;
 use swift_types::Resume;
 
 /// Enters a turn, polls it and leaves it: the kept turn of the continuation that the body stands for, which then
-/// stands for what that turn leaves. For want of memory the fields come back, and the body is as it was (but for a
-/// waker in its slot). Its cost is the turn's steps and the sizes of the fields and of the frame's variables. It takes
-/// memory for the arguments of a call, and where its fields and variables are more than those of any turn before.
+/// stands for what that turn leaves. Out of memory, the fields come back, and the body is as it was, but that a turn
+/// which was entered before may be given up. Its cost is the turn's steps and the sizes of the fields and of the
+/// frame's variables. It takes memory for the arguments of a call, and where its fields and variables are more than
+/// those of any turn before.
 pub fn run_turn(
     body: &mut Body,
     cx: &mut Context<'_>,
@@ -26,15 +27,14 @@ pub fn run_turn(
     resume: Resume,
     env: Env,
 ) -> Result<(Vec<i64>, Vec<Effect>, Exit), (Vec<i64>, AllocError)>
-    requires idle { body.old.here.phase ≡ idle }
-    requires running { IsSome body.old.here.top }
+    requires { IsSome body.old.here.top }
     // The theorem: what the three calls give is the kept turn of the frame that runs, and the body stands for it.
     ensures turn { IfOk result (λ r. IfSome body.old.here.top (λ p. IsSomeAnd body.new.here.top (λ p'.
-        record { state = state_at body.new.script p' body.new.here.made body.new.here.opened r.0.items (effect_views r.1.items); exit = exit_view r.2 }
-        ≡ kept_turn body.old.script p body.old.here.made body.old.here.opened fields.items resume env))) }
+        record { state = state_at body.new.script p' r.0.items (effect_views r.1.items); exit = exit_view r.2 } ≡ kept_turn body.old.script p fields.items resume env))) }
     ensures method { IfSome body.old.here.top (λ p. IsSomeAnd body.new.here.top (λ p'. p'.method ≡ p.method)) }
-    ensures rest { body.new ≡ record body.old { here = record body.new.here { phase = idle }; armed = body.new.armed } }
-    ensures err { IfErr result (λ e. (e.0.items ≡ fields.items) × (body.new.here ≡ body.old.here)) }
+    ensures rest { OnOk result (body.new ≡ record body.old { here = record body.new.here { phase = idle }; armed = body.new.armed }) }
+    ensures back { IfErr result (λ e. e.0.items ≡ fields.items) }
+    ensures err { OnErr result ((body.new ≡ body.old) ⊎ (body.new ≡ at_rest body.old)) }
     ensures kept { Keeps cx.old cx.new }
 {
     body.enter(fields, resume, env)?;

@@ -22,10 +22,8 @@ returns-clause-executor c =
     let same : c.replace-entered.result.items ≡ c.args.executor.now.fields.items = ap (λ (v : Vec ℤ Global). v.items) c.replace-entered.ensures.value in
     let top : c.in-Some.job.body.value.here.top ≡ Some (frame_view c.in_ok-frame.frame) =
     subst (λ (b : BodyView). b.here.top ≡ Some (frame_view c.in_ok-frame.frame)) lent c.in_ok-frame.ensures.frame in
-    let turn = subst (λ (b : BodyView). IfSome b.here.top (λ f. IsTurn c.run_turn.new.body c.in-Ok.fields.items r c.run_turn.new.body.here.top (kept_turn b.script f b.here.made b.here.opened c.replace-entered.result.items r.resume r.env))) played c.in-Ok.ensures.turn in
+    let turn = subst (λ (b : BodyView). IfSome b.here.top (λ f. IsTurn c.run_turn.new.body c.in-Ok.fields.items r c.run_turn.new.body.here.top (kept_turn b.script f c.replace-entered.result.items r.resume r.env))) played c.in-Ok.ensures.turn in
     let kept = kept_record c.args.script.now c.args.actor.0 c.in-Some.job.body.value c.run_turn.new.body c.replace-entered.result.items c.in-Ok.fields.items r job.runs top
-    (c.in_ok-frame.ensures.counts.0 ∙ ap (λ (b : BodyView). b.here.made) lent)
-    (c.in_ok-frame.ensures.counts.1 ∙ ap (λ (b : BodyView). b.here.opened) lent)
     (subst (λ (b : BodyView). c.in_ok-frame.frame.method.0 < method_count b.script) lent c.in_ok-frame.ensures.method) job.late turn in
     lane_turned c.args.script.now c.args.actor.0 c.args.executor.now (record { jobs = c.pop_front.new.self; fields = c.in-Ok.fields; journal = c.push.new.self }) c.in-Some.job r c.requires jobs c.in_ok-push.ensures.items
     (subst (λ (fs : List ℤ). IsKept c.args.script.now c.args.actor.0 fs r) same kept.0) (job.env_given, refl) (kept.1 ∙ ap (λ (fs : List ℤ). fields_after c.args.script.now fs r) same)
