@@ -1,11 +1,12 @@
 pub mod Texts
 pub mod Divided
-pub mod NamesInScoped
+pub mod NamesInScope
 pub mod Places
 pub mod Accepting
 pub mod ActorsAndRootsAreFew
 pub mod Compiling
 pub mod Building
+pub mod Placed
 pub mod SameScripts
 pub mod Printing
 pub mod Starting
