@@ -23,7 +23,7 @@ use Rattle.swift_script.specs.declared.fault.ScriptFaultKind.TheVariants as kind
 use Rattle.swift_script.specs.declared.lines.Lines.{Lines}
 use Rattle.swift_script.specs.Script.{starts_well}
 use Rattle.swift_script.specs.Compiled.{ActorIs, actor_is, compiled_actor, all_hold}
-use Rattle.swift_script.specs.FaultLines.{BeginsOn, AreLines, line_in, last_line, SpellsPlaced, NameStandsOn, keyword_left, keyword_at, false_invariant, actors_among, InvariantStandsOn, StandsOn}
+use Rattle.swift_script.specs.FaultLines.{BeginsOn, SomeTokenOn, AreLines, line_in, last_line, SpellsPlaced, NameStandsOn, keyword_left, keyword_at, false_invariant, actors_among, InvariantStandsOn, StandsOn}
 use Rattle.swift_script.proofs.Compiling.{cut}
 use Rattle.swift_script.specs.Refuses.{names_kind, check_kind, check_line, grammar_kind, read_kind, read_line}
 
@@ -47,15 +47,15 @@ pub check_stands : (text : List ℕ) (decls : List Decl) (kept : Lines) (e : Che
 check_stands text decls kept naming.Memory s l e = refl
 check_stands text decls kept (naming.Name m) s l e = of_names text (line_in kept m.tokens_left) m.kind s.plain.short (name_stands text decls kept m s l e)
 
-of_grammar : (text : List ℕ) (line : ℕ) (k : Kind) → StandsOn (grammar_kind k) text line
-of_grammar text line grammar.Unexpected = tt
-of_grammar text line grammar.OutOfRange = tt
-of_grammar text line grammar.EndsEarly = tt
-of_grammar text line grammar.TooDeep = tt
+of_grammar : (text : List ℕ) (line : ℕ) (k : Kind) → SomeTokenOn text line → StandsOn (grammar_kind k) text line
+of_grammar text line grammar.Unexpected s = s
+of_grammar text line grammar.OutOfRange s = s
+of_grammar text line grammar.EndsEarly s = s
+of_grammar text line grammar.TooDeep s = s
 
-pub read_stands : (text : List ℕ) (kept : Lines) (e : ReadError) → StandsOn (read_kind e) text (read_line kept e)
-read_stands text kept reading.Memory = refl
-read_stands text kept (reading.Fault f) = of_grammar text (line_in kept f.tokens_left) f.kind
+pub read_stands : (text : List ℕ) (kept : Lines) (e : ReadError) → AreLines text kept → StandsOn (read_kind e) text (read_line kept e)
+read_stands text kept reading.Memory l = refl
+read_stands text kept (reading.Fault f) l = of_grammar text (line_in kept f.tokens_left) f.kind (f.tokens_left, begins_on text kept f.tokens_left l)
 
 -- an actor's invariant that does not hold at the start, behind others that do
 false_is : (actors : List Actor) (k : ℕ) → all_hold (take k (map compiled_actor (map view_actor actors))) ≡ true → IsSomeAnd (slice_get (map compiled_actor (map view_actor actors)) k) (λ a. holds a.invariant a.start ≡ false)

@@ -29,6 +29,10 @@ pub record BeginsOn (text : List ℕ) (left line : ℕ) : Type 0 where
   pub begun : BeginOn text text lines
   pub is : line ≡ slice_index_or lines (length lines - left) (last_line text)
 
+-- Some token begins on this line, or the text ends on it: which token is not said.
+abbrev pub SomeTokenOn : List ℕ → ℕ → Type 0
+SomeTokenOn text line = (left : ℕ) × BeginsOn text left line
+
 -- what is kept of the lines of a text
 pub record AreLines (text : List ℕ) (kept : Lines) : Type 0 where
   pub begun : BeginOn text text kept.lines.items
@@ -84,16 +88,16 @@ pub record InvariantStandsOn (text : List ℕ) (line : ℕ) : Type 0 where
 abbrev pub StandsOn : ScriptFaultKind → List ℕ → ℕ → Type 0
 -- the first byte outside text: the LFs before it count
 StandsOn kind.NotText text line = line ≡ line_behind (line_feeds (take_while is_text_byte text))
-StandsOn kind.Unexpected text line = Unit {0}
-StandsOn kind.OutOfRange text line = Unit {0}
+StandsOn kind.Unexpected text line = SomeTokenOn text line
+StandsOn kind.OutOfRange text line = SomeTokenOn text line
 StandsOn kind.NameTwice text line = NameStandsOn text Twice line
 StandsOn kind.UnknownName text line = NameStandsOn text Unknown line
 StandsOn kind.Arguments text line = NameStandsOn text OtherCount line
 StandsOn kind.InvariantFalse text line = InvariantStandsOn text line
 -- a text that is too long is not read; else it is the name of an actor or a root too many
 StandsOn kind.LimitPassed text line = (65536 < length text → line ≡ 1) × (length text ≤ 65536 → NameStandsOn text TooMany line)
-StandsOn kind.EndsEarly text line = Unit {0}
-StandsOn kind.TooDeep text line = Unit {0}
+StandsOn kind.EndsEarly text line = SomeTokenOn text line
+StandsOn kind.TooDeep text line = SomeTokenOn text line
 StandsOn kind.Memory text line = line ≡ 0
 
 -- A refusal stands on the line of what it is about.
