@@ -1,3 +1,5 @@
 pub mod Keys
 pub mod Roots
+pub mod SameKinds
+pub mod Choices
 pub mod LeftOut

@@ -1,20 +1,26 @@
--- What an answer says of the first fault.
-use Rattle.std.specs.Prelude.{◌≡◌, ℕ, Option, Some, None, Result, Ok, Err}
+-- What an answer says of the first error.
+use Rattle.std.specs.Prelude.{◌≡◌, Option, Some, None, Result, Ok, Err}
 use Rattle.script_names.specs.declared.error.NameErrorKind.{NameErrorKind}
+use Rattle.script_names.specs.declared.error.NameError.{NameError}
 use Rattle.script_names.specs.declared.error.CheckError.{CheckError}
 use Rattle.script_names.specs.declared.error.CheckError.TheVariants as errors
 
--- a fault, unless memory ran out
-abbrev pub IsFault : CheckError → Option NameErrorKind → Type 0
-IsFault errors.Memory fault = Unit {0}
-IsFault (errors.Name m) fault = fault ≡ Some m.kind
+-- this error, unless memory ran out
+abbrev pub IsError : CheckError → Option NameError → Type 0
+IsError errors.Memory error = Unit {0}
+IsError (errors.Name e) error = error ≡ Some e
 
--- no fault where the answer is Ok, and else this one, unless memory ran out
-abbrev pub Finds : {A : Type 0} → Result A CheckError → Option NameErrorKind → Type 0
-Finds (Ok x) fault = fault ≡ None
-Finds (Err e) fault = IsFault e fault
+-- no error where the answer is Ok, and else this one, unless memory ran out
+abbrev pub Finds : {A : Type 0} → Result A CheckError → Option NameError → Type 0
+Finds (Ok x) error = error ≡ None
+Finds (Err e) error = IsError e error
 
--- a fault stands where so many tokens are left
-abbrev pub StandsAt : CheckError → ℕ → Type 0
-StandsAt errors.Memory left = Unit {0}
-StandsAt (errors.Name m) left = m.tokens_left ≡ left
+-- an error of this kind, unless memory ran out
+abbrev pub IsOfKind : CheckError → Option NameErrorKind → Type 0
+IsOfKind errors.Memory kind = Unit {0}
+IsOfKind (errors.Name e) kind = kind ≡ Some e.kind
+
+-- no error where the answer is Ok, and else one of this kind, unless memory ran out
+abbrev pub FindsKind : {A : Type 0} → Result A CheckError → Option NameErrorKind → Type 0
+FindsKind (Ok x) kind = kind ≡ None
+FindsKind (Err e) kind = IsOfKind e kind

@@ -7,7 +7,7 @@ use Rattle.script_names.specs.Texts.{is_among}
 use Rattle.script_names.specs.Directory.{Directory, has_method, arity_of, directory_of}
 
 -- the earlier of two faults
-abbrev pub earlier : Option NameErrorKind → Option NameErrorKind → Option NameErrorKind
+abbrev pub earlier : {A : Type 0} → Option A → Option A → Option A
 earlier None later = later
 earlier (Some m) later = Some m
 

@@ -1,24 +1,23 @@
 //! Names and calls inside declarations, and whole scripts.
 
 ghost use Rattle.std.specs.Prelude.{◌≡◌, [], ◌∷◌, ◌++◌, map, IfOk, OnOk};
-ghost use Rattle.script_grammar.specs.Tree.{text_of, view_field, view_invariant, view_method, view_actor, view_root, view_decl};
+ghost use Rattle.script_grammar.specs.Tree.{text_of, view_field, view_decl};
 ghost use Rattle.script_names.specs.Directory.{directory_of};
-ghost use Rattle.script_names.specs.declared.error.NameErrorKind.TheVariants.{Twice};
-ghost use Rattle.script_names.specs.Texts.{is_among};
-ghost use Rattle.script_names.specs.Rules.{where_so, optional_fault, parameters_fault, method_fault, methods_fault, fields_fault, field_names, actor_fault, root_fault, declarations_fault, names_fault};
-ghost use Rattle.script_names.specs.Finds.{Finds};
+ghost use Rattle.script_names.specs.Rules.{field_names, names_fault};
+ghost use Rattle.script_names.specs.Errors.{repeat_error, parameters_error, method_error, methods_error, fields_error, invariant_error, actor_error, root_error, declarations_error, names_error};
+ghost use Rattle.script_names.specs.Finds.{Finds, FindsKind};
 
 use crate::directory::Declared;
+use crate::error::{CheckError, NameErrorKind, fault_at};
 use crate::expressions::{expression, stands};
-use crate::error::{NameErrorKind, CheckError, fault_at};
 use crate::statements::statements;
 use crate::texts::Names;
-use std::alloc::Global;
 use script_grammar::{Actor, Decl, Field, Invariant, Method, Name, Root};
+use std::alloc::Global;
 
 // The name is none of those.
 fn unless_seen(seen: &Names, name: &Name) -> Result<(), CheckError>
-    ensures { Finds result (where_so (is_among seen.now (text_of name.now)) Twice) }
+    ensures { Finds result (repeat_error seen.now name.now) }
 {
     if seen.contains(&name.text) {
         Err(fault_at(NameErrorKind::Twice, name))
@@ -29,7 +28,7 @@ fn unless_seen(seen: &Names, name: &Name) -> Result<(), CheckError>
 
 // The parameters are distinct, and distinct from the fields.
 fn parameters(alloc: Global, fields: &Names, params: &[Name]) -> Result<Names, CheckError>
-    ensures finds { Finds result (parameters_fault fields.now [] (map text_of params.now)) }
+    ensures finds { Finds result (parameters_error fields.now [] params.now) }
     ensures names { IfOk result (λ n. n ≡ map text_of params.now) }
 {
     let mut variables = Names::new(alloc);
@@ -49,7 +48,7 @@ fn method(
     seen: &Names,
     method: &Method,
 ) -> Result<(), CheckError>
-    ensures { Finds result (method_fault declared.now fields.now seen.now (view_method method.now)) }
+    ensures { Finds result (method_error declared.now fields.now seen.now method.now) }
 {
     unless_seen(seen, &method.name)?;
     let mut variables = parameters(alloc, fields, &method.params)?;
@@ -62,7 +61,7 @@ fn methods(
     fields: &Names,
     methods: &[Method],
 ) -> Result<(), CheckError>
-    ensures { Finds result (methods_fault declared.now fields.now [] (map view_method methods.now)) }
+    ensures { Finds result (methods_error declared.now fields.now [] methods.now) }
 {
     let mut seen = Names::new(alloc);
     for next in methods {
@@ -74,7 +73,7 @@ fn methods(
 
 // The fields are distinct.
 fn fields(alloc: Global, fields: &[Field]) -> Result<Names, CheckError>
-    ensures finds { Finds result (fields_fault [] (map view_field fields.now)) }
+    ensures finds { Finds result (fields_error [] fields.now) }
     ensures names { IfOk result (λ n. n ≡ field_names (map view_field fields.now)) }
 {
     let mut seen = Names::new(alloc);
@@ -87,7 +86,7 @@ fn fields(alloc: Global, fields: &[Field]) -> Result<Names, CheckError>
 
 // An invariant names fields alone.
 fn invariant(alloc: Global, fields: &Names, invariant: &Option<Invariant>) -> Result<(), CheckError>
-    ensures { Finds result (optional_fault fields.now [] (view_invariant invariant.now)) }
+    ensures { Finds result (invariant_error fields.now invariant.now) }
 {
     match invariant {
         Some(invariant) => expression(fields, &Names::new(alloc), &invariant.test),
@@ -102,7 +101,7 @@ fn actor(
     seen: &mut Names,
     actor: &Actor,
 ) -> Result<(), CheckError>
-    ensures finds { Finds result (actor_fault declared.now seen.old (view_actor actor.now)) }
+    ensures finds { Finds result (actor_error declared.now seen.old actor.now) }
     ensures seen { OnOk result (seen.new ≡ seen.old ++ text_of actor.now.name ∷ []) }
 {
     unless_seen(seen, &actor.name)?;
@@ -118,7 +117,7 @@ fn actor(
 
 // The names of a root are in order, and its own is seen from then on.
 fn root(alloc: Global, declared: &Declared, seen: &mut Names, root: &Root) -> Result<(), CheckError>
-    ensures finds { Finds result (root_fault declared.now seen.old (view_root root.now)) }
+    ensures finds { Finds result (root_error declared.now seen.old root.now) }
     ensures seen { OnOk result (seen.new ≡ seen.old ++ text_of root.now.name ∷ []) }
 {
     unless_seen(seen, &root.name)?;
@@ -131,7 +130,7 @@ fn root(alloc: Global, declared: &Declared, seen: &mut Names, root: &Root) -> Re
 }
 
 fn declarations(alloc: Global, declared: &Declared, decls: &[Decl]) -> Result<(), CheckError>
-    ensures { Finds result (declarations_fault declared.now [] [] (map view_decl decls.now)) }
+    ensures { Finds result (declarations_error declared.now [] [] decls.now) }
 {
     let mut actors = Names::new(alloc);
     let mut roots = Names::new(alloc);
@@ -147,12 +146,14 @@ fn declarations(alloc: Global, declared: &Declared, decls: &[Decl]) -> Result<()
 /// Checks the names and counts of a script that the grammar accepted, and hands out what it declares, in time linear
 /// in the script.
 ///
-/// A fault is the first one in the order of the text. It stands at the name that is concerned: the second of two of
+/// An error is the first one in the order of the text. It stands at the name that is concerned: the second of two of
 /// one name, a name that nothing stands under, the actor or the method of a call, and for a wrong number of arguments
 /// the method. The rules are our own.
 pub fn check(alloc: Global, decls: &[Decl]) -> Result<Declared, CheckError>
-    // It is the first fault, and there is none where it answers Ok, unless memory runs out.
-    ensures finds { Finds result (names_fault (map view_decl decls.now)) }
+    // It is the first error, with its place, and there is none where it answers Ok, unless memory runs out.
+    ensures finds { Finds result (names_error decls.now) }
+    // Whether there is one, and of which kind, is a property of the tree without places.
+    ensures kind { FindsKind result (names_fault (map view_decl decls.now)) }
     // What is handed out is what the script declares.
     ensures directory { IfOk result (λ d. d ≡ directory_of (map view_decl decls.now)) }
 {

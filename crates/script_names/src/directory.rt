@@ -1,18 +1,18 @@
 //! What a script declares: its actors, their methods, and how many parameters each method has.
 
-ghost use Rattle.std.specs.Prelude.{◌≡◌, ◌<◌, ◌++◌, [], is_some, length, map, slice_get, if◌then◌else◌, IfOk, IfErr, IfSome, OnOk};
-ghost use Rattle.script_grammar.specs.Tree.{text_of, view_method, view_actor, view_decl};
+ghost use Rattle.std.specs.Prelude.{◌≡◌, ◌<◌, ◌++◌, [], is_some, length, map, slice_get, IfOk, IfSome, OnOk};
+ghost use Rattle.script_grammar.specs.Tree.{view_method, view_actor, view_decl};
 ghost use Rattle.script_names.specs.Texts.{is_among, place_of};
 ghost use Rattle.script_names.specs.Directory.{Directory, has_method, method_place, with_method, with_methods, with_actor, directory_of};
-ghost use Rattle.script_names.specs.Rules.{call_fault};
-ghost use Rattle.script_names.specs.Finds.{Finds, StandsAt};
+ghost use Rattle.script_names.specs.Errors.{call_error};
+ghost use Rattle.script_names.specs.Finds.{Finds};
 
+use crate::error::{CheckError, NameErrorKind, fault_at};
 use crate::methods::Methods;
-use crate::error::{NameErrorKind, CheckError, fault_at};
 use crate::texts::Names;
+use script_grammar::{Actor, Decl, Method, Name};
 use std::alloc::{AllocError, Global};
 use std::marker::Model;
-use script_grammar::{Actor, Decl, Method, Name};
 
 /// The actors of a script and their methods, wherever in the text they stand. Of two of one name the first one counts; a
 /// second actor of a name adds nothing, its methods neither. A method is kept under its actor's place and its own name, so
@@ -85,7 +85,7 @@ impl Declared {
         self.params.get(method).copied()
     }
 
-    /// Whether a call names an actor, one of its methods, and as many arguments as that has parameters. A fault stands
+    /// Whether a call names an actor, one of its methods, and as many arguments as that has parameters. An error stands
     /// at the actor's name where no actor has that name, and else at the method's.
     pub fn check_call(
         &self,
@@ -94,8 +94,7 @@ impl Declared {
         method: &Name,
         count: usize,
     ) -> Result<(), CheckError>
-        ensures finds { Finds result (call_fault self.now (text_of actor.now) (text_of method.now) count) }
-        ensures place { IfErr result (λ e. StandsAt e (if is_among self.now.actors (text_of actor.now) then method.now.tokens_left else actor.now.tokens_left)) }
+        ensures { Finds result (call_error self.now actor.now method.now count) }
     {
         let Some(actor_place) = self.actor(&actor.text) else {
             return Err(fault_at(NameErrorKind::Unknown, actor));

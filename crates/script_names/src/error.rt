@@ -3,8 +3,8 @@
 ghost use Rattle.std.specs.Prelude.{◌≡◌};
 ghost use Rattle.script_names.specs.declared.error.CheckError.TheVariants.{Memory};
 
-use std::alloc::{AllocError, AllocFailed};
 use script_grammar::Name;
+use std::alloc::{AllocError, AllocFailed};
 
 /// What is wrong with a name where it stands (our own).
 #[derive(Clone, Copy, Debug, PartialEq, Eq)]

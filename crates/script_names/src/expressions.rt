@@ -1,15 +1,16 @@
 //! Names and calls inside expressions and awaited calls.
 
-ghost use Rattle.std.specs.Prelude.{◌≡◌, map};
-ghost use Rattle.script_grammar.specs.Tree.{text_of, view, view_if, view_wait, view_value};
-ghost use Rattle.script_names.specs.Rules.{is_standing, name_fault, expression_fault, expressions_fault, optional_fault, wait_fault, value_fault};
+ghost use Rattle.std.specs.Prelude.{◌≡◌};
+ghost use Rattle.script_grammar.specs.Tree.{text_of};
+ghost use Rattle.script_names.specs.Rules.{is_standing};
+ghost use Rattle.script_names.specs.Errors.{name_error, expression_error, expressions_error, optional_error, wait_error, value_error};
 ghost use Rattle.script_names.specs.Finds.{Finds};
 
 use crate::directory::Declared;
-use crate::error::{NameErrorKind, CheckError, fault_at};
+use crate::error::{CheckError, NameErrorKind, fault_at};
 use crate::texts::Names;
-use std::alloc::Global;
 use script_grammar::{Expr, Name, Value, Wait};
+use std::alloc::Global;
 
 /// Whether a name stands as a field or as a variable.
 pub(crate) fn stands(fields: &Names, variables: &Names, name: &Name) -> bool
@@ -20,7 +21,7 @@ pub(crate) fn stands(fields: &Names, variables: &Names, name: &Name) -> bool
 
 /// The name stands there.
 pub(crate) fn name(fields: &Names, variables: &Names, name: &Name) -> Result<(), CheckError>
-    ensures { Finds result (name_fault fields.now variables.now (text_of name.now)) }
+    ensures { Finds result (name_error fields.now variables.now name.now) }
 {
     if stands(fields, variables, name) {
         Ok(())
@@ -31,7 +32,7 @@ pub(crate) fn name(fields: &Names, variables: &Names, name: &Name) -> Result<(),
 
 /// Each name of an expression stands there.
 pub(crate) fn expression(fields: &Names, variables: &Names, expr: &Expr) -> Result<(), CheckError>
-    ensures { Finds result (expression_fault fields.now variables.now (view expr.now)) }
+    ensures { Finds result (expression_error fields.now variables.now expr.now) }
 {
     match expr {
         Expr::Number(_) => Ok(()),
@@ -46,7 +47,7 @@ pub(crate) fn expression(fields: &Names, variables: &Names, expr: &Expr) -> Resu
 }
 
 fn expressions(fields: &Names, variables: &Names, exprs: &[Expr]) -> Result<(), CheckError>
-    ensures { Finds result (expressions_fault fields.now variables.now (map view exprs.now)) }
+    ensures { Finds result (expressions_error fields.now variables.now exprs.now) }
 {
     for expr in exprs {
         expression(fields, variables, expr)?;
@@ -55,7 +56,7 @@ fn expressions(fields: &Names, variables: &Names, exprs: &[Expr]) -> Result<(), 
 }
 
 fn optional(fields: &Names, variables: &Names, expr: &Option<Expr>) -> Result<(), CheckError>
-    ensures { Finds result (optional_fault fields.now variables.now (view_if expr.now)) }
+    ensures { Finds result (optional_error fields.now variables.now expr.now) }
 {
     match expr {
         Some(expr) => expression(fields, variables, expr),
@@ -71,7 +72,7 @@ pub(crate) fn wait(
     variables: &Names,
     wait: &Wait,
 ) -> Result<(), CheckError>
-    ensures { Finds result (wait_fault declared.now fields.now variables.now (view_wait wait.now)) }
+    ensures { Finds result (wait_error declared.now fields.now variables.now wait.now) }
 {
     let call = &wait.call;
     declared.check_call(alloc, &call.actor, &call.method, call.args.len())?;
@@ -87,7 +88,7 @@ pub(crate) fn value(
     variables: &Names,
     value: &Value,
 ) -> Result<(), CheckError>
-    ensures { Finds result (value_fault declared.now fields.now variables.now (view_value value.now)) }
+    ensures { Finds result (value_error declared.now fields.now variables.now value.now) }
 {
     match value {
         Value::Expr(expr) => expression(fields, variables, expr),

@@ -20,8 +20,8 @@ mod texts;
 
 pub use declarations::check;
 pub use directory::Declared;
-pub use laws::nothing_left_out;
-pub use error::{NameError, NameErrorKind, CheckError};
+pub use error::{CheckError, NameError, NameErrorKind};
+pub use laws::{nothing_left_out, one_kind};
 pub use texts::Names;
 
 #[cfg(test)]

@@ -1,18 +1,17 @@
 //! Names and calls inside statements, and the variables that stand at each.
 
-ghost use Rattle.std.specs.Prelude.{◌≡◌, map, OnOk};
-ghost use Rattle.script_grammar.specs.Tree.{view_stmt, block_tree};
-ghost use Rattle.script_names.specs.Rules.{statement_fault, statements_fault, variables_behind};
+ghost use Rattle.std.specs.Prelude.{◌≡◌, OnOk};
+ghost use Rattle.script_names.specs.Errors.{rule_of, statements_error};
 ghost use Rattle.script_names.specs.Finds.{Finds};
 
 use crate::directory::Declared;
+use crate::error::{CheckError, NameErrorKind, fault_at};
 use crate::expressions::{expression, name, stands, value, wait};
-use crate::error::{NameErrorKind, CheckError, fault_at};
 use crate::texts::Names;
-use std::alloc::Global;
 use script_grammar::Stmt;
+use std::alloc::Global;
 
-// The names of a statement are in order. What it defines stands behind it.
+// The names of a statement are in order. What it defines stands after it.
 #[cycle(statements)]
 fn statement(
     alloc: Global,
@@ -21,8 +20,8 @@ fn statement(
     variables: &mut Names,
     stmt: &Stmt,
 ) -> Result<(), CheckError>
-    ensures finds { Finds result (statement_fault declared.now fields.now variables.old (view_stmt stmt.now)) }
-    ensures behind { OnOk result (variables.new ≡ variables_behind variables.old (view_stmt stmt.now)) }
+    ensures finds { Finds result ((rule_of declared.now fields.now stmt.now).error variables.old) }
+    ensures after { OnOk result (variables.new ≡ (rule_of declared.now fields.now stmt.now).after variables.old) }
 {
     match stmt {
         Stmt::Let(defined, set_to) => {
@@ -65,8 +64,8 @@ pub(crate) fn statements(
     variables: &mut Names,
     block: &[Stmt],
 ) -> Result<(), CheckError>
-    ensures finds { Finds result (statements_fault declared.now fields.now variables.old (block_tree (map view_stmt block.now))) }
-    ensures behind { OnOk result (variables.new ≡ variables.old) }
+    ensures finds { Finds result (statements_error declared.now fields.now variables.old block.now) }
+    ensures after { OnOk result (variables.new ≡ variables.old) }
 {
     let outside = variables.len();
     for stmt in block {

@@ -6,6 +6,7 @@ pub mod Accepting
 pub mod ActorsAndRootsAreFew
 pub mod Compiling
 pub mod Building
+pub mod Placed
 pub mod SameScripts
 pub mod Printing
 pub mod Starting

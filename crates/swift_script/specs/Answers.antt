@@ -9,7 +9,3 @@ use Rattle.swift_script.specs.Scripts.{ScriptView, tree_of}
 abbrev pub IsReadAs : ScriptTree → Result ScriptView ScriptFault → Type 0
 IsReadAs tree (Ok s) = tree_of s ≡ tree
 IsReadAs tree (Err e) = e.kind ≡ Memory
-
--- want of memory stands on no line
-abbrev pub IsPlaced : ScriptFault → Type 0
-IsPlaced fault = fault.kind ≡ Memory → fault.line ≡ 0

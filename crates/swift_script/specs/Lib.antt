@@ -2,6 +2,7 @@ pub mod Script
 pub mod Accepted
 pub mod Scripts
 pub mod Compiled
+pub mod FaultLines
 pub mod Refuses
 pub mod WellScoped
 pub mod ScriptInvariant

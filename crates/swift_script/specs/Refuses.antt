@@ -11,7 +11,9 @@ use Rattle.script_names.specs.declared.error.NameErrorKind.{NameErrorKind}
 use Rattle.script_names.specs.declared.error.NameErrorKind.TheVariants.{Twice, Unknown, Arguments as OtherCount, TooMany}
 use Rattle.swift_script.specs.declared.fault.ScriptFaultKind.{ScriptFaultKind}
 use Rattle.swift_script.specs.declared.fault.ScriptFaultKind.TheVariants as kind
+use Rattle.swift_script.specs.declared.lines.Lines.{Lines}
 use Rattle.swift_script.specs.Accepted.{IsPlain, SpellsNothing, HasFault, StartsFalse}
+use Rattle.swift_script.specs.FaultLines.{line_in}
 
 -- a fault of the grammar: the text is short and plain, and spells nothing within the limits
 abbrev pub HasNoTree : List ℕ → Type 0
@@ -43,6 +45,11 @@ abbrev pub read_kind : ReadError → ScriptFaultKind
 read_kind reading.Memory = kind.Memory
 read_kind (reading.Fault f) = grammar_kind f.kind
 
+-- and its line
+abbrev pub read_line : Lines → ReadError → ℕ
+read_line kept reading.Memory = 0
+read_line kept (reading.Fault f) = line_in kept f.tokens_left
+
 -- a fault of the names and counts, as a refusal
 abbrev pub names_kind : NameErrorKind → ScriptFaultKind
 names_kind Twice = kind.NameTwice
@@ -53,3 +60,8 @@ names_kind TooMany = kind.LimitPassed
 abbrev pub check_kind : CheckError → ScriptFaultKind
 check_kind naming.Memory = kind.Memory
 check_kind (naming.Name m) = names_kind m.kind
+
+-- and its line
+abbrev pub check_line : Lines → CheckError → ℕ
+check_line kept naming.Memory = 0
+check_line kept (naming.Name m) = line_in kept m.tokens_left

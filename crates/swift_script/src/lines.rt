@@ -1,6 +1,7 @@
 //! On which lines the tokens of a text stand.
 
-ghost use Rattle.std.specs.Prelude.{◌≡◌, ◌-◌, ◌<◌, ◌≤◌, length, slice_index_or};
+ghost use Rattle.std.specs.Prelude.{◌≡◌};
+ghost use Rattle.swift_script.specs.FaultLines.{line_in};
 
 /// The lines of a text's tokens, in order, and its last line.
 #[derive(Drop)]
@@ -12,12 +13,9 @@ pub(crate) struct Lines {
 impl Lines {
     /// The line of the token at which so many tokens are left, itself included; with none left, the last line.
     pub fn line(&self, left: usize) -> u32
-        ensures token { left ≤ length self.now.lines.items → result ≡ slice_index_or self.now.lines.items (length self.now.lines.items - left) self.now.last }
-        ensures none { length self.now.lines.items < left → result ≡ self.now.last }
+        ensures { result ≡ line_in self.now left }
     {
-        match self.lines.len().checked_sub(left) {
-            Some(place) => self.lines.get(place).copied().unwrap_or(self.last),
-            None => self.last,
-        }
+        let place = self.lines.len().saturating_sub(left);
+        self.lines.get(place).copied().unwrap_or(self.last)
     }
 }

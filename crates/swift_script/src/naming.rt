@@ -4,9 +4,8 @@ ghost use Rattle.std.specs.Prelude.{◌≡◌, ℕ, List, None, map, IfOk, IfErr
 ghost use Rattle.script_grammar.specs.Tree.{view_decl};
 ghost use Rattle.script_names.specs.Directory.{directory_of};
 ghost use Rattle.script_names.specs.Rules.{names_fault};
-ghost use Rattle.swift_script.specs.Accepted.{IsPlain, SpellsDecls};
-ghost use Rattle.swift_script.specs.Answers.{IsPlaced};
-ghost use Rattle.swift_script.specs.Refuses.{Refuses, names_kind, check_kind};
+ghost use Rattle.swift_script.specs.FaultLines.{AreLines, SpellsPlaced, IsAtItsLine};
+ghost use Rattle.swift_script.specs.Refuses.{Refuses, names_kind, check_kind, check_line};
 
 use crate::fault::{ScriptFault, ScriptFaultKind};
 use crate::lines::Lines;
@@ -19,8 +18,8 @@ use script_names::{Declared, NameErrorKind, CheckError, check};
 pub(crate) fn check_names(alloc: Global, decls: &[Decl], lines: &Lines) -> Result<Declared, ScriptFault>
     ensures names { IfOk result (λ d. names_fault (map view_decl decls.now) ≡ None) }
     ensures directory { IfOk result (λ d. d ≡ directory_of (map view_decl decls.now)) }
-    ensures refused { (text : List ℕ) → IsPlain text → SpellsDecls 32 text (map view_decl decls.now) → IfErr result (λ e. Refuses e.kind text) }
-    ensures placed { IfErr result IsPlaced }
+    ensures refused { (text : List ℕ) → SpellsPlaced text decls.now → IfErr result (λ e. Refuses e.kind text) }
+    ensures line { (text : List ℕ) → SpellsPlaced text decls.now → AreLines text lines.now → IfErr result (λ e. IsAtItsLine e text) }
 {
     match check(alloc, decls) {
         Ok(declared) => Ok(declared),
@@ -30,7 +29,7 @@ pub(crate) fn check_names(alloc: Global, decls: &[Decl], lines: &Lines) -> Resul
 
 fn refusal(lines: &Lines, error: CheckError) -> ScriptFault
     ensures kind { result.kind ≡ check_kind error }
-    ensures placed { IsPlaced result }
+    ensures line { result.line ≡ check_line lines.now error }
 {
     match error {
         CheckError::Memory => ScriptFault::MEMORY,

@@ -1,15 +1,15 @@
 //! From text to a script.
 
-ghost use Rattle.std.specs.Prelude.{◌≡◌, ◌≤◌, ℕ, None, true, length, map, IfOk, IfErr};
-ghost use Rattle.script_tokens.specs.Bytes.{is_text};
+ghost use Rattle.std.specs.Prelude.{◌≡◌, None, map, slice_get, IfOk, IfErr};
 ghost use Rattle.script_grammar.specs.Tree.{view_decl};
 ghost use Rattle.script_names.specs.Directory.{directory_of};
 ghost use Rattle.script_names.specs.Rules.{names_fault};
 ghost use Rattle.swift_script.specs.Script.{ScriptTree};
 ghost use Rattle.swift_script.specs.Scripts.{tree_of};
-ghost use Rattle.swift_script.specs.Accepted.{SpellsDecls, IsAccepted};
+ghost use Rattle.swift_script.specs.Accepted.{IsAccepted};
+ghost use Rattle.swift_script.specs.FaultLines.{AreLines, SpellsPlaced, IsAtItsLine, keyword_at};
 ghost use Rattle.swift_script.specs.Refuses.{Refuses};
-ghost use Rattle.swift_script.specs.Answers.{IsPlaced, IsReadAs};
+ghost use Rattle.swift_script.specs.Answers.{IsReadAs};
 
 use crate::compile::{compile, root_methods};
 use crate::fault::{ScriptFault, ScriptFaultKind};
@@ -26,7 +26,7 @@ use script_names::Declared;
 /// The script that a text spells (the language is our own), in time and memory linear in the text.
 ///
 /// Faults are looked for in this order, and the first one is answered with its line: the length (line 1), bytes outside
-/// text anywhere, the grammar from left to right, names and counts by place, invariants at the start by actors. Want of
+/// text anywhere, the grammar from left to right, names and counts by place, invariants at the start by actors. Out of
 /// memory is answered, with line 0, wherever a growth was refused.
 pub fn read(alloc: Global, bytes: &[u8]) -> Result<Script, ScriptFault>
     // What is read is accepted, and its tree is what the text spells.
@@ -35,8 +35,8 @@ pub fn read(alloc: Global, bytes: &[u8]) -> Result<Script, ScriptFault>
     ensures accepted { (tree : ScriptTree) → IsAccepted bytes.now tree → IsReadAs tree result }
     // Each refusal stands for its own cause, and for none that is looked for before it.
     ensures refused { IfErr result (λ e. Refuses e.kind bytes.now) }
-    // Want of memory stands on line 0.
-    ensures placed { IfErr result IsPlaced }
+    // It stands on the line of what it is about; out of memory stands on line 0.
+    ensures line { IfErr result (λ e. IsAtItsLine e bytes.now) }
 {
     accept(alloc, bytes)
 }
@@ -44,7 +44,7 @@ pub fn read(alloc: Global, bytes: &[u8]) -> Result<Script, ScriptFault>
 fn accept(alloc: Global, text: &[u8]) -> Result<Script, ScriptFault>
     ensures found { IfOk result (λ s. IsAccepted text.now (tree_of s)) }
     ensures refused { IfErr result (λ e. Refuses e.kind text.now) }
-    ensures placed { IfErr result IsPlaced }
+    ensures line { IfErr result (λ e. IsAtItsLine e text.now) }
 {
     let Spelled { decls, lines } = spell(alloc, text)?;
     let declared = check_names(alloc, &decls, &lines)?;
@@ -59,14 +59,13 @@ fn build(
     declared: &Declared,
     lines: &Lines,
 ) -> Result<Script, ScriptFault>
-    requires short { length text.now ≤ 65536 }
-    requires plain { is_text text.now ≡ true }
-    requires spelled { SpellsDecls 32 text.now (map view_decl decls.items) }
+    requires spelled { SpellsPlaced text.now decls.items }
+    requires lines { AreLines text.now lines.now }
     requires names { names_fault (map view_decl decls.items) ≡ None }
     requires directory { declared.now ≡ directory_of (map view_decl decls.items) }
     ensures found { IfOk result (λ s. IsAccepted text.now (tree_of s)) }
     ensures refused { IfErr result (λ e. Refuses e.kind text.now) }
-    ensures placed { IfErr result IsPlaced }
+    ensures line { IfErr result (λ e. IsAtItsLine e text.now) }
 {
     let (actors, roots) = split(alloc, decls)?;
     let compiled = compile(alloc, declared, &actors)?;
@@ -83,7 +82,9 @@ fn build(
 }
 
 // How many tokens are left at an actor's invariant.
-fn invariant_left(actors: &[Actor], place: usize) -> usize {
+fn invariant_left(actors: &[Actor], place: usize) -> usize
+    ensures { result ≡ keyword_at (slice_get actors.now place) }
+{
     match actors.get(place) {
         Some(
             Actor {

@@ -3,11 +3,10 @@
 ghost use Rattle.std.specs.Prelude.{◌≡◌, ◌≤◌, map, length, true, IfOk, IfErr};
 ghost use Rattle.script_tokens.specs.Bytes.{is_text};
 ghost use Rattle.script_tokens.specs.Lexes.{Lexes};
+ghost use Rattle.script_tokens.specs.Lines.{BeginOn};
 ghost use Rattle.script_tokens.specs.Pieces.{piece};
-ghost use Rattle.script_grammar.specs.Tree.{view_decl};
-ghost use Rattle.swift_script.specs.Accepted.{SpellsDecls};
-ghost use Rattle.swift_script.specs.Answers.{IsPlaced};
-ghost use Rattle.swift_script.specs.Refuses.{Refuses, grammar_kind, read_kind};
+ghost use Rattle.swift_script.specs.FaultLines.{last_line, AreLines, SpellsPlaced, IsAtItsLine};
+ghost use Rattle.swift_script.specs.Refuses.{Refuses, grammar_kind, read_kind, read_line};
 
 use crate::fault::{ScriptFault, ScriptFaultKind};
 use crate::lines::Lines;
@@ -27,11 +26,10 @@ pub(crate) struct Spelled {
 
 /// The declarations that a text spells.
 pub(crate) fn spell(alloc: Global, text: &[u8]) -> Result<Spelled, ScriptFault>
-    ensures short { IfOk result (λ s. length text.now ≤ 65536) }
-    ensures plain { IfOk result (λ s. is_text text.now ≡ true) }
-    ensures spelled { IfOk result (λ s. SpellsDecls 32 text.now (map view_decl s.decls.items)) }
+    ensures spelled { IfOk result (λ s. SpellsPlaced text.now s.decls.items) }
+    ensures lines { IfOk result (λ s. AreLines text.now s.lines) }
     ensures refused { IfErr result (λ e. Refuses e.kind text.now) }
-    ensures placed { IfErr result IsPlaced }
+    ensures line { IfErr result (λ e. IsAtItsLine e text.now) }
 {
     if text.len() > LONGEST {
         return Err(fault(1, ScriptFaultKind::LimitPassed));
@@ -50,9 +48,12 @@ fn parse(alloc: Global, text: &[u8], found: Tokens) -> Result<Spelled, ScriptFau
     requires short { length text.now ≤ 65536 }
     requires plain { is_text text.now ≡ true }
     requires lexed { Lexes text.now (map piece found.tokens.items) }
-    ensures spelled { IfOk result (λ s. SpellsDecls 32 text.now (map view_decl s.decls.items)) }
+    requires begun { BeginOn text.now text.now found.lines.items }
+    requires last { found.last_line ≡ last_line text.now }
+    ensures spelled { IfOk result (λ s. SpellsPlaced text.now s.decls.items) }
+    ensures lines { IfOk result (λ s. AreLines text.now s.lines) }
     ensures refused { IfErr result (λ e. Refuses e.kind text.now) }
-    ensures placed { IfErr result IsPlaced }
+    ensures line { IfErr result (λ e. IsAtItsLine e text.now) }
 {
     let Tokens {
         tokens,
@@ -68,7 +69,7 @@ fn parse(alloc: Global, text: &[u8], found: Tokens) -> Result<Spelled, ScriptFau
 
 fn refusal(lines: &Lines, error: ReadError) -> ScriptFault
     ensures kind { result.kind ≡ read_kind error }
-    ensures placed { IsPlaced result }
+    ensures line { result.line ≡ read_line lines.now error }
 {
     match error {
         ReadError::Memory => ScriptFault::MEMORY,
@@ -77,7 +78,8 @@ fn refusal(lines: &Lines, error: ReadError) -> ScriptFault
 }
 
 pub(crate) fn fault(line: u32, kind: ScriptFaultKind) -> ScriptFault
-    ensures { result.kind ≡ kind }
+    ensures kind { result.kind ≡ kind }
+    ensures line { result.line ≡ line }
 {
     ScriptFault { line, kind }
 }
