@@ -17,7 +17,7 @@ import scripts
 TOP = os.path.dirname(os.path.dirname(os.path.abspath(__file__)))
 PROGRAM = "crates/swiftrun/out/swiftrun"
 MEASURE = "crates/bench_parts/out/bench_parts"
-PARTS = ["queue", "locals", "groups", "escalation"]
+PARTS = ["queue", "queue_takes", "word", "locals", "groups", "escalation"]
 FEW, MANY = 16, 1024
 
 # A process that Python starts counts Python's own memory as its peak; one that this starts doesn't.

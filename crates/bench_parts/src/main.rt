@@ -22,6 +22,8 @@ mod queue;
 mod script;
 #[cfg(test)]
 mod tests;
+// A million jobs counted, begun and ended on a status word.
+mod word;
 
 use fault::BenchFault;
 use pick::{MOST, OPERATIONS};
@@ -79,7 +81,8 @@ fn measure_part(rt: &HostRuntime, name: &str, entries: u32) -> Result<(), BenchF
             println!(rt; "nothing {entries} entries 0 operations")?;
             return Ok(());
         }
-        "queue" => queue::measure(rt, entries)?,
+        "queue" => queue::measure(rt, entries, true)?,
+        "queue_takes" => queue::measure(rt, entries, false)?,
         "locals" => locals::measure(rt, entries)?,
         "groups" => groups::measure(rt, entries)?,
         "escalation" => {
@@ -87,6 +90,7 @@ fn measure_part(rt: &HostRuntime, name: &str, entries: u32) -> Result<(), BenchF
             println!(rt; "escalation {events} events")?;
             escalation::measure(rt, entries)?
         }
+        "word" => word::measure(rt)?,
         _ => return Err(BenchFault::Words),
     };
     println!(rt; "{name} {entries} entries {OPERATIONS} operations")?;

@@ -8,17 +8,22 @@ use std::time::{Duration, Instant};
 use swift_queue::{Job, Queue};
 use swift_types::{Priority, Resume, TaskId};
 
-// How long a million operations take on a queue with this many jobs.
-pub fn measure(rt: &HostRuntime, entries: u32) -> Result<Duration, BenchFault>
+// How long a million operations take on a queue with this many jobs, where each raises a job or none does.
+pub fn measure(rt: &HostRuntime, entries: u32, raises: bool) -> Result<Duration, BenchFault>
     requires { 0 < entries }
 {
     let mut queue = Queue::with_room(rt.alloc(), entries as usize)?;
-    let spent = filled(rt, &mut queue, entries);
+    let spent = filled(rt, &mut queue, entries, raises);
     empty(queue);
     spent
 }
 
-fn filled(rt: &HostRuntime, queue: &mut Queue<u32>, entries: u32) -> Result<Duration, BenchFault>
+fn filled(
+    rt: &HostRuntime,
+    queue: &mut Queue<u32>,
+    entries: u32,
+    raises: bool,
+) -> Result<Duration, BenchFault>
     requires { 0 < entries }
 {
     for task in 0..entries {
@@ -26,7 +31,11 @@ fn filled(rt: &HostRuntime, queue: &mut Queue<u32>, entries: u32) -> Result<Dura
     }
     let start = Instant::now(rt)?;
     for operation in 0..OPERATIONS {
-        turn_over(queue, TaskId(drawn(operation, entries)), risen(operation))?;
+        if raises {
+            turn_over(queue, TaskId(drawn(operation, entries)), risen(operation))?;
+        } else {
+            put_back(queue)?;
+        }
     }
     Ok(start.elapsed(rt)?)
 }
@@ -58,9 +67,8 @@ pub fn fill(queue: &mut Queue<u32>, task: TaskId) -> Result<(), BenchFault>
     Ok(())
 }
 
-/// One operation: the most urgent job is taken and put back as the newest of the least urgent, and the job of a task is
-/// raised.
-pub fn turn_over(queue: &mut Queue<u32>, task: TaskId, priority: Priority) -> Result<(), BenchFault>
+/// The most urgent job is taken and put back as the newest of the least urgent.
+pub fn put_back(queue: &mut Queue<u32>) -> Result<(), BenchFault>
     ensures jobs { OnOk result (length queue.new.jobs ≡ length queue.old.jobs) }
     ensures arrived { OnOk result (queue.new.arrived ≡ queue.old.arrived + 1) }
 {
@@ -72,6 +80,15 @@ pub fn turn_over(queue: &mut Queue<u32>, task: TaskId, priority: Priority) -> Re
         return Err(BenchFault::Refused);
     }
     queue.put(job, Priority::Background);
+    Ok(())
+}
+
+/// One operation: the most urgent job is put back, and the job of a task is raised.
+pub fn turn_over(queue: &mut Queue<u32>, task: TaskId, priority: Priority) -> Result<(), BenchFault>
+    ensures jobs { OnOk result (length queue.new.jobs ≡ length queue.old.jobs) }
+    ensures arrived { OnOk result (queue.new.arrived ≡ queue.old.arrived + 1) }
+{
+    put_back(queue)?;
     queue.raise(task, priority);
     Ok(())
 }

@@ -80,31 +80,6 @@ module _ {B Z : Type 0} where
         all_flat (deque_items {X = Waiting B} {Z = Z}) (IsOlder x) lists (λ k e lt i f l. let le = h.least k e lt i f l in omega (arith, le, same));
   }
 
-  -- no list below the first is seen yet
-  pub least_none : (lists : List (VecDeque (Waiting B) Z)) → IsOldestBelow 0 lists None
-  least_none lists = record { none = λ k d lt. absurd (omega (arith, lt)); list = tt; some = tt; least = tt }
-
-  -- one more list is seen, which is empty
-  pub least_empty : (level : ℕ) (lists : List (VecDeque (Waiting B) Z)) (found : Option (ℕ × ℕ)) → ((d : VecDeque (Waiting B) Z) → length (get_or lists level d).items ≡ 0) → IsOldestBelow level lists found → IsOldestBelow (level + 1) lists found
-  least_empty level lists None e h = record {
-    none = λ k d lt. elim (cases_eq k level) [
-      | inl eq ↦ subst (λ (j : ℕ). length (get_or lists j d).items ≡ 0) (sym eq) (e d)
-      | inr ne ↦ h.none k d (omega (arith, lt, ne))
-    ];
-    list = tt;
-    some = tt;
-    least = tt;
-  }
-  least_empty level lists (Some f) e h = record {
-    none = tt;
-    list = let l = h.list in omega (arith, l);
-    some = h.some;
-    least = λ k d lt. elim (cases_eq k level) [
-      | inl eq ↦ subst (λ (j : ℕ). All (λ y. f.1 ≤ y.arrival) (get_or lists j d).items) (sym eq) (λ i x l. let none = e d in absurd (omega (arith, none, l)))
-      | inr ne ↦ h.least k d (omega (arith, lt, ne))
-    ];
-  }
-
   -- one that begins with the oldest so far
   pub least_new : (level : ℕ) (lists : List (VecDeque (Waiting B) Z)) (found : Option (ℕ × ℕ)) (x : Waiting B) → ((d : VecDeque (Waiting B) Z) → StartsWith (get_or lists level d).items x) → ((d : VecDeque (Waiting B) Z) → IsByArrival (get_or lists level d).items)
       → IfSome found (λ f. x.arrival ≤ f.1) → IsOldestBelow level lists found → IsOldestBelow (level + 1) lists (Some (level, x.arrival))

@@ -46,11 +46,12 @@ fn hand_out<B>(arrival_of: &mut Vec<Option<u64>>, taken: Waiting<B>) -> (Job<B>,
 /// of its jobs, each with its priority and its arrival number, in no order that means anything, with the room and
 /// the number of arrivals. A queue can be neither cloned nor dropped: it is emptied, and then given up by `close`.
 ///
-/// There is a list for each priority, in the order of arrival. `put`, `take`, `take_oldest` and `holds` take a constant
-/// number of steps. `raise` finds the job by its arrival number, in a number of steps that is the logarithm of the room,
-/// and moves at most half the jobs of its list and half of those of the list that it goes to. `restore` moves at most
-/// half the jobs of one list, and none where the job arrived before all of these, as one that was just taken did where
-/// it keeps its priority. Of a task that is numbered 1,024 or more, `holds` and `raise` pass all jobs.
+/// There is a list for each priority, in the order of arrival. `put`, `take`, `take_oldest` and `holds` take a
+/// constant number of steps. `raise` finds the job by its arrival number, in a number of steps that is the logarithm
+/// of the room, and moves at most half the jobs of its list and half of those of the list that it goes to. `restore`
+/// finds its place in as many steps, and moves at most half the jobs of one list, and none where the job arrived before
+/// all of these, as one that was just taken did where it keeps its priority. Of a task that is numbered 1,024 or more,
+/// `holds` and `raise` pass all jobs.
 pub struct Queue<B> {
     lists: Lists<B>,
     arrival_of: Vec<Option<u64>>,
