@@ -1,10 +1,11 @@
 -- Where names are in order, the directory leaves nothing out.
-use Rattle.std.proofs.Common.{◌≡◌, ◌≤◌, ◌+◌, ℕ, nat_eq, nat_lt, Bool, true, false, cond, List, [], ◌∷◌, ◌++◌, map, length, refl, sym, ap, ◌∙◌, append_assoc, Option, None, Some, arith, length-append}
+use Rattle.std.proofs.Common.{◌≡◌, ◌≤◌, ◌+◌, ℕ, nat_eq, nat_le, Bool, true, false, cond, List, [], ◌∷◌, ◌++◌, map, length, refl, sym, ap, ◌∙◌, append_assoc, Option, None, Some, arith, length-append}
 use Rattle.std.specs.Prelude.{◌&&◌}
 use Rattle.std.specs.Str.{bytes_eq}
 use Rattle.std.proofs.lemmas.Bool.{or_parts, or_from, and_left, ne_eqb}
 use Rattle.std.proofs.lemmas.List.{append-nil}
 use Rattle.std.proofs.lemmas.List.Folds.{list_any-append}
+use Rattle.swift_types.specs.declared.limits.TheConstants.{ACTORS}
 use Rattle.script_grammar.specs.Tree.{MethodTree, DeclTree, Acts, Roots}
 use Rattle.script_names.specs.declared.error.NameErrorKind.{NameErrorKind}
 use Rattle.script_names.specs.declared.error.NameErrorKind.TheVariants.{TooMany}
@@ -68,7 +69,7 @@ decls_kept d seen roots (Acts a ∷ xs) qs ps new e =
     let parts = earlier_none _ _ e in
     let inner = earlier_none _ _ parts.0 in
     let fresh : is_among seen a.name ≡ false = where_so_none _ _ inner.0 in
-    let behind_count = (earlier_none (where_so (nat_lt 63 (length seen)) TooMany) _ inner.1).1 in
+    let behind_count = (earlier_none (where_so (nat_le ACTORS (length seen)) TooMany) _ inner.1).1 in
     let behind_fields = (earlier_none (fields_fault [] a.fields) _ behind_count).1 in
     let fine : methods_fault d (field_names a.fields) [] a.methods ≡ None = (earlier_none (optional_fault (field_names a.fields) [] a.invariant) _ behind_fields).1 in
     let place = length seen in

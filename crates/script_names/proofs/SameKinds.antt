@@ -1,7 +1,8 @@
 -- The rules with places and the rules without agree on whether there is an error, and on its kind.
-use Rattle.std.proofs.Common.{◌≡◌, ℕ, List, [], ◌∷◌, ◌++◌, map, length, nat_lt, refl, sym, ap, subst, ◌∙◌, Option, Some, None}
+use Rattle.std.proofs.Common.{◌≡◌, ℕ, List, [], ◌∷◌, ◌++◌, map, length, nat_le, refl, sym, ap, subst, ◌∙◌, Option, Some, None}
 use Rattle.std.proofs.lemmas.List.{length-map}
 use Rattle.std.specs.Prelude.{if◌then◌else◌}
+use Rattle.swift_types.specs.declared.limits.TheConstants.{ACTORS, TASKS}
 use Rattle.script_grammar.specs.declared.tree.Name.{Name}
 use Rattle.script_grammar.specs.declared.tree.Expr.{Expr}
 use Rattle.script_grammar.specs.declared.tree.Expr.TheVariants as expr
@@ -140,13 +141,13 @@ actor d seen a =
     let rest : kind_in (earlier (invariant_error names a.invariant) (methods_error d names [] a.methods.items)) ≡ earlier (optional_fault names [] (view_invariant a.invariant)) (methods_fault d names [] (map view_method a.methods.items)) =
     both (invariant_error names a.invariant) (methods_error d names [] a.methods.items) _ _ (invariant names a.invariant) (methods d names [] a.methods.items) in
     both (at_name a.name (where_so (is_among seen (text_of a.name)) Twice)) _ _ _ (kind_at a.name _)
-    (both (at_name a.name (where_so (nat_lt 63 (length seen)) TooMany)) _ _ _ (kind_at a.name _)
+    (both (at_name a.name (where_so (nat_le ACTORS (length seen)) TooMany)) _ _ _ (kind_at a.name _)
     (both (fields_error [] a.fields.items) _ _ _ (fields [] a.fields.items) rest))
 
 root : (d : Directory) (seen : List (List ℕ)) (r : Root) → kind_in (root_error d seen r) ≡ root_fault d seen (view_root r)
 root d seen r =
     both (at_name r.name (where_so (is_among seen (text_of r.name)) Twice)) _ _ _ (kind_at r.name _)
-    (both (at_name r.name (where_so (nat_lt 1023 (length seen)) TooMany)) _ _ _ (kind_at r.name _) (call d r.actor r.method (length r.args.items)))
+    (both (at_name r.name (where_so (nat_le TASKS (length seen)) TooMany)) _ _ _ (kind_at r.name _) (call d r.actor r.method (length r.args.items)))
 
 declarations : (d : Directory) (actors roots : List (List ℕ)) (xs : List Decl) → kind_in (declarations_error d actors roots xs) ≡ declarations_fault d actors roots (map view_decl xs)
 declarations d actors roots [] = refl

@@ -1,6 +1,7 @@
 -- The first error of a script, and at which name it stands: the rules on names and counts in order of place, over
 -- declarations whose names have their places. What is wrong with a name is what Rules says of its text.
-use Rattle.std.specs.Prelude.{ℕ, nat_lt, if◌then◌else◌, Option, Some, None, List, [], ◌∷◌, ◌++◌, length, map}
+use Rattle.std.specs.Prelude.{ℕ, nat_le, if◌then◌else◌, Option, Some, None, List, [], ◌∷◌, ◌++◌, length, map}
+use Rattle.swift_types.specs.declared.limits.TheConstants.{ACTORS, TASKS}
 use Rattle.script_grammar.specs.declared.tree.Name.{Name}
 use Rattle.script_grammar.specs.declared.tree.Expr.{Expr}
 use Rattle.script_grammar.specs.declared.tree.Expr.TheVariants as expr
@@ -141,7 +142,7 @@ abbrev pub actor_error : Directory → List (List ℕ) → Actor → Option Name
 actor_error d seen a =
     let fields = field_names (map view_field a.fields.items) in
     earlier (repeat_error seen a.name)
-    (earlier (at_name a.name (where_so (nat_lt 63 (length seen)) TooMany))
+    (earlier (at_name a.name (where_so (nat_le ACTORS (length seen)) TooMany))
     (earlier (fields_error [] a.fields.items)
     (earlier (invariant_error fields a.invariant) (methods_error d fields [] a.methods.items))))
 
@@ -149,7 +150,7 @@ actor_error d seen a =
 abbrev pub root_error : Directory → List (List ℕ) → Root → Option NameError
 root_error d seen r =
     earlier (repeat_error seen r.name)
-    (earlier (at_name r.name (where_so (nat_lt 1023 (length seen)) TooMany)) (call_error d r.actor r.method (length r.args.items)))
+    (earlier (at_name r.name (where_so (nat_le TASKS (length seen)) TooMany)) (call_error d r.actor r.method (length r.args.items)))
 
 abbrev pub declarations_error : Directory → List (List ℕ) → List (List ℕ) → List Decl → Option NameError
 declarations_error d actors roots [] = None

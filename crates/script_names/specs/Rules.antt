@@ -1,5 +1,6 @@
 -- The rules on names and counts: the first fault of a script, in order of place in its text.
-use Rattle.std.specs.Prelude.{ℕ, Bool, true, false, ◌||◌, ◌==◌, nat_lt, if◌then◌else◌, Option, Some, None, List, [], ◌∷◌, ◌++◌, length, map}
+use Rattle.std.specs.Prelude.{ℕ, Bool, true, false, ◌||◌, ◌==◌, nat_le, if◌then◌else◌, Option, Some, None, List, [], ◌∷◌, ◌++◌, length, map}
+use Rattle.swift_types.specs.declared.limits.TheConstants.{ACTORS, TASKS}
 use Rattle.script_grammar.specs.Tree.{ExprTree, Number, Named, Negated, Inverted, Both, WaitTree, ValueTree, Computed, Awaited, StmtTree, Let, Assign, Await, If, IfElse, While, Return, Throw, Yield, BlockTree, nothing, first_then, block_tree, FieldTree, MethodTree, ActorTree, RootTree, DeclTree, Acts, Roots}
 use Rattle.script_names.specs.declared.error.NameErrorKind.{NameErrorKind}
 use Rattle.script_names.specs.declared.error.NameErrorKind.TheVariants.{Twice, Unknown, Arguments, TooMany}
@@ -105,7 +106,7 @@ field_names fields = map (λ f. f.name) fields
 abbrev pub actor_fault : Directory → List (List ℕ) → ActorTree → Option NameErrorKind
 actor_fault d seen a =
     earlier (where_so (is_among seen a.name) Twice)
-    (earlier (where_so (nat_lt 63 (length seen)) TooMany)
+    (earlier (where_so (nat_le ACTORS (length seen)) TooMany)
     (earlier (fields_fault [] a.fields)
     (earlier (optional_fault (field_names a.fields) [] a.invariant)
     (methods_fault d (field_names a.fields) [] a.methods))))
@@ -114,7 +115,7 @@ actor_fault d seen a =
 abbrev pub root_fault : Directory → List (List ℕ) → RootTree → Option NameErrorKind
 root_fault d seen r =
     earlier (where_so (is_among seen r.name) Twice)
-    (earlier (where_so (nat_lt 1023 (length seen)) TooMany) (call_fault d r.actor r.method (length r.args)))
+    (earlier (where_so (nat_le TASKS (length seen)) TooMany) (call_fault d r.actor r.method (length r.args)))
 
 abbrev pub declarations_fault : Directory → List (List ℕ) → List (List ℕ) → List DeclTree → Option NameErrorKind
 declarations_fault d actors roots [] = None

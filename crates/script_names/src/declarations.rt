@@ -13,6 +13,7 @@ use crate::expressions::{expression, stands};
 use crate::statements::statements;
 use crate::texts::Names;
 use script_grammar::{Actor, Decl, Field, Invariant, Method, Name, Root};
+use swift_types::limits::{ACTORS, TASKS};
 use std::alloc::Global;
 
 // The name is none of those.
@@ -105,7 +106,7 @@ fn actor(
     ensures seen { OnOk result (seen.new ≡ seen.old ++ text_of actor.now.name ∷ []) }
 {
     unless_seen(seen, &actor.name)?;
-    if seen.len() > 63 {
+    if seen.len() >= ACTORS {
         return Err(fault_at(NameErrorKind::TooMany, &actor.name));
     }
     let fields = fields(alloc, &actor.fields)?;
@@ -121,7 +122,7 @@ fn root(alloc: Global, declared: &Declared, seen: &mut Names, root: &Root) -> Re
     ensures seen { OnOk result (seen.new ≡ seen.old ++ text_of root.now.name ∷ []) }
 {
     unless_seen(seen, &root.name)?;
-    if seen.len() > 1023 {
+    if seen.len() >= TASKS {
         return Err(fault_at(NameErrorKind::TooMany, &root.name));
     }
     declared.check_call(alloc, &root.actor, &root.method, root.args.len())?;

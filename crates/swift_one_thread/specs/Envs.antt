@@ -3,6 +3,7 @@
 use Rattle.std.specs.Prelude.{◌≡◌, ℕ, ◌-◌, ◌<◌, min, false, All, List}
 use Rattle.std.specs.declared.vec.Vec.{Vec}
 use Rattle.std.specs.declared.alloc.Global.{Global}
+use Rattle.swift_types.specs.declared.limits.TheConstants.{MADE, TASKS}
 use Rattle.script_code.specs.declared.env.Env.{Env}
 use Rattle.swift_script.specs.Scripts.{ScriptView, root_count, root_priority}
 use Rattle.swift_report.specs.declared.report.Record.{Record}
@@ -10,7 +11,7 @@ use Rattle.swift_report.specs.declared.report.Record.{Record}
 -- what each turn of a root's task is given: the root's priority, that the task is not cancelled, and that there is room
 -- for 16 tasks, or for as many as 1,024 tasks leave
 abbrev pub env_of : ScriptView → ℕ → Env
-env_of p root = record { priority = root_priority p root; cancelled = false; room = min (1024 - root_count p) 16 }
+env_of p root = record { priority = root_priority p root; cancelled = false; room = min (TASKS - root_count p) MADE }
 
 -- the task of this number is that of a root, and its turns are given this
 pub record HasItsEnv (p : ScriptView) (task : ℕ) (env : Env) : Type 0 where

@@ -17,13 +17,8 @@ use std::sync::Arc;
 use script_code::Env;
 use swift_script::Script;
 use swift_turn::{Body, Step};
-use swift_types::limits::TURNS;
+use swift_types::limits::{MADE, TASKS, TURNS};
 use swift_types::{ActorId, Ending, Fault, Resume, RootId, TaskId};
-
-// How many tasks a run may have, and how many a turn may make.
-const TASKS: usize = 1_024;
-
-const MADE: usize = 16;
 
 // The executor of each actor, the token of each that has jobs, the oldest first, and how each task has ended.
 #[derive(Drop)]
@@ -76,7 +71,7 @@ fn enqueue(pool: &mut Pool, actor: ActorId, job: Job) -> Result<(), Halt>
 
 // How many tasks a turn may make, where there are this many roots and no other task.
 fn room_of(roots: usize) -> u32
-    ensures { result ≡ min (1024 - roots) 16 }
+    ensures { result ≡ min (TASKS - roots) MADE }
 {
     TASKS.saturating_sub(roots).min(MADE) as u32
 }

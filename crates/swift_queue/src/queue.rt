@@ -8,11 +8,8 @@ use crate::lists::Lists;
 use crate::waiting::Waiting;
 use std::alloc::{AllocError, Global};
 use std::marker::Model;
+use swift_types::limits::TASKS;
 use swift_types::{Priority, TaskId};
-
-/// How many tasks a run can have. Of so many, by number, a queue knows with no search which arrival number their job
-/// has. A smaller room needs as many, since tasks are numbered over all executors of a run.
-const TASKS: usize = 1_024;
 
 /// Notes the arrival number of the task's job, or that none is inside. Of a task that is numbered past the last nothing
 /// is noted.
@@ -79,6 +76,7 @@ impl<B> Queue<B> {
     pub fn with_room(alloc: Global, room: usize) -> Result<Queue<B>, AllocError>
         ensures { IfOk result (λ q. q ≡ record { jobs = []; room = room; arrived = 0 }) }
     {
+        // As many as a run can have tasks, whatever the room: tasks are numbered over all executors.
         let arrival_of = vec![in alloc; None; TASKS]?;
         let lists = Lists::with_room(alloc, room)?;
         Ok(Queue {

@@ -1,5 +1,6 @@
 -- What was compiled from declarations whose names are in order is a whole script.
 use Rattle.std.proofs.Common.{◌≡◌, ◌≤◌, ℕ, Bool, true, false, ◌&&◌, None, List, [], ◌∷◌, length, map, refl, sym, ap, subst, ◌∙◌}
+use Rattle.swift_types.specs.declared.limits.TheConstants.{BYTES}
 use Rattle.swift_types.specs.declared.id.MethodId.{MethodId}
 use Rattle.script_tokens.specs.Bytes.{is_text}
 use Rattle.script_grammar.specs.declared.declared.Actor.{Actor}
@@ -42,7 +43,7 @@ starts_false text xs actors lent cs held l h plain spelled names seen same e =
 
 pub whole : (text kept : List ℕ) (xs : List DeclTree) (d : Directory) (actors lent : List Actor) (roots lent_roots : List Root) (cs held : List CompiledActor) (ms : List CompiledMethod) (ns : List MethodId)
     → kept ≡ text → lent ≡ actors → lent_roots ≡ roots → held ≡ cs
-    → length text ≤ 65536 → is_text text ≡ true → SpellsDecls 32 text xs → names_fault xs ≡ None → d ≡ directory_of xs
+    → length text ≤ BYTES → is_text text ≡ true → SpellsDecls 32 text xs → names_fault xs ≡ None → d ≡ directory_of xs
     → map view_actor actors ≡ actors_in xs → map view_root roots ≡ roots_in xs
     → map actor_is cs ≡ map compiled_actor (map view_actor lent) → all_hold (map actor_is held) ≡ true
     → map method_is ms ≡ map (compiled_of d) (entries_in (map view_actor lent))

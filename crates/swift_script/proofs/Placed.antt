@@ -2,6 +2,7 @@
 use Rattle.std.proofs.Common.{◌≡◌, ℕ, zero, suc, ◌+◌, ◌≤◌, ◌<◌, ◌-◌, Bool, true, false, Option, Some, None, List, [], ◌∷◌, map, length, take, drop, get_or, slice_get, IsSomeAnd, add-one, refl, sym, ap, subst, ◌∙◌, arith}
 use Rattle.std.specs.Prelude.{◌&&◌, slice_index_or, if◌then◌else◌}
 use Rattle.std.proofs.lemmas.Bool.{and_parts, and_from}
+use Rattle.swift_types.specs.declared.limits.TheConstants.{BYTES}
 use Rattle.script_code.specs.Value.{holds}
 use Rattle.script_grammar.specs.declared.declared.Actor.{Actor}
 use Rattle.script_grammar.specs.declared.declared.Decl.{Decl}
@@ -37,7 +38,7 @@ moved text k k' line line' e f s = subst (λ (q : ScriptFaultKind). StandsOn q t
 name_stands : (text : List ℕ) (decls : List Decl) (kept : Lines) (m : NameError) → SpellsPlaced text decls → AreLines text kept → names_error decls ≡ Some m → NameStandsOn text m.kind (line_in kept m.tokens_left)
 name_stands text decls kept m s l e = record { decls = decls; spelled = s; left = m.tokens_left; first = e; on = begins_on text kept m.tokens_left l }
 
-of_names : (text : List ℕ) (line : ℕ) (k : NameErrorKind) → length text ≤ 65536 → NameStandsOn text k line → StandsOn (names_kind k) text line
+of_names : (text : List ℕ) (line : ℕ) (k : NameErrorKind) → length text ≤ BYTES → NameStandsOn text k line → StandsOn (names_kind k) text line
 of_names text line Twice short s = s
 of_names text line Unknown short s = s
 of_names text line OtherCount short s = s

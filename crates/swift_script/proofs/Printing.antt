@@ -2,6 +2,7 @@
 use Rattle.std.proofs.Common.{◌≡◌, ◌≤◌, ℕ, true, Option, Some, None, List, [], ◌∷◌, ◌++◌, length, map, refl, sym, ap, subst, ◌∙◌}
 use Rattle.std.specs.Str.{IsUtf8}
 use Rattle.std.proofs.lemmas.Str.{IsUtf8-from_ascii}
+use Rattle.swift_types.specs.declared.limits.TheConstants.{BYTES}
 use Rattle.script_tokens.specs.Bytes.{is_text}
 use Rattle.script_grammar.specs.Tree.{ActorTree, RootTree, DeclTree, Acts, Roots}
 use Rattle.script_names.specs.declared.error.NameErrorKind.{NameErrorKind}
@@ -128,7 +129,7 @@ again text t a = subst (λ (u : ScriptTree). SpellsDecls 32 (printed_script u) (
 pub printed_spells : (text : List ℕ) (t : ScriptTree) → IsAccepted text t → Spells 32 (printed_script t) t
 printed_spells text t a = record { decls = declarations_of t.actors t.roots; spelled = again text t a; is = tree_again t }
 
-pub printed_accepted : (text : List ℕ) (t : ScriptTree) → IsAccepted text t → length (printed_script t) ≤ 65536 → IsAccepted (printed_script t) t
+pub printed_accepted : (text : List ℕ) (t : ScriptTree) → IsAccepted text t → length (printed_script t) ≤ BYTES → IsAccepted (printed_script t) t
 printed_accepted text t a short =
     let actors : actors_in (declarations_of t.actors t.roots) ≡ actors_in a.decls = actors_of t.actors t.roots ∙ ap (λ (u : ScriptTree). u.actors) a.is in
     record {

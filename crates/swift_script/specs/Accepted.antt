@@ -1,5 +1,6 @@
 -- Which texts are accepted.
 use Rattle.std.specs.Prelude.{◌≡◌, ◌≤◌, ℕ, true, false, Some, None, List, length}
+use Rattle.swift_types.specs.declared.limits.TheConstants.{BYTES}
 use Rattle.script_tokens.specs.Bytes.{is_text}
 use Rattle.script_tokens.specs.Pieces.{Piece}
 use Rattle.script_tokens.specs.Lexes.{Lexes}
@@ -27,7 +28,7 @@ pub record Spells (limit : ℕ) (text : List ℕ) (tree : ScriptTree) : Type 0 w
 
 -- A text is accepted: it is short and plain, spells the tree, and breaks no rule.
 pub record IsAccepted (text : List ℕ) (tree : ScriptTree) : Type 0 where
-  pub short : length text ≤ 65536
+  pub short : length text ≤ BYTES
   pub plain : is_text text ≡ true
   pub decls : List DeclTree
   pub spelled : SpellsDecls nesting text decls
@@ -45,7 +46,7 @@ SpellsNothing text = (decls : List DeclTree) → SpellsDecls nesting text decls 
 
 -- A text has at most 65,536 bytes, and only those that a text may have.
 pub record IsPlain (text : List ℕ) : Type 0 where
-  pub short : length text ≤ 65536
+  pub short : length text ≤ BYTES
   pub bytes : is_text text ≡ true
 
 -- What a plain text spells has this as the first fault of its names and counts.

@@ -1,6 +1,7 @@
 -- On which line each refusal of a text stands.
 use Rattle.std.specs.Prelude.{◌≡◌, ◌<◌, ◌≤◌, ◌-◌, ℕ, Option, Some, None, if◌then◌else◌, List, [], ◌∷◌, map, length, slice_index_or}
 use Rattle.std.specs.List.{take_while}
+use Rattle.swift_types.specs.declared.limits.TheConstants.{BYTES}
 use Rattle.script_tokens.specs.Bytes.{is_text_byte}
 use Rattle.script_tokens.specs.Lines.{line_feeds, line_behind, BeginOn}
 use Rattle.script_grammar.specs.declared.declared.Invariant.{Invariant}
@@ -95,7 +96,7 @@ StandsOn kind.UnknownName text line = NameStandsOn text Unknown line
 StandsOn kind.Arguments text line = NameStandsOn text OtherCount line
 StandsOn kind.InvariantFalse text line = InvariantStandsOn text line
 -- a text that is too long is not read; else it is the name of an actor or a root too many
-StandsOn kind.LimitPassed text line = (65536 < length text → line ≡ 1) × (length text ≤ 65536 → NameStandsOn text TooMany line)
+StandsOn kind.LimitPassed text line = (BYTES < length text → line ≡ 1) × (length text ≤ BYTES → NameStandsOn text TooMany line)
 StandsOn kind.EndsEarly text line = SomeTokenOn text line
 StandsOn kind.TooDeep text line = SomeTokenOn text line
 StandsOn kind.Memory text line = line ≡ 0

@@ -1,5 +1,6 @@
 -- What each refusal says of a text.
 use Rattle.std.specs.Prelude.{◌≡◌, ◌⊎◌, ◌<◌, ◌≤◌, ℕ, false, List, length}
+use Rattle.swift_types.specs.declared.limits.TheConstants.{BYTES}
 use Rattle.script_tokens.specs.Bytes.{is_text}
 use Rattle.script_grammar.specs.declared.fault.Kind.{Kind}
 use Rattle.script_grammar.specs.declared.fault.Kind.TheVariants as grammar
@@ -21,14 +22,14 @@ HasNoTree text = IsPlain text × SpellsNothing text
 
 -- The cause of a refusal, of which none that is looked for before it is met; want of memory says nothing of the text.
 abbrev pub Refuses : ScriptFaultKind → List ℕ → Type 0
-Refuses kind.NotText text = (length text ≤ 65536) × (is_text text ≡ false)
+Refuses kind.NotText text = (length text ≤ BYTES) × (is_text text ≡ false)
 Refuses kind.Unexpected text = HasNoTree text
 Refuses kind.OutOfRange text = HasNoTree text
 Refuses kind.NameTwice text = HasFault text Twice
 Refuses kind.UnknownName text = HasFault text Unknown
 Refuses kind.Arguments text = HasFault text OtherCount
 Refuses kind.InvariantFalse text = StartsFalse text
-Refuses kind.LimitPassed text = (65536 < length text) ⊎ HasFault text TooMany
+Refuses kind.LimitPassed text = (BYTES < length text) ⊎ HasFault text TooMany
 Refuses kind.EndsEarly text = HasNoTree text
 Refuses kind.TooDeep text = HasNoTree text
 Refuses kind.Memory text = Unit {0}

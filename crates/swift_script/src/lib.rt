@@ -22,7 +22,6 @@ pub use fault::{ScriptFault, ScriptFaultKind};
 pub use printed::print_script;
 pub use reading::read;
 pub use script::Script;
-pub use spelled::LONGEST;
 
 #[cfg(test)]
 mod tests;

@@ -9,6 +9,7 @@ ghost use Rattle.swift_script.specs.Printed.{printed_script};
 use crate::script::Script;
 use std::alloc::{AllocError, Global};
 use script_printing::print;
+use swift_types::limits::BYTES;
 
 /// The printed form of a script: its actors and then its roots, each in text order and on one line that an LF ends, with
 /// one space between two tokens. Each use of an operator stands in a parenthesis, and other expressions in none. Roots are
@@ -22,7 +23,7 @@ pub fn print_script(alloc: Global, script: &Script) -> Result<String, AllocError
     // It spells this script within the limits.
     ensures spelled { IfOk result (λ text. Spells nesting (string_bytes text) (tree_of script.now)) }
     // It is accepted as this script, unless it is too long.
-    ensures accepted { IfOk result (λ text. length (string_bytes text) ≤ 65536 → IsAccepted (string_bytes text) (tree_of script.now)) }
+    ensures accepted { IfOk result (λ text. length (string_bytes text) ≤ BYTES → IsAccepted (string_bytes text) (tree_of script.now)) }
 {
     let (actors, roots) = script.declarations();
     let bytes = print(alloc, actors, roots)?;

@@ -16,6 +16,7 @@ use std::marker::Model;
 use script_equality::{same_actors, same_roots};
 use script_grammar::{Actor, Root};
 use script_code::{Formula, Instruction};
+use swift_types::limits::ACTORS;
 use swift_types::{ActorId, MethodId, Priority, RootId};
 
 /// A script that `read` accepted: no rule on its names, counts and invariants is broken, and its methods are lines.
@@ -76,7 +77,7 @@ impl Script {
     /// How many actors there are, at most 64.
     pub fn actor_count(&self) -> usize
         ensures count { result ≡ actor_count self.now }
-        ensures few { result ≤ 64 }
+        ensures few { result ≤ ACTORS }
     {
         self.actors.len()
     }

@@ -13,9 +13,7 @@ use crate::lines::Lines;
 use std::alloc::Global;
 use script_grammar::{Decl, Kind, ReadError, declarations};
 use script_tokens::{Tokens, stray_line, tokens};
-
-/// The most bytes that a script may have.
-pub const LONGEST: usize = 65_536;
+use swift_types::limits::BYTES;
 
 /// The declarations of a text, and on which lines its tokens stand.
 #[derive(Drop)]
@@ -31,7 +29,7 @@ pub(crate) fn spell(alloc: Global, text: &[u8]) -> Result<Spelled, ScriptFault>
     ensures refused { IfErr result (λ e. Refuses e.kind text.now) }
     ensures line { IfErr result (λ e. IsAtItsLine e text.now) }
 {
-    if text.len() > LONGEST {
+    if text.len() > BYTES {
         return Err(fault(1, ScriptFaultKind::LimitPassed));
     }
     if let Some(line) = stray_line(text) {
@@ -45,7 +43,7 @@ pub(crate) fn spell(alloc: Global, text: &[u8]) -> Result<Spelled, ScriptFault>
 
 // The declarations that a text's tokens spell.
 fn parse(alloc: Global, text: &[u8], found: Tokens) -> Result<Spelled, ScriptFault>
-    requires short { length text.now ≤ 65536 }
+    requires short { length text.now ≤ BYTES }
     requires plain { is_text text.now ≡ true }
     requires lexed { Lexes text.now (map piece found.tokens.items) }
     requires begun { BeginOn text.now text.now found.lines.items }

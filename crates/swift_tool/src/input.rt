@@ -7,7 +7,7 @@ ghost use Rattle.swift_tool.specs.Input.{IsInputFault, TakesMore};
 use crate::fault::ToolFault;
 use std::alloc::Global;
 use std::io::Read;
-use swift_script::LONGEST;
+use swift_types::limits::BYTES;
 
 /// Reads to the end, or until there is one byte more than the longest script has: at most 65,537 bytes are taken.
 ///
@@ -19,14 +19,14 @@ use swift_script::LONGEST;
 /// then is lost.
 pub fn read_input<R: Read>(alloc: Global, from: &mut R) -> Result<Vec<u8>, ToolFault>
     ensures taken { IfOk result (λ text. Consumes (R.remaining from.old) (R.remaining from.new) text.items) }
-    ensures most { IfOk result (λ text. vec_len text ≤ LONGEST + 1) }
-    ensures whole { IfOk result (λ text. vec_len text ≤ LONGEST → IsAtEnd (R.remaining from.new)) }
+    ensures most { IfOk result (λ text. vec_len text ≤ BYTES + 1) }
+    ensures whole { IfOk result (λ text. vec_len text ≤ BYTES → IsAtEnd (R.remaining from.new)) }
     ensures refused { IfErr result IsInputFault }
 {
     let mut text = Vec::new(alloc);
     let mut chunk = [0; 4_096];
-    while text.len() <= LONGEST {
-        let room = (LONGEST + 1 - text.len()).min(chunk.len());
+    while text.len() <= BYTES {
+        let room = (BYTES + 1 - text.len()).min(chunk.len());
         if read_more(from, &mut chunk[..room], &mut text)? == 0 {
             return Ok(text);
         }

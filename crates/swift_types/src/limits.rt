@@ -9,3 +9,15 @@ pub const FRAMES: usize = 64;
 
 /// How many turns of a task may run statements.
 pub const TURNS: u32 = 1_000;
+
+/// How many tasks a run may have, those of the roots included.
+pub const TASKS: usize = 1_024;
+
+/// How many tasks a turn may make.
+pub const MADE: usize = 16;
+
+/// How many actors a script may have.
+pub const ACTORS: usize = 64;
+
+/// How many bytes a script may have.
+pub const BYTES: usize = 65_536;

@@ -1,6 +1,7 @@
 use Rattle.std.proofs.Common.{◌≡◌, ◌≤◌, ℕ, List, length, rules, sym, subst}
 use Rattle.std.specs.Str.{IsUtf8}
 use Rattle.std.specs.String.{string_bytes}
+use Rattle.swift_types.specs.declared.limits.TheConstants.{BYTES}
 use Rattle.swift_script.specs.Scripts.{tree_of}
 use Rattle.swift_script.specs.Accepted.{Spells, IsAccepted}
 use Rattle.swift_script.specs.Printed.{printed_script}
@@ -26,4 +27,4 @@ returns-clause-accepted c = λ short.
     let tree = tree_of c.args.script.now in
     let was = c.declarations.ensures.read in
     let same : printed_script tree ≡ string_bytes c.unwrap.result = search rules in
-    subst (λ (text : List ℕ). IsAccepted text tree) same (printed_accepted was.0 tree was.1 (subst (λ (text : List ℕ). length text ≤ 65536) (sym same) short))
+    subst (λ (text : List ℕ). IsAccepted text tree) same (printed_accepted was.0 tree was.1 (subst (λ (text : List ℕ). length text ≤ BYTES) (sym same) short))
