@@ -14,9 +14,9 @@ use script_grammar::{Actor, Decl, Method, Name};
 use std::alloc::{AllocError, Global};
 use std::marker::Model;
 
-/// The actors of a script and their methods, wherever in the text they stand. Of two of one name the first one counts; a
-/// second actor of a name adds nothing, its methods neither. A method is kept under its actor's place and its own name, so
-/// memory is linear in the names of the text (our own).
+/// The actors of a script and their methods, wherever in the text they stand. Of two of one name the first one counts;
+/// a second actor of a name adds nothing, its methods neither. A method is kept under its actor's place and its own
+/// name, so memory is linear in the names of the text (our own).
 #[derive(Drop)]
 pub struct Declared {
     actors: Names,
@@ -60,8 +60,8 @@ impl Declared {
         self.actors.place(name)
     }
 
-    /// The place of an actor's method among the methods of all actors, in time linear in both names. `Err` says that there
-    /// was no memory.
+    /// The place of an actor's method among the methods of all actors, in time linear in both names. `Err` says that
+    /// there was no memory.
     pub fn method(
         &self,
         alloc: Global,

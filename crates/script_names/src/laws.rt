@@ -13,8 +13,8 @@ pub fn nothing_left_out()
     ensures { (decls : List DeclTree) → names_fault decls ≡ None → directory_of decls ≡ declared_in decls }
 {}
 
-/// The rules with places and the rules without agree: whether there is an error, and of which kind, is a property of the
-/// tree.
+/// A law: the rules with places and the rules without agree. Whether there is an error, and of which kind, is a
+/// property of the tree. It does nothing.
 pub fn one_kind()
     ensures { (decls : List Decl) → kind_in (names_error decls) ≡ names_fault (map view_decl decls) }
 {}

@@ -1,5 +1,5 @@
 -- On which line a refusal stands.
-use Rattle.std.proofs.Common.{◌≡◌, ℕ, zero, suc, ◌+◌, ◌≤◌, ◌<◌, ◌-◌, Bool, true, false, Option, Some, None, List, [], ◌∷◌, map, length, take, drop, get_or, slice_get, IsSomeAnd, add-one, refl, sym, ap, subst, ◌∙◌, arith}
+use Rattle.std.proofs.Common.{◌≡◌, ℕ, zero, suc, ◌+◌, ◌≤◌, ◌<◌, ◌-◌, Bool, true, false, Some, List, [], ◌∷◌, map, length, take, drop, get_or, slice_get, IsSomeAnd, add-one, refl, sym, ap, subst, ◌∙◌, arith}
 use Rattle.std.specs.Prelude.{◌&&◌, slice_index_or, if◌then◌else◌}
 use Rattle.std.proofs.lemmas.Bool.{and_parts, and_from}
 use Rattle.swift_types.specs.declared.limits.TheConstants.{BYTES}
@@ -20,11 +20,10 @@ use Rattle.script_names.specs.Errors.{names_error}
 use Rattle.script_names.specs.Finds.{IsError}
 use Rattle.swift_script.specs.declared.compiled.CompiledActor.{CompiledActor}
 use Rattle.swift_script.specs.declared.fault.ScriptFaultKind.{ScriptFaultKind}
-use Rattle.swift_script.specs.declared.fault.ScriptFaultKind.TheVariants as kind
 use Rattle.swift_script.specs.declared.lines.Lines.{Lines}
 use Rattle.swift_script.specs.Script.{starts_well}
 use Rattle.swift_script.specs.Compiled.{ActorIs, actor_is, compiled_actor, all_hold}
-use Rattle.swift_script.specs.FaultLines.{BeginsOn, SomeTokenOn, AreLines, line_in, last_line, SpellsPlaced, NameStandsOn, keyword_left, keyword_at, false_invariant, actors_among, InvariantStandsOn, StandsOn}
+use Rattle.swift_script.specs.FaultLines.{BeginsOn, SomeTokenOn, AreLines, line_in, SpellsPlaced, NameStandsOn, keyword_left, keyword_at, false_invariant, actors_among, InvariantStandsOn, StandsOn}
 use Rattle.swift_script.proofs.Compiling.{cut}
 use Rattle.swift_script.specs.Refuses.{names_kind, check_kind, check_line, grammar_kind, read_kind, read_line}
 
@@ -103,8 +102,7 @@ pub loop_goes_on : (xs : List CompiledActor) (k : ℕ) (x : CompiledActor) → k
 loop_goes_on xs k x lt e after before h =
     let one : k + 1 ≡ suc k = add-one k in
     let rest : all_hold (map actor_is (drop k xs)) ≡ all_hold (map actor_is (drop (suc k) xs)) =
-    ap (λ (zs : List CompiledActor). all_hold (map actor_is zs)) (cut xs k x lt e) ∙ ap (λ (b : Bool). b && all_hold (map actor_is (drop (suc k) xs))) h in
-    (
+    ap (λ (zs : List CompiledActor). all_hold (map actor_is zs)) (cut xs k x lt e) ∙ ap (λ (b : Bool). b && all_hold (map actor_is (drop (suc k) xs))) h in (
       ap (λ (n : ℕ). all_hold (map actor_is (drop n xs))) one ∙ sym rest ∙ after,
       ap (λ (n : ℕ). all_hold (take n (map actor_is xs))) one ∙ one_more_holds xs k x lt e before h,
     )

@@ -23,8 +23,8 @@ use Rattle.swift_script.specs.Accepted.{nesting, IsPlain, SpellsDecls}
 abbrev pub last_line : List ℕ → ℕ
 last_line text = line_behind (line_feeds text)
 
--- The token at which so many tokens are left, itself included, begins on this line. Where none is left, it is the line on
--- which the text ends.
+-- The token at which so many tokens are left, itself included, begins on this line. Where none is left, it is the
+-- line on which the text ends.
 pub record BeginsOn (text : List ℕ) (left line : ℕ) : Type 0 where
   pub lines : List ℕ
   pub begun : BeginOn text text lines
@@ -43,12 +43,13 @@ pub record AreLines (text : List ℕ) (kept : Lines) : Type 0 where
 abbrev pub line_in : Lines → ℕ → ℕ
 line_in kept left = slice_index_or kept.lines.items (length kept.lines.items - left) kept.last
 
--- A plain text spells these declarations, whose names and invariants have their places.
+-- A plain text spells these declarations, in which each name and each invariant has a place: how many tokens are left
+-- there. That just that name stands at its place is not said yet: the grammar speaks of trees without places.
 pub record SpellsPlaced (text : List ℕ) (decls : List Decl) : Type 0 where
   pub plain : IsPlain text
   pub spelled : SpellsDecls nesting text (map view_decl decls)
 
--- A fault of the names stands on the line of the name that is concerned.
+-- A fault of the names stands on the line of the name that is concerned, by its place.
 pub record NameStandsOn (text : List ℕ) (kind : NameErrorKind) (line : ℕ) : Type 0 where
   pub decls : List Decl
   pub spelled : SpellsPlaced text decls
@@ -77,7 +78,7 @@ abbrev pub false_invariant : List Actor → Option ℕ
 false_invariant [] = None
 false_invariant (a ∷ others) = if starts_well (view_actor a) then false_invariant others else Some (keyword_left a.invariant)
 
--- An invariant that is false at the start stands on the line of its keyword.
+-- An invariant that is false at the start stands on the line of its keyword, by its place.
 pub record InvariantStandsOn (text : List ℕ) (line : ℕ) : Type 0 where
   pub decls : List Decl
   pub spelled : SpellsPlaced text decls
@@ -85,7 +86,7 @@ pub record InvariantStandsOn (text : List ℕ) (line : ℕ) : Type 0 where
   pub first : false_invariant (actors_among decls) ≡ Some left
   pub on : BeginsOn text left line
 
--- the line of a refusal, by its kind
+-- the line of a refusal, by its kind: one of the grammar stands on the line of some token
 abbrev pub StandsOn : ScriptFaultKind → List ℕ → ℕ → Type 0
 -- the first byte outside text: the LFs before it count
 StandsOn kind.NotText text line = line ≡ line_behind (line_feeds (take_while is_text_byte text))

@@ -8,8 +8,8 @@ mod fault;
 // What holds of the definitions.
 pub mod laws;
 mod lines;
-mod naming;
 mod names;
+mod naming;
 mod printed;
 mod reading;
 mod script;

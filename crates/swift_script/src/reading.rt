@@ -19,9 +19,9 @@ use crate::script::Script;
 use crate::spelled::{Spelled, fault, spell};
 use crate::split::split;
 use crate::start::first_false;
-use std::alloc::Global;
 use script_grammar::{Actor, Decl};
 use script_names::Declared;
+use std::alloc::Global;
 
 /// The script that a text spells (the language is our own), in time and memory linear in the text.
 ///
@@ -35,7 +35,8 @@ pub fn read(alloc: Global, bytes: &[u8]) -> Result<Script, ScriptFault>
     ensures accepted { (tree : ScriptTree) → IsAccepted bytes.now tree → IsReadAs tree result }
     // Each refusal stands for its own cause, and for none that is looked for before it.
     ensures refused { IfErr result (λ e. Refuses e.kind bytes.now) }
-    // It stands on the line of what it is about; out of memory stands on line 0.
+    // It stands on the line of the first byte outside text, of the first name that is concerned, or of the first
+    // invariant that is false at the start; one of the grammar on that of some token; out of memory on line 0.
     ensures line { IfErr result (λ e. IsAtItsLine e bytes.now) }
 {
     accept(alloc, bytes)

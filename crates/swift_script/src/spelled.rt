@@ -10,9 +10,9 @@ ghost use Rattle.swift_script.specs.Refuses.{Refuses, grammar_kind, read_kind, r
 
 use crate::fault::{ScriptFault, ScriptFaultKind};
 use crate::lines::Lines;
-use std::alloc::Global;
 use script_grammar::{Decl, Kind, ReadError, declarations};
 use script_tokens::{Tokens, stray_line, tokens};
+use std::alloc::Global;
 use swift_types::limits::BYTES;
 
 /// The declarations of a text, and on which lines its tokens stand.
