@@ -23,6 +23,3 @@ pub use directory::Declared;
 pub use laws::nothing_left_out;
 pub use error::{NameError, NameErrorKind, CheckError};
 pub use texts::Names;
-
-#[cfg(test)]
-mod tests;

@@ -11,11 +11,11 @@ ghost use Rattle.swift_script.specs.Compiled.{method_is, compiled_of, actor_is, 
 ghost use Rattle.swift_script.specs.WellScoped.{IsWellScoped, AreWellScoped, AreActorsWellScoped, CallMethods};
 
 use crate::compiled::{CompiledActor, CompiledMethod};
-use std::alloc::{AllocError, Global};
-use script_grammar::{Actor, Field, Invariant, Method, Root};
 use script_code::Formula;
+use script_grammar::{Actor, Field, Invariant, Method, Root};
 use script_lowering::{field_places, formula, lower};
 use script_names::{Declared, Names};
+use std::alloc::{AllocError, Global};
 use swift_types::{ActorId, MethodId};
 
 /// What turns need of a script's actors.

@@ -8,8 +8,8 @@ mod fault;
 // What holds of the definitions.
 pub mod laws;
 mod lines;
-mod naming;
 mod names;
+mod naming;
 mod printed;
 mod reading;
 mod script;
@@ -23,6 +23,3 @@ pub use printed::print_script;
 pub use reading::read;
 pub use script::Script;
 pub use spelled::LONGEST;
-
-#[cfg(test)]
-mod tests;

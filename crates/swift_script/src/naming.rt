@@ -11,12 +11,16 @@ ghost use Rattle.swift_script.specs.Refuses.{Refuses, names_kind, check_kind};
 use crate::fault::{ScriptFault, ScriptFaultKind};
 use crate::lines::Lines;
 use crate::spelled::fault;
-use std::alloc::Global;
 use script_grammar::Decl;
-use script_names::{Declared, NameErrorKind, CheckError, check};
+use script_names::{CheckError, Declared, NameErrorKind, check};
+use std::alloc::Global;
 
 /// What the declarations declare, where their names are in order.
-pub(crate) fn check_names(alloc: Global, decls: &[Decl], lines: &Lines) -> Result<Declared, ScriptFault>
+pub(crate) fn check_names(
+    alloc: Global,
+    decls: &[Decl],
+    lines: &Lines,
+) -> Result<Declared, ScriptFault>
     ensures names { IfOk result (λ d. names_fault (map view_decl decls.now) ≡ None) }
     ensures directory { IfOk result (λ d. d ≡ directory_of (map view_decl decls.now)) }
     ensures refused { (text : List ℕ) → IsPlain text → SpellsDecls 32 text (map view_decl decls.now) → IfErr result (λ e. Refuses e.kind text) }

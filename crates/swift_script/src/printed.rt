@@ -7,8 +7,8 @@ ghost use Rattle.swift_script.specs.Accepted.{Spells, IsAccepted, nesting};
 ghost use Rattle.swift_script.specs.Printed.{printed_script};
 
 use crate::script::Script;
-use std::alloc::{AllocError, Global};
 use script_printing::print;
+use std::alloc::{AllocError, Global};
 
 /// The printed form of a script: its actors and then its roots, each in text order and on one line that an LF ends, with
 /// one space between two tokens. Each use of an operator stands in a parenthesis, and other expressions in none. Roots are

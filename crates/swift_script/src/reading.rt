@@ -19,9 +19,9 @@ use crate::script::Script;
 use crate::spelled::{Spelled, fault, spell};
 use crate::split::split;
 use crate::start::first_false;
-use std::alloc::Global;
 use script_grammar::{Actor, Decl};
 use script_names::Declared;
+use std::alloc::Global;
 
 /// The script that a text spells (the language is our own), in time and memory linear in the text.
 ///

@@ -12,10 +12,10 @@ ghost use Rattle.swift_script.specs.Scripts.{tree_of, directory_in, entry_at, me
 
 use crate::compile::Compiled;
 use crate::compiled::{CompiledActor, CompiledMethod};
-use std::marker::Model;
+use script_code::{Formula, Instruction};
 use script_equality::{same_actors, same_roots};
 use script_grammar::{Actor, Root};
-use script_code::{Formula, Instruction};
+use std::marker::Model;
 use swift_types::{ActorId, MethodId, Priority, RootId};
 
 /// A script that `read` accepted: no rule on its names, counts and invariants is broken, and its methods are lines.

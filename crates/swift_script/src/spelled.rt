@@ -11,9 +11,9 @@ ghost use Rattle.swift_script.specs.Refuses.{Refuses, grammar_kind, read_kind};
 
 use crate::fault::{ScriptFault, ScriptFaultKind};
 use crate::lines::Lines;
-use std::alloc::Global;
 use script_grammar::{Decl, Kind, ReadError, declarations};
 use script_tokens::{Tokens, stray_line, tokens};
+use std::alloc::Global;
 
 /// The most bytes that a script may have.
 pub const LONGEST: usize = 65_536;

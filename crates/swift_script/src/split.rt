@@ -4,8 +4,8 @@ ghost use Rattle.std.specs.Prelude.{◌≡◌, map, IfOk};
 ghost use Rattle.script_grammar.specs.Tree.{view_actor, view_root, view_decl};
 ghost use Rattle.swift_script.specs.Script.{actors_in, roots_in};
 
-use std::alloc::{AllocError, Global};
 use script_grammar::{Actor, Decl, Root};
+use std::alloc::{AllocError, Global};
 
 /// The actors and the roots, each in text order.
 pub(crate) fn split(alloc: Global, decls: Vec<Decl>) -> Result<(Vec<Actor>, Vec<Root>), AllocError>
