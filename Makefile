@@ -1,16 +1,33 @@
-test:
-	rt ci
-
+SCRIPT = examples/account.actors
 PROGRAM = crates/swiftrun/out/swiftrun
 SOURCES = $(shell find crates -name out -prune -o \( -name '*.rt' -o -name '*.antt' \) -print)
 
+# Runs a script without a proof: make try SCRIPT=examples/account.actors. Status 0 also where a task ended with a fault.
+try:
+	@echo 'make try: nothing is proved by this; make run proves first' >&2
+	@said=$$(mktemp); (cd crates/swiftrun && rt try --steps 1) < $(SCRIPT) 2> $$said; status=$$?; \
+	if [ $$status -gt 1 ]; then cat $$said >&2; fi; rm $$said; [ $$status -le 1 ]
+
 # Proves the program, and what it stands on where that has changed, and builds it.
 $(PROGRAM): crates.txt $(SOURCES)
-	cd crates/swiftrun && rt run > /dev/null && touch out/swiftrun
+	@tools/prove.py swiftrun
+	@cd crates/swiftrun && rt run < /dev/null > /dev/null 2> ../../out/prove/build.log && touch out/swiftrun
 
-# Runs a script: make run SCRIPT=examples/account.actors. That a task ended with a fault, the status 1, is no failure here.
+# Runs a script with the proved program. Status 0 also where a task ended with a fault.
 run: $(PROGRAM)
 	@$(PROGRAM) $(ARGS) < $(SCRIPT) || test $$? -eq 1
+
+# The gate.
+test:
+	@tools/gate.sh
+
+# Proves every crate, and keeps the work for the next time.
+prove:
+	@tools/prove.py
+
+# Tries the planted bugs that the gate leaves out: make mutants CRATES="swift_turn script_names" (all).
+mutants:
+	@tools/mutants.sh $(CRATES)
 
 # Runs each example, and compares what it prints with the text that stands beside it.
 examples: $(PROGRAM)
@@ -22,13 +39,13 @@ examples: $(PROGRAM)
 # More allocations than a run of test_allocations makes.
 ALLOCATIONS = 1700
 
-# Runs test_allocations once for each of its allocations, with that one refused, and compares what it writes with its file
-# stdout. Each run has a file with the number of allocations that are made and given back first; the run of the file 0
-# has to be refused none. The last line counts the runs: all of them have ended, and none differs. It takes a quarter of
-# an hour.
+# Runs test_allocations once for each STEP-th of its allocations, with that one refused, and compares what it writes with
+# its file stdout. A run's file has the number of allocations that are made and given back first; the run of the file 0
+# has to be refused none. With STEP=1 it takes a quarter of an hour.
+STEP = 1
 refusals:
 	@cases=$$(mktemp -d); \
-	for n in $$(seq 0 $$(($(ALLOCATIONS) - 1))); do \
+	for n in 0 $$(seq 1 $(STEP) $$(($(ALLOCATIONS) - 1))); do \
 		echo $$n > $$cases/$$n; cp crates/test_allocations/stdout $$cases/$$n.stdout; \
 	done; \
 	rm $$cases/0.stdout; \
@@ -39,14 +56,23 @@ refusals:
 	rm -r $$cases $$cases.out; \
 	exit $$status
 
+# A sample of them.
+refusals-sample:
+	@$(MAKE) --no-print-directory refusals STEP=60
+
+# Whether what the documents link to is there.
+links:
+	@tools/links.py
+
 MEASURE = crates/bench_parts/out/bench_parts
 
 # Its run on the stored words is not shown.
 $(MEASURE): crates.txt $(SOURCES)
-	cd crates/bench_parts && rt run -- nothing 1 > /dev/null && touch out/bench_parts
+	@tools/prove.py bench_parts
+	@cd crates/bench_parts && rt run -- nothing 1 > /dev/null 2> ../../out/prove/build.log && touch out/bench_parts
 
 # Measures, and asserts nothing: builds both programs, and prints tables.
-bench:
+bench: $(PROGRAM) $(MEASURE)
 	@python3 bench/run.py
 
-.PHONY: test run examples refusals bench
+.PHONY: try run test prove mutants examples refusals refusals-sample links bench

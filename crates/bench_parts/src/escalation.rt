@@ -18,8 +18,8 @@ pub fn events(entries: u32) -> u32
     entries + OPERATIONS + 6
 }
 
-// How long a million operations take on tasks that wait for one another in a ring, with three raises of the whole ring at
-// the end. A raise goes along every wait.
+// How long a million operations take on tasks that wait for one another in a ring, with three raises of the whole ring
+// at the end. A raise goes along every wait.
 pub fn measure(rt: &HostRuntime, entries: u32) -> Result<Duration, BenchFault>
     requires some { 0 < entries }
     requires few { entries ≤ 65536 }

@@ -1,9 +1,9 @@
-//! Makes a million operations on one value of a part of the runtime, and says how long they took; or takes a script from
-//! standard input as far as a stage of a run. It measures, and asserts nothing about time.
+//! Makes a million operations on one value of a part of the runtime, and says how long they took; or takes a script
+//! from standard input as far as a stage of a run. It measures, and asserts nothing about time.
 //!
-//! Two words name a part and how many entries are inside, as `queue 1024`; one word names a stage, as `run`. What was done
-//! goes to standard output, and the microseconds that it took to standard error, so that the output is always the same.
-//! Status 2 stands for words that were refused, 1 for a measure that was given up.
+//! Two words name a part and how many entries are inside, as `queue 1024`; one word names a stage, as `run`. What was
+//! done goes to standard output, and the microseconds that it took to standard error, so that the output is always the
+//! same. Status 2 stands for words that were refused, 1 for a measure that was given up.
 #![tactic(auto)]
 
 // A million waits between tasks.

@@ -1,4 +1,4 @@
-//! What a turn is told of its task.
+//! What a turn is given of its task.
 
 use swift_types::Priority;
 

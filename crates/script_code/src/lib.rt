@@ -1,4 +1,5 @@
-//! Methods as numbered instructions: what each line does, which instructions may follow it, and what its formulas are worth.
+//! Methods as numbered instructions: what each instruction does, which instructions may follow it, and what its
+//! formulas are worth.
 #![tactic(auto)]
 
 mod env;

@@ -35,7 +35,7 @@ before_then d fields variables (Return t) rest = refl
 before_then d fields variables (Throw t) rest = refl
 before_then d fields variables Yield rest = refl
 
--- the first line of a statement is where it stands
+-- the first instruction of a statement is where it stands
 start_set : (place : Place) (t : Term) (rest : Code) (p q : ℕ) → start (set_at place t rest) p q ≡ p
 start_set (Variable k) t rest p q = refl
 start_set (Field k) t rest p q = refl
@@ -134,7 +134,7 @@ at_item block i s h is = rw (add-one, drop-cons block i s) (ap (λ x. first_then
 rest_all : (i : ℕ) (block : List Stmt) → take (length block - i) (drop i block) ≡ drop i block
 rest_all i block = take_all (length block - i) (drop i block) (omega (arith, length-drop i block))
 
--- no fault behind no fault
+-- no fault after no fault
 none_later : (a b : Option NameErrorKind) → earlier a b ≡ None → b ≡ None
 none_later None b e = e
 none_later (Some m) b e = absurd (cc)

@@ -8,7 +8,7 @@ use Rattle.script_names.specs.Texts.{is_among}
 use Rattle.script_names.specs.Directory.{Directory, directory_of}
 use Rattle.script_names.specs.Rules.{earlier, where_so, optional_fault, fields_fault, field_names, parameters_fault, statements_fault, method_fault, methods_fault, actor_fault, root_fault, declarations_fault, names_fault}
 
--- no fault at the front, and none behind it
+-- no fault at the front, and none after it
 pub none_front : (a b : Option NameErrorKind) → earlier a b ≡ None → a ≡ None
 none_front None b e = refl
 none_front (Some m) b e = e
@@ -51,8 +51,8 @@ script_actor d decls i a e same is =
     let found = actor_in_order (directory_of decls) [] [] decls i a e is in
     (fields_in_order (directory_of decls) found.0 a found.1, ap (λ x. methods_fault x (field_names a.fields) [] a.methods) same ∙ methods_in_order (directory_of decls) found.0 a found.1)
 
--- a method of an actor whose methods are in order, where these methods stand before it: its parameters are distinct, and
--- the names of its statements are in order
+-- a method of an actor whose methods are in order, where these methods stand before it: its parameters are distinct,
+-- and the names of its statements are in order
 pub method_in_order : (d : Directory) (fields seen : List (List ℕ)) (ms : List MethodTree) (i : ℕ) (m : MethodTree)
     → methods_fault d fields seen ms ≡ None → slice_get ms i ≡ Some m
     → (parameters_fault fields [] m.params ≡ None) × (statements_fault d fields m.params (block_tree m.body) ≡ None)

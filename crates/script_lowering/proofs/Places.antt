@@ -11,7 +11,7 @@ one_behind : (b r : Bool) (m n : ℕ) → b || r ≡ false → (r ≡ false → 
 one_behind true r m n e more = absurd (cc)
 one_behind false r m n e more = let k : m ≡ n = more e in omega arith
 
--- the place of a name that stands nowhere is behind the last
+-- the place of a name that stands nowhere is after the last
 pub behind_last : (names : List (List ℕ)) (name : List ℕ) → is_among names name ≡ false → length names ≡ place_of names name
 behind_last [] name e = refl
 behind_last (n ∷ names) name e = one_behind (bytes_eq name n) (is_among names name) (length names) (place_of names name) e (behind_last names name)

@@ -3,7 +3,8 @@ use Rattle.std.proofs.Common.{rules, ◌≡◌, ℕ, ◌+◌, List, [], ◌∷�
 use Rattle.std.proofs.lemmas.List.{length-map}
 use Rattle.std.specs.Prelude.{OnOk, Result, Ok, Err}
 use Rattle.std.specs.Global.{Vec}
-use Rattle.script_grammar.specs.Tree.{If, IfElse, While, BlockTree, block_tree, view, view_stmt}
+use Rattle.script_grammar.specs.Tree.{BlockTree, block_tree, view, view_stmt}
+use Rattle.script_grammar.specs.Tree as tree
 use Rattle.script_grammar.specs.declared.tree.Expr.{Expr}
 use Rattle.script_grammar.specs.declared.tree.Stmt.{Stmt, If, IfElse, While, the_lemmas}
 use Rattle.script_code.specs.Tree.{Term, Code, end, choice, loop}
@@ -15,16 +16,16 @@ use Rattle.script_lowering.specs.Lowered.{lowered, code_before, code_of}
 use Rattle.script_lowering.specs.Sizes.{lines_of, first_instruction}
 use Rattle.script_lowering.proofs.Blocks.{more_lines, start_block, count_block}
 
-pub view-If : (e : Expr) (a : Vec Stmt) → view_stmt (If e a) ≡ If (view e) (block_tree (map view_stmt a.items))
+pub view-If : (e : Expr) (a : Vec Stmt) → view_stmt (If e a) ≡ tree.If (view e) (block_tree (map view_stmt a.items))
 view-If e a = search (rules, the_lemmas)
 
-pub view-IfElse : (e : Expr) (a b : Vec Stmt) → view_stmt (IfElse e a b) ≡ IfElse (view e) (block_tree (map view_stmt a.items)) (block_tree (map view_stmt b.items))
+pub view-IfElse : (e : Expr) (a b : Vec Stmt) → view_stmt (IfElse e a b) ≡ tree.IfElse (view e) (block_tree (map view_stmt a.items)) (block_tree (map view_stmt b.items))
 view-IfElse e a b = search (rules, the_lemmas)
 
-pub view-While : (e : Expr) (a : Vec Stmt) → view_stmt (While e a) ≡ While (view e) (block_tree (map view_stmt a.items))
+pub view-While : (e : Expr) (a : Vec Stmt) → view_stmt (While e a) ≡ tree.While (view e) (block_tree (map view_stmt a.items))
 view-While e a = search (rules, the_lemmas)
 
--- a test line
+-- a test instruction
 abbrev pub test_line : Term → ℕ → ℕ → Meaning
 test_line t held failed = λ at. tests t (at held) (at failed)
 
@@ -32,7 +33,7 @@ one_line : (f : Meaning) (ls ls1 : List Instruction) → map meaning_of ls1 ≡ 
 one_line f ls ls1 e =
     omega (arith, ap length e, length-map ls1 meaning_of, length-map ls meaning_of, length-append (map meaning_of ls) (f ∷ []))
 
--- a line, and a part behind it
+-- an instruction, and a part after it
 behind_line : (f : Meaning) (a : Code) (ls ls1 ls2 : List Instruction) (q : ℕ)
     → map meaning_of ls1 ≡ map meaning_of ls ++ f ∷ []
     → map meaning_of ls2 ≡ map meaning_of ls1 ++ flat a (length ls1) q

@@ -8,8 +8,8 @@ use Rattle.script_code.specs.declared.instruction.Place.{Place}
 use Rattle.script_code.specs.declared.instruction.Place.TheVariants.{Variable, Field}
 use Rattle.script_code.specs.Tree.{Term, number, variable, field, opposite, denial, binary, Code, end, set_variable, set_field, choice, loop, return, throw, yield, call}
 
--- The place that a name stands for: the field of that name, or else the variable. A variable's place is its number among
--- those that stand there, the oldest first.
+-- The place that a name stands for: the field of that name, or else the variable. A variable's place is its number
+-- among those that stand there, the oldest first.
 abbrev pub place_named : List (List ℕ) → List (List ℕ) → List ℕ → Place
 place_named fields variables name = if is_among fields name then Field (place_of fields name) else Variable (place_of variables name)
 
@@ -81,7 +81,7 @@ abbrev mutual
   most_of n nothing = n
   most_of n (first_then s ss) = max (most_in n s) (most_of (standing_behind n s) ss)
 
-  -- how many stand behind a statement
+  -- how many stand after a statement
   pub standing_behind : ℕ → StmtTree → ℕ
   standing_behind n (Let name v) = n + 1
   standing_behind n _ = n

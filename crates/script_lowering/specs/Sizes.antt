@@ -1,8 +1,9 @@
--- How many instructions statements take, and which line is the first, without a look at what their names stand for.
+-- How many instructions statements take, and which instruction is the first, without a look at what their names stand
+-- for.
 use Rattle.std.specs.Prelude.{ℕ, ◌+◌}
 use Rattle.script_grammar.specs.Tree.{ValueTree, Computed, Awaited, StmtTree, Let, Assign, Await, If, IfElse, While, Return, Throw, Yield, BlockTree, nothing, first_then}
 
--- a call takes a line that asks and a line that takes the answer
+-- a call takes an instruction that asks and an instruction that takes the answer
 abbrev pub lines_to : ValueTree → ℕ
 lines_to (Computed t) = 1
 lines_to (Awaited w) = 2
@@ -25,7 +26,7 @@ abbrev mutual
   lines_of nothing = 0
   lines_of (first_then s ss) = lines_in s + lines_of ss
 
--- the first line of statements that stand at line p and are followed by line q
+-- the first instruction of statements that stand at instruction p and are followed by instruction q
 abbrev pub first_instruction : BlockTree → ℕ → ℕ → ℕ
 first_instruction nothing p q = q
 first_instruction (first_then s ss) p q = p

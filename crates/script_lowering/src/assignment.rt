@@ -48,7 +48,8 @@ fn call_of(
     })
 }
 
-/// An awaited call, whose value goes to a place, if there is one: a line that asks and a line that takes the answer.
+/// An awaited call, whose value goes to a place, if there is one: an instruction that asks and an instruction that
+/// takes the answer.
 pub(crate) fn call(
     alloc: Global,
     scope: Scope<'_>,

@@ -18,8 +18,9 @@ use script_grammar::Stmt;
 use script_code::{Act, Instruction, Place, push_instruction};
 use script_names::Names;
 
-/// The instructions of a block, which go on at the line `after`. Its own variables stand to its end. A statement is sized at
-/// most twice for each block that it stands in, of which the grammar allows 32; all else is linear in the statements.
+/// The instructions of a block, which go on at the instruction `after`. Its own variables stand to its end. A statement
+/// is sized at most twice for each block that it stands in, of which the grammar allows 32; all else is linear in the
+/// statements.
 #[cycle(block)]
 pub(crate) fn block(
     alloc: Global,
@@ -43,7 +44,7 @@ pub(crate) fn block(
     Ok(())
 }
 
-// The instructions of a statement, which go on at the line `next`. What it defines stands behind it.
+// The instructions of a statement, which go on at the instruction `next`. What it defines stands after it.
 #[cycle(block)]
 fn statement(
     alloc: Global,

@@ -12,8 +12,8 @@ use script_code::{Formula, Place};
 use script_names::Names;
 
 /// An expression with places for its names, in time linear in its size (our own). A name is the field of that name, or
-/// else the variable; one that stands nowhere is taken as the variable behind the last. An actor's invariant has no
-/// variables. `Err` says that there was no memory, or that a place is to_u32 past 32 bits.
+/// else the variable; one that stands nowhere is taken as the variable after the last. An actor's invariant has no
+/// variables. `Err` says that there was no memory, or that a place is numbered past 32 bits.
 pub fn formula(
     alloc: Global,
     fields: &Names,

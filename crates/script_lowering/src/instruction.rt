@@ -1,4 +1,4 @@
-//! Lines, one by one.
+//! Instructions, one by one.
 
 ghost use Rattle.std.specs.Prelude.{◌≡◌, ◌++◌, length, map, OnOk};
 ghost use Rattle.script_grammar.specs.Tree.{view_stmt, block_tree};
@@ -11,7 +11,7 @@ use std::alloc::AllocError;
 use script_grammar::Stmt;
 use script_code::{Act, Formula, Instruction, Place, push_instruction};
 
-/// The first line of a block that stands at one line and is followed by another.
+/// The first instruction of a block that stands at one instruction and is followed by another.
 pub(crate) fn first_instruction(block: &[Stmt], at: u32, after: u32) -> u32
     ensures { result ≡ first_line_of (block_tree (map view_stmt block.now)) at after }
 {
@@ -21,7 +21,7 @@ pub(crate) fn first_instruction(block: &[Stmt], at: u32, after: u32) -> u32
     }
 }
 
-/// A line that sets a place to a formula.
+/// An instruction that sets a place to a formula.
 pub(crate) fn set(
     instructions: &mut Vec<Instruction>,
     place: Place,

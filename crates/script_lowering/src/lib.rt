@@ -1,4 +1,4 @@
-//! From the trees of a script to what its turns run: to_u32 instructions whose names are places.
+//! From the trees of a script to what its turns run: numbered instructions whose names are places.
 #![tactic(auto)]
 
 // Awaited calls, and what is set to a value.
@@ -7,7 +7,7 @@ mod assignment;
 mod block;
 // Expressions.
 mod expression;
-// Lines, one by one.
+// Instructions, one by one.
 mod instruction;
 // Whole methods.
 mod method;

@@ -20,18 +20,18 @@ use script_names::{Declared, Names};
 /// A method as a turn runs it.
 #[derive(Drop)]
 pub struct Lowered {
-    /// What there is to do, from line 0 on. The last line is the end of the method.
+    /// What there is to do, from instruction 0 on. The last instruction is the end of the method.
     pub instructions: Vec<Instruction>,
     /// How many variables stand at most, the parameters among them. Those have the first places.
     pub slots: u32,
 }
 
-/// The instructions of a method, from what its names stand for: the declarations of the script, the fields of its actor, and
-/// its parameters (our own). Its names have to be in order, as `script_names::check` finds. `Err` says that there was no
-/// memory, or that a line or a place is to_u32 past 32 bits.
+/// The instructions of a method, from what its names stand for: the declarations of the script, the fields of its
+/// actor, and its parameters (our own). Its names have to be in order, as `script_names::check` finds. `Err` says that
+/// there was no memory, or that an instruction or a place is numbered past 32 bits.
 ///
-/// Time and memory are linear in the statements, but that a statement's instructions are counted at most twice for each block
-/// around it.
+/// Time and memory are linear in the statements, but that a statement's instructions are counted at most twice for each
+/// block around it.
 pub fn lower(
     alloc: Global,
     declared: &Declared,
@@ -45,7 +45,7 @@ pub fn lower(
     requires statements { statements_fault declared.now fields.now (map text_of params.now) (block_tree (map view_stmt body.now)) ≡ None }
     // The instructions are those of the method's statements.
     ensures instructions { IfOk result (λ l. map meaning_of l.instructions.items ≡ flat_method (code_of declared.now fields.now (map text_of params.now) (block_tree (map view_stmt body.now)))) }
-    // To follow the instructions from line 0 on is to do the statements.
+    // To follow the instructions from instruction 0 on is to do the statements.
     ensures stands { IfOk result (λ l. Implements l.instructions.items (code_of declared.now fields.now (map text_of params.now) (block_tree (map view_stmt body.now)))) }
     // Each variable has a place, and no place is spare.
     ensures slots { IfOk result (λ l. l.slots ≡ most_of (length params.now) (block_tree (map view_stmt body.now))) }
@@ -60,8 +60,8 @@ pub fn lower(
     Ok(Lowered { instructions, slots })
 }
 
-/// The names of an actor's fields, which have to be distinct, as `script_names::check` finds. By their places its methods
-/// and its invariant name the fields.
+/// The names of an actor's fields, which have to be distinct, as `script_names::check` finds. By their places its
+/// methods and its invariant name the fields.
 pub fn field_places(alloc: Global, fields: &[Field]) -> Result<Names, AllocError>
     requires { fields_fault [] (map view_field fields.now) ≡ None }
     ensures { IfOk result (λ names. names ≡ field_names (map view_field fields.now)) }

@@ -4,8 +4,8 @@ ghost use Rattle.std.specs.Prelude.{◌≡◌, ◌+◌, IfOk};
 
 use std::alloc::AllocError;
 
-/// A count as 32 bits, in which places and instructions are to_u32. A text is too short for a count that does not fit, but
-/// no type says so: for such a count the answer is that there is no memory.
+/// A count as 32 bits, in which places and instructions are numbered. A text is too short for a count that does not
+/// fit, but no type says so: for such a count the answer is that there is no memory.
 pub(crate) fn to_u32(count: usize) -> Result<u32, AllocError>
     ensures { IfOk result (λ n. n ≡ count) }
 {

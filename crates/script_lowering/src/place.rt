@@ -10,7 +10,7 @@ use script_code::Place;
 use script_names::Names;
 
 /// The field of that name, or else the variable, found by hashes. A name that stands nowhere is taken as the variable
-/// behind the last.
+/// after the last.
 pub(crate) fn place(fields: &Names, variables: &Names, name: &[u8]) -> Result<Place, AllocError>
     ensures { IfOk result (λ p. p ≡ place_named fields.now variables.now name.now) }
 {

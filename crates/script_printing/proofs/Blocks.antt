@@ -1,10 +1,11 @@
--- The statements of a block, one behind the other.
+-- The statements of a block, one after the other.
 use Rattle.std.proofs.Common.{◌≡◌, ◌++◌, ◌∷◌, [], ℕ, List, ap, sym, refl, ◌∙◌, ◌+◌, ◌<◌, length, map, take, Vec, Global, rules}
 use Rattle.std.specs.List.{flat_map}
 use Rattle.std.proofs.Math.ListN.{get_or}
 use Rattle.script_grammar.specs.declared.tree.Expr.{Expr}
 use Rattle.script_grammar.specs.declared.tree.Stmt.{Stmt, If, IfElse, While, the_lemmas}
-use Rattle.script_grammar.specs.Tree.{StmtTree, If, IfElse, While, block_tree, view, view_stmt}
+use Rattle.script_grammar.specs.Tree.{StmtTree, block_tree, view, view_stmt}
+use Rattle.script_grammar.specs.Tree as tree
 use Rattle.script_printing.specs.Pieces.{pieces_of_step, pieces_of_steps}
 use Rattle.script_printing.specs.Printed.{after}
 use Rattle.script_printing.proofs.Written.{after_next}
@@ -18,11 +19,11 @@ pub after_next_stmt : (xs : List Stmt) (i : ℕ) (x : Stmt) → i < length xs �
 after_next_stmt xs i x h e start before now p q =
     after_next pieces_of_step view_stmt xs i x h e start before now (p ∙ ap (after start) (pieces-block_tree (map view_stmt (take i xs)))) q ∙ ap (after start) (sym (pieces-block_tree (map view_stmt (take (i + 1) xs))))
 
-pub view_stmt-If : (e : Expr) (a : Vec Stmt Global) → view_stmt (If e a) ≡ If (view e) (block_tree (map view_stmt a.items))
+pub view_stmt-If : (e : Expr) (a : Vec Stmt Global) → view_stmt (If e a) ≡ tree.If (view e) (block_tree (map view_stmt a.items))
 view_stmt-If e a = search (rules, the_lemmas)
 
-pub view_stmt-IfElse : (e : Expr) (a b : Vec Stmt Global) → view_stmt (IfElse e a b) ≡ IfElse (view e) (block_tree (map view_stmt a.items)) (block_tree (map view_stmt b.items))
+pub view_stmt-IfElse : (e : Expr) (a b : Vec Stmt Global) → view_stmt (IfElse e a b) ≡ tree.IfElse (view e) (block_tree (map view_stmt a.items)) (block_tree (map view_stmt b.items))
 view_stmt-IfElse e a b = search (rules, the_lemmas)
 
-pub view_stmt-While : (e : Expr) (a : Vec Stmt Global) → view_stmt (While e a) ≡ While (view e) (block_tree (map view_stmt a.items))
+pub view_stmt-While : (e : Expr) (a : Vec Stmt Global) → view_stmt (While e a) ≡ tree.While (view e) (block_tree (map view_stmt a.items))
 view_stmt-While e a = search (rules, the_lemmas)

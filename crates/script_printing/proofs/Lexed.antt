@@ -164,7 +164,7 @@ spaced_breaks : (ps : List Piece) (bs : List ℕ) → Breaks bs → Breaks (spac
 spaced_breaks [] bs h = h
 spaced_breaks (p ∷ ps) bs h = inl refl
 
--- tokens behind spaces
+-- tokens after spaces
 spaced_lexes : (ps qs : List Piece) (bs : List ℕ) → All IsReadable ps → Breaks bs → Lexes bs qs → Lexes (spaced ps ++ bs) (ps ++ qs)
 spaced_lexes [] qs bs h breaks d = d
 spaced_lexes (p ∷ ps) qs bs h breaks d =

@@ -21,7 +21,7 @@ use Rattle.script_printing.specs.Readable.{IsReadable}
 use Rattle.script_printing.specs.Words.{text_of_keyword, text_of_mark, text_of}
 use Rattle.script_printing.proofs.Lexed.{All-front, All-back, both_true, numerals}
 
--- texts behind one another are a text
+-- texts after one another are a text
 text_append : (front behind : List ℕ) → is_text front ≡ true → is_text behind ≡ true → is_text (front ++ behind) ≡ true
 text_append front behind h k = list_all-append is_text_byte front behind ∙ and_from (is_text front) (is_text behind) h k
 

@@ -70,7 +70,7 @@ value : (limit : ℕ) (ts : List Piece) (v : ValueTree) → IsValue limit ts v �
 value limit ts v (computed d) h = expression d.spelled h
 value limit _ v (awaited {ts} {w} d) h = (tt, wait limit ts w d h.1)
 
--- with a semicolon behind it
+-- with a semicolon after it
 closed : (ps : List Piece) → AreReadable ps → AreReadable (ended ps)
 closed ps h = both ps (Sign mark.Semicolon ∷ []) h (tt, tt)
 

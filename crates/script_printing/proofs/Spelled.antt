@@ -52,7 +52,7 @@ atom (suc o) (Both q a b) h =
 pub expression : (limit opens : ℕ) (t : ExprTree) → IsLow limit t → limit ≤ suc opens → IsExpression limit opens (pieces_of t) t
 expression limit opens t h le = record { spelled = at_level 5 (atom opens t (omega arith)); low = h }
 
--- a list of parts, one behind the other
+-- a list of parts, one after the other
 pub each_of : {A : Type 0} (Is : List Piece → A → Type 0) (f : A → List Piece) (P : A → Type 0) → ((x : A) → P x → Is (f x) x) → (xs : List A) → All P xs → Each Is (flat_map f xs) xs
 each_of Is f P is [] h = no_more
 each_of Is f P is (x ∷ xs) h = one_more (is x (All-head P x xs h)) (each_of Is f P is xs (All-tail P x xs h))

@@ -13,12 +13,12 @@ pub spaced-append : (ps qs : List Piece) → spaced (ps ++ qs) ≡ spaced ps ++ 
 spaced-append [] qs = refl
 spaced-append (p ∷ ps) qs = ap (λ bs. 32 ∷ (text_of p ++ bs)) (spaced-append ps qs) ∙ ap (λ bs. 32 ∷ bs) (sym (append_assoc (text_of p) (spaced ps) (spaced qs)))
 
--- tokens behind tokens
+-- tokens after tokens
 pub after_after : (bytes : List ℕ) (ps qs : List Piece) → after (after bytes ps) qs ≡ after bytes (ps ++ qs)
 unfolding after
 after_after bytes ps qs = append_assoc bytes (spaced ps) (spaced qs) ∙ ap (λ bs. bytes ++ bs) (sym (spaced-append ps qs))
 
--- tokens behind tokens, unless memory ran out
+-- tokens after tokens, unless memory ran out
 pub then_after : {A E : Type 0} (r : Result A E) (start before now : List ℕ) (ps qs : List Piece) → before ≡ after start ps → OnOk r (now ≡ after before qs) → OnOk r (now ≡ after start (ps ++ qs))
 then_after (Ok x) start before now ps qs p q = q ∙ ap (λ bytes. after bytes qs) p ∙ after_after start ps qs
 then_after (Err e) start before now ps qs p q = q

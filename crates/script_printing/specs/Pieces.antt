@@ -54,7 +54,7 @@ pieces_of_value (Awaited w) = Key key.Await ∷ pieces_of_wait w
 abbrev pub braced : List Piece → List Piece
 braced ps = Sign mark.OpenBrace ∷ (ps ++ Sign mark.CloseBrace ∷ [])
 
--- with a semicolon behind it
+-- with a semicolon after it
 abbrev pub ended : List Piece → List Piece
 ended ps = ps ++ Sign mark.Semicolon ∷ []
 
@@ -89,7 +89,7 @@ pieces_of_invariant (Some t) = Key key.Invariant ∷ ended (pieces_of t)
 abbrev pub pieces_of_method : MethodTree → List Piece
 pieces_of_method m = Key key.Func ∷ Name m.name ∷ Sign mark.Open ∷ (listed pieces_of_name m.params ++ Sign mark.Close ∷ braced (pieces_of_steps (block_tree m.body)))
 
--- an actor behind its keyword
+-- an actor after its keyword
 abbrev pub behind_actor : ActorTree → List Piece
 behind_actor a = Name a.name ∷ braced (flat_map pieces_of_field a.fields ++ (pieces_of_invariant a.invariant ++ flat_map pieces_of_method a.methods))
 
@@ -103,7 +103,7 @@ keyword_of_priority High = key.High
 abbrev pub pieces_of_start : RootTree → List Piece
 pieces_of_start r = Name r.actor ∷ Sign mark.Dot ∷ Name r.method ∷ Sign mark.Open ∷ (listed pieces_of_int r.args ++ Sign mark.Close ∷ [])
 
--- A root behind its keyword. Its priority is always printed.
+-- A root after its keyword. Its priority is always printed.
 abbrev pub behind_root : RootTree → List Piece
 behind_root r = Name r.name ∷ Sign mark.Assign ∷ (pieces_of_start r ++ Key key.At ∷ Key (keyword_of_priority r.priority) ∷ Sign mark.Semicolon ∷ [])
 

@@ -6,7 +6,7 @@ use Rattle.script_grammar.specs.Tree.{ActorTree, RootTree}
 use Rattle.script_printing.specs.Words.{text_of}
 use Rattle.script_printing.specs.Pieces.{pieces_of_actor, pieces_of_root}
 
--- tokens, each behind a space
+-- tokens, each after a space
 abbrev pub spaced : List Piece → List ℕ
 spaced [] = []
 spaced (p ∷ ps) = codes " " ++ (text_of p ++ spaced ps)
@@ -20,6 +20,6 @@ line_of (p ∷ ps) = text_of p ++ (spaced ps ++ codes "\n")
 abbrev pub printed : List ActorTree → List RootTree → List ℕ
 printed actors roots = flat_map (λ a. line_of (pieces_of_actor a)) actors ++ flat_map (λ r. line_of (pieces_of_root r)) roots
 
--- what is written, with tokens put behind it
+-- what is written, with tokens put after it
 unfoldable pub after : List ℕ → List Piece → List ℕ
 after bytes ps = bytes ++ spaced ps

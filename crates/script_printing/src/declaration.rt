@@ -96,7 +96,7 @@ impl Write for Method {
     }
 }
 
-/// An actor behind its keyword.
+/// An actor after its keyword.
 #[tactic(auto, using(crate::proofs::Written::after_after))]
 fn write_actor(out: &mut Vec<u8>, actor: &Actor) -> Result<(), AllocError>
     ensures { OnOk result (out.new.items ≡ after out.old.items (behind_actor (view_actor actor.now))) }
@@ -144,7 +144,7 @@ fn write_start(out: &mut Vec<u8>, root: &Root) -> Result<(), AllocError>
     write_sign(out, Mark::Close)
 }
 
-/// A root behind its keyword.
+/// A root after its keyword.
 #[tactic(auto, using(crate::proofs::Written::after_after))]
 fn write_root(out: &mut Vec<u8>, root: &Root) -> Result<(), AllocError>
     ensures { OnOk result (out.new.items ≡ after out.old.items (behind_root (view_root root.now))) }

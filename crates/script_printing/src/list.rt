@@ -20,12 +20,12 @@ pub(crate) trait Write {
     /// The tokens that say it.
     ghost pieces: { View → List Piece };
 
-    /// Puts its tokens behind what is written, each behind a space.
+    /// Puts its tokens after what is written, each after a space.
     fn write(&self, out: &mut Vec<u8>) -> Result<(), AllocError>
         ensures { OnOk result (out.new.items ≡ after out.old.items (pieces (view self.now))) };
 }
 
-/// All of them, one behind the other.
+/// All of them, one after the other.
 #[tactic(auto, using(crate::proofs::Written::after_after, crate::proofs::Written::after_none))]
 pub(crate) fn write_all<T: Write>(out: &mut Vec<u8>, items: &[T]) -> Result<(), AllocError>
     ensures { OnOk result (out.new.items ≡ after out.old.items (flat_map T.pieces (map T.view items.now))) }
@@ -44,7 +44,7 @@ fn write_behind_comma<T: Write>(out: &mut Vec<u8>, item: &T) -> Result<(), Alloc
     item.write(out)
 }
 
-/// Each behind a comma.
+/// Each after a comma.
 #[tactic(auto, using(crate::proofs::Written::after_after, crate::proofs::Written::after_none))]
 fn write_more<T: Write>(out: &mut Vec<u8>, items: &[T]) -> Result<(), AllocError>
     ensures { OnOk result (out.new.items ≡ after out.old.items (flat_map (behind_comma T.pieces) (map T.view items.now))) }

@@ -32,8 +32,9 @@ fn root_lines(out: &mut Vec<u8>, roots: &[Root]) -> Result<(), AllocError>
 /// between two tokens. Each use of an operator stands in a parenthesis, and other expressions in none. Numbers have no
 /// leading zeros. A root is always printed with its priority. An invariant or an `else` that is absent is not printed.
 ///
-/// `Err` says that there was no memory. Time and memory are linear in the printed form. What is printed of a script that
-/// was read is ASCII and reads back as that script (`printed_is_ascii`, `printed_reads_back`). The form is our own.
+/// `Err` says that there was no memory. Time and memory are linear in the printed form. What is printed of a script
+/// that was read is ASCII and reads back as that script (`printed_is_ascii`, `printed_reads_back`). The form is our
+/// own.
 pub fn print(alloc: Global, actors: &[Actor], roots: &[Root]) -> Result<Vec<u8>, AllocError>
     ensures { IfOk result (λ v. v.items ≡ printed (map view_actor actors.now) (map view_root roots.now)) }
 {

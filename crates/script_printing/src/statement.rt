@@ -27,7 +27,7 @@ fn write_call(out: &mut Vec<u8>, call: &Call) -> Result<(), AllocError>
     write_sign(out, Mark::Close)
 }
 
-/// An awaited call, behind its keyword.
+/// An awaited call, after its keyword.
 #[tactic(auto, using(crate::proofs::Written::after_after))]
 fn write_wait(out: &mut Vec<u8>, wait: &Wait) -> Result<(), AllocError>
     ensures { OnOk result (out.new.items ≡ after out.old.items (pieces_of_wait (view_wait wait.now))) }
@@ -146,7 +146,7 @@ pub(crate) fn write_block(out: &mut Vec<u8>, block: &[Stmt]) -> Result<(), Alloc
     write_sign(out, Mark::CloseBrace)
 }
 
-/// Statements, one behind the other.
+/// Statements, one after the other.
 #[cycle(statement)]
 #[tactic(auto, using(crate::proofs::Written::after_none))]
 fn write_stmts(out: &mut Vec<u8>, stmts: &[Stmt]) -> Result<(), AllocError>

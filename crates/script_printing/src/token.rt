@@ -1,4 +1,4 @@
-//! One token, behind a space.
+//! One token, after a space.
 
 ghost use Rattle.std.specs.Prelude.{◌≡◌, ◌++◌, ◌∷◌, [], OnOk, pos};
 ghost use Rattle.std.specs.Fmt.{decimal};

@@ -62,7 +62,7 @@ pub AllByRecursion-push : {X : Type 0} (P : X → Type 0) (xs : List X) (x : X) 
 AllByRecursion-push P [] x all is = (is, tt)
 AllByRecursion-push P (y ∷ xs) x all is = (all.0, AllByRecursion-push P xs x all.1 is)
 
--- a executor with one job more
+-- an executor with one job more
 pub lane_enqueued : (p : ScriptView) (k : ℕ) (executor new : Executor) (job : Job) → IsExecutor p k executor → IsJobOf p k job → new.jobs.items ≡ executor.jobs.items ++ job ∷ [] → new.fields ≡ executor.fields → new.journal ≡ executor.journal → IsExecutor p k new
 lane_enqueued p k executor new job is can jobs fields journal = record {
   lawful = subst (λ (j : Vec Record Global). IsLawful p k (actor_start p k) j.items) (sym journal) is.lawful;
@@ -71,7 +71,7 @@ lane_enqueued p k executor new job is can jobs fields journal = record {
   jobs = subst (λ (js : List Job). AllByRecursion (IsJobOf p k) js) (sym jobs) (AllByRecursion-push (IsJobOf p k) executor.jobs.items job is.jobs can);
 }
 
--- a executor whose first job was run
+-- an executor whose first job was run
 pub lane_turned : (p : ScriptView) (k : ℕ) (executor new : Executor) (job : Job) (r : Record) → IsExecutor p k executor → executor.jobs.items ≡ job ∷ new.jobs.items → new.journal.items ≡ executor.journal.items ++ r ∷ [] → IsKept p k executor.fields.items r → RanWithItsEnv p r → new.fields.items ≡ fields_after p executor.fields.items r → IsExecutor p k new
 lane_turned p k executor new job r is jobs journal kept env_given fields = record {
   lawful = subst (λ (rs : List Record). IsLawful p k (actor_start p k) rs) (sym journal)
@@ -81,7 +81,7 @@ lane_turned p k executor new job r is jobs journal kept env_given fields = recor
   jobs = (subst (λ (js : List Job). AllByRecursion (IsJobOf p k) js) jobs is.jobs).1;
 }
 
--- the first job of a executor is one of its actor
+-- the first job of an executor is one of its actor
 pub first_job : (p : ScriptView) (k : ℕ) (executor : Executor) (job : Job) (rest : List Job) → IsExecutor p k executor → executor.jobs.items ≡ job ∷ rest → IsJobOf p k job
 first_job p k executor job rest is jobs = (subst (λ (js : List Job). AllByRecursion (IsJobOf p k) js) jobs is.jobs).0
 
@@ -94,11 +94,11 @@ each_told : (p : ScriptView) (k : ℕ) (executors : List Executor) → AreExecut
 each_told p k [] are = tt
 each_told p k (x ∷ executors) are = (are.0.env_given, each_told p (k + 1) executors are.1)
 
--- the turns of the executors were env_given what belongs to their tasks
+-- the turns of the executors were given what belongs to their tasks
 pub lanes_told : (p : ScriptView) (executors : List Executor) → AreExecutors p 0 executors → HaveTheirEnv p (map journal_of executors)
 lanes_told p executors are = All-from_recursion (λ (j : Vec Record Global). All (RanWithItsEnv p) j.items) (map journal_of executors) (each_told p 0 executors are)
 
--- a executor before its first job
+-- an executor before its first job
 pub lane_new : (p : ScriptView) (k : ℕ) (executor : Executor) → executor.jobs.items ≡ [] → executor.fields.items ≡ actor_start p k → executor.journal.items ≡ [] → IsExecutor p k executor
 lane_new p k executor jobs fields journal = record {
   lawful = subst (λ (rs : List Record). IsLawful p k (actor_start p k) rs) (sym journal) tt;

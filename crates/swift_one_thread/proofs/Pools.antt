@@ -28,7 +28,7 @@ pub IfOk-more : {A E : Type 0} (r : Result A E) (P Q : A → Type 0) → ((x : A
 IfOk-more (Ok x) P Q more is = more x is
 IfOk-more (Err e) P Q more is = tt
 
--- what holds of an element holds of one where the list has more behind it
+-- what holds of an element holds of one where the list has more after it
 any_append : {X : Type 0} (P : X → Type 0) (xs ys : List X) → Any P xs → Any P (xs ++ ys)
 any_append P xs ys a =
     let below : a.0 < length (xs ++ ys) = omega (arith, length-append xs ys, a.2) in

@@ -31,7 +31,7 @@ pub record CanRun (p : ScriptView) (actor : ℕ) (b : BodyView) : Type 0 where
   pub rests : b.here.phase ≡ idle
   pub top : IsSomeAnd b.here.top (λ f. method_actor p f.method ≡ actor)
 
--- a turn of this actor that may be run: it is env_given what belongs to its task, and begins with the fault `turns` where
+-- a turn of this actor that may be run: it is given what belongs to its task, and begins with the fault `turns` where
 -- its task has had its turns
 pub record IsJobOf (p : ScriptView) (actor : ℕ) (job : Job) : Type 0 where
   pub runs : CanRun p actor job.body.value

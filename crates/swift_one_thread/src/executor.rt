@@ -15,7 +15,7 @@ pub struct Job {
     /// The turn's number among the turns of its task, from 0.
     pub number: u32,
     pub resume: Resume,
-    /// What each turn of the task is env_given.
+    /// What each turn of the task is given.
     pub env: Env,
     /// In a box, since a job is moved from place to place and its body stays.
     pub body: Box<Body>,
@@ -30,7 +30,7 @@ pub struct Executor {
 }
 
 impl Executor {
-    // A executor with no job whose fields are these.
+    // An executor with no job whose fields are these.
     pub fn new(alloc: Global, start: &[i64]) -> Result<Executor, AllocError>
         ensures jobs { IfOk result (λ executor. executor.jobs.items ≡ []) }
         ensures fields { IfOk result (λ executor. executor.fields.items ≡ start.now) }

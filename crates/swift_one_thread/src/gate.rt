@@ -1,4 +1,4 @@
-//! What is env_given of the moments of a run.
+//! What is given of the moments of a run.
 
 use swift_types::{ActorId, TaskId};
 
@@ -11,7 +11,7 @@ pub enum Moment {
     Turned(ActorId, TaskId),
 }
 
-/// Is env_given of each moment as it comes (our own). It can look on, and changes nothing of the run.
+/// Is given of each moment as it comes (our own). It can look on, and changes nothing of the run.
 pub trait Gate {
     /// Called on the thread that runs the turns, twice a turn. The run waits until it returns.
     fn at(&self, moment: Moment);

@@ -4,7 +4,7 @@
 // Why a run was given up.
 mod fault;
 
-// What is env_given of the moments of a run.
+// What is given of the moments of a run.
 mod gate;
 
 // The jobs, the fields and the journal of one executor.

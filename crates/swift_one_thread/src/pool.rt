@@ -57,7 +57,7 @@ pub fn empty_pool(alloc: Global, script: &Script) -> Result<Pool, Halt>
     })
 }
 
-// Puts a job behind the others of this actor's executor, whose token goes behind the others where it was idle.
+// Puts a job after the others of this actor's executor, whose token goes after the others where it was idle.
 fn enqueue(pool: &mut Pool, actor: ActorId, job: Job) -> Result<(), Halt>
     ensures pool { (p : ScriptView) → IsPool p pool.old → IsJobOf p actor.0 job → HaveBefore (map journal_of pool.old.executors.items) job.task.0 job.number → OnOk result (IsPool p pool.new) }
     ensures actors { OnOk result (length pool.new.executors.items ≡ length pool.old.executors.items) }

@@ -26,15 +26,15 @@ use swift_script::Script;
 /// executors that run one job at a time; the order of turns is our own, and is determined).
 ///
 /// An executor with jobs has a token, and the one whose token is the oldest runs its oldest job next. The roots are
-/// enqueued in order of declaration before the first turn. The runtime is used once, to make what a poll is env_given.
+/// enqueued in order of declaration before the first turn. The runtime is used once, to make what a poll is given.
 ///
-/// The gate is env_given of each turn's moments. Each turn costs a copy of its frame, which its journal keeps: memory grows
+/// The gate is given of each turn's moments. Each turn costs a copy of its frame, which its journal keeps: memory grows
 /// with the turns, at most some thousand for each root.
 ///
 /// # Errors
 ///
-/// `Workers` stands for any number of workers but 1, `Memory` for a growth that was refused, and `Unfinished` for a task
-/// that did not end, or a script that asks for what none that was read can. Nothing of a refused run remains.
+/// `Workers` stands for any number of workers but 1, `Memory` for a growth that was refused, and `Unfinished` for a
+/// task that did not end, or a script that asks for what none that was read can. Nothing of a refused run remains.
 pub fn run<R, G>(rt: &R, script: Arc<Script>, workers: u32, gate: &G) -> Result<Report, RunFault>
 where
     R: RandomSource + AllocGlobal,
@@ -44,7 +44,7 @@ where
     ensures lawful { IfOk result (λ r. AreLawful (arc_value script) 0 r.journals.items r.fields.items) }
     // The fields of each actor whose invariant holds at the start meet it.
     ensures invariants { IfOk result (λ r. KeepInvariants (arc_value script) 0 r.fields.items) }
-    // Each turn is one of a root's task, was env_given what belongs to that root, and ran on worker 0.
+    // Each turn is one of a root's task, was given what belongs to that root, and ran on worker 0.
     ensures env_given { IfOk result (λ r. HaveTheirEnv (arc_value script) r.journals.items) }
     // The turns of each task are numbered without gaps.
     ensures numbered { IfOk result (λ r. HaveNoGaps r.journals.items) }

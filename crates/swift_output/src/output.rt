@@ -1,6 +1,6 @@
 //! A whole text into a writer.
 
-ghost use Rattle.std.specs.Prelude.{OnOk, OnErr};
+ghost use Rattle.std.specs.Prelude.{◌≡◌, [], IsOk, OnOk, OnErr};
 ghost use Rattle.std.specs.Io.KnownBytes.{Appends};
 ghost use Rattle.swift_output.specs.Part.{WritesPart};
 
@@ -19,9 +19,10 @@ pub struct Device;
 /// # Errors
 ///
 /// `Device` at the first write that fails, an interrupted one too, or takes no byte. The bytes that the writes before
-/// it took are written: a front of the text, and not all of it. So an empty text is always written.
+/// it took are written: a prefix of the text, and not all of it. An empty text is written without a write.
 pub fn write_all<W: Write>(out: &mut W, text: &[u8]) -> Result<(), Device>
     ensures ok { OnOk result (Appends (W.contents out.old) (W.contents out.new) text.now) }
+    ensures empty { text.now ≡ [] → IsOk result }
     ensures err { OnErr result (WritesPart (W.contents out.old) (W.contents out.new) text.now) }
 {
     let mut written = 0;

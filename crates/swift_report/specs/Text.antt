@@ -67,7 +67,7 @@ abbrev pub flag_text : Bool → List ℕ
 flag_text false = codes "0"
 flag_text true = codes "1"
 
--- what a turn was env_given: the number of the task's priority, and whether the task was cancelled
+-- what a turn was given: the number of the task's priority, and whether the task was cancelled
 abbrev pub env_text : Env → List ℕ
 env_text e = codes " p" ++ decimal (rank e.priority) ++ codes " c" ++ flag_text e.cancelled
 

@@ -16,7 +16,7 @@ pub struct Record {
     pub frame: Frame,
     /// What the turn began with.
     pub resume: Resume,
-    /// What it was env_given.
+    /// What it was given.
     pub env: Env,
     /// How it ended.
     pub exit: Exit,

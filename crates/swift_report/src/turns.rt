@@ -55,7 +55,7 @@ fn flag(set: bool) -> &'static [u8]
     if set { b"1" } else { b"0" }
 }
 
-// What a turn was env_given.
+// What a turn was given.
 fn env(out: &mut Vec<u8>, env: &Env) -> Result<(), AllocError>
     ensures { OnOk result (out.new.items ≡ out.old.items ++ env_text env.now) }
 {

@@ -1,6 +1,6 @@
 pub mod Texts
 pub mod Divided
-pub mod NamesInScoped
+pub mod NamesInScope
 pub mod Places
 pub mod Accepting
 pub mod ActorsAndRootsAreFew

@@ -9,7 +9,7 @@ use Rattle.script_names.specs.Directory.{Directory, directory_of}
 use Rattle.script_names.specs.Rules.{earlier, actor_fault, root_fault, declarations_fault, names_fault}
 use Rattle.script_printing.specs.Pieces.{pieces_of_script, declarations_of, actors_in as actors_printed, roots_in as roots_printed}
 use Rattle.script_printing.specs.Printed.{printed}
-use Rattle.script_printing.proofs.Again.{readable_again}
+use Rattle.script_printing.proofs.PrintedSpells.{readable_again}
 use Rattle.script_printing.proofs.Lexed.{script_lexes}
 use Rattle.script_printing.proofs.Plain.{script_is_text, text_is_ascii}
 use Rattle.script_printing.proofs.Read.{spelled_again}

@@ -1,5 +1,5 @@
 -- What the program writes of a run.
-use Rattle.std.specs.Prelude.{◌≡◌, ◌≢◌, ⊤, ℕ, ℤ, ◌+◌, Bool, true, false, IsTrue, Option, List, [], ◌∷◌, length}
+use Rattle.std.specs.Prelude.{◌≡◌, ◌≢◌, ℕ, ℤ, ◌+◌, Bool, true, false, IsTrue, Option, List, [], ◌∷◌, length}
 use Rattle.std.specs.declared.vec.Vec.{Vec}
 use Rattle.std.specs.declared.alloc.Global.{Global}
 use Rattle.swift_types.specs.declared.outcome.Ending.{Ending}
@@ -39,7 +39,7 @@ HoldInvariants p k [] = Unit {0}
 HoldInvariants p k (fields ∷ others) = IsTrue (holds (actor_invariant p k) fields.items) × HoldInvariants p (k + 1) others
 
 -- A text is that of a run of the script that these bytes spell: the journal of each executor is lawful, and each of its
--- turns was env_given what belongs to its root; the turns of each task are numbered without gaps; the fields are what
+-- turns was given what belongs to its root; the turns of each task are numbered without gaps; the fields are what
 -- replaying the journals gives, and each invariant holds of them; there is one ending for each root, in order of
 -- declaration, and each comes from a turn of its task. `well` says whether each is a value.
 pub record IsRunOf (bytes : List ℕ) (quiet : Bool) (text : List ℕ) (well : Bool) : Type 0 where
@@ -64,29 +64,29 @@ pub record WritesRun (bytes : List ℕ) (quiet well : Bool) (old new : Option (L
   pub is : IsRunOf bytes quiet text well
   pub appended : Appends old new text
 
--- A front of the text of a run of this script is appended to what was written, and not all of it.
-pub record WritesFront (bytes : List ℕ) (quiet : Bool) (old new : Option (List ℕ)) : Type 0 where
+-- A prefix of the text of a run of this script is appended to what was written, and not all of it.
+pub record WritesPrefix (bytes : List ℕ) (quiet : Bool) (old new : Option (List ℕ)) : Type 0 where
   pub text : List ℕ
   pub well : Bool
   pub is : IsRunOf bytes quiet text well
   pub part : WritesPart old new text
 
--- The cause of a run's refusal. Want of memory and jobs that are left say nothing of the number of workers.
-abbrev pub GivesUp : ℕ → RunFault → Type 0
-GivesUp workers Workers = workers ≢ 1
-GivesUp workers Memory = ⊤
-GivesUp workers Unfinished = ⊤
+-- Why a run of these bytes was refused: a number of workers other than 1, which is looked at first, or else, of a
+-- script that is accepted, memory ran out or jobs were left.
+abbrev pub IsRunRefusal : List ℕ → ℕ → RunFault → Type 0
+IsRunRefusal bytes workers Workers = workers ≢ 1
+IsRunRefusal bytes workers Memory = (workers ≡ 1) × ((tree : ScriptTree) × IsAccepted bytes tree)
+IsRunRefusal bytes workers Unfinished = (workers ≡ 1) × ((tree : ScriptTree) × IsAccepted bytes tree)
 
--- Why no run of these bytes gave a text: the script was refused for its own cause, or it was accepted and the run was
--- refused.
+-- Why no run of these bytes gave a text: the script was refused, for the stated cause, or the run was.
 abbrev pub IsRefusal : List ℕ → ℕ → ToolFault → Type 0
-IsRefusal bytes workers (tool.Script f) = Refuses f.kind bytes
-IsRefusal bytes workers (tool.Run f) = ((tree : ScriptTree) × IsAccepted bytes tree) × GivesUp workers f
+IsRefusal bytes workers (tool.Script f) = (workers ≡ 1) × Refuses f.kind bytes
+IsRefusal bytes workers (tool.Run f) = IsRunRefusal bytes workers f
 IsRefusal bytes workers tool.Device = ⊥
 
--- Why not all was written, and what was: nothing where the script or the run was refused, and a front of the text of a
+-- Why not all was written, and what was: nothing where the script or the run was refused, and a prefix of the text of a
 -- run where a device failed.
 abbrev pub Leaves : List ℕ → ℕ → Bool → Option (List ℕ) → Option (List ℕ) → ToolFault → Type 0
 Leaves bytes workers quiet old new (tool.Script f) = IsRefusal bytes workers (tool.Script f) × (new ≡ old)
 Leaves bytes workers quiet old new (tool.Run f) = IsRefusal bytes workers (tool.Run f) × (new ≡ old)
-Leaves bytes workers quiet old new tool.Device = WritesFront bytes quiet old new
+Leaves bytes workers quiet old new tool.Device = WritesPrefix bytes quiet old new

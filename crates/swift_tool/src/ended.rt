@@ -10,7 +10,7 @@ use thiserror::Error;
 /// Why the program has not printed a whole report (our own). It is what it says on standard error.
 #[derive(Clone, Copy, Debug, PartialEq, Eq, Error)]
 pub enum ProgramFault {
-    /// Words were given behind its name, or the words could not be read.
+    /// Words were given after its name, or the words could not be read.
     #[error("swiftrun: words refused")]
     Words,
     #[error("swiftrun: {0}")]
@@ -25,7 +25,7 @@ impl From<ToolFault> for ProgramFault {
     }
 }
 
-/// Whether the program was given no words: `count` counts its own name too, and it takes nothing behind that yet.
+/// Whether the program was given no words: `count` counts its own name too, and it takes nothing after that yet.
 ///
 /// # Errors
 ///

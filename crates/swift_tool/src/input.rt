@@ -15,7 +15,7 @@ use swift_script::LONGEST;
 ///
 /// # Errors
 ///
-/// `Device` at the first read that fails, an interrupted one too; want of memory as `Run(Memory)`. What was taken by
+/// `Device` at the first read that fails, an interrupted one too; out of memory as `Run(Memory)`. What was taken by
 /// then is lost.
 pub fn read_input<R: Read>(alloc: Global, from: &mut R) -> Result<Vec<u8>, ToolFault>
     ensures taken { IfOk result (λ text. Consumes (R.remaining from.old) (R.remaining from.new) text.items) }
@@ -34,7 +34,7 @@ pub fn read_input<R: Read>(alloc: Global, from: &mut R) -> Result<Vec<u8>, ToolF
     Ok(text)
 }
 
-// Reads once, as much as there is room for in the chunk. How many bytes came behind the text: none at the end.
+// Reads once, as much as there is room for in the chunk. How many bytes came after the text: none at the end.
 fn read_more<R: Read>(
     from: &mut R,
     chunk: &mut [u8],

@@ -1,6 +1,8 @@
 //! From a script's text to a report's.
 
-ghost use Rattle.std.specs.Prelude.{◌≡◌, IfErr, IfOk};
+ghost use Rattle.std.specs.Prelude.{◌≡◌, ◌≢◌, ◌↔◌, Err, IfErr, IfOk};
+ghost use Rattle.swift_one_thread.specs.declared.fault.RunFault.TheVariants.{Workers};
+ghost use Rattle.swift_tool.specs.declared.fault.ToolFault.TheVariants.{Run};
 ghost use Rattle.swift_tool.specs.Run.{IsRefusal, IsRunOf, Leaves, WritesRun, end_well};
 
 use crate::fault::ToolFault;
@@ -8,19 +10,20 @@ use std::alloc::AllocGlobal;
 use std::io::Write;
 use std::random::RandomSource;
 use std::sync::Arc;
-use swift_one_thread::{Gate, run};
+use swift_one_thread::{Gate, RunFault, run};
 use swift_output::write_all;
 use swift_report::{Origin, report_text};
 use swift_script::read;
 use swift_types::Ending;
 
 /// Runs the script that a text spells, with one worker, and writes the text of its report, in one piece as far as the
-/// device takes it. True where every task ended with a value. The gate is env_given of the moments of the run.
+/// device takes it. True where every task ended with a value. The gate is called at the moments of the run.
 ///
 /// # Errors
 ///
-/// `Script` where the text is refused and `Run` where the run is: then nothing is written. `Device` where a write
-/// failed or took no byte: then a front of the report's text is written.
+/// `Run(Workers)` for any number of workers but 1, before anything is made. `Script` where the text is refused, and
+/// `Run` where the run is. In these cases nothing is written. `Device` where a write failed or took no byte: then a
+/// prefix of the report's text is written, and not all of it.
 pub fn run_text<R, G, W>(
     rt: &R,
     bytes: &[u8],
@@ -34,10 +37,13 @@ where
     G: Gate + Sync,
     W: Write,
     ensures text { IfOk result (λ well. WritesRun bytes.now quiet well (W.contents out.old) (W.contents out.new)) }
-    ensures workers { IfOk result (λ _. workers ≡ 1) }
+    ensures workers { (result ≡ Err (Run Workers)) ↔ (workers ≢ 1) }
     ensures refused { IfErr result (λ e. Leaves bytes.now workers quiet (W.contents out.old) (W.contents out.new) e) }
 {
-    let (text, is_well) = run_to_text(rt, bytes, workers, quiet, gate)?;
+    if workers != 1 {
+        return Err(ToolFault::Run(RunFault::Workers));
+    }
+    let (text, is_well) = run_to_text(rt, bytes, quiet, gate)?;
     write_all(out, &text)?;
     Ok(is_well)
 }
@@ -46,7 +52,6 @@ where
 fn run_to_text<R, G>(
     rt: &R,
     bytes: &[u8],
-    workers: u32,
     quiet: bool,
     gate: &G,
 ) -> Result<(Vec<u8>, bool), ToolFault>
@@ -54,14 +59,13 @@ where
     R: RandomSource + AllocGlobal,
     G: Gate + Sync,
     ensures text { IfOk result (λ r. IsRunOf bytes.now quiet r.0.items r.1) }
-    ensures workers { IfOk result (λ _. workers ≡ 1) }
-    ensures refused { IfErr result (λ e. IsRefusal bytes.now workers e) }
+    ensures refused { IfErr result (IsRefusal bytes.now 1) }
 {
     let alloc = rt.alloc();
     let found = read(alloc, bytes)?;
     let script = Arc::new(alloc, found)?;
     let shared = Arc::clone(&script)?;
-    let report = run(rt, shared, workers, gate)?;
+    let report = run(rt, shared, 1, gate)?;
     let text = report_text(alloc, &script, &report, quiet)?;
     let is_well = all_ended_well(&report.endings);
     Ok((text, is_well))

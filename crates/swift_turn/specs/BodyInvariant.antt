@@ -6,7 +6,7 @@ use Rattle.swift_turn.specs.Body.{PhaseView, idle, entered, left, out_of_memory}
 use Rattle.swift_turn.specs.Frame.{FrameView, effect_views}
 use Rattle.swift_turn.specs.TurnStates.{exit_view}
 use Rattle.swift_turn.specs.declared.phase.Phase.{Phase}
-use Rattle.swift_turn.specs.declared.phase.Turn.TheVariants.{Idle, Entered, Played, OutOfMemory}
+use Rattle.swift_turn.specs.declared.phase.Phase.TheVariants.{Idle, Entered, Played, OutOfMemory}
 
 abbrev pub phase_of : Phase → PhaseView
 phase_of Idle = idle

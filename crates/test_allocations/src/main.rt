@@ -1,12 +1,13 @@
-//! Shows what no clause can say: where a growth is refused, the call answers want of memory and nothing else, what it
+//! Shows what no clause can say: where a growth is refused, the call answers out of memory and nothing else, what it
 //! worked on is as it was, and the call made again answers as if nothing had been refused.
 //!
 //! It makes each call that takes memory, and makes it again where it is refused. What it writes is one text, whether a
-//! growth was refused or not, and its status is 0: it is run once for each of its allocations, with that one refused, and
-//! the texts are compared. A line `wrong: ..` stands where a promise is not kept. A refusal is told on standard error.
+//! growth was refused or not, and its status is 0: it is run once for each of its allocations, with that one refused,
+//! and the texts are compared. A line `wrong: ..` stands where a promise is not kept. A refusal is given on standard
+//! error.
 //!
 //! Standard input may have a number: so many allocations are made and given back first. So a run in which the n-th
-//! allocation is refused, whatever n, can refuse any of those behind them.
+//! allocation is refused, whatever n, can refuse any of those after them.
 #![tactic(auto)]
 
 // Calls that are made again where they are refused.

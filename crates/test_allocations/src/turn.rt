@@ -18,7 +18,7 @@ use swift_types::{MethodId, Priority, Resume, RootId};
 /// How many turns are played at most.
 const TURNS: u32 = 20;
 
-/// What each turn is told.
+/// What each turn is given.
 const ENV: Env = Env {
     priority: Priority::High,
     cancelled: false,

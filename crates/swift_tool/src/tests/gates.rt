@@ -1,4 +1,4 @@
-// What a gate is env_given of a run.
+// What a gate is given of a run.
 use crate::run::run_text;
 use std::sync::atomic::{AtomicU32, Ordering};
 use std::test::Fail;

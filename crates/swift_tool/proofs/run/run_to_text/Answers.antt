@@ -8,8 +8,8 @@ use Rattle.swift_tool.specs.Run.{end_well}
 use Rattle.swift_tool.proofs.Invariants.{invariants_hold}
 use Rattle.swift_tool.proofs.run.run_to_text.Goals as goal
 
-pub returns-clause-ran : goal.returns-clause-ran
-returns-clause-ran g c =
+pub returns-clause-text : goal.returns-clause-text
+returns-clause-text g c =
     let made : arc_value c.in_ok-script.script ≡ c.in_ok-found.found = c.in_ok-script.ensures.ok in
     let shared : arc_value c.in_ok-shared.shared ≡ arc_value c.in_ok-script.script = c.in_ok-shared.ensures.cases in
     let lent : c.deref.result.now ≡ arc_value c.in_ok-script.script = c.deref.ensures in

@@ -1,0 +1,25 @@
+#!/usr/bin/env bash
+# The gate. Its last line is 'N passed, M failed'; status 0 where none failed.
+set -u
+cd "$(dirname "$0")/.."
+edits=$(ls crates/*/must-fail/*.edit | wc -l)
+crates=$(ls -d crates/*/src | wc -l)
+cat <<TXT
+This proves $crates crates from nothing, tries $edits planted bugs that the prover has to refuse, runs all tests and
+programs, the examples, and a sample of the refused allocations. It takes about 25 minutes on four cores, about 45 on
+two, and prints little until its end.
+TXT
+log=$(mktemp)
+rt ci | tee "$log"
+status=${PIPESTATUS[0]}
+last=$(tail -n 1 "$log")
+passed=$(sed -nE 's/^([0-9]+) passed, ([0-9]+) failed.*/\1/p' <<<"$last")
+failed=$(sed -nE 's/^([0-9]+) passed, ([0-9]+) failed.*/\2/p' <<<"$last")
+rm -f "$log"
+if [ -z "$passed" ]; then exit 1; fi
+[ "$status" -eq 0 ] || [ "$failed" -gt 0 ] || failed=1
+for step in links examples refusals-sample; do
+    if make --no-print-directory "$step"; then passed=$((passed + 1)); else failed=$((failed + 1)); fi
+done
+echo "$passed passed, $failed failed"
+[ "$failed" -eq 0 ]
