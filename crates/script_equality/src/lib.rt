@@ -11,6 +11,3 @@ mod same;
 mod statement;
 
 pub use declaration::{same_actors, same_roots};
-
-#[cfg(test)]
-mod tests;

@@ -30,6 +30,3 @@ pub use declared::{Actor, Decl, Field, Invariant, Method, Root};
 pub use fault::{Fault, Kind, ReadError};
 pub use script::declarations;
 pub use tree::{Call, Expr, Name, Stmt, Value, Wait};
-
-#[cfg(test)]
-mod tests;

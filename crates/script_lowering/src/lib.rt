@@ -22,6 +22,3 @@ mod slots;
 
 pub use expression::{formula, formula_if, formulas};
 pub use method::{Lowered, field_places, lower};
-
-#[cfg(test)]
-mod tests;

@@ -23,6 +23,3 @@ pub use directory::Declared;
 pub use error::{CheckError, NameError, NameErrorKind};
 pub use laws::{nothing_left_out, one_kind};
 pub use texts::Names;
-
-#[cfg(test)]
-mod tests;

@@ -23,6 +23,3 @@ pub use laws::{
     printed_spells_again,
 };
 pub use script::print;
-
-#[cfg(test)]
-mod tests;

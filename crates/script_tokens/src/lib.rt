@@ -33,6 +33,3 @@ pub use mark::Mark;
 pub use read::tokens;
 pub use stray::stray_line;
 pub use token::Token;
-
-#[cfg(test)]
-mod tests;

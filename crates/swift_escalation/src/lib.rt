@@ -8,6 +8,3 @@ mod graph;
 mod waits;
 
 pub use waits::{Event, Waits, WaitsFault};
-
-#[cfg(test)]
-mod tests;

@@ -7,8 +7,6 @@ mod group;
 mod groups;
 mod queue;
 mod room;
-#[cfg(test)]
-mod tests;
 
 pub use answer::{Close, GroupId, Next};
 pub use fault::GroupFault;

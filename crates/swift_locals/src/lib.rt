@@ -2,7 +2,5 @@
 #![tactic(auto)]
 
 mod bindings;
-#[cfg(test)]
-mod tests;
 
 pub use bindings::Bindings;

@@ -22,6 +22,3 @@ pub use fault::{ScriptFault, ScriptFaultKind};
 pub use printed::print_script;
 pub use reading::read;
 pub use script::Script;
-
-#[cfg(test)]
-mod tests;

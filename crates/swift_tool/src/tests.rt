@@ -1,7 +1,5 @@
-// What no clause says: whole texts, byte for byte, and refusals.
+// What no clause and no script shows: devices, inputs, the moments of a run, and faults that no script reaches.
 mod devices;
 mod ended;
-mod examples;
 mod gates;
-mod refused;
-mod whole;
+mod inputs;

@@ -1,0 +1,80 @@
+//! Calls, one after another.
+
+use crate::fault::CaseFault;
+use crate::words::number;
+use std::alloc::{AllocError, Global};
+use std::io::Write;
+
+/// A part of the runtime that is called.
+pub trait Part {
+    /// The answer of a call that has these words.
+    fn answer(&mut self, alloc: Global, words: &[&str]) -> Result<String, CaseFault>;
+}
+
+/// Makes the calls of these lines, and writes their answers.
+pub fn play<P: Part>(
+    alloc: Global,
+    part: &mut P,
+    calls: &str,
+    out: &mut Vec<u8>,
+) -> Result<(), CaseFault> {
+    for line in calls.split('\n') {
+        match line.split_once(": ") {
+            None => {
+                let answer = called(alloc, part, line)?;
+                writeln!(out, "{answer}")?;
+            }
+            Some((range, call)) => play_range(alloc, part, range, call, out)?,
+        }
+    }
+    Ok(())
+}
+
+// Makes one call.
+fn called<P: Part>(alloc: Global, part: &mut P, call: &str) -> Result<String, CaseFault> {
+    let words: Vec<&str> = call.split(' ').collect(alloc)?;
+    part.answer(alloc, &words)
+}
+
+// The call with a number in place of each of these marks.
+fn numbered(alloc: Global, call: &str, mark: char, count: u32) -> Result<String, AllocError> {
+    let mut made = String::new(alloc);
+    for (place, piece) in call.split(mark).enumerate() {
+        if place > 0 {
+            write!(made, "{count}")?;
+        }
+        made.push_str(piece)?;
+    }
+    Ok(made)
+}
+
+// Makes a call for each number of a range.
+fn play_range<P: Part>(
+    alloc: Global,
+    part: &mut P,
+    range: &str,
+    call: &str,
+    out: &mut Vec<u8>,
+) -> Result<(), CaseFault> {
+    let Some((first, last)) = range.split_once(" to ") else {
+        return Err(CaseFault::Form);
+    };
+    let first = number(first)?;
+    let last = number(last)?;
+    let mut before = String::new(alloc);
+    for step in 0..=first.abs_diff(last) {
+        let count = if first <= last {
+            first.saturating_add(step)
+        } else {
+            first.saturating_sub(step)
+        };
+        let call = numbered(alloc, call, '#', count)?;
+        let call = numbered(alloc, call.as_str(), '@', count.saturating_sub(1))?;
+        let answer = called(alloc, part, call.as_str())?;
+        if answer.as_str() != before.as_str() {
+            writeln!(out, "{answer}")?;
+        }
+        before = answer;
+    }
+    Ok(())
+}
