@@ -4,7 +4,8 @@ use crate::escapes::expand;
 use crate::fault::CaseFault;
 use std::alloc::{AllocError, Global};
 use std::io::Write;
-use swift_script::{LONGEST, Script, print_script, read};
+use swift_script::{Script, print_script, read};
+use swift_types::limits::BYTES;
 
 /// Whether a printed form is read as this script, and printed the same.
 pub fn is_read_again(alloc: Global, script: &Script, printed: &str) -> Result<bool, AllocError> {
@@ -20,7 +21,7 @@ pub fn is_read_again(alloc: Global, script: &Script, printed: &str) -> Result<bo
 // A script that was read: its printed form, unless that is too long to be read.
 fn show(alloc: Global, script: &Script, out: &mut Vec<u8>) -> Result<(), CaseFault> {
     let printed = print_script(alloc, script)?;
-    if printed.len() > LONGEST {
+    if printed.len() > BYTES {
         if let Err(fault) = read(alloc, printed.as_bytes()) {
             writeln!(out, "printed form: {fault}")?;
         }
