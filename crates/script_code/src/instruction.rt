@@ -52,7 +52,12 @@ pub struct Instruction {
 }
 
 /// Puts an instruction after the others. Where memory runs out, the instructions are as before.
-pub fn push_instruction(instructions: &mut Vec<Instruction>, act: Act, next: u32, other: u32) -> Result<(), AllocError>
+pub fn push_instruction(
+    instructions: &mut Vec<Instruction>,
+    act: Act,
+    next: u32,
+    other: u32,
+) -> Result<(), AllocError>
     ensures ok { OnOk result (map meaning_of instructions.new.items ≡ map meaning_of instructions.old.items ++ meaning_of (record { act = act; next = next; other = other }) ∷ []) }
     ensures err { OnErr result (instructions.new.items ≡ instructions.old.items) }
 {

@@ -5,8 +5,8 @@
 mod env;
 mod evaluation;
 mod formula;
-pub mod laws;
 mod instruction;
+pub mod laws;
 mod sight;
 #[cfg(test)]
 mod tests;

@@ -1,4 +1,6 @@
-use crate::laws::{first_instruction_begins, flat_code_counts, flat_code_joins, flat_code_implements};
+use crate::laws::{
+    first_instruction_begins, flat_code_counts, flat_code_implements, flat_code_joins,
+};
 use crate::{Act, Env, Formula, Sight, push_instruction, value};
 use std::alloc::{AllocError, Global};
 use std::test::Fail;

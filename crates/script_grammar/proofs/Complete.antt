@@ -79,7 +79,7 @@ level_next limit inside k ts t rest e = rw e refl
 abbrev Final : ℕ → ℕ → ℕ → List Piece → ExprTree → Type 0
 Final limit o k ts t = (rest : List Piece) → height_of t ≤ limit → Stops k rest → level_at limit (inside_at limit o) k (ts ++ rest) ≡ Ok (t, rest)
 
--- Behind operands of tightness k + 1 reading stands there with the tree, and may read on.
+-- After operands of tightness k + 1 reading stands there with the tree, and may read on.
 abbrev Again : ℕ → ℕ → ℕ → List Piece → ExprTree → Type 0
 Again limit o zero ts t = (n : ℕ) (rest : List Piece) → height_of t ≤ suc n → height_of t ≤ limit → unary_at limit (inside_at limit o) n (ts ++ rest) ≡ Ok (t, rest)
 Again limit o (suc k) ts t = (rest : List Piece) → height_of t ≤ limit → Stops k rest → (n : ℕ) × (most_operators limit (suc k) < n + height_of t) × (level_at limit (inside_at limit o) (suc k) (ts ++ rest) ≡ operands_at limit (level_at limit (inside_at limit o) k) (suc k) n t rest)

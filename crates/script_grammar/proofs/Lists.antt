@@ -10,7 +10,7 @@ use Rattle.script_grammar.proofs.Sound.{ok_is, bind_ok}
 use Rattle.script_grammar.proofs.Tokens.{sign_is, close_is, close_now}
 use Rattle.script_grammar.proofs.Items.{Taken, items_next, items_end, items_take}
 
--- what stands behind a value of a list
+-- what stands after a value of a list
 pub data Separates : List Piece → Type 0 where
   before_comma : (us : List Piece) → Separates (Sign mark.Comma ∷ us)
   before_close : (us : List Piece) → Separates (Sign mark.Close ∷ us)

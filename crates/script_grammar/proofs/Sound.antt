@@ -43,7 +43,7 @@ pub record Takes (limit o k : ℕ) (ts : List Piece) (t : ExprTree) (rest : List
 abbrev IsSound : ℕ → ℕ → ℕ → Read → Type 0
 IsSound limit o k read = (ts : List Piece) (x : ExprTree × List Piece) → read ts ≡ Ok x → Takes limit o k ts x.0 x.1
 
--- what is read behind an opening parenthesis
+-- what is read after an opening parenthesis
 abbrev IsSoundInside : ℕ → ℕ → Type 0
 IsSoundInside limit o = (ts : List Piece) (x : ExprTree × List Piece) → inside_at limit o ts ≡ Ok x → (p : ℕ) × (o ≡ suc p) × Takes limit p 5 ts x.0 x.1
 

@@ -179,7 +179,7 @@ module _ (limit : ℕ) where
         ap (many_at limit (block_at limit o) (suc n)) (append_assoc ts us (Sign mark.CloseBrace ∷ rest))
         ∙ many_next limit (block_at limit o) n (ts ++ (us ++ (Sign mark.CloseBrace ∷ rest))) s (us ++ (Sign mark.CloseBrace ∷ rest)) ss rest (begins.no_brace (us ++ (Sign mark.CloseBrace ∷ rest))) (stmt_again (us ++ (Sign mark.CloseBrace ∷ rest)) d (no_else_next rest ds)) (many_again n rest ds (omega (arith, length-append ts us, begins.some)))
 
-    -- no `else` stands behind a statement
+    -- no `else` stands after a statement
     no_else_next : {o : ℕ} {ts : List Piece} {ss : List StmtTree} (rest : List Piece) → SpellsStmts limit o ts ss → is_else (ts ++ (Sign mark.CloseBrace ∷ rest)) ≡ false
     no_else_next rest (none {o}) = refl
     no_else_next rest (more {o} {ts} {us} {s} {ss} d ds) =

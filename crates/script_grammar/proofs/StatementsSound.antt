@@ -37,7 +37,7 @@ taken_as Is ts front rest v x parts is e = subst (λ y. Taken Is ts y) (ok_is (v
 made : (limit o : ℕ) (ts front rest : List Piece) (s : StmtTree) (x : StmtTree × List Piece) → ts ≡ front ++ rest → SpellsStmt limit o front s → (let step : Result (StmtTree × List Piece) Kind = Ok (s, rest) in step ≡ Ok x) → TakesStmt limit o ts x
 made limit o ts front rest s x parts spells e = subst (λ (y : StmtTree × List Piece). TakesStmt limit o ts y) (ok_is (s, rest) x e) (record { front = front; parts = parts; spells = spells })
 
--- a part with a semicolon behind it
+-- a part with a semicolon after it
 pub closed_by : (front between rest : List Piece) → between ≡ Sign mark.Semicolon ∷ rest → front ++ between ≡ (front ++ Sign mark.Semicolon ∷ []) ++ rest
 closed_by front between rest e = ap (λ (w : List Piece). front ++ w) e ∙ sym (append_assoc front (Sign mark.Semicolon ∷ []) rest)
 

@@ -14,7 +14,7 @@ use Rattle.script_grammar.specs.Reading.{◌>>=◌, expr_in}
 use Rattle.script_grammar.specs.Parts.{name_at, sign_at, brace_at, items_at, list_at}
 use Rattle.script_grammar.specs.Statements.{block_at}
 
--- a number, and what is behind it
+-- a number, and what is after it
 unfoldable pub number_at : List Piece → Result (ℤ × List Piece) Kind
 number_at [] = Err EndsEarly
 number_at (Num v ∷ ts) = Ok (v, ts)
@@ -25,7 +25,7 @@ number_at (_ ∷ ts) = Err Unexpected
 unfoldable pub opposite_at : ℤ → List Piece → Result (ℤ × List Piece) Kind
 opposite_at v ts = if int_eq v least then Err OutOfRange else Ok (neg_ℤ v, ts)
 
--- a number, perhaps behind a minus
+-- a number, perhaps after a minus
 unfoldable pub int_at : List Piece → Result (ℤ × List Piece) Kind
 int_at (Sign mark.Minus ∷ ts) = do
   v ← number_at ts
@@ -67,7 +67,7 @@ method_at limit (Key key.Func ∷ ts) = do
   Ok (record { name = n.0; params = p.0; body = b.0 }, b.1)
 method_at limit (_ ∷ ts) = Err Unexpected
 
--- an actor behind its keyword
+-- an actor after its keyword
 unfoldable pub actor_at : ℕ → List Piece → Result (ActorTree × List Piece) Kind
 actor_at limit ts = do
   n ← name_at ts
@@ -88,12 +88,12 @@ level_named_at [] = Err EndsEarly
 level_named_at (Key k ∷ ts) = chosen_priority (priority_of k) ts
 level_named_at (_ ∷ ts) = Err Unexpected
 
--- a priority behind `at`, or medium
+-- a priority after `at`, or medium
 unfoldable pub priority_at : List Piece → Result (Priority × List Piece) Kind
 priority_at (Key key.At ∷ ts) = level_named_at ts
 priority_at ts = Ok (Medium, ts)
 
--- a root behind its keyword
+-- a root after its keyword
 unfoldable pub root_at : List Piece → Result (RootTree × List Piece) Kind
 root_at ts = do
   n ← name_at ts

@@ -42,7 +42,7 @@ tightness_of op.Minus = 2
 tightness_of op.Times = 1
 
 -- Spells opens level tokens tree: the tokens spell the tree, with at most so many parentheses open at once.
--- Level 0 is an atom behind prefixes; level n + 1 is operands of level n between operators of tightness n + 1.
+-- Level 0 is an atom after prefixes; level n + 1 is operands of level n between operators of tightness n + 1.
 pub data Spells : ℕ → ℕ → List Piece → ExprTree → Type 0 where
   number : {o : ℕ} (n : _) → Spells o zero (Num n ∷ []) (Number n)
   name : {o : ℕ} (n : List ℕ) → Spells o zero (Name n ∷ []) (Named n)
@@ -66,7 +66,7 @@ pub data Each {A : Type 0} (Is : List Piece → A → Type 0) : List Piece → L
   no_more : Each Is [] []
   one_more : {ts us : List Piece} {x : A} {xs : List A} → Is ts x → Each Is us xs → Each Is (ts ++ us) (x ∷ xs)
 
--- Tokens are a comma and a value behind it.
+-- Tokens are a comma and a value after it.
 pub record IsNext {A : Type 0} (Is : List Piece → A → Type 0) (ts : List Piece) (x : A) : Type 0 where
   pub item : List Piece
   pub is : Is item x
@@ -127,7 +127,7 @@ mutual
 abbrev pub least : ℤ
 least = negsuc 9223372036854775807
 
--- Tokens are a whole number, perhaps behind a minus. The opposite of the least one does not fit.
+-- Tokens are a whole number, perhaps after a minus. The opposite of the least one does not fit.
 pub data IsInt : List Piece → ℤ → Type 0 where
   plain : (v : ℤ) → IsInt (Num v ∷ []) v
   opposite : (v : ℤ) → v ≢ least → IsInt (Sign mark.Minus ∷ Num v ∷ []) (neg_ℤ v)

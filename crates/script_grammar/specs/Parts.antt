@@ -32,19 +32,19 @@ code_of mark.And = 18
 code_of mark.Or = 19
 code_of mark.At = 20
 
--- a name, and what is behind it
+-- a name, and what is after it
 unfoldable pub name_at : List Piece → Result (List ℕ × List Piece) Kind
 name_at [] = Err EndsEarly
 name_at (Name n ∷ rest) = Ok (n, rest)
 name_at (_ ∷ rest) = Err Unexpected
 
--- what is behind this mark
+-- what is after this mark
 unfoldable pub sign_at : Mark → List Piece → Result (List Piece) Kind
 sign_at m [] = Err EndsEarly
 sign_at m (Sign found ∷ rest) = if code_of found == code_of m then Ok rest else Err Unexpected
 sign_at m (_ ∷ rest) = Err Unexpected
 
--- what is behind a closing brace
+-- what is after a closing brace
 unfoldable pub brace_at : List Piece → Option (List Piece)
 brace_at [] = None
 brace_at (Sign mark.CloseBrace ∷ rest) = Some rest
@@ -64,13 +64,13 @@ items_at stop read (suc n) ts = on_stop (stop ts) (λ rest. Ok ([], rest)) (read
 abbrev pub with_first : {A : Type 0} → A → Result (List A × List Piece) Kind → Result (List A × List Piece) Kind
 with_first a read = read >>= λ x. Ok (a ∷ x.0, x.1)
 
--- what is behind a closing parenthesis
+-- what is after a closing parenthesis
 unfoldable pub close_at : List Piece → Option (List Piece)
 close_at [] = None
 close_at (Sign mark.Close ∷ rest) = Some rest
 close_at (_ ∷ rest) = None
 
--- a comma, and what is read behind it
+-- a comma, and what is read after it
 unfoldable pub comma_at : {A : Type 0} → (List Piece → Result (A × List Piece) Kind) → List Piece → Result (A × List Piece) Kind
 comma_at read ts = sign_at mark.Comma ts >>= λ c. read c
 

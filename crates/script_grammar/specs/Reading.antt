@@ -1,5 +1,5 @@
--- Reading from left to right, with the first fault that is met: the code's own way, which is proved to find just what the
--- grammar says.
+-- Reading from left to right, with the first fault that is met: the code's own way, which is proved to find just what
+-- the grammar says.
 use Rattle.std.specs.Prelude.{◌≡◌, ◌-◌, ℕ, zero, suc, List, [], ◌∷◌, Option, Some, None, Result, Ok, Err, nat_lt, ◌==◌, if◌then◌else◌}
 use Rattle.script_grammar.specs.declared.fault.Kind.{Kind}
 use Rattle.script_grammar.specs.declared.fault.Kind.TheVariants.{Unexpected, OutOfRange, EndsEarly, TooDeep}
@@ -14,7 +14,7 @@ use Rattle.script_tokens.specs.Pieces.{Num, Huge, Name, Sign}
 use Rattle.script_grammar.specs.Tree.{ExprTree, Number, Named, Negated, Inverted, Both, height_of}
 use Rattle.script_grammar.specs.Grammar.{tightness_of}
 
--- What is read first, and then what f reads behind it; the first fault ends it.
+-- What is read first, and then what f reads after it; the first fault ends it.
 infixl 10 ◌>>=◌
 abbrev pub ◌>>=◌ : {A B : Type 0} → Result A Kind → (A → Result B Kind) → Result B Kind
 (Ok x) >>= f = f x
@@ -35,7 +35,7 @@ abbrev pub IsOfKind : ReadError → Kind → Type 0
 IsOfKind errors.Memory kind = ⊥
 IsOfKind (errors.Fault f) kind = f.kind ≡ kind
 
--- Reading an expression gives its tree and the tokens behind it.
+-- Reading an expression gives its tree and the tokens after it.
 abbrev pub Read : Type 0
 Read = List Piece → Result (ExprTree × List Piece) Kind
 
@@ -64,12 +64,12 @@ abbrev pub operator_of : ℕ → Piece → Option Operator
 operator_of k (Sign m) = of_tightness k (operator_in m)
 operator_of k _ = None
 
--- the operator, if there is one, and what is behind it
+-- the operator, if there is one, and what is after it
 abbrev pub with_rest : Option Operator → List Piece → Option (Operator × List Piece)
 with_rest None ts = None
 with_rest (Some o) ts = Some (o, ts)
 
--- an operator of just this tightness, and what is behind it
+-- an operator of just this tightness, and what is after it
 unfoldable pub operator_at : ℕ → List Piece → Option (Operator × List Piece)
 operator_at k [] = None
 operator_at k (t ∷ ts) = with_rest (operator_of k t) ts
@@ -82,13 +82,13 @@ most_operators limit k = if k == 3 then 1 else limit
 unfoldable pub checked : ℕ → ExprTree → Result ExprTree Kind
 checked limit t = if nat_lt limit (height_of t) then Err TooDeep else Ok t
 
--- the tree, and what is behind the parenthesis that closes it
+-- the tree, and what is after the parenthesis that closes it
 unfoldable pub closed_at : ExprTree → List Piece → Result (ExprTree × List Piece) Kind
 closed_at t [] = Err EndsEarly
 closed_at t (Sign mark.Close ∷ rest) = Ok (t, rest)
 closed_at t (_ ∷ rest) = Err Unexpected
 
--- an atom behind at most n prefixes, where inside reads what stands in a parenthesis
+-- an atom after at most n prefixes, where inside reads what stands in a parenthesis
 unfoldable pub unary_at : ℕ → Read → ℕ → Read
 unary_at limit inside n [] = Err EndsEarly
 unary_at limit inside n (Num v ∷ rest) = Ok (Number v, rest)
@@ -114,7 +114,7 @@ abbrev pub on_operator : {A : Type 0} → Option (Operator × List Piece) → A 
 on_operator None stop go = stop
 on_operator (Some x) stop go = go x.0 x.1
 
--- at most n further operands, each behind an operator of tightness k
+-- at most n further operands, each after an operator of tightness k
 unfoldable pub operands_at : ℕ → Read → ℕ → ℕ → ExprTree → Read
 operands_at limit operand k zero left ts = Ok (left, ts)
 operands_at limit operand k (suc n) left ts = on_operator (operator_at k ts) (Ok (left, ts)) (λ o rest. operand rest >>= λ right. checked limit (Both o left right.0) >>= λ t. operands_at limit operand k n t right.1)

@@ -26,7 +26,7 @@ else_at limit (Key key.Else ∷ ts) = do
   Ok (Some e.0, e.1)
 else_at limit ts = Ok (None, ts)
 
--- an awaited call behind its keyword
+-- an awaited call after its keyword
 unfoldable pub wait_at : ℕ → List Piece → Result (WaitTree × List Piece) Kind
 wait_at limit ts = do
   c ← call_at limit ts
@@ -42,7 +42,7 @@ value_at limit ts = do
   e ← expr_in limit limit ts
   Ok (Computed e.0, e.1)
 
--- Reading a block gives its statements and the tokens behind it.
+-- Reading a block gives its statements and the tokens after it.
 abbrev pub ReadSteps : Type 0
 ReadSteps = List Piece → Result (List StmtTree × List Piece) Kind
 

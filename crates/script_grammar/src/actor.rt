@@ -15,8 +15,8 @@ use crate::number::int;
 use crate::one_token::{Tokens, closing, closing_brace, name, refused, sign};
 use crate::statement::block;
 use crate::tree::Name;
-use std::alloc::Global;
 use script_tokens::{Keyword, Mark, Token};
+use std::alloc::Global;
 
 #[tactic(auto, unfolding(crate::specs::Parts::comma_at))]
 fn next_name(alloc: Global, tokens: Tokens<'_>) -> Result<(Name, Tokens<'_>), ReadError>
@@ -157,7 +157,7 @@ fn methods(alloc: Global, tokens: Tokens<'_>) -> Result<(Vec<Method>, Tokens<'_>
     Err(refused(Kind::EndsEarly, rest))
 }
 
-// An actor behind its keyword.
+// An actor after its keyword.
 #[tactic(auto, unfolding(crate::specs::Declarations::actor_at))]
 pub(crate) fn actor(alloc: Global, tokens: Tokens<'_>) -> Result<(Actor, Tokens<'_>), ReadError>
     ensures { Gives (λ x. (view_actor x.0, map piece x.1.now)) result (actor_at 32 (map piece tokens.now)) }

@@ -11,8 +11,8 @@ use crate::fault::{Kind, ReadError};
 use crate::measured::Measured;
 use crate::one_token::{Tokens, name_of, refused};
 use crate::tree::Expr;
-use std::alloc::Global;
 use script_tokens::{Mark, Token};
+use std::alloc::Global;
 use swift_types::Operator;
 
 fn operator_of_mark(mark: Mark) -> Option<Operator>
@@ -128,7 +128,7 @@ fn closed(inner: Measured, tokens: Tokens<'_>) -> Result<(Measured, Tokens<'_>),
     }
 }
 
-// An atom behind at most so many further prefixes, the first of which stands at `from`.
+// An atom after at most so many further prefixes, the first of which stands at `from`.
 #[cycle(expression)]
 #[tactic(auto, unfolding(crate::specs::Reading::unary_at))]
 fn unary<'a>(
@@ -192,7 +192,7 @@ fn level(
     operands(alloc, opens, loosest, most, first, rest)
 }
 
-// At most so many further operands, each behind an operator of one tightness.
+// At most so many further operands, each after an operator of one tightness.
 #[cycle(expression)]
 #[tactic(auto, unfolding(crate::specs::Reading::operands_at))]
 fn operands(

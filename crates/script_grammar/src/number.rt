@@ -39,7 +39,7 @@ fn opposite<'a>(
     Ok((-value, rest))
 }
 
-// A number, perhaps behind a minus.
+// A number, perhaps after a minus.
 #[tactic(auto, unfolding(crate::specs::Declarations::int_at))]
 pub(crate) fn int(tokens: Tokens<'_>) -> Result<(i64, Tokens<'_>), ReadError>
     ensures gives { Gives (λ x. (x.0, map piece x.1.now)) result (int_at (map piece tokens.now)) }

@@ -9,8 +9,8 @@ ghost use Rattle.script_grammar.specs.Parts.{code_of, name_at, sign_at, brace_at
 
 use crate::fault::{Fault, Kind, ReadError};
 use crate::tree::Name;
-use std::alloc::Global;
 use script_tokens::{Mark, Token};
+use std::alloc::Global;
 
 /// The tokens that are still to be read.
 pub(crate) type Tokens<'a> = &'a [Token];

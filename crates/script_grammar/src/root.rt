@@ -14,8 +14,8 @@ use crate::declared::Root;
 use crate::fault::{Kind, ReadError};
 use crate::number::int;
 use crate::one_token::{Tokens, closing, name, refused, sign};
-use std::alloc::Global;
 use script_tokens::{Keyword, Mark, Token};
+use std::alloc::Global;
 use swift_types::Priority;
 
 #[tactic(auto, unfolding(crate::specs::Parts::comma_at))]
@@ -107,7 +107,7 @@ fn priority(tokens: Tokens<'_>) -> Result<(Priority, Tokens<'_>), ReadError>
     }
 }
 
-// A root behind its keyword.
+// A root after its keyword.
 #[tactic(auto, unfolding(crate::specs::Declarations::root_at))]
 pub(crate) fn root(alloc: Global, tokens: Tokens<'_>) -> Result<(Root, Tokens<'_>), ReadError>
     ensures { Gives (λ x. (view_root x.0, map piece x.1.now)) result (root_at (map piece tokens.now)) }

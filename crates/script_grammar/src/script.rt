@@ -15,8 +15,8 @@ use crate::declared::Decl;
 use crate::fault::{Kind, ReadError};
 use crate::one_token::{Tokens, refused};
 use crate::root::root;
-use std::alloc::Global;
 use script_tokens::{Keyword, Token};
+use std::alloc::Global;
 
 #[tactic(auto, unfolding(crate::specs::Declarations::decls_end))]
 fn end_of_decls(tokens: Tokens<'_>) -> Option<Tokens<'_>>

@@ -11,8 +11,8 @@ use crate::expression::expr;
 use crate::fault::{Kind, ReadError};
 use crate::one_token::{Tokens, closing, closing_brace, name, name_of, refused, sign};
 use crate::tree::{Call, Expr, Stmt, Value, Wait};
-use std::alloc::Global;
 use script_tokens::{Keyword, Mark, Token};
+use std::alloc::Global;
 
 // An argument, inside the parenthesis of its call.
 #[tactic(auto, unfolding(crate::specs::Parts::comma_at))]
@@ -90,7 +90,7 @@ fn other(alloc: Global, tokens: Tokens<'_>) -> Result<(Option<Expr>, Tokens<'_>)
     }
 }
 
-// An awaited call behind its keyword.
+// An awaited call after its keyword.
 #[tactic(auto, unfolding(crate::specs::Statements::wait_at))]
 fn wait(alloc: Global, tokens: Tokens<'_>) -> Result<(Wait, Tokens<'_>), ReadError>
     ensures { Gives (λ x. (view_wait x.0, map piece x.1.now)) result (wait_at 32 (map piece tokens.now)) }
@@ -116,7 +116,7 @@ fn value(alloc: Global, tokens: Tokens<'_>) -> Result<(Value, Tokens<'_>), ReadE
     }
 }
 
-// What is behind the block of an `if`.
+// What is after the block of an `if`.
 #[cycle(statement)]
 #[tactic(auto, unfolding(crate::specs::Statements::choice_at))]
 fn choice(

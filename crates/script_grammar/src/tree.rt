@@ -43,7 +43,7 @@ pub struct Call {
 pub struct Wait {
     /// What is called.
     pub call: Call,
-    /// What stands behind `else`: the value where the call ends with a fault (our own).
+    /// What stands after `else`: the value where the call ends with a fault (our own).
     pub other: Option<Expr>,
 }
 
@@ -75,6 +75,6 @@ pub enum Stmt {
     Return(Expr),
     /// `throw e;`
     Throw(Expr),
-    /// `yield;` ends the turn, and the next one goes on behind it.
+    /// `yield;` ends the turn, and the next one goes on after it.
     Yield,
 }

@@ -5,7 +5,7 @@ use Rattle.script_grammar.specs.Tree.{ValueTree, Computed, Awaited, StmtTree, Le
 use Rattle.script_grammar.specs.declared.tree.Stmt.{Stmt}
 use Rattle.script_names.specs.Directory.{Directory}
 use Rattle.script_names.specs.declared.error.NameErrorKind.{NameErrorKind}
-use Rattle.script_names.specs.Rules.{earlier, statement_fault, statements_fault, variables_behind}
+use Rattle.script_names.specs.Rules.{earlier, statement_fault, statements_fault, variables_after}
 use Rattle.script_code.specs.Tree.{Term, Code, then, end}
 use Rattle.script_code.specs.Flat.{count, start, Meaning, flat, meaning_of, last_line, flat_method}
 use Rattle.script_code.specs.declared.instruction.Instruction.{Instruction}
@@ -57,7 +57,7 @@ start_before d fields variables Yield rest p q = refl
 
 pub start_block : (d : Directory) (fields variables : List (List ℕ)) (ss : BlockTree) (p q : ℕ) → start (code_of d fields variables ss) p q ≡ first_instruction ss p q
 start_block d fields variables nothing p q = refl
-start_block d fields variables (first_then s ss) p q = start_before d fields variables s (code_of d fields (variables_behind variables s) ss) p q
+start_block d fields variables (first_then s ss) p q = start_before d fields variables s (code_of d fields (variables_after variables s) ss) p q
 
 -- as many instructions as are counted
 count_set : (place : Place) (t : Term) (rest : Code) → count (set_at place t rest) ≡ 1 + count rest
@@ -83,21 +83,21 @@ mutual
   pub count_block : (d : Directory) (fields variables : List (List ℕ)) (ss : BlockTree) → count (code_of d fields variables ss) ≡ lines_of ss
   count_block d fields variables nothing = refl
   count_block d fields variables (first_then s ss) =
-      let rest = code_of d fields (variables_behind variables s) ss in
-      omega (arith, count_before d fields variables s rest, count_block d fields (variables_behind variables s) ss)
+      let rest = code_of d fields (variables_after variables s) ss in
+      omega (arith, count_before d fields variables s rest, count_block d fields (variables_after variables s) ss)
 
 -- the instructions of a block are those of its first statement, and then the others
 flat_first : (d : Directory) (fields variables : List (List ℕ)) (s : StmtTree) (ss : BlockTree) (p q : ℕ)
     → flat (code_of d fields variables (first_then s ss)) p q
-    ≡ flat (code_before d fields variables s end) p (first_instruction ss (p + lines_in s) q) ++ flat (code_of d fields (variables_behind variables s) ss) (p + lines_in s) q
+    ≡ flat (code_before d fields variables s end) p (first_instruction ss (p + lines_in s) q) ++ flat (code_of d fields (variables_after variables s) ss) (p + lines_in s) q
 flat_first d fields variables s ss p q =
     let one = code_before d fields variables s end in
-    let rest = code_of d fields (variables_behind variables s) ss in
+    let rest = code_of d fields (variables_after variables s) ss in
     let counted : p + count one ≡ p + lines_in s = omega (arith, count_before d fields variables s end) in
     ap (λ c. flat c p q) (before_then d fields variables s rest)
     ∙ flat_then one rest p q
     ∙ ap (λ (n : ℕ). flat one p (start rest n q) ++ flat rest n q) counted
-    ∙ ap (λ (n : ℕ). flat one p n ++ flat rest (p + lines_in s) q) (start_block d fields (variables_behind variables s) ss (p + lines_in s) q)
+    ∙ ap (λ (n : ℕ). flat one p n ++ flat rest (p + lines_in s) q) (start_block d fields (variables_after variables s) ss (p + lines_in s) q)
 
 -- as many instructions as meanings
 pub more_lines : (ls ls' : List Instruction) (c : Code) (p q : ℕ) → map meaning_of ls' ≡ map meaning_of ls ++ flat c p q → length ls' ≡ length ls + count c
@@ -108,11 +108,11 @@ more_lines ls ls' c p q e =
 goes_on : (d : Directory) (fields variables : List (List ℕ)) (s : StmtTree) (ss : BlockTree) (ls ls' : List Instruction) (next q : ℕ)
     → next ≡ first_instruction ss (length ls + lines_in s) q
     → map meaning_of ls' ≡ map meaning_of ls ++ flat (code_before d fields variables s end) (length ls) next
-    → map meaning_of ls' ++ flat (code_of d fields (variables_behind variables s) ss) (length ls') q
+    → map meaning_of ls' ++ flat (code_of d fields (variables_after variables s) ss) (length ls') q
     ≡ map meaning_of ls ++ flat (code_of d fields variables (first_then s ss)) (length ls) q
 goes_on d fields variables s ss ls ls' next q follows e =
     let one = code_before d fields variables s end in
-    let rest = code_of d fields (variables_behind variables s) ss in
+    let rest = code_of d fields (variables_after variables s) ss in
     let p = length ls in
     let counted : length ls' ≡ p + lines_in s = omega (arith, more_lines ls ls' one p next e, count_before d fields variables s end) in
     ap (λ (n : ℕ). map meaning_of ls' ++ flat rest n q) counted
@@ -140,7 +140,7 @@ none_later None b e = e
 none_later (Some m) b e = absurd (cc)
 
 -- the variables around a block are the first ones within it
-pub still_kept : (n : ℕ) (variables outside : List (List ℕ)) (s : StmtTree) → take n variables ≡ outside → n ≡ length outside → take n (variables_behind variables s) ≡ outside
+pub still_kept : (n : ℕ) (variables outside : List (List ℕ)) (s : StmtTree) → take n variables ≡ outside → n ≡ length outside → take n (variables_after variables s) ≡ outside
 still_kept n variables outside (Let name v) e h =
     let within : n ≤ length variables = omega (arith, ap length e, length-take n variables) in
     take-append-le n variables (name ∷ []) within ∙ e
@@ -148,7 +148,7 @@ still_kept n variables outside _ e h = e
 
 -- the loop over a block keeps its invariant
 pub block_goes_on : (d : Directory) (fields variables variables' : List (List ℕ)) (block : List Stmt) (i : ℕ) (s : Stmt) (ls ls' : List Instruction) (size behind next q : ℕ)
-    → i < length block → s ≡ get_or block i s → variables' ≡ variables_behind variables (view_stmt s)
+    → i < length block → s ≡ get_or block i s → variables' ≡ variables_after variables (view_stmt s)
     → size ≡ lines_in (view_stmt s) → behind ≡ length ls + size
     → next ≡ first_instruction (block_tree (map view_stmt (take (length block - (i + 1)) (drop (i + 1) block)))) behind q
     → map meaning_of ls' ≡ map meaning_of ls ++ flat (code_before d fields variables (view_stmt s) end) (length ls) next
@@ -163,7 +163,7 @@ block_goes_on d fields variables variables' block i s ls ls' size behind next q 
     ∙ ap (λ ss. map meaning_of ls ++ flat (code_of d fields variables ss) (length ls) q) (sym (at_item block i s h is))
 
 pub still_in_order : (d : Directory) (fields variables variables' : List (List ℕ)) (block : List Stmt) (i : ℕ) (s : Stmt)
-    → i < length block → s ≡ get_or block i s → variables' ≡ variables_behind variables (view_stmt s)
+    → i < length block → s ≡ get_or block i s → variables' ≡ variables_after variables (view_stmt s)
     → statements_fault d fields variables (block_tree (map view_stmt (drop i block))) ≡ None
     → statements_fault d fields variables' (block_tree (map view_stmt (drop (i + 1) block))) ≡ None
 still_in_order d fields variables variables' block i s h is v e =

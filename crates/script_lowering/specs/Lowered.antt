@@ -3,7 +3,7 @@ use Rattle.std.specs.Prelude.{ℕ, ◌+◌, max, List, length, map, Option, Some
 use Rattle.script_grammar.specs.Tree.{ExprTree, Number, Named, Negated, Inverted, Both, WaitTree, ValueTree, Computed, Awaited, StmtTree, Let, Assign, Await, If, IfElse, While, Return, Throw, Yield, BlockTree, nothing, first_then}
 use Rattle.script_names.specs.Texts.{is_among, place_of}
 use Rattle.script_names.specs.Directory.{Directory, method_place}
-use Rattle.script_names.specs.Rules.{variables_behind}
+use Rattle.script_names.specs.Rules.{variables_after}
 use Rattle.script_code.specs.declared.instruction.Place.{Place}
 use Rattle.script_code.specs.declared.instruction.Place.TheVariants.{Variable, Field}
 use Rattle.script_code.specs.Tree.{Term, number, variable, field, opposite, denial, binary, Code, end, set_variable, set_field, choice, loop, return, throw, yield, call}
@@ -61,7 +61,7 @@ abbrev mutual
   -- the statements of a block, where these variables stand
   pub code_of : Directory → List (List ℕ) → List (List ℕ) → BlockTree → Code
   code_of d fields variables nothing = end
-  code_of d fields variables (first_then s ss) = code_before d fields variables s (code_of d fields (variables_behind variables s) ss)
+  code_of d fields variables (first_then s ss) = code_before d fields variables s (code_of d fields (variables_after variables s) ss)
 
 abbrev mutual
   -- how many variables stand at most in a statement, where so many stand before it

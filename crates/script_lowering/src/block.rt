@@ -2,7 +2,7 @@
 
 ghost use Rattle.std.specs.Prelude.{◌≡◌, ◌++◌, length, map, None, OnOk};
 ghost use Rattle.script_grammar.specs.Tree.{view_stmt, block_tree};
-ghost use Rattle.script_names.specs.Rules.{statement_fault, statements_fault, variables_behind};
+ghost use Rattle.script_names.specs.Rules.{statement_fault, statements_fault, variables_after};
 ghost use Rattle.script_code.specs.Tree.{end};
 ghost use Rattle.script_code.specs.Flat.{flat, meaning_of};
 ghost use Rattle.script_lowering.specs.Lowered.{code_before, code_of};
@@ -56,7 +56,7 @@ fn statement(
 ) -> Result<(), AllocError>
     requires { statement_fault scope.declared.now scope.fields.now variables.old (view_stmt stmt.now) ≡ None }
     ensures instructions { OnOk result (map meaning_of instructions.new.items ≡ map meaning_of instructions.old.items ++ flat (code_before scope.entry.declared.now scope.entry.fields.now variables.old (view_stmt stmt.now) end) (length instructions.old.items) next) }
-    ensures variables { OnOk result (variables.new ≡ variables_behind variables.old (view_stmt stmt.now)) }
+    ensures variables { OnOk result (variables.new ≡ variables_after variables.old (view_stmt stmt.now)) }
 {
     let here = to_u32(instructions.len())?;
     let inner = sum(here, 1)?;

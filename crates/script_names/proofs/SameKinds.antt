@@ -29,7 +29,7 @@ use Rattle.script_names.specs.declared.error.CheckError.{CheckError}
 use Rattle.script_names.specs.declared.error.CheckError.TheVariants as errors
 use Rattle.script_names.specs.Texts.{is_among}
 use Rattle.script_names.specs.Directory.{Directory, directory_of}
-use Rattle.script_names.specs.Rules.{earlier, where_so, is_standing, name_fault, call_fault, expression_fault, expressions_fault, optional_fault, wait_fault, value_fault, variables_behind, statement_fault, statements_fault, parameters_fault, method_fault, methods_fault, fields_fault, field_names, actor_fault, root_fault, declarations_fault, names_fault}
+use Rattle.script_names.specs.Rules.{earlier, where_so, is_standing, name_fault, call_fault, expression_fault, expressions_fault, optional_fault, wait_fault, value_fault, variables_after, statement_fault, statements_fault, parameters_fault, method_fault, methods_fault, fields_fault, field_names, actor_fault, root_fault, declarations_fault, names_fault}
 use Rattle.script_names.specs.Errors.{at_name, kind_in, call_error, expression_error, expressions_error, optional_error, wait_error, value_error, StmtRule, rules_error, one_error, one_after, one_rule, rule_of, statements_error, parameters_error, method_error, methods_error, fields_error, invariant_error, actor_error, root_error, declarations_error, names_error}
 use Rattle.script_names.specs.Finds.{IsError, IsOfKind}
 
@@ -74,7 +74,7 @@ set_to d fs vs (value.Await w) = wait d fs vs w
 
 -- both rules of a statement agree, and leave the same variables standing
 abbrev Agrees : Directory → List (List ℕ) → Stmt → Type 0
-Agrees d fs s = (vs : List (List ℕ)) → (kind_in ((rule_of d fs s).error vs) ≡ statement_fault d fs vs (view_stmt s)) × ((rule_of d fs s).after vs ≡ variables_behind vs (view_stmt s))
+Agrees d fs s = (vs : List (List ℕ)) → (kind_in ((rule_of d fs s).error vs) ≡ statement_fault d fs vs (view_stmt s)) × ((rule_of d fs s).after vs ≡ variables_after vs (view_stmt s))
 
 block : (d : Directory) (fs : List (List ℕ)) (ys : List ((s : Stmt) × Agrees d fs s)) (vs : List (List ℕ)) → kind_in (rules_error (map (rule_of d fs) (map (λ y. y.0) ys)) vs) ≡ statements_fault d fs vs (block_tree (map view_stmt (map (λ y. y.0) ys)))
 block d fs [] vs = refl
@@ -84,7 +84,7 @@ block d fs (y ∷ ys) vs =
 
 -- the same of one layer
 abbrev AgreesOnce : Directory → List (List ℕ) → Stmt-F Stmt → Type 0
-AgreesOnce d fs x = (vs : List (List ℕ)) → (kind_in (one_error d fs (map-Stmt Stmt StmtRule (rule_of d fs) x) vs) ≡ statement_fault d fs vs (view_one (map-Stmt Stmt StmtTree view_stmt x))) × (one_after (map-Stmt Stmt StmtRule (rule_of d fs) x) vs ≡ variables_behind vs (view_one (map-Stmt Stmt StmtTree view_stmt x)))
+AgreesOnce d fs x = (vs : List (List ℕ)) → (kind_in (one_error d fs (map-Stmt Stmt StmtRule (rule_of d fs) x) vs) ≡ statement_fault d fs vs (view_one (map-Stmt Stmt StmtTree view_stmt x))) × (one_after (map-Stmt Stmt StmtRule (rule_of d fs) x) vs ≡ variables_after vs (view_one (map-Stmt Stmt StmtTree view_stmt x)))
 
 once : (d : Directory) (fs : List (List ℕ)) (y : Stmt-F ((s : Stmt) × Agrees d fs s)) → AgreesOnce d fs (map-Stmt ((s : Stmt) × Agrees d fs s) Stmt (λ z. z.0) y)
 once d fs (stmt.Let n v) vs = (both (at_name n (where_so (is_standing fs vs (text_of n)) Twice)) (value_error d fs vs v) _ _ (kind_at n _) (set_to d fs vs v), refl)
@@ -102,7 +102,7 @@ rolled d fs x h vs =
     let rule : rule_of d fs (roll-Stmt x) ≡ one_rule d fs (map-Stmt Stmt StmtRule (rule_of d fs) x) = fold-roll-Stmt StmtRule (one_rule d fs) x in
     let tree : view_stmt (roll-Stmt x) ≡ view_one (map-Stmt Stmt StmtTree view_stmt x) = fold-roll-Stmt StmtTree view_one x in (
       ap (λ (r : StmtRule). kind_in (r.error vs)) rule ∙ (h vs).0 ∙ ap (statement_fault d fs vs) (sym tree),
-      ap (λ (r : StmtRule). r.after vs) rule ∙ (h vs).1 ∙ ap (variables_behind vs) (sym tree),
+      ap (λ (r : StmtRule). r.after vs) rule ∙ (h vs).1 ∙ ap (variables_after vs) (sym tree),
     )
 
 statement : (d : Directory) (fs : List (List ℕ)) (s : Stmt) → Agrees d fs s

@@ -36,7 +36,7 @@ abbrev pub with_methods : ℕ → List MethodTree → Directory → Directory
 with_methods actor [] d = d
 with_methods actor (m ∷ ms) d = with_methods actor ms (with_method actor m d)
 
--- An actor goes behind the others, with its methods. A second one of its name adds nothing.
+-- An actor goes after the others, with its methods. A second one of its name adds nothing.
 abbrev pub with_actor : ActorTree → Directory → Directory
 with_actor a d =
     if is_among d.actors a.name then d

@@ -56,10 +56,10 @@ abbrev pub value_fault : Directory → List (List ℕ) → List (List ℕ) → V
 value_fault d fields variables (Computed t) = expression_fault fields variables t
 value_fault d fields variables (Awaited w) = wait_fault d fields variables w
 
--- the variables that stand behind a statement: a `let` stands from its end on
-abbrev pub variables_behind : List (List ℕ) → StmtTree → List (List ℕ)
-variables_behind variables (Let name v) = variables ++ name ∷ []
-variables_behind variables _ = variables
+-- the variables that stand after a statement: a `let` stands from its end on
+abbrev pub variables_after : List (List ℕ) → StmtTree → List (List ℕ)
+variables_after variables (Let name v) = variables ++ name ∷ []
+variables_after variables _ = variables
 
 abbrev mutual
   -- A `let` takes a name that does not stand there; what is assigned stands there.
@@ -77,7 +77,7 @@ abbrev mutual
   -- A block's own variables stand to its end.
   pub statements_fault : Directory → List (List ℕ) → List (List ℕ) → BlockTree → Option NameErrorKind
   statements_fault d fields variables nothing = None
-  statements_fault d fields variables (first_then s ss) = earlier (statement_fault d fields variables s) (statements_fault d fields (variables_behind variables s) ss)
+  statements_fault d fields variables (first_then s ss) = earlier (statement_fault d fields variables s) (statements_fault d fields (variables_after variables s) ss)
 
 -- Parameters are distinct, and distinct from the fields.
 abbrev pub parameters_fault : List (List ℕ) → List (List ℕ) → List (List ℕ) → Option NameErrorKind

@@ -13,8 +13,8 @@ use crate::expressions::{expression, stands};
 use crate::statements::statements;
 use crate::texts::Names;
 use script_grammar::{Actor, Decl, Field, Invariant, Method, Name, Root};
-use swift_types::limits::{ACTORS, TASKS};
 use std::alloc::Global;
+use swift_types::limits::{ACTORS, TASKS};
 
 // The name is none of those.
 fn unless_seen(seen: &Names, name: &Name) -> Result<(), CheckError>

@@ -63,7 +63,7 @@ impl Methods {
         Ok(self.set.get_index_of(&key))
     }
 
-    /// Puts a method behind the others, and says whether it is new: one that is there stays where it is.
+    /// Puts a method after the others, and says whether it is new: one that is there stays where it is.
     pub(crate) fn add(
         &mut self,
         alloc: Global,

@@ -54,7 +54,7 @@ impl Names {
         self.set.get_index_of(name)
     }
 
-    /// The place of a name, which goes behind the others where it is new. Where memory runs out, nothing changes.
+    /// The place of a name, which goes after the others where it is new. Where memory runs out, nothing changes.
     pub fn add(&mut self, alloc: Global, name: &[u8]) -> Result<usize, AllocError>
         ensures place { IfOk result (λ n. n ≡ place_of self.old name.now) }
         ensures ok { OnOk result (self.new ≡ with_name self.old name.now) }

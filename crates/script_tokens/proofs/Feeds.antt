@@ -21,7 +21,7 @@ skipped true b n bs f e =
     rw one-add same
 skipped false b n bs f e = refl
 
--- behind a front without line feeds stand as many as before it
+-- after a front without line feeds stand as many as before it
 pub front_has_none : (p : ℕ → Bool) → HasNoFeed p → (bs : List ℕ) → line_feeds (drop (prefix_len p bs) bs) ≡ line_feeds bs
 front_has_none p f [] = refl
 front_has_none p f (b ∷ bs) = skipped (p b) b (prefix_len p bs) bs (f b) (front_has_none p f bs)

@@ -13,7 +13,7 @@ pub record Reading (text rest : List ℕ) (ps : List Piece) (ls : List ℕ) (lin
   pub line_is : line ≡ line_of text rest
   pub fewer : line_feeds rest ≤ line_feeds text
 
--- what stands at the front, and behind it
+-- what stands at the front, and after it
 abbrev pub Begins : Option Piece → List ℕ → List ℕ → Type 0
 Begins o rest bs = let found : Option Piece × List ℕ = (o, rest) in found ≡ front_of bs
 

@@ -8,7 +8,7 @@ use Rattle.script_tokens.specs.Bytes.{is_space, is_digit, is_letter, is_name_byt
 use Rattle.script_tokens.specs.Keywords.{keyword_of}
 use Rattle.script_tokens.specs.Pieces.{Piece, Num, Huge, Name, Key, Sign, Stray}
 
--- the number that decimal digits spell, behind the digits of a number
+-- the number that decimal digits spell, after the digits of a number
 abbrev pub decimal_behind : ℕ → List ℕ → ℕ
 decimal_behind n [] = n
 decimal_behind n (d ∷ ds) = decimal_behind (n * 10 + (d - 48)) ds
@@ -74,7 +74,7 @@ unfoldable pub mark_at : ℕ → List ℕ → Option Piece × List ℕ
 mark_at a [] = (Some (lone (single_of a)), [])
 mark_at a (b ∷ bs) = paired (pair_of a b) a b bs
 
--- What stands at the front, a token or what separates tokens, and what is behind it. The longest one is taken.
+-- What stands at the front, a token or what separates tokens, and what is after it. The longest one is taken.
 unfoldable pub front_at : ℕ → List ℕ → Option Piece × List ℕ
 front_at b bs =
     if is_space b then (None, bs)
@@ -82,7 +82,7 @@ front_at b bs =
     else if is_letter b then (Some (word_of (take_while is_name_byte (b ∷ bs))), drop (prefix_len is_name_byte (b ∷ bs)) (b ∷ bs))
     else mark_at b bs
 
--- what stands at the front of a text, and what is behind it
+-- what stands at the front of a text, and what is after it
 abbrev pub front_of : List ℕ → Option Piece × List ℕ
 front_of [] = (None, [])
 front_of (b ∷ bs) = front_at b bs

@@ -65,7 +65,7 @@ fn line_end(bytes: &[u8]) -> &[u8]
 }
 
 /// What a byte that begins no number, word or white space begins: a mark of two bytes, a comment, a mark of one
-/// byte, or nothing. Also what is behind it.
+/// byte, or nothing. Also what is after it.
 #[tactic(auto, unfolding(crate::specs::Lexes::mark_at))]
 fn mark(first: u8, rest: &[u8]) -> (Option<Lexeme<'_>>, &[u8])
     ensures front { (option_map lexeme_piece result.0, result.1.now) ≡ mark_at first rest.now }
@@ -91,7 +91,7 @@ fn mark(first: u8, rest: &[u8]) -> (Option<Lexeme<'_>>, &[u8])
     }
 }
 
-/// The lexeme at the front, or none where what stands there separates tokens, and what is behind it.
+/// The lexeme at the front, or none where what stands there separates tokens, and what is after it.
 #[tactic(auto, unfolding(crate::specs::Lexes::front_at), using(crate::proofs::Feeds::digits_have_none, crate::proofs::Feeds::name_has_none))]
 pub(crate) fn front(bytes: &[u8]) -> (Option<Lexeme<'_>>, &[u8])
     requires { 0 < length bytes.now }

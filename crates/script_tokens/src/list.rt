@@ -20,7 +20,7 @@ pub struct Tokens {
 }
 
 impl Tokens {
-    /// Puts a token behind the others, on the last line. Its name is copied.
+    /// Puts a token after the others, on the last line. Its name is copied.
     pub(crate) fn add(&mut self, alloc: Global, lexeme: Lexeme<'_>) -> Result<(), AllocError>
         ensures tokens { OnOk result (map piece self.new.tokens.items ≡ map piece self.old.tokens.items ++ lexeme_piece lexeme.entry ∷ []) }
         ensures lines { OnOk result (self.new.lines.items ≡ self.old.lines.items ++ self.old.last_line ∷ []) }

@@ -9,7 +9,7 @@ use crate::front::front;
 use crate::list::Tokens;
 use std::alloc::{AllocError, Global};
 
-/// The line behind the byte at the front, which is the only one there that can be an LF.
+/// The line after the byte at the front, which is the only one there that can be an LF.
 fn next_line(line: u32, bytes: &[u8]) -> u32
     ensures { result ≡ min 4294967295 (line + feeds_at bytes.now) }
 {

@@ -20,7 +20,7 @@ fn end_line(text: &[u8]) -> u32
 pub fn stray_line(text: &[u8]) -> Option<u32>
     // There is one exactly where the text isn't made of bytes that a script may contain.
     ensures found { IsSome result ↔ (is_text text.now ≡ false) }
-    // Its line is the one that is open behind the bytes before it.
+    // Its line is the one that is open after the bytes before it.
     ensures line { IfSome result (λ line. line ≡ line_behind (line_feeds (take_while is_text_byte text.now))) }
 {
     let (before, behind) = text.split_at(text_len(text));

@@ -5,7 +5,7 @@ ghost use Rattle.swift_groups.specs.Inside.{AreLinked, last_of, places_of};
 
 use crate::group::Ended;
 
-/// Puts an ending behind the others, as the last of its group, and links it to the one that was the last before.
+/// Puts an ending after the others, as the last of its group, and links it to the one that was the last before.
 pub(crate) fn enqueue(
     endings: &mut Vec<Ended>,
     after: &mut Vec<Option<usize>>,
