@@ -1,9 +1,9 @@
 // What no clause says: the text of whole reports, byte for byte.
 use crate::{Origin, Record, Report, report_text};
+use script_code::Env;
 use std::alloc::{AllocError, Global};
 use std::process::Abort;
 use std::test::Fail;
-use script_code::Env;
 use swift_script::{Script, read};
 use swift_turn::{Exit, Frame};
 use swift_types::{ActorId, Ending, Fault, MethodId, Priority, Resume, RootId, TaskId};
