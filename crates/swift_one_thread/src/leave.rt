@@ -8,9 +8,9 @@ ghost use Rattle.swift_report.specs.Numbered.{HaveNoGaps};
 ghost use Rattle.swift_one_thread.specs.Executors.{AreRootsFrom, IsPool, ending_in, fields_of, journal_of};
 ghost use Rattle.swift_one_thread.specs.Envs.{HaveTheirEnv};
 
-use crate::pool::Pool;
-use crate::fault::Halt;
 use crate::executor::Executor;
+use crate::fault::Halt;
+use crate::pool::Pool;
 use std::alloc::Global;
 use swift_report::{Origin, Record, Report};
 use swift_types::{Ending, RootId};
@@ -43,7 +43,10 @@ pub fn report_of(alloc: Global, pool: Pool) -> Result<Report, Halt>
 }
 
 // The journals and the fields of executors.
-fn journals_and_fields(alloc: Global, executors: Vec<Executor>) -> Result<(Vec<Vec<Record>>, Vec<Vec<i64>>), Halt>
+fn journals_and_fields(
+    alloc: Global,
+    executors: Vec<Executor>,
+) -> Result<(Vec<Vec<Record>>, Vec<Vec<i64>>), Halt>
     ensures journals { IfOk result (λ r. r.0.items ≡ map journal_of executors.items) }
     ensures fields { IfOk result (λ r. r.1.items ≡ map fields_of executors.items) }
 {

@@ -6,15 +6,15 @@ ghost use Rattle.swift_script.specs.Scripts.{ScriptView, actor_count, root_count
 ghost use Rattle.swift_report.specs.Numbered.{HaveBefore};
 ghost use Rattle.swift_one_thread.specs.Executors.{EndsBy, IsPool, IsJobOf, IsTurned, journal_of, resume_at};
 
+use crate::executor::{Executor, Job};
 use crate::fault::Halt;
 use crate::gate::{Gate, Moment};
-use crate::executor::{Executor, Job};
 use crate::turn::{Turned, take_turn};
 use futures::task::Context;
+use script_code::Env;
 use std::alloc::Global;
 use std::collections::VecDeque;
 use std::sync::Arc;
-use script_code::Env;
 use swift_script::Script;
 use swift_turn::{Body, Step};
 use swift_types::limits::{MADE, TASKS, TURNS};

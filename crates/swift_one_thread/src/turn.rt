@@ -3,12 +3,12 @@
 ghost use Rattle.std.specs.Prelude.{IfOk, OnOk};
 ghost use Rattle.swift_one_thread.specs.Executors.{IsExecutor, IsTurned, Takes, Writes};
 
-use crate::fault::Halt;
 use crate::executor::{Executor, Job};
+use crate::fault::Halt;
 use futures::task::Context;
+use script_code::Env;
 use std::alloc::Global;
 use std::mem;
-use script_code::Env;
 use swift_report::Record;
 use swift_script::Script;
 use swift_turn::{Body, Step, run_turn};

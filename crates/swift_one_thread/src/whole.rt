@@ -10,10 +10,10 @@ ghost use Rattle.swift_one_thread.specs.Executors.{AreRootsFrom};
 ghost use Rattle.swift_one_thread.specs.Envs.{HaveTheirEnv};
 ghost use Rattle.swift_one_thread.specs.declared.fault.RunFault.TheVariants.{Workers};
 
-use crate::pool::{drain, empty_pool, start_roots};
 use crate::fault::{Halt, RunFault};
 use crate::gate::Gate;
 use crate::leave::report_of;
+use crate::pool::{drain, empty_pool, start_roots};
 use futures::task::{Doorbell, Solo};
 use std::alloc::AllocGlobal;
 use std::random::RandomSource;

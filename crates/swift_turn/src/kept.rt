@@ -11,13 +11,13 @@ ghost use Rattle.swift_turn.specs.Turn.{caught, given, kept, taken, undoes as un
 use crate::exit::Exit;
 use crate::fail::leave_frame;
 use crate::play::play;
-use crate::turn_state::{TurnState, copy_state};
 use crate::step::give;
+use crate::turn_state::{TurnState, copy_state};
+use script_code::{Act, Env, Formula, Instruction, Place, Sight, holds, value};
 use std::alloc::{AllocError, Global};
 use std::mem;
-use script_code::{Act, Env, Formula, Instruction, Place, Sight, holds, value};
 use swift_script::Script;
-use swift_types::{Fault, Priority, Resume};
+use swift_types::{Fault, Resume};
 
 // The turn as it is kept. `spare` is overwritten. Out of memory, `run` is as before.
 pub fn play_kept(
@@ -73,7 +73,12 @@ fn play_whole(
 }
 
 // The resume goes to the await that stands open, if one does. None where the frame goes on.
-fn take(instructions: &[Instruction], env: &Env, run: &mut TurnState, resume: Resume) -> Option<Exit>
+fn take(
+    instructions: &[Instruction],
+    env: &Env,
+    run: &mut TurnState,
+    resume: Resume,
+) -> Option<Exit>
     ensures next { (code : _) → Implements instructions.now code
         → next_of (state_of code run.new) result ≡ taken env.now run.old.frame.pending (first (state_of code run.old).todo) resume (state_of code run.old) }
     ensures method { run.new.frame.method ≡ run.old.frame.method }

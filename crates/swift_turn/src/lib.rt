@@ -10,9 +10,9 @@ mod kept;
 pub mod laws;
 mod phase;
 mod play;
-mod turn_state;
 mod stack;
 mod step;
+mod turn_state;
 mod whole;
 
 pub use body::Body;

@@ -6,10 +6,10 @@ ghost use Rattle.swift_turn.specs.TurnStates.{played_of, state_of};
 ghost use Rattle.swift_turn.specs.Turn.{at_limit, end_of, turn};
 
 use crate::exit::Exit;
-use crate::turn_state::TurnState;
 use crate::step::step;
-use std::alloc::{AllocError, Global};
+use crate::turn_state::TurnState;
 use script_code::{Act, Env, Instruction};
+use std::alloc::{AllocError, Global};
 use swift_types::Fault;
 
 // At most `limit` steps.

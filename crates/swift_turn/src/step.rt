@@ -11,8 +11,8 @@ ghost use Rattle.swift_turn.specs.Turn.{act, failing, given, goes, leaves, retur
 
 use crate::exit::Exit;
 use crate::turn_state::TurnState;
-use std::alloc::{AllocError, Global};
 use script_code::{Act, Env, Formula, Instruction, Place, Sight, value};
+use std::alloc::{AllocError, Global};
 use swift_types::Fault;
 
 // One statement. None where the turn goes on.
@@ -36,7 +36,12 @@ pub fn step(
     };
     match &instruction.act {
         Act::End => Ok(Some(Exit::Return(0))),
-        Act::SetVariable(x, e) => Ok(set(value(e, sight), run, Place::Variable(*x), instruction.next)),
+        Act::SetVariable(x, e) => Ok(set(
+            value(e, sight),
+            run,
+            Place::Variable(*x),
+            instruction.next,
+        )),
         Act::SetField(f, e) => Ok(set(value(e, sight), run, Place::Field(*f), instruction.next)),
         Act::Test(e) => Ok(branch(value(e, sight), run, instruction)),
         Act::Return(e) => Ok(Some(returned(value(e, sight)))),
@@ -81,7 +86,11 @@ fn branch(v: Option<i64>, run: &mut TurnState, instruction: &Instruction) -> Opt
     let Some(v) = v else {
         return Some(Exit::Fault(Fault::Overflow));
     };
-    run.frame.line = if v == 0 { instruction.other } else { instruction.next };
+    run.frame.line = if v == 0 {
+        instruction.other
+    } else {
+        instruction.next
+    };
     None
 }
 

@@ -11,8 +11,8 @@ use crate::effect::Effect;
 use crate::exit::Exit;
 use futures::Future;
 use futures::task::Context;
-use std::alloc::AllocError;
 use script_code::Env;
+use std::alloc::AllocError;
 use swift_types::Resume;
 
 /// Enters a turn, polls it and leaves it: the kept turn of the continuation that the body stands for, which then
