@@ -2,11 +2,11 @@
 use Rattle.std.proofs.Common.{◌≡◌, ℕ, List, ◌++◌, ap, ◌∙◌, append_assoc}
 use Rattle.std.specs.Prelude.{Result, Ok, Err, OnOk, is_ok, if◌then◌else◌}
 
--- behind a text stands one more piece
+-- after a text stands one more piece
 onto : (x0 x1 x2 text piece : List ℕ) → x1 ≡ x0 ++ text → x2 ≡ x1 ++ piece → x2 ≡ x0 ++ (text ++ piece)
 onto x0 x1 x2 text piece before e = e ∙ ap (λ (xs : List ℕ). xs ++ piece) before ∙ append_assoc x0 text piece
 
--- seven pieces, one behind the other
+-- seven pieces, one after the other
 pub seven_joined : {A E : Type 0} (r : Result A E) (x0 x1 x2 x3 x4 x5 x6 x7 a b c d e f g : List ℕ) →
     x1 ≡ x0 ++ a → x2 ≡ x1 ++ b → x3 ≡ x2 ++ c → x4 ≡ x3 ++ d → x5 ≡ x4 ++ e → x6 ≡ x5 ++ f → x7 ≡ (if is_ok r then x6 ++ g else x6) →
     OnOk r (x7 ≡ x0 ++ (((((((a ++ b) ++ c) ++ d) ++ e) ++ f) ++ g)))

@@ -19,7 +19,7 @@ use Rattle.swift_report.specs.declared.report.Origin.{Origin}
 use Rattle.swift_report.specs.declared.report.Origin.TheVariants.{Root}
 use Rattle.swift_report.specs.declared.report.Report.{Report}
 
--- the word of a fault, behind a throw its value
+-- the word of a fault, after a throw its value
 abbrev pub fault_text : Fault → List ℕ
 fault_text (Thrown v) = codes "thrown " ++ signed_decimal v
 fault_text Cancelled = codes "cancelled"

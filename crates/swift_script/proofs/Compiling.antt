@@ -49,7 +49,7 @@ one_more d actors k a done more c ms ns all whole lt is fine soon later compiled
 root_first : (roots : List Root) (k : ℕ) (r : Root) → k < length roots → r ≡ get_or roots k r → drop k roots ≡ r ∷ drop (k + 1) roots
 root_first roots k r lt is = cut roots k r lt is ∙ ap (λ (n : ℕ). r ∷ drop n roots) (sym (add-one k))
 
--- the next root calls a method, and so do those behind it
+-- the next root calls a method, and so do those after it
 pub root_fine : (d : Directory) (roots : List Root) (k : ℕ) (r : Root) → k < length roots → r ≡ get_or roots k r → CallMethods d (map view_root (drop k roots))
     → (has_method d (view_root r).actor (view_root r).method ≡ true) × CallMethods d (map view_root (drop (k + 1) roots))
 root_fine d roots k r lt is fine = subst (λ (xs : List Root). CallMethods d (map view_root xs)) (root_first roots k r lt is) fine

@@ -57,7 +57,7 @@ pub read_stands : (text : List ℕ) (kept : Lines) (e : ReadError) → AreLines 
 read_stands text kept reading.Memory l = refl
 read_stands text kept (reading.Fault f) l = of_grammar text (line_in kept f.tokens_left) f.kind (f.tokens_left, begins_on text kept f.tokens_left l)
 
--- an actor's invariant that does not hold at the start, behind others that do
+-- an actor's invariant that does not hold at the start, after others that do
 false_is : (actors : List Actor) (k : ℕ) → all_hold (take k (map compiled_actor (map view_actor actors))) ≡ true → IsSomeAnd (slice_get (map compiled_actor (map view_actor actors)) k) (λ a. holds a.invariant a.start ≡ false)
     → false_invariant actors ≡ Some (keyword_at (slice_get actors k))
 false_is [] k e h = absurd h

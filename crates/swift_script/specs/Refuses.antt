@@ -20,7 +20,7 @@ use Rattle.swift_script.specs.FaultLines.{line_in}
 abbrev pub HasNoTree : List ℕ → Type 0
 HasNoTree text = IsPlain text × SpellsNothing text
 
--- The cause of a refusal, of which none that is looked for before it is met; want of memory says nothing of the text.
+-- The cause of a refusal, of which none that is looked for before it is met; out of memory says nothing of the text.
 abbrev pub Refuses : ScriptFaultKind → List ℕ → Type 0
 Refuses kind.NotText text = (length text ≤ BYTES) × (is_text text ≡ false)
 Refuses kind.Unexpected text = HasNoTree text

@@ -84,7 +84,7 @@ fn compile_method(
     })
 }
 
-// The methods of one actor, behind those of the actors before it.
+// The methods of one actor, after those of the actors before it.
 fn compile_methods(
     alloc: Global,
     declared: &Declared,

@@ -48,13 +48,13 @@ pub enum ScriptFaultKind {
 #[derive(Clone, Copy, Debug, PartialEq, Eq, Error)]
 #[error("line {line}: {kind}")]
 pub struct ScriptFault {
-    /// The line, counted by LF from 1; 0 where memory was wanted.
+    /// The line, counted by LF from 1; 0 where memory ran out.
     pub line: u32,
     pub kind: ScriptFaultKind,
 }
 
 impl ScriptFault {
-    /// The fault for want of memory, which stands on no line.
+    /// The fault where memory runs out, which stands on no line.
     pub(crate) const MEMORY: ScriptFault = ScriptFault {
         line: 0,
         kind: ScriptFaultKind::Memory,

@@ -33,7 +33,7 @@ pub fn read(alloc: Global, bytes: &[u8]) -> Result<Script, ScriptFault>
     ensures found { IfOk result (λ s. IsAccepted bytes.now (tree_of s)) }
     // What is accepted is read, unless memory runs out.
     ensures accepted { (tree : ScriptTree) → IsAccepted bytes.now tree → IsReadAs tree result }
-    // Each refusal stands for its own cause, and for none that is looked for before it.
+    // Each refusal has its stated cause, and for none that is looked for before it.
     ensures refused { IfErr result (λ e. Refuses e.kind bytes.now) }
     // It stands on the line of the first byte outside text, of the first name that is concerned, or of the first
     // invariant that is false at the start; one of the grammar on that of some token; out of memory on line 0.

@@ -19,7 +19,8 @@ use std::marker::Model;
 use swift_types::limits::ACTORS;
 use swift_types::{ActorId, MethodId, Priority, RootId};
 
-/// A script that `read` accepted: no rule on its names, counts and invariants is broken, and its methods are lines.
+/// A script that `read` accepted: no rule on its names, counts and invariants is broken, and its methods are
+/// compiled to instructions.
 ///
 /// All that a turn needs of it is found in constant time. Contracts see its declarations.
 #[derive(Drop)]
@@ -96,7 +97,7 @@ impl Script {
         self.roots.len()
     }
 
-    /// The method as numbered lines. Following them from line 0 stands for the method's statements.
+    /// The method as numbered instructions. Following them from number 0 does the method's statements.
     pub fn instructions(&self, method: MethodId) -> &[Instruction]
         requires { method.0 < method_count self.now }
         ensures { Implements result.now (method_code self.now method.0) }
@@ -188,7 +189,7 @@ impl Script {
     }
 
     /// Whether two scripts have equal trees: they declare the same, whatever their spaces, comments, redundant
-    /// parentheses, and the order of actors against roots. Scripts of one text are told without a look at their trees.
+    /// parentheses, and the order of actors against roots. Scripts of one text are given without a look at their trees.
     /// Linear in the texts and the trees.
     pub fn says_the_same(&self, other: &Script) -> bool
         ensures { IsTrue result ↔ (tree_of self.now ≡ tree_of other.now) }

@@ -8,7 +8,8 @@ use Rattle.swift_turn.specs.Turn.{State, EffectView, oldest, head, tail, pending
 use Rattle.swift_turn.specs.declared.effect.Effect.{Effect}
 use Rattle.swift_turn.specs.declared.frame.Frame.{Frame}
 
--- a method that is under way, with its task's counts: the line stands for the statements still to do
+-- a method that is under way, with its task's counts: its line is the number of the instruction that
+-- comes next, and stands for the statements still to do
 pub record FrameView : Type 0 where
   pub method : ℕ
   pub line : ℕ

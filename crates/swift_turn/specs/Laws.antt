@@ -26,8 +26,8 @@ SaysUndone _ = ⊥
 abbrev pub IsUndone : Played → Type 0
 IsUndone p = SaysUndone (fault_of p.exit)
 
--- All is as it was, but for how the frame is left: its bindings are cut, its innermost group, if one is open, is closed,
--- and a fault may wait for that, of which this says nothing.
+-- All is as it was, but for how the frame is left: its bindings are cut, its innermost group, if one is open, is
+-- closed, and a fault may wait for that, of which this says nothing.
 pub record IsUntouched (before after : State) : Type 0 where
   pub todo : after.todo ≡ before.todo
   pub vars : after.vars ≡ before.vars

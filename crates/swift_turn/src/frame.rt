@@ -16,7 +16,8 @@ use swift_types::{Fault, MethodId};
 pub struct Frame {
     /// Its method.
     pub method: MethodId,
-    /// The line at which its next turn begins. One past the last line stands for the end of the method.
+    /// The number of the instruction at which its next turn begins. One past the last stands for the end of the
+    /// method.
     pub line: u32,
     /// Its variables, by number.
     pub vars: Vec<i64>,

@@ -9,8 +9,9 @@ pub fn invariant_is_kept()
 {}
 
 /// A turn that ends with a false invariant, `overflow`, `steps` or `tasks` changes nothing but how its frame is left:
-/// the frame's variables and the statements still to do, its task's counts and its actor's fields are as before, it has
-/// no effect, and no binding and no group of that turn stands (our own).
+/// the frame's variables and the statements still to do, its task's counts, its actor's fields and the effects are as
+/// before the turn. The bindings are cut to those that stood when the frame began, and of the groups that were open the
+/// innermost one is closed (our own).
 pub fn undone_turn_changes_nothing()
     ensures { UndoneChangesNothing }
 {}

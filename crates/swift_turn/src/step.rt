@@ -64,7 +64,7 @@ pub fn step(
     }
 }
 
-// A value goes to its place, and the frame goes on at the next line. Without one the turn overflows.
+// A value goes to its place, and the frame goes on at the next instruction. Without one the turn overflows.
 fn set(v: Option<i64>, run: &mut TurnState, place: Place, next: u32) -> Option<Exit>
     ensures next { (code : _) → next_of (state_of code run.new) result
         ≡ with_value v (state_of code run.old) (given (Some place) (code_at code next) (state_of code run.old)) }
@@ -77,7 +77,8 @@ fn set(v: Option<i64>, run: &mut TurnState, place: Place, next: u32) -> Option<E
     None
 }
 
-// The frame goes on after a test, where its value is 0 at the other line. Without one the turn overflows.
+// The frame goes on after a test, where its value is 0 at the other instruction. Without one the turn
+// overflows.
 fn branch(v: Option<i64>, run: &mut TurnState, instruction: &Instruction) -> Option<Exit>
     ensures next { (code : _) → let s = state_of code run.old in next_of (state_of code run.new) result
         ≡ with_value v s (λ x. goes (record s { todo = if is_zero x then code_at code instruction.now.other else code_at code instruction.now.next })) }
@@ -114,7 +115,7 @@ fn thrown(v: Option<i64>) -> Exit
     }
 }
 
-// An await is given its value, and the frame goes on at the line after it.
+// An await is given its value, and the frame goes on at the instruction after it.
 pub fn give(run: &mut TurnState, place: Option<Place>, next: u32, v: i64)
     ensures next { (code : _) → goes (state_of code run.new) ≡ given place (code_at code next) (state_of code run.old) v }
     ensures method { run.new.frame.method ≡ run.old.frame.method }

@@ -5,13 +5,13 @@ ghost use Rattle.script_grammar.specs.declared.fault.ReadError.TheVariants.{Memo
 ghost use Rattle.swift_script.specs.declared.fault.ScriptFaultKind.TheVariants.{Memory as ScriptMemory};
 
 use crate::again::{Refusal, again, wrong};
+use script_grammar::{Actor, Decl, ReadError, Root, declarations};
+use script_printing::print;
+use script_tokens::tokens;
 use std::alloc::Global;
 use std::sync::Arc;
-use script_grammar::{Actor, Decl, ReadError, Root, declarations};
 use swift_output::write_all;
-use script_printing::print;
 use swift_script::{Script, ScriptFault, ScriptFaultKind, print_script, read};
-use script_tokens::tokens;
 
 /// A script with each kind of declaration, of statement and of operator.
 pub const TEXT: &str = "// A bank and a client.
