@@ -24,10 +24,18 @@ pub fn measure(rt: &HostRuntime) -> Result<Duration, BenchFault> {
         return Err(BenchFault::Memory);
     };
     let start = Instant::now(rt)?;
-    for _ in 0..OPERATIONS {
-        one_turn(&word, &mut seat)?;
-    }
+    turns(&word, &mut seat)?;
     Ok(start.elapsed(rt)?)
+}
+
+fn turns(word: &Word<Number>, seat: &mut Seat<Number>) -> Result<(), BenchFault>
+    requires same_word { IsSeatOf word.now seat.old }
+    requires free { seat.old.holding ≡ None }
+{
+    for _ in 0..OPERATIONS {
+        one_turn(word, seat)?;
+    }
+    Ok(())
 }
 
 // One operation: a job is counted, the state taken, and given back as after a turn.

@@ -10,11 +10,11 @@ ghost use Rattle.script_lowering.specs.Calls.{IsCallOf};
 
 use crate::expression::{formula, formula_if, formulas};
 use crate::instruction::set;
-use crate::number::{to_u32, sum};
-use std::alloc::{AllocError, Global};
-use script_grammar::{Call, Value, Wait};
+use crate::number::{sum, to_u32};
 use script_code::{Act, Instruction, Place, push_instruction};
+use script_grammar::{Call, Value, Wait};
 use script_names::{Declared, Names};
+use std::alloc::{AllocError, Global};
 use swift_types::{ActorId, MethodId};
 
 /// What stands around the variables of a method: what the script declares, and the fields of the method's actor.
@@ -87,6 +87,14 @@ pub(crate) fn assignment(
             let formula = formula(alloc, scope.fields, variables, expr)?;
             set(instructions, place, formula, next)
         }
-        Value::Await(wait) => call(alloc, scope, variables, instructions, Some(place), wait, next),
+        Value::Await(wait) => call(
+            alloc,
+            scope,
+            variables,
+            instructions,
+            Some(place),
+            wait,
+            next,
+        ),
     }
 }

@@ -10,13 +10,13 @@ ghost use Rattle.script_lowering.specs.Lowered.{code_before, code_of};
 use crate::assignment::{Scope, assignment, call};
 use crate::expression::formula;
 use crate::instruction::first_instruction;
-use crate::number::{to_u32, sum};
+use crate::number::{sum, to_u32};
 use crate::place::place;
 use crate::size::{size, size_of};
-use std::alloc::{AllocError, Global};
-use script_grammar::Stmt;
 use script_code::{Act, Instruction, Place, push_instruction};
+use script_grammar::Stmt;
 use script_names::Names;
+use std::alloc::{AllocError, Global};
 
 /// The instructions of a block, which go on at the instruction `after`. Its own variables stand to its end. A statement
 /// is sized at most twice for each block that it stands in, of which the grammar allows 32; all else is linear in the
@@ -74,7 +74,12 @@ fn statement(
         Stmt::Await(wait) => call(alloc, scope, variables, instructions, None, wait, next),
         Stmt::If(expr, held) => {
             let test = formula(alloc, scope.fields, variables, expr)?;
-            push_instruction(instructions, Act::Test(test), first_instruction(held, inner, next), next)?;
+            push_instruction(
+                instructions,
+                Act::Test(test),
+                first_instruction(held, inner, next),
+                next,
+            )?;
             block(alloc, scope, variables, instructions, held, next)
         }
         Stmt::IfElse(expr, held, failed) => {
@@ -87,7 +92,12 @@ fn statement(
         }
         Stmt::While(expr, body) => {
             let test = formula(alloc, scope.fields, variables, expr)?;
-            push_instruction(instructions, Act::Test(test), first_instruction(body, inner, here), next)?;
+            push_instruction(
+                instructions,
+                Act::Test(test),
+                first_instruction(body, inner, here),
+                next,
+            )?;
             block(alloc, scope, variables, instructions, body, here)
         }
         Stmt::Return(expr) => {

@@ -6,10 +6,10 @@ ghost use Rattle.script_code.specs.Tree.{term_of, terms_of, term_if};
 ghost use Rattle.script_lowering.specs.Lowered.{lowered, lowered_if};
 
 use crate::place::place;
-use std::alloc::{AllocError, Global};
-use script_grammar::Expr;
 use script_code::{Formula, Place};
+use script_grammar::Expr;
 use script_names::Names;
+use std::alloc::{AllocError, Global};
 
 /// An expression with places for its names, in time linear in its size (our own). A name is the field of that name, or
 /// else the variable; one that stands nowhere is taken as the variable after the last. An actor's invariant has no

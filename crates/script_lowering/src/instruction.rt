@@ -7,9 +7,9 @@ ghost use Rattle.script_code.specs.Flat.{flat, meaning_of};
 ghost use Rattle.script_lowering.specs.Lowered.{set_at};
 ghost use Rattle.script_lowering.specs.Sizes.{first_instruction as first_line_of};
 
-use std::alloc::AllocError;
-use script_grammar::Stmt;
 use script_code::{Act, Formula, Instruction, Place, push_instruction};
+use script_grammar::Stmt;
+use std::alloc::AllocError;
 
 /// The first instruction of a block that stands at one instruction and is followed by another.
 pub(crate) fn first_instruction(block: &[Stmt], at: u32, after: u32) -> u32

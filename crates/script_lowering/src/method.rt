@@ -12,10 +12,10 @@ use crate::block::block;
 use crate::number::to_u32;
 use crate::size::size;
 use crate::slots::slots;
-use std::alloc::{AllocError, Global};
-use script_grammar::{Field, Name, Stmt};
 use script_code::{Act, Instruction, push_instruction};
+use script_grammar::{Field, Name, Stmt};
 use script_names::{Declared, Names};
+use std::alloc::{AllocError, Global};
 
 /// A method as a turn runs it.
 #[derive(Drop)]
@@ -57,7 +57,10 @@ pub fn lower(
     block(alloc, scope, &mut variables, &mut instructions, body, last)?;
     push_instruction(&mut instructions, Act::End, last, last)?;
     let slots = slots(to_u32(params.len())?, body)?;
-    Ok(Lowered { instructions, slots })
+    Ok(Lowered {
+        instructions,
+        slots,
+    })
 }
 
 /// The names of an actor's fields, which have to be distinct, as `script_names::check` finds. By their places its

@@ -5,9 +5,9 @@ ghost use Rattle.script_names.specs.Texts.{place_of};
 ghost use Rattle.script_lowering.specs.Lowered.{place_named};
 
 use crate::number::to_u32;
-use std::alloc::AllocError;
 use script_code::Place;
 use script_names::Names;
+use std::alloc::AllocError;
 
 /// The field of that name, or else the variable, found by hashes. A name that stands nowhere is taken as the variable
 /// after the last.

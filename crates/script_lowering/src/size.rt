@@ -5,8 +5,8 @@ ghost use Rattle.script_grammar.specs.Tree.{view_stmt, block_tree};
 ghost use Rattle.script_lowering.specs.Sizes.{lines_in, lines_of};
 
 use crate::number::sum;
-use std::alloc::AllocError;
 use script_grammar::{Stmt, Value};
+use std::alloc::AllocError;
 
 /// How many instructions the statements of a block take, in time linear in these and in all within them.
 #[cycle(size)]

@@ -5,8 +5,8 @@ ghost use Rattle.script_grammar.specs.Tree.{view_stmt, block_tree};
 ghost use Rattle.script_lowering.specs.Lowered.{most_in, most_of};
 
 use crate::number::sum;
-use std::alloc::AllocError;
 use script_grammar::Stmt;
+use std::alloc::AllocError;
 
 /// How many variables stand at most in the statements of a block, where so many stand before it, in time linear in
 /// these and in all within them.

@@ -9,9 +9,9 @@ use crate::expression::write_expr;
 use crate::list::{Write, write_all, write_list};
 use crate::statement::write_block;
 use crate::token::{write_keyword, write_magnitude, write_name, write_sign};
-use std::alloc::AllocError;
 use script_grammar::{Actor, Field, Invariant, Method, Root};
 use script_tokens::{Keyword, Mark};
+use std::alloc::AllocError;
 use swift_types::Priority;
 
 impl Write for i64 {

@@ -8,9 +8,9 @@ ghost use Rattle.script_printing.specs.Printed.{after};
 
 use crate::list::Write;
 use crate::token::{write_keyword, write_name, write_number, write_sign};
-use std::alloc::AllocError;
 use script_grammar::{Expr, Name};
 use script_tokens::{Keyword, Mark};
+use std::alloc::AllocError;
 use swift_types::Operator;
 
 impl Write for Name {

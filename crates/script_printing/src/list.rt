@@ -7,8 +7,8 @@ ghost use Rattle.script_printing.specs.Pieces.{behind_comma, listed};
 ghost use Rattle.script_printing.specs.Printed.{after};
 
 use crate::token::write_sign;
-use std::alloc::AllocError;
 use script_tokens::Mark;
+use std::alloc::AllocError;
 
 /// What is printed as tokens.
 pub(crate) trait Write {

@@ -7,8 +7,8 @@ ghost use Rattle.script_printing.specs.Pieces.{pieces_of_actor, pieces_of_root};
 ghost use Rattle.script_printing.specs.Printed.{line_of, printed};
 
 use crate::declaration::{actor_line, root_line};
-use std::alloc::{AllocError, Global};
 use script_grammar::{Actor, Root};
+use std::alloc::{AllocError, Global};
 
 fn actor_lines(out: &mut Vec<u8>, actors: &[Actor]) -> Result<(), AllocError>
     ensures { OnOk result (out.new.items ≡ out.old.items ++ flat_map (λ a. line_of (pieces_of_actor a)) (map view_actor actors.now)) }

@@ -11,9 +11,9 @@ ghost use Rattle.script_printing.specs.Printed.{after};
 use crate::expression::{write_else, write_expr};
 use crate::list::write_list;
 use crate::token::{write_keyword, write_name, write_sign};
-use std::alloc::AllocError;
 use script_grammar::{Call, Expr, Name, Stmt, Value, Wait};
 use script_tokens::{Keyword, Mark};
+use std::alloc::AllocError;
 
 #[tactic(auto, using(crate::proofs::Written::after_after))]
 fn write_call(out: &mut Vec<u8>, call: &Call) -> Result<(), AllocError>

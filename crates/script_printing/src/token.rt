@@ -6,8 +6,8 @@ ghost use Rattle.script_tokens.specs.Pieces.{Num, Name, Key, Sign};
 ghost use Rattle.script_printing.specs.Printed.{after};
 
 use crate::word::{keyword_text, mark_text};
-use std::alloc::AllocError;
 use script_tokens::{Keyword, Mark};
+use std::alloc::AllocError;
 
 /// The digits of a number, without leading zeros.
 #[tactic(auto, using(std::proofs::lemmas::Fmt::decimal_digit))]
