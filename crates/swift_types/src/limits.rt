@@ -21,3 +21,9 @@ pub const ACTORS: usize = 64;
 
 /// How many bytes a script may have.
 pub const BYTES: usize = 65_536;
+
+/// The most executors that a script declares. An actor without one has an executor of its own beside these.
+pub const EXECUTORS: usize = 64;
+
+/// The most workers of a run, which are numbered from 0.
+pub const WORKERS: usize = 8;

@@ -1,0 +1,17 @@
+pub mod Steps
+pub mod Front
+pub mod Operands
+pub mod Tokens
+pub mod Ints
+pub mod Items
+pub mod Lists
+pub mod Sound
+pub mod Complete
+pub mod ActionsSound
+pub mod ActionsComplete
+pub mod StatementsSound
+pub mod StatementsComplete
+pub mod DeclarationsSound
+pub mod DeclarationsComplete
+pub mod WiderLimits
+pub mod Whole

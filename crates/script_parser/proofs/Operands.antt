@@ -1,0 +1,41 @@
+-- Reading operands one after the other, as a loop does.
+use Rattle.std.proofs.Common.{◌≡◌, ℕ, suc, ◌+◌, ◌-◌, ◌<◌, List, Some, Result, Ok, Err, refl, sym, ◌∙◌, arith}
+use Rattle.script_parser.specs.declared.fault.Fault.{Fault}
+use Rattle.script_parser.specs.declared.fault.ReadError.{ReadError}
+use Rattle.script_parser.specs.declared.fault.ReadError.TheVariants as errors
+use Rattle.swift_types.specs.declared.operator.Operator.{Operator}
+use Rattle.script_tokens.specs.Pieces.{Piece}
+use Rattle.whole_grammar.specs.Tree.{ExprTree, Both}
+use Rattle.script_parser.specs.declared.limits.TheConstants.{NESTING}
+use Rattle.script_parser.specs.Model.Steps.{Fails}
+use Rattle.script_parser.specs.Model.Expressions.{Read, operator_at, checked, operands_at}
+
+module _ (operand : Read) (k : ℕ) where
+  pub next_operand : (count i : ℕ) (a : ExprTree) (ts : List Piece) (o : Operator) (following : List Piece) (b t : ExprTree) (after : List Piece) (total : Result (ExprTree × List Piece) Fault) → i < count
+      → operator_at k ts ≡ Some (o, following) → operand following ≡ Ok (b, after) → checked NESTING ts (Both o a b) ≡ Ok t
+      → operands_at NESTING operand k (count - i) a ts ≡ total → operands_at NESTING operand k (count - (i + 1)) t after ≡ total
+  unfolding operands_at
+  next_operand count i a ts o following b t after total lt at read low so_far =
+      let n : count - i ≡ suc (count - (i + 1)) = omega arith in
+      let one : operands_at NESTING operand k (count - i) a ts ≡ operands_at NESTING operand k (count - (i + 1)) t after = rw (n, at, read, low) refl in
+      sym one ∙ so_far
+
+  pub operand_fails : (e : ReadError) (count i : ℕ) (a : ExprTree) (ts : List Piece) (o : Operator) (following : List Piece) (total : Result (ExprTree × List Piece) Fault) → i < count
+      → operator_at k ts ≡ Some (o, following) → Fails e (operand following)
+      → operands_at NESTING operand k (count - i) a ts ≡ total → Fails e total
+  unfolding operands_at
+  operand_fails errors.Memory count i a ts o following total lt at fails so_far = tt
+  operand_fails (errors.Fault f) count i a ts o following total lt at fails so_far =
+      let n : count - i ≡ suc (count - (i + 1)) = omega arith in
+      let one : operands_at NESTING operand k (count - i) a ts ≡ Err f = rw (n, at, fails) refl in
+      sym so_far ∙ one
+
+  pub operand_too_high : (e : ReadError) (count i : ℕ) (a : ExprTree) (ts : List Piece) (o : Operator) (following : List Piece) (b : ExprTree) (after : List Piece) (total : Result (ExprTree × List Piece) Fault) → i < count
+      → operator_at k ts ≡ Some (o, following) → operand following ≡ Ok (b, after) → Fails e (checked NESTING ts (Both o a b))
+      → operands_at NESTING operand k (count - i) a ts ≡ total → Fails e total
+  unfolding operands_at
+  operand_too_high errors.Memory count i a ts o following b after total lt at read fails so_far = tt
+  operand_too_high (errors.Fault f) count i a ts o following b after total lt at read fails so_far =
+      let n : count - i ≡ suc (count - (i + 1)) = omega arith in
+      let one : operands_at NESTING operand k (count - i) a ts ≡ Err f = rw (n, at, read, fails) refl in
+      sym so_far ∙ one

@@ -1,0 +1,29 @@
+use Rattle.std.proofs.Common.{◌≡◌, ◌++◌, ◌∷◌, ◌+◌, [], map, length, sym}
+use Rattle.std.proofs.lemmas.Result.{err_from_is_err_and}
+use Rattle.std.proofs.lemmas.List.{map_push}
+use Rattle.script_parser.specs.declared.fault.Kind.TheVariants.{EndsEarly}
+use Rattle.script_tokens.specs.Pieces.{piece}
+use Rattle.whole_grammar.specs.Tree.{view_field}
+use Rattle.script_parser.specs.Model.Steps.{at}
+use Rattle.script_parser.specs.Model.Parts.{items_at}
+use Rattle.script_parser.specs.Model.Declarations.{fields_end, field_at}
+use Rattle.script_parser.proofs.Front.{goes_on, fails, stops, runs_out, refused_fails}
+use Rattle.script_parser.proofs.actor.fields.Goals as goal
+
+pub returns-in-Some : goal.returns-in-Some
+returns-in-Some c =
+    stops fields_end field_at (map view_field c.loop.items.items) (length c.args.tokens.now + 1) c.loop.counter (map piece c.loop.rest.now) (map piece c.in-Some.after.now) _ c.loop-test.true (sym c.in-Some.ensures) c.loop.invariant
+
+pub returns-in_err-next : goal.returns-in_err-next
+returns-in_err-next c =
+    let p = err_from_is_err_and c.from_residual.result c.from_residual.ensures.1 in
+    rw (p.1, p.2) (fails fields_end field_at c.in_err-next.field-0.0 (map view_field c.loop.items.items) (length c.args.tokens.now + 1) c.loop.counter (map piece c.loop.rest.now) (items_at fields_end field_at (length c.args.tokens.now + 1) (map piece c.args.tokens.now)) c.loop-test.true (sym c.in-None.ensures) c.in_err-next.ensures c.loop.invariant)
+
+pub loop-preserved : goal.loop-preserved
+loop-preserved c =
+    let e : map view_field c.push.new.self.items ≡ map view_field c.loop.items.items ++ (view_field c.in_ok-next.next) ∷ [] = rw c.in_ok-push.ensures.items (map_push _ c.loop.items.items c.in_ok-next.next) in
+    rw e (goes_on fields_end field_at (map view_field c.loop.items.items) (length c.args.tokens.now + 1) c.loop.counter (map piece c.loop.rest.now) (view_field c.in_ok-next.next) (map piece c.in_ok-next.after.now) (items_at fields_end field_at (length c.args.tokens.now + 1) (map piece c.args.tokens.now)) c.loop-test.true (sym c.in-None.ensures) c.in_ok-next.ensures c.loop.invariant)
+
+pub returns : goal.returns
+returns c =
+    refused_fails c.refused.result (at EndsEarly (map piece c.loop.rest.now)) _ c.refused.ensures (runs_out fields_end field_at (map view_field c.loop.items.items) (length c.args.tokens.now + 1) c.loop.counter (map piece c.loop.rest.now) _ c.loop-test.false c.loop.invariant)

@@ -1,0 +1,12 @@
+use Rattle.std.proofs.Common.{◌≡◌, ◌-◌, ◌+◌, map, length}
+use Rattle.script_parser.specs.declared.limits.TheConstants.{NESTING}
+use Rattle.script_tokens.specs.Pieces.{piece}
+use Rattle.whole_grammar.specs.declared.region.Atoms.TheVariants.{Every}
+use Rattle.whole_grammar.specs.Tree.{view}
+use Rattle.script_parser.specs.Model.Expressions.{expr_in}
+use Rattle.script_parser.specs.Model.Parts.{close_at, comma_at, items_at, with_first}
+use Rattle.script_parser.proofs.Front.{with_front}
+use Rattle.script_parser.proofs.call.more_arguments.Given as goal
+
+abbrev pub invariant-loop : goal.invariant-loop
+invariant-loop l = with_front (map view l.items.items) (items_at close_at (comma_at (expr_in Every NESTING (NESTING - 1))) (length l.tokens + 1 - l.counter) (map piece l.rest)) ≡ (with_first (view l.fn.first) (items_at close_at (comma_at (expr_in Every NESTING (NESTING - 1))) (length l.tokens + 1) (map piece l.tokens)))

@@ -1,0 +1,21 @@
+use Rattle.std.proofs.Common.{◌≡◌, ◌-◌, ◌+◌, ◌*◌, map}
+use Rattle.script_parser.specs.declared.limits.TheConstants.{NESTING}
+use Rattle.script_tokens.specs.Pieces.{piece}
+use Rattle.whole_grammar.specs.Tree.{view}
+use Rattle.script_parser.specs.Model.Expressions.{operands_at, level_at, inside_at}
+use Rattle.script_parser.proofs.expression.+expression.Given as goal
+
+abbrev pub decreases-inside : goal.decreases-inside
+decreases-inside l = l.opens * 4000
+
+abbrev pub decreases-unary : goal.decreases-unary
+decreases-unary l = l.opens * 4000 + 1 + l.prefixes
+
+abbrev pub decreases-level : goal.decreases-level
+decreases-level l = l.opens * 4000 + (NESTING + 1) + l.loosest * 40
+
+abbrev pub decreases-operands : goal.decreases-operands
+decreases-operands l = l.opens * 4000 + (NESTING + 2) + (l.tightness - 1) * 40
+
+abbrev pub invariant-operands-loop : goal.invariant-operands-loop
+invariant-operands-loop l = operands_at NESTING (level_at l.atoms NESTING (inside_at l.atoms NESTING l.opens) (l.tightness - 1)) l.tightness (l.most - l.counter) (view l.left.expr) (map piece l.rest) ≡ operands_at NESTING (level_at l.atoms NESTING (inside_at l.atoms NESTING l.opens) (l.tightness - 1)) l.tightness l.most (view l.fn.first.expr) (map piece l.tokens)

@@ -1,0 +1,25 @@
+use Rattle.std.proofs.Common.{◌≡◌, ◌-◌, ◌+◌, ◌*◌, map, length}
+use Rattle.script_parser.specs.declared.limits.TheConstants.{NESTING}
+use Rattle.script_tokens.specs.Pieces.{piece}
+use Rattle.whole_grammar.specs.Tree.{view_stmt}
+use Rattle.script_parser.specs.Model.Statements.{many_at, block_at}
+use Rattle.script_parser.proofs.Front.{with_front}
+use Rattle.script_parser.proofs.statement.+statement.Given as goal
+
+abbrev pub decreases-block : goal.decreases-block
+decreases-block l = l.blocks * 4
+
+abbrev pub decreases-choice : goal.decreases-choice
+decreases-choice l = l.blocks * 4 + 1
+
+abbrev pub decreases-headed : goal.decreases-headed
+decreases-headed l = l.blocks * 4 + 1
+
+abbrev pub decreases-stmt : goal.decreases-stmt
+decreases-stmt l = l.blocks * 4 + 2
+
+abbrev pub decreases-statements : goal.decreases-statements
+decreases-statements l = l.blocks * 4 + 3
+
+abbrev pub invariant-statements-loop : goal.invariant-statements-loop
+invariant-statements-loop l = with_front (map view_stmt l.stmts.items) (many_at NESTING l.region (block_at NESTING l.blocks) (length l.tokens - l.counter) (map piece l.rest)) ≡ many_at NESTING l.region (block_at NESTING l.blocks) (length l.tokens) (map piece l.tokens)

@@ -1,0 +1,53 @@
+//! Executors and task locals, from tokens.
+
+ghost use Rattle.std.specs.Prelude.{◌≡◌, map};
+ghost use Rattle.script_tokens.specs.Pieces.{piece};
+ghost use Rattle.whole_grammar.specs.Tree.{view_executor, view_local};
+ghost use Rattle.script_parser.specs.Model.Steps.{Gives};
+ghost use Rattle.script_parser.specs.Model.Declarations.{kind_at, executor_at, local_at};
+
+use crate::fault::{Kind, ReadError};
+use crate::number::{number, setting};
+use crate::one_token::{Tokens, name, refused, sign};
+use script_tokens::{Keyword, Mark, Token};
+use std::alloc::Global;
+use whole_grammar::{Executor, ExecutorKind, Local};
+
+#[tactic(auto, unfolding(crate::specs::Model::Declarations::kind_at))]
+fn kind(tokens: Tokens<'_>) -> Result<(ExecutorKind, Tokens<'_>), ReadError>
+    ensures { Gives (λ x. (x.0, map piece x.1.now)) result (kind_at (map piece tokens.now)) }
+{
+    match tokens {
+        [] => Err(refused(Kind::EndsEarly, tokens)),
+        [Token::Key(Keyword::Priority), rest @ ..] => Ok((ExecutorKind::Priority, rest)),
+        [Token::Key(Keyword::Fifo), rest @ ..] => Ok((ExecutorKind::Fifo, rest)),
+        [Token::Key(Keyword::Pinned), rest @ ..] => {
+            let (worker, rest) = number(rest)?;
+            Ok((ExecutorKind::Pinned(worker), rest))
+        }
+        _ => Err(refused(Kind::Unexpected, tokens)),
+    }
+}
+
+// An executor after its keyword.
+#[tactic(auto, unfolding(crate::specs::Model::Declarations::executor_at))]
+pub(crate) fn executor(
+    alloc: Global,
+    tokens: Tokens<'_>,
+) -> Result<(Executor, Tokens<'_>), ReadError>
+    ensures { Gives (λ x. (view_executor x.0, map piece x.1.now)) result (executor_at (map piece tokens.now)) }
+{
+    let (name, rest) = name(alloc, tokens)?;
+    let (kind, rest) = kind(rest)?;
+    let rest = sign(Mark::Semicolon, rest)?;
+    Ok((Executor { name, kind }, rest))
+}
+
+// A task local after its keyword.
+#[tactic(auto, unfolding(crate::specs::Model::Declarations::local_at))]
+pub(crate) fn local(alloc: Global, tokens: Tokens<'_>) -> Result<(Local, Tokens<'_>), ReadError>
+    ensures { Gives (λ x. (view_local x.0, map piece x.1.now)) result (local_at (map piece tokens.now)) }
+{
+    let ((name, default), rest) = setting(alloc, tokens)?;
+    Ok((Local { name, default }, rest))
+}

@@ -1,0 +1,295 @@
+//! Expressions, from tokens.
+
+ghost use Rattle.std.specs.Prelude.{◌≡◌, ◌<◌, ◌-◌, map};
+ghost use Rattle.script_tokens.specs.Pieces.{piece};
+ghost use Rattle.std.specs.Option.{option_map};
+ghost use Rattle.whole_grammar.specs.Tree.{view, Negated, Inverted, Both};
+ghost use Rattle.whole_grammar.specs.Grammar.{tightness_of, has_every_atom};
+ghost use Rattle.script_parser.specs.Model.Steps.{Gives};
+ghost use Rattle.script_parser.specs.Model.Expressions.{checked, closed_at, operator_in, operator_at, operands_at, atom_at, unary_at, level_at, inside_at, expr_in};
+
+use crate::fault::{Kind, ReadError};
+use crate::limits::NESTING;
+use crate::measured::Measured;
+use crate::one_token::{Tokens, allowed, name, name_of, refused};
+use script_tokens::{Keyword, Mark, Token};
+use std::alloc::Global;
+use swift_types::Operator;
+use whole_grammar::{Atoms, Expr};
+
+fn operator_of_mark(mark: Mark) -> Option<Operator>
+    ensures { result ≡ operator_in mark }
+{
+    match mark {
+        Mark::Or => Some(Operator::Or),
+        Mark::And => Some(Operator::And),
+        Mark::Equal => Some(Operator::Equal),
+        Mark::Unequal => Some(Operator::Unequal),
+        Mark::Less => Some(Operator::Less),
+        Mark::AtMost => Some(Operator::AtMost),
+        Mark::Greater => Some(Operator::Greater),
+        Mark::AtLeast => Some(Operator::AtLeast),
+        Mark::Plus => Some(Operator::Plus),
+        Mark::Minus => Some(Operator::Minus),
+        Mark::Times => Some(Operator::Times),
+        _ => None,
+    }
+}
+
+fn tightness(operator: Operator) -> u32
+    ensures { result ≡ tightness_of operator }
+{
+    match operator {
+        Operator::Or => 5,
+        Operator::And => 4,
+        Operator::Equal
+        | Operator::Unequal
+        | Operator::Less
+        | Operator::AtMost
+        | Operator::Greater
+        | Operator::AtLeast => 3,
+        Operator::Plus | Operator::Minus => 2,
+        Operator::Times => 1,
+    }
+}
+
+#[tactic(auto, unfolding(crate::specs::Model::Expressions::operator_at))]
+fn next_operator(level: u32, tokens: Tokens<'_>) -> Option<(Operator, Tokens<'_>)>
+    ensures { option_map (λ x. (x.0, map piece x.1.now)) result ≡ operator_at level (map piece tokens.now) }
+{
+    match tokens {
+        [Token::Sign(mark), rest @ ..] => match operator_of_mark(*mark) {
+            Some(operator) => {
+                if tightness(operator) == level {
+                    Some((operator, rest))
+                } else {
+                    None
+                }
+            }
+            None => None,
+        },
+        _ => None,
+    }
+}
+
+#[tactic(auto, unfolding(crate::specs::Model::Expressions::checked))]
+fn negated(alloc: Global, operand: Measured, prefix: Tokens<'_>) -> Result<Measured, ReadError>
+    ensures { Gives (λ m. view m.expr) result (checked NESTING (map piece prefix.now) (Negated (view operand.expr))) }
+{
+    let Measured { expr, height } = operand;
+    if height == NESTING {
+        return Err(refused(Kind::TooDeep, prefix));
+    }
+    let expr = Expr::Negate(Box::new(alloc, expr)?);
+    let height = height + 1;
+    Ok(Measured { expr, height })
+}
+
+#[tactic(auto, unfolding(crate::specs::Model::Expressions::checked))]
+fn inverted(alloc: Global, operand: Measured, prefix: Tokens<'_>) -> Result<Measured, ReadError>
+    ensures { Gives (λ m. view m.expr) result (checked NESTING (map piece prefix.now) (Inverted (view operand.expr))) }
+{
+    let Measured { expr, height } = operand;
+    if height == NESTING {
+        return Err(refused(Kind::TooDeep, prefix));
+    }
+    let expr = Expr::Not(Box::new(alloc, expr)?);
+    let height = height + 1;
+    Ok(Measured { expr, height })
+}
+
+#[tactic(auto, unfolding(crate::specs::Model::Expressions::checked))]
+fn both(
+    alloc: Global,
+    operator: Operator,
+    left: Measured,
+    right: Measured,
+    between: Tokens<'_>,
+) -> Result<Measured, ReadError>
+    ensures { Gives (λ m. view m.expr) result (checked NESTING (map piece between.now) (Both operator (view left.expr) (view right.expr))) }
+{
+    let highest = left.height.max(right.height);
+    if highest == NESTING {
+        return Err(refused(Kind::TooDeep, between));
+    }
+    let height = highest + 1;
+    let left = Box::new(alloc, left.expr)?;
+    let right = Box::new(alloc, right.expr)?;
+    let expr = Expr::Binary(operator, left, right);
+    Ok(Measured { expr, height })
+}
+
+#[tactic(auto, unfolding(crate::specs::Model::Expressions::closed_at))]
+fn closed(inner: Measured, tokens: Tokens<'_>) -> Result<(Measured, Tokens<'_>), ReadError>
+    ensures { Gives (λ x. (view x.0.expr, map piece x.1.now)) result (closed_at (view inner.expr) (map piece tokens.now)) }
+{
+    match tokens {
+        [] => Err(refused(Kind::EndsEarly, tokens)),
+        [Token::Sign(Mark::Close), rest @ ..] => Ok((inner, rest)),
+        _ => Err(refused(Kind::Unexpected, tokens)),
+    }
+}
+
+fn every_atom(atoms: Atoms) -> bool
+    ensures { result ≡ has_every_atom atoms }
+{
+    match atoms {
+        Atoms::Every => true,
+        Atoms::Plain => false,
+    }
+}
+
+// An atom without a parenthesis.
+#[tactic(auto, unfolding(crate::specs::Model::Expressions::atom_at))]
+fn atom(
+    alloc: Global,
+    atoms: Atoms,
+    tokens: Tokens<'_>,
+) -> Result<(Measured, Tokens<'_>), ReadError>
+    ensures { Gives (λ x. (view x.0.expr, map piece x.1.now)) result (atom_at atoms (map piece tokens.now)) }
+{
+    match tokens {
+        [] => Err(refused(Kind::EndsEarly, tokens)),
+        [Token::Num(value), rest @ ..] => {
+            let expr = Expr::Number(*value);
+            Ok((Measured { expr, height: 1 }, rest))
+        }
+        [Token::Name(text), rest @ ..] => {
+            let expr = Expr::Name(name_of(alloc, text)?);
+            Ok((Measured { expr, height: 1 }, rest))
+        }
+        [Token::Huge, ..] => Err(refused(Kind::OutOfRange, tokens)),
+        [Token::Sign(Mark::At), rest @ ..] => {
+            allowed(every_atom(atoms), tokens)?;
+            let (local, rest) = name(alloc, rest)?;
+            let expr = Expr::Local(local);
+            Ok((Measured { expr, height: 1 }, rest))
+        }
+        [Token::Key(Keyword::Priority), rest @ ..] => {
+            allowed(every_atom(atoms), tokens)?;
+            let expr = Expr::Priority;
+            Ok((Measured { expr, height: 1 }, rest))
+        }
+        [Token::Key(Keyword::Cancelled), rest @ ..] => {
+            allowed(every_atom(atoms), tokens)?;
+            let expr = Expr::Cancelled;
+            Ok((Measured { expr, height: 1 }, rest))
+        }
+        _ => Err(refused(Kind::Unexpected, tokens)),
+    }
+}
+
+// An atom after at most so many further prefixes, the first of which stands at `first`.
+#[cycle(expression)]
+#[tactic(auto, unfolding(crate::specs::Model::Expressions::unary_at))]
+fn unary<'a>(
+    alloc: Global,
+    atoms: Atoms,
+    opens: u32,
+    prefixes: u32,
+    first: Tokens<'_>,
+    tokens: Tokens<'a>,
+) -> Result<(Measured, Tokens<'a>), ReadError>
+    ensures { Gives (λ x. (view x.0.expr, map piece x.1.now)) result (unary_at atoms NESTING (inside_at atoms NESTING opens) (map piece first.now) prefixes (map piece tokens.now)) }
+{
+    match tokens {
+        [Token::Sign(Mark::Open), rest @ ..] => {
+            let (inner, rest) = inside(alloc, atoms, opens, tokens, rest)?;
+            closed(inner, rest)
+        }
+        [Token::Sign(Mark::Minus), rest @ ..] => {
+            if prefixes == 0 {
+                return Err(refused(Kind::TooDeep, first));
+            }
+            let (operand, rest) = unary(alloc, atoms, opens, prefixes - 1, first, rest)?;
+            Ok((negated(alloc, operand, tokens)?, rest))
+        }
+        [Token::Sign(Mark::Bang), rest @ ..] => {
+            if prefixes == 0 {
+                return Err(refused(Kind::TooDeep, first));
+            }
+            let (operand, rest) = unary(alloc, atoms, opens, prefixes - 1, first, rest)?;
+            Ok((inverted(alloc, operand, tokens)?, rest))
+        }
+        _ => atom(alloc, atoms, tokens),
+    }
+}
+
+// An expression whose operators bind at least as tightly.
+#[cycle(expression)]
+#[tactic(auto, unfolding(crate::specs::Model::Expressions::level_at))]
+fn level(
+    alloc: Global,
+    atoms: Atoms,
+    opens: u32,
+    loosest: u32,
+    tokens: Tokens<'_>,
+) -> Result<(Measured, Tokens<'_>), ReadError>
+    ensures { Gives (λ x. (view x.0.expr, map piece x.1.now)) result (level_at atoms NESTING (inside_at atoms NESTING opens) loosest (map piece tokens.now)) }
+{
+    if loosest == 0 {
+        return unary(alloc, atoms, opens, NESTING - 1, tokens, tokens);
+    }
+    let (first, rest) = level(alloc, atoms, opens, loosest - 1, tokens)?;
+    let most = if loosest == 3 { 1 } else { NESTING };
+    operands(alloc, atoms, opens, loosest, most, first, rest)
+}
+
+// At most so many further operands, each after an operator of one tightness.
+#[cycle(expression)]
+#[tactic(auto, unfolding(crate::specs::Model::Expressions::operands_at))]
+fn operands(
+    alloc: Global,
+    atoms: Atoms,
+    opens: u32,
+    tightness: u32,
+    most: u32,
+    first: Measured,
+    tokens: Tokens<'_>,
+) -> Result<(Measured, Tokens<'_>), ReadError>
+    requires { 0 < tightness }
+    ensures { Gives (λ x. (view x.0.expr, map piece x.1.now)) result (operands_at NESTING (level_at atoms NESTING (inside_at atoms NESTING opens) (tightness - 1)) tightness most (view first.expr) (map piece tokens.now)) }
+{
+    let mut left = first;
+    let mut rest = tokens;
+    for _ in 0..most {
+        let Some((operator, following)) = next_operator(tightness, rest) else {
+            return Ok((left, rest));
+        };
+        let (right, after) = level(alloc, atoms, opens, tightness - 1, following)?;
+        left = both(alloc, operator, left, right, rest)?;
+        rest = after;
+    }
+    Ok((left, rest))
+}
+
+// What stands in the parenthesis at `paren`, where so many may be opened.
+#[cycle(expression)]
+#[tactic(auto, unfolding(crate::specs::Model::Expressions::inside_at))]
+fn inside<'a>(
+    alloc: Global,
+    atoms: Atoms,
+    opens: u32,
+    paren: Tokens<'_>,
+    tokens: Tokens<'a>,
+) -> Result<(Measured, Tokens<'a>), ReadError>
+    ensures { Gives (λ x. (view x.0.expr, map piece x.1.now)) result (inside_at atoms NESTING opens (map piece paren.now) (map piece tokens.now)) }
+{
+    if opens == 0 {
+        return Err(refused(Kind::TooDeep, paren));
+    }
+    level(alloc, atoms, opens - 1, 5, tokens)
+}
+
+// An expression at the front, within so many further parentheses.
+pub(crate) fn expr(
+    alloc: Global,
+    atoms: Atoms,
+    opens: u32,
+    tokens: Tokens<'_>,
+) -> Result<(Expr, Tokens<'_>), ReadError>
+    ensures { Gives (λ x. (view x.0, map piece x.1.now)) result (expr_in atoms NESTING opens (map piece tokens.now)) }
+{
+    let (Measured { expr, .. }, rest) = level(alloc, atoms, opens, 5, tokens)?;
+    Ok((expr, rest))
+}

@@ -1,0 +1,74 @@
+//! Whole numbers, from tokens.
+
+ghost use Rattle.std.specs.Prelude.{◌≡◌, map, IfOk, FitsSigned};
+ghost use Rattle.std.specs.Int.{w64};
+ghost use Rattle.script_tokens.specs.Pieces.{piece};
+ghost use Rattle.script_parser.specs.Model.Steps.{Gives};
+ghost use Rattle.script_parser.specs.Model.Declarations.{number_at, opposite_at, int_at, setting_at};
+ghost use Rattle.whole_grammar.specs.Tree.{text_of};
+
+use crate::fault::{Kind, ReadError};
+use crate::one_token::{Tokens, name, refused, sign};
+use script_tokens::{Mark, Token};
+use std::alloc::Global;
+use whole_grammar::Name;
+
+#[tactic(auto, unfolding(crate::specs::Model::Declarations::number_at))]
+pub(crate) fn number(tokens: Tokens<'_>) -> Result<(i64, Tokens<'_>), ReadError>
+    ensures gives { Gives (λ x. (x.0, map piece x.1.now)) result (number_at (map piece tokens.now)) }
+    ensures fits { IfOk result (λ x. FitsSigned w64 x.0) }
+{
+    match tokens {
+        [] => Err(refused(Kind::EndsEarly, tokens)),
+        [Token::Num(value), rest @ ..] => Ok((*value, rest)),
+        [Token::Huge, ..] => Err(refused(Kind::OutOfRange, tokens)),
+        _ => Err(refused(Kind::Unexpected, tokens)),
+    }
+}
+
+// The opposite of the number at `digits`.
+#[tactic(auto, unfolding(crate::specs::Model::Declarations::opposite_at))]
+fn opposite<'a>(
+    value: i64,
+    digits: Tokens<'_>,
+    rest: Tokens<'a>,
+) -> Result<(i64, Tokens<'a>), ReadError>
+    ensures gives { Gives (λ x. (x.0, map piece x.1.now)) result (opposite_at (map piece digits.now) value (map piece rest.now)) }
+    ensures fits { IfOk result (λ x. FitsSigned w64 x.0) }
+{
+    if value == i64::MIN {
+        return Err(refused(Kind::OutOfRange, digits));
+    }
+    Ok((-value, rest))
+}
+
+// A number, perhaps after a minus.
+#[tactic(auto, unfolding(crate::specs::Model::Declarations::int_at))]
+pub(crate) fn int(tokens: Tokens<'_>) -> Result<(i64, Tokens<'_>), ReadError>
+    ensures gives { Gives (λ x. (x.0, map piece x.1.now)) result (int_at (map piece tokens.now)) }
+    ensures fits { IfOk result (λ x. FitsSigned w64 x.0) }
+{
+    match tokens {
+        [Token::Sign(Mark::Minus), digits @ ..] => {
+            let (value, rest) = number(digits)?;
+            opposite(value, digits, rest)
+        }
+        _ => number(tokens),
+    }
+}
+
+// A name and the number that it is set to, up to the semicolon.
+#[tactic(auto, unfolding(crate::specs::Model::Declarations::setting_at))]
+pub(crate) fn setting(
+    alloc: Global,
+    tokens: Tokens<'_>,
+) -> Result<((Name, i64), Tokens<'_>), ReadError>
+    ensures gives { Gives (λ x. ((text_of x.0.0, x.0.1), map piece x.1.now)) result (setting_at (map piece tokens.now)) }
+    ensures fits { IfOk result (λ x. FitsSigned w64 x.0.1) }
+{
+    let (name, rest) = name(alloc, tokens)?;
+    let rest = sign(Mark::Assign, rest)?;
+    let (value, rest) = int(rest)?;
+    let rest = sign(Mark::Semicolon, rest)?;
+    Ok(((name, value), rest))
+}

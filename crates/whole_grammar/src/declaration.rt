@@ -1,0 +1,98 @@
+//! Declarations.
+
+use crate::expression::{Expr, Name};
+use crate::statement::Stmt;
+use swift_types::Priority;
+
+/// In which order an executor takes its jobs, and by which worker it is run.
+#[derive(Clone, Copy, Debug, PartialEq, Eq)]
+pub enum ExecutorKind {
+    /// `priority`: the greatest priority first, and of equal ones the oldest (SE-0306; the order among equals is our
+    /// own).
+    Priority,
+    /// `fifo`: the oldest first.
+    Fifo,
+    /// `pinned k`: as `priority`, and run by one worker alone: the k-th modulo the number of workers.
+    Pinned(i64),
+}
+
+/// A serial executor (SE-0392).
+#[derive(Drop)]
+pub struct Executor {
+    /// What it is called.
+    pub name: Name,
+    /// How it takes its jobs.
+    pub kind: ExecutorKind,
+}
+
+/// A task local (SE-0311).
+#[derive(Drop)]
+pub struct Local {
+    /// What it is called.
+    pub name: Name,
+    /// What is read of it where it is not bound.
+    pub default: i64,
+}
+
+/// A field of an actor, with its start value.
+#[derive(Drop)]
+pub struct Field {
+    /// What it is called.
+    pub name: Name,
+    /// Its value before the first turn.
+    pub start: i64,
+}
+
+/// A method of an actor.
+#[derive(Drop)]
+pub struct Method {
+    /// What it is called.
+    pub name: Name,
+    /// Its parameters, in order.
+    pub params: Vec<Name>,
+    /// The statements of its block, in order.
+    pub body: Vec<Stmt>,
+}
+
+/// An actor (SE-0306).
+#[derive(Drop)]
+pub struct Actor {
+    /// What it is called.
+    pub name: Name,
+    /// The executor that it runs on, if one is named (SE-0392). Else it has one of its own.
+    pub executor: Option<Name>,
+    /// Its fields, in order.
+    pub fields: Vec<Field>,
+    /// Its invariant, if it has one: a test that is to hold after each of its turns (our own).
+    pub invariant: Option<Expr>,
+    /// Its methods, in order.
+    pub methods: Vec<Method>,
+}
+
+/// A task that a run starts with (our own).
+#[derive(Drop)]
+pub struct Root {
+    /// What it is called.
+    pub name: Name,
+    /// The actor whose method it runs.
+    pub actor: Name,
+    /// The method that it runs.
+    pub method: Name,
+    /// The method's arguments, in order.
+    pub args: Vec<i64>,
+    /// Its priority: medium where none is given.
+    pub priority: Priority,
+}
+
+/// A declaration.
+#[derive(Drop)]
+pub enum Decl {
+    /// `executor E ..;`
+    Executor(Executor),
+    /// `local L = ..;`
+    Local(Local),
+    /// `actor A { .. }`
+    Actor(Actor),
+    /// `root a = A.f(..);`
+    Root(Root),
+}

@@ -1,0 +1,18 @@
+//! The grammar of scripts: the trees of scripts, and which tokens spell which tree.
+//!
+//! This crate has types and definitions alone. `script_parser` finds the tree that tokens spell.
+#![tactic(auto)]
+
+// Declarations.
+mod declaration;
+// Expressions, calls, and what is waited for.
+mod expression;
+// Which parts may stand where.
+mod region;
+// Statements and blocks.
+mod statement;
+
+pub use declaration::{Actor, Decl, Executor, ExecutorKind, Field, Local, Method, Root};
+pub use expression::{Awaited, Call, Expr, Name, Value, Wait};
+pub use region::{Atoms, Region};
+pub use statement::{Action, Add, Head, Make, Stmt};

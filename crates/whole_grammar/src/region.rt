@@ -1,0 +1,21 @@
+//! Which parts of the grammar may stand where.
+
+/// Which atoms an expression may have.
+#[derive(Clone, Copy, PartialEq, Eq)]
+pub enum Atoms {
+    /// All.
+    Every,
+    /// Numbers, names and parentheses: those of an invariant.
+    Plain,
+}
+
+/// Where a statement stands, as far as the grammar asks.
+#[derive(Clone, Copy, PartialEq, Eq)]
+pub enum Region {
+    /// In a method, outside groups and other actors.
+    Method,
+    /// In a group's block, where no `return` stands.
+    Group,
+    /// In the block of an `assume`, where only statements stand that neither wait nor make tasks.
+    Assume,
+}
