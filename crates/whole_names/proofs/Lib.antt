@@ -1,0 +1,4 @@
+pub mod Keys
+pub mod Standing
+pub mod LeftOut
+pub mod Fails
