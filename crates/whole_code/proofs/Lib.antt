@@ -1,0 +1,4 @@
+pub mod Layouts
+pub mod Lines
+pub mod Mapped
+pub mod Renumbers

@@ -1,0 +1,5 @@
+pub mod Tree
+pub mod Value
+pub mod Seen
+pub mod Instructions
+pub mod Layout

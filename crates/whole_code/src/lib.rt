@@ -1,0 +1,20 @@
+//! Methods as numbered instructions: what each instruction does, which instructions may follow it, and what its
+//! formulas are worth.
+#![tactic(auto)]
+
+mod emit;
+mod env;
+mod evaluation;
+mod formula;
+mod instruction;
+pub mod laws;
+mod sight;
+#[cfg(test)]
+mod tests;
+
+pub use emit::{link, push_instruction, renumber};
+pub use env::Env;
+pub use evaluation::{holds, value};
+pub use formula::{Call, FieldPlace, Formula};
+pub use instruction::{Act, Awaited, Cancelled, Instruction, Place};
+pub use sight::Sight;
