@@ -1,0 +1,4 @@
+pub mod Waits
+pub mod Lists
+pub mod Marks
+pub mod First
