@@ -20,8 +20,6 @@ mod pick;
 mod queue;
 // A script as far as a stage of a run.
 mod script;
-#[cfg(test)]
-mod tests;
 // A million jobs counted, begun and ended on a status word.
 mod word;
 
