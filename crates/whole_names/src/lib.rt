@@ -34,5 +34,5 @@ pub use declarations::check;
 pub use directory::Declared;
 pub use error::{CheckError, NameError, NameErrorKind};
 pub use laws::nothing_left_out;
-pub use scope::NameKind;
+pub use scope::{NameKind, Outside, Scope};
 pub use texts::Names;

@@ -1,6 +1,7 @@
 //! What stands at a place of a script.
 
-ghost use Rattle.std.specs.Prelude.{◌≡◌, None, length, take, OnOk};
+ghost use Rattle.std.specs.Prelude.{◌≡◌, None, length, take, OnOk, OnErr};
+ghost use Rattle.whole_names.specs.Texts.{place_of};
 ghost use Rattle.whole_names.specs.Directory.{fields_at};
 ghost use Rattle.whole_names.specs.Scope.{fields_alone, with_standing, meaning_of, share_a_name};
 ghost use Rattle.whole_names.specs.Rules.{bind_fault};
@@ -29,7 +30,7 @@ pub enum NameKind {
 /// The names that stand at a place, each with its kind: the fields of one actor, and the names of the method. A name is
 /// found by its hash, in time linear in the name.
 #[derive(Drop)]
-pub(crate) struct Scope<'a> {
+pub struct Scope<'a> {
     declared: &'a Declared,
     actor: usize,
     names: Names,
@@ -50,15 +51,18 @@ impl<'a> Model for Scope<'a> {
 
 /// What stands outside a block.
 #[derive(Clone, Copy)]
-pub(crate) struct Outside {
-    actor: usize,
-    names: usize,
-    bound: usize,
+pub struct Outside {
+    /// The actor whose fields stand there.
+    pub actor: usize,
+    /// How many names of the method stand there.
+    pub names: usize,
+    /// How many of them stood where the innermost open `bind` began.
+    pub bound: usize,
 }
 
 impl<'a> Scope<'a> {
     /// Nothing stands there but the fields of the actor at a place.
-    pub(crate) fn fields_alone(alloc: Global, declared: &'a Declared, actor: usize) -> Scope<'a>
+    pub fn fields_alone(alloc: Global, declared: &'a Declared, actor: usize) -> Scope<'a>
         ensures { result ≡ fields_alone declared.now actor }
     {
         Scope {
@@ -71,14 +75,28 @@ impl<'a> Scope<'a> {
     }
 
     /// What the script declares.
-    pub(crate) fn declared(&self) -> &'a Declared
+    pub fn declared(&self) -> &'a Declared
         ensures { result.now ≡ self.now.directory }
     {
         self.declared
     }
 
+    /// The place of the actor whose fields stand there.
+    pub fn actor(&self) -> usize
+        ensures { result ≡ self.now.actor }
+    {
+        self.actor
+    }
+
+    /// The place of a name of the method among those that stand there, the oldest first, or how many these are.
+    pub fn place(&self, name: &[u8]) -> usize
+        ensures { result ≡ place_of self.now.names name.now }
+    {
+        self.names.place_or_len(name)
+    }
+
     /// What a name stands for, if it stands there.
-    pub(crate) fn meaning(&self, name: &[u8]) -> Option<NameKind>
+    pub fn meaning(&self, name: &[u8]) -> Option<NameKind>
         ensures { result ≡ meaning_of self.now name.now }
     {
         if self.declared.has_field(self.actor, name) {
@@ -104,16 +122,12 @@ impl<'a> Scope<'a> {
         self.declared.has_field_among(actor, &self.names)
     }
 
-    /// A name more, which must not stand there yet.
-    pub(crate) fn add(
-        &mut self,
-        alloc: Global,
-        name: &[u8],
-        kind: NameKind,
-    ) -> Result<(), CheckError>
+    /// A name more, which must not stand there yet. Where memory runs out, nothing changes.
+    pub fn add(&mut self, alloc: Global, name: &[u8], kind: NameKind) -> Result<(), CheckError>
         requires { meaning_of self.old name.now ≡ None }
         ensures finds { Finds result None }
         ensures standing { OnOk result (self.new ≡ with_standing self.old name.now kind) }
+        ensures err { OnErr result (self.new ≡ self.old) }
     {
         self.kinds.push(kind)?;
         match self.names.add(alloc, name) {
@@ -126,7 +140,7 @@ impl<'a> Scope<'a> {
     }
 
     /// What stands there, to come back to it after a block.
-    pub(crate) fn outside(&self) -> Outside
+    pub fn outside(&self) -> Outside
         ensures value { result ≡ record { actor = self.now.actor; names = length self.now.names; bound = self.now.bound } }
         ensures as_many { length self.now.kinds ≡ length self.now.names }
     {
@@ -138,21 +152,21 @@ impl<'a> Scope<'a> {
     }
 
     /// From here on stand the fields of the actor at this place.
-    pub(crate) fn assume(&mut self, actor: usize)
+    pub fn assume(&mut self, actor: usize)
         ensures { self.new ≡ record self.old { actor = actor } }
     {
         self.actor = actor;
     }
 
     /// Here begins the innermost open `bind`.
-    pub(crate) fn bind(&mut self)
+    pub fn bind(&mut self)
         ensures { self.new ≡ record self.old { bound = length self.old.names } }
     {
         self.bound = self.names.len();
     }
 
     /// Ends a block: what began in it stands no more.
-    pub(crate) fn leave(&mut self, outside: Outside)
+    pub fn leave(&mut self, outside: Outside)
         ensures { self.new ≡ record self.old { actor = outside.actor; names = take outside.names self.old.names; kinds = take outside.names self.old.kinds; bound = outside.bound } }
     {
         self.actor = outside.actor;

@@ -1,0 +1,5 @@
+pub mod Plan
+pub mod Lowered
+pub mod Counts
+pub mod Standing
+pub mod Heads

@@ -1,0 +1,27 @@
+//! From the trees of a script to what its turns run: numbered instructions whose names are places.
+#![tactic(auto)]
+
+// Statements without a block.
+mod action;
+// Blocks and their statements.
+mod block;
+// Calls, and what is waited for.
+mod call;
+// How many numbers and handles stand.
+mod counts;
+// Expressions.
+mod expression;
+// Instructions, one by one.
+mod instruction;
+// Whole methods, and invariants.
+mod method;
+// Counts of 32 bits.
+mod number;
+// What lowering knows of a whole script.
+mod plan;
+// What stands at a place of a method.
+mod standing;
+
+pub use counts::Counts;
+pub use method::{Lowered, formula, lower};
+pub use plan::Plan;

@@ -1,0 +1,100 @@
+//! Whole methods, and invariants.
+
+ghost use Rattle.std.specs.Prelude.{◌≡◌, map, IfOk, OnOk};
+ghost use Rattle.whole_grammar.specs.Tree.{text_of, view, view_stmt, block_tree};
+ghost use Rattle.whole_names.specs.Scope.{fields_alone};
+ghost use Rattle.whole_names.specs.Rules.{with_parameters};
+ghost use Rattle.whole_code.specs.Tree.{term_of};
+ghost use Rattle.whole_code.specs.Instructions.{Follows};
+ghost use Rattle.whole_code.specs.Layout.{code_at};
+ghost use Rattle.whole_lowering.specs.Counts.{counts_of, most_of};
+ghost use Rattle.whole_lowering.specs.Lowered.{lowered, block_code};
+
+use crate::block::block;
+use crate::counts::most_of;
+use crate::expression::expression;
+use crate::instruction::write;
+use crate::plan::Plan;
+use crate::standing::Standing;
+use std::alloc::{AllocError, Global};
+use whole_code::laws::written_code_implements;
+use whole_code::{Act, Formula, Instruction, renumber};
+use whole_grammar::{Expr, Name, Stmt};
+use whole_names::NameKind;
+
+/// A method as a turn runs it.
+#[derive(Drop)]
+pub struct Lowered {
+    /// What there is to do, from instruction 0 on.
+    pub instructions: Vec<Instruction>,
+    /// How many numbers stand at most: parameters, which have the first places, and variables.
+    pub numbers: u32,
+    /// How many handles stand at most: task variables and groups.
+    pub handles: u32,
+}
+
+/// The instructions of a method of the actor at a place, from what its names stand for (our own). Its names have to be
+/// in order, as `whole_names::check` finds. `Err` says that there was no memory, that an instruction or a place is
+/// numbered past 32 bits, or that a name is made that stands already, or is not declared.
+///
+/// Time and memory are linear in the statements.
+pub fn lower(
+    alloc: Global,
+    plan: &Plan,
+    actor: usize,
+    params: &[Name],
+    body: &[Stmt],
+) -> Result<Lowered, AllocError>
+    // To follow the instructions from instruction 0 on is to do the statements.
+    ensures stands { let code = block_code plan.now (with_parameters (fields_alone plan.now.directory actor) (map text_of params.now)) (block_tree (map view_stmt body.now)) in
+        IfOk result (λ l. Follows l.instructions.items code (code_at code)) }
+    // Each number and each handle has a place, and no place is spare.
+    ensures places { let scope = with_parameters (fields_alone plan.now.directory actor) (map text_of params.now) in
+        IfOk result (λ l. record { numbers = l.numbers; handles = l.handles } ≡ most_of (counts_of scope.kinds) (block_tree (map view_stmt body.now))) }
+{
+    let mut scope = Standing::fields_alone(alloc, plan.declared(), actor);
+    parameters(alloc, &mut scope, params)?;
+    let most = most_of(scope.counts(), body)?;
+    let instructions = instructions(alloc, plan, &mut scope, body)?;
+    Ok(Lowered {
+        instructions,
+        numbers: most.numbers,
+        handles: most.handles,
+    })
+}
+
+/// An expression over the fields of the actor at a place alone: an invariant. `Err` is as that of `lower`.
+pub fn formula(alloc: Global, plan: &Plan, actor: usize, expr: &Expr) -> Result<Formula, AllocError>
+    ensures { IfOk result (λ f. term_of f ≡ lowered plan.now (fields_alone plan.now.directory actor) (view expr.now)) }
+{
+    let scope = Standing::fields_alone(alloc, plan.declared(), actor);
+    expression(alloc, plan, &scope, expr)
+}
+
+// The parameters stand.
+fn parameters(alloc: Global, scope: &mut Standing<'_>, params: &[Name]) -> Result<(), AllocError>
+    ensures { OnOk result (scope.new ≡ with_parameters scope.old (map text_of params.now)) }
+{
+    for param in params {
+        scope.add(alloc, &param.text, NameKind::Number)?;
+    }
+    Ok(())
+}
+
+// The end of a method, its statements before that, and then its first instruction in the place of the end.
+fn instructions(
+    alloc: Global,
+    plan: &Plan,
+    scope: &mut Standing<'_>,
+    body: &[Stmt],
+) -> Result<Vec<Instruction>, AllocError>
+    ensures { let code = block_code plan.now scope.old (block_tree (map view_stmt body.now)) in
+        IfOk result (λ v. Follows v.items code (code_at code)) }
+{
+    let mut instructions = Vec::new(alloc);
+    write(&mut instructions, Act::End, 0)?;
+    let first = block(alloc, plan, scope, &mut instructions, body, 0)?;
+    renumber(&mut instructions, first);
+    written_code_implements();
+    Ok(instructions)
+}
