@@ -5,7 +5,7 @@ use Rattle.std.specs.declared.vec.Vec.{Vec}
 use Rattle.std.specs.declared.alloc.Global.{Global}
 use Rattle.swift_types.specs.Priority.{rank}
 use Rattle.swift_types.specs.declared.outcome.Fault.{Fault}
-use Rattle.swift_types.specs.declared.outcome.Fault.TheVariants.{Thrown, Cancelled, Invariant, Overflow, Steps, Turns, Depth, Tasks, Empty}
+use Rattle.swift_types.specs.declared.outcome.Fault.TheVariants.{Thrown, Cancelled, Invariant, Overflow, Steps, Turns, Depth, Tasks, Empty, Isolation}
 use Rattle.swift_types.specs.declared.outcome.Resume.{Resume}
 use Rattle.swift_types.specs.declared.outcome.Resume.TheVariants.{Start, Go, Value, Fault as Raise}
 use Rattle.swift_types.specs.declared.outcome.Ending.{Ending}
@@ -30,6 +30,7 @@ fault_text Turns = codes "turns"
 fault_text Depth = codes "depth"
 fault_text Tasks = codes "tasks"
 fault_text Empty = codes "empty"
+fault_text Isolation = codes "isolation"
 
 -- what a turn began with
 abbrev pub resume_text : Resume → List ℕ

@@ -9,6 +9,7 @@ fn words_of_faults(rt: HostRuntime) -> Result<(), Fail> {
         (Fault::Cancelled, "cancelled"),
         (Fault::Tasks, "tasks"),
         (Fault::Empty, "empty"),
+        (Fault::Isolation, "isolation"),
     ] {
         let mut out = Vec::new(rt.alloc());
         fault(&mut out, raised)?;

@@ -23,6 +23,7 @@ pub(crate) fn fault(out: &mut Vec<u8>, fault: Fault) -> Result<(), AllocError>
         Fault::Depth => out.extend_from_slice(b"depth"),
         Fault::Tasks => out.extend_from_slice(b"tasks"),
         Fault::Empty => out.extend_from_slice(b"empty"),
+        Fault::Isolation => out.extend_from_slice(b"isolation"),
     }
 }
 

@@ -2,7 +2,7 @@
 use Rattle.std.proofs.Common.{◌≡◌, ℕ, zero, suc, ℤ, Bool, true, false, if◌then◌else◌, Option, Some, None, List, refl, sym, subst, ap, ◌∙◌, ◌⊎◌, inl, inr}
 use Rattle.std.specs.Prelude.{IsTrue, slice_set}
 use Rattle.swift_types.specs.declared.outcome.Fault.{Fault}
-use Rattle.swift_types.specs.declared.outcome.Fault.TheVariants.{Thrown, Cancelled, Invariant, Overflow, Steps, Turns, Depth, Tasks, Empty}
+use Rattle.swift_types.specs.declared.outcome.Fault.TheVariants.{Thrown, Cancelled, Invariant, Overflow, Steps, Turns, Depth, Tasks, Empty, Isolation}
 use Rattle.swift_types.specs.declared.outcome.Resume.{Resume}
 use Rattle.swift_types.specs.declared.outcome.Resume.TheVariants.{Start, Go, Value, Fault as Raise}
 use Rattle.script_code.specs.Tree.{Term}
@@ -133,6 +133,7 @@ plain_undoes s (failing Cancelled) plain undone = absurd (says_of s Cancelled un
 plain_undoes s (failing Turns) plain undone = absurd (says_of s Turns undone)
 plain_undoes s (failing Depth) plain undone = absurd (says_of s Depth undone)
 plain_undoes s (failing Empty) plain undone = absurd (says_of s Empty undone)
+plain_undoes s (failing Isolation) plain undone = absurd (says_of s Isolation undone)
 plain_undoes s (closing g f) plain undone = absurd plain
 plain_undoes s (calling a m vs) plain undone = absurd undone
 plain_undoes s yielding plain undone = absurd undone

@@ -68,6 +68,7 @@ fn fault(out: &mut String, left: Fault) -> Result<(), AllocError> {
         Fault::Depth => out.push_str("depth"),
         Fault::Tasks => out.push_str("tasks"),
         Fault::Empty => out.push_str("empty"),
+        Fault::Isolation => out.push_str("isolation"),
     }
 }
 

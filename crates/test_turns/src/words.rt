@@ -79,6 +79,7 @@ fn fault_of(words: &[&str]) -> Option<Fault> {
         ["depth"] => Some(Fault::Depth),
         ["tasks"] => Some(Fault::Tasks),
         ["empty"] => Some(Fault::Empty),
+        ["isolation"] => Some(Fault::Isolation),
         _ => None,
     }
 }
