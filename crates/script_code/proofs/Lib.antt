@@ -1,1 +1,5 @@
-pub mod Flats
+pub mod Layouts
+pub mod Lines
+pub mod Mapped
+pub mod Renumbers
+pub mod LocalReads

@@ -2,4 +2,4 @@ pub mod Tree
 pub mod Value
 pub mod Seen
 pub mod Instructions
-pub mod Flat
+pub mod Layout

@@ -1,14 +1,17 @@
 //! The value of a formula.
 
 ghost use Rattle.std.specs.Prelude.{◌≡◌, Some};
-ghost use Rattle.script_code.specs.Seen.{scene_of, term_if_lent};
+ghost use Rattle.script_code.specs.Seen.{pairs_of, scene_of, term_if_lent, rows_of};
+ghost use Rattle.swift_locals.specs.Bindings.{value_of};
 ghost use Rattle.script_code.specs.Tree.{term_of};
-ghost use Rattle.script_code.specs.Value.{ev, flag, holds as holds_spec, joined, number_at};
+ghost use Rattle.script_code.specs.Value.{ev, flag, field_at, holds as holds_spec, joined, number_at};
 
 use crate::env::Env;
-use crate::formula::Formula;
-use crate::sight::Sight;
-use swift_types::{Operator, Priority};
+use crate::formula::{FieldPlace, Formula};
+use crate::sight::{Binding, Sight};
+use std::alloc::Global;
+use swift_locals::Bindings;
+use swift_types::{LocalId, Operator, Priority};
 
 /// The value of a formula, or None where a value on the way leaves 64 bits (our own). A variable or field that is not
 /// there counts as 0. Its cost is at most the formula's size.
@@ -25,7 +28,10 @@ fn evaluate(formula: &Formula, sight: &Sight<'_>) -> Option<i64>
     match formula {
         Formula::Number(n) => Some(*n),
         Formula::Variable(x) => Some(number(sight.variables, *x)),
-        Formula::Field(f) => Some(number(sight.fields, *f)),
+        Formula::Field(place) => Some(field(sight.fields, *place)),
+        Formula::Local(local, default) => Some(read(sight, *local).unwrap_or(*default)),
+        Formula::Priority => Some(i64::from(sight.env.priority.number())),
+        Formula::Cancelled => Some(flag_of(sight.env.cancelled)),
         Formula::Negate(e) => evaluate(e, sight)?.checked_neg(),
         Formula::Not(e) => Some(flag_of(evaluate(e, sight)? == 0)),
         Formula::Binary(operator, left, right) => {
@@ -42,10 +48,10 @@ fn evaluate(formula: &Formula, sight: &Sight<'_>) -> Option<i64>
     }
 }
 
-/// Whether the invariant of an actor, if it has one, holds of its fields: its value is a number other than 0. One that
-/// overflows does not hold (our own).
-pub fn holds(invariant: Option<&Formula>, fields: &[i64]) -> bool
-    ensures { result ≡ holds_spec (term_if_lent invariant.entry) fields.now }
+/// Whether the invariant of an actor, if it has one, holds of the fields of its executor's actors: its value is a number
+/// other than 0. One that overflows does not hold (our own).
+pub fn holds(alloc: Global, invariant: Option<&Formula>, fields: &[Vec<i64>]) -> bool
+    ensures { result ≡ holds_spec (term_if_lent invariant.entry) (rows_of fields.now) }
 {
     let Some(test) = invariant else {
         return true;
@@ -58,6 +64,8 @@ pub fn holds(invariant: Option<&Formula>, fields: &[i64]) -> bool
     let sight = Sight {
         variables: &[],
         fields,
+        own: &[],
+        outer: &Bindings::new(alloc),
         env: &env,
     };
     match value(test, sight) {
@@ -66,12 +74,48 @@ pub fn holds(invariant: Option<&Formula>, fields: &[i64]) -> bool
     }
 }
 
+// The value of a local's innermost binding: one of the frame's own, or else one that stood when the frame began.
+#[tactic(auto, using(crate::proofs::LocalReads::value_joined))]
+fn read(sight: &Sight<'_>, local: LocalId) -> Option<i64>
+    ensures { result ≡ value_of (scene_of sight.now).bindings local.0 }
+{
+    match read_own(sight.own, local) {
+        Some(v) => Some(v),
+        None => sight.outer.read(local),
+    }
+}
+
+// The value of the last binding of a local. Its cost is at most the number of bindings.
+fn read_own(own: &[Binding], local: LocalId) -> Option<i64>
+    ensures { result ≡ value_of (pairs_of own.now) local.0 }
+{
+    let mut left = own.len();
+    while left > 0 {
+        left -= 1;
+        let binding = own[left];
+        if binding.local == local {
+            return Some(binding.value);
+        }
+    }
+    None
+}
+
 // The number that is kept in a place, or 0 where there is no such place.
 fn number(xs: &[i64], k: u32) -> i64
     ensures { result ≡ number_at xs.now k }
 {
     match xs.get(k as usize) {
         Some(x) => *x,
+        None => 0,
+    }
+}
+
+// The number that is kept in a field, or 0 where there is no such field.
+fn field(fields: &[Vec<i64>], place: FieldPlace) -> i64
+    ensures { result ≡ field_at (rows_of fields.now) place }
+{
+    match fields.get(place.actor as usize) {
+        Some(row) => number(row, place.field),
         None => 0,
     }
 }

@@ -1,18 +1,40 @@
 //! A method as numbered instructions.
 
-ghost use Rattle.std.specs.Prelude.{◌≡◌, ◌++◌, ◌∷◌, [], map, OnOk, OnErr};
-ghost use Rattle.script_code.specs.Flat.{meaning_of};
+use crate::formula::{Call, FieldPlace, Formula};
+use swift_types::{LocalId, Priority, RootId};
 
-use crate::formula::{Call, Formula};
-use std::alloc::AllocError;
-
-/// Where a number is kept: in a variable of the frame, or in a field of the actor.
-#[derive(Clone, Copy, Debug, PartialEq, Eq)]
+/// Where a number is kept: in a variable of the frame, or in a field.
+#[derive(Clone, Copy, PartialEq, Eq)]
 pub enum Place {
     /// A variable, by its number within its method.
     Variable(u32),
-    /// A field, by its number within its actor.
-    Field(u32),
+    /// A field of an actor of the executor.
+    Field(FieldPlace),
+}
+
+/// What a turn can wait for. Handles, which hold the numbers of tasks and groups, are numbered from 0 within their
+/// method.
+#[derive(Drop)]
+pub enum Awaited {
+    /// What a call gives (SE-0306).
+    Call(Call),
+    /// What a root's task ends with (SE-0304).
+    Root(RootId),
+    /// What the task of a handle ends with (SE-0304).
+    Task(u32),
+    /// What the next child of a handle's group ends with (SE-0304).
+    Next(u32),
+}
+
+/// What is cancelled (SE-0304).
+#[derive(Clone, Copy, PartialEq, Eq)]
+pub enum Cancelled {
+    /// A root's task.
+    Root(RootId),
+    /// The task of a handle.
+    Task(u32),
+    /// The group of a handle.
+    Group(u32),
 }
 
 /// What an instruction does (our own).
@@ -20,23 +42,46 @@ pub enum Place {
 pub enum Act {
     /// The end of the method, which gives 0. It is no step.
     End,
+    /// An `if`, or one test of a `while`: the instruction goes on at `next` where the value is not 0, else at `other`.
+    Test(Formula),
     /// A variable gets a value.
     SetVariable(u32, Formula),
     /// A field gets a value.
-    SetField(u32, Formula),
-    /// An `if`, or one test of a `while`: the instruction goes on at `next` where the value is not 0, else at `other`.
-    Test(Formula),
+    SetField(FieldPlace, Formula),
     /// The frame is left with a value.
     Return(Formula),
     /// The frame is left with the fault `thrown` and a value.
     Throw(Formula),
+    /// The frame is left with the fault `cancelled`, where the task was cancelled at the start of the turn.
+    Check,
     /// The turn ends, and the next one goes on after it.
     Yield,
-    /// The turn ends by asking for a call. Its answer is taken by the instruction `next`, a `Receive`.
-    Call(Call),
+    /// The turn ends by waiting. The answer is taken by the instruction `next`, a `Receive`.
+    Wait(Awaited),
     /// An await that stands open (SE-0306). The value that it is given goes to the place, if there is one. A fault
-    /// gives way to the value of the second formula, if there is one.
+    /// gives way to the value of the second formula, if there is one. It is no step.
     Receive(Option<Place>, Option<Formula>),
+    /// An unstructured task is made, with its maker's priority where none is given. The handle gets its number, if
+    /// there is one.
+    Spawn(Call, Option<Priority>, Option<u32>),
+    /// A detached task is made. The handle gets its number, if there is one.
+    Detach(Call, Priority, Option<u32>),
+    /// A child is added to the group of a handle; where the flag is set, only if the group is not cancelled by then.
+    Add(u32, bool, Call, Option<Priority>),
+    /// A task or a group is cancelled.
+    Cancel(Cancelled),
+    /// A group is opened, and the handle gets its number.
+    Open(u32),
+    /// The end of a group's block: the turn ends, and the children are waited for. It is no step.
+    Close,
+    /// A task local is bound.
+    Bind(LocalId, Formula),
+    /// The innermost binding ends. It is no step.
+    Unbind,
+    /// An `assume` of an actor of the same executor begins. Its fields have places as the others have.
+    Assume,
+    /// An `assume` of an actor of another executor: the fault `isolation`.
+    Isolated,
 }
 
 /// An instruction, and the numbers of the instructions that may follow it. An instruction's number past the last
@@ -49,18 +94,4 @@ pub struct Instruction {
     pub next: u32,
     /// The instruction that follows a test that does not hold. Other instructions leave it unread.
     pub other: u32,
-}
-
-/// Puts an instruction after the others. Where memory runs out, the instructions are as before.
-pub fn push_instruction(
-    instructions: &mut Vec<Instruction>,
-    act: Act,
-    next: u32,
-    other: u32,
-) -> Result<(), AllocError>
-    ensures ok { OnOk result (map meaning_of instructions.new.items ≡ map meaning_of instructions.old.items ++ meaning_of (record { act = act; next = next; other = other }) ∷ []) }
-    ensures err { OnErr result (instructions.new.items ≡ instructions.old.items) }
-{
-    instructions.push(Instruction { act, next, other })?;
-    Ok(())
 }

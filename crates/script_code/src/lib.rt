@@ -2,6 +2,7 @@
 //! formulas are worth.
 #![tactic(auto)]
 
+mod emit;
 mod env;
 mod evaluation;
 mod formula;
@@ -11,8 +12,9 @@ mod sight;
 #[cfg(test)]
 mod tests;
 
+pub use emit::{link, push_instruction, renumber};
 pub use env::Env;
 pub use evaluation::{holds, value};
-pub use formula::{Call, Formula};
-pub use instruction::{Act, Instruction, Place, push_instruction};
-pub use sight::Sight;
+pub use formula::{Call, FieldPlace, Formula};
+pub use instruction::{Act, Awaited, Cancelled, Instruction, Place};
+pub use sight::{Binding, Sight};

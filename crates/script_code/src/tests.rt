@@ -1,10 +1,11 @@
-use crate::laws::{
-    first_instruction_begins, flat_code_counts, flat_code_implements, flat_code_joins,
+use crate::laws::{written_code_counts, written_code_implements, written_code_joins};
+use crate::{
+    Act, Binding, Env, FieldPlace, Formula, Sight, holds, link, push_instruction, renumber, value,
 };
-use crate::{Act, Env, Formula, Sight, push_instruction, value};
 use std::alloc::{AllocError, Global};
 use std::test::Fail;
-use swift_types::{Operator, Priority};
+use swift_locals::Bindings;
+use swift_types::{LocalId, Operator, Priority};
 
 fn binary(
     alloc: Global,
@@ -17,19 +18,33 @@ fn binary(
     Ok(Formula::Binary(operator, left, right))
 }
 
-// The value where variable 0 is 6, and field 0 is 8.
-fn seen(formula: &Formula) -> Option<i64> {
+fn own(local: u32, value: i64) -> Binding {
+    Binding {
+        local: LocalId(local),
+        value,
+    }
+}
+
+// The value where variable 0 is 6, field 0 of actor 1 is 8, in a turn of priority high. Local 2 is bound to 9 outside the
+// frame and local 3 to 4, and inside it local 3 to 5 and then to 6.
+fn seen(alloc: Global, formula: &Formula) -> Result<Option<i64>, AllocError> {
     let env = Env {
-        priority: Priority::Medium,
-        cancelled: false,
+        priority: Priority::High,
+        cancelled: true,
         room: 16,
     };
+    let mut bindings = Bindings::new(alloc);
+    bindings.bind(LocalId(2), 7)?;
+    bindings.bind(LocalId(2), 9)?;
+    bindings.bind(LocalId(3), 4)?;
     let sight = Sight {
         variables: &[6],
-        fields: &[8],
+        fields: &[Vec::new(alloc), Vec::from_slice(alloc, &[8])?],
+        own: &[own(3, 5), own(3, 6)],
+        outer: &bindings,
         env: &env,
     };
-    value(formula, sight)
+    Ok(value(formula, sight))
 }
 
 const JOINED: [(Operator, i64, i64, Option<i64>); 26] = [
@@ -66,7 +81,7 @@ fn operators(rt: HostRuntime) -> Result<(), Fail> {
     let alloc = rt.alloc();
     for (operator, x, y, want) in JOINED {
         let formula = binary(alloc, operator, Formula::Number(x), Formula::Number(y))?;
-        assert_eq!(rt; seen(&formula), want, "{operator:?} of {x} and {y}");
+        assert_eq!(rt; seen(alloc, &formula)?, want, "{operator:?} of {x} and {y}");
     }
     Ok(())
 }
@@ -90,30 +105,69 @@ fn right_sides(rt: HostRuntime) -> Result<(), Fail> {
             Formula::Number(1),
         )?;
         let formula = binary(alloc, operator, Formula::Number(x), over)?;
-        assert_eq!(rt; seen(&formula), want, "{operator:?} of {x}");
+        assert_eq!(rt; seen(alloc, &formula)?, want, "{operator:?} of {x}");
     }
     Ok(())
+}
+
+fn field(actor: u32, field: u32) -> Formula {
+    Formula::Field(FieldPlace { actor, field })
 }
 
 #[test]
 fn places(rt: HostRuntime) -> Result<(), Fail> {
     let alloc = rt.alloc();
-    assert_eq!(rt; seen(&Formula::Variable(0)), Some(6));
-    assert_eq!(rt; seen(&Formula::Variable(1)), Some(0));
-    assert_eq!(rt; seen(&Formula::Field(0)), Some(8));
-    assert_eq!(rt; seen(&Formula::Field(u32::MAX)), Some(0));
-    let least = Box::new(alloc, Formula::Number(i64::MIN))?;
-    assert_eq!(rt; seen(&Formula::Negate(least)), None);
-    let six = Box::new(alloc, Formula::Variable(0))?;
-    assert_eq!(rt; seen(&Formula::Negate(six)), Some(-6));
-    let zero = Box::new(alloc, Formula::Number(0))?;
-    assert_eq!(rt; seen(&Formula::Not(zero)), Some(1));
+    let cases = [
+        (Formula::Variable(0), Some(6)),
+        (Formula::Variable(1), Some(0)),
+        (field(1, 0), Some(8)),
+        (field(0, 0), Some(0)),
+        (field(1, u32::MAX), Some(0)),
+        (field(2, 0), Some(0)),
+        (Formula::Local(LocalId(2), 5), Some(9)),
+        (Formula::Local(LocalId(1), 5), Some(5)),
+        (Formula::Local(LocalId(3), 7), Some(6)),
+        (Formula::Priority, Some(3)),
+        (Formula::Cancelled, Some(1)),
+        (
+            Formula::Negate(Box::new(alloc, Formula::Number(i64::MIN))?),
+            None,
+        ),
+        (
+            Formula::Negate(Box::new(alloc, Formula::Variable(0))?),
+            Some(-6),
+        ),
+        (
+            Formula::Not(Box::new(alloc, Formula::Variable(0))?),
+            Some(0),
+        ),
+    ];
+    for (formula, want) in cases {
+        assert!(rt; seen(alloc, &formula)? == want);
+    }
+    Ok(())
+}
+
+// `while 1 { yield; }` as it is written: the end, a place for the test, and the body.
+#[test]
+fn instructions(rt: HostRuntime) -> Result<(), Fail> {
+    let alloc = rt.alloc();
     let mut lines = Vec::new(alloc);
-    push_instruction(&mut lines, Act::End, 1, 2)?;
-    assert!(rt; lines.len() == 1);
-    first_instruction_begins();
-    flat_code_implements();
-    flat_code_joins();
-    flat_code_counts();
+    push_instruction(&mut lines, Act::End, 0, 0)?;
+    push_instruction(&mut lines, Act::End, 0, 0)?;
+    push_instruction(&mut lines, Act::Yield, 1, 1)?;
+    if lines.len() == 3 {
+        link(&mut lines, 1, Act::Test(Formula::Number(1)), 2, 0);
+        renumber(&mut lines, 1);
+    }
+    let mut followers = Vec::new(alloc);
+    for line in &lines {
+        followers.push((line.next, line.other))?;
+    }
+    assert!(rt; followers.as_slice() == [(2, 1), (1, 1), (0, 0)].as_slice());
+    assert!(rt; holds(alloc, None, &[]));
+    written_code_counts();
+    written_code_implements();
+    written_code_joins();
     Ok(())
 }

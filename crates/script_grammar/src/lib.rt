@@ -1,32 +1,18 @@
-//! The grammar of scripts: which tokens spell which tree, and the reader that finds the tree.
+//! The grammar of scripts: the trees of scripts, and which tokens spell which tree.
+//!
+//! This crate has types and definitions alone. `script_parser` finds the tree that tokens spell.
 #![tactic(auto)]
 
-// Actors with their fields, invariant and methods.
-mod actor;
-// The tree of a declaration.
-mod declared;
-// Expressions.
+// Declarations.
+mod declaration;
+// Expressions, calls, and what is waited for.
 mod expression;
-// Why tokens spell no script.
-mod fault;
-// What holds of the definitions.
-pub mod laws;
-// An expression with its height.
-mod measured;
-// Whole numbers.
-mod number;
-// The parts of a rule that are one token.
-mod one_token;
-// Roots with their arguments and priority.
-mod root;
-// Whole scripts.
-mod script;
+// Which parts may stand where.
+mod region;
 // Statements and blocks.
 mod statement;
-// The trees of expressions and statements.
-mod tree;
 
-pub use declared::{Actor, Decl, Field, Invariant, Method, Root};
-pub use fault::{Fault, Kind, ReadError};
-pub use script::declarations;
-pub use tree::{Call, Expr, Name, Stmt, Value, Wait};
+pub use declaration::{Actor, Decl, Executor, ExecutorKind, Field, Local, Method, Root};
+pub use expression::{Awaited, Call, Expr, Name, Value, Wait};
+pub use region::{Atoms, Region};
+pub use statement::{Action, Add, Head, Make, Stmt};

@@ -1,143 +1,118 @@
 -- Statements with blocks of their own.
-use Rattle.std.proofs.Common.{rules, ◌≡◌, ℕ, ◌+◌, List, [], ◌∷◌, ◌++◌, length, map, sym, ap, ◌∙◌, arith, length-append, append_assoc, append-nil}
-use Rattle.std.proofs.lemmas.List.{length-map}
-use Rattle.std.specs.Prelude.{OnOk, Result, Ok, Err}
+use Rattle.std.proofs.Common.{rules, ◌≡◌, ℕ, false, List, [], ◌∷◌, ◌++◌, length, map, take, refl, sym, ap, subst, ◌∙◌}
+use Rattle.std.specs.Prelude.{OnOk, IfOk, Result, Ok, Err, slice_set}
+use Rattle.std.proofs.Math.Seq.{take-length, take-append_seam}
 use Rattle.std.specs.Global.{Vec}
-use Rattle.script_grammar.specs.Tree.{BlockTree, block_tree, view, view_stmt}
+use Rattle.script_grammar.specs.Tree.{ExprTree, HeadTree, BlockTree, block_tree, view, view_head, view_stmt}
 use Rattle.script_grammar.specs.Tree as tree
-use Rattle.script_grammar.specs.declared.tree.Expr.{Expr}
-use Rattle.script_grammar.specs.declared.tree.Stmt.{Stmt, If, IfElse, While, the_lemmas}
-use Rattle.script_code.specs.Tree.{Term, Code, end, choice, loop}
+use Rattle.script_grammar.specs.declared.expression.Expr.{Expr}
+use Rattle.script_grammar.specs.declared.statement.Head.{Head}
+use Rattle.script_grammar.specs.declared.statement.Head.TheVariants as head
+use Rattle.script_grammar.specs.declared.statement.Stmt.{Stmt, Block, IfElse, the_lemmas}
+use Rattle.script_code.specs.Tree.{Term, Code, end, choice}
 use Rattle.script_code.specs.Instructions.{tests}
-use Rattle.script_code.specs.Flat.{count, start, Meaning, flat, meaning_of}
+use Rattle.script_code.specs.Layout.{entry, Meaning, meaning_of, written}
+use Rattle.script_code.specs.declared.instruction.Act.{Act}
 use Rattle.script_code.specs.declared.instruction.Instruction.{Instruction}
-use Rattle.script_names.specs.Directory.{Directory}
-use Rattle.script_lowering.specs.Lowered.{lowered, code_before, code_of}
-use Rattle.script_lowering.specs.Sizes.{lines_of, first_instruction}
-use Rattle.script_lowering.proofs.Blocks.{more_lines, start_block, count_block}
+use Rattle.script_names.specs.declared.scope.NameKind.TheVariants as kind
+use Rattle.script_names.specs.declared.scope.Outside.{Outside}
+use Rattle.script_names.specs.Scope.{Scope}
+use Rattle.script_names.specs.Rules.{scope_within}
+use Rattle.script_lowering.specs.Plan.{Plan}
+use Rattle.script_lowering.specs.Lowered.{lowered, headed_code, stmt_code, block_code}
+use Rattle.script_lowering.specs.Standing.{outside_of, left}
+use Rattle.script_lowering.specs.Heads.{is_isolated, is_loop}
+use Rattle.script_lowering.proofs.Lines.{IsWritten, choice_lines, choice_start, loop_lines, loop_start}
+use Rattle.script_lowering.proofs.Heads.{HasParts, head_written}
 
-pub view-If : (e : Expr) (a : Vec Stmt) → view_stmt (If e a) ≡ tree.If (view e) (block_tree (map view_stmt a.items))
-view-If e a = search (rules, the_lemmas)
+view-Block : (h : Head) (b : Vec Stmt) → view_stmt (Block h b) ≡ tree.Headed (view_head h) (block_tree (map view_stmt b.items))
+view-Block h b = search (rules, the_lemmas)
 
-pub view-IfElse : (e : Expr) (a b : Vec Stmt) → view_stmt (IfElse e a b) ≡ tree.IfElse (view e) (block_tree (map view_stmt a.items)) (block_tree (map view_stmt b.items))
+view-IfElse : (e : Expr) (a b : Vec Stmt) → view_stmt (IfElse e a b) ≡ tree.IfElse (view e) (block_tree (map view_stmt a.items)) (block_tree (map view_stmt b.items))
 view-IfElse e a b = search (rules, the_lemmas)
 
-pub view-While : (e : Expr) (a : Vec Stmt) → view_stmt (While e a) ≡ tree.While (view e) (block_tree (map view_stmt a.items))
-view-While e a = search (rules, the_lemmas)
+-- the code of a block
+abbrev pub code_in : Plan → Scope → List Stmt → Code
+code_in p s body = block_code p s (block_tree (map view_stmt body))
 
--- a test instruction
-abbrev pub test_line : Term → ℕ → ℕ → Meaning
-test_line t held failed = λ at. tests t (at held) (at failed)
+-- a statement with these parts
+headed_is : (p : Plan) (s : Scope) (x : Stmt) (h : Head) (b : Vec Stmt) (body : List Stmt) → x ≡ Block h b → body ≡ b.items
+    → headed_code p s (view_head h) (code_in p (scope_within s (view_head h)) body) ≡ stmt_code p s (view_stmt x)
+headed_is p s x h b body is same =
+    ap (λ xs. headed_code p s (view_head h) (code_in p (scope_within s (view_head h)) xs)) same
+    ∙ ap (stmt_code p s) (sym (ap view_stmt is ∙ view-Block h b))
 
-one_line : (f : Meaning) (ls ls1 : List Instruction) → map meaning_of ls1 ≡ map meaning_of ls ++ f ∷ [] → length ls1 ≡ length ls + 1
-one_line f ls ls1 e =
-    omega (arith, ap length e, length-map ls1 meaning_of, length-map ls meaning_of, length-append (map meaning_of ls) (f ∷ []))
+pub while_written : (p : Plan) (s : Scope) (x : Stmt) (h : Head) (b : Vec Stmt) (body : List Stmt) (e : Expr) (t : Term) (f : Meaning) (l m n o : List Instruction) (q first here : ℕ)
+    → x ≡ Block h b → h ≡ head.While e → body ≡ b.items → t ≡ lowered p s (view e)
+    → map meaning_of m ≡ map meaning_of l ++ f ∷ [] → here ≡ length l
+    → IsWritten (code_in p s body) m n here first
+    → map meaning_of o ≡ slice_set (map meaning_of n) here (λ at. tests t (at first) (at q))
+    → IsWritten (stmt_code p s (view_stmt x)) l o q here
+while_written p s x h b body e t f l m n o q first here is loops same made kept at inner linked =
+    let code : headed_code p s (view_head (head.While e)) (code_in p s body) ≡ stmt_code p s (view_stmt x) = headed_is p s x (head.While e) b body (is ∙ ap (λ y. Block y b) loops) same in
+    subst (λ (c : Code). IsWritten c l o q here) code
+    (record {
+      lines = loop_lines (lowered p s (view e)) (code_in p s body) f (λ at. tests t (at first) (at q)) l m n o q first here kept at inner.lines inner.start (ap (λ y. λ k. tests y (k first) (k q)) made) linked;
+      start = loop_start (lowered p s (view e)) (code_in p s body) l q here at;
+    })
 
--- an instruction, and a part after it
-behind_line : (f : Meaning) (a : Code) (ls ls1 ls2 : List Instruction) (q : ℕ)
-    → map meaning_of ls1 ≡ map meaning_of ls ++ f ∷ []
-    → map meaning_of ls2 ≡ map meaning_of ls1 ++ flat a (length ls1) q
-    → map meaning_of ls2 ≡ map meaning_of ls ++ (f ∷ flat a (length ls + 1) q)
-behind_line f a ls ls1 ls2 q e1 e2 =
-    let p = length ls in
-    e2
-    ∙ ap (λ (n : ℕ). map meaning_of ls1 ++ flat a n q) (one_line f ls ls1 e1)
-    ∙ ap (λ (ms : List Meaning). ms ++ flat a (p + 1) q) e1
-    ∙ append_assoc (map meaning_of ls) (f ∷ []) (flat a (p + 1) q)
+pub block_written : (p : Plan) (s : Scope) (x : Stmt) (h : Head) (b : Vec Stmt) (body : List Stmt) (a : Act) (l m n o : List Instruction) (q last first number : ℕ)
+    → x ≡ Block h b → body ≡ b.items → is_loop (view_head h) ≡ false → is_isolated p s (view_head h) ≡ false
+    → HasParts p s (view_head h) (code_in p (scope_within s (view_head h)) body) a l m n o q last first number
+    → IsWritten (stmt_code p s (view_stmt x)) l o q number
+block_written p s x h b body a l m n o q last first number is same once run parts =
+    subst (λ (c : Code). IsWritten c l o q number) (headed_is p s x h b body is same)
+    (head_written p s (view_head h) (code_in p (scope_within s (view_head h)) body) a l m n o q last first number once run parts)
 
-pub if_lines : (t : Term) (a : Code) (ls ls1 ls2 : List Instruction) (first next : ℕ)
-    → map meaning_of ls1 ≡ map meaning_of ls ++ test_line t first next ∷ []
-    → first ≡ start a (length ls + 1) next
-    → map meaning_of ls2 ≡ map meaning_of ls1 ++ flat a (length ls1) next
-    → map meaning_of ls2 ≡ map meaning_of ls ++ flat (choice t a end end) (length ls) next
-if_lines t a ls ls1 ls2 first next e1 s e2 =
-    let p = length ls in
-    behind_line (test_line t first next) a ls ls1 ls2 next e1 e2
-    ∙ ap (λ (n : ℕ). map meaning_of ls ++ (test_line t n next ∷ flat a (p + 1) next)) s
-    ∙ ap (λ (ms : List Meaning). map meaning_of ls ++ (test_line t (start a (p + 1) next) next ∷ ms)) (sym (append-nil (flat a (p + 1) next)))
+pub else_written : (p : Plan) (s : Scope) (x : Stmt) (e : Expr) (a b : Vec Stmt) (held failed : List Stmt) (t : Term) (l m n o : List Instruction) (q first other number : ℕ)
+    → x ≡ IfElse e a b → held ≡ a.items → failed ≡ b.items → t ≡ lowered p s (view e)
+    → IsWritten (code_in p s failed) l m q other
+    → IsWritten (code_in p s held) m n q first
+    → map meaning_of o ≡ map meaning_of n ++ (λ at. tests t (at first) (at other)) ∷ [] → number ≡ length n
+    → IsWritten (stmt_code p s (view_stmt x)) l o q number
+else_written p s x e a b held failed t l m n o q first other number is same same' made below above line at =
+    let code : choice (lowered p s (view e)) (code_in p s held) (code_in p s failed) end ≡ stmt_code p s (view_stmt x) =
+    ap (λ xs. choice (lowered p s (view e)) (code_in p s xs) (code_in p s failed) end) same
+    ∙ ap (λ xs. choice (lowered p s (view e)) (code_in p s a.items) (code_in p s xs) end) same'
+    ∙ ap (stmt_code p s) (sym (ap view_stmt is ∙ view-IfElse e a b)) in
+    subst (λ (c : Code). IsWritten c l o q number) code
+    (record {
+      lines = choice_lines (lowered p s (view e)) (code_in p s held) (code_in p s failed) _ l m n o q first other below.lines below.start above.lines above.start (ap (λ y. λ k. tests y (k first) (k other)) made) line;
+      start = choice_start (lowered p s (view e)) (code_in p s held) (code_in p s failed) l m n q number below.lines above.lines at;
+    })
 
-pub while_lines : (t : Term) (a : Code) (ls ls1 ls2 : List Instruction) (first next : ℕ)
-    → map meaning_of ls1 ≡ map meaning_of ls ++ test_line t first next ∷ []
-    → first ≡ start a (length ls + 1) (length ls)
-    → map meaning_of ls2 ≡ map meaning_of ls1 ++ flat a (length ls1) (length ls)
-    → map meaning_of ls2 ≡ map meaning_of ls ++ flat (loop t a end) (length ls) next
-while_lines t a ls ls1 ls2 first next e1 s e2 =
-    let p = length ls in
-    behind_line (test_line t first next) a ls ls1 ls2 p e1 e2
-    ∙ ap (λ (n : ℕ). map meaning_of ls ++ (test_line t n next ∷ flat a (p + 1) p)) s
-    ∙ ap (λ (ms : List Meaning). map meaning_of ls ++ (test_line t (start a (p + 1) p) next ∷ ms)) (sym (append-nil (flat a (p + 1) p)))
+-- what is known of an answer, from what is known of the instruction that gives it
+pub answered : {E : Type 0} (r : Result ℕ E) (f : Meaning) (c : Code) (l n o : List Instruction) (q : ℕ)
+    → OnOk r (map meaning_of o ≡ map meaning_of n ++ f ∷ []) → IfOk r (λ x. x ≡ length n)
+    → ((x : ℕ) → map meaning_of o ≡ map meaning_of n ++ f ∷ [] → x ≡ length n → IsWritten c l o q x)
+    → OnOk r (map meaning_of o ≡ map meaning_of l ++ written c (length l) q) × IfOk r (λ x. x ≡ entry c (length l) q)
+answered (Ok x) f c l n o q h k g = ((g x h k).lines, (g x h k).start)
+answered (Err e) f c l n o q h k g = (tt, tt)
 
-pub choice_lines : (t : Term) (a b : Code) (ls ls1 ls2 ls3 : List Instruction) (first other next : ℕ)
-    → map meaning_of ls1 ≡ map meaning_of ls ++ test_line t first other ∷ []
-    → first ≡ start a (length ls + 1) next
-    → other ≡ start b (length ls + 1 + count a) next
-    → map meaning_of ls2 ≡ map meaning_of ls1 ++ flat a (length ls1) next
-    → map meaning_of ls3 ≡ map meaning_of ls2 ++ flat b (length ls2) next
-    → map meaning_of ls3 ≡ map meaning_of ls ++ flat (choice t a b end) (length ls) next
-choice_lines t a b ls ls1 ls2 ls3 first other next e1 s o e2 e3 =
-    let p = length ls in
-    let f = test_line t first other in
-    let fb = flat b (p + 1 + count a) next in
-    let counted : length ls2 ≡ p + 1 + count a = omega (arith, more_lines ls1 ls2 a (length ls1) next e2, one_line f ls ls1 e1) in
-    e3
-    ∙ ap (λ (n : ℕ). map meaning_of ls2 ++ flat b n next) counted
-    ∙ ap (λ (ms : List Meaning). ms ++ fb) (behind_line f a ls ls1 ls2 next e1 e2)
-    ∙ append_assoc (map meaning_of ls) (f ∷ flat a (p + 1) next) fb
-    ∙ ap (λ (n : ℕ). map meaning_of ls ++ (test_line t n other ∷ (flat a (p + 1) next ++ fb))) s
-    ∙ ap (λ (n : ℕ). map meaning_of ls ++ (test_line t (start a (p + 1) next) n ∷ (flat a (p + 1) next ++ fb))) o
-    ∙ ap (λ (ms : List Meaning). map meaning_of ls ++ (test_line t (start a (p + 1) next) (start b (p + 1 + count a) next) ∷ (flat a (p + 1) next ++ ms))) (sym (append-nil fb))
+pub ok_of : {E : Type 0} (r : Result ℕ E) (P : Type 0) → P → OnOk r P
+ok_of (Ok x) P h = h
+ok_of (Err e) P h = tt
 
--- a whole statement, from its instructions and from what the code knows of it
-pub if_done : (d : Directory) (fields variables : List (List ℕ)) (s : Stmt) (e : Expr) (a : Vec Stmt) (held held' : List Stmt) (t : Term) (ls ls1 ls2 : List Instruction) (first inner next : ℕ)
-    → s ≡ If e a → t ≡ lowered fields variables (view e) → held ≡ a.items → held' ≡ a.items → inner ≡ length ls + 1
-    → first ≡ first_instruction (block_tree (map view_stmt held)) inner next
-    → map meaning_of ls1 ≡ map meaning_of ls ++ test_line t first next ∷ []
-    → map meaning_of ls2 ≡ map meaning_of ls1 ++ flat (code_of d fields variables (block_tree (map view_stmt held'))) (length ls1) next
-    → map meaning_of ls2 ≡ map meaning_of ls ++ flat (code_before d fields variables (view_stmt s) end) (length ls) next
-if_done d fields variables s e a held held' t ls ls1 ls2 first inner next is made h h' n f e1 e2 =
-    let code : List Stmt → Code = λ xs. code_of d fields variables (block_tree (map view_stmt xs)) in
-    let at_first : first ≡ start (code a.items) (length ls + 1) next =
-    f ∙ ap (λ xs. first_instruction (block_tree (map view_stmt xs)) inner next) h ∙ ap (λ (k : ℕ). first_instruction (block_tree (map view_stmt a.items)) k next) n ∙ sym (start_block d fields variables (block_tree (map view_stmt a.items)) (length ls + 1) next) in
-    if_lines (lowered fields variables (view e)) (code a.items) ls ls1 ls2 first next (e1 ∙ ap (λ x. map meaning_of ls ++ test_line x first next ∷ []) made) at_first (e2 ∙ ap (λ xs. map meaning_of ls1 ++ flat (code xs) (length ls1) next) h')
-    ∙ ap (λ x. map meaning_of ls ++ flat (code_before d fields variables x end) (length ls) next) (sym (ap view_stmt is ∙ view-If e a))
+taken : {X : Type 0} (xs : List X) (n : ℕ) → n ≡ length xs → take n xs ≡ xs
+taken xs n e = ap (λ (k : ℕ). take k xs) e ∙ take-length xs
 
-pub while_done : (d : Directory) (fields variables : List (List ℕ)) (s : Stmt) (e : Expr) (a : Vec Stmt) (body body' : List Stmt) (t : Term) (ls ls1 ls2 : List Instruction) (first here inner next : ℕ)
-    → s ≡ While e a → t ≡ lowered fields variables (view e) → body ≡ a.items → body' ≡ a.items → here ≡ length ls → inner ≡ length ls + 1
-    → first ≡ first_instruction (block_tree (map view_stmt body)) inner here
-    → map meaning_of ls1 ≡ map meaning_of ls ++ test_line t first next ∷ []
-    → map meaning_of ls2 ≡ map meaning_of ls1 ++ flat (code_of d fields variables (block_tree (map view_stmt body'))) (length ls1) here
-    → map meaning_of ls2 ≡ map meaning_of ls ++ flat (code_before d fields variables (view_stmt s) end) (length ls) next
-while_done d fields variables s e a body body' t ls ls1 ls2 first here inner next is made h h' p n f e1 e2 =
-    let code : List Stmt → Code = λ xs. code_of d fields variables (block_tree (map view_stmt xs)) in
-    let at_first : first ≡ start (code a.items) (length ls + 1) (length ls) =
-    f ∙ ap (λ xs. first_instruction (block_tree (map view_stmt xs)) inner here) h ∙ ap (λ (k : ℕ). first_instruction (block_tree (map view_stmt a.items)) k here) n ∙ ap (λ (k : ℕ). first_instruction (block_tree (map view_stmt a.items)) (length ls + 1) k) p ∙ sym (start_block d fields variables (block_tree (map view_stmt a.items)) (length ls + 1) (length ls)) in
-    while_lines (lowered fields variables (view e)) (code a.items) ls ls1 ls2 first next (e1 ∙ ap (λ x. map meaning_of ls ++ test_line x first next ∷ []) made) at_first (e2 ∙ ap (λ xs. map meaning_of ls1 ++ flat (code xs) (length ls1) here) h' ∙ ap (λ (k : ℕ). map meaning_of ls1 ++ flat (code a.items) (length ls1) k) p)
-    ∙ ap (λ x. map meaning_of ls ++ flat (code_before d fields variables x end) (length ls) next) (sym (ap view_stmt is ∙ view-While e a))
+taken_back : {X : Type 0} (xs ys : List X) (n : ℕ) → n ≡ length xs → take n (xs ++ ys) ≡ xs
+taken_back xs ys n e = ap (λ (k : ℕ). take k (xs ++ ys)) e ∙ take-append_seam xs ys
 
-pub choice_done : (d : Directory) (fields variables : List (List ℕ)) (s : Stmt) (e : Expr) (a b : Vec Stmt) (held held' held'' failed failed' : List Stmt) (t : Term) (ls ls1 ls2 ls3 : List Instruction) (first inner size other otherwise next : ℕ)
-    → s ≡ IfElse e a b → t ≡ lowered fields variables (view e) → held ≡ a.items → held' ≡ a.items → held'' ≡ a.items → failed ≡ b.items → failed' ≡ b.items → inner ≡ length ls + 1
-    → size ≡ lines_of (block_tree (map view_stmt held)) → other ≡ inner + size
-    → first ≡ first_instruction (block_tree (map view_stmt held')) inner next
-    → otherwise ≡ first_instruction (block_tree (map view_stmt failed)) other next
-    → map meaning_of ls1 ≡ map meaning_of ls ++ test_line t first otherwise ∷ []
-    → map meaning_of ls2 ≡ map meaning_of ls1 ++ flat (code_of d fields variables (block_tree (map view_stmt held''))) (length ls1) next
-    → map meaning_of ls3 ≡ map meaning_of ls2 ++ flat (code_of d fields variables (block_tree (map view_stmt failed'))) (length ls2) next
-    → map meaning_of ls3 ≡ map meaning_of ls ++ flat (code_before d fields variables (view_stmt s) end) (length ls) next
-choice_done d fields variables s e a b held held' held'' failed failed' t ls ls1 ls2 ls3 first inner size other otherwise next is made h h' h'' k k' n sized o f g e1 e2 e3 =
-    let steps : List Stmt → BlockTree = λ xs. block_tree (map view_stmt xs) in
-    let code : List Stmt → Code = λ xs. code_of d fields variables (steps xs) in
-    let at_first : first ≡ start (code a.items) (length ls + 1) next =
-    f ∙ ap (λ xs. first_instruction (steps xs) inner next) h' ∙ ap (λ (m : ℕ). first_instruction (steps a.items) m next) n ∙ sym (start_block d fields variables (steps a.items) (length ls + 1) next) in
-    let counted : size ≡ count (code a.items) = sized ∙ ap (λ xs. lines_of (steps xs)) h ∙ sym (count_block d fields variables (steps a.items)) in
-    let at : other ≡ length ls + 1 + count (code a.items) = omega arith in
-    let at_other : otherwise ≡ start (code b.items) (length ls + 1 + count (code a.items)) next =
-    g ∙ ap (λ xs. first_instruction (steps xs) other next) k ∙ ap (λ (m : ℕ). first_instruction (steps b.items) m next) at ∙ sym (start_block d fields variables (steps b.items) (length ls + 1 + count (code a.items)) next) in
-    choice_lines (lowered fields variables (view e)) (code a.items) (code b.items) ls ls1 ls2 ls3 first otherwise next (e1 ∙ ap (λ x. map meaning_of ls ++ test_line x first otherwise ∷ []) made) at_first at_other
-    (e2 ∙ ap (λ xs. map meaning_of ls1 ++ flat (code xs) (length ls1) next) h'')
-    (e3 ∙ ap (λ xs. map meaning_of ls2 ++ flat (code xs) (length ls2) next) k')
-    ∙ ap (λ x. map meaning_of ls ++ flat (code_before d fields variables x end) (length ls) next) (sym (ap view_stmt is ∙ view-IfElse e a b))
+left_so : (s : Scope) (h : HeadTree) → length s.names ≡ length s.kinds → left (outside_of s) (scope_within s h) ≡ s
+left_so s (tree.If t) e = λ i. record s { names = taken s.names (length s.names) refl i; kinds = taken s.kinds (length s.names) e i }
+left_so s (tree.While t) e = λ i. record s { names = taken s.names (length s.names) refl i; kinds = taken s.kinds (length s.names) e i }
+left_so s (tree.Bind name t) e = λ i. record s { names = taken s.names (length s.names) refl i; kinds = taken s.kinds (length s.names) e i }
+left_so s (tree.Group name) e = λ i. record s { names = taken_back s.names (name ∷ []) (length s.names) refl i; kinds = taken_back s.kinds (kind.Group ∷ []) (length s.names) e i }
+left_so s (tree.Assume name) e = λ i. record s { names = taken s.names (length s.names) refl i; kinds = taken s.kinds (length s.names) e i }
 
--- what holds on Ok, from what holds on Ok
-pub on_ok : {A E P Q : Type 0} (r : Result A E) → OnOk r P → (P → Q) → OnOk r Q
-on_ok (Ok x) h go = go h
-on_ok (Err e) h go = tt
+-- what stood outside a block stands after it
+pub left_is : (s t : Scope) (h : HeadTree) (o : Outside) → length s.kinds ≡ length s.names → o ≡ outside_of s → t ≡ scope_within s h → left o t ≡ s
+left_is s t h o e out inside = ap (λ x. left x t) out ∙ ap (left (outside_of s)) inside ∙ left_so s h (sym e)
+
+pub not_loop : (h : Head) → ((e : Expr) → h ≡ head.While e → ⊥) → is_loop (view_head h) ≡ false
+not_loop (head.If e) n = refl
+not_loop (head.While e) n = absurd (n e refl)
+not_loop (head.Bind name e) n = refl
+not_loop (head.Group name) n = refl
+not_loop (head.Assume name) n = refl

@@ -1,7 +1,7 @@
 -- Expressions, one by one.
 use Rattle.std.proofs.Common.{◌≡◌, ℕ, suc, ◌+◌, ◌<◌, List, [], ◌∷◌, ◌++◌, length, map, refl, sym, ap, ◌∙◌, get_or, drop, add-one, drop-cons}
 use Rattle.script_grammar.specs.Tree.{ExprTree, view}
-use Rattle.script_grammar.specs.declared.tree.Expr.{Expr}
+use Rattle.script_grammar.specs.declared.expression.Expr.{Expr}
 use Rattle.script_code.specs.Tree.{Term, term_of, terms_of}
 use Rattle.script_code.specs.declared.formula.Formula.{Formula}
 

@@ -1,14 +1,41 @@
--- A call of the code, beside the call of a script that it is compiled from.
-use Rattle.std.specs.Prelude.{◌≡◌, ℕ, List, map}
-use Rattle.script_grammar.specs.Tree.{CallTree}
+-- The calls of a method's code are of methods that are there, with as many arguments as these have parameters.
+use Rattle.std.specs.Prelude.{◌≡◌, ℕ, ◌<◌, List, length, slice_get, unwrap_or, Some}
+use Rattle.script_grammar.specs.Tree.{RootTree}
 use Rattle.script_names.specs.Texts.{place_of}
+use Rattle.script_names.specs.Methods.{method_key}
 use Rattle.script_names.specs.Directory.{Directory, method_place}
-use Rattle.script_code.specs.Tree.{terms_of}
-use Rattle.script_code.specs.declared.formula.Call.{Call}
-use Rattle.script_lowering.specs.Lowered.{lowered}
+use Rattle.script_code.specs.Tree.{Target, Wanted, call, Deed, wait, spawn, detach, add, Code}
+use Rattle.script_lowering.specs.Parts.{EachPart}
 
--- the call names the actor and the method by their places, and its arguments are those of the script
-pub record IsCallOf (d : Directory) (fields variables : List (List ℕ)) (tree : CallTree) (made : Call) : Type 0 where
-  pub actor : made.actor.0 ≡ place_of d.actors tree.actor
-  pub method : made.method.0 ≡ method_place d tree.actor tree.method
-  pub args : terms_of made.args.items ≡ map (lowered fields variables) tree.args
+-- A call of a method of an actor, both by their numbers, with so many arguments: the actor is there, the method is one of
+-- that actor's, and it has as many parameters.
+pub record IsCallable (d : Directory) (actor method count : ℕ) : Type 0 where
+  pub actor_there : actor < length d.actors
+  pub method_there : method < length d.methods
+  pub of_actor : (name : List ℕ) × (slice_get d.methods method ≡ Some (method_key actor name))
+  pub arity : count ≡ unwrap_or (slice_get d.params method) 0
+
+-- A call of the code is so.
+abbrev pub TargetFits : Directory → Target → Type 0
+TargetFits d t = IsCallable d t.actor t.method (length t.args)
+
+-- So is the call that is waited for, if it is one.
+abbrev pub WantedFits : Directory → Wanted → Type 0
+WantedFits d (call t) = TargetFits d t
+WantedFits d _ = Unit {0}
+
+-- So is the call that a statement makes: it waits for one, or makes a task or a child that runs one. No other makes any.
+abbrev pub DeedFits : Directory → Deed → Type 0
+DeedFits d (wait w) = WantedFits d w
+DeedFits d (spawn t given handle) = TargetFits d t
+DeedFits d (detach t given handle) = TargetFits d t
+DeedFits d (add group unless t given) = TargetFits d t
+DeedFits d _ = Unit {0}
+
+-- Every call of the code is so.
+abbrev pub TargetsFit : Directory → Code → Type 0
+TargetsFit d body = EachPart (DeedFits d) (λ t. Unit {0}) body
+
+-- So is the call of a root.
+abbrev pub RootFits : Directory → RootTree → Type 0
+RootFits d r = IsCallable d (place_of d.actors r.actor) (method_place d r.actor r.method) (length r.args)

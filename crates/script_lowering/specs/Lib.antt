@@ -1,3 +1,10 @@
+pub mod Plan
 pub mod Lowered
-pub mod Sizes
+pub mod Counts
+pub mod Standing
+pub mod Heads
+pub mod Parts
+pub mod Places
 pub mod Calls
+pub mod Handles
+pub mod Methods

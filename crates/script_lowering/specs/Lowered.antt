@@ -1,87 +1,150 @@
--- What a script's names stand for: fields and variables by their places, actors and methods by their numbers.
-use Rattle.std.specs.Prelude.{ℕ, ◌+◌, max, List, length, map, Option, Some, None, if◌then◌else◌}
-use Rattle.script_grammar.specs.Tree.{ExprTree, Number, Named, Negated, Inverted, Both, WaitTree, ValueTree, Computed, Awaited, StmtTree, Let, Assign, Await, If, IfElse, While, Return, Throw, Yield, BlockTree, nothing, first_then}
+-- What a script's names stand for: fields, variables and handles by their places, all else by its number.
+use Rattle.std.specs.Prelude.{ℕ, ℤ, ◌==◌, Bool, true, false, List, take, map, slice_get, unwrap_or, pos, count_by, Option, Some, None, if◌then◌else◌}
+use Rattle.script_grammar.specs.Tree.{ExprTree, Number, Named, Local, OwnPriority, IsCancelled, Negated, Inverted, Both, CallTree, AwaitedTree, Called, TaskOf, NextOf, WaitTree, ValueTree, Computed, Waited, MakeTree, Spawned, Detached, ActionTree, Let, LetTask, Assign, Await, Makes, Adds, Cancel, Return, Throw, Check, Yield, HeadTree, If, While, Bind, Group, Assume, StmtTree, Do, Headed, IfElse, BlockTree, nothing, first_then}
+use Rattle.script_names.specs.declared.scope.NameKind.{NameKind}
+use Rattle.script_names.specs.declared.scope.NameKind.TheVariants as kind
 use Rattle.script_names.specs.Texts.{is_among, place_of}
-use Rattle.script_names.specs.Directory.{Directory, method_place}
-use Rattle.script_names.specs.Rules.{variables_after}
+use Rattle.script_names.specs.Directory.{fields_at, method_place}
+use Rattle.script_names.specs.Scope.{Scope, meaning_of}
+use Rattle.script_names.specs.Rules.{scope_after, scope_within}
+use Rattle.script_code.specs.declared.formula.FieldPlace.{FieldPlace}
 use Rattle.script_code.specs.declared.instruction.Place.{Place}
 use Rattle.script_code.specs.declared.instruction.Place.TheVariants.{Variable, Field}
-use Rattle.script_code.specs.Tree.{Term, number, variable, field, opposite, denial, binary, Code, end, set_variable, set_field, choice, loop, return, throw, yield, call}
+use Rattle.script_code.specs.declared.instruction.Cancelled.{Cancelled}
+use Rattle.script_code.specs.declared.instruction.Cancelled.TheVariants as cancelled_one
+use Rattle.script_code.specs.Tree as code
+use Rattle.script_code.specs.Tree.{Term, Target, Wanted, Deed, Code, followed, end, act, choice, loop}
+use Rattle.script_lowering.specs.Plan.{Plan, executor_at, seat_of}
 
--- The place that a name stands for: the field of that name, or else the variable. A variable's place is its number
--- among those that stand there, the oldest first.
-abbrev pub place_named : List (List ℕ) → List (List ℕ) → List ℕ → Place
-place_named fields variables name = if is_among fields name then Field (place_of fields name) else Variable (place_of variables name)
+-- whether what stands under a name is a number
+abbrev pub is_number : NameKind → Bool
+is_number kind.Field = false
+is_number kind.Number = true
+is_number kind.Task = false
+is_number kind.Group = false
+
+-- whether it is a handle: a task or a group
+abbrev pub is_handle : NameKind → Bool
+is_handle kind.Field = false
+is_handle kind.Number = false
+is_handle kind.Task = true
+is_handle kind.Group = true
+
+-- how many numbers and how many handles stand there: the places of the next ones
+abbrev pub numbers_in : Scope → ℕ
+numbers_in s = count_by is_number s.kinds
+
+abbrev pub handles_in : Scope → ℕ
+handles_in s = count_by is_handle s.kinds
+
+-- the place of a number among the numbers that stand there, the oldest first, and of a handle among the handles
+abbrev pub number_place : Scope → List ℕ → ℕ
+number_place s name = count_by is_number (take (place_of s.names name) s.kinds)
+
+abbrev pub handle_place : Scope → List ℕ → ℕ
+handle_place s name = count_by is_handle (take (place_of s.names name) s.kinds)
+
+-- the place of a field: the seat of its actor on its executor, and its place in the actor
+abbrev pub field_place : Plan → Scope → List ℕ → FieldPlace
+field_place p s name = record { actor = seat_of p s.actor; field = place_of (fields_at s.directory s.actor) name }
+
+-- the place that a name stands for: the field of that name, or else the variable
+unfoldable pub place_named : Plan → Scope → List ℕ → Place
+place_named p s name = if is_among (fields_at s.directory s.actor) name then Field (field_place p s name) else Variable (number_place s name)
 
 -- what a place holds
 abbrev pub term_at : Place → Term
-term_at (Variable k) = variable k
-term_at (Field k) = field k
+term_at (Variable k) = code.variable k
+term_at (Field f) = code.field f
+
+-- the default of a task local
+unfoldable pub default_of : Plan → List ℕ → ℤ
+default_of p name = unwrap_or (slice_get p.defaults (place_of p.directory.locals name)) (pos 0)
 
 -- an expression, with places for its names
-abbrev pub lowered : List (List ℕ) → List (List ℕ) → ExprTree → Term
-lowered fields variables (Number n) = number n
-lowered fields variables (Named name) = term_at (place_named fields variables name)
-lowered fields variables (Negated a) = opposite (lowered fields variables a)
-lowered fields variables (Inverted a) = denial (lowered fields variables a)
-lowered fields variables (Both o a b) = binary o (lowered fields variables a) (lowered fields variables b)
+abbrev pub lowered : Plan → Scope → ExprTree → Term
+lowered p s (Number n) = code.number n
+lowered p s (Named name) = term_at (place_named p s name)
+lowered p s (Local name) = code.local (place_of p.directory.locals name) (default_of p name)
+lowered p s OwnPriority = code.priority
+lowered p s IsCancelled = code.cancelled
+lowered p s (Negated a) = code.opposite (lowered p s a)
+lowered p s (Inverted a) = code.denial (lowered p s a)
+lowered p s (Both o a b) = code.binary o (lowered p s a) (lowered p s b)
 
-abbrev pub lowered_if : List (List ℕ) → List (List ℕ) → Option ExprTree → Option Term
-lowered_if fields variables None = None
-lowered_if fields variables (Some t) = Some (lowered fields variables t)
+abbrev pub lowered_if : Plan → Scope → Option ExprTree → Option Term
+lowered_if p s None = None
+lowered_if p s (Some t) = Some (lowered p s t)
+
+-- a call, by the numbers of its actor and method
+abbrev pub target_of : Plan → Scope → CallTree → Target
+target_of p s c = record { actor = place_of s.directory.actors c.actor; method = method_place s.directory c.actor c.method; args = map (lowered p s) c.args }
+
+-- A name after `task` is the task variable of that name, or else the root.
+abbrev pub task_named : Scope → List ℕ → Option NameKind → Wanted
+task_named s name (Some kind.Task) = code.task (handle_place s name)
+task_named s name _ = code.root (place_of s.directory.roots name)
+
+abbrev pub wanted_of : Plan → Scope → AwaitedTree → Wanted
+wanted_of p s (Called c) = code.call (target_of p s c)
+wanted_of p s (TaskOf name) = task_named s name (meaning_of s name)
+wanted_of p s (NextOf name) = code.next (handle_place s name)
+
+-- A wait ends the turn, and what is given goes to a place, if there is one.
+abbrev pub wait_to : Plan → Scope → Option Place → WaitTree → Code
+wait_to p s place w = act (code.wait (wanted_of p s w.for)) (act (code.receive place (lowered_if p s w.other)) end)
 
 -- what is set to an expression: a variable or a field
-abbrev pub set_at : Place → Term → Code → Code
-set_at (Variable k) t rest = set_variable k t rest
-set_at (Field k) t rest = set_field k t rest
+abbrev pub set_at : Place → Term → Deed
+set_at (Variable k) t = code.set_variable k t
+set_at (Field f) t = code.set_field f t
 
--- an awaited call, whose value goes to a place, if there is one
-abbrev pub call_to : Directory → List (List ℕ) → List (List ℕ) → Option Place → WaitTree → Code → Code
-call_to d fields variables place w rest =
-    call (place_of d.actors w.call.actor) (method_place d w.call.actor w.call.method)
-    (map (lowered fields variables) w.call.args) place (lowered_if fields variables w.other) rest
+abbrev pub value_to : Plan → Scope → Place → ValueTree → Code
+value_to p s place (Computed t) = act (set_at place (lowered p s t)) end
+value_to p s place (Waited w) = wait_to p s (Some place) w
 
-abbrev pub value_to : Directory → List (List ℕ) → List (List ℕ) → Place → ValueTree → Code → Code
-value_to d fields variables place (Computed t) rest = set_at place (lowered fields variables t) rest
-value_to d fields variables place (Awaited w) rest = call_to d fields variables (Some place) w rest
+-- a task that is made, whose number goes to a handle, if there is one
+abbrev pub make_to : Plan → Scope → Option ℕ → MakeTree → Deed
+make_to p s handle (Spawned c priority) = code.spawn (target_of p s c) priority handle
+make_to p s handle (Detached c priority) = code.detach (target_of p s c) priority handle
+
+-- A name after `cancel` is the task variable or the group of that name, or else the root.
+abbrev pub cancelled_named : Scope → List ℕ → Option NameKind → Cancelled
+cancelled_named s name (Some kind.Task) = cancelled_one.Task (handle_place s name)
+cancelled_named s name (Some kind.Group) = cancelled_one.Group (handle_place s name)
+cancelled_named s name _ = cancelled_one.Root (record { 0 = place_of s.directory.roots name })
+
+-- a statement without a block
+abbrev pub action_code : Plan → Scope → ActionTree → Code
+action_code p s (Let name v) = value_to p s (Variable (numbers_in s)) v
+action_code p s (LetTask name m) = act (make_to p s (Some (handles_in s)) m) end
+action_code p s (Assign name v) = value_to p s (place_named p s name) v
+action_code p s (Await w) = wait_to p s None w
+action_code p s (Makes m) = act (make_to p s None m) end
+action_code p s (Adds a) = act (code.add (handle_place s a.group) a.unless (target_of p s a.call) a.priority) end
+action_code p s (Cancel name) = act (code.cancel (cancelled_named s name (meaning_of s name))) end
+action_code p s (Return t) = act (code.return (lowered p s t)) end
+action_code p s (Throw t) = act (code.throw (lowered p s t)) end
+action_code p s Check = act code.check end
+action_code p s Yield = act code.yield end
+
+-- a block with its head, where `inner` is the code of the block; an `assume` of an actor of another executor is a fault
+abbrev pub headed_code : Plan → Scope → HeadTree → Code → Code
+headed_code p s (If t) inner = choice (lowered p s t) inner end end
+headed_code p s (While t) inner = loop (lowered p s t) inner end
+headed_code p s (Bind name t) inner = act (code.bind (place_of p.directory.locals name) (lowered p s t)) (followed inner (act code.unbind end))
+headed_code p s (Group name) inner = act (code.open_group (handles_in s)) (followed inner (act code.close_group end))
+headed_code p s (Assume name) inner =
+    if executor_at p (place_of s.directory.actors name) == executor_at p s.actor then act code.assume inner
+    else act code.isolated end
 
 abbrev mutual
-  -- a statement, and what follows it; a `let` makes the next variable
-  pub code_before : Directory → List (List ℕ) → List (List ℕ) → StmtTree → Code → Code
-  code_before d fields variables (Let name v) rest = value_to d fields variables (Variable (length variables)) v rest
-  code_before d fields variables (Assign name v) rest = value_to d fields variables (place_named fields variables name) v rest
-  code_before d fields variables (Await w) rest = call_to d fields variables None w rest
-  code_before d fields variables (If t held) rest = choice (lowered fields variables t) (code_of d fields variables held) end rest
-  code_before d fields variables (IfElse t held failed) rest = choice (lowered fields variables t) (code_of d fields variables held) (code_of d fields variables failed) rest
-  code_before d fields variables (While t body) rest = loop (lowered fields variables t) (code_of d fields variables body) rest
-  code_before d fields variables (Return t) rest = return (lowered fields variables t) rest
-  code_before d fields variables (Throw t) rest = throw (lowered fields variables t) rest
-  code_before d fields variables Yield rest = yield rest
+  pub stmt_code : Plan → Scope → StmtTree → Code
+  stmt_code p s (Do a) = action_code p s a
+  stmt_code p s (Headed h b) = headed_code p s h (block_code p (scope_within s h) b)
+  stmt_code p s (IfElse t a b) = choice (lowered p s t) (block_code p s a) (block_code p s b) end
 
-  -- the statements of a block, where these variables stand
-  pub code_of : Directory → List (List ℕ) → List (List ℕ) → BlockTree → Code
-  code_of d fields variables nothing = end
-  code_of d fields variables (first_then s ss) = code_before d fields variables s (code_of d fields (variables_after variables s) ss)
-
-abbrev mutual
-  -- how many variables stand at most in a statement, where so many stand before it
-  pub most_in : ℕ → StmtTree → ℕ
-  most_in n (Let name v) = n + 1
-  most_in n (Assign name v) = n
-  most_in n (Await w) = n
-  most_in n (If t held) = most_of n held
-  most_in n (IfElse t held failed) = max (most_of n held) (most_of n failed)
-  most_in n (While t body) = most_of n body
-  most_in n (Return t) = n
-  most_in n (Throw t) = n
-  most_in n Yield = n
-
-  -- and in the statements of a block
-  pub most_of : ℕ → BlockTree → ℕ
-  most_of n nothing = n
-  most_of n (first_then s ss) = max (most_in n s) (most_of (standing_behind n s) ss)
-
-  -- how many stand after a statement
-  pub standing_behind : ℕ → StmtTree → ℕ
-  standing_behind n (Let name v) = n + 1
-  standing_behind n _ = n
+  -- the statements of a block, one after the other
+  pub block_code : Plan → Scope → BlockTree → Code
+  block_code p s nothing = end
+  block_code p s (first_then x xs) = followed (stmt_code p s x) (block_code p (scope_after s x) xs)

@@ -1,113 +1,183 @@
-//! Blocks and their statements.
+//! Blocks and their statements, which are written from their ends on: so each instruction is written after those that
+//! follow it.
 
-ghost use Rattle.std.specs.Prelude.{◌≡◌, ◌++◌, length, map, None, OnOk};
-ghost use Rattle.script_grammar.specs.Tree.{view_stmt, block_tree};
-ghost use Rattle.script_names.specs.Rules.{statement_fault, statements_fault, variables_after};
-ghost use Rattle.script_code.specs.Tree.{end};
-ghost use Rattle.script_code.specs.Flat.{flat, meaning_of};
-ghost use Rattle.script_lowering.specs.Lowered.{code_before, code_of};
+ghost use Rattle.std.specs.Prelude.{◌≡◌, ◌++◌, length, map, IfOk, OnOk};
+ghost use Rattle.script_grammar.specs.Tree.{view_head, view_stmt, block_tree};
+ghost use Rattle.script_names.specs.Scope.{Scope as ScopeView};
+ghost use Rattle.script_names.specs.Rules.{scope_after, scope_within};
+ghost use Rattle.script_code.specs.Layout.{meaning_of, entry, written};
+ghost use Rattle.script_lowering.specs.Lowered.{stmt_code, block_code};
+ghost use Rattle.script_lowering.specs.Standing.{scope_through};
+ghost use Rattle.script_lowering.specs.Heads.{foot, HeadsAs, is_isolated};
 
-use crate::assignment::{Scope, assignment, call};
-use crate::expression::formula;
-use crate::instruction::first_instruction;
-use crate::number::{sum, to_u32};
-use crate::place::place;
-use crate::size::{size, size_of};
-use script_code::{Act, Instruction, Place, push_instruction};
-use script_grammar::Stmt;
-use script_names::Names;
+use crate::action::action;
+use crate::expression::expression;
+use crate::instruction::{write, write_test};
+use crate::number::declared;
+use crate::plan::Plan;
+use crate::standing::Standing;
+use script_code::{Act, Instruction, link};
+use script_grammar::{Action, Head, Stmt};
+use script_names::NameKind;
 use std::alloc::{AllocError, Global};
 
-/// The instructions of a block, which go on at the instruction `after`. Its own variables stand to its end. A statement
-/// is sized at most twice for each block that it stands in, of which the grammar allows 32; all else is linear in the
-/// statements.
-#[cycle(block)]
-pub(crate) fn block(
-    alloc: Global,
-    scope: Scope<'_>,
-    variables: &mut Names,
-    instructions: &mut Vec<Instruction>,
-    block: &[Stmt],
-    after: u32,
-) -> Result<(), AllocError>
-    requires { statements_fault scope.declared.now scope.fields.now variables.old (block_tree (map view_stmt block.now)) ≡ None }
-    ensures instructions { OnOk result (map meaning_of instructions.new.items ≡ map meaning_of instructions.old.items ++ flat (code_of scope.entry.declared.now scope.entry.fields.now variables.old (block_tree (map view_stmt block.now))) (length instructions.old.items) after) }
-    ensures variables { OnOk result (variables.new ≡ variables.old) }
+// After a statement what it makes stands.
+fn pass(alloc: Global, scope: &mut Standing<'_>, stmt: &Stmt) -> Result<(), AllocError>
+    ensures { OnOk result (scope.new ≡ scope_after scope.old (view_stmt stmt.now)) }
 {
-    let outside = variables.len();
-    for (i, stmt) in block.iter().enumerate() {
-        let behind = sum(to_u32(instructions.len())?, size_of(stmt)?)?;
-        let next = first_instruction(&block[i + 1..], behind, after);
-        statement(alloc, scope, variables, instructions, stmt, next)?;
+    match stmt {
+        Stmt::Do(Action::Let(name, _)) => scope.add(alloc, &name.text, NameKind::Number),
+        Stmt::Do(Action::LetTask(name, _)) => scope.add(alloc, &name.text, NameKind::Task),
+        _ => Ok(()),
     }
-    variables.truncate(outside);
+}
+
+// Before a statement what it makes stands no more.
+fn pass_back(scope: &mut Standing<'_>, stmt: &Stmt)
+    ensures { (s : ScopeView) → scope.old ≡ scope_after s (view_stmt stmt.now) → scope.new ≡ s }
+{
+    match stmt {
+        Stmt::Do(Action::Let(_, _) | Action::LetTask(_, _)) => scope.remove(),
+        _ => {}
+    }
+}
+
+// What stands in a block, by its head.
+fn enter(alloc: Global, scope: &mut Standing<'_>, head: &Head) -> Result<(), AllocError>
+    ensures { OnOk result (scope.new ≡ scope_within scope.old (view_head head.now)) }
+{
+    match head {
+        Head::If(_) | Head::While(_) => {}
+        Head::Bind(_, _) => scope.bind(),
+        Head::Group(name) => scope.add(alloc, &name.text, NameKind::Group)?,
+        Head::Assume(name) => {
+            let actor = declared(scope.declared().actor(&name.text))?;
+            scope.assume(actor as usize);
+        }
+    }
     Ok(())
 }
 
-// The instructions of a statement, which go on at the instruction `next`. What it defines stands after it.
+// Whether an `assume` names an actor of another executor, so that its block is not run.
+fn is_isolated(plan: &Plan, scope: &Standing<'_>, head: &Head) -> Result<bool, AllocError>
+    ensures { IfOk result (λ b. b ≡ is_isolated plan.now scope.now (view_head head.now)) }
+{
+    match head {
+        Head::Assume(name) => {
+            let actor = declared(scope.declared().actor(&name.text))?;
+            Ok(plan.executor(actor as usize) != plan.executor(scope.actor()))
+        }
+        Head::If(_) | Head::While(_) | Head::Bind(_, _) | Head::Group(_) => Ok(false),
+    }
+}
+
+// What is done at the end of a block.
+fn write_foot(
+    instructions: &mut Vec<Instruction>,
+    head: &Head,
+    next: u32,
+) -> Result<u32, AllocError>
+    ensures lines { OnOk result (map meaning_of instructions.new.items ≡ map meaning_of instructions.old.items ++ written (foot (view_head head.now)) (length instructions.old.items) next) }
+    ensures start { IfOk result (λ n. n ≡ entry (foot (view_head head.now)) (length instructions.old.items) next) }
+{
+    match head {
+        Head::If(_) | Head::While(_) | Head::Assume(_) => Ok(next),
+        Head::Bind(_, _) => write(instructions, Act::Unbind, next),
+        Head::Group(_) => write(instructions, Act::Close, next),
+    }
+}
+
+// What a head does before its block.
+fn head_act(
+    alloc: Global,
+    plan: &Plan,
+    scope: &Standing<'_>,
+    head: &Head,
+) -> Result<Act, AllocError>
+    ensures { IfOk result (λ a. HeadsAs a plan.now scope.now (view_head head.now)) }
+{
+    match head {
+        Head::If(test) | Head::While(test) => Ok(Act::Test(expression(alloc, plan, scope, test)?)),
+        Head::Bind(name, set_to) => {
+            let (local, _) = plan.local(&name.text)?;
+            Ok(Act::Bind(local, expression(alloc, plan, scope, set_to)?))
+        }
+        Head::Group(_) => Ok(Act::Open(scope.counts().handles)),
+        Head::Assume(_) => Ok(Act::Assume),
+    }
+}
+
+// A statement, whose instructions go on at the instruction `next`. The answer is the instruction that it begins with.
 #[cycle(block)]
 fn statement(
     alloc: Global,
-    scope: Scope<'_>,
-    variables: &mut Names,
+    plan: &Plan,
+    scope: &mut Standing<'_>,
     instructions: &mut Vec<Instruction>,
     stmt: &Stmt,
     next: u32,
-) -> Result<(), AllocError>
-    requires { statement_fault scope.declared.now scope.fields.now variables.old (view_stmt stmt.now) ≡ None }
-    ensures instructions { OnOk result (map meaning_of instructions.new.items ≡ map meaning_of instructions.old.items ++ flat (code_before scope.entry.declared.now scope.entry.fields.now variables.old (view_stmt stmt.now) end) (length instructions.old.items) next) }
-    ensures variables { OnOk result (variables.new ≡ variables_after variables.old (view_stmt stmt.now)) }
+) -> Result<u32, AllocError>
+    ensures lines { OnOk result (map meaning_of instructions.new.items ≡ map meaning_of instructions.old.items ++ written (stmt_code plan.now scope.old (view_stmt stmt.now)) (length instructions.old.items) next) }
+    ensures start { IfOk result (λ n. n ≡ entry (stmt_code plan.now scope.old (view_stmt stmt.now)) (length instructions.old.items) next) }
+    ensures scope { OnOk result (scope.new ≡ scope.old) }
 {
-    let here = to_u32(instructions.len())?;
-    let inner = sum(here, 1)?;
     match stmt {
-        Stmt::Let(name, value) => {
-            let place = Place::Variable(to_u32(variables.len())?);
-            assignment(alloc, scope, variables, instructions, place, value, next)?;
-            variables.add(alloc, &name.text)?;
-            Ok(())
+        Stmt::Do(done) => action(alloc, plan, scope, instructions, done, next),
+        Stmt::Block(head, body) => match head {
+            Head::While(test) => {
+                let here = write(instructions, Act::End, next)?;
+                let first = block(alloc, plan, scope, instructions, body, here)?;
+                let test = expression(alloc, plan, scope, test)?;
+                link(instructions, here, Act::Test(test), first, next);
+                Ok(here)
+            }
+            _ => {
+                if is_isolated(plan, scope, head)? {
+                    return write(instructions, Act::Isolated, next);
+                }
+                let outside = scope.outside();
+                let last = write_foot(instructions, head, next)?;
+                enter(alloc, scope, head)?;
+                let first = block(alloc, plan, scope, instructions, body, last)?;
+                scope.leave(outside);
+                let act = head_act(alloc, plan, scope, head)?;
+                write_test(instructions, act, first, next)
+            }
+        },
+        Stmt::IfElse(test, held, failed) => {
+            let other = block(alloc, plan, scope, instructions, failed, next)?;
+            let first = block(alloc, plan, scope, instructions, held, next)?;
+            let test = expression(alloc, plan, scope, test)?;
+            write_test(instructions, Act::Test(test), first, other)
         }
-        Stmt::Assign(name, value) => {
-            let place = place(scope.fields, variables, &name.text)?;
-            assignment(alloc, scope, variables, instructions, place, value, next)
-        }
-        Stmt::Await(wait) => call(alloc, scope, variables, instructions, None, wait, next),
-        Stmt::If(expr, held) => {
-            let test = formula(alloc, scope.fields, variables, expr)?;
-            push_instruction(
-                instructions,
-                Act::Test(test),
-                first_instruction(held, inner, next),
-                next,
-            )?;
-            block(alloc, scope, variables, instructions, held, next)
-        }
-        Stmt::IfElse(expr, held, failed) => {
-            let test = formula(alloc, scope.fields, variables, expr)?;
-            let first = first_instruction(held, inner, next);
-            let other = first_instruction(failed, sum(inner, size(held)?)?, next);
-            push_instruction(instructions, Act::Test(test), first, other)?;
-            block(alloc, scope, variables, instructions, held, next)?;
-            block(alloc, scope, variables, instructions, failed, next)
-        }
-        Stmt::While(expr, body) => {
-            let test = formula(alloc, scope.fields, variables, expr)?;
-            push_instruction(
-                instructions,
-                Act::Test(test),
-                first_instruction(body, inner, here),
-                next,
-            )?;
-            block(alloc, scope, variables, instructions, body, here)
-        }
-        Stmt::Return(expr) => {
-            let value = formula(alloc, scope.fields, variables, expr)?;
-            push_instruction(instructions, Act::Return(value), next, next)
-        }
-        Stmt::Throw(expr) => {
-            let value = formula(alloc, scope.fields, variables, expr)?;
-            push_instruction(instructions, Act::Throw(value), next, next)
-        }
-        Stmt::Yield => push_instruction(instructions, Act::Yield, next, next),
     }
+}
+
+/// A block, whose instructions go on at the instruction `next`. The answer is the instruction that it begins with.
+/// Linear in the statements and in all within them.
+#[cycle(block)]
+pub(crate) fn block(
+    alloc: Global,
+    plan: &Plan,
+    scope: &mut Standing<'_>,
+    instructions: &mut Vec<Instruction>,
+    block: &[Stmt],
+    next: u32,
+) -> Result<u32, AllocError>
+    ensures lines { OnOk result (map meaning_of instructions.new.items ≡ map meaning_of instructions.old.items ++ written (block_code plan.now scope.old (block_tree (map view_stmt block.now))) (length instructions.old.items) next) }
+    ensures start { IfOk result (λ n. n ≡ entry (block_code plan.now scope.old (block_tree (map view_stmt block.now))) (length instructions.old.items) next) }
+    ensures scope { OnOk result (scope.new ≡ scope.old) }
+{
+    for stmt in block {
+        pass(alloc, scope, stmt)?;
+    }
+    let mut first = next;
+    let mut left = block.len();
+    while left > 0 {
+        left -= 1;
+        let stmt = &block[left];
+        pass_back(scope, stmt);
+        first = statement(alloc, plan, scope, instructions, stmt, first)?;
+    }
+    Ok(first)
 }

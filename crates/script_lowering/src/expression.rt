@@ -1,76 +1,109 @@
 //! Expressions, with places for their names.
 
 ghost use Rattle.std.specs.Prelude.{◌≡◌, map, IfOk};
-ghost use Rattle.script_grammar.specs.Tree.{view, view_if};
-ghost use Rattle.script_code.specs.Tree.{term_of, terms_of, term_if};
-ghost use Rattle.script_lowering.specs.Lowered.{lowered, lowered_if};
+ghost use Rattle.script_grammar.specs.Tree.{Named, view, view_if};
+ghost use Rattle.script_names.specs.Texts.{place_of};
+ghost use Rattle.script_code.specs.Tree.{local as local_term, term_of, terms_of, term_if};
+ghost use Rattle.script_lowering.specs.Lowered.{default_of, place_named, lowered, lowered_if};
 
-use crate::place::place;
-use script_code::{Formula, Place};
+use crate::number::to_u32;
+use crate::plan::Plan;
+use crate::standing::Standing;
+use script_code::{FieldPlace, Formula, Place};
 use script_grammar::Expr;
-use script_names::Names;
 use std::alloc::{AllocError, Global};
 
-/// An expression with places for its names, in time linear in its size (our own). A name is the field of that name, or
-/// else the variable; one that stands nowhere is taken as the variable after the last. An actor's invariant has no
-/// variables. `Err` says that there was no memory, or that a place is numbered past 32 bits.
-pub fn formula(
+/// The field of that name, or else the variable, found by hashes. A name that stands nowhere is taken as the variable
+/// after the last.
+#[tactic(auto, unfolding(crate::specs::Lowered::place_named))]
+pub(crate) fn place(plan: &Plan, scope: &Standing<'_>, name: &[u8]) -> Result<Place, AllocError>
+    ensures { IfOk result (λ p. p ≡ place_named plan.now scope.now name.now) }
+{
+    match scope.field(name) {
+        Some(field) => Ok(Place::Field(FieldPlace {
+            actor: plan.seat(scope.actor())?,
+            field: to_u32(field)?,
+        })),
+        None => Ok(Place::Variable(scope.number_place(name))),
+    }
+}
+
+// What the place of a name holds.
+fn named(plan: &Plan, scope: &Standing<'_>, name: &[u8]) -> Result<Formula, AllocError>
+    ensures { IfOk result (λ f. term_of f ≡ lowered plan.now scope.now (Named name.now)) }
+{
+    match place(plan, scope, name)? {
+        Place::Variable(k) => Ok(Formula::Variable(k)),
+        Place::Field(k) => Ok(Formula::Field(k)),
+    }
+}
+
+// What is read of a task local.
+fn local(plan: &Plan, name: &[u8]) -> Result<Formula, AllocError>
+    ensures { IfOk result (λ f. term_of f ≡ local_term (place_of plan.now.directory.locals name.now) (default_of plan.now name.now)) }
+{
+    let (local, default) = plan.local(name)?;
+    Ok(Formula::Local(local, default))
+}
+
+/// An expression with places for its names, in time linear in its size.
+pub(crate) fn expression(
     alloc: Global,
-    fields: &Names,
-    variables: &Names,
+    plan: &Plan,
+    scope: &Standing<'_>,
     expr: &Expr,
 ) -> Result<Formula, AllocError>
-    ensures { IfOk result (λ f. term_of f ≡ lowered fields.now variables.now (view expr.now)) }
+    ensures { IfOk result (λ f. term_of f ≡ lowered plan.now scope.now (view expr.now)) }
 {
     match expr {
         Expr::Number(n) => Ok(Formula::Number(*n)),
-        Expr::Name(name) => match place(fields, variables, &name.text)? {
-            Place::Variable(k) => Ok(Formula::Variable(k)),
-            Place::Field(k) => Ok(Formula::Field(k)),
-        },
+        Expr::Name(name) => named(plan, scope, &name.text),
+        Expr::Local(name) => local(plan, &name.text),
+        Expr::Priority => Ok(Formula::Priority),
+        Expr::Cancelled => Ok(Formula::Cancelled),
         Expr::Negate(operand) => {
-            let operand = formula(alloc, fields, variables, operand)?;
+            let operand = expression(alloc, plan, scope, operand)?;
             Ok(Formula::Negate(Box::new(alloc, operand)?))
         }
         Expr::Not(operand) => {
-            let operand = formula(alloc, fields, variables, operand)?;
+            let operand = expression(alloc, plan, scope, operand)?;
             Ok(Formula::Not(Box::new(alloc, operand)?))
         }
         Expr::Binary(operator, left, right) => {
-            let left = formula(alloc, fields, variables, left)?;
-            let right = formula(alloc, fields, variables, right)?;
+            let left = expression(alloc, plan, scope, left)?;
+            let right = expression(alloc, plan, scope, right)?;
             Ok(Formula::Binary(*operator, Box::new(alloc, left)?, Box::new(alloc, right)?))
         }
     }
 }
 
-/// Each of some expressions, in order, as `formula` does it.
-pub fn formulas(
+/// Each of some expressions, in order.
+pub(crate) fn expressions(
     alloc: Global,
-    fields: &Names,
-    variables: &Names,
+    plan: &Plan,
+    scope: &Standing<'_>,
     exprs: &[Expr],
 ) -> Result<Vec<Formula>, AllocError>
-    ensures { IfOk result (λ v. terms_of v.items ≡ map (lowered fields.now variables.now) (map view exprs.now)) }
+    ensures { IfOk result (λ v. terms_of v.items ≡ map (lowered plan.now scope.now) (map view exprs.now)) }
 {
     let mut formulas = Vec::with_capacity(alloc, exprs.len())?;
     for expr in exprs {
-        formulas.push(formula(alloc, fields, variables, expr)?)?;
+        formulas.push(expression(alloc, plan, scope, expr)?)?;
     }
     Ok(formulas)
 }
 
-/// An expression, if there is one, as `formula` does it.
-pub fn formula_if(
+/// An expression, if there is one.
+pub(crate) fn expression_if(
     alloc: Global,
-    fields: &Names,
-    variables: &Names,
+    plan: &Plan,
+    scope: &Standing<'_>,
     expr: &Option<Expr>,
 ) -> Result<Option<Formula>, AllocError>
-    ensures { IfOk result (λ f. term_if f ≡ lowered_if fields.now variables.now (view_if expr.now)) }
+    ensures { IfOk result (λ f. term_if f ≡ lowered_if plan.now scope.now (view_if expr.now)) }
 {
     match expr {
-        Some(expr) => Ok(Some(formula(alloc, fields, variables, expr)?)),
+        Some(expr) => Ok(Some(expression(alloc, plan, scope, expr)?)),
         None => Ok(None),
     }
 }

@@ -1,24 +1,29 @@
 //! From the trees of a script to what its turns run: numbered instructions whose names are places.
 #![tactic(auto)]
 
-// Awaited calls, and what is set to a value.
-mod assignment;
+// Statements without a block.
+mod action;
 // Blocks and their statements.
 mod block;
+// Calls, and what is waited for.
+mod call;
+// How many numbers and handles stand.
+mod counts;
 // Expressions.
 mod expression;
 // Instructions, one by one.
 mod instruction;
-// Whole methods.
+// Laws of the definitions.
+pub mod laws;
+// Whole methods, and invariants.
 mod method;
 // Counts of 32 bits.
 mod number;
-// What a name stands for.
-mod place;
-// How many instructions statements take.
-mod size;
-// How many variables stand at most.
-mod slots;
+// What lowering knows of a whole script.
+mod plan;
+// What stands at a place of a method.
+mod standing;
 
-pub use expression::{formula, formula_if, formulas};
-pub use method::{Lowered, field_places, lower};
+pub use counts::Counts;
+pub use method::{Lowered, formula, lower};
+pub use plan::Plan;

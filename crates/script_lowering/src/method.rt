@@ -1,89 +1,100 @@
-//! Whole methods.
+//! Whole methods, and invariants.
 
-ghost use Rattle.std.specs.Prelude.{◌≡◌, [], length, map, None, IfOk};
-ghost use Rattle.script_grammar.specs.Tree.{view_field, view_stmt, block_tree, text_of};
-ghost use Rattle.script_names.specs.Rules.{fields_fault, field_names, parameters_fault, statements_fault};
-ghost use Rattle.script_code.specs.Flat.{flat_method, meaning_of};
-ghost use Rattle.script_code.specs.Instructions.{Implements};
-ghost use Rattle.script_lowering.specs.Lowered.{code_of, most_of};
+ghost use Rattle.std.specs.Prelude.{◌≡◌, map, IfOk, OnOk};
+ghost use Rattle.script_grammar.specs.Tree.{text_of, view, view_stmt, block_tree};
+ghost use Rattle.script_names.specs.Scope.{fields_alone};
+ghost use Rattle.script_names.specs.Rules.{with_parameters};
+ghost use Rattle.script_code.specs.Tree.{term_of};
+ghost use Rattle.script_code.specs.Instructions.{Follows};
+ghost use Rattle.script_code.specs.Layout.{code_at};
+ghost use Rattle.script_lowering.specs.Counts.{counts_of, most_of};
+ghost use Rattle.script_lowering.specs.Lowered.{lowered, block_code};
 
-use crate::assignment::Scope;
 use crate::block::block;
-use crate::number::to_u32;
-use crate::size::size;
-use crate::slots::slots;
-use script_code::{Act, Instruction, push_instruction};
-use script_grammar::{Field, Name, Stmt};
-use script_names::{Declared, Names};
+use crate::counts::most_of;
+use crate::expression::expression;
+use crate::instruction::write;
+use crate::plan::Plan;
+use crate::standing::Standing;
+use script_code::laws::written_code_implements;
+use script_code::{Act, Formula, Instruction, renumber};
+use script_grammar::{Expr, Name, Stmt};
+use script_names::NameKind;
 use std::alloc::{AllocError, Global};
 
 /// A method as a turn runs it.
 #[derive(Drop)]
 pub struct Lowered {
-    /// What there is to do, from instruction 0 on. The last instruction is the end of the method.
+    /// What there is to do, from instruction 0 on.
     pub instructions: Vec<Instruction>,
-    /// How many variables stand at most, the parameters among them. Those have the first places.
-    pub slots: u32,
+    /// How many numbers stand at most: parameters, which have the first places, and variables.
+    pub numbers: u32,
+    /// How many handles stand at most: task variables and groups.
+    pub handles: u32,
 }
 
-/// The instructions of a method, from what its names stand for: the declarations of the script, the fields of its
-/// actor, and its parameters (our own). Its names have to be in order, as `script_names::check` finds. `Err` says that
-/// there was no memory, or that an instruction or a place is numbered past 32 bits.
+/// The instructions of a method of the actor at a place, from what its names stand for (our own). Its names have to be
+/// in order, as `script_names::check` finds. `Err` says that there was no memory, that an instruction or a place is
+/// numbered past 32 bits, or that a name is made that stands already, or is not declared.
 ///
-/// Time and memory are linear in the statements, but that a statement's instructions are counted at most twice for each
-/// block around it.
+/// Time and memory are linear in the statements.
 pub fn lower(
     alloc: Global,
-    declared: &Declared,
-    fields: &Names,
+    plan: &Plan,
+    actor: usize,
     params: &[Name],
     body: &[Stmt],
 ) -> Result<Lowered, AllocError>
-    // The parameters are distinct.
-    requires parameters { parameters_fault fields.now [] (map text_of params.now) ≡ None }
-    // Each name of the statements stands for something, and no variable takes a name that does.
-    requires statements { statements_fault declared.now fields.now (map text_of params.now) (block_tree (map view_stmt body.now)) ≡ None }
-    // The instructions are those of the method's statements.
-    ensures instructions { IfOk result (λ l. map meaning_of l.instructions.items ≡ flat_method (code_of declared.now fields.now (map text_of params.now) (block_tree (map view_stmt body.now)))) }
     // To follow the instructions from instruction 0 on is to do the statements.
-    ensures stands { IfOk result (λ l. Implements l.instructions.items (code_of declared.now fields.now (map text_of params.now) (block_tree (map view_stmt body.now)))) }
-    // Each variable has a place, and no place is spare.
-    ensures slots { IfOk result (λ l. l.slots ≡ most_of (length params.now) (block_tree (map view_stmt body.now))) }
+    ensures stands { let code = block_code plan.now (with_parameters (fields_alone plan.now.directory actor) (map text_of params.now)) (block_tree (map view_stmt body.now)) in
+        IfOk result (λ l. Follows l.instructions.items code (code_at code)) }
+    // Each number and each handle has a place, and no place is spare.
+    ensures places { let scope = with_parameters (fields_alone plan.now.directory actor) (map text_of params.now) in
+        IfOk result (λ l. record { numbers = l.numbers; handles = l.handles } ≡ most_of (counts_of scope.kinds) (block_tree (map view_stmt body.now))) }
 {
-    let scope = Scope { declared, fields };
-    let mut variables = parameters(alloc, params)?;
-    let mut instructions = Vec::new(alloc);
-    let last = size(body)?;
-    block(alloc, scope, &mut variables, &mut instructions, body, last)?;
-    push_instruction(&mut instructions, Act::End, last, last)?;
-    let slots = slots(to_u32(params.len())?, body)?;
+    let mut scope = Standing::fields_alone(alloc, plan.declared(), actor);
+    parameters(alloc, &mut scope, params)?;
+    let most = most_of(scope.counts(), body)?;
+    let instructions = instructions(alloc, plan, &mut scope, body)?;
     Ok(Lowered {
         instructions,
-        slots,
+        numbers: most.numbers,
+        handles: most.handles,
     })
 }
 
-/// The names of an actor's fields, which have to be distinct, as `script_names::check` finds. By their places its
-/// methods and its invariant name the fields.
-pub fn field_places(alloc: Global, fields: &[Field]) -> Result<Names, AllocError>
-    requires { fields_fault [] (map view_field fields.now) ≡ None }
-    ensures { IfOk result (λ names. names ≡ field_names (map view_field fields.now)) }
+/// An expression over the fields of the actor at a place alone: an invariant. `Err` is as that of `lower`.
+pub fn formula(alloc: Global, plan: &Plan, actor: usize, expr: &Expr) -> Result<Formula, AllocError>
+    ensures { IfOk result (λ f. term_of f ≡ lowered plan.now (fields_alone plan.now.directory actor) (view expr.now)) }
 {
-    let mut names = Names::new(alloc);
-    for field in fields {
-        names.add(alloc, &field.name.text)?;
-    }
-    Ok(names)
+    let scope = Standing::fields_alone(alloc, plan.declared(), actor);
+    expression(alloc, plan, &scope, expr)
 }
 
-// The names of distinct parameters.
-fn parameters(alloc: Global, params: &[Name]) -> Result<Names, AllocError>
-    requires { parameters_fault [] [] (map text_of params.now) ≡ None }
-    ensures { IfOk result (λ names. names ≡ map text_of params.now) }
+// The parameters stand.
+fn parameters(alloc: Global, scope: &mut Standing<'_>, params: &[Name]) -> Result<(), AllocError>
+    ensures { OnOk result (scope.new ≡ with_parameters scope.old (map text_of params.now)) }
 {
-    let mut names = Names::new(alloc);
     for param in params {
-        names.add(alloc, &param.text)?;
+        scope.add(alloc, &param.text, NameKind::Number)?;
     }
-    Ok(names)
+    Ok(())
+}
+
+// The end of a method, its statements before that, and then its first instruction in the place of the end.
+fn instructions(
+    alloc: Global,
+    plan: &Plan,
+    scope: &mut Standing<'_>,
+    body: &[Stmt],
+) -> Result<Vec<Instruction>, AllocError>
+    ensures { let code = block_code plan.now scope.old (block_tree (map view_stmt body.now)) in
+        IfOk result (λ v. Follows v.items code (code_at code)) }
+{
+    let mut instructions = Vec::new(alloc);
+    write(&mut instructions, Act::End, 0)?;
+    let first = block(alloc, plan, scope, &mut instructions, body, 0)?;
+    renumber(&mut instructions, first);
+    written_code_implements();
+    Ok(instructions)
 }

@@ -1,6 +1,6 @@
 //! Counts of 32 bits.
 
-ghost use Rattle.std.specs.Prelude.{◌≡◌, ◌+◌, IfOk};
+ghost use Rattle.std.specs.Prelude.{◌≡◌, ◌+◌, Some, IfOk};
 
 use std::alloc::AllocError;
 
@@ -21,6 +21,17 @@ pub(crate) fn sum(a: u32, b: u32) -> Result<u32, AllocError>
 {
     match a.checked_add(b) {
         Some(n) => Ok(n),
+        None => Err(AllocError),
+    }
+}
+
+/// The place of a name that is declared, under the same rule. Names are checked before, so each is declared: for one that
+/// is not the answer is that there is no memory.
+pub(crate) fn declared(place: Option<usize>) -> Result<u32, AllocError>
+    ensures { IfOk result (λ n. place ≡ Some n) }
+{
+    match place {
+        Some(place) => to_u32(place),
         None => Err(AllocError),
     }
 }

@@ -1,8 +1,9 @@
 -- The keys of a set as texts: a test of keys that compares their texts with one finds what that text finds among them.
-use Rattle.std.proofs.Common.{◌≡◌, ℕ, ◌+◌, Bool, true, false, cond, List, [], ◌∷◌, ◌++◌, map, refl, ap, ◌∙◌, Option, Some, None, IfSome}
-use Rattle.std.specs.Prelude.{◌||◌, not}
+use Rattle.std.proofs.Common.{◌≡◌, ℕ, suc, ◌+◌, Bool, true, false, cond, List, [], ◌∷◌, ◌++◌, map, length, refl, sym, ap, ◌∙◌, Option, Some, None, IfSome, arith}
+use Rattle.std.specs.Prelude.{◌||◌, not, unwrap_or, is_some}
 use Rattle.std.specs.List.{list_any, position_or_len, position}
 use Rattle.std.specs.Str.{bytes_eq}
+use Rattle.std.proofs.lemmas.Bool.{or_parts}
 use Rattle.std.proofs.lemmas.List.{map_push}
 use Rattle.script_names.specs.Texts.{is_among, place_of}
 
@@ -31,3 +32,20 @@ from_cond (Some m) false n e = absurd (cc)
 pub index_place : {K : Type 0} (text : K → List ℕ) (test : K → Bool) (w : List ℕ) → Compares text test w → (keys : List K) (names : List (List ℕ)) (o : Option ℕ) → o ≡ position test keys → map text keys ≡ names → IfSome o (λ n. n ≡ place_of names w)
 index_place text test w same keys names None e v = tt
 index_place text test w same keys names (Some n) e v = from_cond (Some n) _ _ e ∙ place_text text test w same keys ∙ ap (λ (ns : List (List ℕ)). place_of ns w) v
+
+not_first : (b : Bool) (p l : ℕ) → b ≡ false → p ≡ l → cond (not b) (1 + p) 0 ≡ suc l
+not_first b p l e h =
+    let after : 1 + p ≡ suc l = omega arith in
+    ap (λ (x : Bool). cond (not x) (1 + p) 0) e ∙ after
+
+-- the place of a name that is none of these is their number
+past_all : (names : List (List ℕ)) (w : List ℕ) → is_among names w ≡ false → place_of names w ≡ length names
+past_all [] w e = refl
+past_all (n ∷ names) w e =
+    let parts = or_parts _ _ e in
+    not_first (bytes_eq w n) (place_of names w) (length names) parts.0 (past_all names w parts.1)
+
+-- the place that is found, or the number of the names, is the place
+pub place_or_all : (names : List (List ℕ)) (w : List ℕ) (o : Option ℕ) → is_some o ≡ is_among names w → IfSome o (λ n. n ≡ place_of names w) → unwrap_or o (length names) ≡ place_of names w
+place_or_all names w None found place = sym (past_all names w (sym found))
+place_or_all names w (Some n) found place = place

@@ -1,5 +1,4 @@
 pub mod Keys
-pub mod Roots
-pub mod SameKinds
-pub mod Choices
+pub mod Standing
 pub mod LeftOut
+pub mod Fails

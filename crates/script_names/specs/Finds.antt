@@ -1,6 +1,5 @@
 -- What an answer says of the first error.
 use Rattle.std.specs.Prelude.{◌≡◌, Option, Some, None, Result, Ok, Err}
-use Rattle.script_names.specs.declared.error.NameErrorKind.{NameErrorKind}
 use Rattle.script_names.specs.declared.error.NameError.{NameError}
 use Rattle.script_names.specs.declared.error.CheckError.{CheckError}
 use Rattle.script_names.specs.declared.error.CheckError.TheVariants as errors
@@ -14,13 +13,3 @@ IsError (errors.Name e) error = error ≡ Some e
 abbrev pub Finds : {A : Type 0} → Result A CheckError → Option NameError → Type 0
 Finds (Ok x) error = error ≡ None
 Finds (Err e) error = IsError e error
-
--- an error of this kind, unless memory ran out
-abbrev pub IsOfKind : CheckError → Option NameErrorKind → Type 0
-IsOfKind errors.Memory kind = Unit {0}
-IsOfKind (errors.Name e) kind = kind ≡ Some e.kind
-
--- no error where the answer is Ok, and else one of this kind, unless memory ran out
-abbrev pub FindsKind : {A : Type 0} → Result A CheckError → Option NameErrorKind → Type 0
-FindsKind (Ok x) kind = kind ≡ None
-FindsKind (Err e) kind = IsOfKind e kind

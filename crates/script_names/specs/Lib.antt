@@ -1,6 +1,6 @@
 pub mod Texts
 pub mod Methods
 pub mod Directory
+pub mod Scope
 pub mod Rules
-pub mod Errors
 pub mod Finds

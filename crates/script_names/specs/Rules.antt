@@ -1,127 +1,370 @@
--- The rules on names and counts: the first fault of a script, in order of place in its text.
-use Rattle.std.specs.Prelude.{ℕ, Bool, true, false, ◌||◌, ◌==◌, nat_le, if◌then◌else◌, Option, Some, None, List, [], ◌∷◌, ◌++◌, length, map}
-use Rattle.swift_types.specs.declared.limits.TheConstants.{ACTORS, TASKS}
-use Rattle.script_grammar.specs.Tree.{ExprTree, Number, Named, Negated, Inverted, Both, WaitTree, ValueTree, Computed, Awaited, StmtTree, Let, Assign, Await, If, IfElse, While, Return, Throw, Yield, BlockTree, nothing, first_then, block_tree, FieldTree, MethodTree, ActorTree, RootTree, DeclTree, Acts, Roots}
+-- The rules on names and counts: the first error of a script, in order of place in its text. Where it stands is said by
+-- how many names stand before it in the text. The rule on roots that wait for one another is none of these. (Own.)
+use Rattle.std.specs.Prelude.{ℕ, pos, negsuc, suc, Bool, true, false, ◌==◌, nat_le, nat_lt, if◌then◌else◌, Option, Some, None, List, [], ◌∷◌, ◌++◌, length}
+use Rattle.swift_types.specs.declared.limits.TheConstants.{ACTORS, EXECUTORS, TASKS, WORKERS}
+use Rattle.script_grammar.specs.declared.declaration.ExecutorKind.{ExecutorKind}
+use Rattle.script_grammar.specs.declared.declaration.ExecutorKind.TheVariants as executor
+use Rattle.script_grammar.specs.Tree.{ExprTree, Number, Named, Local, OwnPriority, IsCancelled, Negated, Inverted, Both, CallTree, AwaitedTree, Called, TaskOf, NextOf, WaitTree, ValueTree, Computed, Waited, MakeTree, Spawned, Detached, ActionTree, Let, LetTask, Assign, Await, Makes, Adds, Cancel, Return, Throw, Check, Yield, HeadTree, If, While, Bind, Group, Assume, StmtTree, Do, Headed, IfElse, BlockTree, nothing, first_then, block_tree, ExecutorTree, FieldTree, MethodTree, ActorTree, RootTree, DeclTree, Executes, Binds, Acts, Roots}
+use Rattle.script_names.specs.declared.scope.NameKind.{NameKind}
+use Rattle.script_names.specs.declared.scope.NameKind.TheVariants as kind
 use Rattle.script_names.specs.declared.error.NameErrorKind.{NameErrorKind}
-use Rattle.script_names.specs.declared.error.NameErrorKind.TheVariants.{Twice, Unknown, Arguments, TooMany}
-use Rattle.script_names.specs.Texts.{is_among}
-use Rattle.script_names.specs.Directory.{Directory, has_method, arity_of, directory_of}
+use Rattle.script_names.specs.declared.error.NameErrorKind.TheVariants.{Twice, Unknown, Arguments, Confused, BoundInside, TooMany, TooGreat}
+use Rattle.script_names.specs.declared.error.NameError.{NameError}
+use Rattle.script_names.specs.Texts.{is_among, place_of}
+use Rattle.script_names.specs.Directory.{Directory, has_method, arity_of, fields_at, directory_of}
+use Rattle.script_names.specs.Scope.{Scope, fields_alone, with_standing, meaning_of, share_a_name}
 
--- the earlier of two faults
-abbrev pub earlier : {A : Type 0} → Option A → Option A → Option A
+-- the earlier of two errors
+abbrev pub earlier : Option NameError → Option NameError → Option NameError
 earlier None later = later
-earlier (Some m) later = Some m
+earlier (Some e) later = Some e
+
+-- what is wrong with the name before which so many names stand
+abbrev pub at_name : ℕ → Option NameErrorKind → Option NameError
+at_name at None = None
+at_name at (Some k) = Some (record { kind = k; names_before = at })
 
 -- this fault, where the test holds
 abbrev pub where_so : Bool → NameErrorKind → Option NameErrorKind
-where_so true m = Some m
-where_so false m = None
+where_so true k = Some k
+where_so false k = None
 
--- whether a name stands as a field or as a variable
-abbrev pub is_standing : List (List ℕ) → List (List ℕ) → List ℕ → Bool
-is_standing fields variables name = is_among fields name || is_among variables name
+-- How many names stand before what follows an expression, where so many stand before it; and so of each part of a script.
+abbrev pub past : ExprTree → ℕ → ℕ
+past (Number n) at = at
+past (Named n) at = suc at
+past (Local n) at = suc at
+past OwnPriority at = at
+past IsCancelled at = at
+past (Negated a) at = past a at
+past (Inverted a) at = past a at
+past (Both o a b) at = past b (past a at)
 
--- A call names an actor, one of its methods, and as many arguments as that has parameters.
-abbrev pub call_fault : Directory → List ℕ → List ℕ → ℕ → Option NameErrorKind
-call_fault d actor method count =
-    if has_method d actor method
-    then (if arity_of d actor method == count then None else Some Arguments)
-    else Some Unknown
+abbrev pub past_all : List ExprTree → ℕ → ℕ
+past_all [] at = at
+past_all (e ∷ es) at = past_all es (past e at)
 
--- Each name of an expression stands there.
-abbrev pub name_fault : List (List ℕ) → List (List ℕ) → List ℕ → Option NameErrorKind
-name_fault fields variables name = if is_standing fields variables name then None else Some Unknown
+abbrev pub past_if : Option ExprTree → ℕ → ℕ
+past_if None at = at
+past_if (Some e) at = past e at
 
-abbrev pub expression_fault : List (List ℕ) → List (List ℕ) → ExprTree → Option NameErrorKind
-expression_fault fields variables (Number n) = None
-expression_fault fields variables (Named name) = name_fault fields variables name
-expression_fault fields variables (Negated a) = expression_fault fields variables a
-expression_fault fields variables (Inverted a) = expression_fault fields variables a
-expression_fault fields variables (Both o a b) = earlier (expression_fault fields variables a) (expression_fault fields variables b)
+abbrev pub past_call : CallTree → ℕ → ℕ
+past_call c at = past_all c.args (suc (suc at))
 
-abbrev pub expressions_fault : List (List ℕ) → List (List ℕ) → List ExprTree → Option NameErrorKind
-expressions_fault fields variables [] = None
-expressions_fault fields variables (t ∷ ts) = earlier (expression_fault fields variables t) (expressions_fault fields variables ts)
+abbrev pub past_awaited : AwaitedTree → ℕ → ℕ
+past_awaited (Called c) at = past_call c at
+past_awaited (TaskOf n) at = suc at
+past_awaited (NextOf n) at = suc at
 
-abbrev pub optional_fault : List (List ℕ) → List (List ℕ) → Option ExprTree → Option NameErrorKind
-optional_fault fields variables None = None
-optional_fault fields variables (Some t) = expression_fault fields variables t
+abbrev pub past_wait : WaitTree → ℕ → ℕ
+past_wait w at = past_if w.other (past_awaited w.for at)
 
-abbrev pub wait_fault : Directory → List (List ℕ) → List (List ℕ) → WaitTree → Option NameErrorKind
-wait_fault d fields variables w =
-    earlier (call_fault d w.call.actor w.call.method (length w.call.args))
-    (earlier (expressions_fault fields variables w.call.args) (optional_fault fields variables w.other))
+abbrev pub past_value : ValueTree → ℕ → ℕ
+past_value (Computed e) at = past e at
+past_value (Waited w) at = past_wait w at
 
-abbrev pub value_fault : Directory → List (List ℕ) → List (List ℕ) → ValueTree → Option NameErrorKind
-value_fault d fields variables (Computed t) = expression_fault fields variables t
-value_fault d fields variables (Awaited w) = wait_fault d fields variables w
+abbrev pub past_make : MakeTree → ℕ → ℕ
+past_make (Spawned c p) at = past_call c at
+past_make (Detached c p) at = past_call c at
 
--- the variables that stand after a statement: a `let` stands from its end on
-abbrev pub variables_after : List (List ℕ) → StmtTree → List (List ℕ)
-variables_after variables (Let name v) = variables ++ name ∷ []
-variables_after variables _ = variables
+abbrev pub past_action : ActionTree → ℕ → ℕ
+past_action (Let n v) at = past_value v (suc at)
+past_action (LetTask n m) at = past_make m (suc at)
+past_action (Assign n v) at = past_value v (suc at)
+past_action (Await w) at = past_wait w at
+past_action (Makes m) at = past_make m at
+past_action (Adds a) at = past_call a.call (suc at)
+past_action (Cancel n) at = suc at
+past_action (Return e) at = past e at
+past_action (Throw e) at = past e at
+past_action Check at = at
+past_action Yield at = at
+
+abbrev pub past_head : HeadTree → ℕ → ℕ
+past_head (If e) at = past e at
+past_head (While e) at = past e at
+past_head (Bind n e) at = past e (suc at)
+past_head (Group n) at = suc at
+past_head (Assume n) at = suc at
 
 abbrev mutual
-  -- A `let` takes a name that does not stand there; what is assigned stands there.
-  pub statement_fault : Directory → List (List ℕ) → List (List ℕ) → StmtTree → Option NameErrorKind
-  statement_fault d fields variables (Let name v) = earlier (where_so (is_standing fields variables name) Twice) (value_fault d fields variables v)
-  statement_fault d fields variables (Assign name v) = earlier (name_fault fields variables name) (value_fault d fields variables v)
-  statement_fault d fields variables (Await w) = wait_fault d fields variables w
-  statement_fault d fields variables (If t held) = earlier (expression_fault fields variables t) (statements_fault d fields variables held)
-  statement_fault d fields variables (IfElse t held failed) = earlier (expression_fault fields variables t) (earlier (statements_fault d fields variables held) (statements_fault d fields variables failed))
-  statement_fault d fields variables (While t body) = earlier (expression_fault fields variables t) (statements_fault d fields variables body)
-  statement_fault d fields variables (Return t) = expression_fault fields variables t
-  statement_fault d fields variables (Throw t) = expression_fault fields variables t
-  statement_fault d fields variables Yield = None
+  pub past_stmt : StmtTree → ℕ → ℕ
+  past_stmt (Do a) at = past_action a at
+  past_stmt (Headed h b) at = past_block b (past_head h at)
+  past_stmt (IfElse t a b) at = past_block b (past_block a (past t at))
 
-  -- A block's own variables stand to its end.
-  pub statements_fault : Directory → List (List ℕ) → List (List ℕ) → BlockTree → Option NameErrorKind
-  statements_fault d fields variables nothing = None
-  statements_fault d fields variables (first_then s ss) = earlier (statement_fault d fields variables s) (statements_fault d fields (variables_after variables s) ss)
+  pub past_block : BlockTree → ℕ → ℕ
+  past_block nothing at = at
+  past_block (first_then s ss) at = past_block ss (past_stmt s at)
+
+abbrev pub past_names : List (List ℕ) → ℕ → ℕ
+past_names [] at = at
+past_names (n ∷ ns) at = past_names ns (suc at)
+
+abbrev pub past_name_if : Option (List ℕ) → ℕ → ℕ
+past_name_if None at = at
+past_name_if (Some n) at = suc at
+
+abbrev pub past_method : MethodTree → ℕ → ℕ
+past_method m at = past_block (block_tree m.body) (past_names m.params (suc at))
+
+abbrev pub past_methods : List MethodTree → ℕ → ℕ
+past_methods [] at = at
+past_methods (m ∷ ms) at = past_methods ms (past_method m at)
+
+abbrev pub past_fields : List FieldTree → ℕ → ℕ
+past_fields [] at = at
+past_fields (f ∷ fs) at = past_fields fs (suc at)
+
+abbrev pub past_actor : ActorTree → ℕ → ℕ
+past_actor a at = past_methods a.methods (past_if a.invariant (past_fields a.fields (past_name_if a.executor (suc at))))
+
+abbrev pub past_decl : DeclTree → ℕ → ℕ
+past_decl (Executes x) at = suc at
+past_decl (Binds l) at = suc at
+past_decl (Acts a) at = past_actor a at
+past_decl (Roots r) at = suc (suc (suc at))
+
+-- A name that is read or set is a field or a number.
+abbrev pub number_fault : Option NameKind → Option NameErrorKind
+number_fault None = Some Unknown
+number_fault (Some kind.Field) = None
+number_fault (Some kind.Number) = None
+number_fault (Some kind.Task) = Some Confused
+number_fault (Some kind.Group) = Some Confused
+
+-- A name after `next` or `add` is a group.
+abbrev pub group_fault : Option NameKind → Option NameErrorKind
+group_fault None = Some Unknown
+group_fault (Some kind.Field) = Some Confused
+group_fault (Some kind.Number) = Some Confused
+group_fault (Some kind.Task) = Some Confused
+group_fault (Some kind.Group) = None
+
+-- A name that is no task there is a root, whatever else stands under it.
+abbrev pub root_fault : Bool → Option NameKind → Option NameErrorKind
+root_fault true meaning = None
+root_fault false None = Some Unknown
+root_fault false (Some k) = Some Confused
+
+-- A name after `task` is a task variable, or else a root.
+abbrev pub task_fault : Bool → Option NameKind → Option NameErrorKind
+task_fault is_root (Some kind.Task) = None
+task_fault is_root meaning = root_fault is_root meaning
+
+-- A name after `cancel` is a task variable or a group, or else a root.
+abbrev pub cancel_fault : Bool → Option NameKind → Option NameErrorKind
+cancel_fault is_root (Some kind.Task) = None
+cancel_fault is_root (Some kind.Group) = None
+cancel_fault is_root meaning = root_fault is_root meaning
+
+-- A new name stands neither as a field nor as anything else.
+abbrev pub new_fault : Option NameKind → Option NameErrorKind
+new_fault None = None
+new_fault (Some k) = Some Twice
+
+-- A name that must be declared is one of these.
+abbrev pub declared_fault : List (List ℕ) → List ℕ → Option NameErrorKind
+declared_fault names name = if is_among names name then None else Some Unknown
+
+-- A child is added to a group that was opened inside the innermost open `bind`.
+abbrev pub bind_fault : Scope → List ℕ → Option NameErrorKind
+bind_fault s group = where_so (nat_lt (place_of s.names group) s.bound) BoundInside
+
+-- the first of two faults of one name
+abbrev pub or_else : Option NameErrorKind → Option NameErrorKind → Option NameErrorKind
+or_else None other = other
+or_else (Some k) other = Some k
+
+abbrev pub expression_error : Scope → ℕ → ExprTree → Option NameError
+expression_error s at (Number n) = None
+expression_error s at (Named n) = at_name at (number_fault (meaning_of s n))
+expression_error s at (Local n) = at_name at (declared_fault s.directory.locals n)
+expression_error s at OwnPriority = None
+expression_error s at IsCancelled = None
+expression_error s at (Negated a) = expression_error s at a
+expression_error s at (Inverted a) = expression_error s at a
+expression_error s at (Both o a b) = earlier (expression_error s at a) (expression_error s (past a at) b)
+
+abbrev pub expressions_error : Scope → ℕ → List ExprTree → Option NameError
+expressions_error s at [] = None
+expressions_error s at (e ∷ es) = earlier (expression_error s at e) (expressions_error s (past e at) es)
+
+abbrev pub optional_error : Scope → ℕ → Option ExprTree → Option NameError
+optional_error s at None = None
+optional_error s at (Some e) = expression_error s at e
+
+-- A call names an actor, one of its methods, and as many arguments as that has parameters. An error stands at the actor
+-- where none has that name, and else at the method.
+abbrev pub target_error : Directory → ℕ → List ℕ → List ℕ → ℕ → Option NameError
+target_error d at actor method count =
+    if is_among d.actors actor
+    then at_name (suc at) (if has_method d actor method then (if arity_of d actor method == count then None else Some Arguments) else Some Unknown)
+    else at_name at (Some Unknown)
+
+-- The target comes first, and then the arguments.
+abbrev pub call_error : Scope → ℕ → CallTree → Option NameError
+call_error s at c = earlier (target_error s.directory at c.actor c.method (length c.args)) (expressions_error s (suc (suc at)) c.args)
+
+abbrev pub awaited_error : Scope → ℕ → AwaitedTree → Option NameError
+awaited_error s at (Called c) = call_error s at c
+awaited_error s at (TaskOf n) = at_name at (task_fault (is_among s.directory.roots n) (meaning_of s n))
+awaited_error s at (NextOf n) = at_name at (group_fault (meaning_of s n))
+
+abbrev pub wait_error : Scope → ℕ → WaitTree → Option NameError
+wait_error s at w = earlier (awaited_error s at w.for) (optional_error s (past_awaited w.for at) w.other)
+
+abbrev pub value_error : Scope → ℕ → ValueTree → Option NameError
+value_error s at (Computed e) = expression_error s at e
+value_error s at (Waited w) = wait_error s at w
+
+abbrev pub make_error : Scope → ℕ → MakeTree → Option NameError
+make_error s at (Spawned c p) = call_error s at c
+make_error s at (Detached c p) = call_error s at c
+
+-- A `let` takes a name that does not stand there, and its own name does not stand in its value.
+abbrev pub action_error : Scope → ℕ → ActionTree → Option NameError
+action_error s at (Let n v) = earlier (at_name at (new_fault (meaning_of s n))) (value_error s (suc at) v)
+action_error s at (LetTask n m) = earlier (at_name at (new_fault (meaning_of s n))) (make_error s (suc at) m)
+action_error s at (Assign n v) = earlier (at_name at (number_fault (meaning_of s n))) (value_error s (suc at) v)
+action_error s at (Await w) = wait_error s at w
+action_error s at (Makes m) = make_error s at m
+action_error s at (Adds a) = earlier (at_name at (or_else (group_fault (meaning_of s a.group)) (bind_fault s a.group))) (call_error s (suc at) a.call)
+action_error s at (Cancel n) = at_name at (cancel_fault (is_among s.directory.roots n) (meaning_of s n))
+action_error s at (Return e) = expression_error s at e
+action_error s at (Throw e) = expression_error s at e
+action_error s at Check = None
+action_error s at Yield = None
+
+-- what stands after a statement: a `let` stands from its end on
+abbrev pub scope_after : Scope → StmtTree → Scope
+scope_after s (Do (Let n v)) = with_standing s n kind.Number
+scope_after s (Do (LetTask n m)) = with_standing s n kind.Task
+scope_after s _ = s
+
+-- what stands in a block, by its head: a group stands in its block, and an `assume` brings another actor's fields
+abbrev pub scope_within : Scope → HeadTree → Scope
+scope_within s (If e) = s
+scope_within s (While e) = s
+scope_within s (Bind n e) = record s { bound = length s.names }
+scope_within s (Group n) = with_standing s n kind.Group
+scope_within s (Assume n) = record s { actor = place_of s.directory.actors n }
+
+-- An `assume` names an actor, none of whose fields has a name that stands there.
+abbrev pub assume_fault : Scope → List ℕ → Option NameErrorKind
+assume_fault s actor =
+    if is_among s.directory.actors actor
+    then where_so (share_a_name (fields_at s.directory (place_of s.directory.actors actor)) s.names) Twice
+    else Some Unknown
+
+abbrev pub head_error : Scope → ℕ → HeadTree → Option NameError
+head_error s at (If e) = expression_error s at e
+head_error s at (While e) = expression_error s at e
+head_error s at (Bind n e) = earlier (at_name at (declared_fault s.directory.locals n)) (expression_error s (suc at) e)
+head_error s at (Group n) = at_name at (new_fault (meaning_of s n))
+head_error s at (Assume n) = at_name at (assume_fault s n)
+
+abbrev mutual
+  pub stmt_error : Scope → ℕ → StmtTree → Option NameError
+  stmt_error s at (Do a) = action_error s at a
+  stmt_error s at (Headed h b) = earlier (head_error s at h) (block_error (scope_within s h) (past_head h at) b)
+  stmt_error s at (IfElse t a b) = earlier (expression_error s at t) (earlier (block_error s (past t at) a) (block_error s (past_block a (past t at)) b))
+
+  -- A block's own names stand to its end.
+  pub block_error : Scope → ℕ → BlockTree → Option NameError
+  block_error s at nothing = None
+  block_error s at (first_then x xs) = earlier (stmt_error s at x) (block_error (scope_after s x) (past_stmt x at) xs)
 
 -- Parameters are distinct, and distinct from the fields.
-abbrev pub parameters_fault : List (List ℕ) → List (List ℕ) → List (List ℕ) → Option NameErrorKind
-parameters_fault fields variables [] = None
-parameters_fault fields variables (name ∷ names) = earlier (where_so (is_standing fields variables name) Twice) (parameters_fault fields (variables ++ name ∷ []) names)
+abbrev pub parameters_error : Scope → ℕ → List (List ℕ) → Option NameError
+parameters_error s at [] = None
+parameters_error s at (n ∷ ns) = earlier (at_name at (new_fault (meaning_of s n))) (parameters_error (with_standing s n kind.Number) (suc at) ns)
 
-abbrev pub method_fault : Directory → List (List ℕ) → List (List ℕ) → MethodTree → Option NameErrorKind
-method_fault d fields seen m =
-    earlier (where_so (is_among seen m.name) Twice)
-    (earlier (parameters_fault fields [] m.params) (statements_fault d fields m.params (block_tree m.body)))
+abbrev pub with_parameters : Scope → List (List ℕ) → Scope
+with_parameters s [] = s
+with_parameters s (n ∷ ns) = with_parameters (with_standing s n kind.Number) ns
+
+-- The name is none of those.
+abbrev pub repeat_error : List (List ℕ) → ℕ → List ℕ → Option NameError
+repeat_error seen at name = at_name at (where_so (is_among seen name) Twice)
+
+abbrev pub method_error : Scope → List (List ℕ) → ℕ → MethodTree → Option NameError
+method_error s seen at m =
+    earlier (repeat_error seen at m.name)
+    (earlier (parameters_error s (suc at) m.params)
+    (block_error (with_parameters s m.params) (past_names m.params (suc at)) (block_tree m.body)))
 
 -- An actor's methods are distinct.
-abbrev pub methods_fault : Directory → List (List ℕ) → List (List ℕ) → List MethodTree → Option NameErrorKind
-methods_fault d fields seen [] = None
-methods_fault d fields seen (m ∷ ms) = earlier (method_fault d fields seen m) (methods_fault d fields (seen ++ m.name ∷ []) ms)
+abbrev pub methods_error : Scope → List (List ℕ) → ℕ → List MethodTree → Option NameError
+methods_error s seen at [] = None
+methods_error s seen at (m ∷ ms) = earlier (method_error s seen at m) (methods_error s (seen ++ m.name ∷ []) (past_method m at) ms)
 
 -- An actor's fields are distinct.
-abbrev pub fields_fault : List (List ℕ) → List FieldTree → Option NameErrorKind
-fields_fault seen [] = None
-fields_fault seen (f ∷ fs) = earlier (where_so (is_among seen f.name) Twice) (fields_fault (seen ++ f.name ∷ []) fs)
+abbrev pub fields_error : List (List ℕ) → ℕ → List FieldTree → Option NameError
+fields_error seen at [] = None
+fields_error seen at (f ∷ fs) = earlier (repeat_error seen at f.name) (fields_error (seen ++ f.name ∷ []) (suc at) fs)
 
-abbrev pub field_names : List FieldTree → List (List ℕ)
-field_names fields = map (λ f. f.name) fields
+-- An actor runs on an executor that is declared.
+abbrev pub on_error : Directory → ℕ → Option (List ℕ) → Option NameError
+on_error d at None = None
+on_error d at (Some n) = at_name at (declared_fault d.executors n)
 
--- Actors are distinct and at most 64, and an invariant names fields alone.
-abbrev pub actor_fault : Directory → List (List ℕ) → ActorTree → Option NameErrorKind
-actor_fault d seen a =
-    earlier (where_so (is_among seen a.name) Twice)
-    (earlier (where_so (nat_le ACTORS (length seen)) TooMany)
-    (earlier (fields_fault [] a.fields)
-    (earlier (optional_fault (field_names a.fields) [] a.invariant)
-    (methods_fault d (field_names a.fields) [] a.methods))))
+-- what stands before a declaration: the names of executors and actors together, those of task locals and of roots, and
+-- how many executors and actors there are
+pub record Seen : Type 0 where
+  pub places : List (List ℕ)
+  pub locals : List (List ℕ)
+  pub roots : List (List ℕ)
+  pub executors : ℕ
+  pub actors : ℕ
+
+-- a worker's number is below the greatest number of workers
+abbrev pub kind_error : ℕ → ExecutorKind → Option NameError
+kind_error at executor.Priority = None
+kind_error at executor.Fifo = None
+kind_error at (executor.Pinned (pos k)) = at_name at (where_so (nat_le WORKERS k) TooGreat)
+kind_error at (executor.Pinned (negsuc k)) = None
+
+-- Executors are distinct, also from actors, and at most 64.
+abbrev pub executor_error : Seen → ℕ → ExecutorTree → Option NameError
+executor_error seen at x =
+    earlier (repeat_error seen.places at x.name)
+    (earlier (at_name at (where_so (nat_le EXECUTORS seen.executors) TooMany)) (kind_error at x.kind))
+
+-- Actors are distinct, also from executors, and at most 64. An invariant names fields alone.
+abbrev pub actor_error : Directory → Seen → ℕ → ActorTree → Option NameError
+actor_error d seen at a =
+    let s = fields_alone d seen.actors in
+    let fields = past_name_if a.executor (suc at) in
+    let invariant = past_fields a.fields fields in
+    earlier (repeat_error seen.places at a.name)
+    (earlier (at_name at (where_so (nat_le ACTORS seen.actors) TooMany))
+    (earlier (on_error d (suc at) a.executor)
+    (earlier (fields_error [] fields a.fields)
+    (earlier (optional_error s invariant a.invariant) (methods_error s [] (past_if a.invariant invariant) a.methods)))))
 
 -- Roots are distinct and at most 1,024, and each calls a method.
-abbrev pub root_fault : Directory → List (List ℕ) → RootTree → Option NameErrorKind
-root_fault d seen r =
-    earlier (where_so (is_among seen r.name) Twice)
-    (earlier (where_so (nat_le TASKS (length seen)) TooMany) (call_fault d r.actor r.method (length r.args)))
+abbrev pub root_error : Directory → Seen → ℕ → RootTree → Option NameError
+root_error d seen at r =
+    earlier (repeat_error seen.roots at r.name)
+    (earlier (at_name at (where_so (nat_le TASKS (length seen.roots)) TooMany)) (target_error d (suc at) r.actor r.method (length r.args)))
 
-abbrev pub declarations_fault : Directory → List (List ℕ) → List (List ℕ) → List DeclTree → Option NameErrorKind
-declarations_fault d actors roots [] = None
-declarations_fault d actors roots (Acts a ∷ xs) = earlier (actor_fault d actors a) (declarations_fault d (actors ++ a.name ∷ []) roots xs)
-declarations_fault d actors roots (Roots r ∷ xs) = earlier (root_fault d roots r) (declarations_fault d actors (roots ++ r.name ∷ []) xs)
+abbrev pub decl_error : Directory → Seen → ℕ → DeclTree → Option NameError
+decl_error d seen at (Executes x) = executor_error seen at x
+decl_error d seen at (Binds l) = repeat_error seen.locals at l.name
+decl_error d seen at (Acts a) = actor_error d seen at a
+decl_error d seen at (Roots r) = root_error d seen at r
 
--- the first fault of a script's names and counts, in order of place
-abbrev pub names_fault : List DeclTree → Option NameErrorKind
-names_fault decls = declarations_fault (directory_of decls) [] [] decls
+abbrev pub seen_after : Seen → DeclTree → Seen
+seen_after seen (Executes x) = record seen { places = seen.places ++ x.name ∷ []; executors = suc seen.executors }
+seen_after seen (Binds l) = record seen { locals = seen.locals ++ l.name ∷ [] }
+seen_after seen (Acts a) = record seen { places = seen.places ++ a.name ∷ []; actors = suc seen.actors }
+seen_after seen (Roots r) = record seen { roots = seen.roots ++ r.name ∷ [] }
+
+abbrev pub declarations_error : Directory → Seen → ℕ → List DeclTree → Option NameError
+declarations_error d seen at [] = None
+declarations_error d seen at (x ∷ xs) = earlier (decl_error d seen at x) (declarations_error d (seen_after seen x) (past_decl x at) xs)
+
+-- the first error of a script's names and counts, in order of place
+abbrev pub names_error : List DeclTree → Option NameError
+names_error decls = declarations_error (directory_of decls) (record { places = []; locals = []; roots = []; executors = 0; actors = 0 }) 0 decls

@@ -1,160 +1,127 @@
-//! Names and calls inside declarations, and whole scripts.
+//! Names of declarations, and whole scripts.
 
-ghost use Rattle.std.specs.Prelude.{◌≡◌, [], ◌∷◌, ◌++◌, map, IfOk, OnOk};
-ghost use Rattle.script_grammar.specs.Tree.{text_of, view_field, view_decl};
+ghost use Rattle.std.specs.Prelude.{◌≡◌, [], map, suc, IfOk, OnOk};
+ghost use Rattle.script_grammar.specs.Tree.{view_executor, view_local, view_root, view_decl, Executes, Binds, Roots};
 ghost use Rattle.script_names.specs.Directory.{directory_of};
-ghost use Rattle.script_names.specs.Rules.{field_names, names_fault};
-ghost use Rattle.script_names.specs.Errors.{repeat_error, parameters_error, method_error, methods_error, fields_error, invariant_error, actor_error, root_error, declarations_error, names_error};
-ghost use Rattle.script_names.specs.Finds.{Finds, FindsKind};
+ghost use Rattle.script_names.specs.Rules.{past_decl, kind_error, executor_error, root_error, repeat_error, decl_error, seen_after, declarations_error, names_error};
+ghost use Rattle.script_names.specs.Finds.{Finds};
 
+use crate::actors::actor;
+use crate::calls::target;
 use crate::directory::Declared;
-use crate::error::{CheckError, NameErrorKind, fault_at};
-use crate::expressions::{expression, stands};
-use crate::statements::statements;
-use crate::texts::Names;
-use script_grammar::{Actor, Decl, Field, Invariant, Method, Name, Root};
+use crate::error::{CheckError, NameErrorKind};
+use crate::fault::{at_name, where_so};
+use crate::seen::{Seen, unless_seen};
+use script_grammar::{Decl, Executor, ExecutorKind, Local, Root};
 use std::alloc::Global;
-use swift_types::limits::{ACTORS, TASKS};
+use swift_types::limits::{EXECUTORS, TASKS, WORKERS};
 
-// The name is none of those.
-fn unless_seen(seen: &Names, name: &Name) -> Result<(), CheckError>
-    ensures { Finds result (repeat_error seen.now name.now) }
+// A worker's number is below the greatest number of workers.
+fn kind(at: u32, kind: ExecutorKind) -> Result<u32, CheckError>
+    ensures finds { Finds result (kind_error at kind) }
+    ensures after { IfOk result (λ n. n ≡ suc at) }
 {
-    if seen.contains(&name.text) {
-        Err(fault_at(NameErrorKind::Twice, name))
-    } else {
-        Ok(())
-    }
+    let is_too_great = match kind {
+        ExecutorKind::Pinned(worker) => worker >= WORKERS as i64,
+        ExecutorKind::Priority | ExecutorKind::Fifo => false,
+    };
+    at_name(at, where_so(is_too_great, NameErrorKind::TooGreat))
 }
 
-// The parameters are distinct, and distinct from the fields.
-fn parameters(alloc: Global, fields: &Names, params: &[Name]) -> Result<Names, CheckError>
-    ensures finds { Finds result (parameters_error fields.now [] params.now) }
-    ensures names { IfOk result (λ n. n ≡ map text_of params.now) }
+// Executors are distinct, also from actors, and not too many.
+fn executor(alloc: Global, seen: &mut Seen, at: u32, executor: &Executor) -> Result<u32, CheckError>
+    ensures finds { Finds result (executor_error seen.old at (view_executor executor.now)) }
+    ensures after { IfOk result (λ n. n ≡ suc at) }
+    ensures seen { OnOk result (seen.new ≡ seen_after seen.old (Executes (view_executor executor.now))) }
 {
-    let mut variables = Names::new(alloc);
-    for param in params {
-        if stands(fields, &variables, param) {
-            return Err(fault_at(NameErrorKind::Twice, param));
-        }
-        variables.add(alloc, &param.text)?;
-    }
-    Ok(variables)
+    unless_seen(&seen.places, at, &executor.name)?;
+    let is_one_more = seen.executors >= EXECUTORS;
+    at_name(at, where_so(is_one_more, NameErrorKind::TooMany))?;
+    let after = kind(at, executor.kind)?;
+    seen.places.add(alloc, &executor.name.text)?;
+    seen.executors += 1;
+    Ok(after)
 }
 
-fn method(
+// Task locals are distinct.
+fn local(alloc: Global, seen: &mut Seen, at: u32, local: &Local) -> Result<u32, CheckError>
+    ensures finds { Finds result (repeat_error seen.old.locals at (view_local local.now).name) }
+    ensures after { IfOk result (λ n. n ≡ suc at) }
+    ensures seen { OnOk result (seen.new ≡ seen_after seen.old (Binds (view_local local.now))) }
+{
+    let after = unless_seen(&seen.locals, at, &local.name)?;
+    seen.locals.add(alloc, &local.name.text)?;
+    Ok(after)
+}
+
+// Roots are distinct and not too many, and each calls a method.
+fn root(
     alloc: Global,
     declared: &Declared,
-    fields: &Names,
-    seen: &Names,
-    method: &Method,
-) -> Result<(), CheckError>
-    ensures { Finds result (method_error declared.now fields.now seen.now method.now) }
+    seen: &mut Seen,
+    at: u32,
+    root: &Root,
+) -> Result<u32, CheckError>
+    ensures finds { Finds result (root_error declared.now seen.old at (view_root root.now)) }
+    ensures after { IfOk result (λ n. n ≡ past_decl (Roots (view_root root.now)) at) }
+    ensures seen { OnOk result (seen.new ≡ seen_after seen.old (Roots (view_root root.now))) }
 {
-    unless_seen(seen, &method.name)?;
-    let mut variables = parameters(alloc, fields, &method.params)?;
-    statements(alloc, declared, fields, &mut variables, &method.body)
+    unless_seen(&seen.roots, at, &root.name)?;
+    let is_one_more = seen.roots.len() >= TASKS;
+    let at = at_name(at, where_so(is_one_more, NameErrorKind::TooMany))?;
+    let after = target(
+        alloc,
+        declared,
+        at,
+        &root.actor,
+        &root.method,
+        root.args.len(),
+    )?;
+    seen.roots.add(alloc, &root.name.text)?;
+    Ok(after)
 }
 
-fn methods(
+// The names of a declaration are in order, and its own is seen from then on.
+fn declaration(
     alloc: Global,
     declared: &Declared,
-    fields: &Names,
-    methods: &[Method],
-) -> Result<(), CheckError>
-    ensures { Finds result (methods_error declared.now fields.now [] methods.now) }
+    seen: &mut Seen,
+    at: u32,
+    decl: &Decl,
+) -> Result<u32, CheckError>
+    ensures finds { Finds result (decl_error declared.now seen.old at (view_decl decl.now)) }
+    ensures after { IfOk result (λ n. n ≡ past_decl (view_decl decl.now) at) }
+    ensures seen { OnOk result (seen.new ≡ seen_after seen.old (view_decl decl.now)) }
 {
-    let mut seen = Names::new(alloc);
-    for next in methods {
-        method(alloc, declared, fields, &seen, next)?;
-        seen.add(alloc, &next.name.text)?;
+    match decl {
+        Decl::Executor(next) => executor(alloc, seen, at, next),
+        Decl::Local(next) => local(alloc, seen, at, next),
+        Decl::Actor(next) => actor(alloc, declared, seen, at, next),
+        Decl::Root(next) => root(alloc, declared, seen, at, next),
     }
-    Ok(())
-}
-
-// The fields are distinct.
-fn fields(alloc: Global, fields: &[Field]) -> Result<Names, CheckError>
-    ensures finds { Finds result (fields_error [] fields.now) }
-    ensures names { IfOk result (λ n. n ≡ field_names (map view_field fields.now)) }
-{
-    let mut seen = Names::new(alloc);
-    for field in fields {
-        unless_seen(&seen, &field.name)?;
-        seen.add(alloc, &field.name.text)?;
-    }
-    Ok(seen)
-}
-
-// An invariant names fields alone.
-fn invariant(alloc: Global, fields: &Names, invariant: &Option<Invariant>) -> Result<(), CheckError>
-    ensures { Finds result (invariant_error fields.now invariant.now) }
-{
-    match invariant {
-        Some(invariant) => expression(fields, &Names::new(alloc), &invariant.test),
-        None => Ok(()),
-    }
-}
-
-// The names of an actor are in order, and its own is seen from then on.
-fn actor(
-    alloc: Global,
-    declared: &Declared,
-    seen: &mut Names,
-    actor: &Actor,
-) -> Result<(), CheckError>
-    ensures finds { Finds result (actor_error declared.now seen.old actor.now) }
-    ensures seen { OnOk result (seen.new ≡ seen.old ++ text_of actor.now.name ∷ []) }
-{
-    unless_seen(seen, &actor.name)?;
-    if seen.len() >= ACTORS {
-        return Err(fault_at(NameErrorKind::TooMany, &actor.name));
-    }
-    let fields = fields(alloc, &actor.fields)?;
-    invariant(alloc, &fields, &actor.invariant)?;
-    methods(alloc, declared, &fields, &actor.methods)?;
-    seen.add(alloc, &actor.name.text)?;
-    Ok(())
-}
-
-// The names of a root are in order, and its own is seen from then on.
-fn root(alloc: Global, declared: &Declared, seen: &mut Names, root: &Root) -> Result<(), CheckError>
-    ensures finds { Finds result (root_error declared.now seen.old root.now) }
-    ensures seen { OnOk result (seen.new ≡ seen.old ++ text_of root.now.name ∷ []) }
-{
-    unless_seen(seen, &root.name)?;
-    if seen.len() >= TASKS {
-        return Err(fault_at(NameErrorKind::TooMany, &root.name));
-    }
-    declared.check_call(alloc, &root.actor, &root.method, root.args.len())?;
-    seen.add(alloc, &root.name.text)?;
-    Ok(())
 }
 
 fn declarations(alloc: Global, declared: &Declared, decls: &[Decl]) -> Result<(), CheckError>
-    ensures { Finds result (declarations_error declared.now [] [] decls.now) }
+    ensures { Finds result (declarations_error declared.now (record { places = []; locals = []; roots = []; executors = 0; actors = 0 }) 0 (map view_decl decls.now)) }
 {
-    let mut actors = Names::new(alloc);
-    let mut roots = Names::new(alloc);
+    let mut seen = Seen::nothing(alloc);
+    let mut at = 0;
     for decl in decls {
-        match decl {
-            Decl::Actor(next) => actor(alloc, declared, &mut actors, next)?,
-            Decl::Root(next) => root(alloc, declared, &mut roots, next)?,
-        }
+        at = declaration(alloc, declared, &mut seen, at, decl)?;
     }
     Ok(())
 }
 
-/// Checks the names and counts of a script that the grammar accepted, and hands out what it declares, in time linear
-/// in the script.
+/// Checks the names and counts of a script that the grammar accepted, and hands out what it declares. It takes time
+/// linear in the script, and for each `assume` time linear in the names of its method that stand there.
 ///
 /// An error is the first one in the order of the text. It stands at the name that is concerned: the second of two of
-/// one name, a name that nothing stands under, the actor or the method of a call, and for a wrong number of arguments
-/// the method. The rules are our own.
+/// one name, a name that nothing stands under or that stands for something else, the group of a child that is added
+/// inside a `bind`, the actor or the method of a call, and for a wrong number of arguments the method. For the number
+/// after `pinned` it stands at the executor's name. The rules are our own.
 pub fn check(alloc: Global, decls: &[Decl]) -> Result<Declared, CheckError>
     // It is the first error, with its place, and there is none where it answers Ok, unless memory runs out.
-    ensures finds { Finds result (names_error decls.now) }
-    // Whether there is one, and of which kind, is a property of the tree without places.
-    ensures kind { FindsKind result (names_fault (map view_decl decls.now)) }
+    ensures finds { Finds result (names_error (map view_decl decls.now)) }
     // What is handed out is what the script declares.
     ensures directory { IfOk result (λ d. d ≡ directory_of (map view_decl decls.now)) }
 {

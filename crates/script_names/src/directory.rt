@@ -1,25 +1,28 @@
-//! What a script declares: its actors, their methods, and how many parameters each method has.
+//! What a script declares.
 
-ghost use Rattle.std.specs.Prelude.{◌≡◌, ◌<◌, ◌++◌, [], is_some, length, map, slice_get, IfOk, IfSome, OnOk};
-ghost use Rattle.script_grammar.specs.Tree.{view_method, view_actor, view_decl};
+ghost use Rattle.std.specs.Prelude.{◌≡◌, ◌<◌, [], is_some, length, map, option_copied, slice_get, IfOk, IfSome, OnOk};
+ghost use Rattle.script_grammar.specs.Tree.{view_field, view_method, view_actor, view_decl};
 ghost use Rattle.script_names.specs.Texts.{is_among, place_of};
-ghost use Rattle.script_names.specs.Directory.{Directory, has_method, method_place, with_method, with_methods, with_actor, directory_of};
-ghost use Rattle.script_names.specs.Errors.{call_error};
-ghost use Rattle.script_names.specs.Finds.{Finds};
+ghost use Rattle.script_names.specs.Directory.{has_method, method_place, fields_at, field_names, with_names, with_method, with_methods, with_actor, with_decl, directory_of};
+ghost use Rattle.script_names.specs.Scope.{share_a_name};
 
-use crate::error::{CheckError, NameErrorKind, fault_at};
 use crate::methods::Methods;
 use crate::texts::Names;
-use script_grammar::{Actor, Decl, Method, Name};
+use script_grammar::{Actor, Decl, Field, Method};
 use std::alloc::{AllocError, Global};
 use std::marker::Model;
 
-/// The actors of a script and their methods, wherever in the text they stand. Of two of one name the first one counts;
-/// a second actor of a name adds nothing, its methods neither. A method is kept under its actor's place and its own
-/// name, so memory is linear in the names of the text (our own).
+/// The executors, task locals and roots of a script, and its actors with their fields and methods, wherever in the text
+/// they stand. Of two of one name the first one counts; a second actor of a name adds nothing, its fields and methods
+/// neither. A method is kept under its actor's place and its own name, so memory is linear in the names of the text
+/// (our own).
 #[derive(Drop)]
 pub struct Declared {
+    executors: Names,
+    locals: Names,
+    roots: Names,
     actors: Names,
+    fields: Vec<Names>,
     methods: Methods,
     params: Vec<usize>,
 }
@@ -29,26 +32,55 @@ impl Model for Declared {
 
     ghost Value = { Directory };
 
-    ghost view = { λ d. record { actors = d.actors; methods = d.methods; params = d.params.items } };
+    ghost view = { λ d. record { executors = d.executors; locals = d.locals; roots = d.roots; actors = d.actors; fields = d.fields.items; methods = d.methods; params = d.params.items } };
 }
 
 impl Declared {
-    /// What a script declares, in time and memory linear in its declarations and the names of its actors and methods.
+    /// What a script declares, in time and memory linear in its declarations and the names of its actors' fields and
+    /// methods.
     pub fn of(alloc: Global, decls: &[Decl]) -> Result<Declared, AllocError>
         ensures { IfOk result (λ d. d ≡ directory_of (map view_decl decls.now)) }
     {
         let mut declared = Declared {
+            executors: Names::new(alloc),
+            locals: Names::new(alloc),
+            roots: Names::new(alloc),
             actors: Names::new(alloc),
+            fields: Vec::new(alloc),
             methods: Methods::new(alloc),
             params: Vec::new(alloc),
         };
         for decl in decls {
-            match decl {
-                Decl::Actor(actor) => declared.add_actor(alloc, actor)?,
-                Decl::Root(_) => {}
-            }
+            declared.add(alloc, decl)?;
         }
         Ok(declared)
+    }
+
+    /// The place of an executor among the executors.
+    pub fn executor(&self, name: &[u8]) -> Option<usize>
+        ensures found { is_some result ≡ is_among self.now.executors name.now }
+        ensures place { IfSome result (λ n. n ≡ place_of self.now.executors name.now) }
+        ensures within { IfSome result (λ n. n < length self.now.executors) }
+    {
+        self.executors.place(name)
+    }
+
+    /// The place of a task local among the task locals.
+    pub fn local(&self, name: &[u8]) -> Option<usize>
+        ensures found { is_some result ≡ is_among self.now.locals name.now }
+        ensures place { IfSome result (λ n. n ≡ place_of self.now.locals name.now) }
+        ensures within { IfSome result (λ n. n < length self.now.locals) }
+    {
+        self.locals.place(name)
+    }
+
+    /// The place of a root among the roots.
+    pub fn root(&self, name: &[u8]) -> Option<usize>
+        ensures found { is_some result ≡ is_among self.now.roots name.now }
+        ensures place { IfSome result (λ n. n ≡ place_of self.now.roots name.now) }
+        ensures within { IfSome result (λ n. n < length self.now.roots) }
+    {
+        self.roots.place(name)
     }
 
     /// The place of an actor among the actors.
@@ -58,6 +90,33 @@ impl Declared {
         ensures within { IfSome result (λ n. n < length self.now.actors) }
     {
         self.actors.place(name)
+    }
+
+    /// The fields of the actor at a place.
+    pub fn fields(&self, actor: usize) -> Option<&Names>
+        ensures { option_copied result ≡ slice_get self.now.fields actor }
+    {
+        self.fields.get(actor)
+    }
+
+    /// Whether the actor at a place has a field of that name.
+    pub(crate) fn has_field(&self, actor: usize, name: &[u8]) -> bool
+        ensures { result ≡ is_among (fields_at self.now actor) name.now }
+    {
+        match self.fields(actor) {
+            Some(fields) => fields.contains(name),
+            None => false,
+        }
+    }
+
+    /// Whether some of these names is one of a field of the actor at a place, in time linear in the names.
+    pub(crate) fn has_field_among(&self, actor: usize, names: &Names) -> bool
+        ensures { result ≡ share_a_name (fields_at self.now actor) names.now }
+    {
+        match self.fields(actor) {
+            Some(fields) => fields.has_any_of(names),
+            None => false,
+        }
     }
 
     /// The place of an actor's method among the methods of all actors, in time linear in both names. `Err` says that
@@ -85,28 +144,16 @@ impl Declared {
         self.params.get(method).copied()
     }
 
-    /// Whether a call names an actor, one of its methods, and as many arguments as that has parameters. An error stands
-    /// at the actor's name where no actor has that name, and else at the method's.
-    pub fn check_call(
-        &self,
-        alloc: Global,
-        actor: &Name,
-        method: &Name,
-        count: usize,
-    ) -> Result<(), CheckError>
-        ensures { Finds result (call_error self.now actor.now method.now count) }
+    fn add(&mut self, alloc: Global, decl: &Decl) -> Result<(), AllocError>
+        ensures { OnOk result (self.new ≡ with_decl (view_decl decl.now) self.old) }
     {
-        let Some(actor_place) = self.actor(&actor.text) else {
-            return Err(fault_at(NameErrorKind::Unknown, actor));
+        match decl {
+            Decl::Executor(executor) => self.executors.add(alloc, &executor.name.text)?,
+            Decl::Local(local) => self.locals.add(alloc, &local.name.text)?,
+            Decl::Actor(actor) => return self.add_actor(alloc, actor),
+            Decl::Root(root) => self.roots.add(alloc, &root.name.text)?,
         };
-        let Some(place) = self.methods.place(alloc, actor_place, &method.text)? else {
-            return Err(fault_at(NameErrorKind::Unknown, method));
-        };
-        if self.parameters(place).unwrap_or(0) == count {
-            Ok(())
-        } else {
-            Err(fault_at(NameErrorKind::Arguments, method))
-        }
+        Ok(())
     }
 
     fn add_actor(&mut self, alloc: Global, actor: &Actor) -> Result<(), AllocError>
@@ -118,6 +165,7 @@ impl Declared {
         }
         let place = self.actors.len();
         self.actors.add(alloc, name)?;
+        self.fields.push(names_of(alloc, &actor.fields)?)?;
         self.add_methods(alloc, place, &actor.methods)
     }
 
@@ -143,4 +191,15 @@ impl Declared {
         }
         Ok(())
     }
+}
+
+// The names of fields, each once.
+fn names_of(alloc: Global, fields: &[Field]) -> Result<Names, AllocError>
+    ensures { IfOk result (λ n. n ≡ with_names [] (field_names (map view_field fields.now))) }
+{
+    let mut names = Names::new(alloc);
+    for field in fields {
+        names.add(alloc, &field.name.text)?;
+    }
+    Ok(names)
 }

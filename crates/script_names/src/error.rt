@@ -3,11 +3,10 @@
 ghost use Rattle.std.specs.Prelude.{◌≡◌};
 ghost use Rattle.script_names.specs.declared.error.CheckError.TheVariants.{Memory};
 
-use script_grammar::Name;
 use std::alloc::{AllocError, AllocFailed};
 
 /// What is wrong with a name where it stands (our own).
-#[derive(Clone, Copy, Debug, PartialEq, Eq)]
+#[derive(Clone, Copy, PartialEq, Eq)]
 pub enum NameErrorKind {
     /// The name is taken there.
     Twice,
@@ -15,19 +14,26 @@ pub enum NameErrorKind {
     Unknown,
     /// A call with another number of arguments than the method has parameters.
     Arguments,
-    /// One actor or root more than there may be.
+    /// The name stands there for something else: a task, a group and a number are confused.
+    Confused,
+    /// A child is added inside a `bind` that was opened inside its group.
+    BoundInside,
+    /// One executor, actor or root more than there may be.
     TooMany,
+    /// The number after `pinned` is above the greatest number of a worker. It stands two tokens after the executor's
+    /// name.
+    TooGreat,
 }
 
-/// What is wrong, and how many tokens are left at the name, itself included.
-#[derive(Clone, Copy, Debug)]
+/// What is wrong, and how many names stand in the text before the name that is concerned.
+#[derive(Clone, Copy)]
 pub struct NameError {
     pub kind: NameErrorKind,
-    pub tokens_left: usize,
+    pub names_before: u32,
 }
 
 /// Why names were not found in order.
-#[derive(Debug, Drop)]
+#[derive(Drop)]
 pub enum CheckError {
     /// A growth was refused.
     Memory,
@@ -50,12 +56,11 @@ impl<T: Drop> From<AllocFailed<T>> for CheckError {
     }
 }
 
-/// This is wrong with a name.
-pub(crate) fn fault_at(kind: NameErrorKind, name: &Name) -> CheckError
-    ensures { result ≡ CheckError.Name (record { kind = kind; tokens_left = name.now.tokens_left }) }
-{
-    CheckError::Name(NameError {
-        kind,
-        tokens_left: name.tokens_left,
-    })
+impl CheckError {
+    /// This is wrong with the name before which so many names stand.
+    pub(crate) fn at(kind: NameErrorKind, names_before: u32) -> CheckError
+        ensures { result ≡ CheckError.Name (record { kind = kind; names_before = names_before }) }
+    {
+        CheckError::Name(NameError { kind, names_before })
+    }
 }

@@ -1,97 +1,55 @@
-//! Names and calls inside expressions and awaited calls.
+//! Names inside expressions.
 
-ghost use Rattle.std.specs.Prelude.{◌≡◌};
-ghost use Rattle.script_grammar.specs.Tree.{text_of};
-ghost use Rattle.script_names.specs.Rules.{is_standing};
-ghost use Rattle.script_names.specs.Errors.{name_error, expression_error, expressions_error, optional_error, wait_error, value_error};
+ghost use Rattle.std.specs.Prelude.{◌≡◌, map, IfOk};
+ghost use Rattle.script_grammar.specs.Tree.{view, view_if};
+ghost use Rattle.script_names.specs.Rules.{past, past_all, past_if, expression_error, expressions_error, optional_error};
 ghost use Rattle.script_names.specs.Finds.{Finds};
 
-use crate::directory::Declared;
-use crate::error::{CheckError, NameErrorKind, fault_at};
-use crate::texts::Names;
-use script_grammar::{Expr, Name, Value, Wait};
-use std::alloc::Global;
+use crate::error::CheckError;
+use crate::fault::{at_name, declared_fault, number_fault};
+use crate::scope::Scope;
+use script_grammar::Expr;
 
-/// Whether a name stands as a field or as a variable.
-pub(crate) fn stands(fields: &Names, variables: &Names, name: &Name) -> bool
-    ensures { result ≡ is_standing fields.now variables.now (text_of name.now) }
-{
-    fields.contains(&name.text) || variables.contains(&name.text)
-}
-
-/// The name stands there.
-pub(crate) fn name(fields: &Names, variables: &Names, name: &Name) -> Result<(), CheckError>
-    ensures { Finds result (name_error fields.now variables.now name.now) }
-{
-    if stands(fields, variables, name) {
-        Ok(())
-    } else {
-        Err(fault_at(NameErrorKind::Unknown, name))
-    }
-}
-
-/// Each name of an expression stands there.
-pub(crate) fn expression(fields: &Names, variables: &Names, expr: &Expr) -> Result<(), CheckError>
-    ensures { Finds result (expression_error fields.now variables.now expr.now) }
+/// Each name of an expression stands there, as a field or a number. The answer is how many names stand before what
+/// follows the expression.
+pub(crate) fn expression(scope: &Scope<'_>, at: u32, expr: &Expr) -> Result<u32, CheckError>
+    ensures finds { Finds result (expression_error scope.now at (view expr.now)) }
+    ensures after { IfOk result (λ n. n ≡ past (view expr.now) at) }
 {
     match expr {
-        Expr::Number(_) => Ok(()),
-        Expr::Name(used) => name(fields, variables, used),
-        Expr::Negate(operand) => expression(fields, variables, operand),
-        Expr::Not(operand) => expression(fields, variables, operand),
+        Expr::Number(_) | Expr::Priority | Expr::Cancelled => Ok(at),
+        Expr::Name(name) => at_name(at, number_fault(scope.meaning(&name.text))),
+        Expr::Local(name) => {
+            let local = scope.declared().local(&name.text);
+            at_name(at, declared_fault(local))
+        },
+        Expr::Negate(operand) | Expr::Not(operand) => expression(scope, at, operand),
         Expr::Binary(_, left, right) => {
-            expression(fields, variables, left)?;
-            expression(fields, variables, right)
+            let at = expression(scope, at, left)?;
+            expression(scope, at, right)
         }
     }
 }
 
-fn expressions(fields: &Names, variables: &Names, exprs: &[Expr]) -> Result<(), CheckError>
-    ensures { Finds result (expressions_error fields.now variables.now exprs.now) }
+/// Each of these expressions is in order.
+pub(crate) fn expressions(scope: &Scope<'_>, at: u32, exprs: &[Expr]) -> Result<u32, CheckError>
+    ensures finds { Finds result (expressions_error scope.now at (map view exprs.now)) }
+    ensures after { IfOk result (λ n. n ≡ past_all (map view exprs.now) at) }
 {
+    let mut at = at;
     for expr in exprs {
-        expression(fields, variables, expr)?;
+        at = expression(scope, at, expr)?;
     }
-    Ok(())
+    Ok(at)
 }
 
-fn optional(fields: &Names, variables: &Names, expr: &Option<Expr>) -> Result<(), CheckError>
-    ensures { Finds result (optional_error fields.now variables.now expr.now) }
+/// The expression is in order, if there is one.
+pub(crate) fn optional(scope: &Scope<'_>, at: u32, expr: &Option<Expr>) -> Result<u32, CheckError>
+    ensures finds { Finds result (optional_error scope.now at (view_if expr.now)) }
+    ensures after { IfOk result (λ n. n ≡ past_if (view_if expr.now) at) }
 {
     match expr {
-        Some(expr) => expression(fields, variables, expr),
-        None => Ok(()),
-    }
-}
-
-/// The call is in order, and then its arguments, and the value of its `else`.
-pub(crate) fn wait(
-    alloc: Global,
-    declared: &Declared,
-    fields: &Names,
-    variables: &Names,
-    wait: &Wait,
-) -> Result<(), CheckError>
-    ensures { Finds result (wait_error declared.now fields.now variables.now wait.now) }
-{
-    let call = &wait.call;
-    declared.check_call(alloc, &call.actor, &call.method, call.args.len())?;
-    expressions(fields, variables, &call.args)?;
-    optional(fields, variables, &wait.other)
-}
-
-/// What a variable or a field is set to is in order.
-pub(crate) fn value(
-    alloc: Global,
-    declared: &Declared,
-    fields: &Names,
-    variables: &Names,
-    value: &Value,
-) -> Result<(), CheckError>
-    ensures { Finds result (value_error declared.now fields.now variables.now value.now) }
-{
-    match value {
-        Value::Expr(expr) => expression(fields, variables, expr),
-        Value::Await(awaited) => wait(alloc, declared, fields, variables, awaited),
+        Some(expr) => expression(scope, at, expr),
+        None => Ok(at),
     }
 }

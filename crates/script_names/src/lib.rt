@@ -1,25 +1,38 @@
 //! Names of scripts: which of them stand where they are used.
 #![tactic(auto)]
 
+// Statements without a block.
+mod actions;
+// Actors.
+mod actors;
+// Blocks and their statements.
+mod blocks;
+// Calls, waits and tasks that are made.
+mod calls;
 // Declarations, and whole scripts.
 mod declarations;
 // What a script declares.
 mod directory;
-// Expressions and awaited calls.
+// What is wrong with a name.
+mod error;
+// Expressions.
 mod expressions;
+// What is wrong with a name, by what stands under it.
+mod fault;
 // What holds of the definitions.
 mod laws;
 // The methods of all actors.
 mod methods;
-// What is wrong with a name.
-mod error;
-// Statements.
-mod statements;
+// What stands at a place of a script.
+mod scope;
+// What stands before a declaration.
+mod seen;
 // Lists of names.
 mod texts;
 
 pub use declarations::check;
 pub use directory::Declared;
 pub use error::{CheckError, NameError, NameErrorKind};
-pub use laws::{nothing_left_out, one_kind};
+pub use laws::nothing_left_out;
+pub use scope::{NameKind, Outside, Scope};
 pub use texts::Names;

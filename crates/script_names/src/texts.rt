@@ -2,6 +2,7 @@
 
 ghost use Rattle.std.specs.Prelude.{◌≡◌, ◌<◌, [], is_some, length, take, IfOk, IfSome, OnOk, OnErr};
 ghost use Rattle.script_names.specs.Texts.{is_among, place_of, with_name};
+ghost use Rattle.script_names.specs.Scope.{share_a_name};
 
 use indexmap::IndexSet;
 use std::alloc::{AllocError, Global};
@@ -52,6 +53,26 @@ impl Names {
         ensures within { IfSome result (λ n. n < length self.now) }
     {
         self.set.get_index_of(name)
+    }
+
+    /// The place of a name, or how many names there are.
+    pub(crate) fn place_or_len(&self, name: &[u8]) -> usize
+        ensures { result ≡ place_of self.now name.now }
+    {
+        self.place(name).unwrap_or(self.len())
+    }
+
+    /// Whether some name of another list is one of these, in time linear in that list.
+    pub(crate) fn has_any_of(&self, others: &Names) -> bool
+        ensures { result ≡ share_a_name self.now others.now }
+    {
+        let others = others.set.as_slice();
+        for name in others {
+            if self.contains(name) {
+                return true;
+            }
+        }
+        false
     }
 
     /// The place of a name, which goes after the others where it is new. Where memory runs out, nothing changes.

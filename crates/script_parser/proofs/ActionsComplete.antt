@@ -5,10 +5,10 @@ use Rattle.script_tokens.specs.declared.keyword.Keyword.{Keyword}
 use Rattle.script_tokens.specs.declared.keyword.Keyword.TheVariants as key
 use Rattle.script_tokens.specs.declared.mark.Mark.TheVariants as mark
 use Rattle.script_tokens.specs.Pieces.{Piece, Name, Key, Sign}
-use Rattle.whole_grammar.specs.declared.region.Atoms.TheVariants.{Every}
-use Rattle.whole_grammar.specs.declared.region.Region.{Region}
-use Rattle.whole_grammar.specs.Tree.{ExprTree, CallTree, AwaitedTree, Called, WaitTree, ValueTree, Computed, Waited, MakeTree, AddTree, ActionTree, Let, LetTask, Makes}
-use Rattle.whole_grammar.specs.Grammar.{IsExpression, Listed, IsCall, IsAwaited, a_call, a_task, a_next, IsElse, without_else, with_else, IsWait, priority_of, IsGiven, not_given, given, IsMake, spawned, detached, IsUnless, always, unless, IsAdd, may_act, IsValue, computed, awaited, SpellsAction, defines, defines_task, assigns, awaits, makes, adds, cancels, returns, throws, checks, yields}
+use Rattle.script_grammar.specs.declared.region.Atoms.TheVariants.{Every}
+use Rattle.script_grammar.specs.declared.region.Region.{Region}
+use Rattle.script_grammar.specs.Tree.{ExprTree, CallTree, AwaitedTree, Called, WaitTree, ValueTree, Computed, Waited, MakeTree, AddTree, ActionTree, Let, LetTask, Makes}
+use Rattle.script_grammar.specs.Grammar.{IsExpression, Listed, IsCall, IsAwaited, a_call, a_task, a_next, IsElse, without_else, with_else, IsWait, priority_of, IsGiven, not_given, given, IsMake, spawned, detached, IsUnless, always, unless, IsAdd, may_act, IsValue, computed, awaited, SpellsAction, defines, defines_task, assigns, awaits, makes, adds, cancels, returns, throws, checks, yields}
 use Rattle.script_parser.specs.Model.Steps.{◌>>=◌}
 use Rattle.script_parser.specs.Model.Parts.{name_at, sign_at, close_at, list_at}
 use Rattle.script_parser.specs.Model.Expressions.{operator_at, expr_in}

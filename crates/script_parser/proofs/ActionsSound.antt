@@ -5,11 +5,11 @@ use Rattle.script_tokens.specs.declared.keyword.Keyword.{Keyword}
 use Rattle.script_tokens.specs.declared.keyword.Keyword.TheVariants as key
 use Rattle.script_tokens.specs.declared.mark.Mark.TheVariants as mark
 use Rattle.script_tokens.specs.Pieces.{Piece, Name, Key, Sign}
-use Rattle.whole_grammar.specs.declared.region.Atoms.{Atoms}
-use Rattle.whole_grammar.specs.declared.region.Atoms.TheVariants.{Every}
-use Rattle.whole_grammar.specs.declared.region.Region.{Region}
-use Rattle.whole_grammar.specs.Tree.{ExprTree, CallTree, AwaitedTree, Called, TaskOf, NextOf, WaitTree, ValueTree, Computed, Waited, MakeTree, Spawned, Detached, AddTree, ActionTree, Let, LetTask, Assign, Await, Makes, Adds, Cancel, Return, Throw, Check, Yield}
-use Rattle.whole_grammar.specs.Grammar.{IsExpression, IsCall, IsAwaited, a_call, a_task, a_next, IsElse, without_else, with_else, IsWait, priority_of, IsGiven, not_given, given, or_medium, IsMake, spawned, detached, IsUnless, always, unless, IsAdd, IsValue, computed, awaited, SpellsAction, defines, defines_task, assigns, awaits, makes, adds, cancels, returns, throws, checks, yields}
+use Rattle.script_grammar.specs.declared.region.Atoms.{Atoms}
+use Rattle.script_grammar.specs.declared.region.Atoms.TheVariants.{Every}
+use Rattle.script_grammar.specs.declared.region.Region.{Region}
+use Rattle.script_grammar.specs.Tree.{ExprTree, CallTree, AwaitedTree, Called, TaskOf, NextOf, WaitTree, ValueTree, Computed, Waited, MakeTree, Spawned, Detached, AddTree, ActionTree, Let, LetTask, Assign, Await, Makes, Adds, Cancel, Return, Throw, Check, Yield}
+use Rattle.script_grammar.specs.Grammar.{IsExpression, IsCall, IsAwaited, a_call, a_task, a_next, IsElse, without_else, with_else, IsWait, priority_of, IsGiven, not_given, given, or_medium, IsMake, spawned, detached, IsUnless, always, unless, IsAdd, IsValue, computed, awaited, SpellsAction, defines, defines_task, assigns, awaits, makes, adds, cancels, returns, throws, checks, yields}
 use Rattle.script_parser.specs.Model.Expressions.{expr_in}
 use Rattle.script_parser.specs.Model.Actions.{call_at, awaited_at, else_at, wait_at, chosen_priority, level_named_at, given_at, make_at, unless_at, child_at, add_at, may_begin, begun_at, value_at, variable_at, let_at, assign_at, part_at, action_at}
 use Rattle.script_parser.proofs.Steps.{ok_is, step_ok, allowed_is}

@@ -7,9 +7,9 @@ use Rattle.swift_types.specs.declared.operator.Operator.TheVariants as op
 use Rattle.script_tokens.specs.declared.keyword.Keyword.TheVariants as key
 use Rattle.script_tokens.specs.declared.mark.Mark.TheVariants as mark
 use Rattle.script_tokens.specs.Pieces.{Piece, Num, Name, Key, Sign}
-use Rattle.whole_grammar.specs.declared.region.Atoms.{Atoms}
-use Rattle.whole_grammar.specs.Tree.{ExprTree, Number, Named, Local, OwnPriority, IsCancelled, Negated, Inverted, Both, height_of}
-use Rattle.whole_grammar.specs.Grammar.{mark_of, tightness_of, has_every_atom, Spells, IsExpression, number, name, local, own_priority, is_cancelled, parenthesis, negated, inverted, alone, chained, compared}
+use Rattle.script_grammar.specs.declared.region.Atoms.{Atoms}
+use Rattle.script_grammar.specs.Tree.{ExprTree, Number, Named, Local, OwnPriority, IsCancelled, Negated, Inverted, Both, height_of}
+use Rattle.script_grammar.specs.Grammar.{mark_of, tightness_of, has_every_atom, Spells, IsExpression, number, name, local, own_priority, is_cancelled, parenthesis, negated, inverted, alone, chained, compared}
 use Rattle.script_parser.specs.Model.Parts.{name_at}
 use Rattle.script_parser.specs.Model.Expressions.{Read, ReadInside, operator_in, of_tightness, with_rest, operator_at, most_operators, checked, closed_at, atom_at, unary_at, operands_at, level_at, inside_at, expr_in}
 use Rattle.script_parser.proofs.Steps.{allowed_now}

@@ -7,12 +7,12 @@ use Rattle.swift_types.specs.declared.priority.Priority.{Priority}
 use Rattle.script_tokens.specs.declared.keyword.Keyword.TheVariants as key
 use Rattle.script_tokens.specs.declared.mark.Mark.TheVariants as mark
 use Rattle.script_tokens.specs.Pieces.{Piece, Num, Huge, Name, Key, Sign}
-use Rattle.whole_grammar.specs.declared.declaration.ExecutorKind.{ExecutorKind}
-use Rattle.whole_grammar.specs.declared.declaration.ExecutorKind.TheVariants as kind
-use Rattle.whole_grammar.specs.declared.region.Atoms.TheVariants.{Plain}
-use Rattle.whole_grammar.specs.declared.region.Region.TheVariants as region
-use Rattle.whole_grammar.specs.Tree.{ExprTree, ExecutorTree, LocalTree, FieldTree, MethodTree, ActorTree, RootTree, DeclTree, Executes, Binds, Acts, Roots}
-use Rattle.whole_grammar.specs.Grammar.{or_medium, least, IsInt, plain, opposite, Listed, IsName, IsKind, by_priority, by_age, by_worker, IsExecutor, IsLocal, IsField, IsOn, on_its_own, on_shared, IsInvariant, no_invariant, an_invariant, IsMethod, IsActor, IsStart, IsRoot, IsDecl, an_executor, a_local, an_actor, a_root, IsScript}
+use Rattle.script_grammar.specs.declared.declaration.ExecutorKind.{ExecutorKind}
+use Rattle.script_grammar.specs.declared.declaration.ExecutorKind.TheVariants as kind
+use Rattle.script_grammar.specs.declared.region.Atoms.TheVariants.{Plain}
+use Rattle.script_grammar.specs.declared.region.Region.TheVariants as region
+use Rattle.script_grammar.specs.Tree.{ExprTree, ExecutorTree, LocalTree, FieldTree, MethodTree, ActorTree, RootTree, DeclTree, Executes, Binds, Acts, Roots}
+use Rattle.script_grammar.specs.Grammar.{or_medium, least, IsInt, plain, opposite, Listed, IsName, IsKind, by_priority, by_age, by_worker, IsExecutor, IsLocal, IsField, IsOn, on_its_own, on_shared, IsInvariant, no_invariant, an_invariant, IsMethod, IsActor, IsStart, IsRoot, IsDecl, an_executor, a_local, an_actor, a_root, IsScript}
 use Rattle.script_parser.specs.Model.Steps.{◌>>=◌}
 use Rattle.script_parser.specs.Model.Parts.{name_at, sign_at, brace_at, list_at}
 use Rattle.script_parser.specs.Model.Actions.{given_at}

@@ -1,7 +1,7 @@
 -- Items one after the other.
 use Rattle.std.proofs.Common.{◌≡◌, ℕ, zero, suc, ◌<◌, List, [], ◌∷◌, ◌++◌, length, Option, Some, None, Ok, refl, sym, ap, subst, ◌∙◌, append_assoc, length-append, arith}
 use Rattle.script_tokens.specs.Pieces.{Piece, Name}
-use Rattle.whole_grammar.specs.Grammar.{Each, no_more, one_more}
+use Rattle.script_grammar.specs.Grammar.{Each, no_more, one_more}
 use Rattle.script_parser.specs.Model.Steps.{◌>>=◌, Reads}
 use Rattle.script_parser.specs.Model.Parts.{name_at, on_stop, items_at}
 use Rattle.script_parser.proofs.Steps.{done, ok_is, step_ok}

@@ -5,7 +5,7 @@ use Rattle.script_parser.specs.declared.fault.ReadError.{ReadError}
 use Rattle.script_parser.specs.declared.fault.ReadError.TheVariants as errors
 use Rattle.swift_types.specs.declared.operator.Operator.{Operator}
 use Rattle.script_tokens.specs.Pieces.{Piece}
-use Rattle.whole_grammar.specs.Tree.{ExprTree, Both}
+use Rattle.script_grammar.specs.Tree.{ExprTree, Both}
 use Rattle.script_parser.specs.declared.limits.TheConstants.{NESTING}
 use Rattle.script_parser.specs.Model.Steps.{Fails}
 use Rattle.script_parser.specs.Model.Expressions.{Read, operator_at, checked, operands_at}

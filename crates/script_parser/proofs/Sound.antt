@@ -9,9 +9,9 @@ use Rattle.script_tokens.specs.declared.keyword.Keyword.TheVariants as key
 use Rattle.script_tokens.specs.declared.mark.Mark.{Mark}
 use Rattle.script_tokens.specs.declared.mark.Mark.TheVariants as mark
 use Rattle.script_tokens.specs.Pieces.{Piece, Num, Name, Key, Sign}
-use Rattle.whole_grammar.specs.declared.region.Atoms.{Atoms}
-use Rattle.whole_grammar.specs.Tree.{ExprTree, Number, Named, Local, OwnPriority, IsCancelled, Negated, Inverted, Both, height_of}
-use Rattle.whole_grammar.specs.Grammar.{mark_of, tightness_of, has_every_atom, Spells, IsExpression, number, name, local, own_priority, is_cancelled, parenthesis, negated, inverted, alone, chained, compared}
+use Rattle.script_grammar.specs.declared.region.Atoms.{Atoms}
+use Rattle.script_grammar.specs.Tree.{ExprTree, Number, Named, Local, OwnPriority, IsCancelled, Negated, Inverted, Both, height_of}
+use Rattle.script_grammar.specs.Grammar.{mark_of, tightness_of, has_every_atom, Spells, IsExpression, number, name, local, own_priority, is_cancelled, parenthesis, negated, inverted, alone, chained, compared}
 use Rattle.script_parser.specs.Model.Steps.{◌>>=◌}
 use Rattle.script_parser.specs.Model.Expressions.{Read, operator_in, of_tightness, with_rest, operator_at, most_operators, checked, closed_at, on_operator, atom_at, unary_at, operands_at, level_at, inside_at, expr_in}
 use Rattle.script_parser.proofs.Steps.{done, ok_is, some_is, step_ok, allowed_is}

@@ -3,10 +3,10 @@ use Rattle.std.proofs.Common.{◌≡◌, ℕ, zero, suc, ◌<◌, Bool, true, fa
 use Rattle.script_tokens.specs.declared.keyword.Keyword.TheVariants as key
 use Rattle.script_tokens.specs.declared.mark.Mark.TheVariants as mark
 use Rattle.script_tokens.specs.Pieces.{Piece, Key, Sign}
-use Rattle.whole_grammar.specs.declared.region.Atoms.TheVariants.{Every}
-use Rattle.whole_grammar.specs.declared.region.Region.{Region}
-use Rattle.whole_grammar.specs.Tree.{ExprTree, ActionTree, HeadTree, If, StmtTree, Do, Headed, IfElse, block_tree}
-use Rattle.whole_grammar.specs.Grammar.{IsExpression, spawned, detached, SpellsAction, defines, defines_task, assigns, awaits, makes, adds, cancels, returns, throws, checks, yields, SpellsHead, tests, repeats, binds, groups, assumes, SpellsStmt, SpellsBlock, SpellsStmts, does, holds, chooses, braces, none, more}
+use Rattle.script_grammar.specs.declared.region.Atoms.TheVariants.{Every}
+use Rattle.script_grammar.specs.declared.region.Region.{Region}
+use Rattle.script_grammar.specs.Tree.{ExprTree, ActionTree, HeadTree, If, StmtTree, Do, Headed, IfElse, block_tree}
+use Rattle.script_grammar.specs.Grammar.{IsExpression, spawned, detached, SpellsAction, defines, defines_task, assigns, awaits, makes, adds, cancels, returns, throws, checks, yields, SpellsHead, tests, repeats, binds, groups, assumes, SpellsStmt, SpellsBlock, SpellsStmts, does, holds, chooses, braces, none, more}
 use Rattle.script_parser.specs.Model.Steps.{◌>>=◌}
 use Rattle.script_parser.specs.Model.Parts.{name_at, sign_at, brace_at}
 use Rattle.script_parser.specs.Model.Expressions.{operator_at}

@@ -3,8 +3,8 @@ use Rattle.std.proofs.Common.{◌≡◌, ℕ, ◌+◌, List, [], length, Ok, Err
 use Rattle.script_tokens.specs.Pieces.{Piece}
 use Rattle.script_parser.specs.declared.fault.ReadError.{ReadError}
 use Rattle.script_parser.specs.declared.fault.ReadError.TheVariants as errors
-use Rattle.whole_grammar.specs.Tree.{DeclTree}
-use Rattle.whole_grammar.specs.Grammar.{IsScript}
+use Rattle.script_grammar.specs.Tree.{DeclTree}
+use Rattle.script_grammar.specs.Grammar.{IsScript}
 use Rattle.script_parser.specs.declared.limits.TheConstants.{NESTING}
 use Rattle.script_parser.specs.Model.Steps.{Fails}
 use Rattle.script_parser.specs.Model.Parts.{items_at}

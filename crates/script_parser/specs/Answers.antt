@@ -3,9 +3,9 @@ use Rattle.std.specs.Prelude.{◌≡◌, List, map, Result, Ok, Err}
 use Rattle.std.specs.declared.vec.Vec.{Vec}
 use Rattle.std.specs.declared.alloc.Global.{Global}
 use Rattle.script_tokens.specs.Pieces.{Piece}
-use Rattle.whole_grammar.specs.declared.declaration.Decl.{Decl}
-use Rattle.whole_grammar.specs.Tree.{DeclTree, view_decl}
-use Rattle.whole_grammar.specs.Grammar.{IsScript}
+use Rattle.script_grammar.specs.declared.declaration.Decl.{Decl}
+use Rattle.script_grammar.specs.Tree.{DeclTree, view_decl}
+use Rattle.script_grammar.specs.Grammar.{IsScript}
 use Rattle.script_parser.specs.declared.fault.ReadError.{ReadError}
 use Rattle.script_parser.specs.declared.fault.ReadError.TheVariants as errors
 use Rattle.script_parser.specs.declared.limits.TheConstants.{NESTING}

@@ -2,8 +2,8 @@
 
 ghost use Rattle.std.specs.Prelude.{◌≡◌, map};
 ghost use Rattle.script_tokens.specs.Pieces.{piece};
-ghost use Rattle.whole_grammar.specs.Tree.{text_of, view_action};
-ghost use Rattle.whole_grammar.specs.Grammar.{may_act, may_return};
+ghost use Rattle.script_grammar.specs.Tree.{text_of, view_action};
+ghost use Rattle.script_grammar.specs.Grammar.{may_act, may_return};
 ghost use Rattle.script_parser.specs.Model.Steps.{Gives};
 ghost use Rattle.script_parser.specs.Model.Actions.{may_begin, begun_at, variable_at, let_at, assign_at, part_at, action_at};
 
@@ -13,9 +13,9 @@ use crate::limits::NESTING;
 use crate::make::{add, make};
 use crate::one_token::{Tokens, allowed, name, name_of, refused, sign};
 use crate::wait::{value, wait};
+use script_grammar::{Action, Atoms, Name, Region};
 use script_tokens::{Keyword, Mark, Token};
 use std::alloc::Global;
-use whole_grammar::{Action, Atoms, Name, Region};
 
 fn may_act_in(region: Region) -> bool
     ensures { result ≡ may_act region }

@@ -3,7 +3,7 @@
 ghost use Rattle.std.specs.Prelude.{◌≡◌, ◌+◌, map, length};
 ghost use Rattle.std.specs.Option.{option_map};
 ghost use Rattle.script_tokens.specs.Pieces.{piece};
-ghost use Rattle.whole_grammar.specs.Tree.{text_of, text_if, view_if, view_field, view_method, view_actor};
+ghost use Rattle.script_grammar.specs.Tree.{text_of, text_if, view_if, view_field, view_method, view_actor};
 ghost use Rattle.script_parser.specs.Model.Steps.{Gives};
 ghost use Rattle.script_parser.specs.Model.Parts.{name_at, with_first, close_at, comma_at, list_at, brace_at, items_at};
 ghost use Rattle.script_parser.specs.Model.Declarations.{fields_end, field_at, on_at, invariant_at, method_at, actor_at};
@@ -14,9 +14,9 @@ use crate::limits::NESTING;
 use crate::number::setting;
 use crate::one_token::{Tokens, closing, closing_brace, name, refused, sign};
 use crate::statement::block;
+use script_grammar::{Actor, Atoms, Expr, Field, Method, Name, Region};
 use script_tokens::{Keyword, Mark, Token};
 use std::alloc::Global;
-use whole_grammar::{Actor, Atoms, Expr, Field, Method, Name, Region};
 
 #[tactic(auto, unfolding(crate::specs::Model::Parts::comma_at))]
 fn next_name(alloc: Global, tokens: Tokens<'_>) -> Result<(Name, Tokens<'_>), ReadError>

@@ -2,8 +2,8 @@
 
 ghost use Rattle.std.specs.Prelude.{◌≡◌, ◌+◌, ◌-◌, map, length};
 ghost use Rattle.script_tokens.specs.Pieces.{piece};
-ghost use Rattle.whole_grammar.specs.declared.region.Atoms.TheVariants.{Every};
-ghost use Rattle.whole_grammar.specs.Tree.{view, view_call};
+ghost use Rattle.script_grammar.specs.declared.region.Atoms.TheVariants.{Every};
+ghost use Rattle.script_grammar.specs.Tree.{view, view_call};
 ghost use Rattle.script_parser.specs.Model.Steps.{Gives};
 ghost use Rattle.script_parser.specs.Model.Parts.{with_first, comma_at, list_at, close_at, items_at};
 ghost use Rattle.script_parser.specs.Model.Expressions.{expr_in};
@@ -13,9 +13,9 @@ use crate::expression::expr;
 use crate::fault::{Kind, ReadError};
 use crate::limits::NESTING;
 use crate::one_token::{Tokens, closing, name, refused, sign};
+use script_grammar::{Atoms, Call, Expr};
 use script_tokens::Mark;
 use std::alloc::Global;
-use whole_grammar::{Atoms, Call, Expr};
 
 // An argument, inside the parenthesis of its call.
 #[tactic(auto, unfolding(crate::specs::Model::Parts::comma_at))]

@@ -2,16 +2,16 @@
 
 ghost use Rattle.std.specs.Prelude.{◌≡◌, map};
 ghost use Rattle.script_tokens.specs.Pieces.{piece};
-ghost use Rattle.whole_grammar.specs.Tree.{view_executor, view_local};
+ghost use Rattle.script_grammar.specs.Tree.{view_executor, view_local};
 ghost use Rattle.script_parser.specs.Model.Steps.{Gives};
 ghost use Rattle.script_parser.specs.Model.Declarations.{kind_at, executor_at, local_at};
 
 use crate::fault::{Kind, ReadError};
 use crate::number::{number, setting};
 use crate::one_token::{Tokens, name, refused, sign};
+use script_grammar::{Executor, ExecutorKind, Local};
 use script_tokens::{Keyword, Mark, Token};
 use std::alloc::Global;
-use whole_grammar::{Executor, ExecutorKind, Local};
 
 #[tactic(auto, unfolding(crate::specs::Model::Declarations::kind_at))]
 fn kind(tokens: Tokens<'_>) -> Result<(ExecutorKind, Tokens<'_>), ReadError>

@@ -3,8 +3,8 @@
 ghost use Rattle.std.specs.Prelude.{◌≡◌, ◌<◌, ◌-◌, map};
 ghost use Rattle.script_tokens.specs.Pieces.{piece};
 ghost use Rattle.std.specs.Option.{option_map};
-ghost use Rattle.whole_grammar.specs.Tree.{view, Negated, Inverted, Both};
-ghost use Rattle.whole_grammar.specs.Grammar.{tightness_of, has_every_atom};
+ghost use Rattle.script_grammar.specs.Tree.{view, Negated, Inverted, Both};
+ghost use Rattle.script_grammar.specs.Grammar.{tightness_of, has_every_atom};
 ghost use Rattle.script_parser.specs.Model.Steps.{Gives};
 ghost use Rattle.script_parser.specs.Model.Expressions.{checked, closed_at, operator_in, operator_at, operands_at, atom_at, unary_at, level_at, inside_at, expr_in};
 
@@ -12,10 +12,10 @@ use crate::fault::{Kind, ReadError};
 use crate::limits::NESTING;
 use crate::measured::Measured;
 use crate::one_token::{Tokens, allowed, name, name_of, refused};
+use script_grammar::{Atoms, Expr};
 use script_tokens::{Keyword, Mark, Token};
 use std::alloc::Global;
 use swift_types::Operator;
-use whole_grammar::{Atoms, Expr};
 
 fn operator_of_mark(mark: Mark) -> Option<Operator>
     ensures { result ≡ operator_in mark }

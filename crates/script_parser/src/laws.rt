@@ -2,8 +2,8 @@
 
 ghost use Rattle.std.specs.Prelude.{◌≡◌, ℕ, List};
 ghost use Rattle.script_tokens.specs.Pieces.{Piece};
-ghost use Rattle.whole_grammar.specs.Tree.{DeclTree};
-ghost use Rattle.whole_grammar.specs.Grammar.{IsScript};
+ghost use Rattle.script_grammar.specs.Tree.{DeclTree};
+ghost use Rattle.script_grammar.specs.Grammar.{IsScript};
 
 /// Tokens spell at most one script, whatever the limits.
 pub fn one_script()

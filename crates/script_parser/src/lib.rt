@@ -1,4 +1,4 @@
-//! The parser of scripts: it finds the tree that tokens spell by `whole_grammar`, or the first fault.
+//! The parser of scripts: it finds the tree that tokens spell by `script_grammar`, or the first fault.
 #![tactic(auto)]
 
 // Statements without a block.

@@ -2,7 +2,7 @@
 
 ghost use Rattle.std.specs.Prelude.{◌≡◌, map};
 ghost use Rattle.script_tokens.specs.Pieces.{piece};
-ghost use Rattle.whole_grammar.specs.Tree.{view_make, view_add};
+ghost use Rattle.script_grammar.specs.Tree.{view_make, view_add};
 ghost use Rattle.script_parser.specs.Model.Steps.{Gives};
 ghost use Rattle.script_parser.specs.Model.Actions.{make_at, unless_at, child_at, add_at};
 
@@ -11,9 +11,9 @@ use crate::fault::{Kind, ReadError};
 use crate::limits::NESTING;
 use crate::one_token::{Tokens, name, refused};
 use crate::priority::{given, given_or_medium};
+use script_grammar::{Add, Make};
 use script_tokens::{Keyword, Token};
 use std::alloc::Global;
-use whole_grammar::{Add, Make};
 
 // A task that is spawned or detached.
 #[tactic(auto, unfolding(crate::specs::Model::Actions::make_at))]

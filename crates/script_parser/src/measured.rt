@@ -1,10 +1,10 @@
 //! An expression with its height.
 
 ghost use Rattle.std.specs.Prelude.{◌≡◌, ◌≤◌};
-ghost use Rattle.whole_grammar.specs.Tree.{view, height_of};
+ghost use Rattle.script_grammar.specs.Tree.{view, height_of};
 ghost use Rattle.script_parser.specs.declared.limits.TheConstants.{NESTING};
 
-use whole_grammar::Expr;
+use script_grammar::Expr;
 
 /// An expression within the limit of its height.
 #[derive(Drop)]

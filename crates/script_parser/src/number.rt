@@ -5,13 +5,13 @@ ghost use Rattle.std.specs.Int.{w64};
 ghost use Rattle.script_tokens.specs.Pieces.{piece};
 ghost use Rattle.script_parser.specs.Model.Steps.{Gives};
 ghost use Rattle.script_parser.specs.Model.Declarations.{number_at, opposite_at, int_at, setting_at};
-ghost use Rattle.whole_grammar.specs.Tree.{text_of};
+ghost use Rattle.script_grammar.specs.Tree.{text_of};
 
 use crate::fault::{Kind, ReadError};
 use crate::one_token::{Tokens, name, refused, sign};
+use script_grammar::Name;
 use script_tokens::{Mark, Token};
 use std::alloc::Global;
-use whole_grammar::Name;
 
 #[tactic(auto, unfolding(crate::specs::Model::Declarations::number_at))]
 pub(crate) fn number(tokens: Tokens<'_>) -> Result<(i64, Tokens<'_>), ReadError>

@@ -3,15 +3,15 @@
 ghost use Rattle.std.specs.Prelude.{◌≡◌, map};
 ghost use Rattle.std.specs.Option.{option_map};
 ghost use Rattle.script_tokens.specs.Pieces.{piece};
-ghost use Rattle.whole_grammar.specs.Tree.{text_of};
+ghost use Rattle.script_grammar.specs.Tree.{text_of};
 ghost use Rattle.script_parser.specs.declared.fault.ReadError.TheVariants as errors;
 ghost use Rattle.script_parser.specs.Model.Steps.{at, Gives, allowed_at};
 ghost use Rattle.script_parser.specs.Model.Parts.{code_of, name_at, sign_at, brace_at, close_at};
 
 use crate::fault::{Fault, Kind, ReadError};
+use script_grammar::Name;
 use script_tokens::{Mark, Token};
 use std::alloc::Global;
-use whole_grammar::Name;
 
 /// The tokens that are still to be read.
 pub(crate) type Tokens<'a> = &'a [Token];

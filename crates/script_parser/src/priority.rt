@@ -2,7 +2,7 @@
 
 ghost use Rattle.std.specs.Prelude.{◌≡◌, map};
 ghost use Rattle.script_tokens.specs.Pieces.{piece};
-ghost use Rattle.whole_grammar.specs.Grammar.{priority_of, or_medium};
+ghost use Rattle.script_grammar.specs.Grammar.{priority_of, or_medium};
 ghost use Rattle.script_parser.specs.Model.Steps.{Gives};
 ghost use Rattle.script_parser.specs.Model.Actions.{level_named_at, given_at};
 

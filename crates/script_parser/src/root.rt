@@ -4,7 +4,7 @@ ghost use Rattle.std.specs.Prelude.{◌≡◌, ◌+◌, ◌++◌, ◌∷◌, [],
 ghost use Rattle.std.specs.Int.{w64};
 ghost use Rattle.script_parser.specs.declared.fault.ReadError.TheVariants.{Memory};
 ghost use Rattle.script_tokens.specs.Pieces.{piece};
-ghost use Rattle.whole_grammar.specs.Tree.{view_root};
+ghost use Rattle.script_grammar.specs.Tree.{view_root};
 ghost use Rattle.script_parser.specs.Model.Steps.{Gives};
 ghost use Rattle.script_parser.specs.Model.Parts.{with_first, close_at, comma_at, list_at, items_at};
 ghost use Rattle.script_parser.specs.Model.Declarations.{int_at, root_at};
@@ -13,9 +13,9 @@ use crate::fault::{Kind, ReadError};
 use crate::number::int;
 use crate::one_token::{Tokens, closing, name, refused, sign};
 use crate::priority::{given, given_or_medium};
+use script_grammar::Root;
 use script_tokens::Mark;
 use std::alloc::Global;
-use whole_grammar::Root;
 
 #[tactic(auto, unfolding(crate::specs::Model::Parts::comma_at))]
 fn next_int(tokens: Tokens<'_>) -> Result<(i64, Tokens<'_>), ReadError>

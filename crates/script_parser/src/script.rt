@@ -3,8 +3,8 @@
 ghost use Rattle.std.specs.Prelude.{◌≡◌, ◌+◌, map, length, List, ℕ, IfOk, IfErr};
 ghost use Rattle.std.specs.Option.{option_map};
 ghost use Rattle.script_tokens.specs.Pieces.{piece};
-ghost use Rattle.whole_grammar.specs.Tree.{DeclTree, view_decl};
-ghost use Rattle.whole_grammar.specs.Grammar.{IsScript};
+ghost use Rattle.script_grammar.specs.Tree.{DeclTree, view_decl};
+ghost use Rattle.script_grammar.specs.Grammar.{IsScript};
 ghost use Rattle.script_parser.specs.Model.Steps.{Gives};
 ghost use Rattle.script_parser.specs.Model.Parts.{items_at};
 ghost use Rattle.script_parser.specs.Model.Declarations.{decl_at, decls_end};
@@ -16,9 +16,9 @@ use crate::fault::{Kind, ReadError};
 use crate::limits::NESTING;
 use crate::one_token::{Tokens, refused};
 use crate::root::root;
+use script_grammar::Decl;
 use script_tokens::{Keyword, Token};
 use std::alloc::Global;
-use whole_grammar::Decl;
 
 #[tactic(auto, unfolding(crate::specs::Model::Declarations::decls_end))]
 fn end_of_decls(tokens: Tokens<'_>) -> Option<Tokens<'_>>

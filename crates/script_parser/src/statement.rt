@@ -2,7 +2,7 @@
 
 ghost use Rattle.std.specs.Prelude.{◌≡◌, ◌-◌, map, length};
 ghost use Rattle.script_tokens.specs.Pieces.{piece};
-ghost use Rattle.whole_grammar.specs.Tree.{view, view_head, view_stmt};
+ghost use Rattle.script_grammar.specs.Tree.{view, view_head, view_stmt};
 ghost use Rattle.script_parser.specs.Model.Steps.{Gives};
 ghost use Rattle.script_parser.specs.Model.Statements.{region_in, head_part_at, head_at, choice_at, headed_at, stmt_at, many_at, block_at};
 
@@ -11,9 +11,9 @@ use crate::expression::expr;
 use crate::fault::{Kind, ReadError};
 use crate::limits::NESTING;
 use crate::one_token::{Tokens, closing_brace, name, refused, sign};
+use script_grammar::{Atoms, Expr, Head, Region, Stmt};
 use script_tokens::{Keyword, Mark, Token};
 use std::alloc::Global;
-use whole_grammar::{Atoms, Expr, Head, Region, Stmt};
 
 // The region that the head's block is.
 fn region_of(head: &Head, region: Region) -> Region

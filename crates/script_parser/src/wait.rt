@@ -2,7 +2,7 @@
 
 ghost use Rattle.std.specs.Prelude.{◌≡◌, map};
 ghost use Rattle.script_tokens.specs.Pieces.{piece};
-ghost use Rattle.whole_grammar.specs.Tree.{view_if, view_awaited, view_wait, view_value};
+ghost use Rattle.script_grammar.specs.Tree.{view_if, view_awaited, view_wait, view_value};
 ghost use Rattle.script_parser.specs.Model.Steps.{Gives};
 ghost use Rattle.script_parser.specs.Model.Actions.{awaited_at, else_at, wait_at, value_at};
 
@@ -11,9 +11,9 @@ use crate::expression::expr;
 use crate::fault::ReadError;
 use crate::limits::NESTING;
 use crate::one_token::{Tokens, name};
+use script_grammar::{Atoms, Awaited, Expr, Value, Wait};
 use script_tokens::{Keyword, Token};
 use std::alloc::Global;
-use whole_grammar::{Atoms, Awaited, Expr, Value, Wait};
 
 #[tactic(auto, unfolding(crate::specs::Model::Actions::awaited_at))]
 fn awaited(alloc: Global, tokens: Tokens<'_>) -> Result<(Awaited, Tokens<'_>), ReadError>

@@ -2,28 +2,30 @@
 use Rattle.std.proofs.Common.{◌≡◌, ◌++◌, ◌∷◌, [], ℕ, List, ap, sym, refl, ◌∙◌, ◌+◌, ◌<◌, length, map, take, Vec, Global, rules}
 use Rattle.std.specs.List.{flat_map}
 use Rattle.std.proofs.Math.ListN.{get_or}
-use Rattle.script_grammar.specs.declared.tree.Expr.{Expr}
-use Rattle.script_grammar.specs.declared.tree.Stmt.{Stmt, If, IfElse, While, the_lemmas}
-use Rattle.script_grammar.specs.Tree.{StmtTree, block_tree, view, view_stmt}
+use Rattle.script_grammar.specs.declared.expression.Expr.{Expr}
+use Rattle.script_grammar.specs.declared.statement.Action.{Action}
+use Rattle.script_grammar.specs.declared.statement.Head.{Head}
+use Rattle.script_grammar.specs.declared.statement.Stmt.{Stmt, Do, Block, IfElse, the_lemmas}
+use Rattle.script_grammar.specs.Tree.{StmtTree, block_tree, view, view_action, view_head, view_stmt}
 use Rattle.script_grammar.specs.Tree as tree
-use Rattle.script_printing.specs.Pieces.{pieces_of_step, pieces_of_steps}
+use Rattle.script_printing.specs.Pieces.{pieces_of_stmt, pieces_of_block}
 use Rattle.script_printing.specs.Printed.{after}
 use Rattle.script_printing.proofs.Written.{after_next}
 
-pub pieces-block_tree : (ss : List StmtTree) → pieces_of_steps (block_tree ss) ≡ flat_map pieces_of_step ss
+pub pieces-block_tree : (ss : List StmtTree) → pieces_of_block (block_tree ss) ≡ flat_map pieces_of_stmt ss
 pieces-block_tree [] = refl
-pieces-block_tree (s ∷ ss) = ap (λ ps. pieces_of_step s ++ ps) (pieces-block_tree ss)
+pieces-block_tree (s ∷ ss) = ap (λ ps. pieces_of_stmt s ++ ps) (pieces-block_tree ss)
 
 -- one more statement
-pub after_next_stmt : (xs : List Stmt) (i : ℕ) (x : Stmt) → i < length xs → x ≡ get_or xs i x → (start before now : List ℕ) → before ≡ after start (pieces_of_steps (block_tree (map view_stmt (take i xs)))) → now ≡ after before (pieces_of_step (view_stmt x)) → now ≡ after start (pieces_of_steps (block_tree (map view_stmt (take (i + 1) xs))))
+pub after_next_stmt : (xs : List Stmt) (i : ℕ) (x : Stmt) → i < length xs → x ≡ get_or xs i x → (start before now : List ℕ) → before ≡ after start (pieces_of_block (block_tree (map view_stmt (take i xs)))) → now ≡ after before (pieces_of_stmt (view_stmt x)) → now ≡ after start (pieces_of_block (block_tree (map view_stmt (take (i + 1) xs))))
 after_next_stmt xs i x h e start before now p q =
-    after_next pieces_of_step view_stmt xs i x h e start before now (p ∙ ap (after start) (pieces-block_tree (map view_stmt (take i xs)))) q ∙ ap (after start) (sym (pieces-block_tree (map view_stmt (take (i + 1) xs))))
+    after_next pieces_of_stmt view_stmt xs i x h e start before now (p ∙ ap (after start) (pieces-block_tree (map view_stmt (take i xs)))) q ∙ ap (after start) (sym (pieces-block_tree (map view_stmt (take (i + 1) xs))))
 
-pub view_stmt-If : (e : Expr) (a : Vec Stmt Global) → view_stmt (If e a) ≡ tree.If (view e) (block_tree (map view_stmt a.items))
-view_stmt-If e a = search (rules, the_lemmas)
+pub view_stmt-Do : (a : Action) → view_stmt (Do a) ≡ tree.Do (view_action a)
+view_stmt-Do a = search (rules, the_lemmas)
+
+pub view_stmt-Block : (h : Head) (b : Vec Stmt Global) → view_stmt (Block h b) ≡ tree.Headed (view_head h) (block_tree (map view_stmt b.items))
+view_stmt-Block h b = search (rules, the_lemmas)
 
 pub view_stmt-IfElse : (e : Expr) (a b : Vec Stmt Global) → view_stmt (IfElse e a b) ≡ tree.IfElse (view e) (block_tree (map view_stmt a.items)) (block_tree (map view_stmt b.items))
 view_stmt-IfElse e a b = search (rules, the_lemmas)
-
-pub view_stmt-While : (e : Expr) (a : Vec Stmt Global) → view_stmt (While e a) ≡ tree.While (view e) (block_tree (map view_stmt a.items))
-view_stmt-While e a = search (rules, the_lemmas)

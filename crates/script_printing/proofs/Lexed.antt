@@ -2,7 +2,6 @@
 use Rattle.std.proofs.Common.{◌≡◌, ℕ, pos, negsuc, ◌<◌, ◌^◌, ◌⊎◌, inl, inr, Bool, true, false, ◌&&◌, nat_lt, List, [], ◌∷◌, ◌++◌, length, take, drop, Some, None, refl, sym, ap, subst, ◌∙◌, append_assoc, arith, rules}
 use Rattle.std.specs.List.{All, flat_map, list_all, prefix_len, take_while}
 use Rattle.std.specs.Fmt.{decimal}
-use Rattle.std.proofs.lemmas.List.{append-nil}
 use Rattle.std.proofs.lemmas.List.Elements.{All-nil, All-cons, All-head, All-tail}
 use Rattle.std.proofs.lemmas.Bool.Decides.{nat_tests}
 use Rattle.std.proofs.lemmas.Fmt.{digits_decimal, digits_value-decimal, decimal_nonempty}
@@ -17,8 +16,8 @@ use Rattle.script_tokens.specs.Lexes.{decimal_behind, number_of, word_as, word_o
 use Rattle.script_printing.specs.Words.{text_of_keyword, text_of_mark, text_of}
 use Rattle.script_printing.specs.Readable.{IsWord, IsReadable}
 use Rattle.script_printing.specs.Printed.{spaced, line_of, printed}
-use Rattle.script_printing.specs.Pieces.{pieces_of_actor, pieces_of_root, pieces_of_script}
-use Rattle.script_grammar.specs.Tree.{ActorTree, RootTree}
+use Rattle.script_printing.specs.Script.{ScriptTree, declarations_of}
+use Rattle.script_printing.specs.Pieces.{pieces_of_decl, pieces_of_script}
 
 -- white space stands at the front
 abbrev Breaks : List ℕ → Type 0
@@ -115,8 +114,8 @@ word_front [] (b ∷ bs) h breaks = cc (h.begins)
 word_front (x ∷ w) (b ∷ bs) h breaks =
     let len : prefix_len is_name_byte (x ∷ (w ++ b ∷ bs)) ≡ length (x ∷ w) = passed is_name_byte (x ∷ w) b bs h.bytes (space_is_no_name b breaks) in
     let front : take_while is_name_byte (x ∷ (w ++ b ∷ bs)) ≡ x ∷ w = ap (λ n. take n (x ∷ (w ++ b ∷ bs))) len ∙ take_front (x ∷ w) (b ∷ bs) in
-    let behind : drop (prefix_len is_name_byte (x ∷ (w ++ b ∷ bs))) (x ∷ (w ++ b ∷ bs)) ≡ b ∷ bs = ap (λ n. drop n (x ∷ (w ++ b ∷ bs))) len ∙ drop_front (x ∷ w) (b ∷ bs) in
-    front_of_letter x (w ++ b ∷ bs) h.begins ∙ ap (λ v. (Some (word_of v), drop (prefix_len is_name_byte (x ∷ (w ++ b ∷ bs))) (x ∷ (w ++ b ∷ bs)))) front ∙ ap (λ v. (Some (word_of (x ∷ w)), v)) behind ∙ ap (λ k. (Some (word_as k (x ∷ w)), b ∷ bs)) h.no_keyword
+    let rest : drop (prefix_len is_name_byte (x ∷ (w ++ b ∷ bs))) (x ∷ (w ++ b ∷ bs)) ≡ b ∷ bs = ap (λ n. drop n (x ∷ (w ++ b ∷ bs))) len ∙ drop_front (x ∷ w) (b ∷ bs) in
+    front_of_letter x (w ++ b ∷ bs) h.begins ∙ ap (λ v. (Some (word_of v), drop (prefix_len is_name_byte (x ∷ (w ++ b ∷ bs))) (x ∷ (w ++ b ∷ bs)))) front ∙ ap (λ v. (Some (word_of (x ∷ w)), v)) rest ∙ ap (λ k. (Some (word_as k (x ∷ w)), b ∷ bs)) h.no_keyword
 
 number_is : (ds : List ℕ) (n : ℕ) → decimal_behind 0 ds ≡ n → n < 2 ^ 63 → number_of ds ≡ Num (pos n)
 unfolding number_of
@@ -129,8 +128,8 @@ digits_front [] n (b ∷ bs) some all e h breaks = absurd (omega arith)
 digits_front (x ∷ ds) n (b ∷ bs) some all e h breaks =
     let len : prefix_len is_digit (x ∷ (ds ++ b ∷ bs)) ≡ length (x ∷ ds) = passed is_digit (x ∷ ds) b bs all (space_is_no_digit b breaks) in
     let front : take_while is_digit (x ∷ (ds ++ b ∷ bs)) ≡ x ∷ ds = ap (λ n. take n (x ∷ (ds ++ b ∷ bs))) len ∙ take_front (x ∷ ds) (b ∷ bs) in
-    let behind : drop (prefix_len is_digit (x ∷ (ds ++ b ∷ bs))) (x ∷ (ds ++ b ∷ bs)) ≡ b ∷ bs = ap (λ n. drop n (x ∷ (ds ++ b ∷ bs))) len ∙ drop_front (x ∷ ds) (b ∷ bs) in
-    front_of_digit x (ds ++ b ∷ bs) (both_true (is_digit x) (list_all is_digit ds) all).0 ∙ ap (λ v. (Some (number_of v), drop (prefix_len is_digit (x ∷ (ds ++ b ∷ bs))) (x ∷ (ds ++ b ∷ bs)))) front ∙ ap (λ v. (Some (number_of (x ∷ ds)), v)) behind ∙ ap (λ p. (Some p, b ∷ bs)) (number_is (x ∷ ds) n e h)
+    let rest : drop (prefix_len is_digit (x ∷ (ds ++ b ∷ bs))) (x ∷ (ds ++ b ∷ bs)) ≡ b ∷ bs = ap (λ n. drop n (x ∷ (ds ++ b ∷ bs))) len ∙ drop_front (x ∷ ds) (b ∷ bs) in
+    front_of_digit x (ds ++ b ∷ bs) (both_true (is_digit x) (list_all is_digit ds) all).0 ∙ ap (λ v. (Some (number_of v), drop (prefix_len is_digit (x ∷ (ds ++ b ∷ bs))) (x ∷ (ds ++ b ∷ bs)))) front ∙ ap (λ v. (Some (number_of (x ∷ ds)), v)) rest ∙ ap (λ p. (Some p, b ∷ bs)) (number_is (x ∷ ds) n e h)
 
 -- a number is taken up to what ends it
 number_front : (n : ℕ) (bs : List ℕ) → n < 2 ^ 63 → Breaks bs → front_of (decimal n ++ bs) ≡ (Some (Num (pos n)), bs)
@@ -152,13 +151,13 @@ lexed_next : (bytes rest : List ℕ) (p : Piece) (ps : List Piece) → front_of 
 lexed_next [] rest p ps e d = absurd (let f : None ≡ Some p = ap (λ x. x.0) e in cc f)
 lexed_next (b ∷ bs) rest p ps e d = next_is e d
 
-behind_space : (bs : List ℕ) (ps : List Piece) → Lexes bs ps → Lexes (32 ∷ bs) ps
+after_space : (bs : List ℕ) (ps : List Piece) → Lexes bs ps → Lexes (32 ∷ bs) ps
 unfolding front_at
-behind_space bs ps d = separated refl d
+after_space bs ps d = separated refl d
 
-behind_feed : (bs : List ℕ) (ps : List Piece) → Lexes bs ps → Lexes (10 ∷ bs) ps
+after_feed : (bs : List ℕ) (ps : List Piece) → Lexes bs ps → Lexes (10 ∷ bs) ps
 unfolding front_at
-behind_feed bs ps d = separated refl d
+after_feed bs ps d = separated refl d
 
 spaced_breaks : (ps : List Piece) (bs : List ℕ) → Breaks bs → Breaks (spaced ps ++ bs)
 spaced_breaks [] bs h = h
@@ -168,25 +167,21 @@ spaced_breaks (p ∷ ps) bs h = inl refl
 spaced_lexes : (ps qs : List Piece) (bs : List ℕ) → All IsReadable ps → Breaks bs → Lexes bs qs → Lexes (spaced ps ++ bs) (ps ++ qs)
 spaced_lexes [] qs bs h breaks d = d
 spaced_lexes (p ∷ ps) qs bs h breaks d =
-    behind_space ((text_of p ++ spaced ps) ++ bs) (p ∷ (ps ++ qs)) (rw (append_assoc (text_of p) (spaced ps) bs) (lexed_next (text_of p ++ (spaced ps ++ bs)) (spaced ps ++ bs) p (ps ++ qs) (piece_front p (spaced ps ++ bs) (All-head IsReadable p ps h) (spaced_breaks ps bs breaks)) (spaced_lexes ps qs bs (All-tail IsReadable p ps h) breaks d)))
+    after_space ((text_of p ++ spaced ps) ++ bs) (p ∷ (ps ++ qs)) (rw (append_assoc (text_of p) (spaced ps) bs) (lexed_next (text_of p ++ (spaced ps ++ bs)) (spaced ps ++ bs) p (ps ++ qs) (piece_front p (spaced ps ++ bs) (All-head IsReadable p ps h) (spaced_breaks ps bs breaks)) (spaced_lexes ps qs bs (All-tail IsReadable p ps h) breaks d)))
 
 -- a line
 line_lexes : (ps qs : List Piece) (bs : List ℕ) → All IsReadable ps → Lexes bs qs → Lexes (line_of ps ++ bs) (ps ++ qs)
-line_lexes [] qs bs h d = behind_feed bs qs d
+line_lexes [] qs bs h d = after_feed bs qs d
 line_lexes (p ∷ ps) qs bs h d =
     let breaks : Breaks (10 ∷ bs) = inr refl in
     let e : (text_of p ++ (spaced ps ++ 10 ∷ [])) ++ bs ≡ text_of p ++ (spaced ps ++ 10 ∷ bs) = append_assoc (text_of p) (spaced ps ++ 10 ∷ []) bs ∙ ap (λ v. text_of p ++ v) (append_assoc (spaced ps) (10 ∷ []) bs) in
-    subst (λ v. Lexes v (p ∷ (ps ++ qs))) (sym e) (lexed_next (text_of p ++ (spaced ps ++ 10 ∷ bs)) (spaced ps ++ 10 ∷ bs) p (ps ++ qs) (piece_front p (spaced ps ++ 10 ∷ bs) (All-head IsReadable p ps h) (spaced_breaks ps (10 ∷ bs) breaks)) (spaced_lexes ps qs (10 ∷ bs) (All-tail IsReadable p ps h) breaks (behind_feed bs qs d)))
+    subst (λ v. Lexes v (p ∷ (ps ++ qs))) (sym e) (lexed_next (text_of p ++ (spaced ps ++ 10 ∷ bs)) (spaced ps ++ 10 ∷ bs) p (ps ++ qs) (piece_front p (spaced ps ++ 10 ∷ bs) (All-head IsReadable p ps h) (spaced_breaks ps (10 ∷ bs) breaks)) (spaced_lexes ps qs (10 ∷ bs) (All-tail IsReadable p ps h) breaks (after_feed bs qs d)))
 
 -- lines
-pub lines_lex : {A : Type 0} (f : A → List Piece) (xs : List A) (qs : List Piece) (bs : List ℕ) → All IsReadable (flat_map f xs) → Lexes bs qs → Lexes (flat_map (λ x. line_of (f x)) xs ++ bs) (flat_map f xs ++ qs)
-lines_lex f [] qs bs h d = d
-lines_lex f (x ∷ xs) qs bs h d =
-    rw (append_assoc (line_of (f x)) (flat_map (λ y. line_of (f y)) xs) bs, append_assoc (f x) (flat_map f xs) qs) (line_lexes (f x) (flat_map f xs ++ qs) (flat_map (λ y. line_of (f y)) xs ++ bs) (All-front IsReadable (f x) (flat_map f xs) h) (lines_lex f xs qs bs (All-back IsReadable (f x) (flat_map f xs) h) d))
+lines_lex : {A : Type 0} (f : A → List Piece) (xs : List A) → All IsReadable (flat_map f xs) → Lexes (flat_map (λ x. line_of (f x)) xs) (flat_map f xs)
+lines_lex f [] h = at_end
+lines_lex f (x ∷ xs) h =
+    line_lexes (f x) (flat_map f xs) (flat_map (λ y. line_of (f y)) xs) (All-front IsReadable (f x) (flat_map f xs) h) (lines_lex f xs (All-back IsReadable (f x) (flat_map f xs) h))
 
-pub script_lexes : (actors : List ActorTree) (roots : List RootTree) → All IsReadable (pieces_of_script actors roots) → Lexes (printed actors roots) (pieces_of_script actors roots)
-script_lexes actors roots h =
-    let as' = flat_map pieces_of_actor actors in
-    let rs = flat_map pieces_of_root roots in
-    let d : Lexes (flat_map (λ r. line_of (pieces_of_root r)) roots ++ []) (rs ++ []) = lines_lex pieces_of_root roots [] [] (All-back IsReadable as' rs h) at_end in
-    lines_lex pieces_of_actor actors rs (flat_map (λ r. line_of (pieces_of_root r)) roots) (All-front IsReadable as' rs h) (subst (λ v. Lexes v rs) (append-nil (flat_map (λ r. line_of (pieces_of_root r)) roots)) (subst (λ ps. Lexes (flat_map (λ r. line_of (pieces_of_root r)) roots ++ []) ps) (append-nil rs) d))
+pub script_lexes : (s : ScriptTree) → All IsReadable (pieces_of_script s) → Lexes (printed s) (pieces_of_script s)
+script_lexes s h = lines_lex pieces_of_decl (declarations_of s) h

@@ -1,10 +1,11 @@
 pub mod Written
 pub mod Blocks
+pub mod ByKind
 pub mod Spelled
 pub mod SpelledWhole
 pub mod Lexed
 pub mod Read
 pub mod WordsLexAgain
 pub mod PrintedSpells
-pub mod AnAccountPrinted
 pub mod Plain
+pub mod ScriptsPrinted

@@ -14,16 +14,16 @@ use Rattle.script_tokens.specs.declared.keyword.Keyword.TheVariants as key
 use Rattle.script_tokens.specs.declared.mark.Mark.{Mark}
 use Rattle.script_tokens.specs.declared.mark.Mark.TheVariants as mark
 use Rattle.script_tokens.specs.Pieces.{Piece, Num, Huge, Name, Key, Sign, Stray}
-use Rattle.script_grammar.specs.Tree.{ActorTree, RootTree}
-use Rattle.script_printing.specs.Pieces.{pieces_of_actor, pieces_of_root, pieces_of_script}
+use Rattle.script_printing.specs.Script.{ScriptTree, declarations_of}
+use Rattle.script_printing.specs.Pieces.{pieces_of_decl, pieces_of_script}
 use Rattle.script_printing.specs.Printed.{spaced, line_of, printed}
 use Rattle.script_printing.specs.Readable.{IsReadable}
 use Rattle.script_printing.specs.Words.{text_of_keyword, text_of_mark, text_of}
 use Rattle.script_printing.proofs.Lexed.{All-front, All-back, both_true, numerals}
 
 -- texts after one another are a text
-text_append : (front behind : List ℕ) → is_text front ≡ true → is_text behind ≡ true → is_text (front ++ behind) ≡ true
-text_append front behind h k = list_all-append is_text_byte front behind ∙ and_from (is_text front) (is_text behind) h k
+text_append : (xs ys : List ℕ) → is_text xs ≡ true → is_text ys ≡ true → is_text (xs ++ ys) ≡ true
+text_append xs ys h k = list_all-append is_text_byte xs ys ∙ and_from (is_text xs) (is_text ys) h k
 
 -- what passes one test passes another, byte by byte
 all_so : (p q : ℕ → Bool) → ((b : ℕ) → p b ≡ true → q b ≡ true) → (w : List ℕ) → list_all p w ≡ true → list_all q w ≡ true
@@ -73,11 +73,8 @@ lines_are_text f [] h = refl
 lines_are_text f (x ∷ xs) h =
     text_append (line_of (f x)) (flat_map (λ y. line_of (f y)) xs) (line_is_text (f x) (All-front IsReadable (f x) (flat_map f xs) h)) (lines_are_text f xs (All-back IsReadable (f x) (flat_map f xs) h))
 
-pub script_is_text : (actors : List ActorTree) (roots : List RootTree) → All IsReadable (pieces_of_script actors roots) → is_text (printed actors roots) ≡ true
-script_is_text actors roots h =
-    let front = flat_map pieces_of_actor actors in
-    let behind = flat_map pieces_of_root roots in
-    text_append (flat_map (λ a. line_of (pieces_of_actor a)) actors) (flat_map (λ r. line_of (pieces_of_root r)) roots) (lines_are_text pieces_of_actor actors (All-front IsReadable front behind h)) (lines_are_text pieces_of_root roots (All-back IsReadable front behind h))
+pub script_is_text : (s : ScriptTree) → All IsReadable (pieces_of_script s) → is_text (printed s) ≡ true
+script_is_text s h = lines_are_text pieces_of_decl (declarations_of s) h
 
 low_byte : (b : ℕ) → is_text_byte b ≡ true → b < 128
 low_byte b h = grind (arith, nat_tests)

@@ -1,23 +1,30 @@
--- The printed form spells the expression and the statements that it prints.
-use Rattle.std.proofs.Common.{◌≡◌, ℕ, zero, suc, ◌-◌, ◌<◌, ◌≤◌, List, [], ◌∷◌, ◌++◌, Option, Some, None, refl, ap, subst, append_assoc, arith}
+-- The printed form spells the expressions and the statements that it prints.
+use Rattle.std.proofs.Common.{◌≡◌, ℕ, zero, suc, ◌-◌, ◌<◌, ◌≤◌, true, false, Bool, List, [], ◌∷◌, ◌++◌, Option, Some, None, refl, ap, subst, append_assoc, arith}
 use Rattle.std.specs.List.{All, flat_map}
 use Rattle.std.proofs.lemmas.List.Elements.{All-head, All-tail}
 use Rattle.swift_types.specs.declared.operator.Operator.{Operator}
 use Rattle.swift_types.specs.declared.operator.Operator.TheVariants as op
+use Rattle.swift_types.specs.declared.priority.Priority.{Priority}
+use Rattle.swift_types.specs.declared.priority.Priority.TheVariants.{Background, Low, Medium, High}
+use Rattle.script_tokens.specs.declared.keyword.Keyword.TheVariants as key
 use Rattle.script_tokens.specs.declared.mark.Mark.TheVariants as mark
 use Rattle.script_tokens.specs.Pieces.{Piece, Sign}
-use Rattle.script_grammar.specs.Tree.{ExprTree, Number, Named, Negated, Inverted, Both, height_of, WaitTree, ValueTree, Computed, Awaited, StmtTree, BlockTree, nothing, first_then, block_tree, Let, Assign, Await, If, IfElse, While, Return, Throw, Yield}
-use Rattle.script_grammar.specs.Grammar.{mark_of, Spells, number, name, parenthesis, negated, inverted, alone, chained, compared, IsExpression, Each, no_more, one_more, IsNext, Listed, none_listed, some_listed, IsElse, without_else, with_else, IsWait, IsValue, computed, awaited, SpellsStmt, SpellsBlock, SpellsStmts, defines, assigns, awaits, tests, chooses, repeats, returns, throws, yields, braces, none, more}
-use Rattle.script_printing.specs.Pieces.{pieces_of, behind_comma, listed, pieces_of_call, pieces_of_else, pieces_of_wait, pieces_of_value, braced, pieces_of_step, pieces_of_steps}
-use Rattle.script_printing.specs.Limits.{IsLow, IsLowIfAny, WaitFits, ValueFits, StepFits, StepsFit}
+use Rattle.script_grammar.specs.declared.region.Atoms.{Atoms}
+use Rattle.script_grammar.specs.declared.region.Atoms.TheVariants.{Every}
+use Rattle.script_grammar.specs.declared.region.Region.{Region}
+use Rattle.script_grammar.specs.declared.region.Region.TheVariants as region
+use Rattle.script_grammar.specs.Tree.{ExprTree, Number, Named, Local, OwnPriority, IsCancelled, Negated, Inverted, Both, height_of, CallTree, AwaitedTree, Called, TaskOf, NextOf, WaitTree, ValueTree, Computed, Waited, MakeTree, Spawned, Detached, AddTree, ActionTree, Let, LetTask, Assign, Await, Makes, Adds, Cancel, Return, Throw, Check, Yield, HeadTree, If, While, Bind, Group, Assume, StmtTree, Do, Headed, IfElse, BlockTree, nothing, first_then, block_tree}
+use Rattle.script_grammar.specs.Grammar.{mark_of, Spells, number, name, local, own_priority, is_cancelled, parenthesis, negated, inverted, alone, chained, compared, IsExpression, Each, no_more, one_more, IsNext, Listed, none_listed, some_listed, IsCall, IsAwaited, a_call, a_task, a_next, IsElse, without_else, with_else, IsWait, IsGiven, not_given, given, IsMake, spawned, detached, IsUnless, always, unless, IsAdd, IsValue, computed, awaited, SpellsAction, defines, defines_task, assigns, awaits, makes, adds, cancels, returns, throws, checks, yields, SpellsHead, tests, repeats, binds, groups, assumes, SpellsStmt, SpellsBlock, SpellsStmts, does, holds, chooses, braces, none, more}
+use Rattle.script_printing.specs.Pieces.{pieces_of, after_comma, listed, braced, ended, pieces_of_call, pieces_of_awaited, pieces_of_else, pieces_of_wait, pieces_of_value, pieces_of_priority, pieces_of_given, pieces_of_make, pieces_of_unless, pieces_of_add, pieces_of_action, pieces_of_head, pieces_of_stmt, pieces_of_block}
+use Rattle.script_printing.specs.Limits.{IsLow, IsLowIfAny, AtomsFit, CallFits, AwaitedFits, WaitFits, ValueFits, MakeFits, ActionFits, HeadFits, region_in, StmtFits, BlockFits}
 
 -- an atom is an expression of each level
-at_level : {o : ℕ} {ts : List Piece} {t : ExprTree} (k : ℕ) → Spells o zero ts t → Spells o k ts t
+at_level : {atoms : Atoms} {o : ℕ} {ts : List Piece} {t : ExprTree} (k : ℕ) → Spells atoms o zero ts t → Spells atoms o k ts t
 at_level zero d = d
 at_level (suc k) d = alone (at_level k d)
 
 -- two atoms with an operator between them
-between : {o : ℕ} {ls rs : List Piece} {a b : ExprTree} (q : Operator) → Spells o zero ls a → Spells o zero rs b → Spells o 5 (ls ++ Sign (mark_of q) ∷ rs) (Both q a b)
+between : {atoms : Atoms} {o : ℕ} {ls rs : List Piece} {a b : ExprTree} (q : Operator) → Spells atoms o zero ls a → Spells atoms o zero rs b → Spells atoms o 5 (ls ++ Sign (mark_of q) ∷ rs) (Both q a b)
 between op.Or d e = chained {k = 4} op.Or refl (λ x. absurd (omega (arith, x))) (at_level 5 d) (at_level 4 e)
 between op.And d e = alone (chained {k = 3} op.And refl (λ x. absurd (omega (arith, x))) (at_level 4 d) (at_level 3 e))
 between op.Equal d e = alone (alone (compared {k = 2} op.Equal refl refl (at_level 2 d) (at_level 2 e)))
@@ -33,24 +40,45 @@ between op.Times d e = alone (alone (alone (alone (chained {k = 0} op.Times refl
 high : (t : ExprTree) → 0 < height_of t
 high (Number n) = omega arith
 high (Named w) = omega arith
+high (Local w) = omega arith
+high OwnPriority = omega arith
+high IsCancelled = omega arith
 high (Negated a) = omega arith
 high (Inverted a) = omega arith
 high (Both q a b) = omega arith
 
 -- the printed form of an expression is an atom, with one parenthesis fewer than its height
-atom : (o : ℕ) (t : ExprTree) → height_of t ≤ suc o → Spells o zero (pieces_of t) t
-atom o (Number n) h = number n
-atom o (Named w) h = name w
-atom zero (Negated a) h = absurd (omega (arith, high a))
-atom (suc o) (Negated a) h = parenthesis (at_level 5 (negated (atom o a (omega arith))))
-atom zero (Inverted a) h = absurd (omega (arith, high a))
-atom (suc o) (Inverted a) h = parenthesis (at_level 5 (inverted (atom o a (omega arith))))
-atom zero (Both q a b) h = absurd (omega (arith, high a))
-atom (suc o) (Both q a b) h =
-    subst (λ ts. Spells (suc o) zero (Sign mark.Open ∷ ts) (Both q a b)) (append_assoc (pieces_of a) (Sign (mark_of q) ∷ pieces_of b) (Sign mark.Close ∷ [])) (parenthesis (between q (atom o a (omega arith)) (atom o b (omega arith))))
+atom : (atoms : Atoms) (o : ℕ) (t : ExprTree) → AtomsFit atoms t → height_of t ≤ suc o → Spells atoms o zero (pieces_of t) t
+atom atoms o (Number n) fit h = number n
+atom atoms o (Named w) fit h = name w
+atom atoms o (Local w) fit h = local w fit
+atom atoms o OwnPriority fit h = own_priority fit
+atom atoms o IsCancelled fit h = is_cancelled fit
+atom atoms zero (Negated a) fit h = absurd (omega (arith, high a))
+atom atoms (suc o) (Negated a) fit h = parenthesis (at_level 5 (negated (atom atoms o a fit (omega arith))))
+atom atoms zero (Inverted a) fit h = absurd (omega (arith, high a))
+atom atoms (suc o) (Inverted a) fit h = parenthesis (at_level 5 (inverted (atom atoms o a fit (omega arith))))
+atom atoms zero (Both q a b) fit h = absurd (omega (arith, high a))
+atom atoms (suc o) (Both q a b) fit h =
+    subst (λ ts. Spells atoms (suc o) zero (Sign mark.Open ∷ ts) (Both q a b)) (append_assoc (pieces_of a) (Sign (mark_of q) ∷ pieces_of b) (Sign mark.Close ∷ [])) (parenthesis (between q (atom atoms o a fit.0 (omega arith)) (atom atoms o b fit.1 (omega arith))))
 
-pub expression : (limit opens : ℕ) (t : ExprTree) → IsLow limit t → limit ≤ suc opens → IsExpression limit opens (pieces_of t) t
-expression limit opens t h le = record { spelled = at_level 5 (atom opens t (omega arith)); low = h }
+-- each atom is allowed where every one is
+every : (t : ExprTree) → AtomsFit Every t
+every (Number n) = tt
+every (Named w) = tt
+every (Local w) = refl
+every OwnPriority = refl
+every IsCancelled = refl
+every (Negated a) = every a
+every (Inverted a) = every a
+every (Both q a b) = (every a, every b)
+
+pub expression_with : (atoms : Atoms) (limit opens : ℕ) (t : ExprTree) → AtomsFit atoms t → IsLow limit t → limit ≤ suc opens → IsExpression atoms limit opens (pieces_of t) t
+expression_with atoms limit opens t fit h le = record { spelled = at_level 5 (atom atoms opens t fit (omega arith)); low = h }
+
+-- an expression in which each atom is allowed
+expression : (limit : ℕ) (t : ExprTree) → IsLow limit t → IsExpression Every limit limit (pieces_of t) t
+expression limit t h = expression_with Every limit limit t (every t) h (omega arith)
 
 -- a list of parts, one after the other
 pub each_of : {A : Type 0} (Is : List Piece → A → Type 0) (f : A → List Piece) (P : A → Type 0) → ((x : A) → P x → Is (f x) x) → (xs : List A) → All P xs → Each Is (flat_map f xs) xs
@@ -61,24 +89,85 @@ each_of Is f P is (x ∷ xs) h = one_more (is x (All-head P x xs h)) (each_of Is
 pub listed_of : {A : Type 0} (Is : List Piece → A → Type 0) (f : A → List Piece) (P : A → Type 0) → ((x : A) → P x → Is (f x) x) → (xs : List A) → All P xs → Listed Is (listed f xs) xs
 listed_of Is f P is [] h = none_listed
 listed_of Is f P is (x ∷ xs) h =
-    some_listed (is x (All-head P x xs h)) (each_of (IsNext Is) (behind_comma f) P (λ y p. record { item = f y; is = is y p; all = refl }) xs (All-tail P x xs h))
+    some_listed (is x (All-head P x xs h)) (each_of (IsNext Is) (after_comma f) P (λ y p. record { item = f y; is = is y p; all = refl }) xs (All-tail P x xs h))
+
+call : (limit : ℕ) (c : CallTree) → CallFits limit c → IsCall limit (pieces_of_call c) c
+call limit c h = record {
+  args = listed pieces_of c.args;
+  has_args = listed_of (IsExpression Every limit (limit - 1)) pieces_of (IsLow limit) (λ t low. expression_with Every limit (limit - 1) t (every t) low (omega arith)) c.args h;
+  all = refl;
+}
+
+awaited_of : (limit : ℕ) (a : AwaitedTree) → AwaitedFits limit a → IsAwaited limit (pieces_of_awaited a) a
+awaited_of limit (Called c) h = a_call (call limit c h)
+awaited_of limit (TaskOf w) h = a_task w
+awaited_of limit (NextOf w) h = a_next w
 
 other_of : (limit : ℕ) (o : Option ExprTree) → IsLowIfAny limit o → IsElse limit (pieces_of_else o) o
 other_of limit None h = without_else
-other_of limit (Some t) h = with_else (expression limit limit t h (omega arith))
+other_of limit (Some t) h = with_else (expression limit t h)
 
 wait : (limit : ℕ) (w : WaitTree) → WaitFits limit w → IsWait limit (pieces_of_wait w) w
 wait limit w h = record {
-  call = pieces_of_call w.call;
+  for = pieces_of_awaited w.for;
   other = pieces_of_else w.other;
-  has_call = record { args = listed pieces_of w.call.args; has_args = listed_of (IsExpression limit (limit - 1)) pieces_of (IsLow limit) (λ t low. expression limit (limit - 1) t low (omega arith)) w.call.args h.args; all = refl };
+  has_for = awaited_of limit w.for h.for;
   has_other = other_of limit w.other h.other;
   all = refl;
 }
 
-value : (limit : ℕ) (v : ValueTree) → ValueFits limit v → IsValue limit (pieces_of_value v) v
-value limit (Computed t) h = computed (expression limit limit t h (omega arith))
-value limit (Awaited w) h = awaited (wait limit w h)
+value : (limit : ℕ) (r : Region) (v : ValueTree) → ValueFits limit r v → IsValue limit r (pieces_of_value v) v
+value limit r (Computed t) h = computed (expression limit t h)
+value limit r (Waited w) h = awaited h.0 (wait limit w h.1)
+
+pub priority : (p : Priority) → IsGiven (pieces_of_priority p) (Some p)
+priority Background = given key.Background Background refl
+priority Low = given key.Low Low refl
+priority Medium = given key.Medium Medium refl
+priority High = given key.High High refl
+
+priority_if : (p : Option Priority) → IsGiven (pieces_of_given p) p
+priority_if None = not_given
+priority_if (Some p) = priority p
+
+make : (limit : ℕ) (m : MakeTree) → MakeFits limit m → IsMake limit (pieces_of_make m) m
+make limit (Spawned c p) h = spawned (call limit c h) (priority_if p)
+make limit (Detached c p) h = detached (call limit c h) (priority p)
+
+unless_if : (u : Bool) → IsUnless (pieces_of_unless u) u
+unless_if false = always
+unless_if true = unless
+
+add : (limit : ℕ) (a : AddTree) → CallFits limit a.call → IsAdd limit (pieces_of_add a) a
+add limit a h = record {
+  unless = pieces_of_unless a.unless;
+  call = pieces_of_call a.call;
+  priority = pieces_of_given a.priority;
+  has_unless = unless_if a.unless;
+  has_call = call limit a.call h;
+  has_priority = priority_if a.priority;
+  all = refl;
+}
+
+action : (limit : ℕ) (r : Region) (a : ActionTree) → ActionFits limit r a → SpellsAction limit r (ended (pieces_of_action a)) a
+action limit r (Let x v) h = defines x (value limit r v h)
+action limit r (LetTask x m) h = defines_task x h.0 (make limit m h.1)
+action limit r (Assign x v) h = assigns x (value limit r v h)
+action limit r (Await w) h = awaits h.0 (wait limit w h.1)
+action limit r (Makes m) h = makes h.0 (make limit m h.1)
+action limit r (Adds a) h = adds h.0 (add limit a h.1)
+action limit r (Cancel x) h = cancels x h
+action limit r (Return t) h = returns h.0 (expression limit t h.1)
+action limit r (Throw t) h = throws (expression limit t h)
+action limit r Check h = checks
+action limit r Yield h = yields h
+
+head : (limit : ℕ) (r : Region) (h : HeadTree) → HeadFits limit r h → SpellsHead limit r (pieces_of_head h) h (region_in r h)
+head limit r (If t) h = tests (expression limit t h)
+head limit r (While t) h = repeats (expression limit t h)
+head limit r (Bind l t) h = binds l h.0 (expression limit t h.1)
+head limit r (Group n) h = groups n h
+head limit r (Assume n) h = assumes n
 
 -- the statements of a block
 abbrev pub list_of : BlockTree → List StmtTree
@@ -94,30 +183,23 @@ list_of-block_tree [] = refl
 list_of-block_tree (s ∷ ss) = ap (λ rest. s ∷ rest) (list_of-block_tree ss)
 
 -- a block, where one may be opened
-block : (limit blocks : ℕ) (ts : List Piece) (ss : List StmtTree) → 0 < blocks → SpellsStmts limit (blocks - 1) ts ss → SpellsBlock limit blocks (braced ts) ss
-block limit zero ts ss room d = absurd (omega arith)
-block limit (suc o) ts ss room d = braces (let e : suc o - 1 ≡ o = omega arith in subst (λ n. SpellsStmts limit n ts ss) e d)
+block : (limit : ℕ) (r : Region) (blocks : ℕ) (ts : List Piece) (ss : List StmtTree) → 0 < blocks → SpellsStmts limit r (blocks - 1) ts ss → SpellsBlock limit r blocks (braced ts) ss
+block limit r zero ts ss room d = absurd (omega arith)
+block limit r (suc o) ts ss room d = braces (let e : suc o - 1 ≡ o = omega arith in subst (λ n. SpellsStmts limit r n ts ss) e d)
 
 mutual
-  statement : (limit blocks : ℕ) (s : StmtTree) → StepFits limit blocks s → SpellsStmt limit blocks (pieces_of_step s) s
-  statement limit blocks (Let x v) h = defines x (value limit v h)
-  statement limit blocks (Assign x v) h = assigns x (value limit v h)
-  statement limit blocks (Await w) h = awaits (wait limit w h)
-  statement limit blocks (If t ss) h =
-      subst (λ rs. SpellsStmt limit blocks (pieces_of_step (If t ss)) (If t rs)) (block_tree-list_of ss) (tests (expression limit limit t h.0 (omega arith)) (block limit blocks (pieces_of_steps ss) (list_of ss) h.1 (statements limit (blocks - 1) ss h.2)))
-  statement limit blocks (IfElse t ss rs) h =
-      subst (λ us. SpellsStmt limit blocks (pieces_of_step (IfElse t ss rs)) (IfElse t us rs)) (block_tree-list_of ss) (subst (λ us. SpellsStmt limit blocks (pieces_of_step (IfElse t ss rs)) (IfElse t (block_tree (list_of ss)) us)) (block_tree-list_of rs) (chooses (expression limit limit t h.0 (omega arith)) (block limit blocks (pieces_of_steps ss) (list_of ss) h.1 (statements limit (blocks - 1) ss h.2)) (block limit blocks (pieces_of_steps rs) (list_of rs) h.1 (statements limit (blocks - 1) rs h.3))))
-  statement limit blocks (While t ss) h =
-      subst (λ rs. SpellsStmt limit blocks (pieces_of_step (While t ss)) (While t rs)) (block_tree-list_of ss) (repeats (expression limit limit t h.0 (omega arith)) (block limit blocks (pieces_of_steps ss) (list_of ss) h.1 (statements limit (blocks - 1) ss h.2)))
-  statement limit blocks (Return t) h = returns (expression limit limit t h (omega arith))
-  statement limit blocks (Throw t) h = throws (expression limit limit t h (omega arith))
-  statement limit blocks Yield h = yields
+  statement : (limit : ℕ) (r : Region) (blocks : ℕ) (s : StmtTree) → StmtFits limit r blocks s → SpellsStmt limit r blocks (pieces_of_stmt s) s
+  statement limit r blocks (Do a) h = does (action limit r a h)
+  statement limit r blocks (Headed d ss) h =
+      subst (λ rs. SpellsStmt limit r blocks (pieces_of_stmt (Headed d ss)) (Headed d rs)) (block_tree-list_of ss) (holds (head limit r d h.0) (block limit (region_in r d) blocks (pieces_of_block ss) (list_of ss) h.1 (statements limit (region_in r d) (blocks - 1) ss h.2)))
+  statement limit r blocks (IfElse t ss rs) h =
+      subst (λ us. SpellsStmt limit r blocks (pieces_of_stmt (IfElse t ss rs)) (IfElse t us rs)) (block_tree-list_of ss) (subst (λ us. SpellsStmt limit r blocks (pieces_of_stmt (IfElse t ss rs)) (IfElse t (block_tree (list_of ss)) us)) (block_tree-list_of rs) (chooses (expression limit t h.0) (block limit r blocks (pieces_of_block ss) (list_of ss) h.1 (statements limit r (blocks - 1) ss h.2)) (block limit r blocks (pieces_of_block rs) (list_of rs) h.1 (statements limit r (blocks - 1) rs h.3))))
 
-  statements : (limit blocks : ℕ) (ss : BlockTree) → StepsFit limit blocks ss → SpellsStmts limit blocks (pieces_of_steps ss) (list_of ss)
-  statements limit blocks nothing h = none
-  statements limit blocks (first_then s ss) h = more (statement limit blocks s h.0) (statements limit blocks ss h.1)
+  statements : (limit : ℕ) (r : Region) (blocks : ℕ) (ss : BlockTree) → BlockFits limit r blocks ss → SpellsStmts limit r blocks (pieces_of_block ss) (list_of ss)
+  statements limit r blocks nothing h = none
+  statements limit r blocks (first_then s ss) h = more (statement limit r blocks s h.0) (statements limit r blocks ss h.1)
 
 -- the block of a method
-pub body : (limit : ℕ) (ss : List StmtTree) → 0 < limit → StepsFit limit (limit - 1) (block_tree ss) → SpellsBlock limit limit (braced (pieces_of_steps (block_tree ss))) ss
+pub body : (limit : ℕ) (ss : List StmtTree) → 0 < limit → BlockFits limit region.Method (limit - 1) (block_tree ss) → SpellsBlock limit region.Method limit (braced (pieces_of_block (block_tree ss))) ss
 body limit ss room h =
-    subst (λ rs. SpellsBlock limit limit (braced (pieces_of_steps (block_tree ss))) rs) (list_of-block_tree ss) (block limit limit (pieces_of_steps (block_tree ss)) (list_of (block_tree ss)) room (statements limit (limit - 1) (block_tree ss) h))
+    subst (λ rs. SpellsBlock limit region.Method limit (braced (pieces_of_block (block_tree ss))) rs) (list_of-block_tree ss) (block limit region.Method limit (pieces_of_block (block_tree ss)) (list_of (block_tree ss)) room (statements limit region.Method (limit - 1) (block_tree ss) h))

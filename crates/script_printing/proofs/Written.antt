@@ -5,9 +5,11 @@ use Rattle.std.proofs.lemmas.List.Concat.{flat_map-append}
 use Rattle.std.proofs.Math.ListN.{get_or}
 use Rattle.std.specs.List.{flat_map}
 use Rattle.script_tokens.specs.Pieces.{Piece}
-use Rattle.script_printing.specs.Pieces.{behind_comma, listed}
+use Rattle.script_grammar.specs.Tree.{DeclTree, Executes, Binds, Acts, Roots}
+use Rattle.script_printing.specs.Script.{ScriptTree}
+use Rattle.script_printing.specs.Pieces.{after_comma, listed, pieces_of_decl}
 use Rattle.script_printing.specs.Words.{text_of}
-use Rattle.script_printing.specs.Printed.{spaced, after}
+use Rattle.script_printing.specs.Printed.{spaced, line_of, printed, after}
 
 pub spaced-append : (ps qs : List Piece) → spaced (ps ++ qs) ≡ spaced ps ++ spaced qs
 spaced-append [] qs = refl
@@ -49,10 +51,36 @@ after_no_list f view [] h bytes = sym (after_none bytes)
 after_no_list f view (x ∷ xs) h bytes = absurd (omega arith)
 
 -- the first of a list, and the others
-pub after_list : {X A : Type 0} (f : A → List Piece) (view : X → A) (xs : List X) (x : X) → 1 ≤ length xs → x ≡ get_or xs 0 x → (start before now : List ℕ) → before ≡ after start (f (view x)) → now ≡ after before (flat_map (behind_comma f) (map view (drop 1 xs))) → now ≡ after start (listed f (map view xs))
+pub after_list : {X A : Type 0} (f : A → List Piece) (view : X → A) (xs : List X) (x : X) → 1 ≤ length xs → x ≡ get_or xs 0 x → (start before now : List ℕ) → before ≡ after start (f (view x)) → now ≡ after before (flat_map (after_comma f) (map view (drop 1 xs))) → now ≡ after start (listed f (map view xs))
 after_list f view [] x h e start before now p q = absurd (omega arith)
 after_list f view (y ∷ xs) x h e start before now p q =
-    q ∙ ap (λ bytes. after bytes (flat_map (behind_comma f) (map view xs))) (p ∙ ap (λ z. after start (f (view z))) e) ∙ after_after start (f (view y)) (flat_map (behind_comma f) (map view xs))
+    q ∙ ap (λ bytes. after bytes (flat_map (after_comma f) (map view xs))) (p ∙ ap (λ z. after start (f (view z))) e) ∙ after_after start (f (view y)) (flat_map (after_comma f) (map view xs))
 
 pub same_list : (ns : List ℤ) → map (λ n. n) ns ≡ ns
 same_list ns = map-id ns
+
+-- the lines of declarations of one kind
+lines_of : {A : Type 0} (decl : A → DeclTree) (xs : List A) → flat_map (λ x. line_of (pieces_of_decl (decl x))) xs ≡ flat_map (λ d. line_of (pieces_of_decl d)) (map decl xs)
+lines_of decl [] = refl
+lines_of decl (x ∷ xs) = ap (λ bs. line_of (pieces_of_decl (decl x)) ++ bs) (lines_of decl xs)
+
+-- the lines of a script, kind by kind
+script_lines : (s : ScriptTree) → printed s ≡ flat_map (λ x. line_of (pieces_of_decl (Executes x))) s.executors ++ (flat_map (λ l. line_of (pieces_of_decl (Binds l))) s.locals ++ (flat_map (λ a. line_of (pieces_of_decl (Acts a))) s.actors ++ flat_map (λ r. line_of (pieces_of_decl (Roots r))) s.roots))
+script_lines s =
+    let line : DeclTree → List ℕ = λ d. line_of (pieces_of_decl d) in
+    let executors = map Executes s.executors in
+    let locals = map Binds s.locals in
+    let actors = map Acts s.actors in
+    let roots = map Roots s.roots in
+    rw (lines_of Executes s.executors, lines_of Binds s.locals, lines_of Acts s.actors, lines_of Roots s.roots)
+    (flat_map-append line executors (locals ++ (actors ++ roots)) ∙ ap (λ bs. flat_map line executors ++ bs) (flat_map-append line locals (actors ++ roots) ∙ ap (λ bs. flat_map line locals ++ bs) (flat_map-append line actors roots)))
+
+-- the kinds of declarations, written one after the other
+pub script_written : (s : ScriptTree) (start first second third last : List ℕ) → start ≡ [] → first ≡ start ++ flat_map (λ x. line_of (pieces_of_decl (Executes x))) s.executors → second ≡ first ++ flat_map (λ l. line_of (pieces_of_decl (Binds l))) s.locals → third ≡ second ++ flat_map (λ a. line_of (pieces_of_decl (Acts a))) s.actors → last ≡ third ++ flat_map (λ r. line_of (pieces_of_decl (Roots r))) s.roots → last ≡ printed s
+script_written s start first second third last e f g h k =
+    let executors = flat_map (λ x. line_of (pieces_of_decl (Executes x))) s.executors in
+    let locals = flat_map (λ l. line_of (pieces_of_decl (Binds l))) s.locals in
+    let actors = flat_map (λ a. line_of (pieces_of_decl (Acts a))) s.actors in
+    let roots = flat_map (λ r. line_of (pieces_of_decl (Roots r))) s.roots in
+    k ∙ ap (λ bs. bs ++ roots) (h ∙ ap (λ bs. bs ++ actors) (g ∙ ap (λ bs. bs ++ locals) (f ∙ ap (λ bs. bs ++ executors) e)))
+    ∙ append_assoc (executors ++ locals) actors roots ∙ append_assoc executors locals (actors ++ roots) ∙ sym (script_lines s)

@@ -1,5 +1,5 @@
 -- The tokens of the printed form of each part of a script, in order.
-use Rattle.std.specs.Prelude.{ℕ, ℤ, pos, negsuc, suc, List, [], ◌∷◌, ◌++◌, map, Option, Some, None}
+use Rattle.std.specs.Prelude.{ℕ, ℤ, pos, negsuc, suc, Bool, true, false, List, [], ◌∷◌, ◌++◌, Option, Some, None}
 use Rattle.std.specs.List.{flat_map}
 use Rattle.swift_types.specs.declared.priority.Priority.{Priority}
 use Rattle.swift_types.specs.declared.priority.Priority.TheVariants.{Background, Low, Medium, High}
@@ -7,13 +7,19 @@ use Rattle.script_tokens.specs.declared.keyword.Keyword.{Keyword}
 use Rattle.script_tokens.specs.declared.keyword.Keyword.TheVariants as key
 use Rattle.script_tokens.specs.declared.mark.Mark.TheVariants as mark
 use Rattle.script_tokens.specs.Pieces.{Piece, Num, Name, Key, Sign}
+use Rattle.script_grammar.specs.declared.declaration.ExecutorKind.{ExecutorKind}
+use Rattle.script_grammar.specs.declared.declaration.ExecutorKind.TheVariants as kind
 use Rattle.script_grammar.specs.Grammar.{mark_of}
-use Rattle.script_grammar.specs.Tree.{ExprTree, Number, Named, Negated, Inverted, Both, CallTree, WaitTree, ValueTree, Computed, Awaited, StmtTree, BlockTree, nothing, first_then, block_tree, Let, Assign, Await, If, IfElse, While, Return, Throw, Yield, FieldTree, MethodTree, ActorTree, RootTree, DeclTree, Acts, Roots}
+use Rattle.script_grammar.specs.Tree.{ExprTree, Number, Named, Local, OwnPriority, IsCancelled, Negated, Inverted, Both, CallTree, AwaitedTree, Called, TaskOf, NextOf, WaitTree, ValueTree, Computed, Waited, MakeTree, Spawned, Detached, AddTree, ActionTree, Let, LetTask, Assign, Await, Makes, Adds, Cancel, Return, Throw, Check, Yield, HeadTree, If, While, Bind, Group, Assume, StmtTree, Do, Headed, IfElse, BlockTree, nothing, first_then, block_tree, ExecutorTree, LocalTree, FieldTree, MethodTree, ActorTree, RootTree, DeclTree, Executes, Binds, Acts, Roots}
+use Rattle.script_printing.specs.Script.{ScriptTree, declarations_of}
 
 -- an expression: each use of an operator stands in a parenthesis, and nothing else does
 abbrev pub pieces_of : ExprTree → List Piece
 pieces_of (Number n) = Num n ∷ []
 pieces_of (Named w) = Name w ∷ []
+pieces_of (Local w) = Sign mark.At ∷ Name w ∷ []
+pieces_of OwnPriority = Key key.Priority ∷ []
+pieces_of IsCancelled = Key key.Cancelled ∷ []
 pieces_of (Negated a) = Sign mark.Open ∷ Sign mark.Minus ∷ (pieces_of a ++ Sign mark.Close ∷ [])
 pieces_of (Inverted a) = Sign mark.Open ∷ Sign mark.Bang ∷ (pieces_of a ++ Sign mark.Close ∷ [])
 pieces_of (Both op a b) = Sign mark.Open ∷ (pieces_of a ++ Sign (mark_of op) ∷ (pieces_of b ++ Sign mark.Close ∷ []))
@@ -27,28 +33,13 @@ abbrev pub pieces_of_name : List ℕ → List Piece
 pieces_of_name w = Name w ∷ []
 
 -- a comma, and a value
-abbrev pub behind_comma : {A : Type 0} → (A → List Piece) → A → List Piece
-behind_comma f x = Sign mark.Comma ∷ f x
+abbrev pub after_comma : {A : Type 0} → (A → List Piece) → A → List Piece
+after_comma f x = Sign mark.Comma ∷ f x
 
 -- values with commas between them
 abbrev pub listed : {A : Type 0} → (A → List Piece) → List A → List Piece
 listed f [] = []
-listed f (x ∷ xs) = f x ++ flat_map (behind_comma f) xs
-
-abbrev pub pieces_of_call : CallTree → List Piece
-pieces_of_call c = Name c.actor ∷ Sign mark.Dot ∷ Name c.method ∷ Sign mark.Open ∷ (listed pieces_of c.args ++ Sign mark.Close ∷ [])
-
--- an `else` that is absent is not printed
-abbrev pub pieces_of_else : Option ExprTree → List Piece
-pieces_of_else None = []
-pieces_of_else (Some t) = Key key.Else ∷ pieces_of t
-
-abbrev pub pieces_of_wait : WaitTree → List Piece
-pieces_of_wait w = pieces_of_call w.call ++ pieces_of_else w.other
-
-abbrev pub pieces_of_value : ValueTree → List Piece
-pieces_of_value (Computed t) = pieces_of t
-pieces_of_value (Awaited w) = Key key.Await ∷ pieces_of_wait w
+listed f (x ∷ xs) = f x ++ flat_map (after_comma f) xs
 
 -- in braces
 abbrev pub braced : List Piece → List Piece
@@ -58,40 +49,29 @@ braced ps = Sign mark.OpenBrace ∷ (ps ++ Sign mark.CloseBrace ∷ [])
 abbrev pub ended : List Piece → List Piece
 ended ps = ps ++ Sign mark.Semicolon ∷ []
 
--- a variable that is set to a value
-abbrev pub assigned : List ℕ → ValueTree → List Piece
-assigned x v = Name x ∷ Sign mark.Assign ∷ ended (pieces_of_value v)
+-- what a name is set to
+abbrev pub assigned : List ℕ → List Piece → List Piece
+assigned w ps = Name w ∷ Sign mark.Assign ∷ ps
 
-abbrev mutual
-  pub pieces_of_step : StmtTree → List Piece
-  pieces_of_step (Let x v) = Key key.Let ∷ assigned x v
-  pieces_of_step (Assign x v) = assigned x v
-  pieces_of_step (Await w) = Key key.Await ∷ ended (pieces_of_wait w)
-  pieces_of_step (If t ss) = Key key.If ∷ (pieces_of t ++ braced (pieces_of_steps ss))
-  pieces_of_step (IfElse t ss rs) = Key key.If ∷ (pieces_of t ++ (braced (pieces_of_steps ss) ++ Key key.Else ∷ braced (pieces_of_steps rs)))
-  pieces_of_step (While t ss) = Key key.While ∷ (pieces_of t ++ braced (pieces_of_steps ss))
-  pieces_of_step (Return t) = Key key.Return ∷ ended (pieces_of t)
-  pieces_of_step (Throw t) = Key key.Throw ∷ ended (pieces_of t)
-  pieces_of_step Yield = Key key.Yield ∷ Sign mark.Semicolon ∷ []
+abbrev pub pieces_of_call : CallTree → List Piece
+pieces_of_call c = Name c.actor ∷ Sign mark.Dot ∷ Name c.method ∷ Sign mark.Open ∷ (listed pieces_of c.args ++ Sign mark.Close ∷ [])
 
-  pub pieces_of_steps : BlockTree → List Piece
-  pieces_of_steps nothing = []
-  pieces_of_steps (first_then s ss) = pieces_of_step s ++ pieces_of_steps ss
+abbrev pub pieces_of_awaited : AwaitedTree → List Piece
+pieces_of_awaited (Called c) = pieces_of_call c
+pieces_of_awaited (TaskOf w) = Key key.Task ∷ Name w ∷ []
+pieces_of_awaited (NextOf w) = Key key.Next ∷ Name w ∷ []
 
-abbrev pub pieces_of_field : FieldTree → List Piece
-pieces_of_field f = Key key.Var ∷ Name f.name ∷ Sign mark.Assign ∷ ended (pieces_of_int f.start)
+-- an `else` that is absent is not printed
+abbrev pub pieces_of_else : Option ExprTree → List Piece
+pieces_of_else None = []
+pieces_of_else (Some t) = Key key.Else ∷ pieces_of t
 
--- an invariant that is absent is not printed
-abbrev pub pieces_of_invariant : Option ExprTree → List Piece
-pieces_of_invariant None = []
-pieces_of_invariant (Some t) = Key key.Invariant ∷ ended (pieces_of t)
+abbrev pub pieces_of_wait : WaitTree → List Piece
+pieces_of_wait w = pieces_of_awaited w.for ++ pieces_of_else w.other
 
-abbrev pub pieces_of_method : MethodTree → List Piece
-pieces_of_method m = Key key.Func ∷ Name m.name ∷ Sign mark.Open ∷ (listed pieces_of_name m.params ++ Sign mark.Close ∷ braced (pieces_of_steps (block_tree m.body)))
-
--- an actor after its keyword
-abbrev pub behind_actor : ActorTree → List Piece
-behind_actor a = Name a.name ∷ braced (flat_map pieces_of_field a.fields ++ (pieces_of_invariant a.invariant ++ flat_map pieces_of_method a.methods))
+abbrev pub pieces_of_value : ValueTree → List Piece
+pieces_of_value (Computed t) = pieces_of t
+pieces_of_value (Waited w) = Key key.Await ∷ pieces_of_wait w
 
 abbrev pub keyword_of_priority : Priority → Keyword
 keyword_of_priority Background = key.Background
@@ -99,36 +79,107 @@ keyword_of_priority Low = key.Low
 keyword_of_priority Medium = key.Medium
 keyword_of_priority High = key.High
 
+abbrev pub pieces_of_priority : Priority → List Piece
+pieces_of_priority p = Key key.At ∷ Key (keyword_of_priority p) ∷ []
+
+-- a priority that is not given is not printed
+abbrev pub pieces_of_given : Option Priority → List Piece
+pieces_of_given None = []
+pieces_of_given (Some p) = pieces_of_priority p
+
+-- The priority of a detached task is always printed.
+abbrev pub pieces_of_make : MakeTree → List Piece
+pieces_of_make (Spawned c p) = Key key.Spawn ∷ (pieces_of_call c ++ pieces_of_given p)
+pieces_of_make (Detached c p) = Key key.Detach ∷ (pieces_of_call c ++ pieces_of_priority p)
+
+abbrev pub pieces_of_unless : Bool → List Piece
+pieces_of_unless false = []
+pieces_of_unless true = Key key.Unless ∷ []
+
+-- a child of a group, after its keyword
+abbrev pub pieces_of_add : AddTree → List Piece
+pieces_of_add a = Name a.group ∷ (pieces_of_unless a.unless ++ (pieces_of_call a.call ++ pieces_of_given a.priority))
+
+-- a statement without a block, up to its semicolon
+abbrev pub pieces_of_action : ActionTree → List Piece
+pieces_of_action (Let x v) = Key key.Let ∷ assigned x (pieces_of_value v)
+pieces_of_action (LetTask x m) = Key key.Let ∷ assigned x (pieces_of_make m)
+pieces_of_action (Assign x v) = assigned x (pieces_of_value v)
+pieces_of_action (Await w) = Key key.Await ∷ pieces_of_wait w
+pieces_of_action (Makes m) = pieces_of_make m
+pieces_of_action (Adds a) = Key key.Add ∷ pieces_of_add a
+pieces_of_action (Cancel x) = Key key.Cancel ∷ Name x ∷ []
+pieces_of_action (Return t) = Key key.Return ∷ pieces_of t
+pieces_of_action (Throw t) = Key key.Throw ∷ pieces_of t
+pieces_of_action Check = Key key.Check ∷ []
+pieces_of_action Yield = Key key.Yield ∷ []
+
+-- what stands in front of a block
+abbrev pub pieces_of_head : HeadTree → List Piece
+pieces_of_head (If t) = Key key.If ∷ pieces_of t
+pieces_of_head (While t) = Key key.While ∷ pieces_of t
+pieces_of_head (Bind l t) = Key key.Bind ∷ assigned l (pieces_of t)
+pieces_of_head (Group g) = Key key.Group ∷ Name g ∷ []
+pieces_of_head (Assume a) = Key key.Assume ∷ Name a ∷ []
+
+abbrev mutual
+  pub pieces_of_stmt : StmtTree → List Piece
+  pieces_of_stmt (Do a) = ended (pieces_of_action a)
+  pieces_of_stmt (Headed h ss) = pieces_of_head h ++ braced (pieces_of_block ss)
+  pieces_of_stmt (IfElse t ss rs) = Key key.If ∷ (pieces_of t ++ (braced (pieces_of_block ss) ++ Key key.Else ∷ braced (pieces_of_block rs)))
+
+  -- the statements of a block, without its braces
+  pub pieces_of_block : BlockTree → List Piece
+  pieces_of_block nothing = []
+  pieces_of_block (first_then s ss) = pieces_of_stmt s ++ pieces_of_block ss
+
+abbrev pub pieces_of_kind : ExecutorKind → List Piece
+pieces_of_kind kind.Priority = Key key.Priority ∷ []
+pieces_of_kind kind.Fifo = Key key.Fifo ∷ []
+pieces_of_kind (kind.Pinned n) = Key key.Pinned ∷ Num n ∷ []
+
+-- an executor after its keyword
+abbrev pub after_executor_keyword : ExecutorTree → List Piece
+after_executor_keyword x = Name x.name ∷ ended (pieces_of_kind x.kind)
+
+-- a task local after its keyword
+abbrev pub after_local_keyword : LocalTree → List Piece
+after_local_keyword l = assigned l.name (ended (pieces_of_int l.default))
+
+abbrev pub pieces_of_field : FieldTree → List Piece
+pieces_of_field f = Key key.Var ∷ assigned f.name (ended (pieces_of_int f.start))
+
+-- an executor that is not named is not printed
+abbrev pub pieces_of_on : Option (List ℕ) → List Piece
+pieces_of_on None = []
+pieces_of_on (Some w) = Key key.On ∷ Name w ∷ []
+
+-- an invariant that is absent is not printed
+abbrev pub pieces_of_invariant : Option ExprTree → List Piece
+pieces_of_invariant None = []
+pieces_of_invariant (Some t) = Key key.Invariant ∷ ended (pieces_of t)
+
+abbrev pub pieces_of_method : MethodTree → List Piece
+pieces_of_method m = Key key.Func ∷ Name m.name ∷ Sign mark.Open ∷ (listed pieces_of_name m.params ++ Sign mark.Close ∷ braced (pieces_of_block (block_tree m.body)))
+
+-- an actor after its keyword
+abbrev pub after_actor_keyword : ActorTree → List Piece
+after_actor_keyword a = Name a.name ∷ (pieces_of_on a.executor ++ braced (flat_map pieces_of_field a.fields ++ (pieces_of_invariant a.invariant ++ flat_map pieces_of_method a.methods)))
+
 -- what a root calls
 abbrev pub pieces_of_start : RootTree → List Piece
 pieces_of_start r = Name r.actor ∷ Sign mark.Dot ∷ Name r.method ∷ Sign mark.Open ∷ (listed pieces_of_int r.args ++ Sign mark.Close ∷ [])
 
 -- A root after its keyword. Its priority is always printed.
-abbrev pub behind_root : RootTree → List Piece
-behind_root r = Name r.name ∷ Sign mark.Assign ∷ (pieces_of_start r ++ Key key.At ∷ Key (keyword_of_priority r.priority) ∷ Sign mark.Semicolon ∷ [])
+abbrev pub after_root_keyword : RootTree → List Piece
+after_root_keyword r = assigned r.name (pieces_of_start r ++ ended (pieces_of_priority r.priority))
 
-abbrev pub pieces_of_actor : ActorTree → List Piece
-pieces_of_actor a = Key key.Actor ∷ behind_actor a
+abbrev pub pieces_of_decl : DeclTree → List Piece
+pieces_of_decl (Executes x) = Key key.Executor ∷ after_executor_keyword x
+pieces_of_decl (Binds l) = Key key.Local ∷ after_local_keyword l
+pieces_of_decl (Acts a) = Key key.Actor ∷ after_actor_keyword a
+pieces_of_decl (Roots r) = Key key.Root ∷ after_root_keyword r
 
-abbrev pub pieces_of_root : RootTree → List Piece
-pieces_of_root r = Key key.Root ∷ behind_root r
-
--- the tokens of a script: its actors, and then its roots
-abbrev pub pieces_of_script : List ActorTree → List RootTree → List Piece
-pieces_of_script actors roots = flat_map pieces_of_actor actors ++ flat_map pieces_of_root roots
-
--- the declarations of a script: its actors, and then its roots
-abbrev pub declarations_of : List ActorTree → List RootTree → List DeclTree
-declarations_of actors roots = map Acts actors ++ map Roots roots
-
--- the actors among declarations, in their order
-abbrev pub actors_in : List DeclTree → List ActorTree
-actors_in [] = []
-actors_in (Acts a ∷ ds) = a ∷ actors_in ds
-actors_in (Roots r ∷ ds) = actors_in ds
-
--- the roots among declarations, in their order
-abbrev pub roots_in : List DeclTree → List RootTree
-roots_in [] = []
-roots_in (Acts a ∷ ds) = roots_in ds
-roots_in (Roots r ∷ ds) = r ∷ roots_in ds
+-- the tokens of a script: those of its declarations
+abbrev pub pieces_of_script : ScriptTree → List Piece
+pieces_of_script s = flat_map pieces_of_decl (declarations_of s)

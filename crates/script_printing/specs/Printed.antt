@@ -1,10 +1,10 @@
--- The printed form of a script's declarations.
+-- The printed form of a script.
 use Rattle.std.specs.Prelude.{ℕ, List, [], ◌∷◌, ◌++◌, codes}
 use Rattle.std.specs.List.{flat_map}
 use Rattle.script_tokens.specs.Pieces.{Piece}
-use Rattle.script_grammar.specs.Tree.{ActorTree, RootTree}
 use Rattle.script_printing.specs.Words.{text_of}
-use Rattle.script_printing.specs.Pieces.{pieces_of_actor, pieces_of_root}
+use Rattle.script_printing.specs.Script.{ScriptTree, declarations_of}
+use Rattle.script_printing.specs.Pieces.{pieces_of_decl}
 
 -- tokens, each after a space
 abbrev pub spaced : List Piece → List ℕ
@@ -16,9 +16,9 @@ abbrev pub line_of : List Piece → List ℕ
 line_of [] = codes "\n"
 line_of (p ∷ ps) = text_of p ++ (spaced ps ++ codes "\n")
 
--- actors and then roots, each on one line
-abbrev pub printed : List ActorTree → List RootTree → List ℕ
-printed actors roots = flat_map (λ a. line_of (pieces_of_actor a)) actors ++ flat_map (λ r. line_of (pieces_of_root r)) roots
+-- the declarations of a script, each on one line
+abbrev pub printed : ScriptTree → List ℕ
+printed s = flat_map (λ d. line_of (pieces_of_decl d)) (declarations_of s)
 
 -- what is written, with tokens put after it
 unfoldable pub after : List ℕ → List Piece → List ℕ

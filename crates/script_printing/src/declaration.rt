@@ -1,18 +1,18 @@
-//! Declarations, each on a line of its own.
+//! Declarations.
 
-ghost use Rattle.std.specs.Prelude.{◌≡◌, ◌++◌, OnOk};
-ghost use Rattle.script_grammar.specs.Tree.{view_field, view_invariant, view_method, view_actor, view_root};
-ghost use Rattle.script_printing.specs.Pieces.{pieces_of_int, pieces_of_field, pieces_of_invariant, pieces_of_method, behind_actor, pieces_of_start, behind_root, pieces_of_actor, pieces_of_root, keyword_of_priority};
-ghost use Rattle.script_printing.specs.Printed.{after, line_of};
+ghost use Rattle.std.specs.Prelude.{◌≡◌, OnOk};
+ghost use Rattle.script_grammar.specs.Tree.{text_if, view_if, view_root};
+ghost use Rattle.script_printing.specs.Pieces.{pieces_of_invariant, pieces_of_on, pieces_of_start};
+ghost use Rattle.script_printing.specs.Printed.{after};
 
-use crate::expression::write_expr;
-use crate::list::{Write, write_all, write_list};
+use crate::call::write_priority;
+use crate::list::{write_all, write_list};
+use crate::part::{Write, write_assigned, write_with_keyword};
 use crate::statement::write_block;
-use crate::token::{write_keyword, write_magnitude, write_name, write_sign};
-use script_grammar::{Actor, Field, Invariant, Method, Root};
+use crate::token::{write_keyword, write_magnitude, write_name, write_number, write_sign};
+use script_grammar::{Actor, Executor, ExecutorKind, Expr, Field, Local, Method, Name, Root};
 use script_tokens::{Keyword, Mark};
 use std::alloc::AllocError;
-use swift_types::Priority;
 
 impl Write for i64 {
     ghost use Rattle.std.specs.Prelude.{ℤ};
@@ -24,20 +24,72 @@ impl Write for i64 {
 
     ghost pieces = { pieces_of_int };
 
+    /// The minus is a token of its own.
+    #[tactic(auto, using(crate::proofs::Written::after_after))]
     fn write(&self, out: &mut Vec<u8>) -> Result<(), AllocError> {
-        write_int(out, *self)
+        if *self < 0 {
+            write_sign(out, Mark::Minus)?;
+        }
+        write_magnitude(out, self.unsigned_abs())
     }
 }
 
-/// A number, whose minus is a token of its own.
-#[tactic(auto, using(crate::proofs::Written::after_after))]
-fn write_int(out: &mut Vec<u8>, number: i64) -> Result<(), AllocError>
-    ensures { OnOk result (out.new.items ≡ after out.old.items (pieces_of_int number)) }
-{
-    if number < 0 {
-        write_sign(out, Mark::Minus)?;
+impl Write for ExecutorKind {
+    ghost use Rattle.script_grammar.specs.declared.declaration.ExecutorKind.{ExecutorKind};
+    ghost use Rattle.script_printing.specs.Pieces.{pieces_of_kind};
+
+    ghost View = { ExecutorKind };
+
+    ghost view = { λ kind. kind };
+
+    ghost pieces = { pieces_of_kind };
+
+    #[tactic(auto, using(crate::proofs::Written::after_after))]
+    fn write(&self, out: &mut Vec<u8>) -> Result<(), AllocError> {
+        match self {
+            ExecutorKind::Priority => write_keyword(out, Keyword::Priority),
+            ExecutorKind::Fifo => write_keyword(out, Keyword::Fifo),
+            ExecutorKind::Pinned(worker) => {
+                write_keyword(out, Keyword::Pinned)?;
+                write_number(out, *worker)
+            }
+        }
     }
-    write_magnitude(out, number.unsigned_abs())
+}
+
+impl Write for Executor {
+    ghost use Rattle.script_grammar.specs.Tree.{ExecutorTree, view_executor};
+    ghost use Rattle.script_printing.specs.Pieces.{after_executor_keyword};
+
+    ghost View = { ExecutorTree };
+
+    ghost view = { view_executor };
+
+    ghost pieces = { after_executor_keyword };
+
+    #[tactic(auto, using(crate::proofs::Written::after_after))]
+    fn write(&self, out: &mut Vec<u8>) -> Result<(), AllocError> {
+        write_name(out, &self.name.text)?;
+        self.kind.write(out)?;
+        write_sign(out, Mark::Semicolon)
+    }
+}
+
+impl Write for Local {
+    ghost use Rattle.script_grammar.specs.Tree.{LocalTree, view_local};
+    ghost use Rattle.script_printing.specs.Pieces.{after_local_keyword};
+
+    ghost View = { LocalTree };
+
+    ghost view = { view_local };
+
+    ghost pieces = { after_local_keyword };
+
+    #[tactic(auto, using(crate::proofs::Written::after_after))]
+    fn write(&self, out: &mut Vec<u8>) -> Result<(), AllocError> {
+        write_assigned(out, &self.name, &self.default)?;
+        write_sign(out, Mark::Semicolon)
+    }
 }
 
 impl Write for Field {
@@ -53,22 +105,19 @@ impl Write for Field {
     #[tactic(auto, using(crate::proofs::Written::after_after))]
     fn write(&self, out: &mut Vec<u8>) -> Result<(), AllocError> {
         write_keyword(out, Keyword::Var)?;
-        write_name(out, &self.name.text)?;
-        write_sign(out, Mark::Assign)?;
-        write_int(out, self.start)?;
+        write_assigned(out, &self.name, &self.start)?;
         write_sign(out, Mark::Semicolon)
     }
 }
 
 /// An invariant, or nothing.
 #[tactic(auto, using(crate::proofs::Written::after_after, crate::proofs::Written::after_none))]
-fn write_invariant(out: &mut Vec<u8>, invariant: &Option<Invariant>) -> Result<(), AllocError>
-    ensures { OnOk result (out.new.items ≡ after out.old.items (pieces_of_invariant (view_invariant invariant.now))) }
+fn write_invariant(out: &mut Vec<u8>, invariant: &Option<Expr>) -> Result<(), AllocError>
+    ensures { OnOk result (out.new.items ≡ after out.old.items (pieces_of_invariant (view_if invariant.now))) }
 {
     match invariant {
-        Some(invariant) => {
-            write_keyword(out, Keyword::Invariant)?;
-            write_expr(out, &invariant.test)?;
+        Some(test) => {
+            write_with_keyword(out, Keyword::Invariant, test)?;
             write_sign(out, Mark::Semicolon)
         }
         None => Ok(()),
@@ -96,38 +145,36 @@ impl Write for Method {
     }
 }
 
-/// An actor after its keyword.
-#[tactic(auto, using(crate::proofs::Written::after_after))]
-fn write_actor(out: &mut Vec<u8>, actor: &Actor) -> Result<(), AllocError>
-    ensures { OnOk result (out.new.items ≡ after out.old.items (behind_actor (view_actor actor.now))) }
+/// The executor that is named, or nothing.
+#[tactic(auto, using(crate::proofs::Written::after_none))]
+fn write_on(out: &mut Vec<u8>, executor: &Option<Name>) -> Result<(), AllocError>
+    ensures { OnOk result (out.new.items ≡ after out.old.items (pieces_of_on (text_if executor.now))) }
 {
-    write_name(out, &actor.name.text)?;
-    write_sign(out, Mark::OpenBrace)?;
-    write_all(out, &actor.fields)?;
-    write_invariant(out, &actor.invariant)?;
-    write_all(out, &actor.methods)?;
-    write_sign(out, Mark::CloseBrace)
+    match executor {
+        Some(name) => write_with_keyword(out, Keyword::On, name),
+        None => Ok(()),
+    }
 }
 
-/// The line of an actor.
-#[tactic(auto, unfolding(crate::specs::Printed::after))]
-pub(crate) fn actor_line(out: &mut Vec<u8>, actor: &Actor) -> Result<(), AllocError>
-    ensures { OnOk result (out.new.items ≡ out.old.items ++ line_of (pieces_of_actor (view_actor actor.now))) }
-{
-    out.extend_from_slice(b"actor")?;
-    write_actor(out, actor)?;
-    out.push(b'\n')?;
-    Ok(())
-}
+impl Write for Actor {
+    ghost use Rattle.script_grammar.specs.Tree.{ActorTree, view_actor};
+    ghost use Rattle.script_printing.specs.Pieces.{after_actor_keyword};
 
-fn keyword(priority: Priority) -> Keyword
-    ensures { result ≡ keyword_of_priority priority }
-{
-    match priority {
-        Priority::Background => Keyword::Background,
-        Priority::Low => Keyword::Low,
-        Priority::Medium => Keyword::Medium,
-        Priority::High => Keyword::High,
+    ghost View = { ActorTree };
+
+    ghost view = { view_actor };
+
+    ghost pieces = { after_actor_keyword };
+
+    #[tactic(auto, using(crate::proofs::Written::after_after))]
+    fn write(&self, out: &mut Vec<u8>) -> Result<(), AllocError> {
+        write_name(out, &self.name.text)?;
+        write_on(out, &self.executor)?;
+        write_sign(out, Mark::OpenBrace)?;
+        write_all(out, &self.fields)?;
+        write_invariant(out, &self.invariant)?;
+        write_all(out, &self.methods)?;
+        write_sign(out, Mark::CloseBrace)
     }
 }
 
@@ -144,26 +191,22 @@ fn write_start(out: &mut Vec<u8>, root: &Root) -> Result<(), AllocError>
     write_sign(out, Mark::Close)
 }
 
-/// A root after its keyword.
-#[tactic(auto, using(crate::proofs::Written::after_after))]
-fn write_root(out: &mut Vec<u8>, root: &Root) -> Result<(), AllocError>
-    ensures { OnOk result (out.new.items ≡ after out.old.items (behind_root (view_root root.now))) }
-{
-    write_name(out, &root.name.text)?;
-    write_sign(out, Mark::Assign)?;
-    write_start(out, root)?;
-    write_keyword(out, Keyword::At)?;
-    write_keyword(out, keyword(root.priority))?;
-    write_sign(out, Mark::Semicolon)
-}
+impl Write for Root {
+    ghost use Rattle.script_grammar.specs.Tree.{RootTree, view_root};
+    ghost use Rattle.script_printing.specs.Pieces.{after_root_keyword};
 
-/// The line of a root.
-#[tactic(auto, unfolding(crate::specs::Printed::after))]
-pub(crate) fn root_line(out: &mut Vec<u8>, root: &Root) -> Result<(), AllocError>
-    ensures { OnOk result (out.new.items ≡ out.old.items ++ line_of (pieces_of_root (view_root root.now))) }
-{
-    out.extend_from_slice(b"root")?;
-    write_root(out, root)?;
-    out.push(b'\n')?;
-    Ok(())
+    ghost View = { RootTree };
+
+    ghost view = { view_root };
+
+    ghost pieces = { after_root_keyword };
+
+    #[tactic(auto, using(crate::proofs::Written::after_after))]
+    fn write(&self, out: &mut Vec<u8>) -> Result<(), AllocError> {
+        write_name(out, &self.name.text)?;
+        write_sign(out, Mark::Assign)?;
+        write_start(out, self)?;
+        write_priority(out, self.priority)?;
+        write_sign(out, Mark::Semicolon)
+    }
 }

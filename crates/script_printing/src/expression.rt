@@ -6,7 +6,7 @@ ghost use Rattle.script_grammar.specs.Tree.{view, view_if};
 ghost use Rattle.script_printing.specs.Pieces.{pieces_of, pieces_of_else};
 ghost use Rattle.script_printing.specs.Printed.{after};
 
-use crate::list::Write;
+use crate::part::{Write, write_with_keyword};
 use crate::token::{write_keyword, write_name, write_number, write_sign};
 use script_grammar::{Expr, Name};
 use script_tokens::{Keyword, Mark};
@@ -69,6 +69,12 @@ pub(crate) fn write_expr(out: &mut Vec<u8>, expr: &Expr) -> Result<(), AllocErro
     match expr {
         Expr::Number(number) => write_number(out, *number),
         Expr::Name(name) => write_name(out, &name.text),
+        Expr::Local(name) => {
+            write_sign(out, Mark::At)?;
+            write_name(out, &name.text)
+        }
+        Expr::Priority => write_keyword(out, Keyword::Priority),
+        Expr::Cancelled => write_keyword(out, Keyword::Cancelled),
         Expr::Negate(operand) => {
             write_sign(out, Mark::Open)?;
             write_sign(out, Mark::Minus)?;
@@ -92,15 +98,12 @@ pub(crate) fn write_expr(out: &mut Vec<u8>, expr: &Expr) -> Result<(), AllocErro
 }
 
 /// An `else` with its value, or nothing.
-#[tactic(auto, using(crate::proofs::Written::after_after, crate::proofs::Written::after_none))]
+#[tactic(auto, using(crate::proofs::Written::after_none))]
 pub(crate) fn write_else(out: &mut Vec<u8>, other: &Option<Expr>) -> Result<(), AllocError>
     ensures { OnOk result (out.new.items ≡ after out.old.items (pieces_of_else (view_if other.now))) }
 {
     match other {
-        Some(value) => {
-            write_keyword(out, Keyword::Else)?;
-            write_expr(out, value)
-        }
+        Some(value) => write_with_keyword(out, Keyword::Else, value),
         None => Ok(()),
     }
 }

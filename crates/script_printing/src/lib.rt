@@ -1,14 +1,18 @@
 //! The printed form of a script's declarations.
 #![tactic(auto)]
 
-// Declarations, each on a line of its own.
+// Calls, and what is waited for and made by them.
+mod call;
+// Declarations.
 mod declaration;
 // Names and expressions.
 mod expression;
 // What holds of the definitions.
 mod laws;
-// What is printed, and lists of it.
+// Lists of what is printed.
 mod list;
+// What is printed.
+mod part;
 // Whole scripts.
 mod script;
 // Statements and blocks.
@@ -19,7 +23,7 @@ mod token;
 mod word;
 
 pub use laws::{
-    printed_is_ascii, printed_is_text, printed_lexes, printed_reads_back, printed_spells,
-    printed_spells_again,
+    one_printed_form, printed_is_ascii, printed_is_text, printed_lexes, printed_reads_back,
+    printed_spells, printed_spells_again,
 };
 pub use script::print;

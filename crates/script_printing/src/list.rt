@@ -1,29 +1,15 @@
-//! What is printed, and lists of it.
+//! Lists of what is printed.
 
-ghost use Rattle.std.specs.Prelude.{◌≡◌, OnOk, List, map};
+ghost use Rattle.std.specs.Prelude.{◌≡◌, ◌++◌, ◌∷◌, OnOk, map};
 ghost use Rattle.std.specs.List.{flat_map};
-ghost use Rattle.script_tokens.specs.Pieces.{Piece};
-ghost use Rattle.script_printing.specs.Pieces.{behind_comma, listed};
-ghost use Rattle.script_printing.specs.Printed.{after};
+ghost use Rattle.script_tokens.specs.Pieces.{Key};
+ghost use Rattle.script_printing.specs.Pieces.{after_comma, listed};
+ghost use Rattle.script_printing.specs.Printed.{after, line_of};
 
+use crate::part::{Write, write_line};
 use crate::token::write_sign;
-use script_tokens::Mark;
+use script_tokens::{Keyword, Mark};
 use std::alloc::AllocError;
-
-/// What is printed as tokens.
-pub(crate) trait Write {
-    /// What it says.
-    ghost View: { Type 0 };
-
-    ghost view: { Self → View };
-
-    /// The tokens that say it.
-    ghost pieces: { View → List Piece };
-
-    /// Puts its tokens after what is written, each after a space.
-    fn write(&self, out: &mut Vec<u8>) -> Result<(), AllocError>
-        ensures { OnOk result (out.new.items ≡ after out.old.items (pieces (view self.now))) };
-}
 
 /// All of them, one after the other.
 #[tactic(auto, using(crate::proofs::Written::after_after, crate::proofs::Written::after_none))]
@@ -37,8 +23,8 @@ pub(crate) fn write_all<T: Write>(out: &mut Vec<u8>, items: &[T]) -> Result<(), 
 }
 
 #[tactic(auto, using(crate::proofs::Written::after_after, crate::proofs::Written::after_none))]
-fn write_behind_comma<T: Write>(out: &mut Vec<u8>, item: &T) -> Result<(), AllocError>
-    ensures { OnOk result (out.new.items ≡ after out.old.items (behind_comma T.pieces (T.view item.now))) }
+fn write_after_comma<T: Write>(out: &mut Vec<u8>, item: &T) -> Result<(), AllocError>
+    ensures { OnOk result (out.new.items ≡ after out.old.items (after_comma T.pieces (T.view item.now))) }
 {
     write_sign(out, Mark::Comma)?;
     item.write(out)
@@ -47,10 +33,10 @@ fn write_behind_comma<T: Write>(out: &mut Vec<u8>, item: &T) -> Result<(), Alloc
 /// Each after a comma.
 #[tactic(auto, using(crate::proofs::Written::after_after, crate::proofs::Written::after_none))]
 fn write_more<T: Write>(out: &mut Vec<u8>, items: &[T]) -> Result<(), AllocError>
-    ensures { OnOk result (out.new.items ≡ after out.old.items (flat_map (behind_comma T.pieces) (map T.view items.now))) }
+    ensures { OnOk result (out.new.items ≡ after out.old.items (flat_map (after_comma T.pieces) (map T.view items.now))) }
 {
     for item in items {
-        write_behind_comma(out, item)?;
+        write_after_comma(out, item)?;
     }
     Ok(())
 }
@@ -67,4 +53,18 @@ pub(crate) fn write_list<T: Write>(out: &mut Vec<u8>, items: &[T]) -> Result<(),
             Ok(())
         }
     }
+}
+
+/// Each on a line of its own, after a keyword.
+pub(crate) fn write_lines<T: Write>(
+    out: &mut Vec<u8>,
+    keyword: Keyword,
+    items: &[T],
+) -> Result<(), AllocError>
+    ensures { OnOk result (out.new.items ≡ out.old.items ++ flat_map (λ x. line_of (Key keyword ∷ T.pieces x)) (map T.view items.now)) }
+{
+    for item in items {
+        write_line(out, keyword, item)?;
+    }
+    Ok(())
 }

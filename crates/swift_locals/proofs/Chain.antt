@@ -1,6 +1,6 @@
 -- Entries and the table of the newest ones, after a push and after a pop.
 use Rattle.std.proofs.Common.{◌≡◌, ℕ, ℤ, ◌+◌, ◌<◌, List, Option, None, Some, [], ◌∷◌, ◌++◌, length, map, drop, ◌-◌, reverse, set, get_or, eqb, refl, ap, sym, subst, ◌∙◌, inl, inr, arith}
-use Rattle.std.proofs.lemmas.List.{length-drop, drop-drop, reverse-append, reverse-reverse, length-reverse, get_or-set_same, get_or-set_other, get_or_past, get_or_append_left, get_or_push}
+use Rattle.std.proofs.lemmas.List.{length-drop, drop-drop, reverse-append, reverse-reverse, length-reverse, get_or-set_same, get_or-set_other, get_or_past, get_or_append_left, get_or_push, map-append, get_or-map}
 use Rattle.std.proofs.lemmas.Bool.{cases_eq, cases_lt, cond-true, cond-false, eq-eqb, ne_eqb}
 use Rattle.std.proofs.lemmas.Option.{same_Some, none-some}
 use Rattle.swift_locals.specs.Bindings.{value_of}
@@ -117,3 +117,16 @@ drop_one_more xs ys zs left one h =
     let a = ap length left in let b = length-drop (length xs - length ys) xs in let d = ap length one in let e = length-drop 1 ys in
     let n : length xs - length ys + 1 ≡ length xs - length zs = omega (arith, a, b, d, e) in
     one ∙ ap (λ (s : List (ℕ × ℤ)). drop 1 s) left ∙ drop-drop 1 (length xs - length ys) xs ∙ ap (λ (i : ℕ). drop i xs) n
+
+-- the pairs, the outermost first
+map_reverse : {X Y : Type 0} (f : X → Y) (xs : List X) → map f (reverse xs) ≡ reverse (map f xs)
+map_reverse f [] = refl
+map_reverse f (x ∷ xs) =
+    ap (map f) (reverse-append (x ∷ []) xs) ∙ map-append f (reverse xs) (x ∷ []) ∙ ap (λ s. s ++ f x ∷ []) (map_reverse f xs) ∙ sym (reverse-append (f x ∷ []) (map f xs))
+
+pub pairs_outermost_first : (es : List Entry) → reverse (pairs_of es) ≡ map pair_of es
+pairs_outermost_first es = ap reverse (map_reverse pair_of es) ∙ reverse-reverse (map pair_of es)
+
+-- the pair at a place, counted from the outermost
+pub pair_at : (es : List Entry) (k : ℕ) (e : Entry) (d : ℕ × ℤ) → k < length es → e ≡ get_or es k e → get_or (reverse (pairs_of es)) k d ≡ pair_of e
+pair_at es k e d h at = ap (λ (s : List (ℕ × ℤ)). get_or s k d) (pairs_outermost_first es) ∙ get_or-map pair_of es k e d h ∙ ap pair_of (sym at)

@@ -1,6 +1,6 @@
 //! The bindings that stand in a task, innermost first (SE-0311).
 
-ghost use Rattle.std.specs.Prelude.{◌≡◌, ℕ, ◌<◌, ◌≤◌, ◌-◌, ◌^◌, [], ◌∷◌, None, length, drop, slice_index_or, vec_len, OnOk, OnErr, IfOk};
+ghost use Rattle.std.specs.Prelude.{◌≡◌, ℕ, ℤ, ◌<◌, ◌≤◌, ◌-◌, ◌^◌, [], ◌∷◌, None, length, drop, reverse, slice_index_or, vec_len, OnOk, OnErr, IfOk};
 
 use std::alloc::{AllocError, Global};
 use std::marker::Model;
@@ -120,6 +120,15 @@ impl Bindings {
     {
         let place = place_in(&self.newest, local.0 as usize)?;
         Some(self.entries[place].value)
+    }
+
+    /// The binding at a place, counted from the outermost, which is 0: its local and its value. Constant time.
+    pub fn entry(&self, place: usize) -> (LocalId, i64)
+        requires { place < length self.now }
+        ensures { (d : ℕ × ℤ) → slice_index_or (reverse self.now) place d ≡ (result.0.0, result.1) }
+    {
+        let entry = &self.entries[place];
+        (entry.local, entry.value)
     }
 
     /// Keeps the outermost bindings, as many as are asked for, and drops the others. Takes time by what is dropped.

@@ -11,8 +11,8 @@ use Rattle.std.specs.declared.alloc.Global.{Global}
 use Rattle.swift_types.specs.declared.outcome.Ending.{Ending}
 use Rattle.swift_types.specs.declared.id.TaskId.{TaskId}
 use Rattle.swift_script.specs.Scripts.{ScriptView}
-use Rattle.swift_turn.specs.declared.exit.Step.{Step}
-use Rattle.swift_turn.specs.declared.exit.Step.TheVariants.{Run, Ended, Await}
+use Rattle.swift_turn.specs.declared.step.Step.{Step}
+use Rattle.swift_turn.specs.declared.step.Step.TheVariants.{Run, Ended, Await}
 use Rattle.swift_report.specs.declared.report.Record.{Record}
 use Rattle.swift_report.specs.declared.report.Origin.{Origin}
 use Rattle.swift_report.specs.Ended.{AreEnded, Ends, IsEndedBy}

@@ -3,9 +3,10 @@
 use Rattle.std.specs.declared.vec.Vec.{Vec}
 use Rattle.std.specs.declared.alloc.Global.{Global}
 use Rattle.swift_report.specs.declared.report.Record.{Record}
-use Rattle.std.specs.Prelude.{◌≡◌, ℕ, ℤ, ◌+◌, ◌≤◌, All, List, [], ◌∷◌, ◌++◌, map, Option, Some, IfSome, IsSomeAnd, if◌then◌else◌, nat_le}
+use Rattle.std.specs.Prelude.{◌≡◌, ℕ, ℤ, ◌+◌, ◌≤◌, All, List, [], ◌∷◌, ◌++◌, map, Option, Some, IfSome, if◌then◌else◌, nat_le}
 use Rattle.std.specs.List.{AllByRecursion}
-use Rattle.swift_script.specs.Scripts.{ScriptView, actor_start, method_actor}
+use Rattle.script_code.specs.Seen.{rows_of}
+use Rattle.swift_script.specs.Scripts.{ScriptView, actor_executor, executor_start, method_actor}
 use Rattle.swift_types.specs.declared.limits.TheConstants.{TURNS}
 use Rattle.swift_types.specs.declared.outcome.Fault.TheVariants.{Turns}
 use Rattle.swift_types.specs.declared.outcome.Resume.{Resume}
@@ -13,10 +14,10 @@ use Rattle.swift_types.specs.declared.outcome.Resume.TheVariants.{Fault as Raise
 use Rattle.swift_types.specs.declared.outcome.Ending.{Ending}
 use Rattle.swift_report.specs.declared.report.Origin.{Origin}
 use Rattle.swift_report.specs.declared.report.Origin.TheVariants.{Root}
-use Rattle.swift_turn.specs.Body.{BodyView, idle}
-use Rattle.swift_turn.specs.declared.exit.Exit.{Exit}
-use Rattle.swift_turn.specs.declared.exit.Step.{Step}
-use Rattle.swift_turn.specs.declared.exit.Step.TheVariants.{Run, Ended}
+use Rattle.swift_interpreter.specs.declared.exit.Exit.{Exit}
+use Rattle.swift_turn.specs.Body.{BodyView, HasFirst, idle}
+use Rattle.swift_turn.specs.declared.step.Step.{Step}
+use Rattle.swift_turn.specs.declared.step.Step.TheVariants.{Run, Ended}
 use Rattle.swift_report.specs.Lawful.{IsLawful, replay}
 use Rattle.swift_report.specs.Ended.{IsEndedBy, exit_of}
 use Rattle.swift_report.specs.Numbered.{HaveBefore}
@@ -26,26 +27,26 @@ use Rattle.swift_one_thread.specs.declared.executor.Job.{Job}
 use Rattle.swift_one_thread.specs.declared.turn.Turned.{Turned}
 use Rattle.swift_one_thread.specs.Envs.{HasItsEnv, RanWithItsEnv}
 
--- a body whose next turn is one of this actor's
-pub record CanRun (p : ScriptView) (actor : ℕ) (b : BodyView) : Type 0 where
+-- a body whose next turn is one of an actor of this executor
+pub record CanRun (p : ScriptView) (executor : ℕ) (b : BodyView) : Type 0 where
   pub script : b.script ≡ p
-  pub rests : b.here.phase ≡ idle
-  pub top : IsSomeAnd b.here.top (λ f. method_actor p f.method ≡ actor)
+  pub rests : b.phase ≡ idle
+  pub top : HasFirst b.task.frames (λ f. actor_executor p (method_actor p f.method) ≡ executor)
 
--- a turn of this actor that may be run: it is given what belongs to its task, and begins with the fault `turns` where
+-- a turn of this executor that may be run: it is given what belongs to its task, and begins with the fault `turns` where
 -- its task has had its turns
-pub record IsJobOf (p : ScriptView) (actor : ℕ) (job : Job) : Type 0 where
-  pub runs : CanRun p actor job.body.value
+pub record IsJobOf (p : ScriptView) (executor : ℕ) (job : Job) : Type 0 where
+  pub runs : CanRun p executor job.body.value
   pub env_given : HasItsEnv p job.task.0 job.env
   pub late : TURNS ≤ job.number → job.resume ≡ Raise Turns
 
-pub record IsExecutor (p : ScriptView) (actor : ℕ) (executor : Executor) : Type 0 where
-  pub lawful : IsLawful p actor (actor_start p actor) executor.journal.items
-  pub replayed : executor.fields.items ≡ replay p (actor_start p actor) executor.journal.items
+pub record IsExecutor (p : ScriptView) (e : ℕ) (executor : Executor) : Type 0 where
+  pub lawful : IsLawful p e (executor_start p e) executor.journal.items
+  pub replayed : rows_of executor.fields.items ≡ replay p (executor_start p e) executor.journal.items
   pub env_given : All (RanWithItsEnv p) executor.journal.items
-  pub jobs : AllByRecursion (IsJobOf p actor) executor.jobs.items
+  pub jobs : AllByRecursion (IsJobOf p e) executor.jobs.items
 
--- the executors of the actors from a number on
+-- the executors from a number on
 abbrev pub AreExecutors : ScriptView → ℕ → List Executor → Type 0
 AreExecutors p k [] = Unit {0}
 AreExecutors p k (executor ∷ executors) = IsExecutor p k executor × AreExecutors p (k + 1) executors
@@ -53,7 +54,7 @@ AreExecutors p k (executor ∷ executors) = IsExecutor p k executor × AreExecut
 abbrev pub journal_of : Executor → Vec Record Global
 journal_of executor = executor.journal
 
-abbrev pub fields_of : Executor → Vec ℤ Global
+abbrev pub fields_of : Executor → Vec (Vec ℤ Global) Global
 fields_of executor = executor.fields
 
 -- of the tasks from a number on, each that has ended did so by a turn in one of these journals
@@ -71,13 +72,13 @@ pub record AreKept (p : ScriptView) (all : List Executor) (ends : List (Option E
   pub endings : AreEndings (map journal_of all) 0 ends
   pub numbered : AllByRecursion (IsNumbered (map journal_of all)) all
 
--- the executors of all actors, with the endings of the tasks whose turns they ran
+-- all executors, with the endings of the tasks whose turns they ran
 abbrev pub IsPool : ScriptView → Pool → Type 0
 IsPool p pool = AreKept p pool.executors.items pool.endings.items
 
--- where a task goes on, its body may run at the actor that it goes to
+-- where a task goes on, its body may run at the executor of the actor that it goes to
 abbrev pub GoesTo : ScriptView → BodyView → Step → Type 0
-GoesTo p b (Run actor resume) = CanRun p actor.0 b
+GoesTo p b (Run actor resume) = CanRun p (actor_executor p actor.0) b
 GoesTo p b _ = Unit {0}
 
 -- a task after its turn

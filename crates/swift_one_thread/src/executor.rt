@@ -1,11 +1,12 @@
 //! The jobs, the fields and the journal of one executor.
 
-ghost use Rattle.std.specs.Prelude.{◌≡◌, [], IfOk};
+ghost use Rattle.std.specs.Prelude.{◌≡◌, []};
 
-use std::alloc::{AllocError, Global};
+use script_code::Env;
+use std::alloc::Global;
 use std::collections::VecDeque;
 use swift_report::Record;
-use swift_turn::{Body, Env};
+use swift_turn::Body;
 use swift_types::{Resume, TaskId};
 
 /// A turn that is still to be run. It can be dropped, unlike the jobs of the executors that are to come.
@@ -21,25 +22,25 @@ pub struct Job {
     pub body: Box<Body>,
 }
 
-/// What an actor's own executor has: its jobs, the oldest first, its actor's fields, and its journal.
+/// What an executor has: its jobs, the oldest first, the fields of its actors, and its journal.
 #[derive(Drop)]
 pub struct Executor {
     pub jobs: VecDeque<Job>,
-    pub fields: Vec<i64>,
+    pub fields: Vec<Vec<i64>>,
     pub journal: Vec<Record>,
 }
 
 impl Executor {
-    // An executor with no job whose fields are these.
-    pub fn new(alloc: Global, start: &[i64]) -> Result<Executor, AllocError>
-        ensures jobs { IfOk result (λ executor. executor.jobs.items ≡ []) }
-        ensures fields { IfOk result (λ executor. executor.fields.items ≡ start.now) }
-        ensures journal { IfOk result (λ executor. executor.journal.items ≡ []) }
+    // An executor with no job whose actors' fields are these.
+    pub fn new(alloc: Global, fields: Vec<Vec<i64>>) -> Executor
+        ensures jobs { result.jobs.items ≡ [] }
+        ensures fields { result.fields ≡ fields }
+        ensures journal { result.journal.items ≡ [] }
     {
-        Ok(Executor {
+        Executor {
             jobs: VecDeque::new(alloc),
-            fields: start.to_vec(alloc)?,
+            fields,
             journal: Vec::new(alloc),
-        })
+        }
     }
 }

@@ -1,14 +1,14 @@
 //! What is given of the moments of a run.
 
-use swift_types::{ActorId, TaskId};
+use swift_types::{ExecId, TaskId};
 
-/// A moment of a run, at the executor of an actor (our own). More moments come with workers of their own.
+/// A moment of a run, at an executor (our own). More moments come with workers of their own.
 #[derive(Clone, Copy, Debug, PartialEq, Eq)]
 pub enum Moment {
     /// The executor's token was taken: its oldest job is run next.
-    Took(ActorId),
+    Took(ExecId),
     /// The turn of a task was journalled. What follows from it is not enqueued yet.
-    Turned(ActorId, TaskId),
+    Turned(ExecId, TaskId),
 }
 
 /// Is given of each moment as it comes (our own). It can look on, and changes nothing of the run.

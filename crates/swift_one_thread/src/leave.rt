@@ -46,7 +46,7 @@ pub fn report_of(alloc: Global, pool: Pool) -> Result<Report, Halt>
 fn journals_and_fields(
     alloc: Global,
     executors: Vec<Executor>,
-) -> Result<(Vec<Vec<Record>>, Vec<Vec<i64>>), Halt>
+) -> Result<(Vec<Vec<Record>>, Vec<Vec<Vec<i64>>>), Halt>
     ensures journals { IfOk result (λ r. r.0.items ≡ map journal_of executors.items) }
     ensures fields { IfOk result (λ r. r.1.items ≡ map fields_of executors.items) }
 {

@@ -19,6 +19,9 @@ mod pool;
 // What a run leaves.
 mod leave;
 
+// What this crate can run.
+mod playable;
+
 // Whole runs.
 mod whole;
 

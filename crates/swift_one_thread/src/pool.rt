@@ -2,7 +2,7 @@
 
 ghost use Rattle.std.specs.Prelude.{◌≡◌, ◌<◌, ◌-◌, ◌+◌, min, [], length, map, IfOk, OnOk};
 ghost use Rattle.std.specs.Arc.{arc_value};
-ghost use Rattle.swift_script.specs.Scripts.{ScriptView, actor_count, root_count};
+ghost use Rattle.swift_script.specs.Scripts.{ScriptView, actor_executor, executor_count, root_count};
 ghost use Rattle.swift_report.specs.Numbered.{HaveBefore};
 ghost use Rattle.swift_one_thread.specs.Executors.{EndsBy, IsPool, IsJobOf, IsTurned, journal_of, resume_at};
 
@@ -15,33 +15,35 @@ use script_code::Env;
 use std::alloc::Global;
 use std::collections::VecDeque;
 use std::sync::Arc;
+use swift_locals::Bindings;
 use swift_script::Script;
 use swift_turn::{Body, Step};
 use swift_types::limits::{MADE, TASKS, TURNS};
-use swift_types::{ActorId, Ending, Fault, Resume, RootId, TaskId};
+use swift_types::{Ending, ExecId, Fault, Resume, RootId, TaskId};
 
-// The executor of each actor, the token of each that has jobs, the oldest first, and how each task has ended.
+// All executors, the token of each that has jobs, the oldest first, and how each task has ended.
 #[derive(Drop)]
 pub struct Pool {
     pub executors: Vec<Executor>,
-    pub tokens: VecDeque<ActorId>,
+    pub tokens: VecDeque<ExecId>,
     pub endings: Vec<Option<Ending>>,
 }
 
-// A pool with an executor for each actor, and no job.
+// A pool with all executors of a script, and no job.
 pub fn empty_pool(alloc: Global, script: &Script) -> Result<Pool, Halt>
     ensures pool { IfOk result (λ b. IsPool script.now b) }
-    ensures actors { IfOk result (λ b. length b.executors.items ≡ actor_count script.now) }
+    ensures actors { IfOk result (λ b. length b.executors.items ≡ executor_count script.now) }
     ensures tasks { IfOk result (λ b. b.endings.items ≡ []) }
 {
     let mut executors = Vec::new(alloc);
-    let mut actor = 0;
-    for _ in 0..script.actor_count() {
-        executors.push(Executor::new(alloc, script.start(ActorId(actor)))?)?;
-        let Some(next) = actor.checked_add(1) else {
+    let mut place = 0;
+    for _ in 0..script.executor_count() {
+        let fields = script.executor_start(alloc, ExecId(place))?;
+        executors.push(Executor::new(alloc, fields))?;
+        let Some(next) = place.checked_add(1) else {
             return Err(Halt::Unfinished);
         };
-        actor = next;
+        place = next;
     }
     Ok(Pool {
         executors,
@@ -50,13 +52,13 @@ pub fn empty_pool(alloc: Global, script: &Script) -> Result<Pool, Halt>
     })
 }
 
-// Puts a job after the others of this actor's executor, whose token goes after the others where it was idle.
-fn enqueue(pool: &mut Pool, actor: ActorId, job: Job) -> Result<(), Halt>
-    ensures pool { (p : ScriptView) → IsPool p pool.old → IsJobOf p actor.0 job → HaveBefore (map journal_of pool.old.executors.items) job.task.0 job.number → OnOk result (IsPool p pool.new) }
+// Puts a job after the others of this executor, whose token goes after the others where it was idle.
+fn enqueue(pool: &mut Pool, on: ExecId, job: Job) -> Result<(), Halt>
+    ensures pool { (p : ScriptView) → IsPool p pool.old → IsJobOf p on.0 job → HaveBefore (map journal_of pool.old.executors.items) job.task.0 job.number → OnOk result (IsPool p pool.new) }
     ensures actors { OnOk result (length pool.new.executors.items ≡ length pool.old.executors.items) }
     ensures endings { pool.new.endings ≡ pool.old.endings }
 {
-    let place = actor.0 as usize;
+    let place = on.0 as usize;
     if place >= pool.executors.len() {
         return Err(Halt::Unfinished);
     }
@@ -64,7 +66,7 @@ fn enqueue(pool: &mut Pool, actor: ActorId, job: Job) -> Result<(), Halt>
     let was_idle = executor.jobs.is_empty();
     executor.jobs.push_back(job)?;
     if was_idle {
-        pool.tokens.push_back(actor)?;
+        pool.tokens.push_back(on)?;
     }
     Ok(())
 }
@@ -76,8 +78,8 @@ fn room_of(roots: usize) -> u32
     TASKS.saturating_sub(roots).min(MADE) as u32
 }
 
-// The first job of a root's task, and the actor at whose executor it runs.
-fn first_job(alloc: Global, script: &Arc<Script>, root: RootId) -> Result<(ActorId, Job), Halt>
+// The first job of a root's task, and the executor that it runs on.
+fn first_job(alloc: Global, script: &Arc<Script>, root: RootId) -> Result<(ExecId, Job), Halt>
     requires { root.0 < root_count (arc_value script.now) }
     ensures job { IfOk result (λ r. IsJobOf (arc_value script.now) r.0.0 r.1) }
     ensures first { IfOk result (λ r. r.1.number ≡ 0) }
@@ -93,13 +95,14 @@ fn first_job(alloc: Global, script: &Arc<Script>, root: RootId) -> Result<(Actor
         cancelled: false,
         room: room_of(script.root_count()),
     };
-    let actor = script.actor_of(method);
+    let executor = script.actor_executor(script.method_actor(method));
+    let bindings = Bindings::new(alloc);
     let body = Box::new(
         alloc,
-        Body::start(alloc, Arc::clone(script)?, method, args)?,
+        Body::start(alloc, Arc::clone(script)?, method, args, bindings)?,
     )?;
     Ok((
-        actor,
+        executor,
         Job {
             task: TaskId(root.0),
             number: 0,
@@ -121,16 +124,16 @@ pub fn start_roots(alloc: Global, script: &Arc<Script>, pool: &mut Pool) -> Resu
         let Ok(root) = u32::try_from(k) else {
             return Err(Halt::Unfinished);
         };
-        let (actor, job) = first_job(alloc, script, RootId(root))?;
-        enqueue(pool, actor, job)?;
+        let (executor, job) = first_job(alloc, script, RootId(root))?;
+        enqueue(pool, executor, job)?;
         pool.endings.push(None)?;
     }
     Ok(())
 }
 
 // What comes after a turn: the next job of its task, or the ending.
-fn go_on(pool: &mut Pool, turned: Turned) -> Result<(), Halt>
-    ensures pool { (p : ScriptView) → IsPool p pool.old → IsTurned p turned → EndsBy (map journal_of pool.old.executors.items) turned.task.0 turned.step → HaveBefore (map journal_of pool.old.executors.items) turned.task.0 (turned.number + 1) → OnOk result (IsPool p pool.new) }
+fn go_on(script: &Script, pool: &mut Pool, turned: Turned) -> Result<(), Halt>
+    ensures pool { let p = script.now in IsPool p pool.old → IsTurned p turned → EndsBy (map journal_of pool.old.executors.items) turned.task.0 turned.step → HaveBefore (map journal_of pool.old.executors.items) turned.task.0 (turned.number + 1) → OnOk result (IsPool p pool.new) }
     ensures actors { OnOk result (length pool.new.executors.items ≡ length pool.old.executors.items) }
     ensures tasks { OnOk result (length pool.new.endings.items ≡ length pool.old.endings.items) }
 {
@@ -153,7 +156,7 @@ fn go_on(pool: &mut Pool, turned: Turned) -> Result<(), Halt>
                 env,
                 body,
             };
-            enqueue(pool, actor, job)
+            enqueue(pool, script.actor_executor(actor), job)
         }
         Step::Ended(ending) => {
             let place = task.0 as usize;
@@ -163,7 +166,7 @@ fn go_on(pool: &mut Pool, turned: Turned) -> Result<(), Halt>
             pool.endings[place] = Some(ending);
             Ok(())
         }
-        // No statement of a script that was read waits for another task yet.
+        // No script that is run here waits for a task or a group.
         Step::Await => Err(Halt::Unfinished),
     }
 }
@@ -193,21 +196,21 @@ where
     ensures actors { OnOk result (length pool.new.executors.items ≡ length pool.old.executors.items) }
     ensures tasks { OnOk result (length pool.new.endings.items ≡ length pool.old.endings.items) }
 {
-    let Some(actor) = pool.tokens.pop_front() else {
+    let Some(executor) = pool.tokens.pop_front() else {
         return Ok(false);
     };
-    let place = actor.0 as usize;
+    let place = executor.0 as usize;
     if place >= pool.executors.len() {
         return Err(Halt::Unfinished);
     }
-    gate.at(Moment::Took(actor));
-    let executor = &mut pool.executors[place];
-    let turned = take_turn(alloc, cx, script, actor, executor)?;
-    gate.at(Moment::Turned(actor, turned.task));
-    if !executor.jobs.is_empty() {
-        pool.tokens.push_back(actor)?;
+    gate.at(Moment::Took(executor));
+    let here = &mut pool.executors[place];
+    let turned = take_turn(alloc, cx, script, executor, here)?;
+    gate.at(Moment::Turned(executor, turned.task));
+    if !here.jobs.is_empty() {
+        pool.tokens.push_back(executor)?;
     }
-    go_on(pool, turned)?;
+    go_on(script, pool, turned)?;
     Ok(true)
 }
 

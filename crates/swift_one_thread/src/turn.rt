@@ -12,7 +12,7 @@ use std::mem;
 use swift_report::Record;
 use swift_script::Script;
 use swift_turn::{Body, Step, run_turn};
-use swift_types::{ActorId, TaskId};
+use swift_types::{ExecId, TaskId};
 
 /// A task after its turn, with what comes next.
 #[derive(Drop)]
@@ -24,17 +24,17 @@ pub struct Turned {
     pub step: Step,
 }
 
-// Runs the oldest job of the executor of this actor, and writes its record. Where the run is given up, the fields and
+// Runs the oldest job of this executor, and writes its record. Where the run is given up, the fields and
 // the job are lost.
 pub fn take_turn(
     alloc: Global,
     cx: &mut Context<'_>,
     script: &Script,
-    actor: ActorId,
+    place: ExecId,
     executor: &mut Executor,
 ) -> Result<Turned, Halt>
-    requires { IsExecutor script.now actor.0 executor.old }
-    ensures executor { OnOk result (IsExecutor script.now actor.0 executor.new) }
+    requires { IsExecutor script.now place.0 executor.old }
+    ensures executor { OnOk result (IsExecutor script.now place.0 executor.new) }
     ensures next { IfOk result (λ t. IsTurned script.now t) }
     ensures taken { IfOk result (λ t. Takes executor.old.jobs.items executor.new.jobs.items t) }
     ensures written { IfOk result (λ t. Writes executor.old.journal.items executor.new.journal.items t) }
@@ -51,13 +51,14 @@ pub fn take_turn(
         mut body,
     } = job;
     let frame = body.frame()?;
+    let outer = body.outer().copy()?;
     let entered = mem::replace(&mut executor.fields, Vec::new(alloc));
     let Ok((fields, effects, exit)) = run_turn(&mut body, cx, entered, resume, env) else {
         return Err(Halt::Memory);
     };
     executor.fields = fields;
-    // No script that was read calls a method that it lacks.
-    if !body.can_advance(&exit) {
+    // No script that was read calls a method that it lacks, and none that is run here makes a task or opens a group.
+    if !body.can_advance(&exit) || !effects.is_empty() {
         return Err(Halt::Unfinished);
     }
     let step = body.advance(&exit)?;
@@ -66,6 +67,7 @@ pub fn take_turn(
         number,
         worker: 0,
         frame,
+        outer,
         resume,
         env,
         exit,

@@ -2,7 +2,7 @@
 
 ghost use Rattle.std.specs.Prelude.{◌≡◌, ◌≢◌, ◌↔◌, [], Err, length, IfOk};
 ghost use Rattle.std.specs.Arc.{arc_value};
-ghost use Rattle.swift_script.specs.Scripts.{actor_count, root_count};
+ghost use Rattle.swift_script.specs.Scripts.{executor_count, root_count};
 ghost use Rattle.swift_report.specs.Ended.{AreEnded};
 ghost use Rattle.swift_report.specs.Lawful.{AreLawful, KeepInvariants};
 ghost use Rattle.swift_report.specs.Numbered.{HaveNoGaps};
@@ -13,6 +13,7 @@ ghost use Rattle.swift_one_thread.specs.declared.fault.RunFault.TheVariants.{Wor
 use crate::fault::{Halt, RunFault};
 use crate::gate::Gate;
 use crate::leave::report_of;
+use crate::playable::is_playable;
 use crate::pool::{drain, empty_pool, start_roots};
 use futures::task::{Doorbell, Solo};
 use std::alloc::AllocGlobal;
@@ -34,22 +35,23 @@ use swift_script::Script;
 /// # Errors
 ///
 /// `Workers` stands for any number of workers but 1, `Memory` for a growth that was refused, and `Unfinished` for a
-/// task that did not end, or a script that asks for what none that was read can. Nothing of a refused run remains.
+/// task that did not end, or a script with a method that makes a task, opens a group, cancels or waits for a task: these
+/// come with the executors. Nothing of a refused run remains.
 pub fn run<R, G>(rt: &R, script: Arc<Script>, workers: u32, gate: &G) -> Result<Report, RunFault>
 where
     R: RandomSource + AllocGlobal,
     G: Gate + Sync,
     ensures workers { (result ≡ Err Workers) ↔ (workers ≢ 1) }
-    // Each journal is lawful, and replaying it gives the fields of its actor.
+    // Each journal is lawful, and replaying it gives the fields of its executor's actors.
     ensures lawful { IfOk result (λ r. AreLawful (arc_value script) 0 r.journals.items r.fields.items) }
-    // The fields of each actor whose invariant holds at the start meet it.
+    // The fields meet each invariant that holds at the start.
     ensures invariants { IfOk result (λ r. KeepInvariants (arc_value script) 0 r.fields.items) }
     // Each turn is one of a root's task, was given what belongs to that root, and ran on worker 0.
     ensures env_given { IfOk result (λ r. HaveTheirEnv (arc_value script) r.journals.items) }
     // The turns of each task are numbered without gaps.
     ensures numbered { IfOk result (λ r. HaveNoGaps r.journals.items) }
-    ensures journals { IfOk result (λ r. length r.journals.items ≡ actor_count (arc_value script)) }
-    ensures fields { IfOk result (λ r. length r.fields.items ≡ actor_count (arc_value script)) }
+    ensures journals { IfOk result (λ r. length r.journals.items ≡ executor_count (arc_value script)) }
+    ensures fields { IfOk result (λ r. length r.fields.items ≡ executor_count (arc_value script)) }
     ensures log { IfOk result (λ r. r.log.items ≡ []) }
     // One ending for each root, in order of declaration.
     ensures tasks { IfOk result (λ r. length r.endings.items ≡ root_count (arc_value script)) }
@@ -59,6 +61,9 @@ where
 {
     if workers != 1 {
         return Err(RunFault::Workers);
+    }
+    if !is_playable(&script) {
+        return Err(RunFault::Unfinished);
     }
     match run_alone(rt, &script, gate) {
         Ok(report) => Ok(report),
@@ -76,8 +81,8 @@ where
     ensures invariants { IfOk result (λ r. KeepInvariants (arc_value script.now) 0 r.fields.items) }
     ensures env_given { IfOk result (λ r. HaveTheirEnv (arc_value script.now) r.journals.items) }
     ensures numbered { IfOk result (λ r. HaveNoGaps r.journals.items) }
-    ensures journals { IfOk result (λ r. length r.journals.items ≡ actor_count (arc_value script.now)) }
-    ensures fields { IfOk result (λ r. length r.fields.items ≡ actor_count (arc_value script.now)) }
+    ensures journals { IfOk result (λ r. length r.journals.items ≡ executor_count (arc_value script.now)) }
+    ensures fields { IfOk result (λ r. length r.fields.items ≡ executor_count (arc_value script.now)) }
     ensures log { IfOk result (λ r. r.log.items ≡ []) }
     ensures tasks { IfOk result (λ r. length r.endings.items ≡ root_count (arc_value script.now)) }
     ensures roots { IfOk result (λ r. AreRootsFrom 0 r.endings.items) }

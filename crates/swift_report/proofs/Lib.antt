@@ -1,2 +1,4 @@
 pub mod Holding
 pub mod Joined
+pub mod Past
+pub mod Rows

@@ -4,8 +4,8 @@ use Rattle.std.specs.declared.vec.Vec.{Vec}
 use Rattle.std.specs.declared.alloc.Global.{Global}
 use Rattle.swift_types.specs.declared.outcome.Ending.{Ending}
 use Rattle.swift_types.specs.declared.outcome.Ending.TheVariants.{Value as Returned, Fault as Failed}
-use Rattle.swift_turn.specs.declared.exit.Exit.{Exit}
-use Rattle.swift_turn.specs.declared.exit.Exit.TheVariants.{Return, Fault as Fails}
+use Rattle.swift_interpreter.specs.declared.exit.Exit.{Exit}
+use Rattle.swift_interpreter.specs.declared.exit.Exit.TheVariants.{Return, Fault as Fails}
 use Rattle.swift_report.specs.declared.report.Record.{Record}
 use Rattle.swift_report.specs.declared.report.Origin.{Origin}
 

@@ -1,9 +1,10 @@
 -- The text of a report, as bytes (the format is our own).
-use Rattle.std.specs.Prelude.{ℕ, ◌+◌, ℤ, Bool, true, false, Option, Some, None, List, [], ◌∷◌, ◌++◌, length, codes, decimal}
+use Rattle.std.specs.Prelude.{ℕ, zero, suc, ◌+◌, ◌==◌, ℤ, Bool, true, false, Option, Some, None, List, [], ◌∷◌, ◌++◌, length, codes, decimal, if◌then◌else◌, nat_lt, slice_get}
 use Rattle.std.specs.Fmt.{signed_decimal}
 use Rattle.std.specs.declared.vec.Vec.{Vec}
 use Rattle.std.specs.declared.alloc.Global.{Global}
 use Rattle.swift_types.specs.Priority.{rank}
+use Rattle.swift_types.specs.declared.id.ActorId.{ActorId}
 use Rattle.swift_types.specs.declared.outcome.Fault.{Fault}
 use Rattle.swift_types.specs.declared.outcome.Fault.TheVariants.{Thrown, Cancelled, Invariant, Overflow, Steps, Turns, Depth, Tasks, Empty, Isolation}
 use Rattle.swift_types.specs.declared.outcome.Resume.{Resume}
@@ -11,9 +12,11 @@ use Rattle.swift_types.specs.declared.outcome.Resume.TheVariants.{Start, Go, Val
 use Rattle.swift_types.specs.declared.outcome.Ending.{Ending}
 use Rattle.swift_types.specs.declared.outcome.Ending.TheVariants.{Value as Returned, Fault as Failed}
 use Rattle.script_code.specs.declared.env.Env.{Env}
-use Rattle.swift_script.specs.Scripts.{ScriptView, Entry, entry_at, actor_name, field_name, root_name}
-use Rattle.swift_turn.specs.declared.exit.Exit.{Exit}
-use Rattle.swift_turn.specs.declared.exit.Exit.TheVariants.{Call, Yield, Close, Return, Fault as Fails}
+use Rattle.script_grammar.specs.declared.declaration.ExecutorKind.{ExecutorKind}
+use Rattle.script_grammar.specs.declared.declaration.ExecutorKind.TheVariants as kind
+use Rattle.swift_script.specs.Scripts.{ScriptView, actor_count, actor_executor, actor_name, executor_actors, executor_kind, executor_name, field_name, method_actor, method_count, method_name, root_name}
+use Rattle.swift_interpreter.specs.declared.exit.Exit.{Exit}
+use Rattle.swift_interpreter.specs.declared.exit.Exit.TheVariants.{Call, Wait, Next, Yield, Close, Return, Fault as Fails}
 use Rattle.swift_report.specs.declared.report.Record.{Record}
 use Rattle.swift_report.specs.declared.report.Origin.{Origin}
 use Rattle.swift_report.specs.declared.report.Origin.TheVariants.{Root}
@@ -44,13 +47,9 @@ abbrev pub ending_text : Ending → List ℕ
 ending_text (Returned v) = codes "value " ++ signed_decimal v
 ending_text (Failed f) = codes "fault " ++ fault_text f
 
-abbrev pub method_text_if : ScriptView → Option Entry → List ℕ
-method_text_if p None = []
-method_text_if p (Some e) = actor_name p e.actor ++ codes "." ++ e.method.name
-
 -- a method by its names, that of its actor first; nothing for a method that the script lacks
 abbrev pub method_text : ScriptView → ℕ → List ℕ
-method_text p m = method_text_if p (entry_at p m)
+method_text p m = if nat_lt m (method_count p) then actor_name p (method_actor p m) ++ codes "." ++ method_name p m else []
 
 abbrev pub pending_text : Option Fault → List ℕ
 pending_text None = []
@@ -58,7 +57,9 @@ pending_text (Some f) = codes " fault " ++ fault_text f
 
 -- how a turn ended
 abbrev pub exit_text : ScriptView → Exit → List ℕ
-exit_text p (Call a m args) = codes "call " ++ method_text p m.0
+exit_text p (Call c) = codes "call " ++ method_text p c.method.0
+exit_text p (Wait t) = codes "wait"
+exit_text p (Next g) = codes "next"
 exit_text p Yield = codes "yield"
 exit_text p (Close g f) = codes "close" ++ pending_text f
 exit_text p (Return v) = codes "return " ++ signed_decimal v
@@ -89,9 +90,15 @@ abbrev pub turns_text : ScriptView → ℕ → List Record → List ℕ
 turns_text p place [] = []
 turns_text p place (r ∷ rs) = turn_text p place r ++ turns_text p (place + 1) rs
 
--- the line of an executor with so many turns; it is named as its actor
+-- the kind of an executor
+abbrev pub kind_text : ExecutorKind → List ℕ
+kind_text kind.Priority = codes "priority"
+kind_text kind.Fifo = codes "fifo"
+kind_text (kind.Pinned worker) = codes "pinned " ++ signed_decimal worker
+
+-- the line of an executor with so many turns
 abbrev pub heading_text : ScriptView → ℕ → ℕ → List ℕ
-heading_text p k turns = codes "executor " ++ actor_name p k ++ codes " priority turns " ++ decimal turns ++ codes "\n"
+heading_text p e turns = codes "executor " ++ executor_name p e ++ codes " " ++ kind_text (executor_kind p e) ++ codes " turns " ++ decimal turns ++ codes "\n"
 
 -- the lines of the executors from this number on, each with its turns
 abbrev pub executors_text : ScriptView → ℕ → List (Vec Record Global) → List ℕ
@@ -125,12 +132,30 @@ abbrev pub values_text : ScriptView → ℕ → ℕ → List ℤ → List ℕ
 values_text p k i [] = []
 values_text p k i (v ∷ vs) = field_text p k i v ++ values_text p k (i + 1) vs
 
--- the lines of the fields of the actors from this number on
-abbrev pub fields_text : ScriptView → ℕ → List (Vec ℤ Global) → List ℕ
-fields_text p k [] = []
-fields_text p k (f ∷ fs) = values_text p k 0 f.items ++ fields_text p (k + 1) fs
+-- the number of an actor of the code
+abbrev pub number_of : ActorId → ℕ
+number_of a = a.0
+
+-- the fields of an actor, among those of the actors of its executor
+abbrev pub row_among : List ℕ → List (Vec ℤ Global) → ℕ → List ℤ
+row_among [] rows k = []
+row_among (a ∷ actors) [] k = []
+row_among (a ∷ actors) (row ∷ rows) k = if a == k then row.items else row_among actors rows k
+
+abbrev pub row_in : Option (Vec (Vec ℤ Global) Global) → List ℕ → ℕ → List ℤ
+row_in None actors k = []
+row_in (Some rows) actors k = row_among actors rows.items k
+
+-- the fields of an actor, where those of the actors of each executor are given
+abbrev pub row_of : ScriptView → List (Vec (Vec ℤ Global) Global) → ℕ → List ℤ
+row_of p fields k = row_in (slice_get fields (actor_executor p k)) (executor_actors p (actor_executor p k)) k
+
+-- the lines of the fields of n actors from this number on
+abbrev pub fields_text : ScriptView → List (Vec (Vec ℤ Global) Global) → ℕ → ℕ → List ℕ
+fields_text p fields k zero = []
+fields_text p fields k (suc n) = values_text p k 0 (row_of p fields k) ++ fields_text p fields (k + 1) n
 
 -- The text of a report on a script: the journals unless it is quiet, the tasks, and the fields.
 abbrev pub report_text : ScriptView → Report → Bool → List ℕ
 report_text p r quiet =
-    journals_text p quiet r.journals.items ++ codes "tasks\n" ++ tasks_text p 0 r.endings.items ++ codes "fields\n" ++ fields_text p 0 r.fields.items
+    journals_text p quiet r.journals.items ++ codes "tasks\n" ++ tasks_text p 0 r.endings.items ++ codes "fields\n" ++ fields_text p r.fields.items 0 (actor_count p)

@@ -1,7 +1,8 @@
 //! Records of turns, and reports of runs.
 
 use script_code::Env;
-use swift_turn::{Effect, Exit, Frame};
+use swift_interpreter::{Effect, Exit, Frame};
+use swift_locals::Bindings;
 use swift_types::{Ending, Resume, RootId, TaskId};
 
 /// One turn, as the journal of its executor has it.
@@ -14,6 +15,8 @@ pub struct Record {
     pub worker: u32,
     /// The frame as it was before the turn.
     pub frame: Frame,
+    /// The bindings that stood when that frame began.
+    pub outer: Bindings,
     /// What the turn began with.
     pub resume: Resume,
     /// What it was given.
@@ -38,12 +41,12 @@ pub enum Event {}
 /// What a run leaves.
 #[derive(Drop)]
 pub struct Report {
-    /// The journal of each executor, in the order of executors: an actor's own, in text order.
+    /// The journal of each executor, in the order of executors.
     pub journals: Vec<Vec<Record>>,
     /// What happened to tasks, in order: empty, since no run writes events yet.
     pub log: Vec<Event>,
     /// What made each task, and how it ended, in the order of tasks.
     pub endings: Vec<(Origin, Ending)>,
-    /// The fields of each actor, in text order.
-    pub fields: Vec<Vec<i64>>,
+    /// The fields of the actors of each executor, in the order of executors, and of each one's actors in text order.
+    pub fields: Vec<Vec<Vec<i64>>>,
 }

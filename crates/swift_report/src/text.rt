@@ -1,7 +1,8 @@
 //! The text of a report.
 
-ghost use Rattle.std.specs.Prelude.{◌≡◌, ℤ, ◌++◌, IfOk, OnOk};
-ghost use Rattle.swift_report.specs.Text.{journals_text, origin_text, task_text, tasks_text, field_text, values_text, fields_text, report_text};
+ghost use Rattle.std.specs.Prelude.{◌≡◌, ℤ, ◌<◌, ◌++◌, map, IfOk, OnOk};
+ghost use Rattle.swift_report.specs.Text.{journals_text, origin_text, task_text, tasks_text, field_text, number_of, row_among, row_of, values_text, fields_text, report_text};
+ghost use Rattle.swift_script.specs.Scripts.{actor_count};
 
 use crate::append::number;
 use crate::names::{actor_name, field_name};
@@ -10,7 +11,7 @@ use crate::turns::executors;
 use crate::word;
 use std::alloc::{AllocError, Global};
 use swift_script::Script;
-use swift_types::Ending;
+use swift_types::{ActorId, Ending};
 
 /// The text of a report on a script (the format is our own), as the bytes that are written: the journals unless it
 /// is `quiet`, the tasks, and the fields. All of it is ASCII where the names of the script are.
@@ -123,11 +124,45 @@ fn values(
     Ok(())
 }
 
-fn fields(out: &mut Vec<u8>, script: &Script, fields: &[Vec<i64>]) -> Result<(), AllocError>
-    ensures { OnOk result (out.new.items ≡ out.old.items ++ fields_text script.now 0 fields.now) }
+// The fields of an actor, among those of the actors of its executor.
+fn row_among<'a>(actors: &[ActorId], rows: &'a [Vec<i64>], actor: ActorId) -> &'a [i64]
+    ensures { result.now ≡ row_among (map number_of actors.now) rows.now actor.0 }
 {
-    for (actor, kept) in fields.iter().enumerate() {
-        values(out, script, actor, kept)?;
+    let [first, others @ ..] = actors else {
+        return &[];
+    };
+    let [row, rest @ ..] = rows else {
+        return &[];
+    };
+    if *first == actor {
+        return row;
+    }
+    row_among(others, rest, actor)
+}
+
+// The fields of an actor, where those of the actors of each executor are given.
+fn row_of<'a>(script: &Script, fields: &'a [Vec<Vec<i64>>], actor: ActorId) -> &'a [i64]
+    requires { actor.0 < actor_count script.now }
+    ensures { result.now ≡ row_of script.now fields.now actor.0 }
+{
+    let executor = script.actor_executor(actor);
+    match fields.get(executor.0 as usize) {
+        Some(rows) => row_among(script.executor_actors(executor), rows, actor),
+        None => &[],
+    }
+}
+
+fn fields(out: &mut Vec<u8>, script: &Script, fields: &[Vec<Vec<i64>>]) -> Result<(), AllocError>
+    ensures { OnOk result (out.new.items ≡ out.old.items ++ fields_text script.now fields.now 0 (actor_count script.now)) }
+{
+    script.facts();
+    for actor in 0..script.actor_count() {
+        values(
+            out,
+            script,
+            actor,
+            row_of(script, fields, ActorId(actor as u32)),
+        )?;
     }
     Ok(())
 }

@@ -1,16 +1,17 @@
 //! Lines of turns, and of executors.
 
 ghost use Rattle.std.specs.Prelude.{◌≡◌, ◌++◌, OnOk};
-ghost use Rattle.swift_report.specs.Text.{method_text, exit_text, flag_text, env_text, run_text, resume_and_exit_text, turn_text, turns_text, heading_text, executors_text};
+ghost use Rattle.swift_report.specs.Text.{method_text, exit_text, flag_text, env_text, run_text, resume_and_exit_text, turn_text, turns_text, kind_text, heading_text, executors_text};
 
 use crate::append::number;
-use crate::names::actor_name;
+use crate::names::{executor_kind, executor_name};
 use crate::report::Record;
 use crate::word;
 use script_code::Env;
+use script_grammar::ExecutorKind;
 use std::alloc::AllocError;
+use swift_interpreter::Exit;
 use swift_script::Script;
-use swift_turn::Exit;
 use swift_types::MethodId;
 
 // A method by its names.
@@ -20,7 +21,7 @@ fn method(out: &mut Vec<u8>, script: &Script, method: MethodId) -> Result<(), Al
     if method.0 as usize >= script.method_count() {
         return Ok(());
     }
-    out.extend_from_slice(script.actor_name(script.actor_of(method)))?;
+    out.extend_from_slice(script.actor_name(script.method_actor(method)))?;
     out.extend_from_slice(b".")?;
     out.extend_from_slice(script.method_name(method))
 }
@@ -29,10 +30,12 @@ fn exit(out: &mut Vec<u8>, script: &Script, exit: &Exit) -> Result<(), AllocErro
     ensures { OnOk result (out.new.items ≡ out.old.items ++ exit_text script.now exit.now) }
 {
     match exit {
-        Exit::Call(_, called, _) => {
+        Exit::Call(call) => {
             out.extend_from_slice(b"call ")?;
-            method(out, script, *called)
+            method(out, script, call.method)
         }
+        Exit::Wait(_) => out.extend_from_slice(b"wait"),
+        Exit::Next(_) => out.extend_from_slice(b"next"),
         Exit::Yield => out.extend_from_slice(b"yield"),
         Exit::Close(_, pending) => {
             out.extend_from_slice(b"close")?;
@@ -108,6 +111,19 @@ fn turns(out: &mut Vec<u8>, script: &Script, records: &[Record]) -> Result<(), A
     Ok(())
 }
 
+fn kind(out: &mut Vec<u8>, kind: ExecutorKind) -> Result<(), AllocError>
+    ensures { OnOk result (out.new.items ≡ out.old.items ++ kind_text kind) }
+{
+    match kind {
+        ExecutorKind::Priority => out.extend_from_slice(b"priority"),
+        ExecutorKind::Fifo => out.extend_from_slice(b"fifo"),
+        ExecutorKind::Pinned(worker) => {
+            out.extend_from_slice(b"pinned ")?;
+            number(out, worker)
+        }
+    }
+}
+
 // The line of an executor with so many turns.
 fn heading(
     out: &mut Vec<u8>,
@@ -118,8 +134,10 @@ fn heading(
     ensures { OnOk result (out.new.items ≡ out.old.items ++ heading_text script.now executor turns) }
 {
     out.extend_from_slice(b"executor ")?;
-    out.extend_from_slice(actor_name(script, executor))?;
-    out.extend_from_slice(b" priority turns ")?;
+    out.extend_from_slice(executor_name(script, executor))?;
+    out.extend_from_slice(b" ")?;
+    kind(out, executor_kind(script, executor))?;
+    out.extend_from_slice(b" turns ")?;
     number(out, turns)?;
     out.extend_from_slice(b"\n")
 }

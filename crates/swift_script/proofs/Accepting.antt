@@ -1,20 +1,20 @@
 -- What is accepted is read.
-use Rattle.std.proofs.Common.{◌≡◌, ℕ, true, false, Some, None, List, Result, Ok, Err, inl, inr, refl, sym, ap, subst, ◌∙◌, arith}
+use Rattle.std.proofs.Common.{◌≡◌, ℕ, true, false, List, Result, Ok, Err, inl, inr, sym, ap, subst, refl, ◌∙◌, arith}
 use Rattle.std.specs.Prelude.{IfOk, IfErr}
 use Rattle.script_tokens.specs.Pieces.{Piece}
 use Rattle.script_tokens.proofs.Unique.{unique}
 use Rattle.script_grammar.specs.Tree.{DeclTree}
 use Rattle.script_grammar.specs.Grammar.{IsScript}
-use Rattle.script_grammar.proofs.Whole.{one}
+use Rattle.script_parser.proofs.Whole.{one}
+use Rattle.script_parser.specs.declared.limits.TheConstants.{NESTING}
 use Rattle.script_names.specs.declared.error.NameErrorKind.{NameErrorKind}
-use Rattle.script_names.specs.Rules.{names_fault}
+use Rattle.script_names.specs.Rules.{names_error}
+use Rattle.script_printing.specs.Script.{ScriptTree, script_in}
 use Rattle.swift_script.specs.declared.fault.ScriptFault.{ScriptFault}
 use Rattle.swift_script.specs.declared.fault.ScriptFaultKind.{ScriptFaultKind}
 use Rattle.swift_script.specs.declared.fault.ScriptFaultKind.TheVariants as kind
-use Rattle.swift_script.specs.Script.{ScriptTree, actors_in, tree_in, all_start_well}
-use Rattle.swift_script.specs.Scripts.{ScriptView, tree_of}
-use Rattle.swift_script.specs.Accepted.{SpellsDecls, Spells, IsAccepted, HasFault, StartsFalse}
-use Rattle.swift_script.specs.Refuses.{Refuses}
+use Rattle.swift_script.specs.Accepted.{SpellsDecls, Spells, IsAccepted, first_false, RootWaits}
+use Rattle.swift_script.specs.Refuses.{HasError, StartsFalse, HasWaitingRoot, Refuses}
 use Rattle.swift_script.specs.Answers.{IsReadAs}
 
 -- a text spells one list of declarations, whatever the limits
@@ -25,37 +25,46 @@ same_decls m n text xs ys d e =
 
 -- and one tree
 pub same_spelled : (m n : ℕ) (text : List ℕ) (s t : ScriptTree) → Spells m text s → Spells n text t → s ≡ t
-same_spelled m n text s t d e = d.is ∙ ap tree_in (same_decls m n text d.decls e.decls d.spelled e.spelled) ∙ sym e.is
+same_spelled m n text s t d e = d.is ∙ ap script_in (same_decls m n text d.decls e.decls d.spelled e.spelled) ∙ sym e.is
 
 pub same_accepted : (text : List ℕ) (s t : ScriptTree) → IsAccepted text s → IsAccepted text t → s ≡ t
-same_accepted text s t a b = a.is ∙ ap tree_in (same_decls 32 32 text a.decls b.decls a.spelled b.spelled) ∙ sym b.is
+same_accepted text s t a b = a.is ∙ ap script_in (same_decls NESTING NESTING text a.decls b.decls a.spelled b.spelled) ∙ sym b.is
 
-no_fault : (text : List ℕ) (t : ScriptTree) (m : NameErrorKind) → IsAccepted text t → HasFault text m → ⊥
-no_fault text t m a f =
-    let same : f.decls ≡ a.decls = same_decls 32 32 text f.decls a.decls f.spelled a.spelled in
-    let clash : Some m ≡ None = sym f.first ∙ ap names_fault same ∙ a.names in
+-- an accepted tree is the one of what is spelled
+tree_again : (text : List ℕ) (t : ScriptTree) (decls : List DeclTree) → IsAccepted text t → SpellsDecls NESTING text decls → script_in decls ≡ t
+tree_again text t decls a s = ap script_in (same_decls NESTING NESTING text decls a.decls s a.spelled) ∙ sym a.is
+
+no_error : (text : List ℕ) (t : ScriptTree) (k : NameErrorKind) → IsAccepted text t → HasError text k → ⊥
+no_error text t k a f =
+    let clash = sym f.first ∙ ap names_error (same_decls NESTING NESTING text f.decls a.decls f.spelled a.spelled) ∙ a.names in
     cc
 
 no_false_start : (text : List ℕ) (t : ScriptTree) → IsAccepted text t → StartsFalse text → ⊥
 no_false_start text t a f =
-    let same : f.decls ≡ a.decls = same_decls 32 32 text f.decls a.decls f.spelled a.spelled in
-    let clash : false ≡ true = sym f.starts ∙ ap (λ (xs : List DeclTree). all_start_well (actors_in xs)) same ∙ a.starts in
+    let clash = sym f.first ∙ ap first_false (tree_again text t f.decls a f.spelled) ∙ a.starts in
     cc
 
+no_waiting_root : (text : List ℕ) (t : ScriptTree) → IsAccepted text t → HasWaitingRoot text → ⊥
+no_waiting_root text t a f = a.waits f.root (subst (λ (s : ScriptTree). RootWaits s f.root) (tree_again text t f.decls a f.spelled) f.waits)
+
 not_refused : (text : List ℕ) (t : ScriptTree) (k : ScriptFaultKind) → IsAccepted text t → Refuses k text → k ≡ kind.Memory
-not_refused text t kind.NotText a r = let clash : false ≡ true = sym r.1 ∙ a.plain in absurd cc
-not_refused text t kind.Unexpected a r = absurd (r.1 a.decls a.spelled)
-not_refused text t kind.OutOfRange a r = absurd (r.1 a.decls a.spelled)
-not_refused text t kind.NameTwice a r = absurd (no_fault text t _ a r)
-not_refused text t kind.UnknownName a r = absurd (no_fault text t _ a r)
-not_refused text t kind.Arguments a r = absurd (no_fault text t _ a r)
+not_refused text t kind.NotText a r = let clash : false ≡ true = sym r.1 ∙ a.plain.bytes in absurd cc
+not_refused text t kind.Unexpected a r = absurd (r.none a.decls a.spelled)
+not_refused text t kind.OutOfRange a r = absurd (r.none a.decls a.spelled)
+not_refused text t kind.NameTwice a r = absurd (no_error text t _ a r)
+not_refused text t kind.UnknownName a r = absurd (no_error text t _ a r)
+not_refused text t kind.Arguments a r = absurd (no_error text t _ a r)
+not_refused text t kind.Confused a r = absurd (no_error text t _ a r)
 not_refused text t kind.InvariantFalse a r = absurd (no_false_start text t a r)
-not_refused text t kind.LimitPassed a (inl long) = absurd (omega (arith, a.short))
-not_refused text t kind.LimitPassed a (inr f) = absurd (no_fault text t _ a f)
-not_refused text t kind.EndsEarly a r = absurd (r.1 a.decls a.spelled)
-not_refused text t kind.TooDeep a r = absurd (r.1 a.decls a.spelled)
+not_refused text t kind.BoundInside a r = absurd (no_error text t _ a r)
+not_refused text t kind.RootWaits a r = absurd (no_waiting_root text t a r)
+not_refused text t kind.LimitPassed a (inl long) = absurd (omega (arith, long, a.plain.short))
+not_refused text t kind.LimitPassed a (inr (inl e)) = absurd (no_error text t _ a e)
+not_refused text t kind.LimitPassed a (inr (inr e)) = absurd (no_error text t _ a e)
+not_refused text t kind.EndsEarly a r = absurd (r.none a.decls a.spelled)
+not_refused text t kind.TooDeep a r = absurd (r.none a.decls a.spelled)
 not_refused text t kind.Memory a r = refl
 
-pub is_accepted : (text : List ℕ) (r : Result ScriptView ScriptFault) → IfOk r (λ s. IsAccepted text (tree_of s)) → IfErr r (λ e. Refuses e.kind text) → (tree : ScriptTree) → IsAccepted text tree → IsReadAs tree r
-is_accepted text (Ok s) found refused tree a = same_accepted text (tree_of s) tree found a
+pub is_accepted : (text : List ℕ) (r : Result ScriptTree ScriptFault) → IfOk r (λ s. IsAccepted text s) → IfErr r (λ e. Refuses e.kind text) → (tree : ScriptTree) → IsAccepted text tree → IsReadAs tree r
+is_accepted text (Ok s) found refused tree a = same_accepted text s tree found a
 is_accepted text (Err e) found refused tree a = not_refused text tree e.kind a refused

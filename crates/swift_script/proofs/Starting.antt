@@ -1,18 +1,23 @@
 -- The invariants of an accepted script hold at the start.
-use Rattle.std.proofs.Common.{◌≡◌, ℕ, zero, suc, true, List, [], ◌∷◌, map, refl, ap, ◌∙◌}
-use Rattle.std.specs.Prelude.{IsTrue, slice_get}
-use Rattle.std.proofs.lemmas.Bool.{and_parts}
+use Rattle.std.proofs.Common.{◌≡◌, ◌<◌, ℕ, zero, suc, Bool, true, false, Some, None, List, [], ◌∷◌, length, refl, arith}
+use Rattle.std.specs.Prelude.{IsTrue, slice_get, unwrap_or, if◌then◌else◌}
 use Rattle.script_code.specs.Value.{holds}
-use Rattle.script_grammar.specs.Tree.{ActorTree, view_actor}
-use Rattle.swift_script.specs.Script.{ScriptTree, starts_well, all_start_well}
-use Rattle.swift_script.specs.Scripts.{ScriptView, tree_of, invariant_if, start_if, actor_invariant, actor_start}
-use Rattle.swift_script.specs.Accepted.{IsAccepted}
+use Rattle.script_printing.specs.Script.{ScriptTree}
+use Rattle.script_compiler.specs.Compiled.{ActorView, CompiledView}
+use Rattle.script_compiler.specs.Starts.{starts_well, first_false_from}
+use Rattle.swift_script.specs.Accepted.{WasAccepted}
+use Rattle.swift_script.specs.Scripts.{parts_of, no_actor, actor_count, actor_invariant, actor_executor, executor_start}
 
--- where all actors start well, so does the one at a place, if there is one
-starts_at : (ts : List ActorTree) (k : ℕ) → all_start_well ts ≡ true → holds (invariant_if (slice_get ts k)) (start_if (slice_get ts k)) ≡ true
-starts_at [] k e = refl
-starts_at (t ∷ ts) zero e = (and_parts (starts_well t) _ e).0
-starts_at (t ∷ ts) (suc k) e = starts_at ts k (and_parts (starts_well t) _ e).1
+-- the first actor starts well, and the others do
+first_well : (c : CompiledView) (k : ℕ) (b : Bool) (others : List ActorView) → (if b then first_false_from c (suc k) others else Some k) ≡ None → (b ≡ true) × (first_false_from c (suc k) others ≡ None)
+first_well c k true others e = (refl, e)
+first_well c k false others e = absurd cc
 
-pub start_well : (text : List ℕ) (p : ScriptView) (actor : ℕ) → IsAccepted text (tree_of p) → IsTrue (holds (actor_invariant p actor) (actor_start p actor))
-start_well text p actor a = starts_at (map view_actor p.actors) actor (ap (λ (t : ScriptTree). all_start_well t.actors) a.is ∙ a.starts)
+-- where all actors from a place on start well, so does each
+each_well : (c : CompiledView) (k : ℕ) (actors : List ActorView) (n : ℕ) → first_false_from c k actors ≡ None → n < length actors → starts_well c (unwrap_or (slice_get actors n) no_actor) ≡ true
+each_well c k [] n e lt = absurd (omega arith)
+each_well c k (a ∷ others) zero e lt = (first_well c k (starts_well c a) others e).0
+each_well c k (a ∷ others) (suc n) e lt = each_well c (suc k) others n (first_well c k (starts_well c a) others e).1 (omega arith)
+
+pub start_well : (s : ScriptTree) (actor : ℕ) → WasAccepted s → actor < actor_count s → IsTrue (holds (actor_invariant s actor) (executor_start s (actor_executor s actor)))
+start_well s actor a lt = each_well (parts_of s) 0 (parts_of s).actors actor a.1.starts lt

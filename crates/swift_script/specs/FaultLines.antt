@@ -1,105 +1,126 @@
 -- On which line each refusal of a text stands.
-use Rattle.std.specs.Prelude.{◌≡◌, ◌<◌, ◌≤◌, ◌-◌, ℕ, Option, Some, None, if◌then◌else◌, List, [], ◌∷◌, map, length, slice_index_or}
-use Rattle.std.specs.List.{take_while}
+use Rattle.std.specs.Prelude.{◌≡◌, ◌⊎◌, ◌<◌, ◌≤◌, ◌+◌, ◌-◌, ◌==◌, ℕ, suc, Bool, true, false, Some, Err, if◌then◌else◌, List, [], ◌∷◌, length, take, is_some, slice_index_or}
+use Rattle.std.specs.List.{take_while, count_by}
 use Rattle.swift_types.specs.declared.limits.TheConstants.{BYTES}
+use Rattle.script_tokens.specs.declared.keyword.Keyword.TheVariants as key
 use Rattle.script_tokens.specs.Bytes.{is_text_byte}
+use Rattle.script_tokens.specs.Lexes.{Lexes}
 use Rattle.script_tokens.specs.Lines.{line_feeds, line_behind, BeginOn}
-use Rattle.script_grammar.specs.declared.declared.Invariant.{Invariant}
-use Rattle.script_grammar.specs.declared.declared.Actor.{Actor}
-use Rattle.script_grammar.specs.declared.declared.Decl.{Decl}
-use Rattle.script_grammar.specs.declared.declared.Decl.TheVariants as decl
-use Rattle.script_grammar.specs.Tree.{view_actor, view_decl}
+use Rattle.script_tokens.specs.Pieces.{Piece, Name, Key}
+use Rattle.script_grammar.specs.Tree.{ActorTree, DeclTree}
+use Rattle.script_grammar.specs.Grammar.{IsScript}
+use Rattle.script_parser.specs.declared.fault.Kind.{Kind}
+use Rattle.script_parser.specs.declared.fault.Kind.TheVariants as grammar
+use Rattle.script_parser.specs.declared.limits.TheConstants.{NESTING}
+use Rattle.script_parser.specs.Model.Declarations.{decls_at}
 use Rattle.script_names.specs.declared.error.NameErrorKind.{NameErrorKind}
-use Rattle.script_names.specs.declared.error.NameErrorKind.TheVariants.{Twice, Unknown, Arguments as OtherCount, TooMany}
-use Rattle.script_names.specs.Errors.{names_error}
+use Rattle.script_names.specs.declared.error.NameErrorKind.TheVariants as names
+use Rattle.script_names.specs.Rules.{names_error}
+use Rattle.script_printing.specs.Script.{script_in}
 use Rattle.swift_script.specs.declared.fault.ScriptFault.{ScriptFault}
 use Rattle.swift_script.specs.declared.fault.ScriptFaultKind.{ScriptFaultKind}
 use Rattle.swift_script.specs.declared.fault.ScriptFaultKind.TheVariants as kind
-use Rattle.swift_script.specs.declared.lines.Lines.{Lines}
-use Rattle.swift_script.specs.Script.{starts_well}
-use Rattle.swift_script.specs.Accepted.{nesting, IsPlain, SpellsDecls}
+use Rattle.swift_script.specs.Accepted.{first_false, RootWaits}
 
 -- the line on which a text ends
 abbrev pub last_line : List ℕ → ℕ
 last_line text = line_behind (line_feeds text)
 
--- The token at which so many tokens are left, itself included, begins on this line. Where none is left, it is the
--- line on which the text ends.
-pub record BeginsOn (text : List ℕ) (left line : ℕ) : Type 0 where
-  pub lines : List ℕ
+-- A text consists of these tokens, which begin on these lines, in order.
+pub record AreTokens (text : List ℕ) (pieces : List Piece) (lines : List ℕ) : Type 0 where
+  pub lexed : Lexes text pieces
   pub begun : BeginOn text text lines
-  pub is : line ≡ slice_index_or lines (length lines - left) (last_line text)
 
--- Some token begins on this line, or the text ends on it: which token is not said.
-abbrev pub SomeTokenOn : List ℕ → ℕ → Type 0
-SomeTokenOn text line = (left : ℕ) × BeginsOn text left line
+-- the line of the token at a place; where none stands, the line on which the text ends
+abbrev pub line_at : List ℕ → List ℕ → ℕ → ℕ
+line_at text lines place = slice_index_or lines place (last_line text)
 
--- what is kept of the lines of a text
-pub record AreLines (text : List ℕ) (kept : Lines) : Type 0 where
-  pub begun : BeginOn text text kept.lines.items
-  pub last : kept.last ≡ last_line text
+abbrev pub is_name : Piece → Bool
+is_name (Name n) = true
+is_name _ = false
 
--- the line at which so many tokens are left, by what is kept
-abbrev pub line_in : Lines → ℕ → ℕ
-line_in kept left = slice_index_or kept.lines.items (length kept.lines.items - left) kept.last
+abbrev pub is_invariant : Piece → Bool
+is_invariant (Key key.Invariant) = true
+is_invariant _ = false
 
--- A plain text spells these declarations, in which each name and each invariant has a place: how many tokens are left
--- there. That just that name stands at its place is not said yet: the grammar speaks of trees without places.
-pub record SpellsPlaced (text : List ℕ) (decls : List Decl) : Type 0 where
-  pub plain : IsPlain text
-  pub spelled : SpellsDecls nesting text (map view_decl decls)
+abbrev pub is_root : Piece → Bool
+is_root (Key key.Root) = true
+is_root _ = false
 
--- A fault of the names stands on the line of the name that is concerned, by its place.
+-- the place of the token that passes a test and before which so many others do
+abbrev pub place_of : (Piece → Bool) → ℕ → List Piece → ℕ
+place_of test before [] = 0
+place_of test before (p ∷ ps) = if test p then (if before == 0 then 0 else suc (place_of test (before - 1) ps)) else suc (place_of test before ps)
+
+-- A fault of the grammar stands on the line of the token at which reading from left to right meets it.
+pub record TokenStandsOn (text : List ℕ) (kind : Kind) (line : ℕ) : Type 0 where
+  pub pieces : List Piece
+  pub lines : List ℕ
+  pub are : AreTokens text pieces lines
+  pub left : ℕ
+  pub first : decls_at NESTING pieces ≡ Err (record { kind = kind; tokens_left = left })
+  pub on : line ≡ line_at text lines (length pieces - left)
+
+-- The number after `pinned` stands two tokens after its executor's name.
+abbrev pub past_name : NameErrorKind → ℕ
+past_name names.TooGreat = 2
+past_name _ = 0
+
+-- An error of the names and counts stands on the line of the name that is concerned, or of the number of a worker.
 pub record NameStandsOn (text : List ℕ) (kind : NameErrorKind) (line : ℕ) : Type 0 where
-  pub decls : List Decl
-  pub spelled : SpellsPlaced text decls
-  pub left : ℕ
-  pub first : names_error decls ≡ Some (record { kind = kind; tokens_left = left })
-  pub on : BeginsOn text left line
+  pub pieces : List Piece
+  pub lines : List ℕ
+  pub are : AreTokens text pieces lines
+  pub decls : List DeclTree
+  pub spelled : IsScript NESTING pieces decls
+  pub before : ℕ
+  pub first : names_error decls ≡ Some (record { kind = kind; names_before = before })
+  pub on : line ≡ line_at text lines (place_of is_name before pieces + past_name kind)
 
--- the actors among declarations, in text order
-abbrev pub actors_among : List Decl → List Actor
-actors_among [] = []
-actors_among (decl.Actor a ∷ xs) = a ∷ actors_among xs
-actors_among (decl.Root r ∷ xs) = actors_among xs
+-- how many of the actors before a place have an invariant
+abbrev pub invariants_before : ℕ → List ActorTree → ℕ
+invariants_before actor actors = count_by (λ a. is_some a.invariant) (take actor actors)
 
--- how many tokens are left at the keyword of an invariant, itself included
-abbrev pub keyword_left : Option Invariant → ℕ
-keyword_left None = 0
-keyword_left (Some i) = i.tokens_left
-
--- the same of an actor, where there is one
-abbrev pub keyword_at : Option Actor → ℕ
-keyword_at None = 0
-keyword_at (Some a) = keyword_left a.invariant
-
--- where the invariant stands of the first actor whose invariant does not hold at the start
-abbrev pub false_invariant : List Actor → Option ℕ
-false_invariant [] = None
-false_invariant (a ∷ others) = if starts_well (view_actor a) then false_invariant others else Some (keyword_left a.invariant)
-
--- An invariant that is false at the start stands on the line of its keyword, by its place.
+-- An invariant that is false at the start stands on the line of its keyword: that of the first actor whose invariant is.
 pub record InvariantStandsOn (text : List ℕ) (line : ℕ) : Type 0 where
-  pub decls : List Decl
-  pub spelled : SpellsPlaced text decls
-  pub left : ℕ
-  pub first : false_invariant (actors_among decls) ≡ Some left
-  pub on : BeginsOn text left line
+  pub pieces : List Piece
+  pub lines : List ℕ
+  pub are : AreTokens text pieces lines
+  pub decls : List DeclTree
+  pub spelled : IsScript NESTING pieces decls
+  pub actor : ℕ
+  pub first : first_false (script_in decls) ≡ Some actor
+  pub on : line ≡ line_at text lines (place_of is_invariant (invariants_before actor (script_in decls).actors) pieces)
 
--- the line of a refusal, by its kind: one of the grammar stands on the line of some token
+-- A root that waits for itself or for a later one stands on the line of its keyword: the first such root.
+pub record RootStandsOn (text : List ℕ) (line : ℕ) : Type 0 where
+  pub pieces : List Piece
+  pub lines : List ℕ
+  pub are : AreTokens text pieces lines
+  pub decls : List DeclTree
+  pub spelled : IsScript NESTING pieces decls
+  pub root : ℕ
+  pub waits : RootWaits (script_in decls) root
+  pub first : (earlier : ℕ) → earlier < root → RootWaits (script_in decls) earlier → ⊥
+  pub on : line ≡ line_at text lines (place_of is_root root pieces)
+
+-- the line of a refusal, by its kind
 abbrev pub StandsOn : ScriptFaultKind → List ℕ → ℕ → Type 0
 -- the first byte outside text: the LFs before it count
 StandsOn kind.NotText text line = line ≡ line_behind (line_feeds (take_while is_text_byte text))
-StandsOn kind.Unexpected text line = SomeTokenOn text line
-StandsOn kind.OutOfRange text line = SomeTokenOn text line
-StandsOn kind.NameTwice text line = NameStandsOn text Twice line
-StandsOn kind.UnknownName text line = NameStandsOn text Unknown line
-StandsOn kind.Arguments text line = NameStandsOn text OtherCount line
+StandsOn kind.Unexpected text line = TokenStandsOn text grammar.Unexpected line
+StandsOn kind.OutOfRange text line = TokenStandsOn text grammar.OutOfRange line
+StandsOn kind.NameTwice text line = NameStandsOn text names.Twice line
+StandsOn kind.UnknownName text line = NameStandsOn text names.Unknown line
+StandsOn kind.Arguments text line = NameStandsOn text names.Arguments line
+StandsOn kind.Confused text line = NameStandsOn text names.Confused line
 StandsOn kind.InvariantFalse text line = InvariantStandsOn text line
--- a text that is too long is not read; else it is the name of an actor or a root too many
-StandsOn kind.LimitPassed text line = (BYTES < length text → line ≡ 1) × (length text ≤ BYTES → NameStandsOn text TooMany line)
-StandsOn kind.EndsEarly text line = SomeTokenOn text line
-StandsOn kind.TooDeep text line = SomeTokenOn text line
+StandsOn kind.BoundInside text line = NameStandsOn text names.BoundInside line
+StandsOn kind.RootWaits text line = RootStandsOn text line
+-- a text that is too long is not read
+StandsOn kind.LimitPassed text line = (BYTES < length text → line ≡ 1) × (length text ≤ BYTES → NameStandsOn text names.TooMany line ⊎ NameStandsOn text names.TooGreat line)
+StandsOn kind.EndsEarly text line = TokenStandsOn text grammar.EndsEarly line
+StandsOn kind.TooDeep text line = TokenStandsOn text grammar.TooDeep line
 StandsOn kind.Memory text line = line ≡ 0
 
 -- A refusal stands on the line of what it is about.

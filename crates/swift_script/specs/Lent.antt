@@ -1,16 +1,32 @@
--- Declarations behind references, as trees.
+-- Parts of a script behind references. No public clause names these words.
 use Rattle.std.specs.Prelude.{Option, Some, None}
 use denote.Bor.{Bor}
-use Rattle.script_grammar.specs.Tree.{ActorTree, RootTree, view_actor, view_root}
-use Rattle.script_grammar.specs.declared.declared.Actor.{Actor}
-use Rattle.script_grammar.specs.declared.declared.Root.{Root}
+use Rattle.script_grammar.specs.Tree.{LocalTree, FieldTree}
+use Rattle.script_compiler.specs.Compiled.{ExecutorView, ActorView, RootView}
+use Rattle.script_compiler.specs.IsCompiled.{executor_view, local_view, field_view, actor_view, root_view}
+use Rattle.script_compiler.specs.declared.compiled.CompiledExecutor.{CompiledExecutor}
+use Rattle.script_compiler.specs.declared.compiled.CompiledLocal.{CompiledLocal}
+use Rattle.script_compiler.specs.declared.compiled.CompiledField.{CompiledField}
+use Rattle.script_compiler.specs.declared.compiled.CompiledActor.{CompiledActor}
+use Rattle.script_compiler.specs.declared.compiled.CompiledRoot.{CompiledRoot}
+use Rattle.swift_script.specs.Scripts.{no_executor, no_local, no_field, no_actor, no_root}
 
--- what an actor behind a reference declares, if there is one
-abbrev pub actor_if_lent : Option (Bor Actor) → Option ActorTree
-actor_if_lent None = None
-actor_if_lent (Some a) = Some (view_actor a.now)
+abbrev pub executor_lent : Option (Bor CompiledExecutor) → ExecutorView
+executor_lent None = no_executor
+executor_lent (Some x) = executor_view x.now
 
--- what a root behind a reference declares, if there is one
-abbrev pub root_if_lent : Option (Bor Root) → Option RootTree
-root_if_lent None = None
-root_if_lent (Some r) = Some (view_root r.now)
+abbrev pub local_lent : Option (Bor CompiledLocal) → LocalTree
+local_lent None = no_local
+local_lent (Some l) = local_view l.now
+
+abbrev pub field_lent : Option (Bor CompiledField) → FieldTree
+field_lent None = no_field
+field_lent (Some f) = field_view f.now
+
+abbrev pub actor_lent : Option (Bor CompiledActor) → ActorView
+actor_lent None = no_actor
+actor_lent (Some a) = actor_view a.now
+
+abbrev pub root_lent : Option (Bor CompiledRoot) → RootView
+root_lent None = no_root
+root_lent (Some r) = root_view r.now

@@ -1,12 +1,10 @@
-pub mod Script
-pub mod Accepted
+pub mod Codes
 pub mod Scripts
-pub mod Compiled
-pub mod FaultLines
+pub mod Accepted
 pub mod Refuses
-pub mod WellScoped
-pub mod ScriptInvariant
+pub mod FaultLines
 pub mod Answers
+pub mod Spelled
+pub mod ScriptInvariant
 pub mod Lent
 pub mod SameScripts
-pub mod Printed

@@ -1,13 +1,9 @@
--- Whether two scripts have equal trees, as a test.
-use Rattle.std.specs.Prelude.{Bool, ◌&&◌}
-use Rattle.std.specs.Cmp.Lexicographic.{pointwise}
-use Rattle.script_equality.specs.SameTrees.{same_actor_tree, same_root_tree}
-use Rattle.swift_script.specs.Script.{ScriptTree}
-use Rattle.swift_script.specs.Scripts.{ScriptView, tree_of}
+-- Whether two scripts are equal, as a test.
+use Rattle.std.specs.Prelude.{Bool}
+use Rattle.std.specs.Str.{bytes_eq}
+use Rattle.script_printing.specs.Script.{ScriptTree}
+use Rattle.script_printing.specs.Printed.{printed}
 
-abbrev pub same_script : ScriptTree → ScriptTree → Bool
-same_script a b = pointwise same_actor_tree a.actors b.actors && pointwise same_root_tree a.roots b.roots
-
--- two scripts, as callers see them, have equal trees
-abbrev pub same_scripts : ScriptView → ScriptView → Bool
-same_scripts a b = same_script (tree_of a) (tree_of b)
+-- two scripts have one printed form, which is so where they are equal
+abbrev pub same_scripts : ScriptTree → ScriptTree → Bool
+same_scripts a b = bytes_eq (printed a) (printed b)

@@ -1,15 +1,32 @@
--- What a script keeps: its text is accepted, and its methods, actors and roots were compiled from it.
-use Rattle.std.specs.Prelude.{◌≡◌, ℕ, List, map}
-use Rattle.script_grammar.specs.Tree.{view_actor, view_root}
-use Rattle.swift_types.specs.declared.id.MethodId.{MethodId}
-use Rattle.swift_script.specs.declared.compiled.CompiledMethod.{CompiledMethod}
-use Rattle.swift_script.specs.declared.compiled.CompiledActor.{CompiledActor}
-use Rattle.swift_script.specs.Scripts.{ScriptView, tree_of, directory_in, entries_in}
-use Rattle.swift_script.specs.Accepted.{IsAccepted}
-use Rattle.swift_script.specs.Compiled.{method_is, compiled_of, actor_is, compiled_actor, root_number, number_is}
+-- What a script keeps: a text of its tree was accepted, and it has the printed form of its tree and what that is
+-- compiled to.
+use Rattle.std.specs.Prelude.{◌≡◌, ℕ, List, [], ◌∷◌, ◌++◌, map}
+use Rattle.script_grammar.specs.Tree.{DeclTree, Executes, Binds, Acts, Roots, view_executor, view_local, view_actor, view_root}
+use Rattle.script_printing.specs.Script.{ScriptTree}
+use Rattle.script_printing.specs.Printed.{printed}
+use Rattle.script_compiler.specs.declared.compiled.Compiled.{Compiled}
+use Rattle.script_compiler.specs.IsCompiled.{IsCompiled}
+use Rattle.swift_script.specs.declared.split.Declarations.{Declarations}
+use Rattle.swift_script.specs.Scripts.{parts_of}
+use Rattle.swift_script.specs.Accepted.{WasAccepted}
 
-pub record ScriptInvariant (text : List ℕ) (parts : ScriptView) (actors : List CompiledActor) (methods : List CompiledMethod) (roots : List MethodId) : Type 0 where
-  pub accepted : IsAccepted text (tree_of parts)
-  pub has_actors : map actor_is actors ≡ map compiled_actor (map view_actor parts.actors)
-  pub has_methods : map method_is methods ≡ map (compiled_of (directory_in (map view_actor parts.actors))) (entries_in (map view_actor parts.actors))
-  pub has_roots : map number_is roots ≡ map (root_number (directory_in (map view_actor parts.actors))) (map view_root parts.roots)
+-- the tree of declarations, without where they lie in memory
+abbrev pub tree_of : Declarations → ScriptTree
+tree_of d = record {
+  executors = map view_executor d.executors.items;
+  locals = map view_local d.locals.items;
+  actors = map view_actor d.actors.items;
+  roots = map view_root d.roots.items;
+}
+
+-- a declaration after the others of its kind
+abbrev pub with_last : DeclTree → ScriptTree → ScriptTree
+with_last (Executes x) s = record s { executors = s.executors ++ x ∷ [] }
+with_last (Binds l) s = record s { locals = s.locals ++ l ∷ [] }
+with_last (Acts a) s = record s { actors = s.actors ++ a ∷ [] }
+with_last (Roots r) s = record s { roots = s.roots ++ r ∷ [] }
+
+pub record ScriptInvariant (tree : ScriptTree) (text : List ℕ) (c : Compiled) : Type 0 where
+  pub accepted : WasAccepted tree
+  pub has_printed : text ≡ printed tree
+  pub has_parts : IsCompiled c (parts_of tree)

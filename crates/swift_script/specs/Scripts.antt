@@ -1,170 +1,157 @@
--- What callers see of a script.
-use Rattle.std.specs.Prelude.{ℕ, ◌+◌, ℤ, Option, Some, None, List, [], ◌∷◌, ◌++◌, length, map, slice_get}
+-- What callers see of a script. Its value is its tree, and what it is compiled to is a function of that. A thing that a
+-- script lacks has no name and nothing in it.
+use Rattle.std.specs.Prelude.{ℕ, ℤ, Option, None, List, [], map, length, slice_get, unwrap_or}
 use Rattle.swift_types.specs.declared.priority.Priority.{Priority}
 use Rattle.swift_types.specs.declared.priority.Priority.TheVariants.{Medium}
-use Rattle.script_grammar.specs.Tree.{FieldTree, MethodTree, ActorTree, RootTree, view_actor, view_root, block_tree}
-use Rattle.script_grammar.specs.declared.declared.Actor.{Actor}
-use Rattle.script_grammar.specs.declared.declared.Root.{Root}
-use Rattle.script_names.specs.Directory.{Directory, with_actor, method_place}
-use Rattle.script_names.specs.Rules.{field_names}
+use Rattle.script_grammar.specs.declared.declaration.ExecutorKind.{ExecutorKind}
+use Rattle.script_grammar.specs.declared.declaration.ExecutorKind.TheVariants as kind
+use Rattle.script_grammar.specs.Tree.{LocalTree, FieldTree}
 use Rattle.script_code.specs.Tree.{Term, Code, end}
-use Rattle.script_lowering.specs.Lowered.{code_of, most_of}
-use Rattle.swift_script.specs.Script.{ScriptTree, start_of, invariant_of}
+use Rattle.script_printing.specs.Script.{ScriptTree}
+use Rattle.script_compiler.specs.Compiled.{ExecutorView, ActorView, MethodView, RootView, CompiledView, compiled_of, executor_invariants as invariants_of_executor}
+use Rattle.script_compiler.specs.Starts.{starts_at}
 
--- the declarations of a script, by kinds, in text order
-pub record ScriptView : Type 0 where
-  pub actors : List Actor
-  pub roots : List Root
+-- A script, as callers see it, is its tree.
+abbrev pub ScriptView : Type 0
+ScriptView = ScriptTree
 
-abbrev pub tree_of : ScriptView → ScriptTree
-tree_of p = record { actors = map view_actor p.actors; roots = map view_root p.roots }
+-- what a script is compiled to: its executors, task locals, actors, methods and roots, each by its number
+unfoldable pub parts_of : ScriptTree → CompiledView
+parts_of s = compiled_of s
 
-abbrev pub with_actors : List ActorTree → Directory → Directory
-with_actors [] d = d
-with_actors (a ∷ others) d = with_actors others (with_actor a d)
+abbrev pub no_executor : ExecutorView
+no_executor = record { name = []; kind = kind.Priority; actors = [] }
 
--- what a script declares
-abbrev pub directory_in : List ActorTree → Directory
-directory_in actors = with_actors actors (record { actors = []; methods = []; params = [] })
+abbrev pub no_local : LocalTree
+no_local = record { name = []; default = ℤ.pos 0 }
 
--- a method, with the number of its actor and the names of that actor's fields
-pub record Entry : Type 0 where
-  pub actor : ℕ
-  pub fields : List (List ℕ)
-  pub method : MethodTree
+abbrev pub no_field : FieldTree
+no_field = record { name = []; start = ℤ.pos 0 }
 
-abbrev pub entries_of : ℕ → List (List ℕ) → List MethodTree → List Entry
-entries_of k fields [] = []
-entries_of k fields (m ∷ ms) = record { actor = k; fields = fields; method = m } ∷ entries_of k fields ms
+abbrev pub no_actor : ActorView
+no_actor = record { name = []; executor = 0; fields = []; invariant = None }
 
-abbrev pub entries_from : ℕ → List ActorTree → List Entry
-entries_from k [] = []
-entries_from k (a ∷ others) = entries_of k (field_names a.fields) a.methods ++ entries_from (k + 1) others
+abbrev pub no_method : MethodView
+no_method = record { name = []; actor = 0; params = 0; numbers = 0; handles = 0; code = end }
 
--- all methods of a script: those of the first actor in text order, then those of the next
-abbrev pub entries_in : List ActorTree → List Entry
-entries_in actors = entries_from 0 actors
+abbrev pub no_root : RootView
+no_root = record { name = []; method = 0; args = []; priority = Medium }
 
-abbrev pub code_in : Directory → Entry → Code
-code_in d e = code_of d e.fields e.method.params (block_tree e.method.body)
+abbrev pub executor_at : ScriptTree → ℕ → ExecutorView
+executor_at s e = unwrap_or (slice_get (parts_of s).executors e) no_executor
 
-abbrev pub slots_in : Entry → ℕ
-slots_in e = most_of (length e.method.params) (block_tree e.method.body)
+abbrev pub local_at : ScriptTree → ℕ → LocalTree
+local_at s l = unwrap_or (slice_get (parts_of s).locals l) no_local
 
-abbrev pub entry_at : ScriptView → ℕ → Option Entry
-entry_at p m = slice_get (entries_in (map view_actor p.actors)) m
+abbrev pub actor_at : ScriptTree → ℕ → ActorView
+actor_at s a = unwrap_or (slice_get (parts_of s).actors a) no_actor
 
-abbrev pub code_if : Directory → Option Entry → Code
-code_if d None = end
-code_if d (Some e) = code_in d e
+abbrev pub method_at : ScriptTree → ℕ → MethodView
+method_at s m = unwrap_or (slice_get (parts_of s).methods m) no_method
 
--- how many methods a script has
-abbrev pub method_count : ScriptView → ℕ
-method_count p = length (entries_in (map view_actor p.actors))
+abbrev pub root_at : ScriptTree → ℕ → RootView
+root_at s r = unwrap_or (slice_get (parts_of s).roots r) no_root
 
--- the statements of a method, with places for its names
-abbrev pub method_code : ScriptView → ℕ → Code
-method_code p m = code_if (directory_in (map view_actor p.actors)) (entry_at p m)
+-- how many executors there are: the declared ones first, and then those that actors have of their own
+abbrev pub executor_count : ScriptTree → ℕ
+executor_count s = length (parts_of s).executors
 
-abbrev pub slots_if : Option Entry → ℕ
-slots_if None = 0
-slots_if (Some e) = slots_in e
+abbrev pub executor_name : ScriptTree → ℕ → List ℕ
+executor_name s e = (executor_at s e).name
 
--- how many variables a frame of the method has
-abbrev pub method_slots : ScriptView → ℕ → ℕ
-method_slots p m = slots_if (entry_at p m)
+-- how it takes its jobs
+abbrev pub executor_kind : ScriptTree → ℕ → ExecutorKind
+executor_kind s e = (executor_at s e).kind
 
-abbrev pub params_if : Option Entry → ℕ
-params_if None = 0
-params_if (Some e) = length e.method.params
+-- the actors that run on it, in text order
+abbrev pub executor_actors : ScriptTree → ℕ → List ℕ
+executor_actors s e = (executor_at s e).actors
 
--- how many parameters a method has: the first of its variables
-abbrev pub method_params : ScriptView → ℕ → ℕ
-method_params p m = params_if (entry_at p m)
+-- the invariants of those of them that have one
+abbrev pub executor_invariants : ScriptTree → ℕ → List Term
+executor_invariants s e = invariants_of_executor (parts_of s) e
 
-abbrev pub actor_if : Option Entry → ℕ
-actor_if None = 0
-actor_if (Some e) = e.actor
+-- what the fields of its actors start with, a list for each actor
+abbrev pub executor_start : ScriptTree → ℕ → List (List ℤ)
+executor_start s e = starts_at (parts_of s) e
 
--- the number of the actor that a method is of
-abbrev pub method_actor : ScriptView → ℕ → ℕ
-method_actor p m = actor_if (entry_at p m)
+abbrev pub local_count : ScriptTree → ℕ
+local_count s = length (parts_of s).locals
 
-abbrev pub invariant_if : Option ActorTree → Option Term
-invariant_if None = None
-invariant_if (Some a) = invariant_of a
+abbrev pub local_name : ScriptTree → ℕ → List ℕ
+local_name s l = (local_at s l).name
 
--- an actor's invariant, with the places of its fields
-abbrev pub actor_invariant : ScriptView → ℕ → Option Term
-actor_invariant p k = invariant_if (slice_get (map view_actor p.actors) k)
+-- what is read of a task local where it is not bound
+abbrev pub local_default : ScriptTree → ℕ → ℤ
+local_default s l = (local_at s l).default
 
-abbrev pub start_if : Option ActorTree → List ℤ
-start_if None = []
-start_if (Some a) = start_of a
+abbrev pub actor_count : ScriptTree → ℕ
+actor_count s = length (parts_of s).actors
 
--- what an actor's fields start with
-abbrev pub actor_start : ScriptView → ℕ → List ℤ
-actor_start p k = start_if (slice_get (map view_actor p.actors) k)
+abbrev pub actor_name : ScriptTree → ℕ → List ℕ
+actor_name s a = (actor_at s a).name
 
-abbrev pub actor_count : ScriptView → ℕ
-actor_count p = length p.actors
+-- the executor that an actor runs on
+abbrev pub actor_executor : ScriptTree → ℕ → ℕ
+actor_executor s a = (actor_at s a).executor
 
-abbrev pub root_count : ScriptView → ℕ
-root_count p = length p.roots
+-- its fields, with what they start with
+abbrev pub actor_fields : ScriptTree → ℕ → List FieldTree
+actor_fields s a = (actor_at s a).fields
 
-abbrev pub root_method_if : Directory → Option RootTree → ℕ
-root_method_if d None = 0
-root_method_if d (Some r) = method_place d r.actor r.method
+abbrev pub field_at : ScriptTree → ℕ → ℕ → FieldTree
+field_at s a f = unwrap_or (slice_get (actor_fields s a) f) no_field
 
--- the number of the method that a root calls
-abbrev pub root_method : ScriptView → ℕ → ℕ
-root_method p k = root_method_if (directory_in (map view_actor p.actors)) (slice_get (map view_root p.roots) k)
+abbrev pub field_name : ScriptTree → ℕ → ℕ → List ℕ
+field_name s a f = (field_at s a f).name
 
-abbrev pub root_args_if : Option RootTree → List ℤ
-root_args_if None = []
-root_args_if (Some r) = r.args
+-- what its fields start with
+abbrev pub actor_start : ScriptTree → ℕ → List ℤ
+actor_start s a = map (λ f. f.start) (actor_fields s a)
 
-abbrev pub root_args : ScriptView → ℕ → List ℤ
-root_args p k = root_args_if (slice_get (map view_root p.roots) k)
+-- its invariant, with places for names
+abbrev pub actor_invariant : ScriptTree → ℕ → Option Term
+actor_invariant s a = (actor_at s a).invariant
 
-abbrev pub root_priority_if : Option RootTree → Priority
-root_priority_if None = Medium
-root_priority_if (Some r) = r.priority
+-- how many methods there are: those of the first actor in text order, then those of the next
+abbrev pub method_count : ScriptTree → ℕ
+method_count s = length (parts_of s).methods
 
-abbrev pub root_priority : ScriptView → ℕ → Priority
-root_priority p k = root_priority_if (slice_get (map view_root p.roots) k)
+abbrev pub method_name : ScriptTree → ℕ → List ℕ
+method_name s m = (method_at s m).name
 
-abbrev pub name_if : Option Entry → List ℕ
-name_if None = []
-name_if (Some e) = e.method.name
+-- the actor that a method is of
+abbrev pub method_actor : ScriptTree → ℕ → ℕ
+method_actor s m = (method_at s m).actor
 
-abbrev pub method_name : ScriptView → ℕ → List ℕ
-method_name p m = name_if (entry_at p m)
+-- how many parameters it has: the first of its numbers
+abbrev pub method_params : ScriptTree → ℕ → ℕ
+method_params s m = (method_at s m).params
 
-abbrev pub actor_name_if : Option ActorTree → List ℕ
-actor_name_if None = []
-actor_name_if (Some a) = a.name
+-- how many numbers a frame of it has: parameters and variables
+abbrev pub method_numbers : ScriptTree → ℕ → ℕ
+method_numbers s m = (method_at s m).numbers
 
--- the name of an actor, by its number; empty where there is none
-abbrev pub actor_name : ScriptView → ℕ → List ℕ
-actor_name p k = actor_name_if (slice_get (map view_actor p.actors) k)
+-- how many handles a frame of it has: task variables and groups
+abbrev pub method_handles : ScriptTree → ℕ → ℕ
+method_handles s m = (method_at s m).handles
 
-abbrev pub fields_if : Option ActorTree → List FieldTree
-fields_if None = []
-fields_if (Some a) = a.fields
+-- its statements, with places for names
+abbrev pub method_code : ScriptTree → ℕ → Code
+method_code s m = (method_at s m).code
 
-abbrev pub field_name_if : Option FieldTree → List ℕ
-field_name_if None = []
-field_name_if (Some f) = f.name
+abbrev pub root_count : ScriptTree → ℕ
+root_count s = length (parts_of s).roots
 
--- the name of a field of an actor, by both numbers; empty where there is none
-abbrev pub field_name : ScriptView → ℕ → ℕ → List ℕ
-field_name p k i = field_name_if (slice_get (fields_if (slice_get (map view_actor p.actors) k)) i)
+abbrev pub root_name : ScriptTree → ℕ → List ℕ
+root_name s r = (root_at s r).name
 
-abbrev pub root_name_if : Option RootTree → List ℕ
-root_name_if None = []
-root_name_if (Some r) = r.name
+-- the method that a root runs
+abbrev pub root_method : ScriptTree → ℕ → ℕ
+root_method s r = (root_at s r).method
 
--- the name of a root, by its number; empty where there is none
-abbrev pub root_name : ScriptView → ℕ → List ℕ
-root_name p k = root_name_if (slice_get (map view_root p.roots) k)
+abbrev pub root_args : ScriptTree → ℕ → List ℤ
+root_args s r = (root_at s r).args
+
+abbrev pub root_priority : ScriptTree → ℕ → Priority
+root_priority s r = (root_at s r).priority

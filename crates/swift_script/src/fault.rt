@@ -27,10 +27,19 @@ pub enum ScriptFaultKind {
     /// A call with another number of arguments than its method has parameters.
     #[error("S6 wrong number of arguments")]
     Arguments,
-    /// An invariant that is 0, or overflows, of the fields' start values.
+    /// A name that stands for something else: a task, a group and a number are confused.
+    #[error("S7 task, group and number confused")]
+    Confused,
+    /// An invariant that is 0, or overflows, of the start values of the fields.
     #[error("S8 invariant false at the start")]
     InvariantFalse,
-    /// More than 65,536 bytes, 64 actors or 1,024 roots.
+    /// A child that is added inside a `bind` that was opened inside its group.
+    #[error("S9 add in a bind inside its group")]
+    BoundInside,
+    /// A root that waits for itself or for a root that is declared after it.
+    #[error("S10 a root waits for a later root")]
+    RootWaits,
+    /// More than 65,536 bytes, 64 declared executors, 64 actors or 1,024 roots, or a worker above the 8th.
     #[error("S11 a limit is passed")]
     LimitPassed,
     /// The text ends where more has to come.

@@ -1,17 +1,24 @@
 //! Laws of scripts. They call nothing: each is its contract.
 
-ghost use Rattle.std.specs.Prelude.{◌≡◌, ℕ, List, IsTrue};
+ghost use Rattle.std.specs.Prelude.{◌≡◌, ◌<◌, ℕ, List, IsTrue, length};
 ghost use Rattle.script_code.specs.Value.{holds};
-ghost use Rattle.swift_script.specs.Script.{ScriptTree};
-ghost use Rattle.swift_script.specs.Scripts.{ScriptView, tree_of, actor_invariant, actor_start};
-ghost use Rattle.swift_script.specs.Accepted.{Spells, IsAccepted};
+ghost use Rattle.script_printing.specs.Script.{ScriptTree};
+ghost use Rattle.script_printing.specs.Printed.{printed};
+ghost use Rattle.swift_script.specs.Accepted.{Spells, IsAccepted, WasAccepted};
+ghost use Rattle.swift_script.specs.Scripts.{actor_count, actor_invariant, actor_executor, executor_start};
 
-/// A text spells at most one script, whatever the limits.
+/// A law: a text spells at most one script, whatever the limits.
 pub fn one_tree()
     ensures { (m n : ℕ) (text : List ℕ) (s t : ScriptTree) → Spells m text s → Spells n text t → s ≡ t }
 {}
 
-/// Each actor's invariant, if it has one, holds of what its fields start with, in a script whose tree is accepted.
+/// A law: accepted scripts with one printed form are one script.
+pub fn one_printed_form()
+    ensures { (s t : ScriptTree) → WasAccepted s → WasAccepted t → printed s ≡ printed t → s ≡ t }
+{}
+
+/// A law: each actor's invariant, if it has one, holds of what the fields of its executor's actors start with, in a
+/// script that is accepted.
 pub fn invariants_hold_at_the_start()
-    ensures { (text : List ℕ) (p : ScriptView) (actor : ℕ) → IsAccepted text (tree_of p) → IsTrue (holds (actor_invariant p actor) (actor_start p actor)) }
+    ensures { (s : ScriptTree) (actor : ℕ) → WasAccepted s → actor < actor_count s → IsTrue (holds (actor_invariant s actor) (executor_start s (actor_executor s actor))) }
 {}

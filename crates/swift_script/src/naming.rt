@@ -3,41 +3,57 @@
 ghost use Rattle.std.specs.Prelude.{◌≡◌, ℕ, List, None, map, IfOk, IfErr};
 ghost use Rattle.script_grammar.specs.Tree.{view_decl};
 ghost use Rattle.script_names.specs.Directory.{directory_of};
-ghost use Rattle.script_names.specs.Rules.{names_fault};
-ghost use Rattle.swift_script.specs.FaultLines.{AreLines, SpellsPlaced, IsAtItsLine};
-ghost use Rattle.swift_script.specs.Refuses.{Refuses, names_kind, check_kind, check_line};
+ghost use Rattle.script_names.specs.Rules.{names_error};
+ghost use Rattle.swift_script.specs.FaultLines.{IsAtItsLine, past_name};
+ghost use Rattle.swift_script.specs.Refuses.{Refuses};
+ghost use Rattle.swift_script.specs.Spelled.{IsSpelled, names_kind, check_kind, check_line};
 
 use crate::fault::{ScriptFault, ScriptFaultKind};
-use crate::lines::Lines;
+use crate::place::{Sought, line_at, place_of};
 use crate::spelled::fault;
 use script_grammar::Decl;
 use script_names::{CheckError, Declared, NameErrorKind, check};
+use script_tokens::Tokens;
 use std::alloc::Global;
 
 /// What the declarations declare, where their names are in order.
 pub(crate) fn check_names(
     alloc: Global,
     decls: &[Decl],
-    lines: &Lines,
+    tokens: &Tokens,
 ) -> Result<Declared, ScriptFault>
-    ensures names { IfOk result (λ d. names_fault (map view_decl decls.now) ≡ None) }
+    ensures names { IfOk result (λ d. names_error (map view_decl decls.now) ≡ None) }
     ensures directory { IfOk result (λ d. d ≡ directory_of (map view_decl decls.now)) }
-    ensures refused { (text : List ℕ) → SpellsPlaced text decls.now → IfErr result (λ e. Refuses e.kind text) }
-    ensures line { (text : List ℕ) → SpellsPlaced text decls.now → AreLines text lines.now → IfErr result (λ e. IsAtItsLine e text) }
+    ensures refused { (text : List ℕ) → IsSpelled text (map view_decl decls.now) tokens.now → IfErr result (λ e. Refuses e.kind text) }
+    ensures line { (text : List ℕ) → IsSpelled text (map view_decl decls.now) tokens.now → IfErr result (λ e. IsAtItsLine e text) }
 {
     match check(alloc, decls) {
         Ok(declared) => Ok(declared),
-        Err(error) => Err(refusal(lines, error)),
+        Err(error) => Err(refusal(tokens, error)),
     }
 }
 
-fn refusal(lines: &Lines, error: CheckError) -> ScriptFault
+fn refusal(tokens: &Tokens, error: CheckError) -> ScriptFault
     ensures kind { result.kind ≡ check_kind error }
-    ensures line { result.line ≡ check_line lines.now error }
+    ensures line { result.line ≡ check_line tokens.now error }
 {
     match error {
         CheckError::Memory => ScriptFault::MEMORY,
-        CheckError::Name(found) => fault(lines.line(found.tokens_left), kind_of(found.kind)),
+        CheckError::Name(found) => {
+            let name = place_of(&tokens.tokens, Sought::Name, found.names_before as usize);
+            let place = name.saturating_add(past_name(found.kind));
+            fault(line_at(tokens, place), kind_of(found.kind))
+        }
+    }
+}
+
+// How many tokens after the name the fault stands.
+fn past_name(kind: NameErrorKind) -> usize
+    ensures { result ≡ past_name kind }
+{
+    match kind {
+        NameErrorKind::TooGreat => 2,
+        _ => 0,
     }
 }
 
@@ -48,6 +64,8 @@ fn kind_of(kind: NameErrorKind) -> ScriptFaultKind
         NameErrorKind::Twice => ScriptFaultKind::NameTwice,
         NameErrorKind::Unknown => ScriptFaultKind::UnknownName,
         NameErrorKind::Arguments => ScriptFaultKind::Arguments,
-        NameErrorKind::TooMany => ScriptFaultKind::LimitPassed,
+        NameErrorKind::Confused => ScriptFaultKind::Confused,
+        NameErrorKind::BoundInside => ScriptFaultKind::BoundInside,
+        NameErrorKind::TooMany | NameErrorKind::TooGreat => ScriptFaultKind::LimitPassed,
     }
 }

@@ -1,248 +1,186 @@
 //! Scripts that were read.
 
-ghost use Rattle.std.specs.Prelude.{◌≡◌, ◌↔◌, ◌<◌, ◌≤◌, IsTrue, map, slice_get};
-ghost use Rattle.script_grammar.specs.Tree.{view_actor, view_root};
-ghost use Rattle.swift_script.specs.ScriptInvariant.{ScriptInvariant};
-ghost use Rattle.swift_script.specs.Compiled.{IsMethodOf, IsActorOrNone};
-ghost use Rattle.swift_script.specs.Accepted.{WasAccepted};
-ghost use Rattle.swift_script.specs.Lent.{actor_if_lent, root_if_lent};
-ghost use Rattle.script_code.specs.Instructions.{Implements};
-ghost use Rattle.script_code.specs.Seen.{term_if_lent};
-ghost use Rattle.swift_script.specs.Scripts.{tree_of, directory_in, entry_at, method_count, method_code, method_actor, method_slots, method_params, method_name, actor_count, actor_invariant, actor_start, root_count, root_method, root_args, root_priority};
+ghost use Rattle.std.specs.Prelude.{◌≡◌, ◌↔◌, ℕ, ◌+◌, ◌<◌, ◌≤◌, length, IfOk, IsTrue};
+ghost use Rattle.script_printing.specs.Printed.{printed};
+ghost use Rattle.script_code.specs.Seen.{rows_of};
+ghost use Rattle.script_code.specs.Tree.{terms_of};
+ghost use Rattle.script_code.specs.Value.{holds};
+ghost use Rattle.script_compiler.specs.IsCompiled.{IsMethod};
+ghost use Rattle.swift_script.specs.Lent.{executor_lent, local_lent, actor_lent, root_lent};
+ghost use Rattle.swift_script.specs.ScriptInvariant.{ScriptInvariant, tree_of};
+ghost use Rattle.swift_script.specs.Accepted.{WasAccepted, NoRootWaits};
+ghost use Rattle.swift_script.specs.SameScripts.{same_scripts};
+ghost use Rattle.swift_script.specs.Scripts.{executor_at, local_at, actor_at, method_at, root_at, executor_count, executor_invariants, executor_start, local_count, actor_count, actor_executor, actor_invariant, method_count, method_params, root_count, root_method, root_args};
 
-use crate::compile::Compiled;
-use crate::compiled::{CompiledActor, CompiledMethod};
-use script_code::{Formula, Instruction};
-use script_equality::{same_actors, same_roots};
-use script_grammar::{Actor, Root};
+use crate::split::Declarations;
+use script_code::Formula;
+use script_compiler::{
+    Compiled, CompiledActor, CompiledExecutor, CompiledLocal, CompiledMethod, CompiledRoot,
+};
+use std::alloc::{AllocError, Global};
 use std::marker::Model;
-use swift_types::limits::ACTORS;
-use swift_types::{ActorId, MethodId, Priority, RootId};
+use swift_types::limits::{ACTORS, EXECUTORS, TASKS};
+use swift_types::{ActorId, ExecId, LocalId, MethodId, RootId};
 
-/// A script that `read` accepted: no rule on its names, counts and invariants is broken, and its methods are
-/// compiled to instructions.
+/// A script that `read` accepted: no rule on its names, counts, invariants and roots is broken, and it is compiled.
 ///
-/// All that a turn needs of it is found in constant time. Contracts see its declarations.
+/// All that a turn needs of it is found in constant time. Contracts see its tree.
 #[derive(Drop)]
 pub struct Script {
-    text: Vec<u8>,
-    actors: Vec<Actor>,
-    roots: Vec<Root>,
-    compiled: Vec<CompiledActor>,
-    methods: Vec<CompiledMethod>,
-    root_methods: Vec<MethodId>,
+    declarations: Declarations,
+    printed: Vec<u8>,
+    compiled: Compiled,
 }
 
 impl Model for Script {
-    ghost use Rattle.swift_script.specs.Scripts.{ScriptView};
-    ghost use Rattle.swift_script.specs.ScriptInvariant.{ScriptInvariant};
-    ghost use Rattle.script_grammar.specs.contracts.tree.Expr as e;
-    ghost use Rattle.script_grammar.specs.contracts.tree.Stmt as s;
     ghost use Rattle.std.specs.Coded.{codes};
+    ghost use Rattle.script_printing.specs.Script.{ScriptTree};
+    ghost use Rattle.swift_script.specs.Codes.{expression_code, statement_code, block_code};
 
-    ghost Value = { ScriptView };
+    ghost Value = { ScriptTree };
 
-    ghost coded = { Prim.hlevel (codes, e.the_row.coded, s.the_row.coded) };
+    ghost coded = { Prim.hlevel (codes, expression_code, statement_code (block_code (Prim.hlevel (codes, expression_code)) (Prim.hlevel (codes, expression_code)))) };
 
-    ghost view = { λ s. record { actors = s.actors.items; roots = s.roots.items } };
+    ghost use Rattle.swift_script.specs.ScriptInvariant.{ScriptInvariant, tree_of};
 
-    ghost invariant = { λ s. ScriptInvariant s.text.items (record { actors = s.actors.items; roots = s.roots.items }) s.compiled.items s.methods.items s.root_methods.items };
+    ghost view = { λ s. tree_of s.declarations };
+
+    ghost invariant = { λ s. ScriptInvariant (tree_of s.declarations) s.printed.items s.compiled };
 }
 
 impl Script {
-    /// The script of these declarations, which were compiled so.
-    pub(crate) fn of(
-        text: Vec<u8>,
-        actors: Vec<Actor>,
-        roots: Vec<Root>,
-        compiled: Compiled,
-        root_methods: Vec<MethodId>,
-    ) -> Script
-        requires { ScriptInvariant text.items (record { actors = actors.items; roots = roots.items }) compiled.actors.items compiled.methods.items root_methods.items }
-        ensures { result ≡ record { actors = actors.items; roots = roots.items } }
+    /// The script of these declarations, which are printed and compiled so.
+    pub(crate) fn of(declarations: Declarations, printed: Vec<u8>, compiled: Compiled) -> Script
+        requires { ScriptInvariant (tree_of declarations) printed.items compiled }
+        ensures { result ≡ tree_of declarations }
     {
-        let Compiled {
-            actors: compiled,
-            methods,
-        } = compiled;
         Script {
-            text,
-            actors,
-            roots,
+            declarations,
+            printed,
             compiled,
-            methods,
-            root_methods,
         }
     }
 
-    /// How many actors there are, at most 64.
-    pub fn actor_count(&self) -> usize
-        ensures count { result ≡ actor_count self.now }
-        ensures few { result ≤ ACTORS }
+    /// The printed form (`print_script`), in constant time. Two scripts have one printed form only if they are equal.
+    pub fn printed(&self) -> &[u8]
+        ensures printed { result.now ≡ printed self.now }
+        // A text of this script was accepted.
+        ensures accepted { WasAccepted self.now }
     {
-        self.actors.len()
+        &self.printed
+    }
+
+    /// How many executors there are: the declared ones (SE-0392), and those that actors have of their own (SE-0306).
+    pub fn executor_count(&self) -> usize
+        ensures { result ≡ executor_count self.now }
+    {
+        self.compiled.executors.len()
+    }
+
+    /// How many task locals there are (SE-0311).
+    pub fn local_count(&self) -> usize
+        ensures { result ≡ local_count self.now }
+    {
+        self.compiled.locals.len()
+    }
+
+    /// How many actors there are (SE-0306).
+    pub fn actor_count(&self) -> usize
+        ensures { result ≡ actor_count self.now }
+    {
+        self.compiled.actors.len()
     }
 
     /// How many methods there are.
     pub fn method_count(&self) -> usize
         ensures { result ≡ method_count self.now }
     {
-        self.methods.len()
+        self.compiled.methods.len()
     }
 
-    /// How many roots there are.
+    /// How many roots there are (our own).
     pub fn root_count(&self) -> usize
         ensures { result ≡ root_count self.now }
     {
-        self.roots.len()
+        self.compiled.roots.len()
     }
 
-    /// The method as numbered instructions. Following them from number 0 does the method's statements.
-    pub fn instructions(&self, method: MethodId) -> &[Instruction]
-        requires { method.0 < method_count self.now }
-        ensures { Implements result.now (method_code self.now method.0) }
-    {
-        &self.method(method).instructions
-    }
-
-    /// The actor that a method is of.
-    pub fn actor_of(&self, method: MethodId) -> ActorId
-        requires { method.0 < method_count self.now }
-        ensures { result.0 ≡ method_actor self.now method.0 }
-    {
-        self.method(method).actor
-    }
-
-    /// How many variables a frame of a method has.
-    pub fn slots(&self, method: MethodId) -> u32
-        requires { method.0 < method_count self.now }
-        ensures { result ≡ method_slots self.now method.0 }
-    {
-        self.method(method).slots
-    }
-
-    /// How many parameters a method has: the first of its variables.
-    pub fn params(&self, method: MethodId) -> u32
-        requires { method.0 < method_count self.now }
-        ensures { result ≡ method_params self.now method.0 }
-    {
-        self.method(method).params
-    }
-
-    /// The name of a method.
-    pub fn method_name(&self, method: MethodId) -> &[u8]
-        requires { method.0 < method_count self.now }
-        ensures { result.now ≡ method_name self.now method.0 }
-    {
-        &self.method(method).name
-    }
-
-    /// The method that a root calls.
-    pub fn root_method(&self, root: RootId) -> MethodId
-        requires { root.0 < root_count self.now }
-        ensures { result.0 ≡ root_method self.now root.0 }
-    {
-        let Some(method) = self.root_methods.get(root.0 as usize) else {
-            unreachable!()
-        };
-        *method
-    }
-
-    /// The arguments of the call that a root is; none for a root that the script lacks.
-    pub fn root_args(&self, root: RootId) -> &[i64]
-        ensures { result.now ≡ root_args self.now root.0 }
-    {
-        match self.root(root) {
-            Some(found) => &found.args,
-            None => &[],
-        }
-    }
-
-    /// The priority of a root's task; medium for a root that the script lacks.
-    pub fn root_priority(&self, root: RootId) -> Priority
-        ensures { result ≡ root_priority self.now root.0 }
-    {
-        match self.root(root) {
-            Some(found) => found.priority,
-            None => Priority::Medium,
-        }
-    }
-
-    /// The invariant of an actor, if it has one.
-    pub fn invariant(&self, actor: ActorId) -> Option<&Formula>
-        ensures { term_if_lent result ≡ actor_invariant self.now actor.0 }
-    {
-        match self.compiled_actor(actor) {
-            Some(actor) => actor.invariant.as_ref(),
-            None => None,
-        }
-    }
-
-    /// What the fields of an actor start with; none for an actor that the script lacks.
-    pub fn start(&self, actor: ActorId) -> &[i64]
-        ensures { result.now ≡ actor_start self.now actor.0 }
-    {
-        match self.compiled_actor(actor) {
-            Some(actor) => &actor.start,
-            None => &[],
-        }
-    }
-
-    /// Whether two scripts have equal trees: they declare the same, whatever their spaces, comments, redundant
-    /// parentheses, and the order of actors against roots. Scripts of one text are given without a look at their trees.
-    /// Linear in the texts and the trees.
+    /// Whether two scripts are equal: they declare the same, whatever their spaces, comments, redundant parentheses,
+    /// and the order of declarations of different kinds. It is one comparison of their printed forms, and takes no
+    /// memory.
     pub fn says_the_same(&self, other: &Script) -> bool
-        ensures { IsTrue result ↔ (tree_of self.now ≡ tree_of other.now) }
+        ensures same { IsTrue result ↔ (self.now ≡ other.now) }
+        ensures printed { result ≡ same_scripts self.now other.now }
     {
-        if self.text.as_slice() == other.text.as_slice() {
-            return true;
-        }
-        same_actors(&self.actors, &other.actors) && same_roots(&self.roots, &other.roots)
+        self.printed.as_slice() == other.printed.as_slice()
     }
 
-    /// The actors and the roots, each in text order. Each script was read from a text that is accepted.
-    pub(crate) fn declarations(&self) -> (&[Actor], &[Root])
-        ensures actors { result.0.now ≡ self.now.actors }
-        ensures roots { result.1.now ≡ self.now.roots }
-        ensures read { WasAccepted (tree_of self.now) }
+    /// The invariants of the actors that run on an executor, of those that have one, in text order; none for an executor
+    /// that the script lacks. In constant time.
+    pub fn executor_invariants(&self, executor: ExecId) -> &[Formula]
+        ensures { terms_of result.now ≡ executor_invariants self.now executor.0 }
     {
-        (&self.actors, &self.roots)
+        self.compiled.invariants(executor)
     }
 
-    pub(crate) fn actor(&self, actor: ActorId) -> Option<&Actor>
-        ensures { actor_if_lent result ≡ slice_get (map view_actor self.now.actors) actor.0 }
+    /// What the fields of the actors that run on an executor start with, a row for each actor, in text order; no rows
+    /// for an executor that the script lacks. `Err` says that there was no memory. Linear in the fields.
+    pub fn executor_start(
+        &self,
+        alloc: Global,
+        executor: ExecId,
+    ) -> Result<Vec<Vec<i64>>, AllocError>
+        ensures { IfOk result (λ rows. rows_of rows.items ≡ executor_start self.now executor.0) }
     {
-        match self.actors.get(actor.0 as usize) {
-            Some(found) => Some(found),
-            None => None,
-        }
+        self.compiled.start_rows(alloc, executor)
     }
 
-    pub(crate) fn root(&self, root: RootId) -> Option<&Root>
-        ensures { root_if_lent result ≡ slice_get (map view_root self.now.roots) root.0 }
+    /// What holds of each script, since a text of it was accepted. It does nothing.
+    pub fn facts(&self)
+        ensures accepted { WasAccepted self.now }
+        ensures actors { actor_count self.now ≤ ACTORS }
+        ensures roots { root_count self.now ≤ TASKS }
+        // As many as may be declared, and one for each actor.
+        ensures executors { executor_count self.now ≤ EXECUTORS + ACTORS }
+        // Each invariant holds at the start.
+        ensures starts { (actor : ℕ) → actor < actor_count self.now → IsTrue (holds (actor_invariant self.now actor) (executor_start self.now (actor_executor self.now actor))) }
+        // Each root runs a method that is there, with as many arguments as it has parameters.
+        ensures methods { (root : ℕ) → root < root_count self.now → root_method self.now root < method_count self.now }
+        ensures args { (root : ℕ) → root < root_count self.now → length (root_args self.now root) ≡ method_params self.now (root_method self.now root) }
+        // No root waits for itself or for a later one.
+        ensures waits { NoRootWaits self.now }
     {
-        match self.roots.get(root.0 as usize) {
-            Some(found) => Some(found),
-            None => None,
-        }
+        let _ = self.printed();
     }
 
-    fn method(&self, method: MethodId) -> &CompiledMethod
+    pub(crate) fn executor(&self, executor: ExecId) -> Option<&CompiledExecutor>
+        ensures { executor_lent result ≡ executor_at self.now executor.0 }
+    {
+        self.compiled.executors.get(executor.0 as usize)
+    }
+
+    pub(crate) fn local(&self, local: LocalId) -> Option<&CompiledLocal>
+        ensures { local_lent result ≡ local_at self.now local.0 }
+    {
+        self.compiled.locals.get(local.0 as usize)
+    }
+
+    pub(crate) fn actor(&self, actor: ActorId) -> Option<&CompiledActor>
+        ensures { actor_lent result ≡ actor_at self.now actor.0 }
+    {
+        self.compiled.actors.get(actor.0 as usize)
+    }
+
+    pub(crate) fn method(&self, method: MethodId) -> &CompiledMethod
         requires { method.0 < method_count self.now }
-        ensures { IsMethodOf (directory_in (map view_actor self.now.actors)) (entry_at self.now method.0) result.now }
+        ensures { IsMethod result.now (method_at self.now method.0) }
     {
-        let Some(found) = self.methods.get(method.0 as usize) else {
-            unreachable!()
-        };
-        found
+        &self.compiled.methods[method.0 as usize]
     }
 
-    fn compiled_actor(&self, actor: ActorId) -> Option<&CompiledActor>
-        ensures { IsActorOrNone (slice_get (map view_actor self.now.actors) actor.0) result }
+    pub(crate) fn root(&self, root: RootId) -> Option<&CompiledRoot>
+        ensures { root_lent result ≡ root_at self.now root.0 }
     {
-        match self.compiled.get(actor.0 as usize) {
-            Some(found) => Some(found),
-            None => None,
-        }
+        self.compiled.roots.get(root.0 as usize)
     }
 }

@@ -2,30 +2,30 @@
 
 ghost use Rattle.std.specs.Prelude.{◌≡◌, ◌≤◌, map, length, true, IfOk, IfErr};
 ghost use Rattle.script_tokens.specs.Bytes.{is_text};
-ghost use Rattle.script_tokens.specs.Lexes.{Lexes};
-ghost use Rattle.script_tokens.specs.Lines.{BeginOn};
-ghost use Rattle.script_tokens.specs.Pieces.{piece};
-ghost use Rattle.swift_script.specs.FaultLines.{last_line, AreLines, SpellsPlaced, IsAtItsLine};
-ghost use Rattle.swift_script.specs.Refuses.{Refuses, grammar_kind, read_kind, read_line};
+ghost use Rattle.script_grammar.specs.Tree.{view_decl};
+ghost use Rattle.swift_script.specs.Accepted.{IsPlain};
+ghost use Rattle.swift_script.specs.FaultLines.{IsAtItsLine};
+ghost use Rattle.swift_script.specs.Refuses.{Refuses};
+ghost use Rattle.swift_script.specs.Spelled.{AreKept, IsSpelled, grammar_kind, read_kind, read_line};
 
 use crate::fault::{ScriptFault, ScriptFaultKind};
-use crate::lines::Lines;
-use script_grammar::{Decl, Kind, ReadError, declarations};
+use crate::place::line_at;
+use script_grammar::Decl;
+use script_parser::{Kind, ReadError, parse};
 use script_tokens::{Tokens, stray_line, tokens};
 use std::alloc::Global;
 use swift_types::limits::BYTES;
 
-/// The declarations of a text, and on which lines its tokens stand.
+/// The declarations of a text, and its tokens.
 #[derive(Drop)]
 pub(crate) struct Spelled {
     pub decls: Vec<Decl>,
-    pub lines: Lines,
+    pub tokens: Tokens,
 }
 
 /// The declarations that a text spells.
 pub(crate) fn spell(alloc: Global, text: &[u8]) -> Result<Spelled, ScriptFault>
-    ensures spelled { IfOk result (λ s. SpellsPlaced text.now s.decls.items) }
-    ensures lines { IfOk result (λ s. AreLines text.now s.lines) }
+    ensures spelled { IfOk result (λ s. IsSpelled text.now (map view_decl s.decls.items) s.tokens) }
     ensures refused { IfErr result (λ e. Refuses e.kind text.now) }
     ensures line { IfErr result (λ e. IsAtItsLine e text.now) }
 {
@@ -35,43 +35,46 @@ pub(crate) fn spell(alloc: Global, text: &[u8]) -> Result<Spelled, ScriptFault>
     if let Some(line) = stray_line(text) {
         return Err(fault(line, ScriptFaultKind::NotText));
     }
+    let tokens = all_tokens(alloc, text)?;
+    declarations(alloc, text, tokens)
+}
+
+// The tokens of a text.
+fn all_tokens(alloc: Global, text: &[u8]) -> Result<Tokens, ScriptFault>
+    ensures kept { IfOk result (AreKept text.now) }
+    ensures refused { IfErr result (λ e. Refuses e.kind text.now) }
+    ensures line { IfErr result (λ e. IsAtItsLine e text.now) }
+{
     match tokens(alloc, text) {
-        Ok(found) => parse(alloc, text, found),
+        Ok(tokens) => Ok(tokens),
         Err(_) => Err(ScriptFault::MEMORY),
     }
 }
 
-// The declarations that a text's tokens spell.
-fn parse(alloc: Global, text: &[u8], found: Tokens) -> Result<Spelled, ScriptFault>
-    requires short { length text.now ≤ BYTES }
-    requires plain { is_text text.now ≡ true }
-    requires lexed { Lexes text.now (map piece found.tokens.items) }
-    requires begun { BeginOn text.now text.now found.lines.items }
-    requires last { found.last_line ≡ last_line text.now }
-    ensures spelled { IfOk result (λ s. SpellsPlaced text.now s.decls.items) }
-    ensures lines { IfOk result (λ s. AreLines text.now s.lines) }
+// The declarations that the tokens of a plain text spell.
+fn declarations(alloc: Global, text: &[u8], tokens: Tokens) -> Result<Spelled, ScriptFault>
+    requires plain { IsPlain text.now }
+    requires kept { AreKept text.now tokens }
+    ensures spelled { IfOk result (λ s. IsSpelled text.now (map view_decl s.decls.items) s.tokens) }
     ensures refused { IfErr result (λ e. Refuses e.kind text.now) }
     ensures line { IfErr result (λ e. IsAtItsLine e text.now) }
 {
-    let Tokens {
-        tokens,
-        lines,
-        last_line: last,
-    } = found;
-    let lines = Lines { lines, last };
-    match declarations(alloc, &tokens) {
-        Ok(decls) => Ok(Spelled { decls, lines }),
-        Err(error) => Err(refusal(&lines, error)),
+    match parse(alloc, &tokens.tokens) {
+        Ok(decls) => Ok(Spelled { decls, tokens }),
+        Err(error) => Err(refusal(&tokens, error)),
     }
 }
 
-fn refusal(lines: &Lines, error: ReadError) -> ScriptFault
+fn refusal(tokens: &Tokens, error: ReadError) -> ScriptFault
     ensures kind { result.kind ≡ read_kind error }
-    ensures line { result.line ≡ read_line lines.now error }
+    ensures line { result.line ≡ read_line tokens.now error }
 {
     match error {
         ReadError::Memory => ScriptFault::MEMORY,
-        ReadError::Fault(found) => fault(lines.line(found.tokens_left), kind_of(found.kind)),
+        ReadError::Fault(found) => {
+            let place = tokens.lines.len().saturating_sub(found.tokens_left);
+            fault(line_at(tokens, place), kind_of(found.kind))
+        }
     }
 }
 

@@ -1,26 +1,49 @@
 //! Declarations by kinds.
 
-ghost use Rattle.std.specs.Prelude.{◌≡◌, map, IfOk};
-ghost use Rattle.script_grammar.specs.Tree.{view_actor, view_root, view_decl};
-ghost use Rattle.swift_script.specs.Script.{actors_in, roots_in};
-ghost use Rattle.swift_script.specs.FaultLines.{actors_among};
+ghost use Rattle.std.specs.Prelude.{◌≡◌, map, IfOk, OnOk};
+ghost use Rattle.script_grammar.specs.Tree.{view_decl};
+ghost use Rattle.script_printing.specs.Script.{script_in};
+ghost use Rattle.swift_script.specs.ScriptInvariant.{tree_of, with_last};
 
-use script_grammar::{Actor, Decl, Root};
+use script_grammar::{Actor, Decl, Executor, Local, Root};
 use std::alloc::{AllocError, Global};
 
-/// The actors and the roots, each in text order.
-pub(crate) fn split(alloc: Global, decls: Vec<Decl>) -> Result<(Vec<Actor>, Vec<Root>), AllocError>
-    ensures actors { IfOk result (λ x. map view_actor x.0.items ≡ actors_in (map view_decl decls.items)) }
-    ensures placed { IfOk result (λ x. x.0.items ≡ actors_among decls.items) }
-    ensures roots { IfOk result (λ x. map view_root x.1.items ≡ roots_in (map view_decl decls.items)) }
-{
-    let mut actors = Vec::new(alloc);
-    let mut roots = Vec::new(alloc);
-    for decl in decls {
+/// The declarations of a script, each kind in text order.
+#[derive(Drop)]
+pub(crate) struct Declarations {
+    pub executors: Vec<Executor>,
+    pub locals: Vec<Local>,
+    pub actors: Vec<Actor>,
+    pub roots: Vec<Root>,
+}
+
+impl Declarations {
+    // Puts a declaration after the others of its kind.
+    fn add(&mut self, decl: Decl) -> Result<(), AllocError>
+        ensures { OnOk result (tree_of self.new ≡ with_last (view_decl decl) (tree_of self.old)) }
+    {
         match decl {
-            Decl::Actor(actor) => actors.push(actor)?,
-            Decl::Root(root) => roots.push(root)?,
+            Decl::Executor(executor) => self.executors.push(executor)?,
+            Decl::Local(local) => self.locals.push(local)?,
+            Decl::Actor(actor) => self.actors.push(actor)?,
+            Decl::Root(root) => self.roots.push(root)?,
         }
+        Ok(())
     }
-    Ok((actors, roots))
+}
+
+/// The declarations by their kinds.
+pub(crate) fn split(alloc: Global, decls: Vec<Decl>) -> Result<Declarations, AllocError>
+    ensures { IfOk result (λ d. tree_of d ≡ script_in (map view_decl decls.items)) }
+{
+    let mut split = Declarations {
+        executors: Vec::new(alloc),
+        locals: Vec::new(alloc),
+        actors: Vec::new(alloc),
+        roots: Vec::new(alloc),
+    };
+    for decl in decls {
+        split.add(decl)?;
+    }
+    Ok(split)
 }

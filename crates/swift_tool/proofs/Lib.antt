@@ -1,1 +1,2 @@
+pub mod InvariantsOfActors
 pub mod Invariants

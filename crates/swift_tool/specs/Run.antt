@@ -7,7 +7,6 @@ use Rattle.swift_types.specs.declared.outcome.Ending.TheVariants.{Value, Fault}
 use Rattle.swift_report.specs.declared.report.Origin.{Origin}
 use Rattle.std.specs.Io.KnownBytes.{Appends}
 use Rattle.swift_script.specs.Accepted.{IsAccepted}
-use Rattle.swift_script.specs.Script.{ScriptTree}
 use Rattle.swift_script.specs.Refuses.{Refuses}
 use Rattle.swift_output.specs.Part.{WritesPart}
 use Rattle.swift_one_thread.specs.Executors.{AreRootsFrom}
@@ -16,8 +15,9 @@ use Rattle.swift_one_thread.specs.declared.fault.RunFault.{RunFault}
 use Rattle.swift_one_thread.specs.declared.fault.RunFault.TheVariants.{Workers, Memory, Unfinished}
 use Rattle.swift_tool.specs.declared.fault.ToolFault.{ToolFault}
 use Rattle.swift_tool.specs.declared.fault.ToolFault.TheVariants as tool
-use Rattle.script_code.specs.Value.{holds}
-use Rattle.swift_script.specs.Scripts.{ScriptView, tree_of, actor_count, actor_invariant, root_count}
+use Rattle.script_code.specs.Seen.{rows_of}
+use Rattle.swift_interpreter.specs.Turn.{all_hold}
+use Rattle.swift_script.specs.Scripts.{ScriptView, executor_count, executor_invariants, root_count}
 use Rattle.swift_report.specs.declared.report.Report.{Report}
 use Rattle.swift_report.specs.Lawful.{AreLawful}
 use Rattle.swift_report.specs.Ended.{AreEnded}
@@ -33,10 +33,10 @@ abbrev pub end_well : List (Origin × Ending) → Bool
 end_well [] = true
 end_well (e ∷ es) = ends_well e.1 (end_well es)
 
--- Of each actor from a number on, the invariant, if it has one, holds of these fields.
-abbrev pub HoldInvariants : ScriptView → ℕ → List (Vec ℤ Global) → Type 0
-HoldInvariants p k [] = Unit {0}
-HoldInvariants p k (fields ∷ others) = IsTrue (holds (actor_invariant p k) fields.items) × HoldInvariants p (k + 1) others
+-- Of each executor from a number on, each invariant of its actors holds of these fields.
+abbrev pub HoldInvariants : ScriptView → ℕ → List (Vec (Vec ℤ Global) Global) → Type 0
+HoldInvariants p e [] = Unit {0}
+HoldInvariants p e (rows ∷ others) = IsTrue (all_hold (executor_invariants p e) (rows_of rows.items)) × HoldInvariants p (e + 1) others
 
 -- A text is that of a run of the script that these bytes spell: the journal of each executor is lawful, and each of its
 -- turns was given what belongs to its root; the turns of each task are numbered without gaps; the fields are what
@@ -45,10 +45,10 @@ HoldInvariants p k (fields ∷ others) = IsTrue (holds (actor_invariant p k) fie
 pub record IsRunOf (bytes : List ℕ) (quiet : Bool) (text : List ℕ) (well : Bool) : Type 0 where
   pub script : ScriptView
   pub report : Report
-  pub accepted : IsAccepted bytes (tree_of script)
+  pub accepted : IsAccepted bytes script
   pub lawful : AreLawful script 0 report.journals.items report.fields.items
-  pub journals : length report.journals.items ≡ actor_count script
-  pub fields : length report.fields.items ≡ actor_count script
+  pub journals : length report.journals.items ≡ executor_count script
+  pub fields : length report.fields.items ≡ executor_count script
   pub invariants : HoldInvariants script 0 report.fields.items
   pub env_given : HaveTheirEnv script report.journals.items
   pub numbered : HaveNoGaps report.journals.items
@@ -75,8 +75,8 @@ pub record WritesPrefix (bytes : List ℕ) (quiet : Bool) (old new : Option (Lis
 -- script that is accepted, memory ran out or jobs were left.
 abbrev pub IsRunRefusal : List ℕ → ℕ → RunFault → Type 0
 IsRunRefusal bytes workers Workers = workers ≢ 1
-IsRunRefusal bytes workers Memory = (workers ≡ 1) × ((tree : ScriptTree) × IsAccepted bytes tree)
-IsRunRefusal bytes workers Unfinished = (workers ≡ 1) × ((tree : ScriptTree) × IsAccepted bytes tree)
+IsRunRefusal bytes workers Memory = (workers ≡ 1) × ((script : ScriptView) × IsAccepted bytes script)
+IsRunRefusal bytes workers Unfinished = (workers ≡ 1) × ((script : ScriptView) × IsAccepted bytes script)
 
 -- Why no run of these bytes gave a text: the script was refused, for the stated cause, or the run was.
 abbrev pub IsRefusal : List ℕ → ℕ → ToolFault → Type 0

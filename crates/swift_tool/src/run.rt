@@ -63,6 +63,7 @@ where
 {
     let alloc = rt.alloc();
     let found = read(alloc, bytes)?;
+    found.facts();
     let script = Arc::new(alloc, found)?;
     let shared = Arc::clone(&script)?;
     let report = run(rt, shared, 1, gate)?;

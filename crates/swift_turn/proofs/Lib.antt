@@ -1,3 +1,3 @@
-pub mod Turns
-pub mod Values
-pub mod KeptTurns
+pub mod Calls
+pub mod Cuts
+pub mod KeptRoom

@@ -1,6 +1,4 @@
-pub mod Turn
-pub mod Laws
-pub mod Frame
-pub mod TurnStates
 pub mod Body
 pub mod BodyInvariant
+pub mod Laws
+pub mod Stack

@@ -1,40 +1,40 @@
-//! A task's stack of frames, as a future.
+//! A task's frames, as a future.
 
-ghost use Rattle.std.specs.Prelude.{◌≡◌, ◌+◌, ◌<◌, ◌⊎◌, ◌↔◌, true, [], IsTrue, IsSome, IfSome, IfOk, OnOk, IfErr, OnErr, Some, length};
+ghost use Rattle.std.specs.Prelude.{◌≡◌, ◌+◌, ◌<◌, ◌⊎◌, ◌↔◌, ◌∷◌, true, [], IsTrue, IfOk, OnOk, IfErr, OnErr, Some, length};
 ghost use Rattle.std.specs.Arc.{arc_value};
 ghost use Rattle.futures.specs.Poll.{IfReady, OnPending};
 ghost use Rattle.futures.specs.Task.{Covers, Keeps};
-ghost use Rattle.script_code.specs.Instructions.{code_at};
-ghost use Rattle.swift_script.specs.Scripts.{method_actor, method_code, method_count};
-ghost use Rattle.swift_turn.specs.Body.{BeginsFrame, BeginsToWait, CanAdvance, GoesOn, Hands, IsPolled, KeepsSlot, Polls, Registers, WaitsIn, advanced, answer_of, at_rest, called, ending_if, ends_with, entered, idle, opening, out_of_memory, resumed};
-ghost use Rattle.swift_turn.specs.Frame.{effect_views, frame_view};
-ghost use Rattle.swift_turn.specs.TurnStates.{exit_view};
+ghost use Rattle.script_code.specs.Seen.{rows_of};
+ghost use Rattle.swift_script.specs.Scripts.{method_actor, method_count};
+ghost use Rattle.swift_interpreter.specs.Frames.{effect_views, frame_view, invocation_view};
+ghost use Rattle.swift_interpreter.specs.TurnStates.{exit_view};
+ghost use Rattle.swift_interpreter.specs.Turn.{calling};
+ghost use Rattle.swift_turn.specs.Body.{AdvancesTo, BeginsFrame, BeginsToWait, CanAdvance, GoesOn, Hands, IfRunning, IsPolled, IsRunning, KeepsSlot, Polls, Registers, WaitsIn, Resumes, answer_of, at_rest, callers_of, ending_if, ends_with, entered, idle, kept_turn, opening, out_of_memory, state_at};
 
-use crate::effect::Effect;
-use crate::exit::{Exit, Step};
-use crate::frame::{Frame, opening_of};
-use crate::kept::play_kept;
+use crate::opening::{copy_of, opening_of};
+use crate::outer::{bind_all, unbind_all};
 use crate::phase::Phase;
 use crate::stack::Stack;
-use crate::turn_state::{TurnState, empty_state, make_room};
+use crate::step::Step;
 use futures::Future;
 use futures::task::{Context, Poll, Source, Waker};
 use script_code::Env;
-use script_code::laws::first_instruction_begins;
 use std::alloc::{AllocError, Global};
 use std::marker::Model;
 use std::mem;
 use std::sync::Arc;
+use swift_interpreter::{Effect, Exit, Frame, Given, Invocation, TurnState, Undo, play_kept};
+use swift_locals::Bindings;
 use swift_script::Script;
 use swift_types::limits::{FRAMES, STEPS};
 use swift_types::{ActorId, Ending, Fault, MethodId, Resume};
 
-/// A task: its script, its stack of frames, and the turn that is under way (SE-0304). A turn is entered with the
-/// fields of the actor of the frame that runs, polled once, and left; then `advance` says what comes next. `enter`,
-/// `poll` and `leave` speak of the turn; `advance`, `actor`, `frame` and `put_back` speak of the frames alone, may be
-/// called at any time before the task has ended, and leave a turn that is under way as it is. It is a future whose
-/// output is the task's ending, and which is polled by hand: an executor makes one `Solo` of the crate `futures`, which
-/// needs a runtime once, and one context of it serves any number of turns.
+/// A task: its script, its frames, the bindings that stand in it, and the turn that is under way (SE-0304). A turn is
+/// entered with the fields of the actors of its executor, polled once, and left; then `advance` says what comes next.
+/// `enter`, `poll` and `leave` speak of the turn; `advance`, `actor`, `frame` and `put_back` speak of the frames alone,
+/// and are called between turns. It is a future whose output is the task's ending, and which is polled by hand: an
+/// executor makes one `Solo` of the crate `futures`, which needs a runtime once, and one context of it serves any number
+/// of turns.
 ///
 /// ```text
 /// let solo = Solo::new(rt, Doorbell::spinning())?;
@@ -46,74 +46,77 @@ use swift_types::{ActorId, Ending, Fault, MethodId, Resume};
 pub struct Body {
     alloc: Global,
     script: Arc<Script>,
-    top: Option<Frame>,
+    // The frame that runs, and the turn that is under way. Where the task has ended, its last frame.
+    turn: TurnState,
+    running: bool,
     callers: Stack,
+    // What stood when the frame that runs began.
+    outer: Bindings,
     phase: Phase,
-    // What a turn began with, to undo it. Its buffers are kept from turn to turn.
-    spare: TurnState,
+    // What a turn began with. Its buffers are kept from turn to turn.
+    undo: Undo,
     source: Source,
     waker: Option<Waker>,
 }
 
 impl Model for Body {
     ghost use Rattle.std.specs.Arc.{arc_value};
-    ghost use Rattle.std.specs.Coded.{codes};
     ghost use Rattle.std.specs.Prelude.{is_some};
-    ghost use Rattle.script_grammar.specs.contracts.tree.Expr as e;
-    ghost use Rattle.script_grammar.specs.contracts.tree.Stmt as s;
+    ghost use Rattle.swift_interpreter.specs.Frames.{frame_view};
+    ghost use Rattle.std.specs.Coded.{codes};
+    ghost use Rattle.swift_script.specs.Codes.{expression_code, statement_code, block_code};
     ghost use Rattle.swift_turn.specs.Body.{BodyView};
 
     ghost Value = { BodyView };
 
-    ghost coded = { Prim.hlevel (codes, e.the_row.coded, s.the_row.coded) };
+    ghost coded = { Prim.hlevel (codes, expression_code, statement_code (block_code (Prim.hlevel (codes, expression_code)) (Prim.hlevel (codes, expression_code)))) };
 
-    ghost use Rattle.swift_turn.specs.Frame.{frame_view_if};
-    ghost use Rattle.swift_turn.specs.BodyInvariant.{BodyInvariant, phase_of};
+    ghost use Rattle.swift_turn.specs.BodyInvariant.{BodyInvariant, frames_of, phase_of};
 
     ghost view = { λ b. record {
       script = arc_value b.script;
-      here = record { top = frame_view_if b.top; phase = phase_of b.phase };
-      callers = b.callers;
+      task = record { frames = frames_of b.running b.turn b.callers; outer = b.outer };
+      phase = phase_of b.phase b.turn;
       source = b.source.id;
       armed = is_some b.waker;
     } };
 
-    ghost invariant = { λ b. BodyInvariant (arc_value b.script) (frame_view_if b.top) b.callers };
+    ghost invariant = { λ b. BodyInvariant (arc_value b.script) b.running (frame_view b.turn.frame) b.callers };
 }
 
 impl Future for Body {
     type Output = Ending;
 
-    ghost needs = { λ b s. WaitsIn b.here.phase × (s ≡ b.source) };
+    ghost needs = { λ b s. WaitsIn b.phase × (s ≡ b.source) };
 
     ghost gives = { λ b e. ends_with b ≡ Some e };
 
     /// Plays the turn that was entered (SE-0304); without one it yields and changes nothing. It is Ready with the
     /// ending where the turn leaves the first frame. Else it is Pending: it has registered with the body's own source
-    /// where the turn closes a group, and has yielded after every other turn. Out of memory it has yielded too, and
-    /// `leave` then says so. What an earlier turn waited for is over, so a turn that was played empties the slot of its
-    /// waker.
+    /// where the turn waits for a task, asks for the next child of a group, or closes a group, and has yielded after
+    /// every other turn. Out of memory it has yielded too, and `leave` then says so. What an earlier turn waited for is
+    /// over, so a turn that was played empties the slot of its waker.
     fn poll(&mut self, cx: &mut Context<'_>) -> Poll<Ending>
         ensures value { IfReady result (λ e. ends_with self.old ≡ Some e) }
         ensures same { OnPending result ((x : _) → ends_with self.new ≡ Some x → ends_with self.old ≡ Some x) }
-        ensures registered { OnPending result (Covers cx.new (λ s. WaitsIn self.new.here.phase × (s ≡ self.new.source))) }
+        ensures registered { OnPending result (Covers cx.new (λ s. WaitsIn self.new.phase × (s ≡ self.new.source))) }
         ensures kept { Keeps cx.old cx.new }
         // One turn, where one was entered.
-        ensures turned { Polls self.old.script self.old.here self.old.here.top self.old.here.phase self.new.here }
+        ensures turned { Polls self.old.script self.old.task.outer self.old.task.frames self.old.phase self.new.task.frames self.new.phase }
         // Where it begins to wait, its waker lies in the slot of its own source, unless none could be made.
-        ensures waits { OnPending result (BeginsToWait self.old.here.phase self.new.here.phase → (cx.new.lacks_waker ≡ true) ⊎ (self.new.armed ≡ true)) }
+        ensures waits { OnPending result (BeginsToWait self.old.phase self.new.phase → (cx.new.lacks_waker ≡ true) ⊎ (self.new.armed ≡ true)) }
         // Else it has asked for the next poll.
-        ensures yields { OnPending result ((BeginsToWait self.old.here.phase self.new.here.phase → ⊥) → cx.new.is_woken ≡ true) }
+        ensures yields { OnPending result ((BeginsToWait self.old.phase self.new.phase → ⊥) → cx.new.is_woken ≡ true) }
         // A waker lies there only where the last turn that was played waits.
-        ensures slot { KeepsSlot self.old.here.phase self.new.here.phase self.old.armed self.new.armed }
-        ensures rest { self.new ≡ record self.old { here = self.new.here; armed = self.new.armed } }
-        ensures answer { result ≡ answer_of self.old.callers self.old.here.phase self.new.here.phase }
+        ensures slot { KeepsSlot self.old.phase self.new.phase self.old.armed self.new.armed }
+        ensures rest { self.new ≡ record self.old { task = record self.old.task { frames = self.new.task.frames }; phase = self.new.phase; armed = self.new.armed } }
+        ensures answer { result ≡ answer_of self.old.task.frames self.old.phase self.new.phase }
     {
-        if !matches!(self.phase, Phase::Entered(_, _, _)) {
+        if !self.running || !matches!(self.phase, Phase::Entered(_, _)) {
             return cx.yield_now();
         }
         self.play_turn();
-        let Phase::Played(_, _, exit) = &self.phase else {
+        let Phase::Played(exit) = &self.phase else {
             return cx.yield_now();
         };
         self.waker = None;
@@ -143,94 +146,133 @@ fn last_ending(callers: &Stack, exit: &Exit) -> Option<Ending>
 fn waits(exit: &Exit) -> bool
     ensures { IsTrue result ↔ Registers (exit_view exit.now) }
 {
-    matches!(exit, Exit::Close(_, _))
+    matches!(exit, Exit::Wait(_) | Exit::Next(_) | Exit::Close(_, _))
+}
+
+// The kept turn of a frame of a script.
+fn play(
+    alloc: Global,
+    script: &Script,
+    outer: &Bindings,
+    turn: &mut TurnState,
+    undo: &mut Undo,
+    resume: Resume,
+    env: &Env,
+) -> Result<Exit, AllocError>
+    requires { turn.old.frame.method.0 < method_count script.now }
+    ensures kept { IfOk result (λ exit. let k = kept_turn script.now (frame_view turn.old.frame) outer.now (rows_of turn.old.fields.items) resume env.now in
+        record { state = state_at script.now (frame_view turn.new.frame) (rows_of turn.new.fields.items) (effect_views turn.new.effects.items) k.state.room; exit = exit_view exit } ≡ k) }
+    ensures frame { OnErr result (frame_view turn.new.frame ≡ frame_view turn.old.frame) }
+    ensures fields { OnErr result (rows_of turn.new.fields.items ≡ rows_of turn.old.fields.items) }
+    ensures method { turn.new.frame.method ≡ turn.old.frame.method }
+{
+    let method = turn.frame.method;
+    let executor = script.actor_executor(script.method_actor(method));
+    let given = Given {
+        instructions: script.instructions(method),
+        invariants: script.executor_invariants(executor),
+        outer,
+        env,
+    };
+    play_kept(alloc, given, turn, undo, resume, STEPS)
 }
 
 impl Body {
-    /// A task whose first frame is the method's (SE-0304). Variables that are no arguments are 0. It takes memory for
-    /// those; out of memory, nothing remains.
+    /// A task whose first frame is the method's (SE-0304), in which these bindings stand (SE-0311). Numbers that are no
+    /// arguments are 0. It takes memory for those; out of memory, nothing remains.
     pub fn start(
         alloc: Global,
         script: Arc<Script>,
         method: MethodId,
         args: Vec<i64>,
+        bindings: Bindings,
     ) -> Result<Body, AllocError>
         requires { method.0 < method_count (arc_value script) }
         ensures script { IfOk result (λ b. b.script ≡ arc_value script) }
-        ensures frames { IfOk result (λ b. b.callers ≡ []) }
-        // All statements of the method are still to do.
-        ensures statements { IfOk result (λ b. IfSome b.here.top (λ p. code_at (method_code b.script p.method) p.line ≡ method_code b.script method.0)) }
-        ensures here { IfOk result (λ b. b.here ≡ record { top = Some (opening (arc_value script) method.0 args.items [] 0 0); phase = idle }) }
+        ensures task { IfOk result (λ b. b.task ≡ record { frames = opening (arc_value script) method.0 args.items 0 0 ∷ []; outer = bindings }) }
+        ensures phase { IfOk result (λ b. b.phase ≡ idle) }
     {
-        first_instruction_begins();
-        let top = opening_of(alloc, &script, method, args, 0, 0)?;
+        let frame = opening_of(alloc, &script, method, args, 0, 0)?;
         Ok(Body {
             alloc,
             script,
-            top: Some(top),
+            turn: TurnState {
+                frame,
+                fields: Vec::new(alloc),
+                effects: Vec::new(alloc),
+                room: 0,
+            },
+            running: true,
             callers: Stack::new(alloc),
+            outer: bindings,
             phase: Phase::Idle,
-            spare: empty_state(alloc),
+            undo: Undo::new(alloc),
             source: Source::new(),
             waker: None,
         })
     }
 
-    /// Enters a turn of the frame that runs, on the fields of its actor. A turn that was entered before and not left is
-    /// given up, with its fields and effects. Room for undoing the turn is made here, so it may run out of memory: then
-    /// it hands the fields back and leaves the body as it was.
+    /// Enters a turn of the frame that runs, on the fields of the actors of its executor, a list for each in text order.
+    /// A turn that was entered before and not left is given up, with its fields and effects. Room for undoing the turn is
+    /// made here, so it may run out of memory: then it hands the fields back and leaves the body as it was.
     pub fn enter(
         &mut self,
-        fields: Vec<i64>,
+        fields: Vec<Vec<i64>>,
         resume: Resume,
         env: Env,
-    ) -> Result<(), (Vec<i64>, AllocError)>
-        requires { IsSome self.old.here.top }
-        ensures ok { OnOk result (self.new ≡ record self.old { here = record self.old.here { phase = entered fields.items resume env } }) }
-        ensures err { IfErr result (λ e. (self.new ≡ self.old) × (e.0.items ≡ fields.items)) }
+    ) -> Result<(), (Vec<Vec<i64>>, AllocError)>
+        requires { IsRunning self.old }
+        ensures ok { OnOk result (self.new ≡ record self.old { phase = entered (rows_of fields.items) resume env }) }
+        ensures err { IfErr result (λ e. (self.new ≡ self.old) × (rows_of e.0.items ≡ rows_of fields.items)) }
     {
-        let Some(top) = &self.top else { unreachable!() };
-        if make_room(&mut self.spare, top, &fields).is_err() {
+        if self.undo.make_room(&self.turn.frame).is_err() {
             return Err((fields, AllocError));
         }
-        self.phase = Phase::Entered(fields, resume, env);
+        self.turn.fields = fields;
+        self.phase = Phase::Entered(resume, env);
         Ok(())
     }
 
     /// Leaves the turn that was polled: the fields after it, its effects in order, and how it ended. Where the poll ran
     /// out of memory, the fields are those that were entered, and the body is as it was before it was entered.
-    pub fn leave(&mut self) -> Result<(Vec<i64>, Vec<Effect>, Exit), (Vec<i64>, AllocError)>
-        requires { IsPolled self.old.here.phase }
-        ensures ok { IfOk result (λ r. Hands self.old.here.phase r.0.items (effect_views r.1.items) (exit_view r.2)) }
-        ensures err { IfErr result (λ e. self.old.here.phase ≡ out_of_memory e.0.items) }
+    pub fn leave(
+        &mut self,
+    ) -> Result<(Vec<Vec<i64>>, Vec<Effect>, Exit), (Vec<Vec<i64>>, AllocError)>
+        requires { IsPolled self.old.phase }
+        ensures ok { IfOk result (λ r. Hands self.old.phase (rows_of r.0.items) (effect_views r.1.items) (exit_view r.2)) }
+        ensures err { IfErr result (λ e. self.old.phase ≡ out_of_memory (rows_of e.0.items)) }
         ensures rest { self.new ≡ at_rest self.old }
     {
+        let fields = mem::replace(&mut self.turn.fields, Vec::new(self.alloc));
         match mem::replace(&mut self.phase, Phase::Idle) {
-            Phase::Played(fields, effects, exit) => Ok((fields, effects, exit)),
-            Phase::OutOfMemory(fields) => Err((fields, AllocError)),
+            Phase::Played(exit) => {
+                let effects = mem::replace(&mut self.turn.effects, Vec::new(self.alloc));
+                Ok((fields, effects, exit))
+            }
+            Phase::OutOfMemory => Err((fields, AllocError)),
             _ => unreachable!(),
         }
     }
 
-    /// Follows the exit of a turn: a call begins a frame, whose variables are its arguments and then zeros, and where a
-    /// frame is left its caller goes on (SE-0306). It takes memory for a call that begins a frame alone, so it runs out
-    /// of memory nowhere else, and the body is then as it was. A call from a task with 64 frames begins none, and the
-    /// same frame gets the fault `depth`. A turn that is under way stays so: one that was entered will run the frame
-    /// that is then on top, and one that was polled can still be left.
+    /// Follows the exit of a turn: a call begins a frame, whose numbers are its arguments and then zeros, and which finds
+    /// its caller's bindings; where a frame is left its caller goes on, with its own bindings (SE-0306, SE-0311). It takes
+    /// memory for a call that begins a frame alone, so it runs out of memory nowhere else, and the body is then as it
+    /// was. A call from a task with 64 frames begins none, and the same frame gets the fault `depth`. A turn that is
+    /// under way stays so: one that was entered will run the frame that is then on top, and one that was polled can still
+    /// be left.
     pub fn advance(&mut self, exit: &Exit) -> Result<Step, AllocError>
-        requires running { IsSome self.old.here.top }
+        requires running { IsRunning self.old }
         requires call { CanAdvance self.old.script (exit_view exit.now) }
-        ensures ok { IfOk result (λ step. IfSome self.old.here.top (λ p.
-            record { top = self.new.here.top; callers = self.new.callers; step = step } ≡ advanced self.old.script p self.old.callers (exit_view exit.now))) }
-        ensures rest { self.new ≡ record self.old { here = record self.old.here { top = self.new.here.top }; callers = self.new.callers } }
-        ensures running { IfOk result (λ step. GoesOn step → IsSome self.new.here.top) }
+        ensures ok { IfOk result (λ step. AdvancesTo self.old.script self.old.task.frames self.old.task.outer (exit_view exit.now) (record { task = self.new.task; step = step })) }
+        ensures rest { self.new ≡ record self.old { task = self.new.task } }
+        ensures running { IfOk result (λ step. GoesOn step → IsRunning self.new) }
         ensures err { OnErr result (self.new ≡ self.old) }
-        ensures memory { OnErr result (BeginsFrame self.old.callers (exit_view exit.now)) }
+        ensures memory { OnErr result (BeginsFrame self.old.task.frames (exit_view exit.now)) }
     {
         match exit {
-            Exit::Call(_, method, args) => self.call(*method, args),
+            Exit::Call(invocation) => self.call(invocation),
             Exit::Yield => Ok(Step::Run(self.actor(), Resume::Go)),
-            Exit::Close(_, _) => Ok(Step::Await),
+            Exit::Wait(_) | Exit::Next(_) | Exit::Close(_, _) => Ok(Step::Await),
             Exit::Return(v) => Ok(self.resume_caller(Resume::Value(*v), Ending::Value(*v))),
             Exit::Fault(f) => Ok(self.resume_caller(Resume::Fault(*f), Ending::Fault(*f))),
         }
@@ -239,16 +281,16 @@ impl Body {
     /// Whether the task has not ended. What asks for a frame that runs can be called where it has not: all but `poll`
     /// and `leave`.
     pub fn is_running(&self) -> bool
-        ensures { IsTrue result ↔ IsSome self.now.here.top }
+        ensures { IsTrue result ↔ IsRunning self.now }
     {
-        self.top.is_some()
+        self.running
     }
 
     /// Whether `leave` can be called: a turn was entered and polled, and was not left.
     pub fn is_polled(&self) -> bool
-        ensures { IsTrue result ↔ IsPolled self.now.here.phase }
+        ensures { IsTrue result ↔ IsPolled self.now.phase }
     {
-        matches!(self.phase, Phase::Played(_, _, _) | Phase::OutOfMemory(_))
+        matches!(self.phase, Phase::Played(_) | Phase::OutOfMemory)
     }
 
     /// Whether `put_back` can take this frame: it is of a method of the script.
@@ -263,135 +305,110 @@ impl Body {
         ensures { IsTrue result ↔ CanAdvance self.now.script (exit_view exit.now) }
     {
         match exit {
-            Exit::Call(_, method, _) => (method.0 as usize) < self.script.method_count(),
+            Exit::Call(invocation) => (invocation.method.0 as usize) < self.script.method_count(),
             _ => true,
         }
     }
 
-    // Plays the turn that was entered.
-    fn play_turn(&mut self)
-        ensures turned { Polls self.old.script self.old.here self.old.here.top self.old.here.phase self.new.here }
-        ensures rest { self.new ≡ record self.old { here = self.new.here } }
-    {
-        let (fields, resume, env) = match mem::replace(&mut self.phase, Phase::Idle) {
-            Phase::Entered(fields, resume, env) => (fields, resume, env),
-            other => {
-                self.phase = other;
-                return;
-            }
-        };
-        let Some(frame) = self.top.take() else {
-            self.phase = Phase::Entered(fields, resume, env);
-            return;
-        };
-        let mut run = TurnState {
-            frame,
-            fields,
-            effects: Vec::new(self.alloc),
-        };
-        let script = &self.script;
-        let played = play_kept(
-            self.alloc,
-            script,
-            &env,
-            &mut run,
-            &mut self.spare,
-            resume,
-            STEPS,
-        );
-        let TurnState {
-            frame: left,
-            fields,
-            effects,
-        } = run;
-        self.top = Some(left);
-        self.phase = match played {
-            Ok(exit) => Phase::Played(fields, effects, exit),
-            Err(_) => Phase::OutOfMemory(fields),
-        };
-    }
-
-    fn call(&mut self, method: MethodId, args: &[i64]) -> Result<Step, AllocError>
-        requires running { IsSome self.old.here.top }
-        requires call { method.0 < method_count self.old.script }
-        ensures ok { IfOk result (λ step. IfSome self.old.here.top (λ p.
-            record { top = self.new.here.top; callers = self.new.callers; step = step } ≡ called self.old.script p self.old.callers method.0 args.now)) }
-        ensures rest { self.new ≡ record self.old { here = record self.old.here { top = self.new.here.top }; callers = self.new.callers } }
-        ensures err { OnErr result (self.new ≡ self.old) }
-        ensures memory { OnErr result (length self.old.callers + 1 < FRAMES) }
-    {
-        if self.callers.len() >= FRAMES - 1 {
-            return Ok(Step::Run(self.actor(), Resume::Fault(Fault::Depth)));
-        }
-        let Some(top) = &self.top else { unreachable!() };
-        let args = args.to_vec(self.alloc)?;
-        let callee = opening_of(self.alloc, &self.script, method, args, top.made, top.opened)?;
-        let actor = self.script.actor_of(method);
-        let Some(caller) = self.top.take() else {
-            unreachable!()
-        };
-        if let Err(refused) = self.callers.push(caller) {
-            self.top = Some(refused.value);
-            return Err(AllocError);
-        }
-        self.top = Some(callee);
-        Ok(Step::Run(actor, Resume::Start))
-    }
-
-    fn resume_caller(&mut self, resume: Resume, ending: Ending) -> Step
-        requires { IsSome self.old.here.top }
-        ensures rest { self.new ≡ record self.old { here = record self.old.here { top = self.new.here.top }; callers = self.new.callers } }
-        ensures resumed { IfSome self.old.here.top (λ p.
-            record { top = self.new.here.top; callers = self.new.callers; step = result } ≡ resumed self.old.script p self.old.callers resume ending) }
-    {
-        let Some(left) = self.top.take() else {
-            unreachable!()
-        };
-        let Some(mut caller) = self.callers.pop() else {
-            return Step::Ended(ending);
-        };
-        caller.made = left.made;
-        caller.opened = left.opened;
-        self.top = Some(caller);
-        Step::Run(self.actor(), resume)
-    }
-
     /// The actor of the frame that runs.
     pub fn actor(&self) -> ActorId
-        requires { IsSome self.now.here.top }
-        ensures { IfSome self.now.here.top (λ p. result.0 ≡ method_actor self.now.script p.method) }
+        requires { IsRunning self.now }
+        ensures { IfRunning self.now.task.frames (λ p. result.0 ≡ method_actor self.now.script p.method) }
     {
-        let Some(top) = &self.top else { unreachable!() };
-        self.script.actor_of(top.method)
+        self.script.method_actor(self.turn.frame.method)
     }
 
-    /// A copy of the frame that runs. It costs and takes memory for its variables and groups.
+    /// The bindings that stood when the frame that runs began (SE-0311).
+    pub fn outer(&self) -> &Bindings
+        ensures { result.now ≡ self.now.task.outer }
+    {
+        &self.outer
+    }
+
+    /// A copy of the frame that runs, with the bindings that it has made. It costs and takes memory for its variables,
+    /// bindings and groups.
     pub fn frame(&self) -> Result<Frame, AllocError>
-        requires { IsSome self.now.here.top }
-        ensures frame { IfOk result (λ f. self.now.here.top ≡ Some (frame_view f)) }
+        requires { IsRunning self.now }
+        ensures frame { IfOk result (λ f. IfRunning self.now.task.frames (λ p. p ≡ frame_view f)) }
         ensures method { IfOk result (λ f. f.method.0 < method_count self.now.script) }
     {
-        let Some(top) = &self.top else { unreachable!() };
-        Ok(Frame {
-            method: top.method,
-            line: top.line,
-            vars: top.vars.to_vec(self.alloc)?,
-            handles: top.handles.to_vec(self.alloc)?,
-            depth: top.depth,
-            groups: top.groups.to_vec(self.alloc)?,
-            pending: top.pending,
-            made: top.made,
-            opened: top.opened,
-        })
+        copy_of(self.alloc, &self.turn.frame)
     }
 
     /// Sets the frame that runs to what `frame` gave before a turn. Its line may be any: one past the last line of its
     /// method stands for the end of the method. It gives up no turn: what was played can still be left.
     pub fn put_back(&mut self, frame: Frame)
-        requires running { IsSome self.old.here.top }
+        requires running { IsRunning self.old }
         requires method { frame.method.0 < method_count self.old.script }
-        ensures { self.new ≡ record self.old { here = record self.old.here { top = Some (frame_view frame) } } }
+        ensures { self.new ≡ record self.old { task = record self.old.task { frames = frame_view frame ∷ callers_of self.old.task.frames } } }
     {
-        self.top = Some(frame);
+        self.turn.frame = frame;
+    }
+
+    // Plays the turn that was entered.
+    fn play_turn(&mut self)
+        requires { IsRunning self.old }
+        ensures turned { Polls self.old.script self.old.task.outer self.old.task.frames self.old.phase self.new.task.frames self.new.phase }
+        ensures rest { self.new ≡ record self.old { task = record self.old.task { frames = self.new.task.frames }; phase = self.new.phase } }
+    {
+        let Phase::Entered(resume, env) = self.phase else {
+            return;
+        };
+        let played = play(
+            self.alloc,
+            &self.script,
+            &self.outer,
+            &mut self.turn,
+            &mut self.undo,
+            resume,
+            &env,
+        );
+        self.phase = match played {
+            Ok(exit) => Phase::Played(exit),
+            Err(_) => Phase::OutOfMemory,
+        };
+    }
+
+    fn call(&mut self, invocation: &Invocation) -> Result<Step, AllocError>
+        requires running { IsRunning self.old }
+        requires call { invocation.now.method.0 < method_count self.old.script }
+        ensures ok { IfOk result (λ step. AdvancesTo self.old.script self.old.task.frames self.old.task.outer (calling (invocation_view invocation.now)) (record { task = self.new.task; step = step })) }
+        ensures rest { self.new ≡ record self.old { task = self.new.task } }
+        ensures running { OnOk result (IsRunning self.new) }
+        ensures err { OnErr result (self.new ≡ self.old) }
+        ensures memory { OnErr result (length self.old.task.frames < FRAMES) }
+    {
+        if self.callers.len() >= FRAMES - 1 {
+            return Ok(Step::Run(self.actor(), Resume::Fault(Fault::Depth)));
+        }
+        let method = invocation.method;
+        let args = invocation.args.to_vec(self.alloc)?;
+        let top = &self.turn.frame;
+        let callee = opening_of(self.alloc, &self.script, method, args, top.made, top.opened)?;
+        bind_all(&mut self.outer, &top.own)?;
+        let caller = mem::replace(&mut self.turn.frame, callee);
+        if let Err(refused) = self.callers.push(caller) {
+            self.turn.frame = refused.value;
+            unbind_all(&mut self.outer, self.turn.frame.own.len());
+            return Err(AllocError);
+        }
+        Ok(Step::Run(self.script.method_actor(method), Resume::Start))
+    }
+
+    fn resume_caller(&mut self, resume: Resume, ending: Ending) -> Step
+        requires { IsRunning self.old }
+        ensures rest { self.new ≡ record self.old { task = self.new.task } }
+        ensures resumed { Resumes self.old.script self.old.task.frames self.old.task.outer resume ending (record { task = self.new.task; step = result }) }
+        ensures running { GoesOn result → IsRunning self.new }
+    {
+        let Some(mut caller) = self.callers.pop() else {
+            self.running = false;
+            return Step::Ended(ending);
+        };
+        caller.made = self.turn.frame.made;
+        caller.opened = self.turn.frame.opened;
+        unbind_all(&mut self.outer, caller.own.len());
+        self.turn.frame = caller;
+        Step::Run(self.actor(), resume)
     }
 }

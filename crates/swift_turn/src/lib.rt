@@ -1,23 +1,23 @@
-//! Turns of a task: a stack of frames that is entered, polled and left by hand, as a future.
+//! Turns of a task: frames that are entered, polled and left by hand, as a future.
 #![tactic(auto)]
 
+// A task's frames, as a future.
 mod body;
-mod effect;
-mod exit;
-mod fail;
-mod frame;
-mod kept;
+// What holds of the definitions.
 pub mod laws;
+// Frames that begin, and copies of frames.
+mod opening;
+// The bindings of callers.
+mod outer;
+// Where a body is with its turn.
 mod phase;
-mod play;
+// The frames below the one that runs.
 mod stack;
+// What comes after a turn.
 mod step;
-mod turn_state;
+// One turn: entered, polled and left.
 mod whole;
 
 pub use body::Body;
-pub use effect::Effect;
-pub use exit::{Exit, Step};
-pub use frame::Frame;
-pub use script_code::Env;
+pub use step::Step;
 pub use whole::run_turn;

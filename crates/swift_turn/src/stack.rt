@@ -1,12 +1,12 @@
 //! The frames below the one that runs.
 
 ghost use Rattle.std.specs.Prelude.{◌≡◌, ◌↔◌, ◌∷◌, [], IsTrue, OnOk, IfErr, length};
-ghost use Rattle.swift_turn.specs.Frame.{frame_view, frame_view_if};
-ghost use Rattle.swift_turn.specs.Turn.{head, tail};
+ghost use Rattle.swift_interpreter.specs.Frames.{frame_view};
+ghost use Rattle.swift_turn.specs.Stack.{frame_if, first_of, rest_of};
 
-use crate::frame::Frame;
 use std::alloc::{AllocFailed, Global};
 use std::marker::Model;
+use swift_interpreter::Frame;
 
 /// The frames below the one that runs. Callers see them as a list, the nearest first.
 #[derive(Drop)]
@@ -16,7 +16,7 @@ pub struct Stack {
 
 impl Model for Stack {
     ghost use Rattle.std.specs.Prelude.{List, map, reverse};
-    ghost use Rattle.swift_turn.specs.Frame.{FrameView, frame_view};
+    ghost use Rattle.swift_interpreter.specs.Frames.{FrameView, frame_view};
 
     ghost Value = { List FrameView };
 
@@ -45,8 +45,8 @@ impl Stack {
     }
 
     pub fn pop(&mut self) -> Option<Frame>
-        ensures first { frame_view_if result ≡ head self.old }
-        ensures rest { self.new ≡ tail self.old }
+        ensures first { frame_if result ≡ first_of self.old }
+        ensures rest { self.new ≡ rest_of self.old }
     {
         self.items.pop()
     }

@@ -1,39 +1,38 @@
 //! One turn: entered, polled and left.
 
-ghost use Rattle.std.specs.Prelude.{◌≡◌, ◌⊎◌, IfErr, IfOk, IfSome, IsSome, IsSomeAnd, OnErr, OnOk};
+ghost use Rattle.std.specs.Prelude.{◌≡◌, ◌⊎◌, IfErr, IfOk, OnErr, OnOk};
 ghost use Rattle.futures.specs.Task.{Keeps};
-ghost use Rattle.swift_turn.specs.Body.{at_rest, idle, kept_turn};
-ghost use Rattle.swift_turn.specs.Frame.{effect_views, state_at};
-ghost use Rattle.swift_turn.specs.TurnStates.{exit_view};
+ghost use Rattle.script_code.specs.Seen.{rows_of};
+ghost use Rattle.swift_interpreter.specs.Frames.{effect_views};
+ghost use Rattle.swift_interpreter.specs.TurnStates.{exit_view};
+ghost use Rattle.swift_turn.specs.Body.{IsRunning, at_rest, idle, left, Polls, entered};
 
 use crate::body::Body;
-use crate::effect::Effect;
-use crate::exit::Exit;
 use futures::Future;
 use futures::task::Context;
 use script_code::Env;
 use std::alloc::AllocError;
+use swift_interpreter::{Effect, Exit};
 use swift_types::Resume;
 
 /// Enters a turn, polls it and leaves it: the kept turn of the continuation that the body stands for, which then
 /// stands for what that turn leaves. Out of memory, the fields come back, and the body is as it was, but that a turn
-/// which was entered before may be given up. Its cost is the turn's steps and the sizes of the fields and of the
-/// frame's variables. It takes memory for the arguments of a call, and where its fields and variables are more than
-/// those of any turn before.
+/// which was entered before may be given up. Its cost is the turn's steps, the sizes of the frame's variables and own
+/// bindings, the fields of the actors that it sets, and a look at each invariant of its executor's actors. It takes memory
+/// for what it makes, and where what it keeps to undo it is more than that of any turn before.
 pub fn run_turn(
     body: &mut Body,
     cx: &mut Context<'_>,
-    fields: Vec<i64>,
+    fields: Vec<Vec<i64>>,
     resume: Resume,
     env: Env,
-) -> Result<(Vec<i64>, Vec<Effect>, Exit), (Vec<i64>, AllocError)>
-    requires { IsSome body.old.here.top }
+) -> Result<(Vec<Vec<i64>>, Vec<Effect>, Exit), (Vec<Vec<i64>>, AllocError)>
+    requires { IsRunning body.old }
     // The theorem: what the three calls give is the kept turn of the frame that runs, and the body stands for it.
-    ensures turn { IfOk result (λ r. IfSome body.old.here.top (λ p. IsSomeAnd body.new.here.top (λ p'.
-        record { state = state_at body.new.script p' r.0.items (effect_views r.1.items); exit = exit_view r.2 } ≡ kept_turn body.old.script p fields.items resume env))) }
-    ensures method { IfSome body.old.here.top (λ p. IsSomeAnd body.new.here.top (λ p'. p'.method ≡ p.method)) }
-    ensures rest { OnOk result (body.new ≡ record body.old { here = record body.new.here { phase = idle }; armed = body.new.armed }) }
-    ensures back { IfErr result (λ e. e.0.items ≡ fields.items) }
+    ensures turn { IfOk result (λ r. Polls body.old.script body.old.task.outer body.old.task.frames (entered (rows_of fields.items) resume env)
+        body.new.task.frames (left (rows_of r.0.items) (effect_views r.1.items) (exit_view r.2))) }
+    ensures rest { OnOk result (body.new ≡ record body.old { task = record body.old.task { frames = body.new.task.frames }; phase = idle; armed = body.new.armed }) }
+    ensures back { IfErr result (λ e. rows_of e.0.items ≡ rows_of fields.items) }
     ensures err { OnErr result ((body.new ≡ body.old) ⊎ (body.new ≡ at_rest body.old)) }
     ensures kept { Keeps cx.old cx.new }
 {

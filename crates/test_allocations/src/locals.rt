@@ -6,12 +6,13 @@ use swift_types::LocalId;
 
 /// What is seen of bindings.
 #[derive(Clone, Copy, Debug, PartialEq, Eq)]
-struct Shown {
+pub struct Shown {
     depth: usize,
     values: [Option<i64>; 4],
 }
 
-fn seen(bindings: &Bindings) -> Shown {
+/// How deep bindings are, and what is read of some locals.
+pub fn seen(bindings: &Bindings) -> Shown {
     Shown {
         depth: bindings.depth(),
         values: [

@@ -26,6 +26,8 @@ mod queue;
 mod report;
 // Scripts that are read and printed.
 mod script;
+// What a turn has done, in words.
+mod tell;
 // A task, turn by turn.
 mod turn;
 
@@ -33,10 +35,13 @@ use std::process::ExitCode;
 
 fn main(rt: HostRuntime) -> ExitCode {
     ballast::burn(&rt);
-    if let Some(found) = script::read_again(&rt) {
-        let _ = turn::play_root(&rt, &found);
+    if let Some(found) = script::read_again(&rt, script::TEXT) {
         let _ = report::run_again(&rt, &found);
-        let _ = script::print_again(&rt, &found);
+        let _ = script::print_again(&rt, script::TEXT, &found);
+    }
+    if let Some(found) = script::read_again(&rt, script::WORK) {
+        let _ = turn::play_root(&rt, &found);
+        let _ = script::print_again(&rt, script::WORK, &found);
     }
     locals::bind_again(&rt);
     groups::open_again(&rt);

@@ -1,21 +1,27 @@
 //! Scripts that are read and printed.
 
 ghost use Rattle.std.specs.Prelude.{◌≡◌, ◌↔◌, IsTrue};
-ghost use Rattle.script_grammar.specs.declared.fault.ReadError.TheVariants.{Memory};
+ghost use Rattle.script_parser.specs.declared.fault.ReadError.TheVariants.{Memory};
 ghost use Rattle.swift_script.specs.declared.fault.ScriptFaultKind.TheVariants.{Memory as ScriptMemory};
 
 use crate::again::{Refusal, again, wrong};
-use script_grammar::{Actor, Decl, ReadError, Root, declarations};
+use script_grammar::{Actor, Decl, Executor, Local, Root};
+use script_parser::{ReadError, parse};
 use script_printing::print;
 use script_tokens::tokens;
-use std::alloc::Global;
+use std::alloc::{AllocError, Global};
 use std::sync::Arc;
 use swift_output::write_all;
 use swift_script::{Script, ScriptFault, ScriptFaultKind, print_script, read};
 
-/// A script with each kind of declaration, of statement and of operator.
-pub const TEXT: &str = "// A bank and a client.
-actor Bank {
+/// A script with each kind of declaration and of operator, and each statement that runs of roots alone have.
+pub const TEXT: &str = "// A bank with its vault, and a client.
+executor Desk fifo;
+executor Spare pinned 3;
+local rate = 2;
+local fee = -1;
+
+actor Bank on Desk {
     var total = 3;
     var lent = -1;
     invariant total >= 0 && (lent < 5 || !lent);
@@ -23,8 +29,14 @@ actor Bank {
     func lend(amount, times) {
         let paid = 0;
         while paid < times {
-            total = total + amount * 2 - 1;
+            total = total + amount * @rate + @fee;
             paid = paid + 1;
+            assume Vault {
+                let more = coins + priority - cancelled;
+                if more > 90 { throw more; }
+                coins = more;
+                check;
+            }
             yield;
         }
         if paid == 2 { return total; } else { lent = -total; }
@@ -34,16 +46,20 @@ actor Bank {
     func refuse(reason) { throw reason; }
 }
 
+actor Vault on Desk { var coins = 80; invariant coins < 90; }
+
 actor Client {
     var owed = 0;
     var asked = 0;
 
     func borrow(amount) {
-        owed = await Bank.lend(amount, 2);
-        let kept = await Bank.refuse(owed) else owed + 1;
+        bind rate = @rate + 1 {
+            owed = await Bank.lend(amount, 2);
+            bind fee = 7 { let kept = await Bank.refuse(owed) else owed + @rate * @fee; asked = kept; }
+        }
         await Bank.refuse(3) else 0;
-        asked = asked + 1;
-        return kept;
+        asked = asked + @rate;
+        return asked;
     }
 
     func settle() {
@@ -57,6 +73,73 @@ actor Client {
 root first = Client.borrow(4) at high;
 root second = Bank.lend(0, 1);
 root third = Bank.refuse(-7) at low;
+";
+
+/// A script with the statements that make tasks and groups, and wait for them.
+pub const WORK: &str = "// A maker of tasks and a worker.
+executor Shop priority;
+local level = 7;
+local depth = 0;
+
+actor Maker on Shop {
+    var made = 3;
+    var last = -1;
+    invariant made < 40;
+
+    func make(k) {
+        let early = spawn Worker.work(k, 1) at low;
+        bind level = k {
+            let alone = detach Worker.work(@level, 2);
+            bind depth = @level + 1 {
+                group all {
+                    add all Worker.work(1, 2);
+                    add all unless Worker.work(k, @depth) at high;
+                    made = made + 1;
+                    last = await next all;
+                    assume Worker { done = done + k; }
+                    cancel all;
+                }
+                made = await Worker.work(k, 2);
+            }
+            cancel alone;
+            last = await task early else 5;
+        }
+        await task first else 0;
+        await Worker.refuse(made) else last;
+        cancel first;
+        return made + last;
+    }
+}
+
+actor Worker on Shop {
+    var done = 0;
+    var times = 0;
+
+    func work(k, left) {
+        bind level = @level + k {
+            while left > 0 {
+                left = left - 1;
+                done = done + @level;
+                yield;
+            }
+        }
+        return done;
+    }
+
+    func refuse(reason) {
+        group outer {
+            yield;
+            group inner {
+                spawn Worker.work(reason, 1);
+                times = times + 1;
+                assume Maker { made = made + reason; }
+            }
+        }
+    }
+}
+
+root first = Worker.work(1, 2);
+root second = Maker.make(4) at high;
 ";
 
 impl Refusal for ScriptFault {
@@ -75,50 +158,89 @@ impl Refusal for ReadError {
     }
 }
 
-fn read_shared(alloc: Global) -> Result<Arc<Script>, ScriptFault> {
-    let found = read(alloc, TEXT.as_bytes())?;
+fn read_shared(alloc: Global, text: &str) -> Result<Arc<Script>, ScriptFault> {
+    let found = read(alloc, text.as_bytes())?;
     Ok(Arc::new(alloc, found)?)
 }
 
-/// Reads the script twice, and compares what was read.
-pub fn read_again(rt: &HostRuntime) -> Option<Arc<Script>> {
+/// Reads a script twice, and compares what was read.
+pub fn read_again(rt: &HostRuntime, text: &str) -> Option<Arc<Script>> {
     let alloc = rt.alloc();
-    let first = again(rt, "read", || read_shared(alloc))?;
-    let second = again(rt, "read", || read(alloc, TEXT.as_bytes()))?;
+    let first = again(rt, "read", || read_shared(alloc, text))?;
+    let second = again(rt, "read", || read(alloc, text.as_bytes()))?;
     if !first.says_the_same(&second) {
         wrong(rt, "read");
     }
-    let (actors, methods, roots) = (
-        second.actor_count(),
-        second.method_count(),
-        second.root_count(),
+    let (executors, locals) = (second.executor_count(), second.local_count());
+    let (actors, methods) = (second.actor_count(), second.method_count());
+    let roots = second.root_count();
+    let _ = println!(rt;
+        "read: executors {executors}, locals {locals}, actors {actors}, methods {methods}, roots {roots}"
     );
-    let _ = println!(rt; "read: actors {actors}, methods {methods}, roots {roots}");
     Some(first)
 }
 
-// The declarations by kinds.
-fn parts(rt: &HostRuntime, decls: Vec<Decl>) -> Option<(Vec<Actor>, Vec<Root>)> {
-    let alloc = rt.alloc();
-    let mut actors = again(rt, "room for actors", || Vec::with_capacity(alloc, 8))?;
-    let mut roots = again(rt, "room for roots", || Vec::with_capacity(alloc, 8))?;
-    for decl in decls {
-        // There is room: nothing is refused here.
-        match decl {
-            Decl::Actor(actor) => actors.push(actor).ok()?,
-            Decl::Root(root) => roots.push(root).ok()?,
-        }
-    }
-    Some((actors, roots))
+// The declarations of a script, by kinds.
+#[derive(Drop)]
+struct Declarations {
+    executors: Vec<Executor>,
+    locals: Vec<Local>,
+    actors: Vec<Actor>,
+    roots: Vec<Root>,
 }
 
-/// Prints the script, by way of its tokens and declarations, and then whole.
-pub fn print_again(rt: &HostRuntime, script: &Script) -> Option<()> {
+impl Declarations {
+    // No declarations, with room for some of each kind.
+    fn with_room(alloc: Global) -> Result<Declarations, AllocError> {
+        Ok(Declarations {
+            executors: Vec::with_capacity(alloc, 8)?,
+            locals: Vec::with_capacity(alloc, 8)?,
+            actors: Vec::with_capacity(alloc, 8)?,
+            roots: Vec::with_capacity(alloc, 8)?,
+        })
+    }
+
+    // Adds a declaration. None where there is no room for it.
+    fn push(&mut self, decl: Decl) -> Option<()> {
+        match decl {
+            Decl::Executor(executor) => self.executors.push(executor).ok(),
+            Decl::Local(local) => self.locals.push(local).ok(),
+            Decl::Actor(actor) => self.actors.push(actor).ok(),
+            Decl::Root(root) => self.roots.push(root).ok(),
+        }
+    }
+
+    fn print(&self, alloc: Global) -> Result<Vec<u8>, AllocError> {
+        print(
+            alloc,
+            &self.executors,
+            &self.locals,
+            &self.actors,
+            &self.roots,
+        )
+    }
+}
+
+// The declarations by kinds. There is room for them, so that nothing is refused where they are pushed.
+fn by_kinds(rt: &HostRuntime, decls: Vec<Decl>) -> Option<Declarations> {
+    let mut found = again(
+        rt,
+        "room for declarations",
+        || Declarations::with_room(rt.alloc()),
+    )?;
+    for decl in decls {
+        found.push(decl)?;
+    }
+    Some(found)
+}
+
+/// Prints a script, by way of its tokens and declarations, and then whole.
+pub fn print_again(rt: &HostRuntime, text: &str, script: &Script) -> Option<()> {
     let alloc = rt.alloc();
-    let found = again(rt, "tokens", || tokens(alloc, TEXT.as_bytes()))?;
-    let decls = again(rt, "declarations", || declarations(alloc, &found.tokens))?;
-    let (actors, roots) = parts(rt, decls)?;
-    let printed = again(rt, "print", || print(alloc, &actors, &roots))?;
+    let found = again(rt, "tokens", || tokens(alloc, text.as_bytes()))?;
+    let decls = again(rt, "parse", || parse(alloc, &found.tokens))?;
+    let by_kinds = by_kinds(rt, decls)?;
+    let printed = again(rt, "print", || by_kinds.print(alloc))?;
     let whole = again(rt, "print_script", || print_script(alloc, script))?;
     if whole.as_bytes() != printed.as_slice() {
         wrong(rt, "print_script");

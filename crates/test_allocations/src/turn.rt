@@ -1,22 +1,28 @@
 //! A task, turn by turn.
 
-ghost use Rattle.std.specs.Prelude.{◌≡◌, ◌<◌, IfErr, IfOk, IfSome, IsSome};
+ghost use Rattle.std.specs.Prelude.{◌≡◌, ◌<◌, IfErr, IfOk, IfSome};
 ghost use Rattle.std.specs.Arc.{arc_value};
+ghost use Rattle.swift_interpreter.specs.TurnStates.{exit_view};
+ghost use Rattle.script_code.specs.Seen.{rows_of};
 ghost use Rattle.swift_script.specs.Scripts.{method_count};
-ghost use Rattle.swift_turn.specs.Body.{CanAdvance, GoesOn, idle};
-ghost use Rattle.swift_turn.specs.TurnStates.{exit_view};
+ghost use Rattle.swift_turn.specs.Body.{CanAdvance, GoesOn, IsRunning, idle};
 
 use crate::again::{TRIES, again, refused, wrong};
+use crate::locals::{Shown, seen};
+use crate::tell::{tell, tell_step};
 use futures::Future;
 use futures::task::{Context, Doorbell, Solo};
+use script_code::{Binding, Env};
 use std::alloc::{AllocError, Global};
 use std::sync::Arc;
+use swift_interpreter::{Effect, Exit, Frame};
+use swift_locals::Bindings;
 use swift_script::Script;
-use swift_turn::{Body, Env, Exit, Frame, Step};
-use swift_types::{MethodId, Priority, Resume, RootId};
+use swift_turn::{Body, Step};
+use swift_types::{Fault, LocalId, MethodId, Priority, Resume, RootId};
 
 /// How many turns are played at most.
-const TURNS: u32 = 20;
+const TURNS: u32 = 40;
 
 /// What each turn is given.
 const ENV: Env = Env {
@@ -25,12 +31,42 @@ const ENV: Env = Env {
     room: 16,
 };
 
+/// Whose task is played.
+const ROOT: RootId = RootId(1);
+
+/// What the task is resumed with each time it has waited.
+const ANSWERS: [Resume; 5] = [
+    Resume::Value(8),
+    Resume::Go,
+    Resume::Fault(Fault::Thrown(1)),
+    Resume::Value(0),
+    Resume::Go,
+];
+
+/// The fields of the two actors of the executor.
+type Fields = [[i64; 2]; 2];
+
+// What is seen of a body between turns.
+#[derive(Drop)]
+struct Snapshot {
+    frame: Frame,
+    outer: Shown,
+}
+
+fn are_same_bindings(one: &[Binding], other: &[Binding]) -> bool {
+    one.len() == other.len()
+        && one
+            .iter()
+            .zip(other.iter())
+            .all(|(a, b)| a.local == b.local && a.value == b.value)
+}
+
 fn is_same_frame(one: &Frame, other: &Frame) -> bool {
     one.method == other.method
         && one.line == other.line
-        && one.vars.as_slice() == other.vars.as_slice()
+        && one.variables.as_slice() == other.variables.as_slice()
         && one.handles.as_slice() == other.handles.as_slice()
-        && one.depth == other.depth
+        && are_same_bindings(&one.own, &other.own)
         && one.groups.as_slice() == other.groups.as_slice()
         && one.pending == other.pending
         && one.made == other.made
@@ -39,7 +75,7 @@ fn is_same_frame(one: &Frame, other: &Frame) -> bool {
 
 // A copy of the frame that runs, made again where it is refused.
 fn frame_again(rt: &HostRuntime, body: &Body) -> Option<Frame>
-    requires { IsSome body.now.here.top }
+    requires { IsRunning body.now }
 {
     for _ in 0..TRIES {
         match body.frame() {
@@ -51,34 +87,50 @@ fn frame_again(rt: &HostRuntime, body: &Body) -> Option<Frame>
     None
 }
 
-// Whether the frame that runs is as it was.
-fn is_as_before(rt: &HostRuntime, body: &Body, before: &Frame) -> bool
-    requires { IsSome body.now.here.top }
+fn snapshot_of(rt: &HostRuntime, body: &Body) -> Option<Snapshot>
+    requires { IsRunning body.now }
 {
-    match frame_again(rt, body) {
-        Some(frame) => is_same_frame(&frame, before),
+    Some(Snapshot {
+        frame: frame_again(rt, body)?,
+        outer: seen(body.outer()),
+    })
+}
+
+// Whether the frame that runs, and the bindings that stood when it began, are as they were.
+fn is_as_before(rt: &HostRuntime, body: &Body, before: &Snapshot) -> bool
+    requires { IsRunning body.now }
+{
+    match snapshot_of(rt, body) {
+        Some(now) => is_same_frame(&now.frame, &before.frame) && now.outer == before.outer,
         None => false,
     }
 }
 
-fn start(alloc: Global, script: &Arc<Script>, method: MethodId) -> Result<Body, AllocError>
-    requires { method.0 < method_count (arc_value script.now) }
-    ensures idle { IfOk result (λ b. b.here.phase ≡ idle) }
-    ensures running { IfOk result (λ b. IsSome b.here.top) }
-{
-    let args = script.root_args(RootId(0)).to_vec(alloc)?;
-    Body::start(alloc, Arc::clone(script)?, method, args)
+// Bindings of both locals, one of them anew.
+fn bound(alloc: Global) -> Result<Bindings, AllocError> {
+    let mut bindings = Bindings::new(alloc);
+    bindings.bind(LocalId(0), 2)?;
+    bindings.bind(LocalId(1), 1)?;
+    bindings.bind(LocalId(0), 3)?;
+    Ok(bindings)
 }
 
-// The task of the first root, made again where it is refused.
-fn start_again(rt: &HostRuntime, script: &Arc<Script>) -> Option<Body>
-    ensures idle { IfSome result (λ b. b.here.phase ≡ idle) }
-    ensures running { IfSome result (λ b. IsSome b.here.top) }
+fn start(alloc: Global, script: &Arc<Script>, method: MethodId) -> Result<Body, AllocError>
+    requires { method.0 < method_count (arc_value script.now) }
+    ensures idle { IfOk result (λ b. b.phase ≡ idle) }
+    ensures running { IfOk result (λ b. IsRunning b) }
 {
-    if script.root_count() == 0 {
-        return None;
-    }
-    let method = script.root_method(RootId(0));
+    let args = script.root_args(ROOT).to_vec(alloc)?;
+    let bindings = bound(alloc)?;
+    Body::start(alloc, Arc::clone(script)?, method, args, bindings)
+}
+
+// The task of the root, made again where it is refused.
+fn start_again(rt: &HostRuntime, script: &Arc<Script>) -> Option<Body>
+    ensures idle { IfSome result (λ b. b.phase ≡ idle) }
+    ensures running { IfSome result (λ b. IsRunning b) }
+{
+    let method = script.root_method(ROOT);
     if method.0 as usize >= script.method_count() {
         return None;
     }
@@ -96,14 +148,14 @@ fn start_again(rt: &HostRuntime, script: &Arc<Script>) -> Option<Body>
 fn turn(
     cx: &mut Context<'_>,
     body: &mut Body,
-    fields: Vec<i64>,
+    fields: Vec<Vec<i64>>,
     resume: Resume,
-) -> Result<(Vec<i64>, Exit), (&'static str, Vec<i64>)>
-    requires idle { body.old.here.phase ≡ idle }
-    requires running { IsSome body.old.here.top }
-    ensures idle { body.new.here.phase ≡ idle }
-    ensures running { IsSome body.new.here.top }
-    ensures same { IfErr result (λ e. (e.1.items ≡ fields.items) × (body.new.here ≡ body.old.here)) }
+) -> Result<(Vec<Vec<i64>>, Vec<Effect>, Exit), (&'static str, Vec<Vec<i64>>)>
+    requires idle { body.old.phase ≡ idle }
+    requires running { IsRunning body.old }
+    ensures idle { body.new.phase ≡ idle }
+    ensures running { IsRunning body.new }
+    ensures same { IfErr result (λ e. (rows_of e.1.items ≡ rows_of fields.items) × (body.new.task ≡ body.old.task)) }
 {
     match body.enter(fields, resume, ENV) {
         Ok(()) => {}
@@ -111,34 +163,54 @@ fn turn(
     }
     let _ = body.poll(cx);
     match body.leave() {
-        Ok((after, _effects, exit)) => Ok((after, exit)),
+        Ok(left) => Ok(left),
         Err((back, AllocError)) => Err(("Body::poll", back)),
     }
 }
 
-// One turn, made again where it is refused: the fields after it, and how it ended.
+fn rows(alloc: Global, known: &Fields) -> Result<Vec<Vec<i64>>, AllocError> {
+    let mut made = Vec::new(alloc);
+    for row in known {
+        made.push(Vec::from_slice(alloc, row)?)?;
+    }
+    Ok(made)
+}
+
+// The fields of two actors with two fields each.
+fn fields_of(rows: &[Vec<i64>]) -> Option<Fields> {
+    match rows {
+        [first, second] => Some([pair(first)?, pair(second)?]),
+        _ => None,
+    }
+}
+
+fn pair(row: &[i64]) -> Option<[i64; 2]> {
+    match *row {
+        [first, second] => Some([first, second]),
+        _ => None,
+    }
+}
+
+// One turn, made again where it is refused: the fields after it, its effects, and how it ended.
 fn turn_again(
     rt: &HostRuntime,
     cx: &mut Context<'_>,
     body: &mut Body,
-    known: [i64; 2],
+    known: Fields,
     resume: Resume,
-) -> Option<([i64; 2], Exit)>
-    requires idle { body.old.here.phase ≡ idle }
-    requires running { IsSome body.old.here.top }
-    ensures idle { body.new.here.phase ≡ idle }
-    ensures running { IsSome body.new.here.top }
+) -> Option<(Fields, Vec<Effect>, Exit)>
+    requires idle { body.old.phase ≡ idle }
+    requires running { IsRunning body.old }
+    ensures idle { body.new.phase ≡ idle }
+    ensures running { IsRunning body.new }
 {
-    let before = frame_again(rt, body)?;
-    let mut fields = again(rt, "fields", || Vec::from_slice(rt.alloc(), &known))?;
+    let before = snapshot_of(rt, body)?;
+    let mut fields = again(rt, "fields", || rows(rt.alloc(), &known))?;
     for _ in 0..TRIES {
         match turn(cx, body, fields, resume) {
-            Ok((after, exit)) => match after.as_slice() {
-                [first, second] => return Some(([*first, *second], exit)),
-                _ => return None,
-            },
+            Ok((after, effects, exit)) => return Some((fields_of(&after)?, effects, exit)),
             Err((call, back)) => {
-                let is_same = back.as_slice() == known.as_slice();
+                let is_same = fields_of(&back) == Some(known);
                 refused(rt, call, is_same && is_as_before(rt, body, &before));
                 fields = back;
             }
@@ -150,13 +222,13 @@ fn turn_again(
 
 // What comes after a turn, told again where it is refused.
 fn advance_again(rt: &HostRuntime, body: &mut Body, exit: &Exit) -> Option<Step>
-    requires idle { body.old.here.phase ≡ idle }
-    requires running { IsSome body.old.here.top }
+    requires idle { body.old.phase ≡ idle }
+    requires running { IsRunning body.old }
     requires call { CanAdvance body.old.script (exit_view exit.now) }
-    ensures idle { body.new.here.phase ≡ idle }
-    ensures running { IfSome result (λ step. GoesOn step → IsSome body.new.here.top) }
+    ensures idle { body.new.phase ≡ idle }
+    ensures running { IfSome result (λ step. GoesOn step → IsRunning body.new) }
 {
-    let before = frame_again(rt, body)?;
+    let before = snapshot_of(rt, body)?;
     for _ in 0..TRIES {
         match body.advance(exit) {
             Ok(step) => return Some(step),
@@ -169,47 +241,36 @@ fn advance_again(rt: &HostRuntime, body: &mut Body, exit: &Exit) -> Option<Step>
     None
 }
 
-// Writes how a turn ended.
-fn tell(rt: &HostRuntime, exit: &Exit) {
-    let _ = match exit {
-        Exit::Call(_, method, args) => print!(rt; "call of {method:?} with {args:?}"),
-        Exit::Yield => print!(rt; "yield"),
-        Exit::Close(group, pending) => print!(rt; "close of {group}, {pending:?}"),
-        Exit::Return(value) => print!(rt; "return of {value}"),
-        Exit::Fault(fault) => print!(rt; "{fault:?}"),
-    };
-}
-
 // Plays the turns of a task, with no other task between them.
 fn play(rt: &HostRuntime, cx: &mut Context<'_>, mut body: Body) -> Option<()>
-    requires idle { body.here.phase ≡ idle }
-    requires running { IsSome body.here.top }
+    requires idle { body.phase ≡ idle }
+    requires running { IsRunning body }
 {
     let mut fields = [[3, -1], [0, 0]];
     let mut resume = Resume::Start;
+    let mut answers = ANSWERS.iter();
     for number in 0..TURNS {
-        let place = body.actor().0 as usize;
-        if place >= fields.len() {
-            return None;
-        }
-        let (after, exit) = turn_again(rt, cx, &mut body, fields[place], resume)?;
-        fields[place] = after;
+        let (after, effects, exit) = turn_again(rt, cx, &mut body, fields, resume)?;
+        fields = after;
         if !body.can_advance(&exit) {
             return None;
         }
         let step = advance_again(rt, &mut body, &exit)?;
         let _ = print!(rt; "turn {number}: ");
-        tell(rt, &exit);
-        let _ = println!(rt; ", fields {after:?}, {step:?}");
+        tell(rt, &effects, &exit);
+        let _ = print!(rt; ", fields {fields:?}, ");
+        tell_step(rt, step);
+        let _ = println!(rt; "");
         match step {
             Step::Run(_, next) => resume = next,
-            Step::Ended(_) | Step::Await => return Some(()),
+            Step::Await => resume = *answers.next()?,
+            Step::Ended(_) => return Some(()),
         }
     }
     None
 }
 
-/// Plays the task of a script's first root by hand, on the fields of its two actors.
+/// Plays the task of a script's second root by hand, on the fields of the two actors of its executor.
 pub fn play_root(rt: &HostRuntime, script: &Arc<Script>) -> Option<()> {
     let solo = again(
         rt,

@@ -5,14 +5,15 @@ ghost use Rattle.swift_script.specs.Scripts.{method_count};
 
 use crate::play::{play, run};
 use crate::show;
-use crate::words::{Turn, numbers_of, turn_of};
+use crate::words::{Turn, change, opening_of, turn_of};
 use anyhow::Result;
 use futures::Future;
 use futures::task::{Doorbell, Poll, Solo};
 use std::alloc::{AllocError, Global};
 use std::sync::Arc;
+use swift_interpreter::{Exit, Frame};
 use swift_script::Script;
-use swift_turn::{Body, Exit, Frame};
+use swift_turn::Body;
 use swift_types::MethodId;
 
 /// A task, the exit of its last turn, and the frame that was copied last.
@@ -41,18 +42,19 @@ pub fn start(
     alloc: Global,
     script: &Arc<Script>,
     name: &str,
-    args: &[&str],
+    words: &[&str],
     out: &mut String,
 ) -> Result<Option<Task>, AllocError> {
     let Some(method) = method_named(script, name) else {
         out.push_str("no such method")?;
         return Ok(None);
     };
-    let Some(args) = numbers_of(alloc, args)? else {
+    let Some(opening) = opening_of(alloc, words)? else {
         out.push_str("no such arguments")?;
         return Ok(None);
     };
-    let body = Body::start(alloc, Arc::clone(script)?, method, args)?;
+    let script = Arc::clone(script)?;
+    let body = Body::start(alloc, script, method, opening.args, opening.bindings)?;
     out.push_str("started")?;
     Ok(Some(Task {
         body,
@@ -76,7 +78,7 @@ pub fn call(
         ["advance"] => advance(task, out)?,
         ["actor"] => actor(&task.body, out)?,
         ["frame"] => frame(script, task, out)?,
-        ["put_back", ref groups @ ..] => put_back(task, groups, out)?,
+        ["put_back", ref changes @ ..] => put_back(task, changes, out)?,
         [name, ref begin @ ..] => match turn_of(alloc, begin)? {
             Some(begin) => begin_turn(rt, script, task, name, begin, out)?,
             None => out.push_str("no such call")?,
@@ -179,17 +181,19 @@ fn frame(script: &Script, task: &mut Task, out: &mut String) -> Result<(), Alloc
     }
     let copy = task.body.frame()?;
     show::frame(out, script, &copy)?;
+    out.push_str(" outer ")?;
+    show::bindings(out, script, task.body.outer())?;
     task.frame = Some(copy);
     Ok(())
 }
 
-fn put_back(task: &mut Task, groups: &[&str], out: &mut String) -> Result<(), AllocError> {
+fn put_back(task: &mut Task, changes: &[&str], out: &mut String) -> Result<(), AllocError> {
     let Some(mut copy) = task.frame.take() else {
         return out.push_str("not possible");
     };
-    for word in groups {
-        if let Ok(group) = word.parse() {
-            copy.groups.push(group)?;
+    for word in changes {
+        if !change(&mut copy, word)? {
+            return out.push_str("no such part");
         }
     }
     if !task.body.is_running() || !task.body.can_put_back(&copy) {

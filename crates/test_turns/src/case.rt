@@ -65,7 +65,9 @@ fn answer(
     let words: Vec<&str> = line.split_whitespace().collect(alloc)?;
     let mut out = String::new(alloc);
     match *words {
-        ["start", name, ref args @ ..] => *task = start(alloc, script, name, args, &mut out)?,
+        ["start", name, ref opening @ ..] => {
+            *task = start(alloc, script, name, opening, &mut out)?;
+        }
         _ => match task {
             Some(task) => call(rt, script, task, &words, &mut out)?,
             None => out.push_str("not possible")?,

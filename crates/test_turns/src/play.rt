@@ -5,8 +5,9 @@ use crate::words::Turn;
 use anyhow::Result;
 use futures::task::{Context, Doorbell, Solo};
 use std::alloc::AllocError;
+use swift_interpreter::Exit;
 use swift_script::Script;
-use swift_turn::{Body, Exit, Step, run_turn};
+use swift_turn::{Body, Step, run_turn};
 use swift_types::limits::TURNS;
 
 /// One turn. None where it can't be run.
@@ -31,7 +32,7 @@ fn one(
     body: &mut Body,
     begin: Turn,
     out: &mut String,
-) -> Result<Option<(Vec<i64>, Exit)>, AllocError> {
+) -> Result<Option<(Vec<Vec<i64>>, Exit)>, AllocError> {
     if !body.is_running() {
         out.push_str("not possible")?;
         return Ok(None);

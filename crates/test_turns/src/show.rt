@@ -1,26 +1,119 @@
 //! Answers as text.
 
+use script_code::Binding;
 use std::alloc::AllocError;
 use std::fmt::Write;
+use swift_interpreter::{Effect, Exit, Frame, Invocation, TaskName};
+use swift_locals::Bindings;
 use swift_script::Script;
-use swift_turn::{Effect, Exit, Frame, Step};
-use swift_types::{Ending, Fault, MethodId, Resume};
+use swift_turn::Step;
+use swift_types::{ActorId, Ending, Fault, LocalId, MethodId, Priority, Resume};
 
-/// What a turn gave: the fields, whether it has effects, and the exit.
+/// What a turn gave: the fields, the effects, and the exit.
 pub fn left(
     out: &mut String,
     script: &Script,
-    fields: &[i64],
+    fields: &[Vec<i64>],
     effects: &[Effect],
     exit: &Exit,
 ) -> Result<(), AllocError> {
-    numbers(out, fields)?;
-    out.push_str(if effects.is_empty() {
-        ", no effects, "
-    } else {
-        ", effects, "
-    })?;
+    write!(out, "{fields:?}, ")?;
+    if effects.is_empty() {
+        out.push_str("no effects, ")?;
+    }
+    for done in effects {
+        effect(out, script, done)?;
+        out.push_str(", ")?;
+    }
     show_exit(out, script, exit)
+}
+
+fn effect(out: &mut String, script: &Script, done: &Effect) -> Result<(), AllocError> {
+    match done {
+        Effect::Spawn(made, given, standing) => {
+            out.push_str("spawn ")?;
+            invocation(out, script, made)?;
+            priority(out, *given)?;
+            with(out, script, standing)
+        }
+        Effect::Detach(made, given) => {
+            out.push_str("detach ")?;
+            invocation(out, script, made)?;
+            priority(out, Some(*given))
+        }
+        Effect::Open => out.push_str("open"),
+        Effect::Add(group, unless, child, given, standing) => {
+            write!(out, "add {group} ")?;
+            out.push_str(if *unless { "unless " } else { "" })?;
+            invocation(out, script, child)?;
+            priority(out, *given)?;
+            with(out, script, standing)
+        }
+        Effect::CancelTask(name) => {
+            out.push_str("cancel ")?;
+            task(out, *name)
+        }
+        Effect::CancelGroup(group) => write!(out, "cancel group {group}"),
+    }
+}
+
+// A method with its arguments.
+fn invocation(out: &mut String, script: &Script, called: &Invocation) -> Result<(), AllocError> {
+    actor(out, script, called.actor)?;
+    out.push('.')?;
+    method(out, script, called.method)?;
+    out.push(' ')?;
+    numbers(out, &called.args)
+}
+
+fn priority(out: &mut String, given: Option<Priority>) -> Result<(), AllocError> {
+    match given {
+        None => Ok(()),
+        Some(Priority::Background) => out.push_str(" at background"),
+        Some(Priority::Low) => out.push_str(" at low"),
+        Some(Priority::Medium) => out.push_str(" at medium"),
+        Some(Priority::High) => out.push_str(" at high"),
+    }
+}
+
+// The bindings of a task that is made, if it has any.
+fn with(out: &mut String, script: &Script, standing: &Bindings) -> Result<(), AllocError> {
+    if standing.depth() == 0 {
+        return Ok(());
+    }
+    out.push_str(" with ")?;
+    bindings(out, script, standing)
+}
+
+/// What is read of each local that is bound, and how many bindings stand.
+pub fn bindings(out: &mut String, script: &Script, standing: &Bindings) -> Result<(), AllocError> {
+    if standing.depth() == 0 {
+        return out.push_str("none");
+    }
+    let mut open = "{";
+    for place in 0..script.local_count() {
+        let local = LocalId(u32::try_from(place).unwrap_or(u32::MAX));
+        if let Some(value) = standing.read(local) {
+            write!(out, "{open}{place}: {value}")?;
+            open = ", ";
+        }
+    }
+    // No script reads a local that it does not declare.
+    out.push_str(if open == "{" { "{" } else { "" })?;
+    let depth = standing.depth();
+    out.push_str("} of ")?;
+    write!(out, "{depth}")
+}
+
+// A task, as a frame names it.
+fn task(out: &mut String, name: TaskName) -> Result<(), AllocError> {
+    match name {
+        TaskName::Root(root) => {
+            let root = root.0;
+            write!(out, "root {root}")
+        }
+        TaskName::Own(number) => write!(out, "task {number}"),
+    }
 }
 
 fn numbers(out: &mut String, list: &[i64]) -> Result<(), AllocError> {
@@ -29,28 +122,42 @@ fn numbers(out: &mut String, list: &[i64]) -> Result<(), AllocError> {
 
 fn show_exit(out: &mut String, script: &Script, exit: &Exit) -> Result<(), AllocError> {
     match exit {
-        Exit::Call(_, called, args) => {
+        Exit::Call(called) => {
             out.push_str("call ")?;
-            method(out, script, *called)?;
-            out.push(' ')?;
-            numbers(out, args)
+            invocation(out, script, called)
         }
-        Exit::Yield => out.push_str("yield"),
+        Exit::Wait(name) => {
+            out.push_str("wait ")?;
+            task(out, *name)
+        }
+        Exit::Next(group) => write!(out, "next {group}"),
         Exit::Close(group, None) => write!(out, "close {group}"),
         Exit::Close(group, Some(pending)) => {
             write!(out, "close {group} ")?;
             fault(out, *pending)
         }
+        Exit::Yield => out.push_str("yield"),
         Exit::Return(value) => write!(out, "return {value}"),
         Exit::Fault(left) => fault(out, *left),
     }
+}
+
+fn actor(out: &mut String, script: &Script, called: ActorId) -> Result<(), AllocError> {
+    if called.0 as usize >= script.actor_count() {
+        return out.push_str("?");
+    }
+    name(out, script.actor_name(called))
 }
 
 fn method(out: &mut String, script: &Script, called: MethodId) -> Result<(), AllocError> {
     if called.0 as usize >= script.method_count() {
         return out.push_str("?");
     }
-    for byte in script.method_name(called) {
+    name(out, script.method_name(called))
+}
+
+fn name(out: &mut String, bytes: &[u8]) -> Result<(), AllocError> {
+    for byte in bytes {
         out.push(char::from(*byte))?;
     }
     Ok(())
@@ -105,23 +212,34 @@ pub fn step(out: &mut String, next: Step) -> Result<(), AllocError> {
     }
 }
 
-/// A frame, part by part.
+/// A frame, part by part, without where it is. What is innermost stands last.
 pub fn frame(out: &mut String, script: &Script, copy: &Frame) -> Result<(), AllocError> {
     method(out, script, copy.method)?;
-    let line = copy.line;
-    write!(out, " line {line} vars ")?;
-    numbers(out, &copy.vars)?;
+    out.push_str(" vars ")?;
+    numbers(out, &copy.variables)?;
     let handles = copy.handles.as_slice();
+    write!(out, " handles {handles:?} own ")?;
+    own(out, &copy.own)?;
     let groups = copy.groups.as_slice();
-    let depth = copy.depth;
-    write!(
-        out,
-        " handles {handles:?} depth {depth} groups {groups:?} pending "
-    )?;
+    write!(out, " groups {groups:?} pending ")?;
     match copy.pending {
         Some(pending) => fault(out, pending)?,
         None => out.push_str("none")?,
     }
     let (made, opened) = (copy.made, copy.opened);
     write!(out, " made {made} opened {opened}")
+}
+
+// The bindings of a frame.
+fn own(out: &mut String, made: &[Binding]) -> Result<(), AllocError> {
+    out.push('[')?;
+    for (place, binding) in made.iter().enumerate() {
+        if place > 0 {
+            out.push_str(", ")?;
+        }
+        let local = binding.local.0;
+        let value = binding.value;
+        write!(out, "{local}: {value}")?;
+    }
+    out.push(']')
 }

@@ -7,10 +7,10 @@ use Rattle.script_tokens.specs.declared.keyword.Keyword.{Keyword}
 use Rattle.script_tokens.specs.declared.keyword.Keyword.TheVariants as key
 use Rattle.script_tokens.specs.declared.mark.Mark.TheVariants as mark
 use Rattle.script_tokens.specs.Pieces.{Piece, Name, Key}
-use Rattle.whole_grammar.specs.declared.region.Atoms.TheVariants.{Every}
-use Rattle.whole_grammar.specs.declared.region.Region.{Region}
-use Rattle.whole_grammar.specs.Tree.{ExprTree, CallTree, AwaitedTree, Called, TaskOf, NextOf, WaitTree, ValueTree, Computed, Waited, MakeTree, Spawned, Detached, AddTree, ActionTree, Let, LetTask, Assign, Await, Makes, Adds, Cancel, Return, Throw, Check, Yield}
-use Rattle.whole_grammar.specs.Grammar.{priority_of, or_medium, may_act, may_return}
+use Rattle.script_grammar.specs.declared.region.Atoms.TheVariants.{Every}
+use Rattle.script_grammar.specs.declared.region.Region.{Region}
+use Rattle.script_grammar.specs.Tree.{ExprTree, CallTree, AwaitedTree, Called, TaskOf, NextOf, WaitTree, ValueTree, Computed, Waited, MakeTree, Spawned, Detached, AddTree, ActionTree, Let, LetTask, Assign, Await, Makes, Adds, Cancel, Return, Throw, Check, Yield}
+use Rattle.script_grammar.specs.Grammar.{priority_of, or_medium, may_act, may_return}
 use Rattle.script_parser.specs.Model.Steps.{at, ◌>>=◌, Reads, allowed_at}
 use Rattle.script_parser.specs.Model.Parts.{name_at, sign_at, list_at}
 use Rattle.script_parser.specs.Model.Expressions.{expr_in}

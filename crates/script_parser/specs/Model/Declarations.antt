@@ -5,12 +5,12 @@ use Rattle.script_parser.specs.declared.fault.Kind.TheVariants.{Unexpected, OutO
 use Rattle.script_tokens.specs.declared.keyword.Keyword.TheVariants as key
 use Rattle.script_tokens.specs.declared.mark.Mark.TheVariants as mark
 use Rattle.script_tokens.specs.Pieces.{Piece, Num, Huge, Key, Sign}
-use Rattle.whole_grammar.specs.declared.declaration.ExecutorKind.{ExecutorKind}
-use Rattle.whole_grammar.specs.declared.declaration.ExecutorKind.TheVariants as kind
-use Rattle.whole_grammar.specs.declared.region.Atoms.TheVariants.{Plain}
-use Rattle.whole_grammar.specs.declared.region.Region.TheVariants as region
-use Rattle.whole_grammar.specs.Tree.{ExprTree, ExecutorTree, LocalTree, FieldTree, MethodTree, ActorTree, RootTree, DeclTree, Executes, Binds, Acts, Roots}
-use Rattle.whole_grammar.specs.Grammar.{least, or_medium}
+use Rattle.script_grammar.specs.declared.declaration.ExecutorKind.{ExecutorKind}
+use Rattle.script_grammar.specs.declared.declaration.ExecutorKind.TheVariants as kind
+use Rattle.script_grammar.specs.declared.region.Atoms.TheVariants.{Plain}
+use Rattle.script_grammar.specs.declared.region.Region.TheVariants as region
+use Rattle.script_grammar.specs.Tree.{ExprTree, ExecutorTree, LocalTree, FieldTree, MethodTree, ActorTree, RootTree, DeclTree, Executes, Binds, Acts, Roots}
+use Rattle.script_grammar.specs.Grammar.{least, or_medium}
 use Rattle.script_parser.specs.Model.Steps.{at, ◌>>=◌, Reads}
 use Rattle.script_parser.specs.Model.Parts.{name_at, sign_at, brace_at, items_at, list_at}
 use Rattle.script_parser.specs.Model.Expressions.{expr_in}

@@ -8,9 +8,9 @@ use Rattle.script_tokens.specs.declared.keyword.Keyword.TheVariants as key
 use Rattle.script_tokens.specs.declared.mark.Mark.{Mark}
 use Rattle.script_tokens.specs.declared.mark.Mark.TheVariants as mark
 use Rattle.script_tokens.specs.Pieces.{Piece, Num, Huge, Name, Key, Sign}
-use Rattle.whole_grammar.specs.declared.region.Atoms.{Atoms}
-use Rattle.whole_grammar.specs.Tree.{ExprTree, Number, Named, Local, OwnPriority, IsCancelled, Negated, Inverted, Both, height_of}
-use Rattle.whole_grammar.specs.Grammar.{tightness_of, has_every_atom}
+use Rattle.script_grammar.specs.declared.region.Atoms.{Atoms}
+use Rattle.script_grammar.specs.Tree.{ExprTree, Number, Named, Local, OwnPriority, IsCancelled, Negated, Inverted, Both, height_of}
+use Rattle.script_grammar.specs.Grammar.{tightness_of, has_every_atom}
 use Rattle.script_parser.specs.Model.Steps.{at, ◌>>=◌, Reads, allowed_at}
 use Rattle.script_parser.specs.Model.Parts.{name_at}
 

@@ -4,10 +4,10 @@ use Rattle.script_parser.specs.declared.fault.Kind.TheVariants.{Unexpected, Ends
 use Rattle.script_tokens.specs.declared.keyword.Keyword.TheVariants as key
 use Rattle.script_tokens.specs.declared.mark.Mark.TheVariants as mark
 use Rattle.script_tokens.specs.Pieces.{Key}
-use Rattle.whole_grammar.specs.declared.region.Atoms.TheVariants.{Every}
-use Rattle.whole_grammar.specs.declared.region.Region.{Region}
-use Rattle.whole_grammar.specs.declared.region.Region.TheVariants as region
-use Rattle.whole_grammar.specs.Tree.{ExprTree, HeadTree, If, While, Bind, Group, Assume, StmtTree, Do, Headed, IfElse, block_tree}
+use Rattle.script_grammar.specs.declared.region.Atoms.TheVariants.{Every}
+use Rattle.script_grammar.specs.declared.region.Region.{Region}
+use Rattle.script_grammar.specs.declared.region.Region.TheVariants as region
+use Rattle.script_grammar.specs.Tree.{ExprTree, HeadTree, If, While, Bind, Group, Assume, StmtTree, Do, Headed, IfElse, block_tree}
 use Rattle.script_parser.specs.Model.Steps.{at, ◌>>=◌, Reads}
 use Rattle.script_parser.specs.Model.Parts.{name_at, sign_at, brace_at, items_at}
 use Rattle.script_parser.specs.Model.Expressions.{expr_in}

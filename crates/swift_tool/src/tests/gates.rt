@@ -3,9 +3,9 @@ use crate::run::run_text;
 use std::sync::atomic::{AtomicU32, Ordering};
 use std::test::Fail;
 use swift_one_thread::{Gate, Moment};
-use swift_types::{ActorId, TaskId};
+use swift_types::{ExecId, TaskId};
 
-// Counts the tokens that were taken, and the turns of task 1 at actor 0.
+// Counts the tokens that were taken, and the turns of task 1 on executor 0.
 #[derive(Drop)]
 struct Counting {
     taken: AtomicU32,
@@ -16,7 +16,7 @@ impl Gate for Counting {
     fn at(&self, moment: Moment) {
         let _ = match moment {
             Moment::Took(_) => self.taken.fetch_add(1, Ordering::Relaxed),
-            Moment::Turned(ActorId(0), TaskId(1)) => self.turns.fetch_add(1, Ordering::Relaxed),
+            Moment::Turned(ExecId(0), TaskId(1)) => self.turns.fetch_add(1, Ordering::Relaxed),
             Moment::Turned(_, _) => 0,
         };
     }

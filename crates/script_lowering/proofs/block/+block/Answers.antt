@@ -1,53 +1,123 @@
-use Rattle.std.proofs.Common.{◌≡◌, ◌+◌, ◌++◌, length, map, take, ap, ◌∙◌, arith}
-use Rattle.script_grammar.specs.Tree.{view_stmt, block_tree}
+use Rattle.std.proofs.Common.{◌≡◌, ◌+◌, ◌-◌, ◌<◌, false, length, sym, ap, subst, ◌∙◌, arith}
+use Rattle.script_grammar.specs.Tree.{view, view_head, view_stmt}
 use Rattle.script_code.specs.Tree.{term_of}
-use Rattle.script_code.specs.Flat.{flat, meaning_of}
-use Rattle.script_lowering.specs.Lowered.{code_of}
-use Rattle.script_lowering.proofs.Blocks.{block_goes_on, still_in_order, still_kept}
-use Rattle.script_lowering.proofs.Statements.{if_done, while_done, choice_done, on_ok}
+use Rattle.script_code.specs.Instructions.{tests}
+use Rattle.script_names.specs.Scope.{Scope}
+use Rattle.script_names.specs.Rules.{scope_after, scope_within}
+use Rattle.script_lowering.specs.Lowered.{lowered, stmt_code}
+use Rattle.script_lowering.specs.Heads.{HeadsAs, is_isolated}
+use Rattle.script_lowering.proofs.Lines.{IsWritten}
+use Rattle.script_lowering.proofs.Blocks.{through_more, step_back}
+use Rattle.script_lowering.proofs.Statements.{code_in, while_written, block_written, else_written, answered, ok_of, not_loop, left_is}
 use Rattle.script_lowering.proofs.block.+block.Goals as goal
 
-pub block-loop-i-preserved : goal.block-loop-i-preserved
-block-loop-i-preserved t c =
-    let behind : c.in_ok-behind.behind ≡ length c.loop-i.instructions.items + c.in_ok-size_of.field-0 = omega arith in
-    record {
-      instructions = block_goes_on c.args.scope.declared.now c.args.scope.fields.now c.loop-i.variables c.statement.new.variables c.args.block.now c.loop-i.i c.index-block-i.result
-          c.loop-i.instructions.items c.statement.new.instructions.items c.in_ok-size_of.field-0 c.in_ok-behind.behind c.first_instruction-next.result c.args.after
-          c.loop-i-test.true c.index-block-i.is c.in_ok-statement.ensures.variables c.in_ok-size_of.ensures behind c.first_instruction-next.ensures c.in_ok-statement.ensures.instructions
-          ∙ c.loop-i.invariant.instructions;
-      in_order = still_in_order c.args.scope.declared.now c.args.scope.fields.now c.loop-i.variables c.statement.new.variables c.args.block.now c.loop-i.i c.index-block-i.result
-          c.loop-i-test.true c.index-block-i.is c.in_ok-statement.ensures.variables c.loop-i.invariant.in_order;
-      kept = ap (λ vs. take c.len-outside.result vs) c.in_ok-statement.ensures.variables
-          ∙ still_kept c.len-outside.result c.loop-i.variables c.args.variables.now (view_stmt c.index-block-i.result) c.loop-i.invariant.kept c.loop-i.invariant.outside;
-      outside = c.loop-i.invariant.outside;
-    }
+pub block-loop-stmt-preserved : goal.block-loop-stmt-preserved
+block-loop-stmt-preserved t c =
+    c.in_ok-pass.ensures
+    ∙ ap (λ (s : Scope). scope_after s (view_stmt c.stmt-item.result)) c.loop-stmt.invariant
+    ∙ sym (through_more c.args.scope.now c.args.block.now c.loop-stmt.stmt-index c.stmt-item.result c.loop-stmt-test.true c.stmt-item.is)
 
-pub statement-returns-in_ok-push_instruction-in-If-clause-instructions : goal.statement-returns-in_ok-push_instruction-in-If-clause-instructions
-statement-returns-in_ok-push_instruction-in-If-clause-instructions t c =
-    let inner : c.in_ok-inner.inner ≡ length c.args.instructions.now.items + 1 = omega arith in
-    on_ok c.block.result c.block.ensures.instructions (λ e2.
-    if_done c.args.scope.declared.now c.args.scope.fields.now c.args.variables.now c.args.stmt.now c.in-If.expr c.in-If.held c.deref-in-If.result.now c.deref-in-If-2.result.now
-    (term_of c.in_ok-test-in-If.test) c.args.instructions.now.items c.push_instruction.new.instructions.items c.block.new.instructions.items c.first_instruction.result c.in_ok-inner.inner c.args.next
-    c.in-If.is c.in_ok-test-in-If.ensures c.deref-in-If.ensures.value c.deref-in-If-2.ensures.value inner c.first_instruction.ensures c.in_ok-push_instruction-in-If.ensures.ok e2)
+pub block-loop-left-preserved : goal.block-loop-left-preserved
+block-loop-left-preserved t c =
+    let i = c.loop-left.left - 1 in
+    let next : i + 1 ≡ c.loop-left.left = omega arith in
+    let lt : i < length c.args.block.now = omega arith in
+    let w = step_back c.args.plan.now c.args.scope.now c.loop-left.scope c.pass_back.new.scope c.statement.new.scope c.args.block.now c.loop-left.left i c.index-block-left.result
+    c.args.instructions.now.items c.loop-left.instructions.items c.statement.new.instructions.items c.args.next c.loop-left.first c.in_ok-first.first
+    next lt c.index-block-left.is c.loop-left.invariant.standing c.pass_back.ensures c.in_ok-first.ensures.scope
+    (record { lines = c.loop-left.invariant.lines; start = c.loop-left.invariant.start })
+    (record { lines = c.in_ok-first.ensures.lines; start = c.in_ok-first.ensures.start }) in
+    record { within = omega arith; standing = w.0; lines = w.1.lines; start = w.1.start }
 
-pub statement-returns-in_ok-push_instruction-in-While-clause-instructions : goal.statement-returns-in_ok-push_instruction-in-While-clause-instructions
-statement-returns-in_ok-push_instruction-in-While-clause-instructions t c =
-    let here : c.in_ok-here.here ≡ length c.args.instructions.now.items = omega arith in
-    let inner : c.in_ok-inner.inner ≡ length c.args.instructions.now.items + 1 = omega arith in
-    on_ok c.block-in-While.result c.block-in-While.ensures.instructions (λ e2.
-    while_done c.args.scope.declared.now c.args.scope.fields.now c.args.variables.now c.args.stmt.now c.in-While.expr c.in-While.body c.deref-in-While.result.now c.deref-in-While-2.result.now
-    (term_of c.in_ok-test-in-While.test) c.args.instructions.now.items c.push_instruction-in-While.new.instructions.items c.block-in-While.new.instructions.items c.first_instruction-in-While.result c.in_ok-here.here c.in_ok-inner.inner c.args.next
-    c.in-While.is c.in_ok-test-in-While.ensures c.deref-in-While.ensures.value c.deref-in-While-2.ensures.value here inner c.first_instruction-in-While.ensures c.in_ok-push_instruction-in-While.ensures.ok e2)
+pub statement-returns-in_ok-test-in-IfElse-clause-lines : goal.statement-returns-in_ok-test-in-IfElse-clause-lines
+statement-returns-in_ok-test-in-IfElse-clause-lines t c =
+    let p = c.args.plan.now in
+    let s = c.args.scope.now in
+    let e = c.in-IfElse.test in
+    let held = c.deref-in-IfElse-2.result.now in
+    let failed = c.deref-in-IfElse.result.now in
+    let term = term_of c.in_ok-test-in-IfElse.test in
+    let first = c.in_ok-first-in-IfElse.first in
+    let other = c.in_ok-other-in-IfElse.other in
+    let l = c.args.instructions.now.items in
+    let m = c.block-in-IfElse.new.instructions.items in
+    let n = c.block-in-IfElse-2.new.instructions.items in
+    let o = c.write_test-in-IfElse.new.instructions.items in
+    let kept : c.block-in-IfElse.new.scope ≡ s = c.in_ok-other-in-IfElse.ensures.scope in
+    let kept' : c.block-in-IfElse-2.new.scope ≡ s = c.in_ok-first-in-IfElse.ensures.scope ∙ kept in
+    let said : term ≡ lowered p s (view e) = c.in_ok-test-in-IfElse.ensures ∙ ap (λ (y : Scope). lowered p y (view e)) kept' in
+    let below : IsWritten (code_in p s failed) l m c.args.next other = record { lines = c.in_ok-other-in-IfElse.ensures.lines; start = c.in_ok-other-in-IfElse.ensures.start } in
+    let above : IsWritten (code_in p s held) m n c.args.next first = subst (λ (y : Scope). IsWritten (code_in p y held) m n c.args.next first) kept (record { lines = c.in_ok-first-in-IfElse.ensures.lines; start = c.in_ok-first-in-IfElse.ensures.start }) in
+    (answered c.write_test-in-IfElse.result (λ at. tests term (at first) (at other)) (stmt_code p s (view_stmt c.args.stmt.now)) l n o c.args.next c.write_test-in-IfElse.ensures.lines c.write_test-in-IfElse.ensures.number
+    (λ x line at. else_written p s c.args.stmt.now e c.in-IfElse.held c.in-IfElse.failed held failed term l m n o c.args.next first other x
+    c.in-IfElse.is c.deref-in-IfElse-2.ensures.value c.deref-in-IfElse.ensures.value said below above line at)).0
 
-pub statement-returns-in_ok-block-in-IfElse-clause-instructions : goal.statement-returns-in_ok-block-in-IfElse-clause-instructions
-statement-returns-in_ok-block-in-IfElse-clause-instructions t c =
-    let inner : c.in_ok-inner.inner ≡ length c.args.instructions.now.items + 1 = omega arith in
-    on_ok c.block-in-IfElse-2.result c.block-in-IfElse-2.ensures.instructions (λ e3.
-    choice_done c.args.scope.declared.now c.args.scope.fields.now c.args.variables.now c.args.stmt.now c.in-IfElse.expr c.in-IfElse.held c.in-IfElse.failed
-    c.deref-in-IfElse-3.result.now c.deref-in-IfElse.result.now c.deref-in-IfElse-4.result.now c.deref-in-IfElse-2.result.now c.deref-in-IfElse-5.result.now
-    (term_of c.in_ok-test-in-IfElse.test) c.args.instructions.now.items c.push_instruction-in-IfElse.new.instructions.items c.block-in-IfElse.new.instructions.items c.block-in-IfElse-2.new.instructions.items
-    c.first_instruction-first.result c.in_ok-inner.inner c.in_ok-size-in-IfElse.field-0 c.in_ok-sum-in-IfElse.field-0 c.first_instruction-other.result c.args.next
-    c.in-IfElse.is c.in_ok-test-in-IfElse.ensures c.deref-in-IfElse-3.ensures.value c.deref-in-IfElse.ensures.value c.deref-in-IfElse-4.ensures.value c.deref-in-IfElse-2.ensures.value c.deref-in-IfElse-5.ensures.value inner
-    c.in_ok-size-in-IfElse.ensures c.in_ok-sum-in-IfElse.ensures c.first_instruction-first.ensures c.first_instruction-other.ensures
-    c.in_ok-push_instruction-in-IfElse.ensures.ok c.in_ok-block-in-IfElse.ensures.instructions
-    (e3 ∙ ap (λ vs. map meaning_of c.block-in-IfElse.new.instructions.items ++ flat (code_of c.args.scope.declared.now c.args.scope.fields.now vs (block_tree (map view_stmt c.deref-in-IfElse-5.result.now))) (length c.block-in-IfElse.new.instructions.items) c.args.next) c.in_ok-block-in-IfElse.ensures.variables))
+pub statement-returns-in_ok-test-in-IfElse-clause-start : goal.statement-returns-in_ok-test-in-IfElse-clause-start
+statement-returns-in_ok-test-in-IfElse-clause-start t c =
+    let p = c.args.plan.now in
+    let s = c.args.scope.now in
+    let e = c.in-IfElse.test in
+    let held = c.deref-in-IfElse-2.result.now in
+    let failed = c.deref-in-IfElse.result.now in
+    let term = term_of c.in_ok-test-in-IfElse.test in
+    let first = c.in_ok-first-in-IfElse.first in
+    let other = c.in_ok-other-in-IfElse.other in
+    let l = c.args.instructions.now.items in
+    let m = c.block-in-IfElse.new.instructions.items in
+    let n = c.block-in-IfElse-2.new.instructions.items in
+    let o = c.write_test-in-IfElse.new.instructions.items in
+    let kept : c.block-in-IfElse.new.scope ≡ s = c.in_ok-other-in-IfElse.ensures.scope in
+    let kept' : c.block-in-IfElse-2.new.scope ≡ s = c.in_ok-first-in-IfElse.ensures.scope ∙ kept in
+    let said : term ≡ lowered p s (view e) = c.in_ok-test-in-IfElse.ensures ∙ ap (λ (y : Scope). lowered p y (view e)) kept' in
+    let below : IsWritten (code_in p s failed) l m c.args.next other = record { lines = c.in_ok-other-in-IfElse.ensures.lines; start = c.in_ok-other-in-IfElse.ensures.start } in
+    let above : IsWritten (code_in p s held) m n c.args.next first = subst (λ (y : Scope). IsWritten (code_in p y held) m n c.args.next first) kept (record { lines = c.in_ok-first-in-IfElse.ensures.lines; start = c.in_ok-first-in-IfElse.ensures.start }) in
+    (answered c.write_test-in-IfElse.result (λ at. tests term (at first) (at other)) (stmt_code p s (view_stmt c.args.stmt.now)) l n o c.args.next c.write_test-in-IfElse.ensures.lines c.write_test-in-IfElse.ensures.number
+    (λ x line at. else_written p s c.args.stmt.now e c.in-IfElse.held c.in-IfElse.failed held failed term l m n o c.args.next first other x
+    c.in-IfElse.is c.deref-in-IfElse-2.ensures.value c.deref-in-IfElse.ensures.value said below above line at)).1
+
+pub statement-returns-in_ok-test-in-While-clause-lines : goal.statement-returns-in_ok-test-in-While-clause-lines
+statement-returns-in_ok-test-in-While-clause-lines t c =
+    let p = c.args.plan.now in
+    let s = c.args.scope.now in
+    let e = c.in-While.test in
+    let body = c.deref.result.now in
+    let term = term_of c.in_ok-test-in-While.test in
+    let said : term ≡ lowered p s (view e) = c.in_ok-test-in-While.ensures ∙ ap (λ (y : Scope). lowered p y (view e)) c.in_ok-first-in-While.ensures.scope in
+    (while_written p s c.args.stmt.now c.in-Block.head c.in-Block.body body e term _ c.args.instructions.now.items c.write.new.instructions.items c.block.new.instructions.items c.link.new.instructions.items
+    c.args.next c.in_ok-first-in-While.first c.in_ok-here-in-While.here
+    c.in-Block.is c.in-While.is c.deref.ensures.value said c.in_ok-here-in-While.ensures.lines c.in_ok-here-in-While.ensures.number
+    (record { lines = c.in_ok-first-in-While.ensures.lines; start = c.in_ok-first-in-While.ensures.start }) c.link.ensures).lines
+
+pub statement-returns-in_ok-act-in_default : goal.statement-returns-in_ok-act-in_default
+statement-returns-in_ok-act-in_default t c =
+    let p = c.args.plan.now in
+    let s = c.args.scope.now in
+    let h = view_head c.in-Block.head in
+    let body = c.deref-in_default.result.now in
+    let act = c.in_ok-act-in_default.act in
+    let first = c.in_ok-first-in_default.first in
+    let last = c.in_ok-last-in_default.last in
+    let q = c.args.next in
+    let l = c.args.instructions.now.items in
+    let m = c.write_foot.new.instructions.items in
+    let n = c.block-in_default.new.instructions.items in
+    let o = c.write_test.new.instructions.items in
+    let inside : c.enter.new.scope ≡ scope_within s h = c.in_ok-enter-in_default.ensures in
+    let back : c.leave.new.self ≡ s =
+    c.leave.ensures ∙ left_is s c.block-in_default.new.scope h c.outside-outside.result c.outside-outside.ensures.as_many c.outside-outside.ensures.value (c.in_ok-first-in_default.ensures.scope ∙ inside) in
+    let run : is_isolated p s h ≡ false = sym c.in_ok-is_isolated-in_default.ensures ∙ c.if-branch.false in
+    let heads : HeadsAs act p s h = subst (λ (y : Scope). HeadsAs act p y h) back c.in_ok-act-in_default.ensures in
+    let inner : IsWritten (code_in p (scope_within s h) body) m n last first = subst (λ (y : Scope). IsWritten (code_in p y body) m n last first) inside (record { lines = c.in_ok-first-in_default.ensures.lines; start = c.in_ok-first-in_default.ensures.start }) in
+    let w = answered c.write_test.result _ (stmt_code p s (view_stmt c.args.stmt.now)) l n o q c.write_test.ensures.lines c.write_test.ensures.number
+    (λ x line at. block_written p s c.args.stmt.now c.in-Block.head c.in-Block.body body act l m n o q last first x
+    c.in-Block.is c.deref-in_default.ensures.value (not_loop c.in-Block.head c.in_default.not-While) run
+    (record {
+      heads = heads;
+      foot_lines = c.in_ok-last-in_default.ensures.lines;
+      foot_start = c.in_ok-last-in_default.ensures.start;
+      block_lines = inner.lines;
+      block_start = inner.start;
+      head_line = line;
+      head_number = at;
+    })) in
+    record { lines = w.0; start = w.1; scope = ok_of c.write_test.result _ back }

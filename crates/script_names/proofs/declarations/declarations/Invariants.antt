@@ -1,6 +1,7 @@
-use Rattle.std.proofs.Common.{◌≡◌, [], drop}
-use Rattle.script_names.specs.Errors.{declarations_error}
+use Rattle.std.proofs.Common.{◌≡◌, [], drop, map}
+use Rattle.script_grammar.specs.Tree.{view_decl}
+use Rattle.script_names.specs.Rules.{declarations_error}
 use Rattle.script_names.proofs.declarations.declarations.Given as goal
 
 abbrev pub invariant-loop-decl : goal.invariant-loop-decl
-invariant-loop-decl l = declarations_error l.declared l.actors l.roots (drop l.decl-index l.decls) ≡ declarations_error l.declared [] [] l.decls
+invariant-loop-decl l = declarations_error l.declared l.seen l.at (map view_decl (drop l.decl-index l.decls)) ≡ declarations_error l.declared (record { places = []; locals = []; roots = []; executors = 0; actors = 0 }) 0 (map view_decl l.decls)

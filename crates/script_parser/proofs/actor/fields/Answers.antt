@@ -3,7 +3,7 @@ use Rattle.std.proofs.lemmas.Result.{err_from_is_err_and}
 use Rattle.std.proofs.lemmas.List.{map_push}
 use Rattle.script_parser.specs.declared.fault.Kind.TheVariants.{EndsEarly}
 use Rattle.script_tokens.specs.Pieces.{piece}
-use Rattle.whole_grammar.specs.Tree.{view_field}
+use Rattle.script_grammar.specs.Tree.{view_field}
 use Rattle.script_parser.specs.Model.Steps.{at}
 use Rattle.script_parser.specs.Model.Parts.{items_at}
 use Rattle.script_parser.specs.Model.Declarations.{fields_end, field_at}

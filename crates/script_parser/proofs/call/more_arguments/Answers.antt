@@ -4,8 +4,8 @@ use Rattle.std.proofs.lemmas.List.{map_push}
 use Rattle.script_parser.specs.declared.fault.Kind.TheVariants.{EndsEarly}
 use Rattle.script_parser.specs.declared.limits.TheConstants.{NESTING}
 use Rattle.script_tokens.specs.Pieces.{piece}
-use Rattle.whole_grammar.specs.declared.region.Atoms.TheVariants.{Every}
-use Rattle.whole_grammar.specs.Tree.{view}
+use Rattle.script_grammar.specs.declared.region.Atoms.TheVariants.{Every}
+use Rattle.script_grammar.specs.Tree.{view}
 use Rattle.script_parser.specs.Model.Expressions.{expr_in}
 use Rattle.script_parser.specs.Model.Steps.{at}
 use Rattle.script_parser.specs.Model.Parts.{close_at, comma_at, items_at, with_first}

@@ -2,7 +2,7 @@ use Rattle.std.proofs.Common.{◌-◌, map, sym}
 use Rattle.std.proofs.lemmas.Result.{err_from_is_err_and}
 use Rattle.script_parser.specs.declared.limits.TheConstants.{NESTING}
 use Rattle.script_tokens.specs.Pieces.{piece}
-use Rattle.whole_grammar.specs.Tree.{view}
+use Rattle.script_grammar.specs.Tree.{view}
 use Rattle.script_parser.specs.Model.Expressions.{operands_at, level_at, inside_at}
 use Rattle.script_parser.proofs.Operands.{next_operand, operand_fails, operand_too_high}
 use Rattle.script_parser.proofs.expression.+expression.Goals as goal

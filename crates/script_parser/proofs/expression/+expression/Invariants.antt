@@ -1,7 +1,7 @@
 use Rattle.std.proofs.Common.{◌≡◌, ◌-◌, ◌+◌, ◌*◌, map}
 use Rattle.script_parser.specs.declared.limits.TheConstants.{NESTING}
 use Rattle.script_tokens.specs.Pieces.{piece}
-use Rattle.whole_grammar.specs.Tree.{view}
+use Rattle.script_grammar.specs.Tree.{view}
 use Rattle.script_parser.specs.Model.Expressions.{operands_at, level_at, inside_at}
 use Rattle.script_parser.proofs.expression.+expression.Given as goal
 

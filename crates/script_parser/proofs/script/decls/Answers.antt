@@ -4,7 +4,7 @@ use Rattle.std.proofs.lemmas.List.{map_push}
 use Rattle.script_parser.specs.declared.fault.Kind.TheVariants.{EndsEarly}
 use Rattle.script_parser.specs.declared.limits.TheConstants.{NESTING}
 use Rattle.script_tokens.specs.Pieces.{piece}
-use Rattle.whole_grammar.specs.Tree.{view_decl}
+use Rattle.script_grammar.specs.Tree.{view_decl}
 use Rattle.script_parser.specs.Model.Steps.{at}
 use Rattle.script_parser.specs.Model.Parts.{items_at}
 use Rattle.script_parser.specs.Model.Declarations.{decls_end, decl_at}

@@ -4,7 +4,7 @@ use Rattle.std.proofs.lemmas.List.{map_push}
 use Rattle.script_parser.specs.declared.limits.TheConstants.{NESTING}
 use Rattle.script_tokens.specs.Pieces.{piece}
 use Rattle.script_parser.specs.declared.fault.Kind.TheVariants.{EndsEarly}
-use Rattle.whole_grammar.specs.Tree.{view_stmt}
+use Rattle.script_grammar.specs.Tree.{view_stmt}
 use Rattle.script_parser.specs.Model.Steps.{at}
 use Rattle.script_parser.specs.Model.Parts.{brace_at}
 use Rattle.script_parser.specs.Model.Statements.{stmt_at, many_at, block_at}

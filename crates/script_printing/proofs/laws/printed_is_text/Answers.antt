@@ -1,7 +1,7 @@
-use Rattle.script_printing.specs.Pieces.{actors_in, roots_in}
+use Rattle.script_printing.specs.Script.{script_in}
 use Rattle.script_printing.proofs.PrintedSpells.{readable_again}
 use Rattle.script_printing.proofs.Plain.{script_is_text}
 use Rattle.script_printing.proofs.laws.printed_is_text.Goals as goal
 
 pub returns : goal.returns
-returns c = λ limit text ts ds l d. script_is_text (actors_in ds) (roots_in ds) (readable_again limit text ts ds l d)
+returns c = λ limit text ts ds l d. script_is_text (script_in ds) (readable_again limit text ts ds l d)

@@ -1,8 +1,8 @@
 use Rattle.std.proofs.Common.{arith}
-use Rattle.script_printing.specs.Pieces.{behind_comma}
+use Rattle.script_printing.specs.Pieces.{after_comma}
 use Rattle.script_printing.proofs.Written.{after_next}
 use Rattle.script_printing.proofs.list.write_more.Goals as goal
 
 pub loop-item-preserved : goal.loop-item-preserved
 loop-item-preserved g c =
-    after_next (behind_comma g.T.Write.pieces) g.T.Write.view c.args.items.now c.loop-item.item-index c.item-item.result (omega arith) c.item-item.is c.args.out.now.items c.loop-item.out.items _ c.loop-item.invariant c.in_ok-write_behind_comma.ensures
+    after_next (after_comma g.T.Write.pieces) g.T.Write.view c.args.items.now c.loop-item.item-index c.item-item.result (omega arith) c.item-item.is c.args.out.now.items c.loop-item.out.items _ c.loop-item.invariant c.in_ok-write_after_comma.ensures

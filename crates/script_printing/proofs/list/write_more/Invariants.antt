@@ -1,8 +1,8 @@
 use Rattle.std.proofs.Common.{◌≡◌, map, take}
 use Rattle.std.specs.List.{flat_map}
-use Rattle.script_printing.specs.Pieces.{behind_comma}
+use Rattle.script_printing.specs.Pieces.{after_comma}
 use Rattle.script_printing.specs.Printed.{after}
 use Rattle.script_printing.proofs.list.write_more.Given as goal
 
 abbrev pub invariant-loop-item : goal.invariant-loop-item
-invariant-loop-item g l = l.out.items ≡ after l.initial.out.items (flat_map (behind_comma g.T.Write.pieces) (map g.T.Write.view (take l.item-index l.items)))
+invariant-loop-item g l = l.out.items ≡ after l.initial.out.items (flat_map (after_comma g.T.Write.pieces) (map g.T.Write.view (take l.item-index l.items)))

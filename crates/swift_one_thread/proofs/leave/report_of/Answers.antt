@@ -16,7 +16,7 @@ pub returns-clause-lawful : goal.returns-clause-lawful
 returns-clause-lawful c = λ p kept.
     let executors = c.args.pool.executors.items in
     subst (λ (js : List (Vec Record Global)). AreLawful p 0 js c.in_ok-journals.fields.items) (sym c.in_ok-journals.ensures.journals)
-    (subst (λ (fs : List (Vec ℤ Global)). AreLawful p 0 (map journal_of executors) fs) (sym c.in_ok-journals.ensures.fields) (lanes_lawful p 0 executors kept.executors))
+    (subst (λ (fs : List (Vec (Vec ℤ Global) Global)). AreLawful p 0 (map journal_of executors) fs) (sym c.in_ok-journals.ensures.fields) (lanes_lawful p 0 executors kept.executors))
 
 pub returns-clause-env_given : goal.returns-clause-env_given
 returns-clause-env_given c = λ p kept.

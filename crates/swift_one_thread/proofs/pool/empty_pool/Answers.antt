@@ -1,5 +1,7 @@
 use Rattle.swift_types.specs.declared.outcome.Ending.{Ending}
-use Rattle.std.proofs.Common.{◌≡◌, ◌+◌, Option, map, List, ◌∷◌, [], ◌++◌, length, sym, subst, ap, ◌∙◌, arith, zero-add, length-append}
+use Rattle.script_code.specs.Seen.{rows_of}
+use Rattle.swift_script.specs.Scripts.{executor_start}
+use Rattle.std.proofs.Common.{◌≡◌, ◌+◌, ℤ, Option, map, List, ◌∷◌, [], ◌++◌, length, sym, subst, ap, ◌∙◌, arith, zero-add, length-append}
 use Rattle.swift_one_thread.specs.declared.executor.Executor.{Executor}
 use Rattle.std.specs.List.{AllByRecursion}
 use Rattle.std.specs.declared.vec.Vec.{Vec}
@@ -13,14 +15,15 @@ use Rattle.swift_one_thread.proofs.pool.empty_pool.Goals as goal
 pub loop-preserved : goal.loop-preserved
 loop-preserved c =
     let p = c.args.script.now in
-    let executor = c.in_ok-new.field-0 in
+    let executor = c.new.result in
     let old = c.loop.executors.items in
-    let new : IsExecutor p c.loop.actor executor = lane_new p c.loop.actor executor c.in_ok-new.ensures.jobs (c.in_ok-new.ensures.fields ∙ c.start.ensures) c.in_ok-new.ensures.journal in
-    let same : 0 + length old ≡ c.loop.actor = zero-add (length old) ∙ c.loop.invariant.place in
+    let rows : rows_of executor.fields.items ≡ executor_start p c.loop.place = ap (λ (v : Vec (Vec ℤ Global) Global). rows_of v.items) c.new.ensures.fields ∙ c.in_ok-fields.ensures in
+    let new : IsExecutor p c.loop.place executor = lane_new p c.loop.place executor c.new.ensures.jobs rows c.new.ensures.journal in
+    let same : 0 + length old ≡ c.loop.place = zero-add (length old) ∙ c.loop.invariant.place in
     let pushed : c.push.new.self.items ≡ old ++ executor ∷ [] = c.in_ok-push.ensures.items in
     record {
       executors = subst (λ (ls : List Executor). AreExecutors p 0 ls) (sym pushed) (lane_push p 0 old executor c.loop.invariant.executors (subst (λ n. IsExecutor p n executor) (sym same) new));
-      numbered = λ (js : List (Vec Record Global)). subst (λ (ls : List Executor). AllByRecursion (IsNumbered js) ls) (sym pushed) (AllByRecursion-push (IsNumbered js) old executor (c.loop.invariant.numbered js) (numbered_new js executor c.in_ok-new.ensures.jobs c.in_ok-new.ensures.journal));
+      numbered = λ (js : List (Vec Record Global)). subst (λ (ls : List Executor). AllByRecursion (IsNumbered js) ls) (sym pushed) (AllByRecursion-push (IsNumbered js) old executor (c.loop.invariant.numbered js) (numbered_new js executor c.new.ensures.jobs c.new.ensures.journal));
       place = omega (arith, ap length pushed, length-append old (executor ∷ []), c.loop.invariant.place, c.in-Some.ensures);
       count = omega (arith, c.in-Some.ensures, c.loop.invariant.count);
       end = c.loop.invariant.end;

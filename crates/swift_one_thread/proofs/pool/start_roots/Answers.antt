@@ -11,7 +11,7 @@ loop-k-preserved c =
     let executors = c.enqueue.new.pool.executors.items in
     let old = c.enqueue.new.pool.endings.items in
     let pushed : c.push.new.self.items ≡ old ++ None ∷ [] = c.in_ok-push.ensures.items in
-    let one : IsPool p c.enqueue.new.pool = c.in_ok-enqueue.ensures.pool p c.loop-k.invariant.pool c.in_ok-actor.ensures.job (λ n below. absurd (omega (arith, below, c.in_ok-actor.ensures.first))) in
+    let one : IsPool p c.enqueue.new.pool = c.in_ok-enqueue.ensures.pool p c.loop-k.invariant.pool c.in_ok-executor.ensures.job (λ n below. absurd (omega (arith, below, c.in_ok-executor.ensures.first))) in
     record {
       pool = subst (λ (es : List (Option Ending)). AreKept p executors es) (sym pushed) (board_more p executors old one);
       actors = c.in_ok-enqueue.ensures.actors ∙ c.loop-k.invariant.actors;

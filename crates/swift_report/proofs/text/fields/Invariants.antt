@@ -1,6 +1,7 @@
-use Rattle.std.proofs.Common.{◌≡◌, ◌++◌, drop}
+use Rattle.std.proofs.Common.{◌≡◌, ◌++◌, ◌-◌}
+use Rattle.swift_script.specs.Scripts.{actor_count}
 use Rattle.swift_report.specs.Text.{fields_text}
 use Rattle.swift_report.proofs.text.fields.Given as goal
 
 abbrev pub invariant-loop-actor : goal.invariant-loop-actor
-invariant-loop-actor l = l.out.items ++ fields_text l.script l.actor (drop l.actor l.fields) ≡ l.initial.out.items ++ fields_text l.script 0 l.fields
+invariant-loop-actor l = l.out.items ++ fields_text l.script l.fields l.actor (actor_count l.script - l.actor) ≡ l.initial.out.items ++ fields_text l.script l.fields 0 (actor_count l.script)

@@ -1,10 +1,9 @@
 use Rattle.std.proofs.Common.{◌≡◌}
-use Rattle.std.specs.Prelude.{IsSome}
-use Rattle.swift_turn.specs.Body.{idle}
+use Rattle.swift_turn.specs.Body.{IsRunning, idle}
 use Rattle.test_allocations.proofs.turn.turn_again.Given as goal
 
 abbrev pub invariant-loop : goal.invariant-loop
 invariant-loop l = record {
-  idle : l.body.here.phase ≡ idle;
-  running : IsSome l.body.here.top;
+  idle : l.body.phase ≡ idle;
+  running : IsRunning l.body;
 }

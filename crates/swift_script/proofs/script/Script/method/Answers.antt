@@ -1,15 +1,23 @@
-use Rattle.std.proofs.Common.{◌≡◌, List, Some, map, sym, ap, subst, ◌∙◌}
-use Rattle.std.specs.Prelude.{slice_get}
-use Rattle.script_grammar.specs.Tree.{view_actor}
-use Rattle.swift_script.specs.declared.compiled.CompiledMethod.{CompiledMethod}
-use Rattle.swift_script.specs.Scripts.{ScriptView, directory_in, entries_in, entry_at}
-use Rattle.swift_script.specs.Compiled.{IsMethodOf}
-use Rattle.swift_script.proofs.Places.{got, method_at}
+use Rattle.std.proofs.Common.{◌<◌, length, arith, sym, subst}
+use Rattle.std.proofs.lemmas.Slice.Zip.{AllZip-long}
+use Rattle.script_printing.specs.Script.{ScriptTree}
+use Rattle.script_compiler.specs.IsCompiled.{IsMethod}
+use Rattle.swift_script.specs.Scripts.{parts_of, method_count, method_at}
+use Rattle.swift_script.specs.ScriptInvariant.{tree_of}
+use Rattle.swift_script.proofs.MethodPlaces.{method_there}
 use Rattle.swift_script.proofs.script.Script.method.Goals as goal
+
+pub index-requires : goal.index-requires
+index-requires c =
+    let ms = c.self.inside.compiled.methods in
+    let long = AllZip-long IsMethod ms.items _ c.self.invariant.has_parts.methods in
+    let within : c.args.method.0 < length (parts_of (tree_of c.self.inside.declarations)).methods = subst (λ (s : ScriptTree). c.args.method.0 < method_count s) (sym c.self.view_is) c.requires in
+    omega (arith, long, within, ms.ok.0)
 
 pub returns : goal.returns
 returns c =
-    let s = c.self.inside in
-    let at : slice_get s.methods.items c.args.method.0 ≡ Some c.in-Some.found.now = ap (λ (ms : List CompiledMethod). slice_get ms c.args.method.0) (sym c.deref.ensures.value) ∙ got c.deref.result.now c.args.method.0 c.in-Some.found.now c.in-Some.ensures.lookup.3.0 c.in-Some.ensures.lookup.1 in
-    subst (λ (p : ScriptView). IsMethodOf (directory_in (map view_actor p.actors)) (entry_at p c.args.method.0) c.in-Some.found.now) c.self.view_is
-    (method_at (directory_in (map view_actor s.actors.items)) (entries_in (map view_actor s.actors.items)) s.methods.items c.args.method.0 c.in-Some.found.now c.self.invariant.has_methods at)
+    let ms = c.self.inside.compiled.methods in
+    let long = AllZip-long IsMethod ms.items _ c.self.invariant.has_parts.methods in
+    let within : c.args.method.0 < length (parts_of (tree_of c.self.inside.declarations)).methods = subst (λ (s : ScriptTree). c.args.method.0 < method_count s) (sym c.self.view_is) c.requires in
+    let there : c.args.method.0 < length ms.items = omega (arith, long, within) in
+    subst (λ (s : ScriptTree). IsMethod c.index.result.now (method_at s c.args.method.0)) c.self.view_is (method_there ms.items _ c.args.method.0 c.index.result.now c.self.invariant.has_parts.methods there c.index.ensures)

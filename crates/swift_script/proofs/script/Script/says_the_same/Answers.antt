@@ -1,14 +1,12 @@
-use Rattle.std.proofs.Common.{◌≡◌, ℕ, List, subst, rules}
-use Rattle.swift_script.specs.Scripts.{ScriptView, tree_of}
-use Rattle.swift_script.specs.Accepted.{IsAccepted}
-use Rattle.swift_script.proofs.Accepting.{same_accepted}
+use Rattle.std.proofs.Common.{ap, subst, ◌∙◌}
+use Rattle.script_printing.specs.Printed.{printed}
+use Rattle.swift_script.specs.Accepted.{WasAccepted}
+use Rattle.swift_script.proofs.Printing.{says}
 use Rattle.swift_script.proofs.script.Script.says_the_same.Goals as goal
 
-pub returns-then-eq : goal.returns-then-eq
-returns-then-eq c =
-    let texts : c.self.inside.text.items ≡ c.other.inside.text.items = search rules in
-    let mine : IsAccepted c.other.inside.text.items (tree_of c.args.self.now) =
-    subst (λ (t : List ℕ). IsAccepted t (tree_of c.args.self.now)) texts (subst (λ (p : ScriptView). IsAccepted c.self.inside.text.items (tree_of p)) c.self.view_is c.self.invariant.accepted) in
-    let theirs : IsAccepted c.other.inside.text.items (tree_of c.args.other.now) = subst (λ (p : ScriptView). IsAccepted c.other.inside.text.items (tree_of p)) c.other.view_is c.other.invariant.accepted in
-    let same = same_accepted c.other.inside.text.items (tree_of c.args.self.now) (tree_of c.args.other.now) mine theirs in
-    (λ e. same, λ e. search rules)
+pub returns-clause-same : goal.returns-clause-same
+returns-clause-same c =
+    says c.args.self.now c.args.other.now c.as_slice.result.now c.as_slice-2.result.now c.eq.result
+    (subst WasAccepted c.self.view_is c.self.invariant.accepted) (subst WasAccepted c.other.view_is c.other.invariant.accepted)
+    (c.as_slice.ensures.value ∙ c.self.invariant.has_printed ∙ ap printed c.self.view_is) (c.as_slice-2.ensures.value ∙ c.other.invariant.has_printed ∙ ap printed c.other.view_is)
+    c.eq.ensures

@@ -1,0 +1,10 @@
+pub mod Steps
+pub mod Starting
+pub mod Membership
+pub mod Deeds
+pub mod WaitsSame
+pub mod ExecutorsMade
+pub mod ByKinds
+pub mod RootsMade
+pub mod CallsNamed
+pub mod CallsThere

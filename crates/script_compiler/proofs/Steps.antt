@@ -1,0 +1,120 @@
+-- One thing more, as a loop takes it.
+use Rattle.std.proofs.Common.{◌≡◌, ℕ, suc, ◌+◌, ◌-◌, ◌<◌, Bool, true, false, refl, List, [], ◌∷◌, ◌++◌, length, map, get_or, drop, take, eqb, add-one, drop-cons, sym, ap, subst, ◌∙◌, append_assoc, arith}
+use Rattle.std.specs.Prelude.{if◌then◌else◌}
+use Rattle.std.specs.List.{AllZip}
+use Rattle.std.proofs.lemmas.List.{map_push, take_more}
+use Rattle.std.proofs.lemmas.Bool.{eqb-true, eq-eqb}
+use Rattle.swift_types.specs.declared.id.ActorId.{ActorId}
+use Rattle.script_grammar.specs.Tree.{MethodTree, DeclTree, Executes, Binds, Acts, Roots, view_method, view_decl}
+use Rattle.script_grammar.specs.declared.declaration.Method.{Method}
+use Rattle.script_grammar.specs.declared.declaration.Decl.{Decl}
+use Rattle.script_lowering.specs.Plan.{Plan, executor_at}
+use Rattle.script_printing.specs.Script.{script_in}
+use Rattle.script_compiler.specs.declared.compiled.CompiledMethod.{CompiledMethod}
+use Rattle.script_compiler.specs.Compiled.{MethodView, method_of, methods_from}
+use Rattle.script_compiler.specs.IsCompiled.{actor_number, IsMethod}
+use Rattle.script_compiler.specs.Members.{members_below, methods_here, number_after}
+
+-- the first of what is left
+pub front : {A : Type 0} (xs : List A) (i : ℕ) (x : A) → i < length xs → x ≡ get_or xs i x → drop i xs ≡ x ∷ drop (i + 1) xs
+front xs i x lt is = rw (add-one, drop-cons xs i x) (ap (λ y. y ∷ drop (suc i) xs) (sym is))
+
+-- what is done and what is left are the whole, after one thing more
+pub one_more : {A B : Type 0} (f : A → B) (done more : List A) (x : A) (y : B) (here rest whole : List B)
+    → more ≡ done ++ x ∷ [] → f x ≡ y → here ≡ y ∷ rest → map f done ++ here ≡ whole → map f more ++ rest ≡ whole
+one_more f done more x y here rest whole pushed made is e =
+    ap (λ xs. map f xs ++ rest) pushed
+    ∙ ap (λ ys. ys ++ rest) (map_push f done x)
+    ∙ append_assoc (map f done) (f x ∷ []) rest
+    ∙ ap (λ z. map f done ++ z ∷ rest) made
+    ∙ ap (λ ys. map f done ++ ys) (sym is)
+    ∙ e
+
+-- two lists that agree, with one more each
+pub zip_push : {A B : Type 0} (R : A → B → Type 0) (xs : List A) (ys : List B) (x : A) (y : B) → AllZip R xs ys → R x y → AllZip R (xs ++ x ∷ []) (ys ++ y ∷ [])
+zip_push R [] [] x y h r = (r, tt)
+zip_push R [] (y' ∷ ys) x y h r = absurd h
+zip_push R (x' ∷ xs) [] x y h r = absurd h
+zip_push R (x' ∷ xs) (y' ∷ ys) x y h r = (h.0, zip_push R xs ys x y h.1 r)
+
+elsewhere : (b : Bool) → (b ≡ true → ⊥) → b ≡ false
+elsewhere true h = absurd (h refl)
+elsewhere false h = refl
+
+-- one actor more, which runs on the executor or not
+next_left : (n k : ℕ) → k < n → n - k ≡ suc (n - (k + 1))
+next_left n k lt = omega arith
+
+pub member_here : (p : Plan) (e k n : ℕ) (done more : List ActorId) (m : ActorId) (whole : List ℕ) → k < n → executor_at p k ≡ e → m.0 ≡ k → more ≡ done ++ m ∷ []
+    → map actor_number done ++ members_below p e k (n - k) ≡ whole
+    → map actor_number more ++ members_below p e (k + 1) (n - (k + 1)) ≡ whole
+member_here p e k n done more m whole lt on is pushed before =
+    let j = n - (k + 1) in
+    let here : members_below p e k (n - k) ≡ k ∷ members_below p e (k + 1) j =
+    ap (members_below p e k) (next_left n k lt)
+    ∙ ap (λ b. if b then k ∷ members_below p e (suc k) j else members_below p e (suc k) j) (eq-eqb (executor_at p k) e on)
+    ∙ ap (λ i. k ∷ members_below p e i j) (sym (add-one k)) in
+    one_more actor_number done more m k (members_below p e k (n - k)) (members_below p e (k + 1) j) whole pushed is here before
+
+pub member_not : (p : Plan) (e k n : ℕ) (done more : List ActorId) (whole : List ℕ) → k < n → (executor_at p k ≡ e → ⊥) → more ≡ done
+    → map actor_number done ++ members_below p e k (n - k) ≡ whole
+    → map actor_number more ++ members_below p e (k + 1) (n - (k + 1)) ≡ whole
+member_not p e k n done more whole lt off same before =
+    let j = n - (k + 1) in
+    let no : eqb (executor_at p k) e ≡ false = elsewhere (eqb (executor_at p k) e) (λ t. off (eqb-true (executor_at p k) e t)) in
+    let here : members_below p e k (n - k) ≡ members_below p e (k + 1) j =
+    ap (members_below p e k) (next_left n k lt)
+    ∙ ap (λ b. if b then k ∷ members_below p e (suc k) j else members_below p e (suc k) j) no
+    ∙ ap (λ i. members_below p e i j) (sym (add-one k)) in
+    ap (λ ms. map actor_number ms ++ members_below p e (k + 1) j) same ∙ ap (λ ms. map actor_number done ++ ms) (sym here) ∙ before
+
+-- one method more
+pub method_more : (f : MethodTree → MethodView) (ms : List Method) (i : ℕ) (m : Method) (all more : List CompiledMethod) (x : CompiledMethod) (done : List MethodView)
+    → i < length ms → m ≡ get_or ms i m → more ≡ all ++ x ∷ [] → IsMethod x (f (view_method m))
+    → AllZip IsMethod all (done ++ map f (map view_method (take i ms)))
+    → AllZip IsMethod more (done ++ map f (map view_method (take (i + 1) ms)))
+method_more f ms i m all more x done lt is pushed made before =
+    let so_far = map f (map view_method (take i ms)) in
+    let one : take (i + 1) ms ≡ take i ms ++ m ∷ [] = take_more ms i m lt ∙ ap (λ (y : Method). take i ms ++ y ∷ []) (sym is) in
+    let views : map f (map view_method (take (i + 1) ms)) ≡ so_far ++ f (view_method m) ∷ [] =
+    ap (λ (ys : List Method). map f (map view_method ys)) one
+    ∙ ap (map f) (map_push view_method (take i ms) m)
+    ∙ map_push f (map view_method (take i ms)) (view_method m) in
+    let all_views : (done ++ so_far) ++ f (view_method m) ∷ [] ≡ done ++ map f (map view_method (take (i + 1) ms)) =
+    append_assoc done so_far (f (view_method m) ∷ []) ∙ ap (λ vs. done ++ vs) (sym views) in
+    subst (λ (vs : List MethodView). AllZip IsMethod more vs) all_views
+    (subst (λ (ys : List CompiledMethod). AllZip IsMethod ys ((done ++ so_far) ++ f (view_method m) ∷ [])) (sym pushed)
+    (zip_push IsMethod all (done ++ so_far) x (f (view_method m)) before made))
+
+-- the methods of one declaration more
+next_methods : (p : Plan) (k : ℕ) (d : DeclTree) (ds : List DeclTree) → methods_from p k (script_in (d ∷ ds)).actors ≡ methods_here p k d ++ methods_from p (number_after k d) (script_in ds).actors
+next_methods p k (Executes x) ds = refl
+next_methods p k (Binds l) ds = refl
+next_methods p k (Acts a) ds = ap (λ n. map (method_of p k) a.methods ++ methods_from p n (script_in ds).actors) (sym (add-one k))
+next_methods p k (Roots r) ds = refl
+
+-- So much is done: what is compiled, and with what is left it is the whole.
+pub record AreDone (p : Plan) (k : ℕ) (all : List CompiledMethod) (left : List Decl) (whole : List MethodView) : Type 0 where
+  pub views : List MethodView
+  pub compiled : AllZip IsMethod all views
+  pub with_left : views ++ methods_from p k (script_in (map view_decl left)).actors ≡ whole
+
+pub decl_more : (p : Plan) (decls : List Decl) (i : ℕ) (d : Decl) (k next : ℕ) (all more : List CompiledMethod) (whole : List MethodView)
+    → i < length decls → d ≡ get_or decls i d
+    → ((done : List MethodView) → AllZip IsMethod all done → AllZip IsMethod more (done ++ methods_here p k (view_decl d)))
+    → next ≡ number_after k (view_decl d)
+    → AreDone p k all (drop i decls) whole → AreDone p next more (drop (i + 1) decls) whole
+decl_more p decls i d k next all more whole lt is made number before =
+    let left = drop (i + 1) decls in
+    let here = methods_here p k (view_decl d) in
+    let rest : ℕ → List MethodView = λ n. methods_from p n (script_in (map view_decl left)).actors in
+    record {
+      views = before.views ++ here;
+      compiled = made before.views before.compiled;
+      with_left =
+          ap (λ n. (before.views ++ here) ++ rest n) number
+          ∙ append_assoc before.views here (rest (number_after k (view_decl d)))
+          ∙ ap (λ vs. before.views ++ vs) (sym (next_methods p k (view_decl d) (map view_decl left)))
+          ∙ ap (λ (ds : List Decl). before.views ++ methods_from p k (script_in (map view_decl ds)).actors) (sym (front decls i d lt is))
+          ∙ before.with_left;
+    }

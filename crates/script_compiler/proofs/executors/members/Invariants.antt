@@ -1,0 +1,7 @@
+use Rattle.std.proofs.Common.{◌≡◌, ◌++◌, ◌-◌, map}
+use Rattle.script_compiler.specs.IsCompiled.{actor_number}
+use Rattle.script_compiler.specs.Members.{members_below}
+use Rattle.script_compiler.proofs.executors.members.Given as goal
+
+abbrev pub invariant-loop-actor : goal.invariant-loop-actor
+invariant-loop-actor l = map actor_number l.members.items ++ members_below l.plan l.executor l.actor (l.actors - l.actor) ≡ members_below l.plan l.executor 0 l.actors

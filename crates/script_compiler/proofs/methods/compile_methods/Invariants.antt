@@ -1,0 +1,9 @@
+use Rattle.std.proofs.Common.{map, drop}
+use Rattle.script_grammar.specs.Tree.{view_decl}
+use Rattle.script_printing.specs.Script.{script_in}
+use Rattle.script_compiler.specs.Compiled.{methods_from}
+use Rattle.script_compiler.proofs.Steps.{AreDone}
+use Rattle.script_compiler.proofs.methods.compile_methods.Given as goal
+
+abbrev pub invariant-loop-decl : goal.invariant-loop-decl
+invariant-loop-decl l = AreDone l.plan l.actor.0 l.methods.items (drop l.decl-index l.decls) (methods_from l.plan 0 (script_in (map view_decl l.decls)).actors)

@@ -1,0 +1,7 @@
+use Rattle.std.proofs.Common.{◌≡◌, ◌++◌, map, drop}
+use Rattle.script_compiler.specs.IsCompiled.{actor_view, executor_view}
+use Rattle.script_compiler.specs.Rows.{rows_in, all_rows_of}
+use Rattle.script_compiler.proofs.start.all_rows.Given as goal
+
+abbrev pub invariant-loop-executor : goal.invariant-loop-executor
+invariant-loop-executor l = all_rows_of l.all.items ++ rows_in (map executor_view (drop l.executor-index l.executors)) (map actor_view l.actors) ≡ rows_in (map executor_view l.executors) (map actor_view l.actors)

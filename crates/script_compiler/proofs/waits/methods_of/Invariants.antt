@@ -1,0 +1,6 @@
+use Rattle.std.proofs.Common.{◌≡◌, ◌++◌, map, drop}
+use Rattle.script_compiler.specs.IsCompiled.{root_view}
+use Rattle.script_compiler.proofs.waits.methods_of.Given as goal
+
+abbrev pub invariant-loop-root : goal.invariant-loop-root
+invariant-loop-root l = l.methods.items ++ map (λ r. r.method) (map root_view (drop l.root-index l.roots)) ≡ map (λ r. r.method) (map root_view l.roots)

@@ -1,0 +1,10 @@
+use Rattle.std.proofs.Common.{◌≡◌, ◌++◌, drop}
+use Rattle.script_compiler.specs.Waiting.{edges_made, waits_made}
+use Rattle.script_compiler.specs.Acts.{made_through}
+use Rattle.script_compiler.proofs.waits.named_by.Given as goal
+
+abbrev pub invariant-loop-k : goal.invariant-loop-k
+invariant-loop-k l = record {
+  edges : l.named.edges.items ++ made_through edges_made l.k (drop l.k l.methods) ≡ made_through edges_made 0 l.methods;
+  waits : l.named.waits.items ++ made_through waits_made l.k (drop l.k l.methods) ≡ made_through waits_made 0 l.methods;
+}

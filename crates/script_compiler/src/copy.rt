@@ -1,0 +1,34 @@
+//! Formulas that are copied.
+
+ghost use Rattle.std.specs.Prelude.{◌≡◌, IfOk};
+ghost use Rattle.script_code.specs.Tree.{term_of};
+
+use script_code::Formula;
+use std::alloc::{AllocError, Global};
+
+/// A second formula that says the same, in time and memory linear in it.
+pub(crate) fn copied(alloc: Global, formula: &Formula) -> Result<Formula, AllocError>
+    ensures { IfOk result (λ f. term_of f ≡ term_of formula.now) }
+{
+    match formula {
+        Formula::Number(n) => Ok(Formula::Number(*n)),
+        Formula::Variable(x) => Ok(Formula::Variable(*x)),
+        Formula::Field(place) => Ok(Formula::Field(*place)),
+        Formula::Local(local, default) => Ok(Formula::Local(*local, *default)),
+        Formula::Priority => Ok(Formula::Priority),
+        Formula::Cancelled => Ok(Formula::Cancelled),
+        Formula::Negate(operand) => {
+            let operand = copied(alloc, operand)?;
+            Ok(Formula::Negate(Box::new(alloc, operand)?))
+        }
+        Formula::Not(operand) => {
+            let operand = copied(alloc, operand)?;
+            Ok(Formula::Not(Box::new(alloc, operand)?))
+        }
+        Formula::Binary(operator, left, right) => {
+            let left = copied(alloc, left)?;
+            let right = copied(alloc, right)?;
+            Ok(Formula::Binary(*operator, Box::new(alloc, left)?, Box::new(alloc, right)?))
+        }
+    }
+}

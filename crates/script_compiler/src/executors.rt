@@ -1,0 +1,192 @@
+//! Executors, and the actors of each.
+
+ghost use Rattle.std.specs.Prelude.{◌≡◌, ◌++◌, ◌∷◌, [], All, length, map, slice_get, IfOk, OnOk};
+ghost use Rattle.script_grammar.specs.Tree.{view_decl};
+ghost use Rattle.script_code.specs.Seen.{term_if_lent};
+ghost use Rattle.script_code.specs.Tree.{terms_of};
+ghost use Rattle.script_printing.specs.Script.{script_in};
+ghost use Rattle.script_compiler.specs.Compiled.{own_executors, invariant_if, term_list, invariants_among};
+ghost use Rattle.script_compiler.specs.IsCompiled.{actor_number, actor_view, executor_view, HasInvariants};
+ghost use Rattle.script_compiler.specs.Members.{members_below, executors_by};
+
+use crate::compiled::{CompiledActor, CompiledExecutor};
+use crate::copy::copied;
+use crate::number::to_u32;
+use script_code::Formula;
+use script_grammar::{Decl, ExecutorKind};
+use script_lowering::Plan;
+use std::alloc::{AllocError, Global};
+use swift_types::ActorId;
+
+// The actors of an executor, of so many actors.
+fn members(
+    alloc: Global,
+    plan: &Plan,
+    executor: usize,
+    actors: usize,
+) -> Result<Vec<ActorId>, AllocError>
+    ensures { IfOk result (λ v. map actor_number v.items ≡ members_below plan.now executor 0 actors) }
+{
+    let mut members = Vec::new(alloc);
+    for actor in 0..actors {
+        if plan.executor(actor) as usize == executor {
+            members.push(ActorId(to_u32(actor)?))?;
+        }
+    }
+    Ok(members)
+}
+
+// The invariant of an actor, if there is one.
+fn invariant_of(actors: &[CompiledActor], actor: ActorId) -> Option<&Formula>
+    ensures { term_if_lent result ≡ invariant_if (slice_get (map actor_view actors.now) actor.0) }
+{
+    match actors.get(actor.0 as usize) {
+        Some(actor) => actor.invariant.as_ref(),
+        None => None,
+    }
+}
+
+// One formula more, if there is one.
+fn add_copy(
+    alloc: Global,
+    formula: Option<&Formula>,
+    all: &mut Vec<Formula>,
+) -> Result<(), AllocError>
+    ensures { OnOk result (terms_of all.new.items ≡ terms_of all.old.items ++ term_list (term_if_lent formula.entry)) }
+{
+    let Some(formula) = formula else {
+        return Ok(());
+    };
+    all.push(copied(alloc, formula)?)?;
+    Ok(())
+}
+
+// The invariants of these actors, in order.
+fn invariants(
+    alloc: Global,
+    actors: &[CompiledActor],
+    members: &[ActorId],
+) -> Result<Vec<Formula>, AllocError>
+    ensures { IfOk result (λ v. terms_of v.items ≡ invariants_among (map actor_view actors.now) (map actor_number members.now)) }
+{
+    let mut invariants = Vec::new(alloc);
+    for member in members {
+        add_copy(alloc, invariant_of(actors, *member), &mut invariants)?;
+    }
+    Ok(invariants)
+}
+
+fn executor(
+    alloc: Global,
+    plan: &Plan,
+    actors: &[CompiledActor],
+    place: usize,
+    name: &[u8],
+    kind: ExecutorKind,
+) -> Result<CompiledExecutor, AllocError>
+    ensures view { IfOk result (λ x. executor_view x ≡ record { name = name.now; kind = kind; actors = members_below plan.now place 0 (length actors.now) }) }
+    ensures invariants { IfOk result (HasInvariants (map actor_view actors.now)) }
+{
+    let name = Vec::from_slice(alloc, name)?;
+    let members = members(alloc, plan, place, actors.len())?;
+    let invariants = invariants(alloc, actors, &members)?;
+    Ok(CompiledExecutor {
+        name,
+        kind,
+        actors: members,
+        invariants,
+    })
+}
+
+// One executor more.
+fn add(
+    alloc: Global,
+    plan: &Plan,
+    actors: &[CompiledActor],
+    name: &[u8],
+    kind: ExecutorKind,
+    all: &mut Vec<CompiledExecutor>,
+) -> Result<(), AllocError>
+    requires { All (HasInvariants (map actor_view actors.now)) all.old.items }
+    ensures view { OnOk result (map executor_view all.new.items ≡ map executor_view all.old.items ++ record { name = name.now; kind = kind; actors = members_below plan.now (length all.old.items) 0 (length actors.now) } ∷ []) }
+    ensures invariants { OnOk result (All (HasInvariants (map actor_view actors.now)) all.new.items) }
+{
+    let made = executor(alloc, plan, actors, all.len(), name, kind)?;
+    all.push(made)?;
+    Ok(())
+}
+
+fn declared(
+    alloc: Global,
+    plan: &Plan,
+    actors: &[CompiledActor],
+    decls: &[Decl],
+) -> Result<Vec<CompiledExecutor>, AllocError>
+    ensures view { IfOk result (λ v. map executor_view v.items ≡ executors_by plan.now (length actors.now) 0 (script_in (map view_decl decls.now)).executors) }
+    ensures invariants { IfOk result (λ v. All (HasInvariants (map actor_view actors.now)) v.items) }
+{
+    let mut all = Vec::new(alloc);
+    for decl in decls {
+        match decl {
+            Decl::Executor(executor) => {
+                add(
+                    alloc,
+                    plan,
+                    actors,
+                    &executor.name.text,
+                    executor.kind,
+                    &mut all,
+                )?
+            }
+            Decl::Local(_) | Decl::Actor(_) | Decl::Root(_) => {}
+        }
+    }
+    Ok(all)
+}
+
+// The executors that actors have of their own.
+fn add_own(
+    alloc: Global,
+    plan: &Plan,
+    actors: &[CompiledActor],
+    decls: &[Decl],
+    all: &mut Vec<CompiledExecutor>,
+) -> Result<(), AllocError>
+    requires { All (HasInvariants (map actor_view actors.now)) all.old.items }
+    ensures view { OnOk result (map executor_view all.new.items ≡ map executor_view all.old.items ++ executors_by plan.now (length actors.now) (length all.old.items) (own_executors (script_in (map view_decl decls.now)).actors)) }
+    ensures invariants { OnOk result (All (HasInvariants (map actor_view actors.now)) all.new.items) }
+{
+    for decl in decls {
+        if let Decl::Actor(actor) = decl {
+            if actor.executor.is_none() {
+                add(
+                    alloc,
+                    plan,
+                    actors,
+                    &actor.name.text,
+                    ExecutorKind::Priority,
+                    all,
+                )?;
+            }
+        }
+    }
+    Ok(())
+}
+
+/// The executors of a script whose actors are these, the declared ones first. Linear in the declarations and in the
+/// invariants, and for the actors of each in the pairs of executors and actors: a script whose names are in order has 128
+/// executors and 64 actors at most.
+pub(crate) fn compile_executors(
+    alloc: Global,
+    plan: &Plan,
+    actors: &[CompiledActor],
+    decls: &[Decl],
+) -> Result<Vec<CompiledExecutor>, AllocError>
+    ensures view { let script = script_in (map view_decl decls.now) in
+        IfOk result (λ v. map executor_view v.items ≡ executors_by plan.now (length actors.now) 0 (script.executors ++ own_executors script.actors)) }
+    ensures invariants { IfOk result (λ v. All (HasInvariants (map actor_view actors.now)) v.items) }
+{
+    let mut all = declared(alloc, plan, actors, decls)?;
+    add_own(alloc, plan, actors, decls, &mut all)?;
+    Ok(all)
+}

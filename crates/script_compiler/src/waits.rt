@@ -1,0 +1,178 @@
+//! Roots that wait for themselves or for later ones.
+
+ghost use Rattle.std.specs.Prelude.{◌≡◌, ℕ, ◌++◌, ◌<◌, ◌≤◌, All, map, IfOk, IfSome, IfNone, OnOk};
+ghost use Rattle.script_waits.specs.Waits.{WaitsForLater, NoneBefore, NoneWaits};
+ghost use Rattle.script_code.specs.Tree.{wanted_of};
+ghost use Rattle.script_compiler.specs.Compiled.{CompiledView};
+ghost use Rattle.script_compiler.specs.IsCompiled.{root_view, IsCompiled};
+ghost use Rattle.script_compiler.specs.Waiting.{method_wanted, root_wanted, edge_to, wait_for, edges_made, waits_made, edges_of, waits_of, root_methods};
+ghost use Rattle.script_compiler.specs.Acts.{deed_of, made_if, made_along, made_through};
+
+use crate::compiled::{Compiled, CompiledMethod, CompiledRoot};
+use crate::number::to_u32;
+use script_code::{Act, Awaited, Instruction};
+use script_waits::{Edge, Wait, first_waiting};
+use std::alloc::{AllocError, Global};
+
+// What the methods call and wait for.
+#[derive(Drop)]
+struct Named {
+    edges: Vec<Edge>,
+    waits: Vec<Wait>,
+}
+
+fn method_wanted(awaited: &Awaited) -> Option<u32>
+    ensures { result ≡ method_wanted (wanted_of awaited.now) }
+{
+    match awaited {
+        Awaited::Call(call) => Some(call.method.0),
+        Awaited::Root(_) | Awaited::Task(_) | Awaited::Next(_) => None,
+    }
+}
+
+fn root_wanted(awaited: &Awaited) -> Option<u32>
+    ensures { result ≡ root_wanted (wanted_of awaited.now) }
+{
+    match awaited {
+        Awaited::Root(root) => Some(root.0),
+        Awaited::Call(_) | Awaited::Task(_) | Awaited::Next(_) => None,
+    }
+}
+
+// The method that an act calls, spawns, detaches or adds.
+fn method_called(act: &Act) -> Option<u32>
+    ensures { (m : ℕ) → edge_to m result ≡ made_if (edges_made m) (deed_of act.now) }
+{
+    match act {
+        Act::Wait(awaited) => method_wanted(awaited),
+        Act::Spawn(call, _, _) | Act::Detach(call, _, _) | Act::Add(_, _, call, _) => {
+            Some(call.method.0)
+        }
+        _ => None,
+    }
+}
+
+// The root that an act waits for.
+fn root_awaited(act: &Act) -> Option<u32>
+    ensures { (m : ℕ) → wait_for m result ≡ made_if (waits_made m) (deed_of act.now) }
+{
+    match act {
+        Act::Wait(awaited) => root_wanted(awaited),
+        _ => None,
+    }
+}
+
+fn add_edge(edges: &mut Vec<Edge>, from: u32, to: Option<u32>) -> Result<(), AllocError>
+    ensures { OnOk result (edges.new.items ≡ edges.old.items ++ edge_to from to) }
+{
+    if let Some(to) = to {
+        edges.push(Edge { from, to })?;
+    }
+    Ok(())
+}
+
+fn add_wait(waits: &mut Vec<Wait>, method: u32, root: Option<u32>) -> Result<(), AllocError>
+    ensures { OnOk result (waits.new.items ≡ waits.old.items ++ wait_for method root) }
+{
+    if let Some(root) = root {
+        waits.push(Wait { method, root })?;
+    }
+    Ok(())
+}
+
+// What one method calls and waits for, after those before it.
+fn add_method(
+    named: &mut Named,
+    method: u32,
+    instructions: &[Instruction],
+) -> Result<(), AllocError>
+    ensures edges { OnOk result (named.new.edges.items ≡ named.old.edges.items ++ made_along (edges_made method) instructions.now) }
+    ensures waits { OnOk result (named.new.waits.items ≡ named.old.waits.items ++ made_along (waits_made method) instructions.now) }
+{
+    for instruction in instructions {
+        add_edge(&mut named.edges, method, method_called(&instruction.act))?;
+        add_wait(&mut named.waits, method, root_awaited(&instruction.act))?;
+    }
+    Ok(())
+}
+
+fn named_by(alloc: Global, methods: &[CompiledMethod]) -> Result<Named, AllocError>
+    ensures edges { IfOk result (λ n. n.edges.items ≡ made_through edges_made 0 methods.now) }
+    ensures waits { IfOk result (λ n. n.waits.items ≡ made_through waits_made 0 methods.now) }
+{
+    let mut named = Named {
+        edges: Vec::new(alloc),
+        waits: Vec::new(alloc),
+    };
+    for (k, method) in methods.iter().enumerate() {
+        add_method(&mut named, to_u32(k)?, &method.instructions)?;
+    }
+    Ok(named)
+}
+
+fn methods_of(alloc: Global, roots: &[CompiledRoot]) -> Result<Vec<u32>, AllocError>
+    ensures { IfOk result (λ v. v.items ≡ map (λ r. r.method) (map root_view roots.now)) }
+{
+    let mut methods = Vec::with_capacity(alloc, roots.len())?;
+    for root in roots {
+        methods.push(root.method.0)?;
+    }
+    Ok(methods)
+}
+
+// A count that is past each method of some edges.
+fn past_edges(edges: &[Edge], least: usize) -> usize
+    ensures least { least ≤ result }
+    ensures from { All (λ e. e.from < result) edges.now }
+    ensures to { All (λ e. e.to < result) edges.now }
+{
+    let mut count = least;
+    for edge in edges {
+        count = count.max(edge.from as usize + 1);
+        count = count.max(edge.to as usize + 1);
+    }
+    count
+}
+
+// The same for waits.
+fn past_waits(waits: &[Wait], least: usize) -> usize
+    ensures least { least ≤ result }
+    ensures method { All (λ w. w.method < result) waits.now }
+{
+    let mut count = least;
+    for wait in waits {
+        count = count.max(wait.method as usize + 1);
+    }
+    count
+}
+
+// And for the methods of roots.
+fn past_roots(methods: &[u32], least: usize) -> usize
+    ensures least { least ≤ result }
+    ensures method { All (λ m. m < result) methods.now }
+{
+    let mut count = least;
+    for method in methods {
+        count = count.max(*method as usize + 1);
+    }
+    count
+}
+
+/// The place of the first root that waits for itself or for a later root: where its method, or one that it leads to by
+/// calls, spawns, detaches and adds, has an `await task` of such a root, whether that is reached or not (our own). `Err`
+/// says that there was no memory, or that a method is numbered past 32 bits.
+///
+/// Time and memory are linear in the instructions and the roots. A method that is not there, which no checked script
+/// names, is taken as one without instructions.
+pub fn first_waiting_root(alloc: Global, compiled: &Compiled) -> Result<Option<usize>, AllocError>
+    ensures found { IfOk result (λ first. (v : CompiledView) → IsCompiled compiled.now v → IfSome first (WaitsForLater (edges_of v) (waits_of v) (root_methods v))) }
+    ensures first { IfOk result (λ first. (v : CompiledView) → IsCompiled compiled.now v → IfSome first (NoneBefore (edges_of v) (waits_of v) (root_methods v))) }
+    ensures none { IfOk result (λ first. (v : CompiledView) → IsCompiled compiled.now v → IfNone first (NoneWaits (edges_of v) (waits_of v) (root_methods v))) }
+{
+    let named = named_by(alloc, &compiled.methods)?;
+    let roots = methods_of(alloc, &compiled.roots)?;
+    let count = past_edges(&named.edges, compiled.methods.len());
+    let count = past_waits(&named.waits, count);
+    let count = past_roots(&roots, count);
+    first_waiting(alloc, count, &named.edges, &named.waits, &roots)
+}

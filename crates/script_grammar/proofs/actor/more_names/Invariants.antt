@@ -1,9 +1,0 @@
-use Rattle.std.proofs.Common.{◌≡◌, ◌-◌, ◌+◌, map, length}
-use Rattle.script_tokens.specs.Pieces.{piece}
-use Rattle.script_grammar.specs.Tree.{text_of}
-use Rattle.script_grammar.specs.Parts.{name_at, close_at, comma_at, items_at, with_first}
-use Rattle.script_grammar.proofs.Front.{with_front}
-use Rattle.script_grammar.proofs.actor.more_names.Given as goal
-
-abbrev pub invariant-loop : goal.invariant-loop
-invariant-loop l = with_front (map text_of l.items.items) (items_at close_at (comma_at name_at) (length l.tokens + 1 - l.counter) (map piece l.rest)) ≡ (with_first (text_of l.fn.first) (items_at close_at (comma_at name_at) (length l.tokens + 1) (map piece l.tokens)))

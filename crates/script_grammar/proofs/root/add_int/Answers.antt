@@ -1,6 +1,0 @@
-use Rattle.std.proofs.Common.{◌++◌, ◌∷◌, [], ℤ, ap, ◌∙◌, w64}
-use Rattle.std.proofs.lemmas.Int.{to_z-of_z}
-use Rattle.script_grammar.proofs.root.add_int.Goals as goal
-
-pub returns-clause-ok : goal.returns-clause-ok
-returns-clause-ok c = c.in_ok-push.ensures.items ∙ ap (λ (z : ℤ). c.args.items.now.items ++ z ∷ []) (to_z-of_z w64 c.args.value c.ranges.value)

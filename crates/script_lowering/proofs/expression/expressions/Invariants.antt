@@ -1,0 +1,10 @@
+use Rattle.std.proofs.Common.{◌≡◌, ◌++◌, drop, map}
+use Rattle.script_grammar.specs.Tree.{view}
+use Rattle.script_code.specs.Tree.{terms_of}
+use Rattle.script_lowering.specs.Lowered.{lowered}
+use Rattle.script_lowering.proofs.expression.expressions.Given as goal
+
+abbrev pub invariant-loop-expr : goal.invariant-loop-expr
+invariant-loop-expr l =
+    terms_of l.formulas.items ++ map (lowered l.plan l.scope) (map view (drop l.expr-index l.exprs))
+    ≡ map (lowered l.plan l.scope) (map view l.exprs)

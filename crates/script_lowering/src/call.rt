@@ -1,0 +1,81 @@
+//! Calls, and what is waited for.
+
+ghost use Rattle.std.specs.Prelude.{◌≡◌, IfOk};
+ghost use Rattle.script_grammar.specs.Tree.{view_call, view_awaited};
+ghost use Rattle.script_names.specs.Texts.{place_of};
+ghost use Rattle.script_names.specs.Scope.{meaning_of};
+ghost use Rattle.script_code.specs.Tree.{target_of as target_said, wanted_of as wanted_said};
+ghost use Rattle.script_lowering.specs.Lowered.{target_of, task_named, wanted_of, cancelled_named};
+
+use crate::expression::expressions;
+use crate::number::declared;
+use crate::plan::Plan;
+use crate::standing::Standing;
+use script_code::Cancelled;
+use script_grammar::{Awaited, Call};
+use script_names::NameKind;
+use std::alloc::{AllocError, Global};
+use swift_types::{ActorId, MethodId, RootId};
+
+/// A call, by the numbers of its actor and method.
+pub(crate) fn call(
+    alloc: Global,
+    plan: &Plan,
+    scope: &Standing<'_>,
+    call: &Call,
+) -> Result<script_code::Call, AllocError>
+    ensures { IfOk result (λ c. target_said c ≡ target_of plan.now scope.now (view_call call.now)) }
+{
+    let (actor, method) = (&call.actor.text, &call.method.text);
+    let script = scope.declared();
+    Ok(script_code::Call {
+        actor: ActorId(declared(script.actor(actor))?),
+        method: MethodId(declared(script.method(alloc, actor, method)?)?),
+        args: expressions(alloc, plan, scope, &call.args)?,
+    })
+}
+
+fn root(scope: &Standing<'_>, name: &[u8]) -> Result<RootId, AllocError>
+    ensures { IfOk result (λ r. r.0 ≡ place_of scope.now.directory.roots name.now) }
+{
+    Ok(RootId(declared(scope.declared().root(name))?))
+}
+
+// A name after `task` is the task variable of that name, or else the root.
+fn task(scope: &Standing<'_>, name: &[u8]) -> Result<script_code::Awaited, AllocError>
+    ensures { IfOk result (λ w. wanted_said w ≡ task_named scope.now name.now (meaning_of scope.now name.now)) }
+{
+    match scope.meaning(name) {
+        Some(NameKind::Task) => Ok(script_code::Awaited::Task(scope.handle_place(name))),
+        _ => Ok(script_code::Awaited::Root(root(scope, name)?)),
+    }
+}
+
+/// What is waited for.
+pub(crate) fn awaited(
+    alloc: Global,
+    plan: &Plan,
+    scope: &Standing<'_>,
+    awaited: &Awaited,
+) -> Result<script_code::Awaited, AllocError>
+    ensures { IfOk result (λ w. wanted_said w ≡ wanted_of plan.now scope.now (view_awaited awaited.now)) }
+{
+    match awaited {
+        Awaited::Call(awaited) => Ok(script_code::Awaited::Call(call(
+            alloc, plan, scope, awaited,
+        )?)),
+        Awaited::Task(name) => task(scope, &name.text),
+        Awaited::Next(name) => Ok(script_code::Awaited::Next(scope.handle_place(&name.text))),
+    }
+}
+
+/// A name after `cancel` is the task variable or the group of that name, or else the root.
+pub(crate) fn cancelled(scope: &Standing<'_>, name: &[u8]) -> Result<Cancelled, AllocError>
+    ensures { IfOk result (λ k. k ≡ cancelled_named scope.now name.now (meaning_of scope.now name.now)) }
+{
+    match scope.meaning(name) {
+        Some(NameKind::Task) => Ok(Cancelled::Task(scope.handle_place(name))),
+        Some(NameKind::Group) => Ok(Cancelled::Group(scope.handle_place(name))),
+        _ => Ok(Cancelled::Root(root(scope, name)?)),
+    }
+}

@@ -1,0 +1,97 @@
+//! How many numbers and handles stand.
+
+ghost use Rattle.std.specs.Prelude.{◌≡◌, map, IfOk};
+ghost use Rattle.script_grammar.specs.Tree.{view_head, view_stmt, block_tree};
+ghost use Rattle.script_lowering.specs.Counts.{counted, greater, counts_after, counts_within, most_in, most_of};
+
+use crate::number::sum;
+use script_grammar::{Action, Head, Stmt};
+use script_names::NameKind;
+use std::alloc::AllocError;
+
+/// How many numbers and how many handles stand: the places of the next ones. Parameters and variables hold numbers; task
+/// variables and groups are handles.
+#[derive(Clone, Copy)]
+pub struct Counts {
+    /// How many numbers.
+    pub numbers: u32,
+    /// How many handles.
+    pub handles: u32,
+}
+
+/// One name more.
+pub(crate) fn counted(counts: Counts, kind: NameKind) -> Result<Counts, AllocError>
+    ensures { IfOk result (λ c. c ≡ counted counts kind) }
+{
+    let Counts { numbers, handles } = counts;
+    match kind {
+        NameKind::Field => Ok(counts),
+        NameKind::Number => Ok(Counts {
+            numbers: sum(numbers, 1)?,
+            handles,
+        }),
+        NameKind::Task | NameKind::Group => Ok(Counts {
+            numbers,
+            handles: sum(handles, 1)?,
+        }),
+    }
+}
+
+fn greater(a: Counts, b: Counts) -> Counts
+    ensures { result ≡ greater a b }
+{
+    Counts {
+        numbers: a.numbers.max(b.numbers),
+        handles: a.handles.max(b.handles),
+    }
+}
+
+fn counts_after(counts: Counts, stmt: &Stmt) -> Result<Counts, AllocError>
+    ensures { IfOk result (λ c. c ≡ counts_after counts (view_stmt stmt.now)) }
+{
+    match stmt {
+        Stmt::Do(Action::Let(_, _)) => counted(counts, NameKind::Number),
+        Stmt::Do(Action::LetTask(_, _)) => counted(counts, NameKind::Task),
+        _ => Ok(counts),
+    }
+}
+
+fn counts_within(counts: Counts, head: &Head) -> Result<Counts, AllocError>
+    ensures { IfOk result (λ c. c ≡ counts_within counts (view_head head.now)) }
+{
+    match head {
+        Head::Group(_) => counted(counts, NameKind::Group),
+        _ => Ok(counts),
+    }
+}
+
+#[cycle(most)]
+fn most_in(counts: Counts, stmt: &Stmt) -> Result<Counts, AllocError>
+    ensures { IfOk result (λ c. c ≡ most_in counts (view_stmt stmt.now)) }
+{
+    match stmt {
+        Stmt::Do(_) => counts_after(counts, stmt),
+        Stmt::Block(head, body) => most_of(counts_within(counts, head)?, body),
+        Stmt::IfElse(_, held, failed) => {
+            Ok(greater(most_of(counts, held)?, most_of(counts, failed)?))
+        }
+    }
+}
+
+/// How many numbers and handles stand at most in the statements of a block, where so many stand before it, in time linear
+/// in these and in all within them.
+#[cycle(most)]
+pub(crate) fn most_of(counts: Counts, block: &[Stmt]) -> Result<Counts, AllocError>
+    ensures { IfOk result (λ c. c ≡ most_of counts (block_tree (map view_stmt block.now))) }
+{
+    let mut most = Counts {
+        numbers: 0,
+        handles: 0,
+    };
+    let mut standing = counts;
+    for stmt in block {
+        most = greater(most, most_in(standing, stmt)?);
+        standing = counts_after(standing, stmt)?;
+    }
+    Ok(greater(most, standing))
+}

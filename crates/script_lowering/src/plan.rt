@@ -1,0 +1,178 @@
+//! What lowering knows of a whole script.
+
+ghost use Rattle.std.specs.Prelude.{◌≡◌, ℕ, pos, ◌∷◌, ◌++◌, [], Some, length, map, option_copied, slice_get, unwrap_or, List, IfOk, OnOk};
+ghost use Rattle.script_grammar.specs.Tree.{text_if, view_decl};
+ghost use Rattle.script_names.specs.Texts.{place_of};
+ghost use Rattle.script_names.specs.Directory.{directory_of, executors_in};
+ghost use Rattle.script_lowering.specs.Plan.{AreSeats, defaults_in, on_executor, executors_from, plan_of, executor_at, seat_in, seat_of};
+ghost use Rattle.script_lowering.specs.Lowered.{default_of};
+
+use crate::number::{declared, sum, to_u32};
+use script_grammar::{Decl, Name};
+use script_names::{Declared, Names};
+use std::alloc::{AllocError, Global};
+use std::marker::Model;
+use swift_types::LocalId;
+
+/// What lowering knows of a whole script: what it declares, the defaults of its task locals, and for each actor its
+/// executor and its seat, which is its place among the actors of that executor.
+#[derive(Drop)]
+pub struct Plan {
+    declared: Declared,
+    defaults: Vec<i64>,
+    executors: Vec<u32>,
+    seats: Vec<u32>,
+}
+
+impl Model for Plan {
+    ghost use Rattle.script_lowering.specs.Plan.{Plan, AreSeats};
+
+    ghost Value = { Plan };
+
+    ghost view = { λ p. record { directory = p.declared; defaults = p.defaults.items; executors = p.executors.items } };
+
+    ghost invariant = { λ p. AreSeats p.executors.items p.seats.items };
+}
+
+impl Plan {
+    /// The plan of a script, from what it declares. Linear in the declarations, and for the seats in the pairs of actors,
+    /// of which a script whose names are in order has 64 at most. `Err` says that there was no memory, that a place is
+    /// numbered past 32 bits, or that two executors have one name.
+    pub fn of(alloc: Global, declared: Declared, decls: &[Decl]) -> Result<Plan, AllocError>
+        // These are the declarations of the same script.
+        requires { declared ≡ directory_of (map view_decl decls.now) }
+        ensures { IfOk result (λ p. p ≡ plan_of (map view_decl decls.now)) }
+    {
+        let defaults = defaults(alloc, decls)?;
+        let names = executor_names(alloc, decls)?;
+        let executors = executors(alloc, &names, decls)?;
+        let seats = seats(alloc, &executors)?;
+        Ok(Plan {
+            declared,
+            defaults,
+            executors,
+            seats,
+        })
+    }
+
+    /// What the script declares.
+    pub fn declared(&self) -> &Declared
+        ensures { result.now ≡ self.now.directory }
+    {
+        &self.declared
+    }
+
+    /// The executor of the actor at a place, or 0 where there is no such actor.
+    pub fn executor(&self, actor: usize) -> u32
+        ensures { result ≡ executor_at self.now actor }
+    {
+        self.executors.get(actor).copied().unwrap_or(0)
+    }
+
+    /// The seat of the actor at a place, in constant time. An actor that is not there would sit after all those of
+    /// executor 0.
+    pub fn seat(&self, actor: usize) -> Result<u32, AllocError>
+        ensures { IfOk result (λ n. n ≡ seat_of self.now actor) }
+    {
+        match self.seats.get(actor) {
+            Some(seat) => Ok(*seat),
+            None => to_u32(seat_in(&self.executors, actor)),
+        }
+    }
+
+    /// A task local, and its default.
+    #[tactic(auto, unfolding(crate::specs::Lowered::default_of))]
+    pub(crate) fn local(&self, name: &[u8]) -> Result<(LocalId, i64), AllocError>
+        ensures number { IfOk result (λ l. l.0.0 ≡ place_of self.now.directory.locals name.now) }
+        ensures default { IfOk result (λ l. l.1 ≡ default_of self.now name.now) }
+    {
+        let place = declared(self.declared.local(name))?;
+        let default = self.defaults.get(place as usize).copied().unwrap_or(0);
+        Ok((LocalId(place), default))
+    }
+}
+
+fn defaults(alloc: Global, decls: &[Decl]) -> Result<Vec<i64>, AllocError>
+    ensures { IfOk result (λ v. v.items ≡ defaults_in (map view_decl decls.now)) }
+{
+    let mut defaults = Vec::new(alloc);
+    for decl in decls {
+        match decl {
+            Decl::Local(local) => defaults.push(local.default)?,
+            Decl::Executor(_) | Decl::Actor(_) | Decl::Root(_) => {}
+        }
+    }
+    Ok(defaults)
+}
+
+// A name more. Names are checked before, so none stands twice: where one does, the answer is that there is no memory.
+fn add_new(alloc: Global, names: &mut Names, name: &[u8]) -> Result<(), AllocError>
+    ensures { OnOk result (names.new ≡ names.old ++ name.now ∷ []) }
+{
+    if names.contains(name) {
+        return Err(AllocError);
+    }
+    names.add(alloc, name)?;
+    Ok(())
+}
+
+// The executors in text order.
+fn executor_names(alloc: Global, decls: &[Decl]) -> Result<Names, AllocError>
+    ensures { IfOk result (λ names. names ≡ executors_in (map view_decl decls.now)) }
+{
+    let mut names = Names::new(alloc);
+    for decl in decls {
+        match decl {
+            Decl::Executor(executor) => add_new(alloc, &mut names, &executor.name.text)?,
+            Decl::Local(_) | Decl::Actor(_) | Decl::Root(_) => {}
+        }
+    }
+    Ok(names)
+}
+
+// The executor of each actor. Those without one have their own, after the declared ones.
+fn executors(alloc: Global, names: &Names, decls: &[Decl]) -> Result<Vec<u32>, AllocError>
+    ensures { IfOk result (λ v. v.items ≡ executors_from names.now (length names.now) (map view_decl decls.now)) }
+{
+    let mut executors = Vec::new(alloc);
+    let mut own = to_u32(names.len())?;
+    for decl in decls {
+        match decl {
+            Decl::Actor(actor) => {
+                let (executor, next) = executor_on(names, own, &actor.executor)?;
+                executors.push(executor)?;
+                own = next;
+            }
+            Decl::Executor(_) | Decl::Local(_) | Decl::Root(_) => {}
+        }
+    }
+    Ok(executors)
+}
+
+// An actor's executor, and the number that the next actor's own executor has.
+fn executor_on(names: &Names, own: u32, on: &Option<Name>) -> Result<(u32, u32), AllocError>
+    ensures { IfOk result (λ r. (others : ℕ → List ℕ) → on_executor names.now own (text_if on.now) others ≡ r.0 ∷ others r.1) }
+{
+    match on {
+        None => Ok((own, sum(own, 1)?)),
+        Some(name) => Ok((declared(names.place(&name.text))?, own)),
+    }
+}
+
+fn seats(alloc: Global, executors: &[u32]) -> Result<Vec<u32>, AllocError>
+    ensures { IfOk result (λ v. AreSeats executors.now v.items) }
+{
+    let mut seats = Vec::new(alloc);
+    for actor in 0..executors.len() {
+        seats.push(to_u32(seat_in(executors, actor))?)?;
+    }
+    Ok(seats)
+}
+
+fn seat_in(executors: &[u32], actor: usize) -> usize
+    ensures { result ≡ seat_in executors.now actor }
+{
+    let own = executors.get(actor).copied().unwrap_or(0);
+    let before = &executors[..actor.min(executors.len())];
+    before.iter().filter(|e| **e == own).count()
+}

@@ -1,0 +1,178 @@
+//! What stands at a place of a method, with the place of each name.
+
+ghost use Rattle.std.specs.Prelude.{◌≡◌, is_some, length, take, ℕ, List, IfSome, OnOk};
+ghost use Rattle.script_names.specs.Texts.{is_among, place_of};
+ghost use Rattle.script_names.specs.Directory.{fields_at};
+ghost use Rattle.script_names.specs.Scope.{fields_alone, with_standing, meaning_of, Scope as ScopeView};
+ghost use Rattle.script_lowering.specs.Counts.{counts_of};
+ghost use Rattle.script_lowering.specs.Lowered.{numbers_in, handles_in, number_place, handle_place};
+ghost use Rattle.script_lowering.specs.Standing.{outside_of, left};
+
+use crate::counts::{Counts, counted};
+use script_names::{Declared, NameKind, Outside, Scope};
+use std::alloc::{AllocError, Global};
+use std::marker::Model;
+
+/// The names that stand at a place of a method, each with how many numbers and handles stand before it. So the place of a
+/// name is found in time linear in the name.
+#[derive(Drop)]
+pub(crate) struct Standing<'a> {
+    scope: Scope<'a>,
+    counts: Vec<Counts>,
+    here: Counts,
+}
+
+impl<'a> Model for Standing<'a> {
+    ghost use Rattle.std.specs.Prelude.{◌≡◌, length};
+    ghost use Rattle.script_names.specs.Scope.{Scope};
+    ghost use Rattle.script_lowering.specs.Counts.{AreCounts};
+
+    ghost Value = { Scope };
+
+    ghost view = { λ s. s.scope };
+
+    ghost invariant = { λ s. AreCounts s.scope.kinds s.counts.items s.here };
+}
+
+impl<'a> Standing<'a> {
+    /// Nothing stands there but the fields of the actor at a place.
+    pub(crate) fn fields_alone(alloc: Global, declared: &'a Declared, actor: usize) -> Standing<'a>
+        ensures { result ≡ fields_alone declared.now actor }
+    {
+        Standing {
+            scope: Scope::fields_alone(alloc, declared, actor),
+            counts: Vec::new(alloc),
+            here: Counts {
+                numbers: 0,
+                handles: 0,
+            },
+        }
+    }
+
+    /// What the script declares.
+    pub(crate) fn declared(&self) -> &'a Declared
+        ensures { result.now ≡ self.now.directory }
+    {
+        self.scope.declared()
+    }
+
+    /// The place of the actor whose fields stand there.
+    pub(crate) fn actor(&self) -> usize
+        ensures { result ≡ self.now.actor }
+    {
+        self.scope.actor()
+    }
+
+    /// What a name stands for, if it stands there.
+    pub(crate) fn meaning(&self, name: &[u8]) -> Option<NameKind>
+        ensures { result ≡ meaning_of self.now name.now }
+    {
+        self.scope.meaning(name)
+    }
+
+    /// The place of a field that stands there.
+    pub(crate) fn field(&self, name: &[u8]) -> Option<usize>
+        ensures found { is_some result ≡ is_among (fields_at self.now.directory self.now.actor) name.now }
+        ensures place { IfSome result (λ n. n ≡ place_of (fields_at self.now.directory self.now.actor) name.now) }
+    {
+        match self.scope.declared().fields(self.scope.actor()) {
+            Some(fields) => fields.place(name),
+            None => None,
+        }
+    }
+
+    // How many stand before the name at a place, or how many stand there.
+    fn counts_at(&self, place: usize) -> Counts
+        ensures { result ≡ counts_of (take place self.now.kinds) }
+    {
+        self.counts.get(place).copied().unwrap_or(self.here)
+    }
+
+    /// The place of a number among the numbers. A name that stands nowhere has the place after the last.
+    pub(crate) fn number_place(&self, name: &[u8]) -> u32
+        ensures { result ≡ number_place self.now name.now }
+    {
+        self.counts_at(self.scope.place(name)).numbers
+    }
+
+    /// The place of a task or group among the handles. A name that stands nowhere has the place after the last.
+    pub(crate) fn handle_place(&self, name: &[u8]) -> u32
+        ensures { result ≡ handle_place self.now name.now }
+    {
+        self.counts_at(self.scope.place(name)).handles
+    }
+
+    /// How many numbers and handles stand there.
+    pub(crate) fn counts(&self) -> Counts
+        ensures { result ≡ counts_of self.now.kinds }
+    {
+        self.here
+    }
+
+    /// A name more. Names are checked before, so none stands there yet: for one that does the answer is that there is no
+    /// memory.
+    pub(crate) fn add(
+        &mut self,
+        alloc: Global,
+        name: &[u8],
+        kind: NameKind,
+    ) -> Result<(), AllocError>
+        ensures { OnOk result (self.new ≡ with_standing self.old name.now kind) }
+    {
+        if self.scope.meaning(name).is_some() {
+            return Err(AllocError);
+        }
+        let here = counted(self.here, kind)?;
+        self.counts.push(self.here)?;
+        match self.scope.add(alloc, name, kind) {
+            Ok(()) => {
+                self.here = here;
+                Ok(())
+            }
+            Err(_) => {
+                self.counts.pop();
+                Err(AllocError)
+            }
+        }
+    }
+
+    /// What stands there, to come back to it after a block.
+    pub(crate) fn outside(&self) -> Outside
+        ensures value { result ≡ outside_of self.now }
+        ensures as_many { length self.now.kinds ≡ length self.now.names }
+    {
+        self.scope.outside()
+    }
+
+    /// From here on stand the fields of the actor at this place.
+    pub(crate) fn assume(&mut self, actor: usize)
+        ensures { self.new ≡ record self.old { actor = actor } }
+    {
+        self.scope.assume(actor);
+    }
+
+    /// Here begins the innermost open `bind`.
+    pub(crate) fn bind(&mut self)
+        ensures { self.new ≡ record self.old { bound = length self.old.names } }
+    {
+        self.scope.bind();
+    }
+
+    /// Ends a block: what began in it stands no more.
+    pub(crate) fn leave(&mut self, outside: Outside)
+        ensures { self.new ≡ left outside self.old }
+    {
+        self.here = self.counts_at(outside.names);
+        self.counts.truncate(outside.names);
+        self.scope.leave(outside);
+    }
+
+    /// Takes the newest name away.
+    pub(crate) fn remove(&mut self)
+        ensures { (s : ScopeView) (name : List ℕ) (kind : NameKind) → self.old ≡ with_standing s name kind → self.new ≡ s }
+    {
+        let outside = self.scope.outside();
+        let names = outside.names.saturating_sub(1);
+        self.leave(Outside { names, ..outside });
+    }
+}

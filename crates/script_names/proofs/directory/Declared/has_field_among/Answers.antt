@@ -1,0 +1,8 @@
+use Rattle.std.proofs.Common.{ℕ, List, [], Option, sym, ap, ◌∙◌}
+use Rattle.std.specs.Prelude.{unwrap_or}
+use Rattle.script_names.specs.Scope.{share_a_name}
+use Rattle.script_names.proofs.Standing.{none_shared}
+use Rattle.script_names.proofs.directory.Declared.has_field_among.Goals as goal
+
+pub returns-in-None : goal.returns-in-None
+returns-in-None c = sym (none_shared c.args.names.now) ∙ ap (λ (o : Option (List (List ℕ))). share_a_name (unwrap_or o []) c.args.names.now) c.in-None.ensures

@@ -1,0 +1,56 @@
+//! What stands before a declaration.
+
+ghost use Rattle.std.specs.Prelude.{◌≡◌, [], suc, IfOk};
+ghost use Rattle.script_grammar.specs.Tree.{text_of};
+ghost use Rattle.script_names.specs.Rules.{repeat_error};
+ghost use Rattle.script_names.specs.Finds.{Finds};
+
+use crate::error::{CheckError, NameErrorKind};
+use crate::fault::{at_name, where_so};
+use crate::texts::Names;
+use script_grammar::Name;
+use std::alloc::Global;
+use std::marker::Model;
+
+/// What stands before a declaration: the names of executors and actors together, those of task locals and of roots, and
+/// how many executors and actors there are.
+#[derive(Drop)]
+pub(crate) struct Seen {
+    pub(crate) places: Names,
+    pub(crate) locals: Names,
+    pub(crate) roots: Names,
+    pub(crate) executors: usize,
+    pub(crate) actors: usize,
+}
+
+impl Model for Seen {
+    ghost use Rattle.script_names.specs.Rules.{Seen};
+
+    ghost Value = { Seen };
+
+    ghost view = { λ s. record { places = s.places; locals = s.locals; roots = s.roots; executors = s.executors; actors = s.actors } };
+}
+
+impl Seen {
+    /// Nothing stands before the first declaration.
+    pub(crate) fn nothing(alloc: Global) -> Seen
+        ensures { result ≡ record { places = []; locals = []; roots = []; executors = 0; actors = 0 } }
+    {
+        Seen {
+            places: Names::new(alloc),
+            locals: Names::new(alloc),
+            roots: Names::new(alloc),
+            executors: 0,
+            actors: 0,
+        }
+    }
+}
+
+/// The name is none of those.
+pub(crate) fn unless_seen(seen: &Names, at: u32, name: &Name) -> Result<u32, CheckError>
+    ensures finds { Finds result (repeat_error seen.now at (text_of name.now)) }
+    ensures after { IfOk result (λ n. n ≡ suc at) }
+{
+    let is_seen = seen.contains(&name.text);
+    at_name(at, where_so(is_seen, NameErrorKind::Twice))
+}

@@ -1,0 +1,26 @@
+-- What is kept of a turn, by how it ends.
+use Rattle.std.proofs.Common.{◌≡◌, ℕ, ℤ, true, false, List, [], refl, sym, ap, ◌∙◌}
+use Rattle.swift_types.specs.declared.outcome.Fault.TheVariants.{Invariant}
+use Rattle.swift_types.specs.declared.outcome.Resume.{Resume}
+use Rattle.script_code.specs.Tree.{Term, Code}
+use Rattle.swift_interpreter.specs.Frames.{FrameView, state_in}
+use Rattle.swift_interpreter.specs.Saved.{restored}
+use Rattle.swift_interpreter.specs.Turn.{State, Given, failing, Played, undoes, all_hold, exits, kept, whole_turn}
+
+pub kept_undone : (g : Given) (n : ℕ) (invariants : List Term) (s : State) (resume : Resume) (w : Played) → w ≡ whole_turn g n s resume → undoes w.exit ≡ true → exits s w.exit ≡ kept g n invariants s resume
+kept_undone g n invariants s resume w is undone = rw (sym is, undone) refl
+
+pub kept_false : (g : Given) (n : ℕ) (invariants : List Term) (s : State) (resume : Resume) (w : Played) → w ≡ whole_turn g n s resume → undoes w.exit ≡ false → all_hold invariants w.state.fields ≡ false → exits s (failing Invariant) ≡ kept g n invariants s resume
+kept_false g n invariants s resume w is not_undone not_held = rw (sym is, not_undone, not_held) refl
+
+pub kept_whole : (g : Given) (n : ℕ) (invariants : List Term) (s : State) (resume : Resume) (w : Played) → w ≡ whole_turn g n s resume → undoes w.exit ≡ false → all_hold invariants w.state.fields ≡ true → exits w.state w.exit ≡ kept g n invariants s resume
+kept_whole g n invariants s resume w is not_undone held = rw (sym is, not_undone, held) refl
+
+-- the fields that are put back are those from the start of the turn
+pub put_back_fields : (saved : List (ℕ × List ℤ)) (before start now : List (List ℤ)) → saved ≡ [] → start ≡ before → now ≡ restored saved start → now ≡ before
+put_back_fields saved before start now none same is = is ∙ (ap (λ (s : List (ℕ × List ℤ)). restored s start) none ∙ same)
+
+-- a turn that is put back is as it began
+pub put_back_state : (at : ℕ → Code) (f f' : FrameView) (rows rows' : List (List ℤ)) (room : ℕ) → f' ≡ f → rows' ≡ rows → state_in at f' rows' [] room ≡ state_in at f rows [] room
+put_back_state at f f' rows rows' room same_frame same_rows =
+    ap (λ (v : FrameView). state_in at v rows' [] room) same_frame ∙ ap (λ (r : List (List ℤ)). state_in at f r [] room) same_rows

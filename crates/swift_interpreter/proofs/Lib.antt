@@ -1,0 +1,6 @@
+pub mod SavedLists
+pub mod Arguments
+pub mod Settling
+pub mod Turns
+pub mod Keeping
+pub mod KeptTurns

@@ -1,0 +1,54 @@
+-- Saved rows, one more or one less.
+use Rattle.std.proofs.Common.{◌≡◌, ℕ, zero, suc, ◌+◌, ◌-◌, ◌<◌, ◌≤◌, ℤ, true, List, [], ◌∷◌, ◌==◌, length, take, set, get_or, refl, sym, ap, subst, ◌∙◌, add-one, inl, inr, arith}
+use Rattle.std.proofs.lemmas.List.{reverse-append, set-set, set_comm, set-get_or, take_more_set, map-set}
+use Rattle.std.proofs.lemmas.Bool.{cases_eq, cond-false, ne_eqb}
+use Rattle.std.proofs.Math.Seq.{take-suc}
+use Rattle.std.specs.Global.{Vec}
+use Rattle.script_code.specs.Seen.{rows_of}
+use Rattle.script_code.specs.declared.formula.FieldPlace.{FieldPlace}
+use Rattle.swift_interpreter.specs.Turn.{set_field_of}
+use Rattle.swift_interpreter.specs.Saved.{restored, is_saved}
+use Rattle.swift_interpreter.specs.SavedInside.{newest_first, row_of}
+use Rattle.swift_interpreter.specs.declared.saved.SavedRow.{SavedRow}
+
+-- the last of some rows is the newest
+pub newest_more : (rows : List SavedRow) (k : ℕ) (d : SavedRow) → k < length rows → newest_first (take (k + 1) rows) ≡ row_of (get_or rows k d) ∷ newest_first (take k rows)
+newest_more rows k d h = rw (add-one, take-suc rows k d, reverse-append) refl
+
+pub newest_last : (rows : List SavedRow) (k : ℕ) (d : SavedRow) → 0 < k → k ≤ length rows → newest_first (take k rows) ≡ row_of (get_or rows (k - 1) d) ∷ newest_first (take (k - 1) rows)
+newest_last rows k d some within =
+    let at : k - 1 < length rows = omega arith in
+    let one : k ≡ (k - 1) + 1 = omega arith in
+    ap (λ (n : ℕ). newest_first (take n rows)) one ∙ newest_more rows (k - 1) d at
+
+pub row_set : (rows : List (Vec ℤ)) (k : ℕ) (row : Vec ℤ) → rows_of (set rows k row) ≡ set (rows_of rows) k row.items
+row_set rows k row = map-set (λ (r : Vec ℤ). r.items) rows k row
+
+-- an actor's row, where there is one
+row_at_is : (fields : List (Vec ℤ)) (k : ℕ) (x : Vec ℤ) → k < length fields → x ≡ get_or fields k x → get_or (rows_of fields) k [] ≡ x.items
+row_at_is [] k x h e = absurd (omega arith)
+row_at_is (r ∷ rs) zero x h e = ap (λ (r : Vec ℤ). r.items) (sym e)
+row_at_is (r ∷ rs) (suc k) x h e = row_at_is rs k x (omega arith) e
+
+-- a field is set where its row is
+pub field_set : (fields : List (Vec ℤ)) (p : FieldPlace) (v : ℤ) (x row : Vec ℤ) → p.actor < length fields → x ≡ get_or fields p.actor x → row.items ≡ set x.items p.field v → rows_of (set fields p.actor row) ≡ set_field_of (rows_of fields) p v
+field_set fields p v x row h e is =
+    row_set fields p.actor row ∙ ap (set (rows_of fields) p.actor) (is ∙ ap (λ (xs : List ℤ). set xs p.field v) (sym (row_at_is fields p.actor x h e)))
+
+-- a row that is written there is the newest
+pub newest_set : (rows : List SavedRow) (k : ℕ) (r : SavedRow) → k < length rows → newest_first (take (k + 1) (set rows k r)) ≡ row_of r ∷ newest_first (take k rows)
+newest_set rows k r h = rw (take_more_set rows k r h, reverse-append) refl
+
+-- a saved copy of the row that is there puts back what is there
+pub saved_same : (saved : List (ℕ × List ℤ)) (fields : List (List ℤ)) (a : ℕ) → restored ((a, get_or fields a []) ∷ saved) fields ≡ restored saved fields
+saved_same saved fields a = ap (restored saved) (set-get_or fields a [])
+
+-- a row that is saved may be changed
+pub saved_set : (saved : List (ℕ × List ℤ)) (fields : List (List ℤ)) (a : ℕ) (row : List ℤ) → is_saved saved a ≡ true → restored saved (set fields a row) ≡ restored saved fields
+saved_set [] fields a row h = absurd (cc)
+saved_set (p ∷ older) fields a row h = elim (cases_eq p.0 a) [
+  | inl same ↦ ap (restored older) (subst (λ (i : ℕ). set (set fields i row) p.0 p.1 ≡ set fields p.0 p.1) same (set-set fields p.0 row p.1))
+  | inr other ↦
+      let further : is_saved older a ≡ true = sym (cond-false (p.0 == a) true (is_saved older a) (ne_eqb p.0 a other)) ∙ h in
+      ap (restored older) (set_comm fields a p.0 row p.1 (λ e. other (sym e))) ∙ saved_set older (set fields p.0 p.1) a row further
+]

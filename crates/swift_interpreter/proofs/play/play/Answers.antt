@@ -1,0 +1,37 @@
+use Rattle.std.proofs.Common.{◌≡◌, ℕ, ◌+◌, ◌-◌, ◌∙◌, ap, arith, rules}
+use Rattle.swift_interpreter.specs.TurnStates.{lent, state_of, exit_view}
+use Rattle.swift_interpreter.specs.Turn.{turn}
+use Rattle.swift_interpreter.proofs.Turns.{turn_on, turn_out, turn_limit}
+use Rattle.swift_interpreter.proofs.play.play.Goals as goal
+
+pub returns-in-Some-clause-played : goal.returns-in-Some-clause-played
+returns-in-Some-clause-played c = λ code at follows.
+    let g = lent c.args.outer.now c.args.env.now in
+    let left = c.args.limit - c.loop-used.used in
+    let one : left ≡ (left - 1) + 1 = omega arith in
+    let out = rw c.in-Some.is at c.in_ok-exit.ensures.next in
+    turn_out g left (left - 1) (state_of at c.loop-used.turn) (state_of at c.settle.new.turn) (state_of at c.step.new.turn) (exit_view c.in-Some.exit) one (c.settle.ensures.settled code at follows) (out code at follows)
+    ∙ c.loop-used.invariant.same code at follows
+
+pub loop-used-preserved : goal.loop-used-preserved
+loop-used-preserved c =
+    let g = lent c.args.outer.now c.args.env.now in
+    let left = c.args.limit - c.loop-used.used in
+    let less = c.args.limit - (c.loop-used.used + 1) in
+    let one : left ≡ less + 1 = omega arith in
+    let further = rw c.in_default.is at c.in_ok-exit.ensures.next in
+    record {
+      same = λ code at follows.
+          turn_on g left less (state_of at c.loop-used.turn) (state_of at c.settle.new.turn) (state_of at c.step.new.turn) one (c.settle.ensures.settled code at follows) (further code at follows)
+          ∙ c.loop-used.invariant.same code at follows;
+      back = search rules;
+      method = c.step.ensures.method ∙ c.settle.ensures.method ∙ c.loop-used.invariant.method;
+    }
+
+pub returns-clause-played : goal.returns-clause-played
+returns-clause-played c = λ code at follows.
+    let g = lent c.args.outer.now c.args.env.now in
+    let s = state_of at c.loop-used.turn in
+    let none : 0 ≡ c.args.limit - c.loop-used.used = omega arith in
+    turn_limit g s (state_of at c.settle-2.new.turn) _ (c.settle-2.ensures.settled code at follows) (c.end_of_steps.ensures.end code at follows)
+    ∙ ap (λ (n : ℕ). turn g n s) none ∙ c.loop-used.invariant.same code at follows

@@ -1,0 +1,6 @@
+use Rattle.std.proofs.Common.{ap}
+use Rattle.swift_interpreter.specs.Turn.{goes}
+use Rattle.swift_interpreter.proofs.step.end_block.Goals as goal
+
+pub returns-clause-next : goal.returns-clause-next
+returns-clause-next c = λ at. ap goes (c.unbind.ensures.state at)

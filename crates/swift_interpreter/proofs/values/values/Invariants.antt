@@ -1,0 +1,10 @@
+use Rattle.std.proofs.Common.{◌≡◌, drop}
+use Rattle.script_code.specs.Seen.{scene_of}
+use Rattle.script_code.specs.Tree.{terms_of}
+use Rattle.script_code.specs.Value.{evs}
+use Rattle.swift_interpreter.proofs.Arguments.{after}
+use Rattle.swift_interpreter.proofs.values.values.Given as goal
+
+abbrev pub invariant-loop-e : goal.invariant-loop-e
+invariant-loop-e l =
+    after l.vs.items (evs (terms_of (drop l.e-index l.formulas)) (scene_of l.sight)) ≡ evs (terms_of l.formulas) (scene_of l.sight)

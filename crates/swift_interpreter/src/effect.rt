@@ -1,0 +1,42 @@
+//! What a turn does beside its fields.
+
+use swift_locals::Bindings;
+use swift_types::{ActorId, MethodId, Priority, RootId};
+
+/// A method that is to run.
+#[derive(Drop)]
+pub struct Invocation {
+    /// The actor that the method is of.
+    pub actor: ActorId,
+    /// The method, by its number among all methods of the script.
+    pub method: MethodId,
+    /// Its arguments, from left to right.
+    pub args: Vec<i64>,
+}
+
+/// A task, as a frame names it.
+#[derive(Clone, Copy, PartialEq, Eq)]
+pub enum TaskName {
+    /// A root's task.
+    Root(RootId),
+    /// A task that the frame's task has spawned or detached, by its number among those, from 0.
+    Own(u32),
+}
+
+/// What is done when a turn has ended, in order (SE-0304 for tasks and groups, SE-0311 for bindings).
+#[derive(Drop)]
+pub enum Effect {
+    /// An unstructured task is made, with its maker's priority where none is given, and with the bindings that stand.
+    Spawn(Invocation, Option<Priority>, Bindings),
+    /// A detached task is made. It has no bindings.
+    Detach(Invocation, Priority),
+    /// A group is opened: its number is how many the task has opened before.
+    Open,
+    /// A child is added to a group, by the group's number within its task, with the bindings that stand; where the flag
+    /// is set, only if the group is not cancelled by then.
+    Add(u32, bool, Invocation, Option<Priority>, Bindings),
+    /// A task is cancelled.
+    CancelTask(TaskName),
+    /// A group is cancelled, by its number within its task.
+    CancelGroup(u32),
+}

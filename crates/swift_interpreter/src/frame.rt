@@ -1,0 +1,45 @@
+//! A method that is under way.
+
+use script_code::Binding;
+use std::alloc::Global;
+use swift_types::{Fault, MethodId};
+
+/// A method that is under way, and the counts of its task (our own).
+#[derive(Drop)]
+pub struct Frame {
+    /// Its method.
+    pub method: MethodId,
+    /// The number of the instruction at which its next turn begins.
+    pub line: u32,
+    /// Its variables, by number.
+    pub variables: Vec<i64>,
+    /// Its handles, by number: each holds the number of a task or a group within its task.
+    pub handles: Vec<u32>,
+    /// The bindings that it has made and that stand, the innermost last (SE-0311).
+    pub own: Vec<Binding>,
+    /// The groups that it has open, the innermost last (SE-0304).
+    pub groups: Vec<u32>,
+    /// The fault with which it is left once its groups are closed.
+    pub pending: Option<Fault>,
+    /// How many tasks its task has spawned or detached so far.
+    pub made: u64,
+    /// How many groups its task has opened so far.
+    pub opened: u64,
+}
+
+impl Frame {
+    /// A frame whose buffers hold nothing, to be overwritten. It takes no memory.
+    pub fn new(alloc: Global) -> Self {
+        Frame {
+            method: MethodId(0),
+            line: 0,
+            variables: Vec::new(alloc),
+            handles: Vec::new(alloc),
+            own: Vec::new(alloc),
+            groups: Vec::new(alloc),
+            pending: None,
+            made: 0,
+            opened: 0,
+        }
+    }
+}

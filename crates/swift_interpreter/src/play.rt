@@ -1,0 +1,62 @@
+//! The statements of one turn.
+
+ghost use Rattle.std.specs.Prelude.{◌≡◌, IfOk};
+ghost use Rattle.swift_interpreter.specs.Turn.{at_limit, end_of, turn as turn_of};
+ghost use Rattle.swift_interpreter.specs.TurnStates.{fields_before, lent, played_of, state_of};
+ghost use Rattle.script_code.specs.Instructions.{Follows, first};
+
+use crate::exit::Exit;
+use crate::group::close;
+use crate::saved::SavedRows;
+use crate::settle::settle;
+use crate::step::step;
+use crate::turn_state::TurnState;
+use script_code::{Act, Env, Instruction};
+use std::alloc::{AllocError, Global};
+use swift_locals::Bindings;
+use swift_types::Fault;
+
+// At most `limit` steps.
+pub fn play<'a>(
+    alloc: Global,
+    instructions: &[Instruction],
+    outer: &'a Bindings,
+    env: &'a Env,
+    turn: &mut TurnState,
+    saved: &mut SavedRows,
+    limit: u32,
+) -> Result<Exit, AllocError>
+    ensures played { IfOk result (λ exit. (code : _) → (at : _) → Follows instructions.now code at
+        → played_of (state_of at turn.new) exit ≡ turn_of (lent outer.now env.now) limit (state_of at turn.old)) }
+    ensures back { fields_before saved.new turn.new ≡ fields_before saved.old turn.old }
+    ensures method { turn.new.frame.method ≡ turn.old.frame.method }
+{
+    for used in 0..limit {
+        settle(instructions, turn);
+        if let Some(exit) = step(alloc, instructions, outer, env, turn, saved)? {
+            return Ok(exit);
+        }
+    }
+    settle(instructions, turn);
+    Ok(end_of_steps(instructions, turn))
+}
+
+// No step is left. The end of the method and the end of a group's block are none.
+fn end_of_steps(instructions: &[Instruction], turn: &mut TurnState) -> Exit
+    ensures end { (code : _) → (at : _) → Follows instructions.now code at
+        → played_of (state_of at turn.new) result ≡ end_of (at_limit (first (at turn.old.frame.line)) (state_of at turn.old)) }
+    ensures fields { turn.new.fields.items ≡ turn.old.fields.items }
+    ensures method { turn.new.frame.method ≡ turn.old.frame.method }
+{
+    let Some(instruction) = instructions.get(turn.frame.line as usize) else {
+        return Exit::Return(0);
+    };
+    match &instruction.act {
+        Act::End => Exit::Return(0),
+        Act::Close => match close(turn, instruction.next) {
+            Some(exit) => exit,
+            None => Exit::Fault(Fault::Steps),
+        },
+        _ => Exit::Fault(Fault::Steps),
+    }
+}

@@ -1,0 +1,6 @@
+pub mod EffectsReadBack
+pub mod EndsReadBack
+pub mod FramesReadBack
+pub mod Pairs
+pub mod RecordsReadBack
+pub mod TurnsStay

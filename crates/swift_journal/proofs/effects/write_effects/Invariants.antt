@@ -1,0 +1,12 @@
+use Rattle.std.proofs.Common.{◌≡◌, List, ◌++◌, take}
+use Rattle.swift_interpreter.specs.Frames.{effect_views}
+use Rattle.swift_interpreter.specs.Turn.{EffectView}
+use Rattle.swift_journal.specs.EffectWords.{effects_of, skip_effects, effects_words}
+use Rattle.swift_journal.specs.Words.{ReadsBack}
+use Rattle.swift_journal.proofs.effects.write_effects.Given as goal
+
+abbrev pub invariant-loop-effect : goal.invariant-loop-effect
+invariant-loop-effect l = record {
+  words : l.words.items ≡ l.initial.words.items ++ effects_words (take l.effect-index l.effects);
+  reads_back : ReadsBack (List EffectView) (effects_of l.list.items) (skip_effects l.list.items) (effects_words (take l.effect-index l.effects)) (effect_views (take l.effect-index l.effects));
+}

@@ -1,0 +1,21 @@
+use Rattle.std.proofs.Common.{◌≡◌, ℕ, ℤ, pos, ◌<◌, [], ◌∷◌, ◌++◌, length, reverse, get_or, arith, ap, ◌∙◌, rules, w64, to_z, of_z}
+use Rattle.std.proofs.lemmas.List.{length-reverse}
+use Rattle.swift_journal.specs.Words.{pair_words}
+use Rattle.swift_journal.proofs.Pairs.{written_more, narrow_more}
+use Rattle.swift_journal.proofs.words.write_bindings.Goals as goal
+
+pub loop-place-preserved : goal.loop-place-preserved
+loop-place-preserved c =
+    let v = c.entry-value.result.1 in
+    let p : ℕ × ℤ = (c.entry-value.result.0.0, v) in
+    let ps = reverse c.args.bindings.now in
+    let value : to_z w64 (of_z w64 v) ≡ v = search rules in
+    let len = length-reverse c.args.bindings.now in
+    let h : c.loop-place.place < length ps = omega arith in
+    let at : get_or ps c.loop-place.place p ≡ p = c.entry-value.ensures p in
+    let written : c.write_pair.new.words.items ≡ c.loop-place.words.items ++ pair_words (p ∷ []) =
+    c.in_ok-write_pair.ensures.words ∙ ap (λ (z : ℤ). c.loop-place.words.items ++ pos p.0 ∷ z ∷ []) value in
+    record {
+      words = written_more _ _ _ ps c.loop-place.place p h at c.loop-place.invariant.words written;
+      narrow = narrow_more ps c.loop-place.place p h at c.loop-place.invariant.narrow c.in_ok-write_pair.ensures.narrow;
+    }

@@ -1,0 +1,9 @@
+use Rattle.std.proofs.Common.{◌≡◌, pos, ◌++◌, map, take}
+use Rattle.swift_journal.specs.Words.{numbers_of}
+use Rattle.swift_journal.proofs.words.write_numbers.Given as goal
+
+abbrev pub invariant-loop-number : goal.invariant-loop-number
+invariant-loop-number l = record {
+  words : l.words.items ≡ l.initial.words.items ++ map pos (take l.number-index l.numbers);
+  narrow : numbers_of (map pos (take l.number-index l.numbers)) ≡ take l.number-index l.numbers;
+}

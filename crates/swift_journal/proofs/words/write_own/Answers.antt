@@ -1,0 +1,24 @@
+use Rattle.std.proofs.Common.{◌≡◌, ℤ, pos, ◌<◌, [], ◌∷◌, ◌++◌, length, map, get_or, arith, ap, ◌∙◌, rules, w64, to_z, of_z}
+use Rattle.std.proofs.lemmas.List.{length-map, get_or-map}
+use Rattle.script_code.specs.Seen.{pair_of}
+use Rattle.swift_journal.specs.Words.{pair_words}
+use Rattle.swift_journal.proofs.Pairs.{written_more, narrow_more}
+use Rattle.swift_journal.proofs.words.write_own.Goals as goal
+
+pub loop-binding-preserved : goal.loop-binding-preserved
+loop-binding-preserved c =
+    let own = c.args.own.now in
+    let k = c.loop-binding.binding-index in
+    let b = get_or own k (record { local = record { 0 = 0 }; value = pos 0 }) in
+    let p = pair_of b in
+    let ps = map pair_of own in
+    let value : to_z w64 (of_z w64 b.value) ≡ b.value = search rules in
+    let len = length-map own pair_of in
+    let h : k < length ps = omega arith in
+    let at : get_or ps k p ≡ p = get_or-map pair_of own k _ p (omega arith) in
+    let written : c.write_pair.new.words.items ≡ c.loop-binding.words.items ++ pair_words (p ∷ []) =
+    c.in_ok-write_pair.ensures.words ∙ ap (λ (z : ℤ). c.loop-binding.words.items ++ pos p.0 ∷ z ∷ []) value in
+    record {
+      words = written_more _ _ _ ps k p h at c.loop-binding.invariant.words written;
+      narrow = narrow_more ps k p h at c.loop-binding.invariant.narrow c.in_ok-write_pair.ensures.narrow;
+    }

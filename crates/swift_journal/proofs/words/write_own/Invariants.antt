@@ -1,0 +1,10 @@
+use Rattle.std.proofs.Common.{◌≡◌, ◌++◌, map, take}
+use Rattle.swift_journal.specs.Words.{pair_words, AreNarrow}
+use Rattle.script_code.specs.Seen.{pair_of}
+use Rattle.swift_journal.proofs.words.write_own.Given as goal
+
+abbrev pub invariant-loop-binding : goal.invariant-loop-binding
+invariant-loop-binding l = record {
+  words : l.words.items ≡ l.initial.words.items ++ pair_words (take l.binding-index (map pair_of l.own));
+  narrow : AreNarrow (take l.binding-index (map pair_of l.own));
+}

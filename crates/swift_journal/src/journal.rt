@@ -1,0 +1,193 @@
+//! The journal of an executor.
+
+ghost use Rattle.std.specs.Prelude.{◌≡◌, [], ◌∷◌, ◌++◌, ◌-◌, ◌<◌, length, take, slice_index_or, IfOk, OnOk, OnErr};
+
+use crate::brief::BriefExit;
+use crate::draft::Draft;
+use crate::ends::{brief, resume};
+use crate::parts::{effects_of, env_of, exit_part, read_record, words_of};
+use crate::record::{OwnedRecord, Record};
+use crate::stored::{Head, StoredEffect};
+use script_code::Env;
+use std::alloc::{AllocError, Global};
+use std::marker::Model;
+use swift_types::{MethodId, Resume, TaskId};
+
+/// The turns that an executor has run, in order (our own). Contracts see a list of records.
+///
+/// A turn takes 96 bytes, and eight for each number of its frames, bindings, arguments and values: 112 bytes where its
+/// frame has one variable and goes on. Effects take a list of their own. A journal allocates where one of its lists grows,
+/// and nowhere else.
+#[derive(Drop)]
+pub struct Journal {
+    heads: Vec<Head>,
+    // The words of each turn, in the order of turns.
+    words: Vec<i64>,
+    // The effects of each turn, in the order of turns.
+    effects: Vec<StoredEffect>,
+    draft: Draft,
+}
+
+impl Model for Journal {
+    ghost use Rattle.std.specs.Prelude.{List, length, map, reverse};
+    ghost use Rattle.swift_journal.specs.JournalInside.{record_at, AreLaid};
+    ghost use Rattle.swift_journal.specs.Records.{RecordView};
+
+    ghost Value = { List RecordView };
+
+    ghost view = { λ j. map (record_at j.words.items j.effects.items) j.heads.items };
+
+    ghost invariant = { λ j. AreLaid (reverse j.heads.items) (length j.words.items) (length j.effects.items) };
+}
+
+impl Journal {
+    ghost use Rattle.swift_journal.specs.Records.{RecordView, brief_of, owned_view, record_view};
+
+    /// An empty journal. It takes no memory.
+    pub fn new(alloc: Global) -> Self
+        ensures { result ≡ [] }
+    {
+        Journal {
+            heads: Vec::new(alloc),
+            words: Vec::new(alloc),
+            effects: Vec::new(alloc),
+            draft: Draft::new(alloc),
+        }
+    }
+
+    /// How many turns there are.
+    pub fn len(&self) -> usize
+        ensures { result ≡ length self.now }
+    {
+        self.heads.len()
+    }
+
+    /// Puts a turn after the others, in time by the size of its frames, bindings, arguments and effects. An `Err` says
+    /// that a growth was refused, or that the turn has more than 2^32 - 1 numbers or effects. It leaves the journal as it
+    /// was.
+    pub fn push(&mut self, turn: &Record<'_>) -> Result<(), AllocError>
+        ensures ok { OnOk result (self.new ≡ self.old ++ record_view turn.now ∷ []) }
+        ensures err { OnErr result (self.new ≡ self.old) }
+    {
+        let start = self.words.len();
+        let first_effect = self.effects.len();
+        let head = self.draft.write(turn, start, first_effect)?;
+        append(
+            &mut self.heads,
+            &mut self.words,
+            &mut self.effects,
+            &self.draft,
+            head,
+        )?;
+        Ok(())
+    }
+
+    /// Drops the last turn, in constant time. It takes no memory.
+    pub fn retract(&mut self)
+        requires { 0 < length self.old }
+        ensures { self.new ≡ take (length self.old - 1) self.old }
+    {
+        if let Some(head) = self.heads.pop() {
+            self.words.truncate(head.start);
+            self.effects.truncate(head.first_effect);
+        }
+    }
+
+    /// The task of the turn at a place. Constant time, as the readers below.
+    pub fn task(&self, place: usize) -> TaskId
+        requires { place < length self.now }
+        ensures { (d : RecordView) → result.0 ≡ (slice_index_or self.now place d).task }
+    {
+        self.heads[place].task
+    }
+
+    /// Its number among the turns of its task, from 0.
+    pub fn number(&self, place: usize) -> u32
+        requires { place < length self.now }
+        ensures { (d : RecordView) → result ≡ (slice_index_or self.now place d).number }
+    {
+        self.heads[place].number
+    }
+
+    /// The worker that ran it, from 0.
+    pub fn worker(&self, place: usize) -> u32
+        requires { place < length self.now }
+        ensures { (d : RecordView) → result ≡ (slice_index_or self.now place d).worker }
+    {
+        self.heads[place].worker
+    }
+
+    /// The method of its frame.
+    pub fn method(&self, place: usize) -> MethodId
+        requires { place < length self.now }
+        ensures { (d : RecordView) → result.0 ≡ (slice_index_or self.now place d).frame.method }
+    {
+        self.heads[place].frame.method
+    }
+
+    /// What it began with.
+    pub fn resume(&self, place: usize) -> Resume
+        requires { place < length self.now }
+        ensures { (d : RecordView) → result ≡ (slice_index_or self.now place d).resume }
+    {
+        let head = &self.heads[place];
+        resume(head.resume, words_of(&self.words, head))
+    }
+
+    /// What it was given.
+    pub fn env(&self, place: usize) -> Env
+        requires { place < length self.now }
+        ensures { (d : RecordView) → result ≡ (slice_index_or self.now place d).env }
+    {
+        env_of(&self.heads[place])
+    }
+
+    /// How it ended, without the arguments of a call.
+    pub fn exit(&self, place: usize) -> BriefExit
+        requires { place < length self.now }
+        ensures { (d : RecordView) → result ≡ brief_of (slice_index_or self.now place d).exit }
+    {
+        let head = &self.heads[place];
+        brief(head.exit, exit_part(head, words_of(&self.words, head)))
+    }
+
+    /// The whole turn, in time and memory by its size. An `Err` says that a growth was refused.
+    pub fn read(&self, alloc: Global, place: usize) -> Result<OwnedRecord, AllocError>
+        requires { place < length self.now }
+        ensures { IfOk result (λ turn. (d : RecordView) → owned_view turn ≡ slice_index_or self.now place d) }
+    {
+        let head = &self.heads[place];
+        let words = words_of(&self.words, head);
+        read_record(alloc, head, words, effects_of(&self.effects, head))
+    }
+}
+
+// Appends a turn to the lists of a journal. Where a growth is refused they are as they were.
+fn append(
+    heads: &mut Vec<Head>,
+    words: &mut Vec<i64>,
+    effects: &mut Vec<StoredEffect>,
+    draft: &Draft,
+    head: Head,
+) -> Result<(), AllocError>
+    ensures heads { OnOk result (heads.new.items ≡ heads.old.items ++ head ∷ []) }
+    ensures words { OnOk result (words.new.items ≡ words.old.items ++ draft.now.words.items) }
+    ensures effects { OnOk result (effects.new.items ≡ effects.old.items ++ draft.now.effects.items) }
+    ensures same_heads { OnErr result (heads.new.items ≡ heads.old.items) }
+    ensures same_words { OnErr result (words.new.items ≡ words.old.items) }
+    ensures same_effects { OnErr result (effects.new.items ≡ effects.old.items) }
+{
+    let start = words.len();
+    let first_effect = effects.len();
+    words.extend_from_slice(&draft.words)?;
+    if effects.extend_from_slice(&draft.effects).is_err() {
+        words.truncate(start);
+        return Err(AllocError);
+    }
+    if heads.push(head).is_err() {
+        words.truncate(start);
+        effects.truncate(first_effect);
+        return Err(AllocError);
+    }
+    Ok(())
+}

@@ -1,0 +1,114 @@
+//! What a journal keeps of a turn beside its list of numbers.
+
+use std::mem::size_of;
+use swift_interpreter::TaskName;
+use swift_types::{ActorId, MethodId, Priority, TaskId};
+
+/// Which fault. The value of a throw stands among the numbers.
+#[derive(Clone, Copy)]
+pub enum StoredFault {
+    Thrown,
+    Cancelled,
+    Invariant,
+    Overflow,
+    Steps,
+    Turns,
+    Depth,
+    Tasks,
+    Empty,
+    Isolation,
+}
+
+/// What a turn begins with. A value stands among the numbers.
+#[derive(Clone, Copy)]
+pub enum StoredResume {
+    Start,
+    Go,
+    Value,
+    Fault(StoredFault),
+}
+
+/// How a turn ends. Arguments, as many as are told, and values stand among the numbers.
+#[derive(Clone, Copy)]
+pub enum StoredExit {
+    Call(ActorId, MethodId, u32),
+    Wait(TaskName),
+    Next(u32),
+    Close(u32, Option<StoredFault>),
+    Yield,
+    Return,
+    Fault(StoredFault),
+}
+
+/// A method that is to run, and how many arguments it has, which stand among the numbers.
+#[derive(Clone, Copy)]
+pub struct StoredInvocation {
+    pub actor: ActorId,
+    pub method: MethodId,
+    pub args: usize,
+}
+
+/// An effect. Arguments and bindings, as many as are told, stand among the numbers.
+#[derive(Clone, Copy)]
+pub enum StoredEffect {
+    Spawn(StoredInvocation, Option<Priority>, usize),
+    Detach(StoredInvocation, Priority),
+    Open,
+    Add(u32, bool, StoredInvocation, Option<Priority>, usize),
+    CancelTask(TaskName),
+    CancelGroup(u32),
+}
+
+/// What a frame seldom has: tasks and groups that its task made, handles, bindings and groups of its own. It is how many
+/// of each there are.
+#[derive(Clone, Copy)]
+pub struct Counts {
+    pub made: u64,
+    pub opened: u64,
+    pub handles: usize,
+    pub own: usize,
+    pub groups: usize,
+}
+
+/// A frame. Its lists stand among the numbers, and its counts too where one of them is not 0.
+#[derive(Clone, Copy)]
+pub struct FrameHead {
+    pub method: MethodId,
+    pub line: u32,
+    /// How many variables it has.
+    pub variables: u32,
+    pub pending: Option<StoredFault>,
+    /// Whether its counts are stored.
+    pub counted: bool,
+    /// Whether there is such a frame.
+    pub stands: bool,
+}
+
+/// A turn, but for what stands among the numbers and among the effects.
+#[derive(Clone, Copy)]
+pub struct Head {
+    /// Where its numbers begin.
+    pub start: usize,
+    /// Where its effects begin.
+    pub first_effect: usize,
+    pub frame: FrameHead,
+    /// The frame after the turn. None stands where the frame is left.
+    pub after: FrameHead,
+    pub task: TaskId,
+    pub number: u32,
+    pub worker: u32,
+    pub room: u32,
+    /// How many numbers it has.
+    pub size: u32,
+    /// How many effects it has.
+    pub effects: u32,
+    /// How many bindings stood when the frame began.
+    pub outer: u32,
+    pub exit: StoredExit,
+    pub resume: StoredResume,
+    pub priority: Priority,
+    pub cancelled: bool,
+}
+
+// A turn takes no more than this beside its numbers.
+const _: () = prove!(size_of::<Head>() == 96);

@@ -1,0 +1,53 @@
+-- What is known where a script is finished, or refused for a root that waits.
+use Rattle.std.proofs.Common.{◌≡◌, ℕ, Option, Some, None, List, map, sym, ap, subst, ◌∙◌}
+use Rattle.std.specs.Prelude.{IfSome, IfNone}
+use Rattle.script_tokens.specs.Pieces.{piece}
+use Rattle.script_tokens.specs.declared.list.Tokens.{Tokens}
+use Rattle.script_tokens.specs.declared.token.Token.{Token}
+use Rattle.script_printing.specs.Script.{ScriptTree}
+use Rattle.script_waits.specs.Waits.{NoneBefore}
+use Rattle.script_compiler.specs.Waiting.{edges_of, waits_of, root_methods}
+use Rattle.swift_script.specs.Scripts.{parts_of}
+use Rattle.swift_script.specs.Accepted.{IsAccepted, first_false, RootWaits, NoRootWaits}
+use Rattle.swift_script.specs.FaultLines.{is_root, place_of, RootStandsOn}
+use Rattle.swift_script.specs.Spelled.{pieces_of, IsNamed, line_in}
+use Rattle.swift_script.proofs.Refusing.{kept_line, spells}
+
+pub none_waits : (s : ScriptTree) (o : Option ℕ) → o ≡ None → IfNone o (NoRootWaits s) → NoRootWaits s
+none_waits s None is h = h
+none_waits s (Some k) is h = absurd cc
+
+some_at : (P : ℕ → Type 0) (o : Option ℕ) (k : ℕ) → o ≡ Some k → IfSome o P → P k
+some_at P o k is h = subst (λ (x : Option ℕ). IfSome x P) is h
+
+abbrev pub NoneEarlier : ScriptTree → ℕ → Type 0
+NoneEarlier s root = NoneBefore (edges_of (parts_of s)) (waits_of (parts_of s)) (root_methods (parts_of s)) root
+
+-- a root that waits stands at its keyword
+pub root_stands : (text : List ℕ) (s : ScriptTree) (kept : Tokens) (lent : List Token) (o : Option ℕ) (root place line : ℕ) → IsNamed text s kept → o ≡ Some root → IfSome o (RootWaits s) → IfSome o (NoneEarlier s)
+    → lent ≡ kept.tokens.items → place ≡ place_of is_root root (map piece lent) → line ≡ line_in kept place → RootStandsOn text line
+root_stands text s kept lent o root place line n is waits first same at on =
+    let there : place ≡ place_of is_root root (pieces_of kept) = at ∙ ap (λ (ts : List Token). place_of is_root root (map piece ts)) same in
+    record {
+      pieces = pieces_of kept;
+      lines = kept.lines.items;
+      are = n.spelled.are_kept.are;
+      decls = n.decls;
+      spelled = n.spelled.spelled;
+      root = root;
+      waits = subst (λ (t : ScriptTree). RootWaits t root) n.is (some_at (RootWaits s) o root is waits);
+      first = subst (λ (t : ScriptTree). NoneEarlier t root) n.is (some_at (NoneEarlier s) o root is first);
+      on = on ∙ ap (line_in kept) there ∙ kept_line text kept (place_of is_root root (pieces_of kept)) n.spelled.are_kept;
+    }
+
+-- where nothing is refused, the text is accepted
+pub accepted : (text : List ℕ) (s t : ScriptTree) (kept : Tokens) → t ≡ s → IsNamed text s kept → first_false s ≡ None → NoRootWaits s → IsAccepted text t
+accepted text s t kept same n starts waits = record {
+  plain = n.spelled.plain;
+  decls = n.decls;
+  spelled = spells text n.decls kept n.spelled;
+  is = same ∙ n.is;
+  names = n.names;
+  starts = ap first_false same ∙ starts;
+  waits = subst NoRootWaits (sym same) waits;
+}

@@ -1,0 +1,127 @@
+//! One text, changed at each of its places.
+
+ghost use Rattle.std.specs.Prelude.{◌≡◌, IfOk, slice_set};
+
+use crate::fault::CaseFault;
+use crate::reading::check;
+use crate::tally::Tally;
+use std::alloc::{AllocError, Global};
+use std::io::Write;
+use swift_script::{ScriptFault, print_script, read};
+
+// A line for a stretch of places with one answer.
+fn stretch(
+    out: &mut Vec<u8>,
+    from: usize,
+    to: usize,
+    answer: &Option<ScriptFault>,
+) -> Result<(), CaseFault> {
+    if from == to {
+        write!(out, "{from} ")?;
+    } else {
+        write!(out, "{from} to {to} ")?;
+    }
+    match answer {
+        None => writeln!(out, "accepted")?,
+        Some(fault) => writeln!(out, "{fault}")?,
+    }
+    Ok(())
+}
+
+// The answers by place, a line for each stretch.
+fn stretches(out: &mut Vec<u8>, answers: &[Option<ScriptFault>]) -> Result<(), CaseFault> {
+    let mut from = 0;
+    for (place, answer) in answers.iter().enumerate() {
+        let next = place + 1;
+        if answers.get(next) != Some(answer) {
+            stretch(out, from, place, answer)?;
+            from = next;
+        }
+    }
+    Ok(())
+}
+
+// Why a text is refused, if it is. A line more where it is accepted and its printed form is not read again.
+fn refusal(
+    alloc: Global,
+    text: &[u8],
+    out: &mut Vec<u8>,
+) -> Result<Option<ScriptFault>, CaseFault> {
+    let script = match read(alloc, text) {
+        Ok(script) => script,
+        Err(fault) => return Ok(Some(fault)),
+    };
+    let printed = print_script(alloc, &script)?;
+    check(alloc, &script, printed.as_str(), out)?;
+    Ok(None)
+}
+
+// How often each answer is given.
+fn counted(
+    alloc: Global,
+    answers: &[Option<ScriptFault>],
+    out: &mut Vec<u8>,
+) -> Result<(), CaseFault> {
+    let mut tally = Tally::new(alloc);
+    for answer in answers {
+        tally.add(answer.map(|fault| fault.kind))?;
+    }
+    tally.write(out)?;
+    Ok(())
+}
+
+/// What is said of each prefix, by its length.
+pub fn prefixes(alloc: Global, text: &[u8], out: &mut Vec<u8>) -> Result<(), CaseFault> {
+    let mut answers = Vec::new(alloc);
+    for length in 0..=text.len() {
+        answers.push(refusal(alloc, &text[..length], out)?)?;
+    }
+    stretches(out, &answers)?;
+    counted(alloc, &answers, out)
+}
+
+// The text with a byte in this place.
+fn with_byte(alloc: Global, text: &[u8], place: usize, byte: u8) -> Result<Vec<u8>, AllocError>
+    ensures { IfOk result (λ changed. changed.items ≡ slice_set text.now place byte) }
+{
+    let mut changed = Vec::from_slice(alloc, text)?;
+    if place < changed.len() {
+        changed[place] = byte;
+    }
+    Ok(changed)
+}
+
+/// What is said of the text with a byte outside text in each place.
+pub fn spoiled(alloc: Global, text: &[u8], out: &mut Vec<u8>) -> Result<(), CaseFault> {
+    let mut answers = Vec::new(alloc);
+    for place in 0..text.len() {
+        let changed = with_byte(alloc, text, place, 0x80)?;
+        answers.push(refusal(alloc, &changed, out)?)?;
+    }
+    stretches(out, &answers)?;
+    counted(alloc, &answers, out)
+}
+
+// The answers with each byte of text in this place.
+fn replaced_at(
+    alloc: Global,
+    text: &[u8],
+    place: usize,
+    answers: &mut Vec<Option<ScriptFault>>,
+    out: &mut Vec<u8>,
+) -> Result<(), CaseFault> {
+    for byte in 0x20..0x7F {
+        let changed = with_byte(alloc, text, place, byte)?;
+        answers.push(refusal(alloc, &changed, out)?)?;
+    }
+    Ok(())
+}
+
+/// How often each answer is given, with each byte of text in each place.
+pub fn replaced(alloc: Global, text: &[u8], out: &mut Vec<u8>) -> Result<(), CaseFault> {
+    let mut answers = Vec::new(alloc);
+    for place in 0..text.len() {
+        replaced_at(alloc, text, place, &mut answers, out)?;
+    }
+    counted(alloc, &answers, out)
+}

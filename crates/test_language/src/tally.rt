@@ -1,0 +1,59 @@
+//! How often each answer was given.
+
+use std::alloc::{AllocError, Global};
+use std::io;
+use std::io::Write;
+use swift_script::ScriptFaultKind;
+
+// An answer, which is none where the text was accepted, and how often it was given.
+#[derive(Drop)]
+struct Count {
+    answer: Option<ScriptFaultKind>,
+    times: u32,
+}
+
+/// How often each answer was given, in order of first answers.
+#[derive(Drop)]
+pub struct Tally {
+    counts: Vec<Count>,
+}
+
+impl Tally {
+    /// No answer yet.
+    pub fn new(alloc: Global) -> Tally {
+        Tally {
+            counts: Vec::new(alloc),
+        }
+    }
+
+    /// Counts an answer.
+    pub fn add(&mut self, answer: Option<ScriptFaultKind>) -> Result<(), AllocError> {
+        if !self.has_counted(answer) {
+            self.counts.push(Count { answer, times: 1 })?;
+        }
+        Ok(())
+    }
+
+    // Counts an answer that was given before, and says whether it was.
+    fn has_counted(&mut self, answer: Option<ScriptFaultKind>) -> bool {
+        for count in self.counts.iter_mut() {
+            if count.answer == answer {
+                count.times = count.times.saturating_add(1);
+                return true;
+            }
+        }
+        false
+    }
+
+    /// Writes a line for each answer.
+    pub fn write(&self, out: &mut Vec<u8>) -> io::Result<()> {
+        for count in &self.counts {
+            let times = count.times;
+            match count.answer {
+                None => writeln!(out, "{times} accepted")?,
+                Some(kind) => writeln!(out, "{times} {kind}")?,
+            }
+        }
+        Ok(())
+    }
+}

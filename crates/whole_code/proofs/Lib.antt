@@ -1,4 +1,0 @@
-pub mod Layouts
-pub mod Lines
-pub mod Mapped
-pub mod Renumbers

@@ -1,5 +1,0 @@
-use Rattle.whole_code.proofs.Layouts.{count_then, length_written}
-use Rattle.whole_code.proofs.laws.written_code_counts.Goals as goal
-
-pub returns : goal.returns
-returns c = (count_then, length_written)

@@ -1,5 +1,0 @@
-use Rattle.whole_code.proofs.Layouts.{entry_then, written_then}
-use Rattle.whole_code.proofs.laws.written_code_joins.Goals as goal
-
-pub returns : goal.returns
-returns c = record { written = written_then; entry = entry_then }

@@ -1,5 +1,0 @@
-pub mod Tree
-pub mod Value
-pub mod Seen
-pub mod Instructions
-pub mod Layout

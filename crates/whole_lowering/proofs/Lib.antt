@@ -1,7 +1,0 @@
-pub mod Counting
-pub mod Terms
-pub mod Lines
-pub mod Heads
-pub mod Blocks
-pub mod Statements
-pub mod Methods

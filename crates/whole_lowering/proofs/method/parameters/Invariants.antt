@@ -1,7 +1,0 @@
-use Rattle.std.proofs.Common.{◌≡◌, drop, map}
-use Rattle.whole_grammar.specs.Tree.{text_of}
-use Rattle.whole_names.specs.Rules.{with_parameters}
-use Rattle.whole_lowering.proofs.method.parameters.Given as goal
-
-abbrev pub invariant-loop-param : goal.invariant-loop-param
-invariant-loop-param l = with_parameters l.scope (map text_of (drop l.param-index l.params)) ≡ with_parameters l.initial.scope (map text_of l.params)

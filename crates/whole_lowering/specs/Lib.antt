@@ -1,5 +1,0 @@
-pub mod Plan
-pub mod Lowered
-pub mod Counts
-pub mod Standing
-pub mod Heads

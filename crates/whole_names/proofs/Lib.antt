@@ -1,4 +1,0 @@
-pub mod Keys
-pub mod Standing
-pub mod LeftOut
-pub mod Fails

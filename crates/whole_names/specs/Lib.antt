@@ -1,6 +1,0 @@
-pub mod Texts
-pub mod Methods
-pub mod Directory
-pub mod Scope
-pub mod Rules
-pub mod Finds

@@ -1,8 +1,0 @@
-use Rattle.whole_printing.specs.Script.{script_in}
-use Rattle.whole_printing.proofs.PrintedSpells.{readable_again}
-use Rattle.whole_printing.proofs.Lexed.{script_lexes}
-use Rattle.whole_printing.proofs.Read.{spelled_again}
-use Rattle.whole_printing.proofs.laws.printed_reads_back.Goals as goal
-
-pub returns : goal.returns
-returns c = λ limit text ts ds l d. (script_lexes (script_in ds) (readable_again limit text ts ds l d), spelled_again limit ts ds d)

@@ -1,7 +1,0 @@
-use Rattle.std.proofs.Common.{arith}
-use Rattle.whole_printing.proofs.Written.{after_next}
-use Rattle.whole_printing.proofs.list.write_all.Goals as goal
-
-pub loop-item-preserved : goal.loop-item-preserved
-loop-item-preserved g c =
-    after_next g.T.Write.pieces g.T.Write.view c.args.items.now c.loop-item.item-index c.item-item.result (omega arith) c.item-item.is c.args.out.now.items c.loop-item.out.items _ c.loop-item.invariant c.in_ok-write.ensures

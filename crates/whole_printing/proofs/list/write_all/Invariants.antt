@@ -1,7 +1,0 @@
-use Rattle.std.proofs.Common.{◌≡◌, map, take}
-use Rattle.std.specs.List.{flat_map}
-use Rattle.whole_printing.specs.Printed.{after}
-use Rattle.whole_printing.proofs.list.write_all.Given as goal
-
-abbrev pub invariant-loop-item : goal.invariant-loop-item
-invariant-loop-item g l = l.out.items ≡ after l.initial.out.items (flat_map g.T.Write.pieces (map g.T.Write.view (take l.item-index l.items)))

@@ -1,8 +1,0 @@
-use Rattle.std.proofs.Common.{◌≡◌, map, take}
-use Rattle.whole_grammar.specs.Tree.{view_stmt, block_tree}
-use Rattle.whole_printing.specs.Pieces.{pieces_of_block}
-use Rattle.whole_printing.specs.Printed.{after}
-use Rattle.whole_printing.proofs.statement.+statement.Given as goal
-
-abbrev pub invariant-write_stmts-loop-stmt : goal.invariant-write_stmts-loop-stmt
-invariant-write_stmts-loop-stmt l = l.out.items ≡ after l.initial.out.items (pieces_of_block (block_tree (map view_stmt (take l.stmt-index l.stmts))))
