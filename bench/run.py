@@ -19,6 +19,8 @@ PROGRAM = "crates/swiftrun/out/swiftrun"
 MEASURE = "crates/bench_parts/out/bench_parts"
 PARTS = ["queue", "queue_takes", "word", "locals", "groups", "escalation"]
 FEW, MANY = 16, 1024
+# What the longest script may take to be read, on a quiet core of 3 GHz, whatever it says.
+READ_SECONDS, READ_KILOBYTES = 0.006, 8192
 
 # A process that Python starts counts Python's own memory as its peak; one that this starts doesn't.
 TIME = "/usr/bin/time"
@@ -27,7 +29,7 @@ TIME = "/usr/bin/time"
 class Outcome:
     """What a process wrote, how long it took, and its peak memory in KB."""
 
-    def __init__(self, words, script=None, keep=True):
+    def __init__(self, words, script=None, keep=True, status=0):
         where = subprocess.PIPE if keep else subprocess.DEVNULL
         if os.path.exists(TIME):
             words = [TIME, "-f", "peak %M KB", *words]
@@ -35,10 +37,10 @@ class Outcome:
             start = time.perf_counter()
             process = subprocess.Popen(words, cwd=TOP, stdin=given, stdout=where, stderr=subprocess.PIPE)
             wrote, complained = process.stdout.read() if keep else b"", process.stderr.read()
-            _, status, used = os.wait4(process.pid, 0)
+            _, ended, used = os.wait4(process.pid, 0)
             self.seconds = time.perf_counter() - start
-        process.returncode = os.waitstatus_to_exitcode(status)
-        if process.returncode != 0:
+        process.returncode = os.waitstatus_to_exitcode(ended)
+        if process.returncode != status:
             sys.exit(f"{words} ended with {process.returncode}: {complained.decode()}")
         self.wrote = wrote
         # Lines such as `run 123 us` and `peak 456 KB`.
@@ -128,12 +130,22 @@ def whole_runs(times):
 
 def reading(times):
     rows = []
-    for case in scripts.READ:
-        script = scripts.path("read " + case)
-        outcomes = best(2 * times + 1, [MEASURE, "read"], script)
-        seconds, size = least(outcomes, "read"), os.path.getsize(script)
-        rows.append([f"read {case}", f"{size:,}", f"{seconds:.4f}", rate(size, seconds), f"{peak(outcomes):,}"])
-    table(["case", "bytes", "seconds", "bytes/s", "KB"], rows)
+    # Status 1 stands for a script that is refused.
+    cases = [("read " + case, 0) for case in scripts.READ] + [("refuse " + case, 1) for case in scripts.REFUSED]
+    for case, status in cases:
+        script = scripts.path(case)
+        outcomes = best(2 * times + 1, [MEASURE, "read"], script, status=status)
+        seconds, size, kilobytes = least(outcomes, "read"), os.path.getsize(script), peak(outcomes)
+        rows.append([
+            case,
+            f"{size:,}",
+            f"{seconds:.4f}",
+            f"{seconds / READ_SECONDS:.2f}",
+            rate(size, seconds),
+            f"{kilobytes:,}",
+            f"{kilobytes / READ_KILOBYTES:.2f}",
+        ])
+    table(["case", "bytes", "seconds", f"of {READ_SECONDS}", "bytes/s", "KB", f"of {READ_KILOBYTES:,}"], rows)
 
 
 def parts(times):

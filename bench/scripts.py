@@ -147,12 +147,130 @@ SCRIPTS = {
     "roots": (COUNTER + roots(1024, "Counter.once(7)"), None),
 }
 
+FIRST = "abcdefghijklmnopqrstuvwxyzABCDEFGHIJKLMNOPQRSTUVWXYZ"
+LATER = FIRST + "0123456789_"
+
+
+def short(k):
+    """The name of a number: no keyword, and no two of one name."""
+    name, k = "z" + FIRST[k % len(FIRST)], k // len(FIRST)
+    while k:
+        name, k = name + LATER[k % len(LATER)], k // len(LATER)
+    return name
+
+
+def many(front, part, end, longest=LONGEST):
+    """As many parts as fit between a front and an end."""
+    parts, size, k = [front], len(front) + len(end), 0
+    while size + len(part(k)) <= longest:
+        parts.append(part(k))
+        size += len(part(k))
+        k += 1
+    return "".join(parts) + end
+
+
+def statements(part, before="", declared=""):
+    """One method with as many statements as fit."""
+    return filled(many(declared + "actor A { func f() { let x = 0;\n" + before, part, "\n} }\n"))
+
+
+def names(form, longest):
+    return many("", lambda k: form.format(short(k)), "", longest)
+
+
+def assumes():
+    """Each `assume` stands where half of the script's names stand."""
+    actor = "actor B { var q = 0; }\n"
+    return statements(lambda k: "assume B{}", names("let {}=0;", LONGEST // 2), actor)
+
+
+def assumed_fields():
+    """Blocks that read one of many fields of another actor of the executor."""
+    fields = "executor E fifo;\nactor B on E {" + names("var {}=0;", LONGEST // 2) + "}\n"
+    front = fields + "actor A on E { func f() {\n"
+    return filled(many(front, lambda k: f"assume B{{{short(k % 2000)}=1;}}", "\n} }\n"))
+
+
+def assumes_in_turn():
+    """64 actors with as many fields as there are new names between two rounds of an `assume` of each."""
+    fields = "".join(f"var {short(k)}=0;" for k in range(40))
+    actors = "".join(f"actor {short(k)}{{{fields}}}\n" for k in range(63))
+    turn = "".join(f"assume {short(k)}{{}}" for k in range(63))
+    return statements(lambda k: "".join(f"let y{short(40 * k + i)}=0;" for i in range(40)) + turn, "", actors)
+
+
+def method_graph():
+    """Each method calls each."""
+    def graph(count):
+        calls = "".join(f"await A.{short(k)}();" for k in range(count))
+        return "actor A {\n" + "".join(f"func {short(k)}(){{{calls}}}\n" for k in range(count)) + f"}}\nroot a = A.{short(0)}();\n"
+
+    count = 2
+    while len(graph(count + 1)) <= LONGEST:
+        count += 1
+    return filled(graph(count))
+
+
+def arguments():
+    """Calls with 500 arguments."""
+    numbers, parameters = ",".join("1" * 500), ",".join(short(k) for k in range(500))
+    return statements(lambda k: f"await B.g({numbers});", "", f"actor B {{ func g({parameters}) {{}} }}\n")
+
+
+def one_executor(count):
+    """Actors on one executor, each with fields and an invariant."""
+    fields = many("", lambda k: f"var {short(k)}=0;", "", 860)
+    actors = "".join(f"actor {short(k)} on E {{{fields}invariant {short(0)} == 0;}}\n" for k in range(count))
+    return "executor E fifo;\n" + actors
+
+
+def roots_with_arguments():
+    """1,024 roots with 12 arguments each."""
+    parameters, numbers = ",".join(short(k) for k in range(12)), ",".join(["-1"] * 12)
+    roots = "".join(f"root {short(k)}=A.f({numbers});\n" for k in range(1024))
+    return filled(f"actor A {{ func f({parameters}) {{}} }}\n" + roots)
+
+
 # What is read alone, each of the greatest length.
 READ = {
     "actors": to_be_read(),
     "deep": deep(),
     "roots": filled("actor A { func f() { return 1; } }\n" + roots(1024, "A.f()")),
     "long name": long_name(),
+    # What costs most for its bytes, of each kind of part.
+    "sums of names": statements(lambda k: "x=" + "+".join("x" * 32) + ";"),
+    "sums": statements(lambda k: "x=" + "+".join("1" * 32) + ";"),
+    "products": statements(lambda k: "x=" + "*".join("1" * 32) + ";"),
+    "signs": statements(lambda k: "x=" + "-" * 31 + "1;"),
+    "parentheses": statements(lambda k: "x=" + "(" * 32 + "1" + ")" * 32 + ";"),
+    "assignments": statements(lambda k: "x=x;"),
+    "task locals": statements(lambda k: "x=@l;", "", "local l = 0;\n"),
+    "variables": statements(lambda k: f"let {short(k)}=0;"),
+    "fields": filled(many("actor A {", lambda k: f"var {short(k)}=0;", "}\n")),
+    "methods": filled(many("actor A {", lambda k: f"func {short(k)}(){{}}", "}\n")),
+    "parameters": filled(many("actor A { func f(a", lambda k: f",{short(k)}", ") {} }\n")),
+    "arguments": arguments(),
+    "calls": statements(lambda k: "await B.g();", "", "actor B { func g() {} }\n"),
+    "tasks": statements(lambda k: f"let {short(k)}=spawn B.g();", "", "actor B { func g() {} }\n"),
+    "method graph": method_graph(),
+    "blocks": statements(lambda k: "if 1{" * 31 + "}" * 31),
+    "binds": statements(lambda k: "bind l=1{" * 31 + "}" * 31, "", "local l = 0;\n"),
+    "groups": statements(lambda k: "".join(f"group {short(i)}{{" for i in range(31)) + "}" * 31),
+    "assumes": assumes(),
+    "assumed fields": assumed_fields(),
+    "assumes in turn": assumes_in_turn(),
+    "one executor": filled(one_executor(64)),
+    "roots' arguments": roots_with_arguments(),
+}
+
+# What is refused for its last words.
+REFUSED = {
+    "unknown name": filled(many("actor A { func f() { let x = 0;\n", lambda k: "x=x;", "y=0;\n} }\n")),
+    "early end": filled(many("actor A { func f() { let x = 0;\n", lambda k: "x=x;", "}\n")),
+    "false invariant": filled(one_executor(63) + "actor Last on E { invariant 0; }\n"),
+    "waiting root": filled(
+        "actor A { func f() { await task last; } func g() {} }\n" + roots(1023, "A.g()") + "root last = A.f();\n"
+    ),
 }
 
 
@@ -163,7 +281,9 @@ def path(name):
 def write():
     os.makedirs(FOLDER, exist_ok=True)
     texts = {name: text for name, (text, _) in SCRIPTS.items()}
-    for name, text in {**texts, **{"read " + name: text for name, text in READ.items()}}.items():
+    texts |= {"read " + name: text for name, text in READ.items()}
+    texts |= {"refuse " + name: text for name, text in REFUSED.items()}
+    for name, text in texts.items():
         with open(path(name), "w", encoding="ascii", newline="\n") as file:
             file.write(text)
 

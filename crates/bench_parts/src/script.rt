@@ -1,6 +1,6 @@
 //! A script as far as a stage of a run.
 
-ghost use Rattle.std.specs.Prelude.{◌≡◌, IfOk, sum_by, vec_len};
+ghost use Rattle.std.specs.Prelude.{◌≡◌, ◌+◌, IfOk, length, sum_by};
 
 use crate::fault::BenchFault;
 use crate::told;
@@ -8,7 +8,8 @@ use std::io;
 use std::sync::Arc;
 use std::time::Instant;
 use swift_one_thread::{Open, run};
-use swift_report::{Record, report_text};
+use swift_journal::{Checkpoint, Journal};
+use swift_report::{Report, report_text};
 use swift_script::read;
 
 /// How far a script is taken.
@@ -27,8 +28,9 @@ pub fn measure(rt: &HostRuntime, stage: Stage) -> Result<(), BenchFault> {
     let alloc = rt.alloc();
     let text = io::read_to_string(alloc, rt.stdin())?;
     let start = Instant::now(rt)?;
-    let script = Arc::new(alloc, read(alloc, text.as_bytes())?)?;
+    let answer = read(alloc, text.as_bytes());
     told(rt, "read", start.elapsed(rt)?)?;
+    let script = Arc::new(alloc, answer?)?;
     if stage == Stage::Read {
         let bytes = text.len();
         println!(rt; "read {bytes} bytes")?;
@@ -37,7 +39,7 @@ pub fn measure(rt: &HostRuntime, stage: Stage) -> Result<(), BenchFault> {
     let start = Instant::now(rt)?;
     let report = run(rt, Arc::clone(&script)?, 1, &Open)?;
     told(rt, "run", start.elapsed(rt)?)?;
-    let turns = turns_of(&report.journals)?;
+    let turns = turns_of(&report)?;
     println!(rt; "run {turns} turns")?;
     if stage == Stage::Run {
         return Ok(());
@@ -50,13 +52,36 @@ pub fn measure(rt: &HostRuntime, stage: Stage) -> Result<(), BenchFault> {
     Ok(())
 }
 
-/// How many turns the executors ran. `Refused` where that is no number of 64 bits.
-pub fn turns_of(journals: &[Vec<Record>]) -> Result<u64, BenchFault>
-    ensures { IfOk result (λ n. n ≡ sum_by (λ j. vec_len j) journals.now) }
+/// How many turns the executors ran, those that were folded too. `Refused` where that is no number of 64 bits.
+pub fn turns_of(report: &Report) -> Result<u64, BenchFault>
+    ensures { IfOk result (λ n. n ≡ sum_by (λ j. length j) report.now.journals.items + sum_by (λ c. length c.view.folded) report.now.checkpoints.items) }
+{
+    let journalled = journalled(&report.journals)?;
+    let Some(sum) = journalled.checked_add(folded(&report.checkpoints)?) else {
+        return Err(BenchFault::Refused);
+    };
+    Ok(sum)
+}
+
+fn journalled(journals: &[Journal]) -> Result<u64, BenchFault>
+    ensures { IfOk result (λ n. n ≡ sum_by (λ j. length j) journals.now) }
 {
     let mut turns = 0u64;
     for journal in journals {
         let Some(sum) = turns.checked_add(journal.len() as u64) else {
+            return Err(BenchFault::Refused);
+        };
+        turns = sum;
+    }
+    Ok(turns)
+}
+
+fn folded(checkpoints: &[Checkpoint]) -> Result<u64, BenchFault>
+    ensures { IfOk result (λ n. n ≡ sum_by (λ c. length c.view.folded) checkpoints.now) }
+{
+    let mut turns = 0u64;
+    for checkpoint in checkpoints {
+        let Some(sum) = turns.checked_add(checkpoint.len() as u64) else {
             return Err(BenchFault::Refused);
         };
         turns = sum;

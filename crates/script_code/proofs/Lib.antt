@@ -3,3 +3,4 @@ pub mod Lines
 pub mod Mapped
 pub mod Renumbers
 pub mod LocalReads
+pub mod Giving

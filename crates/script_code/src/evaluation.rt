@@ -6,6 +6,7 @@ ghost use Rattle.swift_locals.specs.Bindings.{value_of};
 ghost use Rattle.script_code.specs.Tree.{term_of};
 ghost use Rattle.script_code.specs.Value.{ev, flag, field_at, holds as holds_spec, joined, number_at};
 
+use crate::cells::value_of_cells;
 use crate::env::Env;
 use crate::formula::{FieldPlace, Formula};
 use crate::sight::{Binding, Sight};
@@ -50,12 +51,16 @@ fn evaluate(formula: &Formula, sight: &Sight<'_>) -> Option<i64>
 
 /// Whether the invariant of an actor, if it has one, holds of the fields of its executor's actors: its value is a number
 /// other than 0. One that overflows does not hold (our own).
+#[tactic(auto, using(crate::proofs::Giving::holds_given))]
 pub fn holds(alloc: Global, invariant: Option<&Formula>, fields: &[Vec<i64>]) -> bool
     ensures { result ≡ holds_spec (term_if_lent invariant.entry) (rows_of fields.now) }
 {
     let Some(test) = invariant else {
         return true;
     };
+    if let Some(v) = value_of_cells(test, &[], fields) {
+        return v != 0;
+    }
     let env = Env {
         priority: Priority::Background,
         cancelled: false,
@@ -101,7 +106,8 @@ fn read_own(own: &[Binding], local: LocalId) -> Option<i64>
 }
 
 // The number that is kept in a place, or 0 where there is no such place.
-fn number(xs: &[i64], k: u32) -> i64
+#[inline(always)]
+pub fn number(xs: &[i64], k: u32) -> i64
     ensures { result ≡ number_at xs.now k }
 {
     match xs.get(k as usize) {
@@ -111,7 +117,8 @@ fn number(xs: &[i64], k: u32) -> i64
 }
 
 // The number that is kept in a field, or 0 where there is no such field.
-fn field(fields: &[Vec<i64>], place: FieldPlace) -> i64
+#[inline(always)]
+pub fn field(fields: &[Vec<i64>], place: FieldPlace) -> i64
     ensures { result ≡ field_at (rows_of fields.now) place }
 {
     match fields.get(place.actor as usize) {
@@ -120,14 +127,16 @@ fn field(fields: &[Vec<i64>], place: FieldPlace) -> i64
     }
 }
 
-fn flag_of(b: bool) -> i64
+#[inline(always)]
+pub fn flag_of(b: bool) -> i64
     ensures { result ≡ flag b }
 {
     if b { 1 } else { 0 }
 }
 
 // An operator on both its values.
-fn join(operator: Operator, x: i64, y: i64) -> Option<i64>
+#[inline(always)]
+pub fn join(operator: Operator, x: i64, y: i64) -> Option<i64>
     ensures { result ≡ joined operator x (Some y) }
 {
     match operator {

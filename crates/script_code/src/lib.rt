@@ -2,6 +2,7 @@
 //! formulas are worth.
 #![tactic(auto)]
 
+mod cells;
 mod emit;
 mod env;
 mod evaluation;
@@ -9,9 +10,8 @@ mod formula;
 mod instruction;
 pub mod laws;
 mod sight;
-#[cfg(test)]
-mod tests;
 
+pub use cells::value_of_cells;
 pub use emit::{link, push_instruction, renumber};
 pub use env::Env;
 pub use evaluation::{holds, value};

@@ -9,7 +9,7 @@ ghost use Rattle.script_lowering.specs.Lowered.{default_of};
 
 use crate::number::{declared, sum, to_u32};
 use script_grammar::{Decl, Name};
-use script_names::{Declared, Names};
+use script_names::{Declared, Names, Seed};
 use std::alloc::{AllocError, Global};
 use std::marker::Model;
 use swift_types::LocalId;
@@ -43,10 +43,7 @@ impl Plan {
         requires { declared ≡ directory_of (map view_decl decls.now) }
         ensures { IfOk result (λ p. p ≡ plan_of (map view_decl decls.now)) }
     {
-        let defaults = defaults(alloc, decls)?;
-        let names = executor_names(alloc, decls)?;
-        let executors = executors(alloc, &names, decls)?;
-        let seats = seats(alloc, &executors)?;
+        let (defaults, executors, seats) = places(alloc, declared.seed(), decls)?;
         Ok(Plan {
             declared,
             defaults,
@@ -92,6 +89,29 @@ impl Plan {
     }
 }
 
+// The defaults of the task locals, and of each actor its executor and its seat.
+fn places(
+    alloc: Global,
+    seed: Seed,
+    decls: &[Decl],
+) -> Result<(Vec<i64>, Vec<u32>, Vec<u32>), AllocError>
+    ensures defaults { IfOk result (λ p. p.0.items ≡ defaults_in (map view_decl decls.now)) }
+    ensures executors { IfOk result (λ p. p.1.items ≡ (plan_of (map view_decl decls.now)).executors) }
+    ensures seats { IfOk result (λ p. AreSeats p.1.items p.2.items) }
+{
+    let defaults = defaults(alloc, decls)?;
+    let executors = executors_of(alloc, seed, decls)?;
+    let seats = seats(alloc, &executors)?;
+    Ok((defaults, executors, seats))
+}
+
+fn executors_of(alloc: Global, seed: Seed, decls: &[Decl]) -> Result<Vec<u32>, AllocError>
+    ensures { IfOk result (λ v. v.items ≡ (plan_of (map view_decl decls.now)).executors) }
+{
+    let names = executor_names(alloc, seed, decls)?;
+    executors(alloc, &names, decls)
+}
+
 fn defaults(alloc: Global, decls: &[Decl]) -> Result<Vec<i64>, AllocError>
     ensures { IfOk result (λ v. v.items ≡ defaults_in (map view_decl decls.now)) }
 {
@@ -117,10 +137,10 @@ fn add_new(alloc: Global, names: &mut Names, name: &[u8]) -> Result<(), AllocErr
 }
 
 // The executors in text order.
-fn executor_names(alloc: Global, decls: &[Decl]) -> Result<Names, AllocError>
+fn executor_names(alloc: Global, seed: Seed, decls: &[Decl]) -> Result<Names, AllocError>
     ensures { IfOk result (λ names. names ≡ executors_in (map view_decl decls.now)) }
 {
-    let mut names = Names::new(alloc);
+    let mut names = Names::new(alloc, seed);
     for decl in decls {
         match decl {
             Decl::Executor(executor) => add_new(alloc, &mut names, &executor.name.text)?,

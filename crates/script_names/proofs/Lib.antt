@@ -1,4 +1,6 @@
 pub mod Keys
 pub mod Standing
+pub mod Shared
+pub mod Known
 pub mod LeftOut
 pub mod Fails

@@ -26,7 +26,7 @@ without_kind : (b : Bool) (k : NameKind) (o : Option NameKind) → (if b then So
 without_kind true k o e = absurd (cc)
 without_kind false k o e = e
 
-new_name : (s : Scope) (w : List ℕ) → length s.kinds ≡ length s.names → meaning_of s w ≡ None → with_name s.names w ≡ s.names ++ w ∷ []
+pub new_name : (s : Scope) (w : List ℕ) → length s.kinds ≡ length s.names → meaning_of s w ≡ None → with_name s.names w ≡ s.names ++ w ∷ []
 new_name s w l e =
     let fresh = not_among s.names s.kinds w l (without_kind (is_among (fields_at s.directory s.actor) w) kinds.Field _ e) in
     ap (λ (b : Bool). cond b s.names (s.names ++ w ∷ [])) fresh

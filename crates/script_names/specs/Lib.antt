@@ -2,5 +2,6 @@ pub mod Texts
 pub mod Methods
 pub mod Directory
 pub mod Scope
+pub mod ScopeInvariant
 pub mod Rules
 pub mod Finds

@@ -3,7 +3,7 @@
 ghost use Rattle.std.specs.Prelude.{◌≡◌, [], map, suc, IfOk, OnOk};
 ghost use Rattle.script_grammar.specs.Tree.{text_of, text_if, view_if, view_field, view_method, view_actor, Acts};
 ghost use Rattle.script_names.specs.Scope.{fields_alone};
-ghost use Rattle.script_names.specs.Rules.{past_names, past_name_if, past_method, past_methods, past_fields, past_actor, repeat_error, parameters_error, with_parameters, method_error, methods_error, fields_error, on_error, actor_error, seen_after};
+ghost use Rattle.script_names.specs.Rules.{past_names, past_name_if, past_method, past_methods, past_fields, past_if, past_actor, repeat_error, parameters_error, with_parameters, method_error, methods_error, fields_error, on_error, optional_error, actor_error, seen_after};
 ghost use Rattle.script_names.specs.Finds.{Finds};
 
 use crate::actions::new_name;
@@ -13,9 +13,10 @@ use crate::error::{CheckError, NameErrorKind};
 use crate::expressions::optional;
 use crate::fault::{at_name, declared_fault, where_so};
 use crate::scope::{NameKind, Scope};
+use crate::seed::Seed;
 use crate::seen::{Seen, unless_seen};
 use crate::texts::Names;
-use script_grammar::{Actor, Field, Method, Name};
+use script_grammar::{Actor, Expr, Field, Method, Name};
 use std::alloc::Global;
 use swift_types::limits::ACTORS;
 
@@ -66,7 +67,7 @@ fn methods(
     ensures finds { Finds result (methods_error (fields_alone declared.now actor) [] at (map view_method methods.now)) }
     ensures after { IfOk result (λ n. n ≡ past_methods (map view_method methods.now) at) }
 {
-    let mut seen = Names::new(alloc);
+    let mut seen = Names::new(alloc, declared.seed());
     let mut at = at;
     for next in methods {
         at = method(alloc, declared, actor, &seen, at, next)?;
@@ -76,11 +77,11 @@ fn methods(
 }
 
 // The fields of an actor are distinct.
-fn fields(alloc: Global, at: u32, fields: &[Field]) -> Result<u32, CheckError>
+fn fields(alloc: Global, seed: Seed, at: u32, fields: &[Field]) -> Result<u32, CheckError>
     ensures finds { Finds result (fields_error [] at (map view_field fields.now)) }
     ensures after { IfOk result (λ n. n ≡ past_fields (map view_field fields.now) at) }
 {
-    let mut seen = Names::new(alloc);
+    let mut seen = Names::new(alloc, seed);
     let mut at = at;
     for field in fields {
         at = unless_seen(&seen, at, &field.name)?;
@@ -100,6 +101,21 @@ fn on(declared: &Declared, at: u32, executor: &Option<Name>) -> Result<u32, Chec
     }
 }
 
+// An invariant names fields of its actor alone.
+fn invariant(
+    alloc: Global,
+    declared: &Declared,
+    actor: usize,
+    at: u32,
+    test: &Option<Expr>,
+) -> Result<u32, CheckError>
+    ensures finds { Finds result (optional_error (fields_alone declared.now actor) at (view_if test.now)) }
+    ensures after { IfOk result (λ n. n ≡ past_if (view_if test.now) at) }
+{
+    let scope = Scope::fields_alone(alloc, declared, actor);
+    optional(&scope, at, test)
+}
+
 /// Actors are distinct, also from executors, and not too many. An invariant names fields alone.
 pub(crate) fn actor(
     alloc: Global,
@@ -116,9 +132,8 @@ pub(crate) fn actor(
     let is_one_more = seen.actors >= ACTORS;
     let at = at_name(at, where_so(is_one_more, NameErrorKind::TooMany))?;
     let at = on(declared, at, &actor.executor)?;
-    let at = fields(alloc, at, &actor.fields)?;
-    let scope = Scope::fields_alone(alloc, declared, seen.actors);
-    let at = optional(&scope, at, &actor.invariant)?;
+    let at = fields(alloc, declared.seed(), at, &actor.fields)?;
+    let at = invariant(alloc, declared, seen.actors, at, &actor.invariant)?;
     let after = methods(alloc, declared, seen.actors, at, &actor.methods)?;
     seen.places.add(alloc, &actor.name.text)?;
     seen.actors += 1;

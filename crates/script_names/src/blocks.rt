@@ -14,7 +14,8 @@ use script_grammar::{Head, Name, Stmt};
 use std::alloc::Global;
 
 // An `assume` names an actor, none of whose fields has a name that stands there. From then on its fields stand there, in
-// place of those of the actor before. It takes time linear in the names of the method that stand there.
+// place of those of the actor before. It takes time linear in those fields or in the names of the method that are new
+// since the last `assume` of that actor, whichever are fewer.
 fn assume(scope: &mut Scope<'_>, at: u32, actor: &Name) -> Result<u32, CheckError>
     ensures finds { Finds result (at_name at (assume_fault scope.old (text_of actor.now))) }
     ensures after { IfOk result (λ n. n ≡ suc at) }
@@ -23,7 +24,7 @@ fn assume(scope: &mut Scope<'_>, at: u32, actor: &Name) -> Result<u32, CheckErro
     let Some(place) = scope.declared().actor(&actor.text) else {
         return Err(CheckError::at(NameErrorKind::Unknown, at));
     };
-    let is_taken = scope.has_field_name_of(place);
+    let is_taken = scope.has_field_name_of(place)?;
     let at = at_name(at, where_so(is_taken, NameErrorKind::Twice))?;
     scope.assume(place);
     Ok(at)

@@ -11,6 +11,7 @@ use crate::calls::target;
 use crate::directory::Declared;
 use crate::error::{CheckError, NameErrorKind};
 use crate::fault::{at_name, where_so};
+use crate::seed::Seed;
 use crate::seen::{Seen, unless_seen};
 use script_grammar::{Decl, Executor, ExecutorKind, Local, Root};
 use std::alloc::Global;
@@ -104,7 +105,7 @@ fn declaration(
 fn declarations(alloc: Global, declared: &Declared, decls: &[Decl]) -> Result<(), CheckError>
     ensures { Finds result (declarations_error declared.now (record { places = []; locals = []; roots = []; executors = 0; actors = 0 }) 0 (map view_decl decls.now)) }
 {
-    let mut seen = Seen::nothing(alloc);
+    let mut seen = Seen::nothing(alloc, declared.seed());
     let mut at = 0;
     for decl in decls {
         at = declaration(alloc, declared, &mut seen, at, decl)?;
@@ -113,19 +114,20 @@ fn declarations(alloc: Global, declared: &Declared, decls: &[Decl]) -> Result<()
 }
 
 /// Checks the names and counts of a script that the grammar accepted, and hands out what it declares. It takes time
-/// linear in the script, and for each `assume` time linear in the names of its method that stand there.
+/// linear in the script, and for each `assume` time linear in the fields of its actor or in the names of the method that
+/// are new since that actor was last assumed, whichever are fewer.
 ///
 /// An error is the first one in the order of the text. It stands at the name that is concerned: the second of two of
 /// one name, a name that nothing stands under or that stands for something else, the group of a child that is added
 /// inside a `bind`, the actor or the method of a call, and for a wrong number of arguments the method. For the number
 /// after `pinned` it stands at the executor's name. The rules are our own.
-pub fn check(alloc: Global, decls: &[Decl]) -> Result<Declared, CheckError>
+pub fn check(alloc: Global, seed: Seed, decls: &[Decl]) -> Result<Declared, CheckError>
     // It is the first error, with its place, and there is none where it answers Ok, unless memory runs out.
     ensures finds { Finds result (names_error (map view_decl decls.now)) }
     // What is handed out is what the script declares.
     ensures directory { IfOk result (λ d. d ≡ directory_of (map view_decl decls.now)) }
 {
-    let declared = Declared::of(alloc, decls)?;
+    let declared = Declared::of(alloc, seed, decls)?;
     declarations(alloc, &declared, decls)?;
     Ok(declared)
 }

@@ -1,12 +1,13 @@
 //! What a script declares.
 
-ghost use Rattle.std.specs.Prelude.{◌≡◌, ◌<◌, [], is_some, length, map, option_copied, slice_get, IfOk, IfSome, OnOk};
+ghost use Rattle.std.specs.Prelude.{◌≡◌, ◌<◌, ◌≤◌, [], false, is_some, length, map, option_copied, slice_get, take, IfOk, IfSome, OnOk};
 ghost use Rattle.script_grammar.specs.Tree.{view_field, view_method, view_actor, view_decl};
 ghost use Rattle.script_names.specs.Texts.{is_among, place_of};
 ghost use Rattle.script_names.specs.Directory.{has_method, method_place, fields_at, field_names, with_names, with_method, with_methods, with_actor, with_decl, directory_of};
 ghost use Rattle.script_names.specs.Scope.{share_a_name};
 
 use crate::methods::Methods;
+use crate::seed::Seed;
 use crate::texts::Names;
 use script_grammar::{Actor, Decl, Field, Method};
 use std::alloc::{AllocError, Global};
@@ -18,6 +19,7 @@ use std::marker::Model;
 /// (our own).
 #[derive(Drop)]
 pub struct Declared {
+    seed: Seed,
     executors: Names,
     locals: Names,
     roots: Names,
@@ -38,22 +40,28 @@ impl Model for Declared {
 impl Declared {
     /// What a script declares, in time and memory linear in its declarations and the names of its actors' fields and
     /// methods.
-    pub fn of(alloc: Global, decls: &[Decl]) -> Result<Declared, AllocError>
+    pub fn of(alloc: Global, seed: Seed, decls: &[Decl]) -> Result<Declared, AllocError>
         ensures { IfOk result (λ d. d ≡ directory_of (map view_decl decls.now)) }
     {
         let mut declared = Declared {
-            executors: Names::new(alloc),
-            locals: Names::new(alloc),
-            roots: Names::new(alloc),
-            actors: Names::new(alloc),
+            seed,
+            executors: Names::new(alloc, seed),
+            locals: Names::new(alloc, seed),
+            roots: Names::new(alloc, seed),
+            actors: Names::new(alloc, seed),
             fields: Vec::new(alloc),
-            methods: Methods::new(alloc),
+            methods: Methods::new(alloc, seed),
             params: Vec::new(alloc),
         };
         for decl in decls {
             declared.add(alloc, decl)?;
         }
         Ok(declared)
+    }
+
+    /// With what the hash of each name begins.
+    pub fn seed(&self) -> Seed {
+        self.seed
     }
 
     /// The place of an executor among the executors.
@@ -109,12 +117,15 @@ impl Declared {
         }
     }
 
-    /// Whether some of these names is one of a field of the actor at a place, in time linear in the names.
-    pub(crate) fn has_field_among(&self, actor: usize, names: &Names) -> bool
+    /// Whether some of these names is one of a field of the actor at a place, where the first ones, up to so many, are
+    /// known to be none. It takes time linear in those fields or in the names that are not known, whichever are fewer.
+    pub(crate) fn has_field_among(&self, actor: usize, names: &Names, cleared: usize) -> bool
+        requires cleared { share_a_name (fields_at self.now actor) (take cleared names.now) ≡ false }
+        requires within { cleared ≤ length names.now }
         ensures { result ≡ share_a_name (fields_at self.now actor) names.now }
     {
         match self.fields(actor) {
-            Some(fields) => fields.has_any_of(names),
+            Some(fields) => fields.has_any_of(names, cleared),
             None => false,
         }
     }
@@ -165,7 +176,8 @@ impl Declared {
         }
         let place = self.actors.len();
         self.actors.add(alloc, name)?;
-        self.fields.push(names_of(alloc, &actor.fields)?)?;
+        self.fields
+            .push(names_of(alloc, self.seed, &actor.fields)?)?;
         self.add_methods(alloc, place, &actor.methods)
     }
 
@@ -194,10 +206,10 @@ impl Declared {
 }
 
 // The names of fields, each once.
-fn names_of(alloc: Global, fields: &[Field]) -> Result<Names, AllocError>
+fn names_of(alloc: Global, seed: Seed, fields: &[Field]) -> Result<Names, AllocError>
     ensures { IfOk result (λ n. n ≡ with_names [] (field_names (map view_field fields.now))) }
 {
-    let mut names = Names::new(alloc);
+    let mut names = Names::new(alloc, seed);
     for field in fields {
         names.add(alloc, &field.name.text)?;
     }

@@ -9,6 +9,8 @@ mod actors;
 mod blocks;
 // Calls, waits and tasks that are made.
 mod calls;
+// What is known of the names that stand and of the fields of other actors.
+mod cleared;
 // Declarations, and whole scripts.
 mod declarations;
 // What a script declares.
@@ -25,6 +27,8 @@ mod laws;
 mod methods;
 // What stands at a place of a script.
 mod scope;
+// How names are hashed.
+mod seed;
 // What stands before a declaration.
 mod seen;
 // Lists of names.
@@ -35,4 +39,5 @@ pub use directory::Declared;
 pub use error::{CheckError, NameError, NameErrorKind};
 pub use laws::nothing_left_out;
 pub use scope::{NameKind, Outside, Scope};
+pub use seed::Seed;
 pub use texts::Names;

@@ -4,6 +4,7 @@ ghost use Rattle.std.specs.Prelude.{◌≡◌, ◌<◌, [], not, is_some, length
 ghost use Rattle.script_names.specs.Texts.{is_among, place_of, with_name};
 ghost use Rattle.script_names.specs.Methods.{method_key, key_is};
 
+use crate::seed::Seed;
 use indexmap::IndexSet;
 use std::alloc::{AllocError, Global};
 use std::marker::Model;
@@ -27,7 +28,7 @@ impl MethodKey {
 /// Methods in the order of their first places, each standing once.
 #[derive(Drop)]
 pub(crate) struct Methods {
-    set: IndexSet<MethodKey>,
+    set: IndexSet<MethodKey, Seed>,
 }
 
 impl Model for Methods {
@@ -41,10 +42,10 @@ impl Model for Methods {
 
 impl Methods {
     /// No methods.
-    pub(crate) fn new(alloc: Global) -> Methods
+    pub(crate) fn new(alloc: Global, seed: Seed) -> Methods
         ensures { result ≡ [] }
     {
-        let set = IndexSet::new(alloc);
+        let set = IndexSet::with_hasher(alloc, seed);
         Methods { set }
     }
 

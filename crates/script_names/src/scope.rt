@@ -1,17 +1,18 @@
 //! What stands at a place of a script.
 
-ghost use Rattle.std.specs.Prelude.{◌≡◌, None, length, take, OnOk, OnErr};
+ghost use Rattle.std.specs.Prelude.{◌≡◌, None, length, take, IfOk, OnOk, OnErr};
 ghost use Rattle.script_names.specs.Texts.{place_of};
 ghost use Rattle.script_names.specs.Directory.{fields_at};
 ghost use Rattle.script_names.specs.Scope.{fields_alone, with_standing, meaning_of, share_a_name};
 ghost use Rattle.script_names.specs.Rules.{bind_fault};
 ghost use Rattle.script_names.specs.Finds.{Finds};
 
+use crate::cleared::Cleared;
 use crate::directory::Declared;
 use crate::error::{CheckError, NameErrorKind};
 use crate::fault::where_so;
 use crate::texts::Names;
-use std::alloc::Global;
+use std::alloc::{AllocError, Global};
 use std::marker::Model;
 
 /// What a name stands for.
@@ -36,17 +37,19 @@ pub struct Scope<'a> {
     names: Names,
     kinds: Vec<NameKind>,
     bound: usize,
+    cleared: Cleared,
 }
 
 impl<'a> Model for Scope<'a> {
     ghost use Rattle.std.specs.Prelude.{◌≡◌, length};
     ghost use Rattle.script_names.specs.Scope.{Scope};
+    ghost use Rattle.script_names.specs.ScopeInvariant.{AreCleared};
 
     ghost Value = { Scope };
 
     ghost view = { λ s. record { directory = s.declared.now; actor = s.actor; names = s.names; kinds = s.kinds.items; bound = s.bound } };
 
-    ghost invariant = { λ s. length s.kinds.items ≡ length s.names };
+    ghost invariant = { λ s. (length s.kinds.items ≡ length s.names) × AreCleared s.declared.now s.names s.cleared };
 }
 
 /// What stands outside a block.
@@ -68,9 +71,10 @@ impl<'a> Scope<'a> {
         Scope {
             declared,
             actor,
-            names: Names::new(alloc),
+            names: Names::new(alloc, declared.seed()),
             kinds: Vec::new(alloc),
             bound: 0,
+            cleared: Cleared::nothing(alloc),
         }
     }
 
@@ -114,12 +118,19 @@ impl<'a> Scope<'a> {
         where_so(is_outside, NameErrorKind::BoundInside)
     }
 
-    /// Whether a name of the method that stands there is one of a field of the actor at a place, in time linear in those
-    /// names.
-    pub(crate) fn has_field_name_of(&self, actor: usize) -> bool
-        ensures { result ≡ share_a_name (fields_at self.now.directory actor) self.now.names }
+    /// Whether a name of the method that stands there is one of a field of the actor at a place. It takes time linear in
+    /// those fields or in the names that are new since it was asked last, whichever are fewer. `Err` says that there was no
+    /// memory.
+    pub(crate) fn has_field_name_of(&mut self, actor: usize) -> Result<bool, AllocError>
+        ensures shared { IfOk result (λ b. b ≡ share_a_name (fields_at self.old.directory actor) self.old.names) }
+        ensures same { self.new ≡ self.old }
     {
-        self.declared.has_field_among(actor, &self.names)
+        let cleared = self.cleared.of(actor);
+        let is_shared = self.declared.has_field_among(actor, &self.names, cleared);
+        if !is_shared {
+            self.cleared.note(actor, self.names.len())?;
+        }
+        Ok(is_shared)
     }
 
     /// A name more, which must not stand there yet. Where memory runs out, nothing changes.
@@ -171,6 +182,7 @@ impl<'a> Scope<'a> {
     {
         self.actor = outside.actor;
         self.names.truncate(outside.names);
+        self.cleared.lower(outside.names);
         self.kinds.truncate(outside.names);
         self.bound = outside.bound;
     }

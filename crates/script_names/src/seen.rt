@@ -7,6 +7,7 @@ ghost use Rattle.script_names.specs.Finds.{Finds};
 
 use crate::error::{CheckError, NameErrorKind};
 use crate::fault::{at_name, where_so};
+use crate::seed::Seed;
 use crate::texts::Names;
 use script_grammar::Name;
 use std::alloc::Global;
@@ -33,13 +34,13 @@ impl Model for Seen {
 
 impl Seen {
     /// Nothing stands before the first declaration.
-    pub(crate) fn nothing(alloc: Global) -> Seen
+    pub(crate) fn nothing(alloc: Global, seed: Seed) -> Seen
         ensures { result ≡ record { places = []; locals = []; roots = []; executors = 0; actors = 0 } }
     {
         Seen {
-            places: Names::new(alloc),
-            locals: Names::new(alloc),
-            roots: Names::new(alloc),
+            places: Names::new(alloc, seed),
+            locals: Names::new(alloc, seed),
+            roots: Names::new(alloc, seed),
             executors: 0,
             actors: 0,
         }

@@ -1,9 +1,10 @@
 //! Lists of names without repeats, in which a name is found by its hash.
 
-ghost use Rattle.std.specs.Prelude.{◌≡◌, ◌<◌, [], is_some, length, take, IfOk, IfSome, OnOk, OnErr};
-ghost use Rattle.script_names.specs.Texts.{is_among, place_of, with_name};
+ghost use Rattle.std.specs.Prelude.{◌≡◌, ◌<◌, ◌≤◌, [], false, is_some, length, take, IfOk, IfSome, OnOk, OnErr};
+ghost use Rattle.script_names.specs.Texts.{is_among, place_of, texts_of, with_name};
 ghost use Rattle.script_names.specs.Scope.{share_a_name};
 
+use crate::seed::Seed;
 use indexmap::IndexSet;
 use std::alloc::{AllocError, Global};
 use std::marker::Model;
@@ -11,7 +12,7 @@ use std::marker::Model;
 /// Names in the order of their first places, each standing once.
 #[derive(Drop)]
 pub struct Names {
-    set: IndexSet<Vec<u8>>,
+    set: IndexSet<Vec<u8>, Seed>,
 }
 
 impl Model for Names {
@@ -25,10 +26,10 @@ impl Model for Names {
 
 impl Names {
     /// No names.
-    pub fn new(alloc: Global) -> Names
+    pub fn new(alloc: Global, seed: Seed) -> Names
         ensures { result ≡ [] }
     {
-        let set = IndexSet::new(alloc);
+        let set = IndexSet::with_hasher(alloc, seed);
         Names { set }
     }
 
@@ -62,17 +63,31 @@ impl Names {
         self.place(name).unwrap_or(self.len())
     }
 
-    /// Whether some name of another list is one of these, in time linear in that list.
-    pub(crate) fn has_any_of(&self, others: &Names) -> bool
-        ensures { result ≡ share_a_name self.now others.now }
+    // Whether some of these texts is one of the names, in time linear in them.
+    fn has_any(&self, texts: &[Vec<u8>]) -> bool
+        ensures { result ≡ share_a_name self.now (texts_of texts.now) }
     {
-        let others = others.set.as_slice();
-        for name in others {
-            if self.contains(name) {
+        for text in texts {
+            if self.contains(text) {
                 return true;
             }
         }
         false
+    }
+
+    /// Whether some name of another list is one of these, where its first ones, up to so many, are known to be none. It
+    /// takes time linear in these names or in those that are not known, whichever are fewer.
+    pub(crate) fn has_any_of(&self, others: &Names, cleared: usize) -> bool
+        requires cleared { share_a_name self.now (take cleared others.now) ≡ false }
+        requires within { cleared ≤ length others.now }
+        ensures { result ≡ share_a_name self.now others.now }
+    {
+        if self.len() < others.len() - cleared {
+            others.has_any(self.set.as_slice())
+        } else {
+            let (_, newer) = others.set.as_slice().split_at(cleared);
+            self.has_any(newer)
+        }
     }
 
     /// The place of a name, which goes after the others where it is new. Where memory runs out, nothing changes.

@@ -1,6 +1,7 @@
 pub mod Steps
 pub mod Front
 pub mod Operands
+pub mod Levels
 pub mod Tokens
 pub mod Ints
 pub mod Items

@@ -6,7 +6,7 @@ ghost use Rattle.std.specs.Option.{option_map};
 ghost use Rattle.script_grammar.specs.Tree.{view, Negated, Inverted, Both};
 ghost use Rattle.script_grammar.specs.Grammar.{tightness_of, has_every_atom};
 ghost use Rattle.script_parser.specs.Model.Steps.{Gives};
-ghost use Rattle.script_parser.specs.Model.Expressions.{checked, closed_at, operator_in, operator_at, operands_at, atom_at, unary_at, level_at, inside_at, expr_in};
+ghost use Rattle.script_parser.specs.Model.Expressions.{checked, closed_at, operator_in, operator_at, most_operators, operands_at, atom_at, unary_at, level_at, inside_at, expr_in};
 
 use crate::fault::{Kind, ReadError};
 use crate::limits::NESTING;
@@ -215,9 +215,15 @@ fn unary<'a>(
     }
 }
 
-// An expression whose operators bind at least as tightly.
+// How many operators of one tightness may follow one another.
+fn most_operators(tightness: u32) -> u32
+    ensures { result ≡ most_operators NESTING tightness }
+{
+    if tightness == 3 { 1 } else { NESTING }
+}
+
+// An expression whose operators bind at least as tightly. A level without an operator costs one look at the next token.
 #[cycle(expression)]
-#[tactic(auto, unfolding(crate::specs::Model::Expressions::level_at))]
 fn level(
     alloc: Global,
     atoms: Atoms,
@@ -227,12 +233,17 @@ fn level(
 ) -> Result<(Measured, Tokens<'_>), ReadError>
     ensures { Gives (λ x. (view x.0.expr, map piece x.1.now)) result (level_at atoms NESTING (inside_at atoms NESTING opens) loosest (map piece tokens.now)) }
 {
-    if loosest == 0 {
-        return unary(alloc, atoms, opens, NESTING - 1, tokens, tokens);
+    let (mut left, mut rest) = unary(alloc, atoms, opens, NESTING - 1, tokens, tokens)?;
+    for tighter in 0..loosest {
+        let tightness = tighter + 1;
+        if next_operator(tightness, rest).is_some() {
+            let most = most_operators(tightness);
+            let (next, after) = operands(alloc, atoms, opens, tightness, most, left, rest)?;
+            left = next;
+            rest = after;
+        }
     }
-    let (first, rest) = level(alloc, atoms, opens, loosest - 1, tokens)?;
-    let most = if loosest == 3 { 1 } else { NESTING };
-    operands(alloc, atoms, opens, loosest, most, first, rest)
+    Ok((left, rest))
 }
 
 // At most so many further operands, each after an operator of one tightness.

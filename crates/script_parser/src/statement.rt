@@ -1,6 +1,6 @@
 //! Statements and blocks, from tokens.
 
-ghost use Rattle.std.specs.Prelude.{◌≡◌, ◌-◌, map, length};
+ghost use Rattle.std.specs.Prelude.{◌≡◌, ◌-◌, ◌++◌, ◌∷◌, [], map, length, OnOk};
 ghost use Rattle.script_tokens.specs.Pieces.{piece};
 ghost use Rattle.script_grammar.specs.Tree.{view, view_head, view_stmt};
 ghost use Rattle.script_parser.specs.Model.Steps.{Gives};
@@ -13,7 +13,7 @@ use crate::limits::NESTING;
 use crate::one_token::{Tokens, closing_brace, name, refused, sign};
 use script_grammar::{Atoms, Expr, Head, Region, Stmt};
 use script_tokens::{Keyword, Mark, Token};
-use std::alloc::Global;
+use std::alloc::{AllocError, Global};
 
 // The region that the head's block is.
 fn region_of(head: &Head, region: Region) -> Region
@@ -130,6 +130,17 @@ fn stmt(
     }
 }
 
+// Puts a statement after the others. A block within others often holds one, so the first takes no room for more.
+fn add_stmt(stmts: &mut Vec<Stmt>, stmt: Stmt) -> Result<(), AllocError>
+    ensures { OnOk result (stmts.new.items ≡ stmts.old.items ++ stmt ∷ []) }
+{
+    if stmts.is_empty() {
+        stmts.reserve_exact(1)?;
+    }
+    stmts.push(stmt)?;
+    Ok(())
+}
+
 // The statements up to the closing brace, which is taken too.
 #[cycle(statement)]
 fn statements(
@@ -148,7 +159,7 @@ fn statements(
             None => {}
         }
         let (next, after) = stmt(alloc, region, blocks, rest)?;
-        stmts.push(next)?;
+        add_stmt(&mut stmts, next)?;
         rest = after;
     }
     Err(refused(Kind::EndsEarly, rest))

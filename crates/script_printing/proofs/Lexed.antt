@@ -13,7 +13,8 @@ use Rattle.script_tokens.specs.declared.mark.Mark.TheVariants as mark
 use Rattle.script_tokens.specs.Bytes.{is_space, is_digit, is_letter, is_name_byte}
 use Rattle.script_tokens.specs.Pieces.{Piece, Num, Huge, Name, Key, Sign, Stray}
 use Rattle.script_tokens.specs.Lexes.{decimal_behind, number_of, word_as, word_of, mark_at, front_at, front_of, Lexes, at_end, separated, next_is}
-use Rattle.script_printing.specs.Words.{text_of_keyword, text_of_mark, text_of}
+use Rattle.script_tokens.specs.Spelling.{spelling, mark_spelling}
+use Rattle.script_printing.specs.Words.{text_of}
 use Rattle.script_printing.specs.Readable.{IsWord, IsReadable}
 use Rattle.script_printing.specs.Printed.{spaced, line_of, printed}
 use Rattle.script_printing.specs.Script.{ScriptTree, declarations_of}
@@ -24,22 +25,22 @@ abbrev Breaks : List ℕ → Type 0
 Breaks [] = ⊥
 Breaks (b ∷ bs) = (b ≡ 32) ⊎ (b ≡ 10)
 
-pub mark_space : (m : Mark) (bs : List ℕ) → front_of (text_of_mark m ++ 32 ∷ bs) ≡ (Some (Sign m), 32 ∷ bs)
+pub mark_space : (m : Mark) (bs : List ℕ) → front_of (mark_spelling m ++ 32 ∷ bs) ≡ (Some (Sign m), 32 ∷ bs)
 unfolding front_at mark_at
 mark_space mark.Open bs = refl
 mark_space _ bs = refl
 
-pub mark_feed : (m : Mark) (bs : List ℕ) → front_of (text_of_mark m ++ 10 ∷ bs) ≡ (Some (Sign m), 10 ∷ bs)
+pub mark_feed : (m : Mark) (bs : List ℕ) → front_of (mark_spelling m ++ 10 ∷ bs) ≡ (Some (Sign m), 10 ∷ bs)
 unfolding front_at mark_at
 mark_feed mark.Open bs = refl
 mark_feed _ bs = refl
 
-pub keyword_space : (k : Keyword) (bs : List ℕ) → front_of (text_of_keyword k ++ 32 ∷ bs) ≡ (Some (Key k), 32 ∷ bs)
+pub keyword_space : (k : Keyword) (bs : List ℕ) → front_of (spelling k ++ 32 ∷ bs) ≡ (Some (Key k), 32 ∷ bs)
 unfolding front_at word_of
 keyword_space key.Add bs = refl
 keyword_space _ bs = refl
 
-pub keyword_feed : (k : Keyword) (bs : List ℕ) → front_of (text_of_keyword k ++ 10 ∷ bs) ≡ (Some (Key k), 10 ∷ bs)
+pub keyword_feed : (k : Keyword) (bs : List ℕ) → front_of (spelling k ++ 10 ∷ bs) ≡ (Some (Key k), 10 ∷ bs)
 unfolding front_at word_of
 keyword_feed key.Add bs = refl
 keyword_feed _ bs = refl
@@ -90,11 +91,11 @@ pub numerals : IsNumeralModel (λ ds. list_all is_digit ds ≡ true) (decimal_be
 numerals = numerals_by_fold _ (search rules) decimal_behind (search rules)
 
 -- a keyword or a mark
-keyword_front : (k : Keyword) (bs : List ℕ) → Breaks bs → front_of (text_of_keyword k ++ bs) ≡ (Some (Key k), bs)
+keyword_front : (k : Keyword) (bs : List ℕ) → Breaks bs → front_of (spelling k ++ bs) ≡ (Some (Key k), bs)
 keyword_front k [] h = absurd h
 keyword_front k (b ∷ bs) h = elim h [ inl e ↦ rw e (keyword_space k bs) | inr e ↦ rw e (keyword_feed k bs) ]
 
-mark_front : (m : Mark) (bs : List ℕ) → Breaks bs → front_of (text_of_mark m ++ bs) ≡ (Some (Sign m), bs)
+mark_front : (m : Mark) (bs : List ℕ) → Breaks bs → front_of (mark_spelling m ++ bs) ≡ (Some (Sign m), bs)
 mark_front m [] h = absurd h
 mark_front m (b ∷ bs) h = elim h [ inl e ↦ rw e (mark_space m bs) | inr e ↦ rw e (mark_feed m bs) ]
 

@@ -18,7 +18,8 @@ use Rattle.script_printing.specs.Script.{ScriptTree, declarations_of}
 use Rattle.script_printing.specs.Pieces.{pieces_of_decl, pieces_of_script}
 use Rattle.script_printing.specs.Printed.{spaced, line_of, printed}
 use Rattle.script_printing.specs.Readable.{IsReadable}
-use Rattle.script_printing.specs.Words.{text_of_keyword, text_of_mark, text_of}
+use Rattle.script_tokens.specs.Spelling.{spelling, mark_spelling}
+use Rattle.script_printing.specs.Words.{text_of}
 use Rattle.script_printing.proofs.Lexed.{All-front, All-back, both_true, numerals}
 
 -- texts after one another are a text
@@ -38,11 +39,11 @@ name_byte_is_text b h = grind (arith, nat_tests)
 digit_is_text : (b : ℕ) → is_digit b ≡ true → is_text_byte b ≡ true
 digit_is_text b h = grind (arith, nat_tests)
 
-mark_is_text : (m : Mark) → is_text (text_of_mark m) ≡ true
+mark_is_text : (m : Mark) → is_text (mark_spelling m) ≡ true
 mark_is_text mark.Open = refl
 mark_is_text _ = refl
 
-keyword_is_text : (k : Keyword) → is_text (text_of_keyword k) ≡ true
+keyword_is_text : (k : Keyword) → is_text (spelling k) ≡ true
 keyword_is_text key.Add = refl
 keyword_is_text _ = refl
 

@@ -19,8 +19,6 @@ mod script;
 mod statement;
 // One token.
 mod token;
-// How keywords and marks are written.
-mod word;
 
 pub use laws::{
     one_printed_form, printed_is_ascii, printed_is_text, printed_lexes, printed_reads_back,

@@ -7,7 +7,6 @@ ghost use Rattle.script_printing.specs.Pieces.{assigned};
 ghost use Rattle.script_printing.specs.Printed.{after, line_of};
 
 use crate::token::{write_keyword, write_name, write_sign};
-use crate::word::keyword_text;
 use script_grammar::Name;
 use script_tokens::{Keyword, Mark};
 use std::alloc::AllocError;
@@ -63,7 +62,7 @@ pub(crate) fn write_line<T: Write>(
 ) -> Result<(), AllocError>
     ensures { OnOk result (out.new.items ≡ out.old.items ++ line_of (Key keyword ∷ T.pieces (T.view part.now))) }
 {
-    out.extend_from_slice(keyword_text(keyword))?;
+    out.extend_from_slice(keyword.spelling())?;
     part.write(out)?;
     out.push(b'\n')?;
     Ok(())

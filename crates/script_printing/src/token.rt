@@ -5,7 +5,6 @@ ghost use Rattle.std.specs.Fmt.{decimal};
 ghost use Rattle.script_tokens.specs.Pieces.{Num, Name, Key, Sign};
 ghost use Rattle.script_printing.specs.Printed.{after};
 
-use crate::word::{keyword_text, mark_text};
 use script_tokens::{Keyword, Mark};
 use std::alloc::AllocError;
 
@@ -28,7 +27,7 @@ pub(crate) fn write_sign(out: &mut Vec<u8>, mark: Mark) -> Result<(), AllocError
     ensures { OnOk result (out.new.items ≡ after out.old.items (Sign mark ∷ [])) }
 {
     out.push(b' ')?;
-    out.extend_from_slice(mark_text(mark))
+    out.extend_from_slice(mark.spelling())
 }
 
 #[tactic(auto, unfolding(crate::specs::Printed::after))]
@@ -36,7 +35,7 @@ pub(crate) fn write_keyword(out: &mut Vec<u8>, keyword: Keyword) -> Result<(), A
     ensures { OnOk result (out.new.items ≡ after out.old.items (Key keyword ∷ [])) }
 {
     out.push(b' ')?;
-    out.extend_from_slice(keyword_text(keyword))
+    out.extend_from_slice(keyword.spelling())
 }
 
 #[tactic(auto, unfolding(crate::specs::Printed::after))]

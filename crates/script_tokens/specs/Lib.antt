@@ -3,3 +3,4 @@ pub mod Keywords
 pub mod Lexes
 pub mod Lines
 pub mod Pieces
+pub mod Spelling

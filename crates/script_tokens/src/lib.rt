@@ -19,6 +19,8 @@ mod mark;
 mod number;
 // All tokens of a text.
 mod read;
+// How keywords and marks are spelled.
+mod spelling;
 // Bytes that no script may contain.
 mod stray;
 // One token.

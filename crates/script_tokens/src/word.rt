@@ -46,11 +46,11 @@ fn same(a: &[u8], b: &[u8]) -> bool
 fn of_two(word: &[u8]) -> Option<Keyword>
     ensures { result ≡ keyword_of_two word.now }
 {
-    if same(word, b"at") {
+    if same(word, Keyword::At.spelling()) {
         Some(Keyword::At)
-    } else if same(word, b"if") {
+    } else if same(word, Keyword::If.spelling()) {
         Some(Keyword::If)
-    } else if same(word, b"on") {
+    } else if same(word, Keyword::On.spelling()) {
         Some(Keyword::On)
     } else {
         None
@@ -60,13 +60,13 @@ fn of_two(word: &[u8]) -> Option<Keyword>
 fn of_three(word: &[u8]) -> Option<Keyword>
     ensures { result ≡ keyword_of_three word.now }
 {
-    if same(word, b"add") {
+    if same(word, Keyword::Add.spelling()) {
         Some(Keyword::Add)
-    } else if same(word, b"let") {
+    } else if same(word, Keyword::Let.spelling()) {
         Some(Keyword::Let)
-    } else if same(word, b"low") {
+    } else if same(word, Keyword::Low.spelling()) {
         Some(Keyword::Low)
-    } else if same(word, b"var") {
+    } else if same(word, Keyword::Var.spelling()) {
         Some(Keyword::Var)
     } else {
         None
@@ -76,21 +76,21 @@ fn of_three(word: &[u8]) -> Option<Keyword>
 fn of_four(word: &[u8]) -> Option<Keyword>
     ensures { result ≡ keyword_of_four word.now }
 {
-    if same(word, b"bind") {
+    if same(word, Keyword::Bind.spelling()) {
         Some(Keyword::Bind)
-    } else if same(word, b"else") {
+    } else if same(word, Keyword::Else.spelling()) {
         Some(Keyword::Else)
-    } else if same(word, b"fifo") {
+    } else if same(word, Keyword::Fifo.spelling()) {
         Some(Keyword::Fifo)
-    } else if same(word, b"func") {
+    } else if same(word, Keyword::Func.spelling()) {
         Some(Keyword::Func)
-    } else if same(word, b"high") {
+    } else if same(word, Keyword::High.spelling()) {
         Some(Keyword::High)
-    } else if same(word, b"next") {
+    } else if same(word, Keyword::Next.spelling()) {
         Some(Keyword::Next)
-    } else if same(word, b"root") {
+    } else if same(word, Keyword::Root.spelling()) {
         Some(Keyword::Root)
-    } else if same(word, b"task") {
+    } else if same(word, Keyword::Task.spelling()) {
         Some(Keyword::Task)
     } else {
         None
@@ -100,23 +100,23 @@ fn of_four(word: &[u8]) -> Option<Keyword>
 fn of_five(word: &[u8]) -> Option<Keyword>
     ensures { result ≡ keyword_of_five word.now }
 {
-    if same(word, b"actor") {
+    if same(word, Keyword::Actor.spelling()) {
         Some(Keyword::Actor)
-    } else if same(word, b"await") {
+    } else if same(word, Keyword::Await.spelling()) {
         Some(Keyword::Await)
-    } else if same(word, b"check") {
+    } else if same(word, Keyword::Check.spelling()) {
         Some(Keyword::Check)
-    } else if same(word, b"group") {
+    } else if same(word, Keyword::Group.spelling()) {
         Some(Keyword::Group)
-    } else if same(word, b"local") {
+    } else if same(word, Keyword::Local.spelling()) {
         Some(Keyword::Local)
-    } else if same(word, b"spawn") {
+    } else if same(word, Keyword::Spawn.spelling()) {
         Some(Keyword::Spawn)
-    } else if same(word, b"throw") {
+    } else if same(word, Keyword::Throw.spelling()) {
         Some(Keyword::Throw)
-    } else if same(word, b"while") {
+    } else if same(word, Keyword::While.spelling()) {
         Some(Keyword::While)
-    } else if same(word, b"yield") {
+    } else if same(word, Keyword::Yield.spelling()) {
         Some(Keyword::Yield)
     } else {
         None
@@ -126,19 +126,19 @@ fn of_five(word: &[u8]) -> Option<Keyword>
 fn of_six(word: &[u8]) -> Option<Keyword>
     ensures { result ≡ keyword_of_six word.now }
 {
-    if same(word, b"assume") {
+    if same(word, Keyword::Assume.spelling()) {
         Some(Keyword::Assume)
-    } else if same(word, b"cancel") {
+    } else if same(word, Keyword::Cancel.spelling()) {
         Some(Keyword::Cancel)
-    } else if same(word, b"detach") {
+    } else if same(word, Keyword::Detach.spelling()) {
         Some(Keyword::Detach)
-    } else if same(word, b"medium") {
+    } else if same(word, Keyword::Medium.spelling()) {
         Some(Keyword::Medium)
-    } else if same(word, b"pinned") {
+    } else if same(word, Keyword::Pinned.spelling()) {
         Some(Keyword::Pinned)
-    } else if same(word, b"return") {
+    } else if same(word, Keyword::Return.spelling()) {
         Some(Keyword::Return)
-    } else if same(word, b"unless") {
+    } else if same(word, Keyword::Unless.spelling()) {
         Some(Keyword::Unless)
     } else {
         None
@@ -148,9 +148,9 @@ fn of_six(word: &[u8]) -> Option<Keyword>
 fn of_eight(word: &[u8]) -> Option<Keyword>
     ensures { result ≡ keyword_of_eight word.now }
 {
-    if same(word, b"executor") {
+    if same(word, Keyword::Executor.spelling()) {
         Some(Keyword::Executor)
-    } else if same(word, b"priority") {
+    } else if same(word, Keyword::Priority.spelling()) {
         Some(Keyword::Priority)
     } else {
         None
@@ -160,9 +160,9 @@ fn of_eight(word: &[u8]) -> Option<Keyword>
 fn of_nine(word: &[u8]) -> Option<Keyword>
     ensures { result ≡ keyword_of_nine word.now }
 {
-    if same(word, b"cancelled") {
+    if same(word, Keyword::Cancelled.spelling()) {
         Some(Keyword::Cancelled)
-    } else if same(word, b"invariant") {
+    } else if same(word, Keyword::Invariant.spelling()) {
         Some(Keyword::Invariant)
     } else {
         None
@@ -172,7 +172,7 @@ fn of_nine(word: &[u8]) -> Option<Keyword>
 fn of_ten(word: &[u8]) -> Option<Keyword>
     ensures { result ≡ keyword_of_ten word.now }
 {
-    if same(word, b"background") {
+    if same(word, Keyword::Background.spelling()) {
         Some(Keyword::Background)
     } else {
         None

@@ -10,7 +10,5 @@ mod lists;
 
 // The methods that lead to a wait.
 mod marks;
-#[cfg(test)]
-mod tests;
 
 pub use first::{Edge, Wait, first_waiting};

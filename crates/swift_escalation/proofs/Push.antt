@@ -1,9 +1,9 @@
 -- Levels and edges after a push.
 use Rattle.std.proofs.Common.{◌≡◌, ℕ, zero, suc, ◌≤◌, ◌<◌, ◌⊎◌, List, Option, None, [], ◌∷◌, ◌++◌, length, get_or, refl, ap, sym, subst, ◌∙◌, inl, inr, arith}
 use Rattle.std.proofs.lemmas.List.{get_or_append_left, get_or_push, length_push}
-use Rattle.std.proofs.lemmas.Bool.{cases_lt}
+use Rattle.std.proofs.lemmas.Bool.{cases_lt, cond_below, cond_above}
 use Rattle.swift_types.specs.Priority.{rank}
-use Rattle.swift_escalation.specs.Levels.{level_of, edge_at, end_of, AreChained, IsSettled, IsSettledBut}
+use Rattle.swift_escalation.specs.Levels.{level_of, higher, edge_at, end_of, AreChained, IsSettled, IsSettledBut}
 use Rattle.swift_types.specs.declared.priority.Priority.{Priority}
 use Rattle.swift_types.specs.declared.priority.Priority.TheVariants.{Background}
 use Rattle.swift_escalation.specs.declared.graph.Edge.{Edge}
@@ -20,12 +20,30 @@ edge_at-push_old es e k h = get_or_append_left es (e ∷ []) _ k h
 pub edge_at-push_new : (es : List Edge) (e : Edge) (k : ℕ) → length es ≡ k → edge_at (es ++ e ∷ []) k ≡ e
 edge_at-push_new es e k h = get_or_push es e _ k h
 
--- each edge still leads up after a task and an edge to it were added, of the level of the edge's start
-pub settled_under : (es : List Edge) (xs : List Priority) (a : ℕ) → IsSettled es xs → ((k : ℕ) → k < length es → (edge_at es k).from < length xs)
+-- the more urgent of two priorities is the one or the other, and no less than either
+pub higher_cases : (p q : Priority) → ((higher p q ≡ p) × (rank q ≤ rank p)) ⊎ ((higher p q ≡ q) × (rank p ≤ rank q))
+higher_cases p q = elim (cases_lt (rank p) (rank q)) [
+  | inl lt ↦ inr (sym (cond_below (rank p) (rank q) q p lt), omega (arith, lt))
+  | inr ge ↦ inl (sym (cond_above (rank p) (rank q) q p p ge refl), ge)
+]
+
+pub higher_first : (p q : Priority) → rank p ≤ rank (higher p q)
+higher_first p q = elim (higher_cases p q) [
+  | inl w ↦ let e = ap rank w.0 in omega (arith, e)
+  | inr w ↦ let e = ap rank w.0 in let h = w.1 in omega (arith, e, h)
+]
+
+pub higher_second : (p q : Priority) → rank q ≤ rank (higher p q)
+higher_second p q = elim (higher_cases p q) [
+  | inl w ↦ let e = ap rank w.0 in let h = w.1 in omega (arith, e, h)
+  | inr w ↦ let e = ap rank w.0 in omega (arith, e)
+]
+
+-- each edge still leads up after a task and an edge to it were added, of the level of the edge's start at least
+pub settled_under : (es : List Edge) (xs : List Priority) (a : ℕ) (p : Priority) → level_of xs a ≤ rank p → IsSettled es xs → ((k : ℕ) → k < length es → (edge_at es k).from < length xs)
     → ((k : ℕ) → k < length es → (edge_at es k).to < length xs) → a < length xs
-    → IsSettled (es ++ (record { from = a; to = length xs }) ∷ []) (xs ++ get_or xs a Background ∷ [])
-settled_under es xs a s from to h k hk =
-    let p : Priority = get_or xs a Background in
+    → IsSettled (es ++ (record { from = a; to = length xs }) ∷ []) (xs ++ p ∷ [])
+settled_under es xs a p up s from to h k hk =
     let e : Edge = record { from = a; to = length xs } in
     let ys : List Priority = xs ++ p ∷ [] in
     let n = length_push es e in
@@ -33,7 +51,7 @@ settled_under es xs a s from to h k hk =
       | inl lt ↦ subst (λ (d : Edge). level_of ys d.from ≤ level_of ys d.to) (sym (edge_at-push_old es e k lt))
           (let f = level_of-push_old xs p (edge_at es k).from (from k lt) in let t = level_of-push_old xs p (edge_at es k).to (to k lt) in let u = s k lt in omega (arith, f, t, u))
       | inr ge ↦ subst (λ (d : Edge). level_of ys d.from ≤ level_of ys d.to) (sym (edge_at-push_new es e k (omega (arith, n, ge, hk))))
-          (let f = level_of-push_old xs p a h in let t = level_of-push_new xs p in omega (arith, f, t))
+          (let f = level_of-push_old xs p a h in let t = level_of-push_new xs p in omega (arith, f, t, up))
     ]
 
 -- a default that is pushed is read as before

@@ -8,10 +8,10 @@ use Rattle.std.specs.List.{slice_get, Contains}
 use Rattle.std.specs.Option.{IsSome}
 use Rattle.swift_types.specs.Priority.{rank}
 use Rattle.swift_types.specs.declared.id.TaskId.{TaskId}
-use Rattle.swift_escalation.specs.Levels.{level_of, edge_at, HasEdge, IsSettled, Walk, Settling}
+use Rattle.swift_escalation.specs.Levels.{level_of, higher, edge_at, HasEdge, IsSettled, Walk, Settling}
 use Rattle.swift_escalation.specs.Waits.{tasks_of, IsKnown, IsGiven, Leads, Reaches, IsPriority}
 use Rattle.swift_escalation.specs.WaitsInside.{IsOwn, StandsAt, HasReason, EdgeStands, LeadStands, AreOf}
-use Rattle.swift_escalation.proofs.Push.{level_of-push_old, level_of-push_new, edge_at-push_old, edge_at-push_new}
+use Rattle.swift_escalation.proofs.Push.{level_of-push_old, level_of-push_new, edge_at-push_old, edge_at-push_new, higher_cases, higher_second}
 use Rattle.swift_types.specs.declared.priority.Priority.{Priority}
 use Rattle.swift_types.specs.declared.priority.Priority.TheVariants.{Background, Low, Medium, High}
 use Rattle.swift_escalation.specs.declared.graph.Edge.{Edge}
@@ -55,7 +55,7 @@ slice_get-push_cases (z ∷ zs) y (suc i) x h = elim (slice_get-push_cases zs y 
 pub tasks_of-append : (xs ys : List Event) → tasks_of (xs ++ ys) ≡ tasks_of xs ++ tasks_of ys
 tasks_of-append [] ys = refl
 tasks_of-append (Root t p ∷ xs) ys = ap (λ (s : List TaskId). t ∷ s) (tasks_of-append xs ys)
-tasks_of-append (Child t u ∷ xs) ys = ap (λ (s : List TaskId). t ∷ s) (tasks_of-append xs ys)
+tasks_of-append (Child t u p ∷ xs) ys = ap (λ (s : List TaskId). t ∷ s) (tasks_of-append xs ys)
 tasks_of-append (Free t p ∷ xs) ys = ap (λ (s : List TaskId). t ∷ s) (tasks_of-append xs ys)
 tasks_of-append (Wait u t ∷ xs) ys = tasks_of-append xs ys
 
@@ -65,31 +65,40 @@ known_from_stands es t i h = (i, slice_get_within (tasks_of es) i t h, get_or_fr
 pub stands_from_known : (es : List Event) (t : TaskId) → IsKnown es t → (i : ℕ) × StandsAt es t i
 stands_from_known es t c = (c.0, slice_get-get_or (tasks_of es) c.0 t c.1 ∙ ap Some c.2)
 
-given_more : (es fs : List Event) (s : TaskId) (q : Priority) → IsGiven es s q → IsGiven (es ++ fs) s q
-given_more es fs s q g = elim g [ inl c ↦ inl (Contains-append_left es fs (Root s q) c) | inr c ↦ inr (Contains-append_left es fs (Free s q) c) ]
+pub given_more : (es fs : List Event) (s : TaskId) (q : Priority) → IsGiven es s q → IsGiven (es ++ fs) s q
+given_more es fs s q g = elim g [
+  | inl c ↦ inl (Contains-append_left es fs (Root s q) c)
+  | inr (inl c) ↦ inr (inl (Contains-append_left es fs (Free s q) c))
+  | inr (inr c) ↦ inr (inr (c.0, Contains-append_left es fs (Child s c.0 q) c.1))
+]
 
 given_last : (es fs : List Event) (s : TaskId) (q : Priority) → IsGiven fs s q → IsGiven (es ++ fs) s q
-given_last es fs s q g = elim g [ inl c ↦ inl (Contains-append_right es fs (Root s q) c) | inr c ↦ inr (Contains-append_right es fs (Free s q) c) ]
+given_last es fs s q g = elim g [
+  | inl c ↦ inl (Contains-append_right es fs (Root s q) c)
+  | inr (inl c) ↦ inr (inl (Contains-append_right es fs (Free s q) c))
+  | inr (inr c) ↦ inr (inr (c.0, Contains-append_right es fs (Child s c.0 q) c.1))
+]
 
 given_cases : (es fs : List Event) (s : TaskId) (q : Priority) → IsGiven (es ++ fs) s q → IsGiven es s q ⊎ IsGiven fs s q
 given_cases es fs s q g = elim g [
   | inl c ↦ elim (Contains-append_cases es fs (Root s q) c) [ inl d ↦ inl (inl d) | inr d ↦ inr (inl d) ]
-  | inr c ↦ elim (Contains-append_cases es fs (Free s q) c) [ inl d ↦ inl (inr d) | inr d ↦ inr (inr d) ]
+  | inr (inl c) ↦ elim (Contains-append_cases es fs (Free s q) c) [ inl d ↦ inl (inr (inl d)) | inr d ↦ inr (inr (inl d)) ]
+  | inr (inr c) ↦ elim (Contains-append_cases es fs (Child s c.0 q) c.1) [ inl d ↦ inl (inr (inr (c.0, d))) | inr d ↦ inr (inr (inr (c.0, d))) ]
 ]
 
 leads_more : (es fs : List Event) (a b : TaskId) → Leads es a b → Leads (es ++ fs) a b
-leads_more es fs a b g = elim g [ inl c ↦ inl (Contains-append_left es fs (Child b a) c) | inr c ↦ inr (Contains-append_left es fs (Wait a b) c) ]
+leads_more es fs a b g = elim g [ inl c ↦ inl (c.0, Contains-append_left es fs (Child b a c.0) c.1) | inr c ↦ inr (Contains-append_left es fs (Wait a b) c) ]
 
 leads_last : (es fs : List Event) (a b : TaskId) → Leads fs a b → Leads (es ++ fs) a b
-leads_last es fs a b g = elim g [ inl c ↦ inl (Contains-append_right es fs (Child b a) c) | inr c ↦ inr (Contains-append_right es fs (Wait a b) c) ]
+leads_last es fs a b g = elim g [ inl c ↦ inl (c.0, Contains-append_right es fs (Child b a c.0) c.1) | inr c ↦ inr (Contains-append_right es fs (Wait a b) c) ]
 
 leads_cases : (es fs : List Event) (a b : TaskId) → Leads (es ++ fs) a b → Leads es a b ⊎ Leads fs a b
 leads_cases es fs a b g = elim g [
-  | inl c ↦ elim (Contains-append_cases es fs (Child b a) c) [ inl d ↦ inl (inl d) | inr d ↦ inr (inl d) ]
+  | inl c ↦ elim (Contains-append_cases es fs (Child b a c.0) c.1) [ inl d ↦ inl (inl (c.0, d)) | inr d ↦ inr (inl (c.0, d)) ]
   | inr c ↦ elim (Contains-append_cases es fs (Wait a b) c) [ inl d ↦ inl (inr d) | inr d ↦ inr (inr d) ]
 ]
 
-reaches_more : (es fs : List Event) (n : ℕ) (a b : TaskId) → Reaches es n a b → Reaches (es ++ fs) n a b
+pub reaches_more : (es fs : List Event) (n : ℕ) (a b : TaskId) → Reaches es n a b → Reaches (es ++ fs) n a b
 reaches_more es fs zero a b r = r
 reaches_more es fs (suc n) a b r = (r.0, reaches_more es fs n a r.0 r.1, leads_more es fs r.0 b r.2)
 
@@ -184,20 +193,22 @@ own_only (Root t p) t' p' h = record {
   own = inl (0, omega arith, ap (λ (x : TaskId). Root x p) h.0 ∙ ap (λ (x : Priority). Root t' x) h.1);
   given = λ s q g. elim g [
     | inl c ↦ let w = one_event (Root t p) (Root s q) c in (cc (w, h.0), cc (w, h.1))
-    | inr c ↦ absurd (cc (one_event (Root t p) (Free s q) c))
+    | inr (inl c) ↦ absurd (cc (one_event (Root t p) (Free s q) c))
+    | inr (inr c) ↦ absurd (cc (one_event (Root t p) (Child s c.0 q) c.1))
   ];
-  leads = λ a b g. elim g [ inl c ↦ cc (one_event (Root t p) (Child b a) c) | inr c ↦ cc (one_event (Root t p) (Wait a b) c) ];
+  leads = λ a b g. elim g [ inl c ↦ cc (one_event (Root t p) (Child b a c.0) c.1) | inr c ↦ cc (one_event (Root t p) (Wait a b) c) ];
 }
 own_only (Free t p) t' p' h = record {
   task = ap (λ (x : TaskId). x ∷ []) h.0;
-  own = inr (0, omega arith, ap (λ (x : TaskId). Free x p) h.0 ∙ ap (λ (x : Priority). Free t' x) h.1);
+  own = inr (inl (0, omega arith, ap (λ (x : TaskId). Free x p) h.0 ∙ ap (λ (x : Priority). Free t' x) h.1));
   given = λ s q g. elim g [
     | inl c ↦ absurd (cc (one_event (Free t p) (Root s q) c))
-    | inr c ↦ let w = one_event (Free t p) (Free s q) c in (cc (w, h.0), cc (w, h.1))
+    | inr (inl c) ↦ let w = one_event (Free t p) (Free s q) c in (cc (w, h.0), cc (w, h.1))
+    | inr (inr c) ↦ absurd (cc (one_event (Free t p) (Child s c.0 q) c.1))
   ];
-  leads = λ a b g. elim g [ inl c ↦ cc (one_event (Free t p) (Child b a) c) | inr c ↦ cc (one_event (Free t p) (Wait a b) c) ];
+  leads = λ a b g. elim g [ inl c ↦ cc (one_event (Free t p) (Child b a c.0) c.1) | inr c ↦ cc (one_event (Free t p) (Wait a b) c) ];
 }
-own_only (Child t u) t' p' h = absurd h
+own_only (Child t u p) t' p' h = absurd h
 own_only (Wait u t) t' p' h = absurd h
 
 pub are_of_own : (es : List Event) (place place' : TaskId → Option ℕ) (levels : List Priority) (edges : List Edge) (e : Event) (t : TaskId) (p : Priority)
@@ -260,17 +271,25 @@ has_edge_last edges a b =
     let same = edge_at-push_new edges d (length edges) refl in
     (length edges, (let n = length_push edges d in omega (arith, n)), ap (λ (x : Edge). x.from) same, ap (λ (x : Edge). x.to) same)
 
-child_leads : (t u a b : TaskId) → Leads (Child t u ∷ []) a b → (u ≡ a) × (t ≡ b)
-child_leads t u a b l = elim l [ inl c ↦ let w = one_event (Child t u) (Child b a) c in (cc w, cc w) | inr c ↦ absurd (cc (one_event (Child t u) (Wait a b) c)) ]
+child_leads : (t u : TaskId) (p : Priority) (a b : TaskId) → Leads (Child t u p ∷ []) a b → (u ≡ a) × (t ≡ b)
+child_leads t u p a b l = elim l [ inl c ↦ let w = one_event (Child t u p) (Child b a c.0) c.1 in (cc w, cc w) | inr c ↦ absurd (cc (one_event (Child t u p) (Wait a b) c)) ]
 
-child_gives : (t u s : TaskId) (q : Priority) → IsGiven (Child t u ∷ []) s q → ⊥
-child_gives t u s q g = elim g [ inl c ↦ cc (one_event (Child t u) (Root s q) c) | inr c ↦ cc (one_event (Child t u) (Free s q) c) ]
+child_gives : (t u : TaskId) (p : Priority) (s : TaskId) (q : Priority) → IsGiven (Child t u p ∷ []) s q → (t ≡ s) × (p ≡ q)
+child_gives t u p s q g = elim g [
+  | inl c ↦ absurd (cc (one_event (Child t u p) (Root s q) c))
+  | inr (inl c) ↦ absurd (cc (one_event (Child t u p) (Free s q) c))
+  | inr (inr c) ↦ let w = one_event (Child t u p) (Child s c.0 q) c.1 in (cc w, cc w)
+]
 
 wait_leads : (u t a b : TaskId) → Leads (Wait u t ∷ []) a b → (u ≡ a) × (t ≡ b)
-wait_leads u t a b l = elim l [ inl c ↦ absurd (cc (one_event (Wait u t) (Child b a) c)) | inr c ↦ let w = one_event (Wait u t) (Wait a b) c in (cc w, cc w) ]
+wait_leads u t a b l = elim l [ inl c ↦ absurd (cc (one_event (Wait u t) (Child b a c.0) c.1)) | inr c ↦ let w = one_event (Wait u t) (Wait a b) c in (cc w, cc w) ]
 
 wait_gives : (u t s : TaskId) (q : Priority) → IsGiven (Wait u t ∷ []) s q → ⊥
-wait_gives u t s q g = elim g [ inl c ↦ cc (one_event (Wait u t) (Root s q) c) | inr c ↦ cc (one_event (Wait u t) (Free s q) c) ]
+wait_gives u t s q g = elim g [
+  | inl c ↦ cc (one_event (Wait u t) (Root s q) c)
+  | inr (inl c) ↦ cc (one_event (Wait u t) (Free s q) c)
+  | inr (inr c) ↦ cc (one_event (Wait u t) (Child s c.0 q) c.1)
+]
 
 lead_more : (es fs : List Event) (edges : List Edge) (d : Edge) (x y : TaskId) → LeadStands es edges x y → LeadStands (es ++ fs) (edges ++ d ∷ []) x y
 lead_more es fs edges d x y w = record { i = w.i; j = w.j; from = stands_more es fs x w.i w.from; to = stands_more es fs y w.j w.to; edge = has_edge_more edges d w.i w.j w.edge }
@@ -284,21 +303,22 @@ lead_last es edges i j u t x y su st e = record {
   edge = has_edge_last edges i j;
 }
 
-pub are_of_child : (es : List Event) (place place' : TaskId → Option ℕ) (levels : List Priority) (edges : List Edge) (t u : TaskId) (i : ℕ)
+pub are_of_child : (es : List Event) (place place' : TaskId → Option ℕ) (levels : List Priority) (edges : List Edge) (t u : TaskId) (own : Priority) (i : ℕ)
     → AreOf es place levels edges → StandsAt es u i → place t ≡ None → Added place place' t (length levels)
-    → AreOf (es ++ Child t u ∷ []) place' (levels ++ get_or levels i Background ∷ []) (edges ++ (record { from = i; to = length levels }) ∷ [])
-are_of_child es place place' levels edges t u i k above fresh a =
-    let fs : List Event = Child t u ∷ [] in
-    let p : Priority = get_or levels i Background in
+    → AreOf (es ++ Child t u own ∷ []) place' (levels ++ higher (get_or levels i Background) own ∷ []) (edges ++ (record { from = i; to = length levels }) ∷ [])
+are_of_child es place place' levels edges t u own i k above fresh a =
+    let fs : List Event = Child t u own ∷ [] in
+    let p : Priority = higher (get_or levels i Background) own in
     let d : Edge = record { from = i; to = length levels } in
     let names : tasks_of (es ++ fs) ≡ tasks_of es ++ t ∷ [] = tasks_of-append es fs in
     let stands : (q : TaskId) (j : ℕ) → slice_get (tasks_of es ++ t ∷ []) j ≡ Some q → StandsAt (es ++ fs) q j = λ q j h. subst (λ (s : List TaskId). slice_get s j ≡ Some q) (sym names) h in
     let stood : (q : TaskId) (j : ℕ) → StandsAt (es ++ fs) q j → slice_get (tasks_of es ++ t ∷ []) j ≡ Some q = λ q j h. subst (λ (s : List TaskId). slice_get s j ≡ Some q) names h in
     let last : StandsAt (es ++ fs) t (length levels) = subst (λ (n : ℕ). StandsAt (es ++ fs) t n) (sym k.count) (stands t (length (tasks_of es)) (slice_get-push_new (tasks_of es) t)) in
-    let newest : level_of (levels ++ p ∷ []) (length levels) ≡ level_of levels i = level_of-push_new levels p in
+    let newest : level_of (levels ++ p ∷ []) (length levels) ≡ rank p = level_of-push_new levels p in
     let older : (q : TaskId) (j : ℕ) → StandsAt es q j → level_of (levels ++ p ∷ []) j ≡ level_of levels j = λ q j h. level_of-push_old levels p j (let w = slice_get_within (tasks_of es) j q h in let n = k.count in omega (arith, w, n)) in
     let up : StandsAt (es ++ fs) u i = stands_more es fs u i above in
-    let lead : Leads (es ++ fs) u t = leads_last es fs u t (inl (0, omega arith, refl)) in
+    let lead : Leads (es ++ fs) u t = leads_last es fs u t (inl (own, (0, omega arith, refl))) in
+    let given : IsGiven (es ++ fs) t own = given_last es fs t own (inr (inr (u, (0, omega arith, refl)))) in
     record {
       count = length_push levels p ∙ ap (λ (n : ℕ). n + 1) k.count ∙ sym (length_push (tasks_of es) t) ∙ ap length (sym names);
       found = λ q j h. stands q j (found_added (tasks_of es) place place' t (length levels) k.count a k.found q j h);
@@ -306,24 +326,23 @@ are_of_child es place place' levels edges t u i k above fresh a =
       edges_stand = edges_push (es ++ fs) edges d (λ j h. edge_stands_more es fs (edge_at edges j) (k.edges_stand j h)) (record { a = u; b = t; from = up; to = last; leads = lead });
       leads_stand = λ x y l. elim (leads_cases es fs x y l) [
         | inl w ↦ lead_more es fs edges d x y (k.leads_stand x y w)
-        | inr w ↦ lead_last (es ++ fs) edges i (length levels) u t x y up last (child_leads t u x y w)
+        | inr w ↦ lead_last (es ++ fs) edges i (length levels) u t x y up last (child_leads t u own x y w)
       ];
       given = λ s q g. elim (given_cases es fs s q g) [
         | inl w ↦ let e = k.given s q w in (e.0, stands_more es fs s e.0 e.1, (let l = older s e.0 e.1 in let m = e.2 in omega (arith, l, m)))
-        | inr w ↦ absurd (child_gives t u s q w)
+        | inr w ↦
+            let d = child_gives t u own s q w in
+            (length levels, subst (λ (x : TaskId). StandsAt (es ++ fs) x (length levels)) d.0 last, (let r = ap rank d.1 in let h = higher_second (get_or levels i Background) own in omega (arith, r, newest, h)))
       ];
       reasons = λ q j h. elim (slice_get-push_cases (tasks_of es) t j q (stood q j h)) [
         | inl w ↦ subst (λ (n : ℕ). HasReason (es ++ fs) q n) (sym (older q j w)) (reason_more es fs q (level_of levels j) (k.reasons q j w))
         | inr w ↦
             let r = reason_more es fs u (level_of levels i) (k.reasons u i above) in
-            subst (λ (x : TaskId). HasReason (es ++ fs) x (level_of (levels ++ p ∷ []) j)) w.1 (record {
-              from = r.from;
-              steps = suc r.steps;
-              priority = r.priority;
-              given = r.given;
-              reached = (u, r.reached, lead);
-              same = r.same ∙ sym (ap (λ (n : ℕ). level_of (levels ++ p ∷ []) n) (w.0 ∙ sym k.count) ∙ newest);
-            })
+            let here : level_of (levels ++ p ∷ []) j ≡ rank p = ap (λ (n : ℕ). level_of (levels ++ p ∷ []) n) (w.0 ∙ sym k.count) ∙ newest in
+            subst (λ (x : TaskId). HasReason (es ++ fs) x (level_of (levels ++ p ∷ []) j)) w.1 (elim (higher_cases (get_or levels i Background) own) [
+              | inl v ↦ record { from = r.from; steps = suc r.steps; priority = r.priority; given = r.given; reached = (u, r.reached, lead); same = r.same ∙ sym (here ∙ ap rank v.0) }
+              | inr v ↦ record { from = t; steps = 0; priority = own; given = given; reached = refl; same = sym (here ∙ ap rank v.0) }
+            ])
       ];
     }
 

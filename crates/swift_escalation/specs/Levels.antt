@@ -1,5 +1,5 @@
 -- What the graph keeps: tasks by place, edges by place. No public clause of the crate names these.
-use Rattle.std.specs.Prelude.{◌≡◌, ℕ, zero, suc, ◌+◌, ◌≤◌, ◌<◌, ◌⊎◌, List, Option, None, Some, length, slice_index_or, nat_lt, count_by, Contains, All}
+use Rattle.std.specs.Prelude.{◌≡◌, ℕ, zero, suc, ◌+◌, ◌≤◌, ◌<◌, ◌⊎◌, List, Option, None, Some, length, slice_index_or, nat_lt, if◌then◌else◌, count_by, Contains, All}
 use Rattle.swift_types.specs.Priority.{rank}
 use Rattle.swift_types.specs.declared.priority.Priority.{Priority}
 use Rattle.swift_types.specs.declared.priority.Priority.TheVariants.{Background}
@@ -8,6 +8,10 @@ use Rattle.swift_escalation.specs.declared.graph.Edge.{Edge}
 -- the rank of the task at a place
 abbrev pub level_of : List Priority → ℕ → ℕ
 level_of levels i = rank (slice_index_or levels i Background)
+
+-- the more urgent of two priorities
+abbrev pub higher : Priority → Priority → Priority
+higher p q = if nat_lt (rank p) (rank q) then q else p
 
 -- how many tasks are below a rank
 abbrev pub below : ℕ → List Priority → ℕ

@@ -2,3 +2,4 @@ pub mod Levels
 pub mod GraphInside
 pub mod Waits
 pub mod WaitsInside
+pub mod Laws

@@ -11,7 +11,7 @@ use Rattle.swift_escalation.specs.declared.waits.Event.TheVariants.{Root, Child,
 abbrev pub tasks_of : List Event → List TaskId
 tasks_of [] = []
 tasks_of (Root t p ∷ events) = t ∷ tasks_of events
-tasks_of (Child t parent ∷ events) = t ∷ tasks_of events
+tasks_of (Child t parent p ∷ events) = t ∷ tasks_of events
 tasks_of (Free t p ∷ events) = t ∷ tasks_of events
 tasks_of (Wait u t ∷ events) = tasks_of events
 
@@ -21,11 +21,11 @@ IsKnown events t = Contains (tasks_of events) t
 
 -- an event gives the task this priority of its own
 abbrev pub IsGiven : List Event → TaskId → Priority → Type 0
-IsGiven events t p = Contains events (Root t p) ⊎ Contains events (Free t p)
+IsGiven events t p = Contains events (Root t p) ⊎ Contains events (Free t p) ⊎ ((parent : TaskId) × Contains events (Child t parent p))
 
 -- one task leads to another if that is its child, or if it waits for that
 abbrev pub Leads : List Event → TaskId → TaskId → Type 0
-Leads events a b = Contains events (Child b a) ⊎ Contains events (Wait a b)
+Leads events a b = ((p : Priority) × Contains events (Child b a p)) ⊎ Contains events (Wait a b)
 
 -- from a one comes to b in n such steps
 abbrev pub Reaches : List Event → ℕ → TaskId → TaskId → Type 0

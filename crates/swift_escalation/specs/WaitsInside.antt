@@ -11,11 +11,11 @@ use Rattle.swift_escalation.specs.declared.waits.Event.{Event}
 use Rattle.swift_escalation.specs.declared.waits.Event.TheVariants.{Root, Child, Free, Wait}
 use Rattle.swift_escalation.specs.declared.waits.Waits.TheInside.{Inside}
 
--- the event adds the task and gives it this priority
+-- the event adds the task, which is no child, and gives it this priority
 abbrev pub IsOwn : Event → TaskId → Priority → Type 0
 IsOwn (Root t p) task priority = (t ≡ task) × (p ≡ priority)
 IsOwn (Free t p) task priority = (t ≡ task) × (p ≡ priority)
-IsOwn (Child t parent) task priority = ⊥
+IsOwn (Child t parent p) task priority = ⊥
 IsOwn (Wait u t) task priority = ⊥
 
 -- the task stands at the place

@@ -2,7 +2,7 @@
 
 ghost use Rattle.std.specs.Prelude.{◌≡◌, ℕ, ◌+◌, ◌-◌, ◌≤◌, ◌<◌, ◌⊎◌, ◌↔◌, [], ◌∷◌, ◌++◌, max, OnOk, OnErr, IsTrue, All, length, vec_len, vec_capacity, slice_index_or};
 ghost use Rattle.swift_types.specs.Priority.{rank};
-ghost use Rattle.swift_escalation.specs.Levels.{level_of, below, edge_at, AreChained, Raising, IsSettled, IsSettledBut, Settling};
+ghost use Rattle.swift_escalation.specs.Levels.{level_of, higher, below, edge_at, AreChained, Raising, IsSettled, IsSettledBut, Settling};
 
 use std::alloc::{AllocError, Global};
 use std::marker::Model;
@@ -13,6 +13,13 @@ fn is_below(one: Priority, other: Priority) -> bool
     ensures { IsTrue result ↔ (rank one < rank other) }
 {
     one.number() < other.number()
+}
+
+/// The more urgent of two priorities.
+fn more_urgent(one: Priority, other: Priority) -> Priority
+    ensures { result ≡ higher one other }
+{
+    if is_below(one, other) { other } else { one }
 }
 
 /// An edge from one task's place to another's.
@@ -214,13 +221,13 @@ impl Graph {
         self.room -= 1;
     }
 
-    /// Adds a task under another, of its level.
-    pub(crate) fn add_under(&mut self, parent: usize)
+    /// Adds a task under another, of its level or of this own level, whichever is higher.
+    pub(crate) fn add_under(&mut self, parent: usize, own: Priority)
         requires room { 0 < self.old.room }
         requires parent { parent < length self.old.levels }
-        ensures { self.new ≡ record { levels = self.old.levels ++ slice_index_or self.old.levels parent Priority.Background ∷ []; edges = self.old.edges ++ (record { from = parent; to = length self.old.levels }) ∷ []; room = self.old.room - 1 } }
+        ensures { self.new ≡ record { levels = self.old.levels ++ higher (slice_index_or self.old.levels parent Priority.Background) own ∷ []; edges = self.old.edges ++ (record { from = parent; to = length self.old.levels }) ∷ []; room = self.old.room - 1 } }
     {
-        let level = self.levels[parent];
+        let level = more_urgent(self.levels[parent], own);
         let place = self.levels.len();
         let Ok(()) = self.levels.push(level) else {
             unreachable!()

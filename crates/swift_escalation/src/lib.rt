@@ -4,6 +4,9 @@
 // Tasks by place, with their levels, which are raised along edges.
 mod graph;
 
+// What holds of the definitions.
+pub mod laws;
+
 // The events so far, and each task's priority by them.
 mod waits;
 

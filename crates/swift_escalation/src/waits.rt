@@ -14,8 +14,8 @@ use swift_types::{Priority, TaskId};
 pub enum Event {
     /// A root task was added, with its priority.
     Root(TaskId, Priority),
-    /// A child was added to a task: the child, and its parent.
-    Child(TaskId, TaskId),
+    /// A child was added to a task: the child, its parent, and the priority that it was given of its own.
+    Child(TaskId, TaskId, Priority),
     /// A task that is no child was added, with its priority (an unstructured task).
     Free(TaskId, Priority),
     /// The first task waits for the second.
@@ -57,10 +57,10 @@ impl From<AllocError> for WaitsFault {
 
 /// The events so far, and each task's priority by them, which is read in constant time (SE-0304).
 ///
-/// A task's priority is the greatest of those that were given to roots and free tasks from which it is reached, along
-/// children and waits, itself included; so a wait raises the awaited task, its children, and what these wait for in
-/// turn, also where tasks wait in a ring (our own). Priorities never fall. In a clause it is the list of the events,
-/// and how many more calls are sure to find memory.
+/// A task's priority is the greatest of those that were given to tasks from which it is reached, along children and
+/// waits, itself included; so a wait raises the awaited task, its children, and what these wait for in turn, also where
+/// tasks wait in a ring (our own). Priorities never fall. In a clause it is the list of the events, and how many more
+/// calls are sure to find memory.
 #[derive(Drop)]
 pub struct Waits {
     events: Vec<Event>,
@@ -168,21 +168,21 @@ impl Waits {
         self.graph.add(priority);
     }
 
-    /// Records a new child of the task that stands at a place.
-    fn record_child(&mut self, task: TaskId, parent: TaskId, above: usize)
+    /// Records a new child of the task that stands at a place, with a priority of its own.
+    fn record_child(&mut self, task: TaskId, parent: TaskId, own: Priority, above: usize)
         requires above { StandsAt self.old.events parent above }
         requires fresh { IsKnown self.old.events task → ⊥ }
         requires room { 0 < self.old.reserved }
-        ensures { self.new ≡ with_event self.old (Event.Child task parent) }
+        ensures { self.new ≡ with_event self.old (Event.Child task parent own) }
     {
         let place = self.graph.len();
-        let Ok(()) = self.events.push(Event::Child(task, parent)) else {
+        let Ok(()) = self.events.push(Event::Child(task, parent, own)) else {
             unreachable!()
         };
         let Ok(_) = self.places.insert(task.0, place) else {
             unreachable!()
         };
-        self.graph.add_under(above);
+        self.graph.add_under(above, own);
     }
 
     /// Records a wait between the tasks that stand at two places.
@@ -222,10 +222,16 @@ impl Waits {
         self.add(Event::Free(task, priority), task, priority)
     }
 
-    /// Adds a child of a task, with its parent's priority. P1 where the parent is not known, P2 where the task is, P3
-    /// where there is no memory. Constant time, but for growth.
-    pub fn add_child(&mut self, task: TaskId, parent: TaskId) -> Result<(), WaitsFault>
-        ensures ok { OnOk result (self.new ≡ with_event self.old (Event.Child task parent)) }
+    /// Adds a child of a task, with a priority of its own (SE-0304). One that is no higher than its parent's has no
+    /// effect (our own); a higher one raises the child, and not its parent. P1 where the parent is not known, P2 where
+    /// the task is, P3 where there is no memory. Constant time, but for growth.
+    pub fn add_child(
+        &mut self,
+        task: TaskId,
+        parent: TaskId,
+        priority: Priority,
+    ) -> Result<(), WaitsFault>
+        ensures ok { OnOk result (self.new ≡ with_event self.old (Event.Child task parent priority)) }
         ensures err { OnErr result (self.new ≡ self.old) }
         ensures unknown { (result ≡ Err WaitsFault.Unknown) ↔ (IsKnown self.old.events parent → ⊥) }
         ensures known { (result ≡ Err WaitsFault.Known) ↔ (IsKnown self.old.events parent × IsKnown self.old.events task) }
@@ -238,7 +244,7 @@ impl Waits {
             return Err(WaitsFault::Known);
         }
         self.make_room()?;
-        self.record_child(task, parent, above);
+        self.record_child(task, parent, priority, above);
         Ok(())
     }
 

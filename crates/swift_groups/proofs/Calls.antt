@@ -14,11 +14,11 @@ use Rattle.swift_groups.specs.declared.group.Child.{Child as Added}
 use Rattle.swift_groups.specs.declared.group.Ended.{Ended}
 use Rattle.swift_groups.specs.declared.groups.Groups.TheInside.{Inside}
 use Rattle.swift_groups.specs.Groups.{GroupIs, GroupsIs, is_among, unfinished}
-use Rattle.swift_groups.specs.Answers.{if_new, if_unfinished, open_group, live_group, groups_after}
-use Rattle.swift_groups.specs.Inside.{open_in, live_in, added_of, ended_of}
+use Rattle.swift_groups.specs.Answers.{if_new, if_unfinished, any_group, open_group, live_group, groups_after}
+use Rattle.swift_groups.specs.Inside.{known_in, open_in, live_in, added_of, ended_of}
 use Rattle.swift_groups.specs.GroupsInside.{group_is, groups_from, groups_view}
 use Rattle.swift_groups.proofs.Lists.{set_same}
-use Rattle.swift_groups.proofs.Views.{view_set, view_push, open_ok, open_err, open_at, live_ok, live_err, live_at}
+use Rattle.swift_groups.proofs.Views.{view_set, view_push, known_ok, known_err, known_at, open_ok, open_err, open_at, live_ok, live_err, live_at}
 
 -- the group as contracts see it
 abbrev pub seen : Inside → ℕ → Group → GroupIs
@@ -50,6 +50,16 @@ found_live w v id gs g is same h =
       shown = ap (λ (x : GroupsIs). live_group x.groups id) (sym is) ∙ live_ok w.groups.items (added_of w.children.items) (ended_of w.endings.items) id g here;
     }
 
+pub found_any : (w : Inside) (v : GroupsIs) (id : GroupId) (gs : List Group) (g : Group) → groups_view w ≡ v → gs ≡ w.groups.items → Ok g ≡ known_in gs id.0 → IsFound w id g (any_group v.groups id)
+found_any w v id gs g is same h =
+    let here : known_in w.groups.items id.0 ≡ Ok g = ap (λ (s : List Group). known_in s id.0) (sym same) ∙ sym h in
+    let at = known_at w.groups.items id.0 g here in
+    record {
+      at = at;
+      within = slice_get_within w.groups.items id.0 g at;
+      shown = ap (λ (x : GroupsIs). any_group x.groups id) (sym is) ∙ known_ok w.groups.items (added_of w.children.items) (ended_of w.endings.items) id g here;
+    }
+
 -- a refusal
 pub refused_open : (w : Inside) (v : GroupsIs) (id : GroupId) (gs : List Group) (f : GroupFault) → groups_view w ≡ v → gs ≡ w.groups.items → Err f ≡ open_in gs id.0 → open_group v.groups id ≡ Err f
 refused_open w v id gs f is same h =
@@ -60,6 +70,11 @@ pub refused_live : (w : Inside) (v : GroupsIs) (id : GroupId) (gs : List Group) 
 refused_live w v id gs f is same h =
     ap (λ (x : GroupsIs). live_group x.groups id) (sym is)
     ∙ live_err w.groups.items (added_of w.children.items) (ended_of w.endings.items) id f (ap (λ (s : List Group). live_in s id.0) (sym same) ∙ sym h)
+
+pub refused_any : (w : Inside) (v : GroupsIs) (id : GroupId) (gs : List Group) (f : GroupFault) → groups_view w ≡ v → gs ≡ w.groups.items → Err f ≡ known_in gs id.0 → any_group v.groups id ≡ Err f
+refused_any w v id gs f is same h =
+    ap (λ (x : GroupsIs). any_group x.groups id) (sym is)
+    ∙ known_err w.groups.items (added_of w.children.items) (ended_of w.endings.items) id f (ap (λ (s : List Group). known_in s id.0) (sym same) ∙ sym h)
 
 -- nothing changes where the call is refused
 pub kept_by_refusal : (v : GroupsIs) (id : GroupId) (F : GroupIs → GroupIs) (found : Result GroupIs GroupFault) (f : GroupFault) → found ≡ Err f

@@ -10,8 +10,8 @@ use Rattle.swift_groups.specs.declared.group.Stage.{Stage}
 use Rattle.swift_groups.specs.declared.group.Stage.TheVariants.{Open, Closing, Done}
 use Rattle.swift_groups.specs.declared.group.Group.{Group}
 use Rattle.swift_groups.specs.Groups.{GroupIs}
-use Rattle.swift_groups.specs.Answers.{if_open, if_live, open_group, live_group, open_if_opened, live_if_opened}
-use Rattle.swift_groups.specs.Inside.{open_in, live_in, open_found, live_found}
+use Rattle.swift_groups.specs.Answers.{if_open, if_live, any_group, open_group, live_group, any_if_opened, open_if_opened, live_if_opened}
+use Rattle.swift_groups.specs.Inside.{known_in, open_in, live_in, known_found, open_found, live_found}
 use Rattle.swift_groups.specs.GroupsInside.{group_is, groups_from}
 
 abbrev Added : Type 0
@@ -86,6 +86,17 @@ live_view gs a e id = option_cases (slice_get gs id.0)
     (λ h. ap live_if_opened (view_none gs a e id.0 h) ∙ sym (ap (λ (o : Option Group). shown (a id.0) (e id.0) (live_found o)) h))
     (λ g h. ap live_if_opened (view_some gs a e id.0 g h) ∙ shown_live g.stage g (a id.0) (e id.0) ∙ sym (ap (λ (o : Option Group). shown (a id.0) (e id.0) (live_found o)) h))
 
+known_view : (gs : List Group) (a : Added) (e : Endings) (id : GroupId) → any_group (groups_from gs a e) id ≡ shown (a id.0) (e id.0) (known_in gs id.0)
+known_view gs a e id = option_cases (slice_get gs id.0)
+    (λ h. ap any_if_opened (view_none gs a e id.0 h) ∙ sym (ap (λ (o : Option Group). shown (a id.0) (e id.0) (known_found o)) h))
+    (λ g h. ap any_if_opened (view_some gs a e id.0 g h) ∙ sym (ap (λ (o : Option Group). shown (a id.0) (e id.0) (known_found o)) h))
+
+pub known_ok : (gs : List Group) (a : Added) (e : Endings) (id : GroupId) (g : Group) → known_in gs id.0 ≡ Ok g → any_group (groups_from gs a e) id ≡ Ok (group_is g (a id.0) (e id.0))
+known_ok gs a e id g h = known_view gs a e id ∙ ap (shown (a id.0) (e id.0)) h
+
+pub known_err : (gs : List Group) (a : Added) (e : Endings) (id : GroupId) (f : GroupFault) → known_in gs id.0 ≡ Err f → any_group (groups_from gs a e) id ≡ Err f
+known_err gs a e id f h = known_view gs a e id ∙ ap (shown (a id.0) (e id.0)) h
+
 pub open_ok : (gs : List Group) (a : Added) (e : Endings) (id : GroupId) (g : Group) → open_in gs id.0 ≡ Ok g → open_group (groups_from gs a e) id ≡ Ok (group_is g (a id.0) (e id.0))
 open_ok gs a e id g h = open_view gs a e id ∙ ap (shown (a id.0) (e id.0)) h
 
@@ -108,6 +119,11 @@ stage_live : (s : Stage) (g x : Group) → if_live s g ≡ Ok x → g ≡ x
 stage_live Open g x h = cc h
 stage_live Closing g x h = cc h
 stage_live Done g x h = absurd (cc h)
+
+pub known_at : (gs : List Group) (i : ℕ) (g : Group) → known_in gs i ≡ Ok g → slice_get gs i ≡ Some g
+known_at gs i g h = option_cases (slice_get gs i)
+    (λ n. absurd (cc (h, ap known_found n)))
+    (λ x s. s ∙ ap Some (let same : Ok x ≡ Ok g = sym (ap known_found s) ∙ h in cc))
 
 pub open_at : (gs : List Group) (i : ℕ) (g : Group) → open_in gs i ≡ Ok g → slice_get gs i ≡ Some g
 open_at gs i g h = option_cases (slice_get gs i)

@@ -36,6 +36,14 @@ open_group groups id = open_if_opened (slice_get groups id.0)
 abbrev pub live_group : List GroupIs → GroupId → Result GroupIs GroupFault
 live_group groups id = live_if_opened (slice_get groups id.0)
 
+abbrev pub any_if_opened : Option GroupIs → Result GroupIs GroupFault
+any_if_opened None = Err Unknown
+any_if_opened (Some g) = Ok g
+
+-- The group of that number, however far it is: else G1.
+abbrev pub any_group : List GroupIs → GroupId → Result GroupIs GroupFault
+any_group groups id = any_if_opened (slice_get groups id.0)
+
 abbrev pub if_new : TaskId → Result GroupIs GroupFault → Result GroupIs GroupFault
 if_new t (Ok g) = if is_among g.added t then Err Child else Ok g
 if_new t (Err fault) = Err fault

@@ -1,5 +1,5 @@
 -- What the fields keep. No public clause names these.
-use Rattle.std.specs.Prelude.{◌≡◌, ℕ, suc, if◌then◌else◌, ◌==◌, ◌-◌, List, Option, None, Some, [], ◌∷◌, Result, Err, length, slice_get, slice_index_or}
+use Rattle.std.specs.Prelude.{◌≡◌, ℕ, suc, if◌then◌else◌, ◌==◌, ◌-◌, List, Option, None, Some, [], ◌∷◌, Result, Ok, Err, length, slice_get, slice_index_or}
 use Rattle.swift_types.specs.declared.id.TaskId.{TaskId}
 use Rattle.swift_types.specs.declared.outcome.Ending.{Ending}
 use Rattle.swift_groups.specs.declared.fault.GroupFault.{GroupFault}
@@ -17,11 +17,18 @@ abbrev pub live_found : Option Group → Result Group GroupFault
 live_found None = Err Unknown
 live_found (Some g) = if_live g.stage g
 
+abbrev pub known_found : Option Group → Result Group GroupFault
+known_found None = Err Unknown
+known_found (Some g) = Ok g
+
 abbrev pub open_in : List Group → ℕ → Result Group GroupFault
 open_in groups i = open_found (slice_get groups i)
 
 abbrev pub live_in : List Group → ℕ → Result Group GroupFault
 live_in groups i = live_found (slice_get groups i)
+
+abbrev pub known_in : List Group → ℕ → Result Group GroupFault
+known_in groups i = known_found (slice_get groups i)
 
 -- The children of a group, in order of adding.
 abbrev pub added_of : List Child → ℕ → List TaskId

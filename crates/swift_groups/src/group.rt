@@ -3,7 +3,7 @@
 ghost use Rattle.std.specs.Prelude.{◌≡◌, ℕ, true, if◌then◌else◌, Some, IsSome};
 ghost use Rattle.std.specs.HashMap.{get, spare};
 ghost use Rattle.swift_groups.specs.Keys.{same_key, unended};
-ghost use Rattle.swift_groups.specs.Inside.{open_in, live_in};
+ghost use Rattle.swift_groups.specs.Inside.{open_in, live_in, known_in};
 
 use crate::answer::GroupId;
 use crate::fault::GroupFault;
@@ -76,6 +76,16 @@ pub(crate) fn live_group(groups: &[Group], group: GroupId) -> Result<Group, Grou
         Stage::Open | Stage::Closing => Ok(*found),
         Stage::Done => Err(GroupFault::Closed),
     }
+}
+
+/// The group of that number, however far it is.
+pub(crate) fn known_group(groups: &[Group], group: GroupId) -> Result<Group, GroupFault>
+    ensures { result ≡ known_in groups.now group.0 }
+{
+    let Some(found) = groups.get(group.0) else {
+        return Err(GroupFault::Unknown);
+    };
+    Ok(*found)
 }
 
 /// What is marked of a child of a group: whether it has ended. Nothing where the task is no child of it.

@@ -5,7 +5,8 @@ ghost use Rattle.std.specs.Prelude.{◌≡◌, ◌≢◌, ◌+◌, ◌-◌, ◌<
 use crate::answer::{Close, GroupId, Next};
 use crate::fault::GroupFault;
 use crate::group::{
-    Child, Ended, Group, Stage, is_unfinished, live_group, mark_ended, mark_in, open_group,
+    Child, Ended, Group, Stage, is_unfinished, known_group, live_group, mark_ended, mark_in,
+    open_group,
 };
 use crate::queue::enqueue;
 use crate::room::make_room;
@@ -51,7 +52,7 @@ impl Groups {
     ghost use Rattle.swift_groups.specs.Groups.{opened_by, with_child, with_ending, as_cancelled};
     ghost use Rattle.swift_groups.specs.Next.{next_of, handed_on};
     ghost use Rattle.swift_groups.specs.Close.{close_of, closed_on};
-    ghost use Rattle.swift_groups.specs.Answers.{open_group, live_group, group_without, group_with_unfinished, accepted, answer, groups_after};
+    ghost use Rattle.swift_groups.specs.Answers.{any_group, open_group, live_group, group_without, group_with_unfinished, accepted, answer, groups_after};
 
     /// No groups. Takes no memory.
     pub fn new(alloc: Global) -> Self
@@ -244,6 +245,33 @@ impl Groups {
             ..found
         };
         Ok(Next::Result(ended.task, ended.ending))
+    }
+
+    /// What `next` would answer of an open group; nothing is handed out. G1, and G2 from the first `close` on.
+    pub fn peek_next(&self, group: GroupId) -> Result<Next, GroupFault>
+        ensures { result ≡ answer next_of (open_group self.now.groups group) }
+    {
+        let found = open_group(&self.groups, group)?;
+        match found.first {
+            Some(first) => {
+                let Ended { task, ending, .. } = self.endings[first];
+                Ok(Next::Result(task, ending))
+            }
+            None if found.unfinished == 0 => Ok(Next::Empty),
+            None => Ok(Next::Wait),
+        }
+    }
+
+    /// Whether each child of a group has ended, which is what `close` would answer of it; nothing is closed. Of a
+    /// group that is done this is `Done`. G1 is its only refusal.
+    pub fn peek_close(&self, group: GroupId) -> Result<Close, GroupFault>
+        ensures { result ≡ answer close_of (any_group self.now.groups group) }
+    {
+        let found = known_group(&self.groups, group)?;
+        match found.unfinished {
+            0 => Ok(Close::Done),
+            _ => Ok(Close::Wait),
+        }
     }
 
     /// Marks a group as cancelled, as a cancel of it or a fault in it does. G1, and G2 where it is done. Takes no

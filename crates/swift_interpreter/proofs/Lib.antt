@@ -4,3 +4,4 @@ pub mod Settling
 pub mod Turns
 pub mod Keeping
 pub mod KeptTurns
+pub mod AtOnce

@@ -15,6 +15,7 @@ use std::alloc::AllocError;
 use swift_types::Fault;
 
 // A group is opened, and the handle gets its number.
+#[inline(never)]
 pub fn open(turn: &mut TurnState, handle: u32, next: u32) -> Result<Option<Exit>, AllocError>
     ensures next { IfOk result (λ exit. (at : _) → next_of (state_of at turn.new) exit
         ≡ open_group handle (at next) (state_of at turn.old)) }
@@ -56,6 +57,7 @@ pub fn pop_group(groups: &mut Vec<u32>) -> Option<u32>
 }
 
 // A task or a group is cancelled, when the turn has ended.
+#[inline(never)]
 pub fn cancel(
     turn: &mut TurnState,
     cancelled: Cancelled,

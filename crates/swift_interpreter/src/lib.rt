@@ -1,6 +1,7 @@
 //! One turn of a frame: its statements, what is kept of it, and how it is undone.
 #![tactic(auto)]
 
+mod at_once;
 mod effect;
 mod exit;
 mod fail;

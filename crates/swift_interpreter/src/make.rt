@@ -15,6 +15,7 @@ use swift_locals::Bindings;
 use swift_types::{Fault, Priority};
 
 // A task is spawned, with the bindings that stand. Nothing to run means that an argument has overflowed.
+#[inline(never)]
 pub fn spawn(
     invocation: Option<Invocation>,
     outer: &Bindings,
@@ -41,6 +42,7 @@ pub fn spawn(
 }
 
 // A detached task is made, which has no bindings.
+#[inline(never)]
 pub fn detach(
     invocation: Option<Invocation>,
     turn: &mut TurnState,
@@ -60,6 +62,7 @@ pub fn detach(
 }
 
 // A child is added to the group of a handle, with the bindings that stand.
+#[inline(never)]
 pub fn add(
     invocation: Option<Invocation>,
     outer: &Bindings,

@@ -36,7 +36,8 @@ pub fn give(
 
 // An actor's field is set. Its row is saved before, if it is not yet.
 #[tactic(auto, using(crate::proofs::SavedLists::saved_set))]
-fn set_field(
+#[inline(always)]
+pub fn set_field(
     alloc: Global,
     fields: &mut Vec<Vec<i64>>,
     saved: &mut SavedRows,
@@ -53,6 +54,7 @@ fn set_field(
 
 // An actor's row is saved, if it is not yet.
 #[tactic(auto, using(crate::proofs::SavedLists::saved_same))]
+#[inline(always)]
 fn save_row(
     alloc: Global,
     fields: &[Vec<i64>],
@@ -79,6 +81,7 @@ fn row_at(fields: &[Vec<i64>], actor: u32) -> &[i64]
 }
 
 #[tactic(auto, using(crate::proofs::SavedLists::field_set, std::proofs::lemmas::List::set_past))]
+#[inline(always)]
 fn put_field(fields: &mut Vec<Vec<i64>>, place: FieldPlace, v: i64)
     ensures { rows_of fields.new.items ≡ set_field_of (rows_of fields.old.items) place v }
 {
@@ -88,6 +91,7 @@ fn put_field(fields: &mut Vec<Vec<i64>>, place: FieldPlace, v: i64)
 }
 
 // A place that is not there keeps nothing.
+#[inline(always)]
 pub fn put<T: Copy>(xs: &mut Vec<T>, k: u32, v: T)
     ensures { xs.new.items ≡ slice_set xs.old.items k v }
 {

@@ -5,6 +5,7 @@ ghost use Rattle.swift_interpreter.specs.Turn.{at_limit, end_of, turn as turn_of
 ghost use Rattle.swift_interpreter.specs.TurnStates.{fields_before, lent, played_of, state_of};
 ghost use Rattle.script_code.specs.Instructions.{Follows, first};
 
+use crate::at_once::step_at_once;
 use crate::exit::Exit;
 use crate::group::close;
 use crate::saved::SavedRows;
@@ -17,6 +18,7 @@ use swift_locals::Bindings;
 use swift_types::Fault;
 
 // At most `limit` steps.
+#[inline(never)]
 pub fn play<'a>(
     alloc: Global,
     instructions: &[Instruction],
@@ -32,6 +34,10 @@ pub fn play<'a>(
     ensures method { turn.new.frame.method ≡ turn.old.frame.method }
 {
     for used in 0..limit {
+        let done = step_at_once(alloc, instructions, turn, saved)?;
+        if done {
+            continue;
+        }
         settle(instructions, turn);
         if let Some(exit) = step(alloc, instructions, outer, env, turn, saved)? {
             return Ok(exit);

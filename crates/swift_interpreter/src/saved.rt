@@ -55,6 +55,7 @@ impl SavedRows {
     }
 
     /// Whether an actor's row is saved. Its cost is the number of rows.
+    #[inline(always)]
     pub fn has(&self, actor: u32) -> bool
         ensures { result ≡ is_saved self.now actor }
     {
@@ -62,6 +63,7 @@ impl SavedRows {
     }
 
     /// Saves an actor's row. Where memory runs out, the rows are as before.
+    #[inline(never)]
     pub fn save(&mut self, alloc: Global, actor: u32, row: &[i64]) -> Result<(), AllocError>
         ensures ok { OnOk result (self.new ≡ (actor, row.now) ∷ self.old) }
         ensures err { OnErr result (self.new ≡ self.old) }
@@ -98,6 +100,7 @@ impl SavedRows {
     }
 }
 
+#[inline(always)]
 fn has_row(rows: &[SavedRow], actor: u32) -> bool
     ensures { result ≡ is_saved (newest_first rows.now) actor }
 {
@@ -167,5 +170,8 @@ pub fn copy_into<T: Copy>(from: &[T], to: &mut Vec<T>) -> Result<(), AllocError>
     ensures { OnOk result (to.new.items ≡ from.now) }
 {
     to.clear();
+    if from.is_empty() {
+        return Ok(());
+    }
     to.extend_from_slice(from)
 }

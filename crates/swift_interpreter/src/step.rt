@@ -24,6 +24,7 @@ use swift_locals::Bindings;
 use swift_types::{Fault, LocalId};
 
 // One statement. None where the turn goes on.
+#[inline(never)]
 pub fn step<'a>(
     alloc: Global,
     instructions: &[Instruction],
@@ -170,6 +171,7 @@ fn check(cancelled: bool, turn: &mut TurnState, next: u32) -> Option<Exit>
 }
 
 // The turn ends by waiting.
+#[inline(never)]
 fn wait<'a>(
     alloc: Global,
     outer: &'a Bindings,
@@ -217,6 +219,7 @@ fn end_block(turn: &mut TurnState, next: u32) -> Option<Exit>
 }
 
 // A local is bound. Without a value the turn overflows.
+#[inline(never)]
 fn bind(
     v: Option<i64>,
     turn: &mut TurnState,

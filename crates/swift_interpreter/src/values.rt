@@ -14,6 +14,7 @@ use std::alloc::{AllocError, Global};
 use swift_locals::Bindings;
 
 // What a call runs. None where an argument has no value.
+#[inline(never)]
 pub fn invoke(
     alloc: Global,
     call: &Call,

@@ -7,17 +7,17 @@ use Rattle.swift_interpreter.specs.Turn.{EffectView, ExitView}
 use Rattle.swift_journal.specs.EffectWords.{effects_of, skip_effects}
 use Rattle.swift_journal.specs.Ends.{resume_of, skip_resume, exit_of, skip_exit}
 use Rattle.swift_journal.specs.FrameWords.{frame_of, skip_frame, frame_if_of, skip_frame_if}
-use Rattle.swift_journal.specs.JournalInside.{exit_part, frame_part, outer_part, after_part, effect_part, record_of}
+use Rattle.swift_journal.specs.JournalInside.{exit_part, frame_part, outer_part, effect_part, record_of}
 use Rattle.swift_journal.specs.Records.{RecordView}
 use Rattle.swift_journal.specs.Words.{ReadsBack, bindings_of, skip_bindings}
 use Rattle.swift_journal.specs.declared.stored.StoredEffect.{StoredEffect}
 use Rattle.swift_journal.specs.declared.stored.Head.{Head}
 
 -- the words of a turn, written one part after another
-pub chained : (w0 w1 w2 w3 w4 w5 w6 r e f o a x : List ℤ) → w0 ≡ [] → w1 ≡ w0 ++ r → w2 ≡ w1 ++ e → w3 ≡ w2 ++ f → w4 ≡ w3 ++ o → w5 ≡ w4 ++ a → w6 ≡ w5 ++ x
-    → w6 ≡ ((((r ++ e) ++ f) ++ o) ++ a) ++ x
-chained w0 w1 w2 w3 w4 w5 w6 r e f o a x e0 e1 e2 e3 e4 e5 e6 =
-    e6 ∙ ap (λ s. s ++ x) (e5 ∙ ap (λ s. s ++ a) (e4 ∙ ap (λ s. s ++ o) (e3 ∙ ap (λ s. s ++ f) (e2 ∙ ap (λ s. s ++ e) (e1 ∙ ap (λ s. s ++ r) e0)))))
+pub chained : (w0 w1 w2 w3 w4 w5 w6 r f o e a x : List ℤ) → w0 ≡ [] → w1 ≡ w0 ++ r → w2 ≡ w1 ++ f → w3 ≡ w2 ++ o → w4 ≡ w3 ++ e → w5 ≡ w4 ++ a → w6 ≡ w5 ++ x
+    → w6 ≡ ((((r ++ f) ++ o) ++ e) ++ a) ++ x
+chained w0 w1 w2 w3 w4 w5 w6 r f o e a x e0 e1 e2 e3 e4 e5 e6 =
+    e6 ∙ ap (λ s. s ++ x) (e5 ∙ ap (λ s. s ++ a) (e4 ∙ ap (λ s. s ++ e) (e3 ∙ ap (λ s. s ++ o) (e2 ∙ ap (λ s. s ++ f) (e1 ∙ ap (λ s. s ++ r) e0)))))
 
 -- a turn by its head, and by what its words say
 abbrev pub record_by : Head → FrameView → List (ℕ × ℤ) → Resume → ExitView → List EffectView → Option FrameView → RecordView
@@ -36,7 +36,7 @@ record_by h frame outer resume exit effects after = record {
 
 pub record_same : (h : Head) (es : List StoredEffect) (ws : List ℤ) (frame : FrameView) (outer : List (ℕ × ℤ)) (resume : Resume) (exit : ExitView) (effects : List EffectView) (after : Option FrameView)
     → frame_of h.frame (frame_part h ws) ≡ frame → bindings_of h.outer (outer_part h ws) ≡ outer → resume_of h.resume ws ≡ resume → exit_of h.exit (exit_part h ws) ≡ exit
-    → effects_of es (effect_part h ws) ≡ effects → frame_if_of h.after (after_part h ws) ≡ after
+    → effects_of es (effect_part h.exit h.after (exit_part h ws)) ≡ effects → frame_if_of h.after (skip_exit h.exit (exit_part h ws)) ≡ after
     → record_of h ws es ≡ record_by h frame outer resume exit effects after
 record_same h es ws frame outer resume exit effects after ef eo er ee ex ea =
     let r = record_of h ws es in
@@ -47,11 +47,11 @@ record_same h es ws frame outer resume exit effects after ef eo er ee ex ea =
     ∙ ap (λ (x : List EffectView). record_by h frame outer resume exit x r.after) ex
     ∙ ap (λ (x : Option FrameView). record_by h frame outer resume exit effects x) ea
 
-regroup : (r e f o a x : List ℤ) → ((((r ++ e) ++ f) ++ o) ++ a) ++ x ≡ r ++ (e ++ (f ++ (o ++ (a ++ x))))
-regroup r e f o a x = simp append_assoc
+regroup : (r f o e a x : List ℤ) → ((((r ++ f) ++ o) ++ e) ++ a) ++ x ≡ r ++ (f ++ (o ++ (e ++ (a ++ x))))
+regroup r f o e a x = simp append_assoc
 
 pub record_reads : (h : Head) (es : List StoredEffect) (frame : FrameView) (outer : List (ℕ × ℤ)) (resume : Resume) (exit : ExitView) (effects : List EffectView) (after : Option FrameView)
-    (r e f o a x ws : List ℤ) → ws ≡ ((((r ++ e) ++ f) ++ o) ++ a) ++ x
+    (r f o e a x ws : List ℤ) → ws ≡ ((((r ++ f) ++ o) ++ e) ++ a) ++ x
     → ReadsBack Resume (resume_of h.resume) (skip_resume h.resume) r resume
     → ReadsBack ExitView (exit_of h.exit) (skip_exit h.exit) e exit
     → ReadsBack FrameView (frame_of h.frame) (skip_frame h.frame) f frame
@@ -59,17 +59,17 @@ pub record_reads : (h : Head) (es : List StoredEffect) (frame : FrameView) (oute
     → ReadsBack (Option FrameView) (frame_if_of h.after) (skip_frame_if h.after) a after
     → ReadsBack (List EffectView) (effects_of es) (skip_effects es) x effects
     → record_of h ws es ≡ record_by h frame outer resume exit effects after
-record_reads h es frame outer resume exit effects after r e f o a x ws is kr ke kf ko ka kx =
-    let cut : ws ≡ r ++ (e ++ (f ++ (o ++ (a ++ x)))) = is ∙ regroup r e f o a x in
-    let p1 = ap (skip_resume h.resume) cut ∙ kr.leaves (e ++ (f ++ (o ++ (a ++ x)))) in
-    let p2 = ap (skip_exit h.exit) p1 ∙ ke.leaves (f ++ (o ++ (a ++ x))) in
-    let p3 = ap (skip_frame h.frame) p2 ∙ kf.leaves (o ++ (a ++ x)) in
-    let p4 = ap (skip_bindings h.outer) p3 ∙ ko.leaves (a ++ x) in
+record_reads h es frame outer resume exit effects after r f o e a x ws is kr ke kf ko ka kx =
+    let cut : ws ≡ r ++ (f ++ (o ++ (e ++ (a ++ x)))) = is ∙ regroup r f o e a x in
+    let p1 = ap (skip_resume h.resume) cut ∙ kr.leaves (f ++ (o ++ (e ++ (a ++ x)))) in
+    let p2 = ap (skip_frame h.frame) p1 ∙ kf.leaves (o ++ (e ++ (a ++ x))) in
+    let p3 = ap (skip_bindings h.outer) p2 ∙ ko.leaves (e ++ (a ++ x)) in
+    let p4 = ap (skip_exit h.exit) p3 ∙ ke.leaves (a ++ x) in
     let p5 = ap (skip_frame_if h.after) p4 ∙ ka.leaves x in
     record_same h es ws frame outer resume exit effects after
-    (ap (frame_of h.frame) p2 ∙ kf.reads (o ++ (a ++ x)))
-    (ap (bindings_of h.outer) p3 ∙ ko.reads (a ++ x))
-    (ap (resume_of h.resume) cut ∙ kr.reads (e ++ (f ++ (o ++ (a ++ x)))))
-    (ap (exit_of h.exit) p1 ∙ ke.reads (f ++ (o ++ (a ++ x))))
+    (ap (frame_of h.frame) p1 ∙ kf.reads (o ++ (e ++ (a ++ x))))
+    (ap (bindings_of h.outer) p2 ∙ ko.reads (e ++ (a ++ x)))
+    (ap (resume_of h.resume) cut ∙ kr.reads (f ++ (o ++ (e ++ (a ++ x)))))
+    (ap (exit_of h.exit) p3 ∙ ke.reads (a ++ x))
     (ap (effects_of es) p5 ∙ ap (effects_of es) (sym (append-nil x)) ∙ kx.reads [])
     (ap (frame_if_of h.after) p4 ∙ ka.reads x)

@@ -1,29 +1,30 @@
 -- What the fields of a journal say, and what they keep. No public clause names these.
-use Rattle.std.specs.Prelude.{ℕ, ℤ, ◌+◌, ◌≤◌, List, [], ◌∷◌, take, drop}
+use Rattle.std.specs.Prelude.{ℕ, ℤ, List, take, drop}
 use Rattle.swift_journal.specs.EffectWords.{effects_of}
 use Rattle.swift_journal.specs.Ends.{resume_of, skip_resume, exit_of, skip_exit}
 use Rattle.swift_journal.specs.FrameWords.{frame_of, skip_frame, frame_if_of, skip_frame_if}
+use Rattle.swift_journal.specs.Laid.{Span, read_at}
 use Rattle.swift_journal.specs.Records.{RecordView}
 use Rattle.swift_journal.specs.Words.{bindings_of, skip_bindings}
+use Rattle.swift_journal.specs.declared.stored.FrameHead.{FrameHead}
 use Rattle.swift_journal.specs.declared.stored.StoredEffect.{StoredEffect}
+use Rattle.swift_journal.specs.declared.stored.StoredExit.{StoredExit}
 use Rattle.swift_journal.specs.declared.stored.Head.{Head}
 
--- Of the words of a turn: what it begins with comes first, then how it ends, then its frame, the outer bindings, the frame
--- after it, and its effects.
-abbrev pub exit_part : Head → List ℤ → List ℤ
-exit_part h ws = skip_resume h.resume ws
-
+-- Of the words of a turn: what it begins with comes first, then its frame, the outer bindings, how it ends, the frame after
+-- it, and its effects.
 abbrev pub frame_part : Head → List ℤ → List ℤ
-frame_part h ws = skip_exit h.exit (exit_part h ws)
+frame_part h ws = skip_resume h.resume ws
 
 abbrev pub outer_part : Head → List ℤ → List ℤ
 outer_part h ws = skip_frame h.frame (frame_part h ws)
 
-abbrev pub after_part : Head → List ℤ → List ℤ
-after_part h ws = skip_bindings h.outer (outer_part h ws)
+abbrev pub exit_part : Head → List ℤ → List ℤ
+exit_part h ws = skip_bindings h.outer (outer_part h ws)
 
-abbrev pub effect_part : Head → List ℤ → List ℤ
-effect_part h ws = skip_frame_if h.after (after_part h ws)
+-- of the words from the exit on, those of the effects
+abbrev pub effect_part : StoredExit → FrameHead → List ℤ → List ℤ
+effect_part exit after ws = skip_frame_if after (skip_exit exit ws)
 
 -- a turn, by its head, its words and its effects
 abbrev pub record_of : Head → List ℤ → List StoredEffect → RecordView
@@ -36,11 +37,14 @@ record_of h ws es = record {
   resume = resume_of h.resume ws;
   env = record { priority = h.priority; cancelled = h.cancelled; room = h.room };
   exit = exit_of h.exit (exit_part h ws);
-  effects = effects_of es (effect_part h ws);
-  after = frame_if_of h.after (after_part h ws);
+  effects = effects_of es (effect_part h.exit h.after (exit_part h ws));
+  after = frame_if_of h.after (skip_exit h.exit (exit_part h ws));
 }
 
--- the words of a turn, and its effects
+-- where the words and the effects of a turn stand
+abbrev pub span_of : Head → Span
+span_of h = record { start = h.start; size = h.size; first_effect = h.first_effect; effects = h.effects }
+
 abbrev pub words_at : List ℤ → Head → List ℤ
 words_at words h = take h.size (drop h.start words)
 
@@ -48,9 +52,4 @@ abbrev pub effects_at : List StoredEffect → Head → List StoredEffect
 effects_at effects h = take h.effects (drop h.first_effect effects)
 
 abbrev pub record_at : List ℤ → List StoredEffect → Head → RecordView
-record_at words effects h = record_of h (words_at words h) (effects_at effects h)
-
--- With the newest turn first: each has its words and its effects before those of the next.
-abbrev pub AreLaid : List Head → ℕ → ℕ → Type 0
-AreLaid [] words effects = Unit {0}
-AreLaid (h ∷ older) words effects = (h.start + h.size ≤ words) × (h.first_effect + h.effects ≤ effects) × AreLaid older h.start h.first_effect
+record_at = read_at span_of record_of

@@ -1,6 +1,10 @@
+pub mod CheckpointInside
+pub mod Checkpoints
 pub mod EffectWords
 pub mod Ends
 pub mod FrameWords
 pub mod JournalInside
+pub mod Laid
 pub mod Records
+pub mod Replay
 pub mod Words

@@ -50,9 +50,9 @@ impl Draft {
         self.words.clear();
         self.effects.clear();
         let resume = write_resume(&mut self.words, turn.resume)?;
-        let exit = write_exit(&mut self.words, turn.exit)?;
         let frame = write_frame(&mut self.words, turn.frame)?;
         write_bindings(&mut self.words, turn.outer)?;
+        let exit = write_exit(&mut self.words, turn.exit)?;
         let after = write_after(&mut self.words, turn.after)?;
         write_effects(&mut self.words, &mut self.effects, turn.effects)?;
         Ok(Head {

@@ -7,7 +7,7 @@ use crate::draft::Draft;
 use crate::ends::{brief, resume};
 use crate::parts::{effects_of, env_of, exit_part, read_record, words_of};
 use crate::record::{OwnedRecord, Record};
-use crate::stored::{Head, StoredEffect};
+use crate::stored::{FrameHead, Head, StoredEffect, StoredExit};
 use script_code::Env;
 use std::alloc::{AllocError, Global};
 use std::marker::Model;
@@ -30,17 +30,20 @@ pub struct Journal {
 
 impl Model for Journal {
     ghost use Rattle.std.specs.Prelude.{List, length, map, reverse};
-    ghost use Rattle.swift_journal.specs.JournalInside.{record_at, AreLaid};
+    ghost use Rattle.swift_journal.specs.JournalInside.{record_at, span_of};
+    ghost use Rattle.swift_journal.specs.Laid.{AreLaid};
     ghost use Rattle.swift_journal.specs.Records.{RecordView};
 
     ghost Value = { List RecordView };
 
     ghost view = { λ j. map (record_at j.words.items j.effects.items) j.heads.items };
 
-    ghost invariant = { λ j. AreLaid (reverse j.heads.items) (length j.words.items) (length j.effects.items) };
+    ghost invariant = { λ j. AreLaid span_of (reverse j.heads.items) (length j.words.items) (length j.effects.items) };
 }
 
 impl Journal {
+    ghost use Rattle.swift_journal.specs.CheckpointInside.{ended_view};
+    ghost use Rattle.swift_journal.specs.Checkpoints.{folded_of};
     ghost use Rattle.swift_journal.specs.Records.{RecordView, brief_of, owned_view, record_view};
 
     /// An empty journal. It takes no memory.
@@ -93,6 +96,31 @@ impl Journal {
         }
     }
 
+    /// Drops all turns. It keeps their room.
+    pub(crate) fn clear(&mut self)
+        ensures { self.new ≡ [] }
+    {
+        self.heads.clear();
+        self.words.clear();
+        self.effects.clear();
+    }
+
+    /// What is kept of the turn at a place when it is folded.
+    pub(crate) fn ended(&self, place: usize) -> Ended<'_>
+        requires { place < length self.now }
+        ensures { (d : RecordView) → ended_view result ≡ folded_of (slice_index_or self.now place d) }
+    {
+        let head = &self.heads[place];
+        Ended {
+            task: head.task,
+            number: head.number,
+            exit: head.exit,
+            after: head.after,
+            words: exit_part(head, words_of(&self.words, head)),
+            effects: effects_of(&self.effects, head),
+        }
+    }
+
     /// The task of the turn at a place. Constant time, as the readers below.
     pub fn task(&self, place: usize) -> TaskId
         requires { place < length self.now }
@@ -142,7 +170,7 @@ impl Journal {
         env_of(&self.heads[place])
     }
 
-    /// How it ended, without the arguments of a call.
+    /// How it ended, without the arguments of a call. In time by the size of its frame.
     pub fn exit(&self, place: usize) -> BriefExit
         requires { place < length self.now }
         ensures { (d : RecordView) → result ≡ brief_of (slice_index_or self.now place d).exit }
@@ -160,6 +188,17 @@ impl Journal {
         let words = words_of(&self.words, head);
         read_record(alloc, head, words, effects_of(&self.effects, head))
     }
+}
+
+// What a journal has of a turn from its exit on: the words of the exit, of the frame after the turn and of the effects.
+#[derive(Clone, Copy)]
+pub struct Ended<'a> {
+    pub task: TaskId,
+    pub number: u32,
+    pub exit: StoredExit,
+    pub after: FrameHead,
+    pub words: &'a [i64],
+    pub effects: &'a [StoredEffect],
 }
 
 // Appends a turn to the lists of a journal. Where a growth is refused they are as they were.

@@ -1,17 +1,25 @@
-//! The journal of an executor: the turns that it has run, in order, in few bytes.
+//! The journal of an executor: the turns that it has run, in order, in few bytes; and its checkpoint, for turns that were
+//! folded.
 #![tactic(auto)]
 
 mod brief;
+mod checkpoint;
 mod draft;
 mod effects;
 mod ends;
+mod folded;
 mod frames;
 mod journal;
+/// Laws of journals.
+pub mod laws;
 mod parts;
 mod record;
 mod stored;
+mod turns;
 mod words;
 
 pub use brief::BriefExit;
+pub use checkpoint::Checkpoint;
+pub use folded::Folded;
 pub use journal::Journal;
 pub use record::{OwnedRecord, Record};

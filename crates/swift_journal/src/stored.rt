@@ -112,3 +112,22 @@ pub struct Head {
 
 // A turn takes no more than this beside its numbers.
 const _: () = prove!(size_of::<Head>() == 96);
+
+/// A turn that was folded, but for what stands among the numbers and among the effects.
+#[derive(Clone, Copy)]
+pub struct FoldedHead {
+    /// Where its numbers begin, and how many it has.
+    pub start: u32,
+    pub size: u32,
+    /// Where its effects begin, and how many it has.
+    pub first_effect: u32,
+    pub effects: u32,
+    /// The frame after the turn. None stands where the frame is left.
+    pub after: FrameHead,
+    pub task: TaskId,
+    pub number: u32,
+    pub exit: StoredExit,
+}
+
+// With the number of one variable it takes 64 bytes.
+const _: () = prove!(size_of::<FoldedHead>() == 56);

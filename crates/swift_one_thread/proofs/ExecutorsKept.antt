@@ -1,8 +1,8 @@
 -- The executors of a pool, and the bodies that may run there.
-use Rattle.std.proofs.Common.{◌≡◌, ℕ, zero, suc, ◌+◌, ◌<◌, Bool, true, false, nat_lt, ℤ, Option, List, [], ◌∷◌, ◌++◌, length, map, refl, sym, subst, ap, ◌∙◌, arith, add-zero}
-use Rattle.std.specs.Prelude.{All, slice_set, slice_index_or}
+use Rattle.std.proofs.Common.{◌≡◌, ℕ, zero, suc, ◌+◌, ◌<◌, Bool, true, false, nat_lt, ℤ, Option, List, [], ◌∷◌, ◌++◌, length, map, refl, sym, subst, ap, ◌∙◌, arith, add-zero, append_assoc}
+use Rattle.std.specs.Prelude.{slice_set, slice_index_or}
 use Rattle.std.specs.List.{AllByRecursion}
-use Rattle.std.proofs.lemmas.List.Elements.{All-from_recursion, All-nil, All-push}
+use Rattle.std.proofs.lemmas.List.{append-nil, map-append}
 use Rattle.script_code.specs.Seen.{rows_of}
 use Rattle.swift_script.specs.Scripts.{ScriptView, actor_executor, method_actor, executor_start}
 use Rattle.swift_types.specs.declared.limits.TheConstants.{FRAMES}
@@ -14,15 +14,17 @@ use Rattle.swift_turn.specs.declared.step.Step.{Step}
 use Rattle.swift_turn.specs.declared.step.Step.TheVariants.{Run, Ended, Await}
 use Rattle.std.specs.declared.vec.Vec.{Vec}
 use Rattle.std.specs.declared.alloc.Global.{Global}
-use Rattle.swift_report.specs.declared.report.Record.{Record}
+use Rattle.swift_journal.specs.Checkpoints.{CheckpointRoom, CheckpointView, FoldedView, folded_of, folds}
+use Rattle.swift_journal.specs.Records.{RecordView}
+use Rattle.swift_journal.specs.Replay.{AreLawful, IsLawfulRecord, fields_after, replay}
+use Rattle.swift_journal.proofs.Replayed.{lawful-append, lawful-push, replay-append}
 use Rattle.swift_report.specs.declared.report.Origin.{Origin}
 use Rattle.swift_report.specs.declared.report.Origin.TheVariants.{Root}
-use Rattle.swift_report.specs.Lawful.{IsKept, IsLawful, AreLawful, replay, fields_after}
-use Rattle.swift_one_thread.proofs.Journals.{replay-push, IsLawful-push}
+use Rattle.swift_report.specs.Lawful.{AreAllLawful, IsLawful, IsTurnOn, all_turns}
 use Rattle.swift_one_thread.specs.declared.executor.Executor.{Executor}
 use Rattle.swift_one_thread.specs.declared.executor.Job.{Job}
-use Rattle.swift_one_thread.specs.Executors.{IsExecutor, AreExecutors, GoesTo, IsJobOf, AreRootsFrom, journal_of, fields_of}
-use Rattle.swift_one_thread.specs.Envs.{HaveTheirEnv, RanWithItsEnv}
+use Rattle.swift_one_thread.specs.Executors.{IsExecutor, AreExecutors, GoesTo, IsJobOf, AreRootsFrom, checkpoint_of, fields_of, journal_of, turns_at}
+use Rattle.swift_one_thread.specs.Envs.{AreRuns, HaveTheirEnv, RanWithItsEnv}
 
 -- the frame that runs next is of the actor that the task goes to
 abbrev pub FirstGoes : ScriptView → List FrameView → Step → Type 0
@@ -81,48 +83,135 @@ pub AllByRecursion-push : {X : Type 0} (P : X → Type 0) (xs : List X) (x : X) 
 AllByRecursion-push P [] x all is = (is, tt)
 AllByRecursion-push P (y ∷ xs) x all is = (all.0, AllByRecursion-push P xs x all.1 is)
 
+pub AllByRecursion-append : {X : Type 0} (P : X → Type 0) (xs ys : List X) → AllByRecursion P xs → AllByRecursion P ys → AllByRecursion P (xs ++ ys)
+AllByRecursion-append P [] ys all more = more
+AllByRecursion-append P (x ∷ xs) ys all more = (all.0, AllByRecursion-append P xs ys all.1 more)
+
 -- an executor with one job more
-pub lane_enqueued : (p : ScriptView) (k : ℕ) (executor new : Executor) (job : Job) → IsExecutor p k executor → IsJobOf p k job → new.jobs.items ≡ executor.jobs.items ++ job ∷ [] → new.fields ≡ executor.fields → new.journal ≡ executor.journal → IsExecutor p k new
-lane_enqueued p k executor new job is can jobs fields journal = record {
-  lawful = subst (λ (j : Vec Record Global). IsLawful p k (executor_start p k) j.items) (sym journal) is.lawful;
-  replayed = ap (λ (f : Vec (Vec ℤ Global) Global). rows_of f.items) fields ∙ is.replayed ∙ ap (λ (j : Vec Record Global). replay p (executor_start p k) j.items) (sym journal);
-  env_given = subst (λ (j : Vec Record Global). All (RanWithItsEnv p) j.items) (sym journal) is.env_given;
+pub lane_enqueued : (p : ScriptView) (k : ℕ) (executor new : Executor) (job : Job) → IsExecutor p k executor → IsJobOf p k job → new.jobs.items ≡ executor.jobs.items ++ job ∷ []
+    → new.fields ≡ executor.fields → new.journal ≡ executor.journal → new.checkpoint ≡ executor.checkpoint → IsExecutor p k new
+lane_enqueued p k executor new job is can jobs fields journal checkpoint = record {
+  past = is.past;
+  lawful = subst (λ (c : CheckpointRoom). IsLawful p k is.past c.view new.journal (rows_of new.fields.items)) (sym checkpoint)
+      (subst (λ (j : List RecordView). IsLawful p k is.past executor.checkpoint.view j (rows_of new.fields.items)) (sym journal)
+      (subst (λ (f : Vec (Vec ℤ Global) Global). IsLawful p k is.past executor.checkpoint.view executor.journal (rows_of f.items)) (sym fields) is.lawful));
+  past_env = is.past_env;
+  env_given = subst (λ (j : List RecordView). AllByRecursion (RanWithItsEnv p) j) (sym journal) is.env_given;
   jobs = subst (λ (js : List Job). AllByRecursion (IsJobOf p k) js) (sym jobs) (AllByRecursion-push (IsJobOf p k) executor.jobs.items job is.jobs can);
 }
 
+-- a journal with one turn more
+lawful_grown : (p : ScriptView) (k : ℕ) (past : List RecordView) (c : CheckpointView) (journal : List RecordView) (rows rows' : List (List ℤ)) (r : RecordView)
+    → IsLawful p k past c journal rows → IsLawfulRecord p rows r → IsTurnOn p k r → rows' ≡ fields_after p rows r → IsLawful p k past c (journal ++ r ∷ []) rows'
+lawful_grown p k past c journal rows rows' r is kept on after = record {
+  folded = is.folded;
+  past_lawful = is.past_lawful;
+  past_on = is.past_on;
+  checkpoint = is.checkpoint;
+  lawful = lawful-push p c.fields journal r is.lawful (subst (λ (fs : List (List ℤ)). IsLawfulRecord p fs r) is.replayed kept);
+  on = AllByRecursion-push (IsTurnOn p k) journal r is.on on;
+  replayed = after ∙ ap (λ (fs : List (List ℤ)). fields_after p fs r) is.replayed ∙ sym (replay-append p c.fields journal (r ∷ []));
+}
+
+-- a journal that was folded
+pub lawful_folded : (p : ScriptView) (k : ℕ) (past : List RecordView) (c c' : CheckpointView) (journal : List RecordView) (rows : List (List ℤ))
+    → IsLawful p k past c journal rows → c' ≡ folds c journal rows → IsLawful p k (past ++ journal) c' [] rows
+lawful_folded p k past c c' journal rows is new =
+    let from : replay p c.fields journal ≡ replay p (executor_start p k) (past ++ journal) =
+    ap (λ (fs : List (List ℤ)). replay p fs journal) is.checkpoint ∙ sym (replay-append p (executor_start p k) past journal) in
+    let fields : c'.fields ≡ rows = ap (λ (x : CheckpointView). x.fields) new in
+    record {
+      folded = ap (λ (x : CheckpointView). x.folded) new ∙ ap (λ (ts : List FoldedView). ts ++ map folded_of journal) is.folded ∙ sym (map-append folded_of past journal);
+      past_lawful = lawful-append p (executor_start p k) past journal is.past_lawful (subst (λ (fs : List (List ℤ)). AreLawful p fs journal) is.checkpoint is.lawful);
+      past_on = AllByRecursion-append (IsTurnOn p k) past journal is.past_on is.on;
+      checkpoint = fields ∙ is.replayed ∙ from;
+      lawful = tt;
+      on = tt;
+      replayed = sym fields;
+    }
+
+-- an executor whose journal was folded
+pub lane_folded : (p : ScriptView) (k : ℕ) (executor new : Executor) → IsExecutor p k executor → new.jobs ≡ executor.jobs → new.fields ≡ executor.fields → new.journal ≡ []
+    → new.checkpoint.view ≡ folds executor.checkpoint.view executor.journal (rows_of executor.fields.items) → IsExecutor p k new
+lane_folded p k executor new is jobs fields journal checkpoint = record {
+  past = is.past ++ executor.journal;
+  lawful = subst (λ (j : List RecordView). IsLawful p k (is.past ++ executor.journal) new.checkpoint.view j (rows_of new.fields.items)) (sym journal)
+      (subst (λ (f : Vec (Vec ℤ Global) Global). IsLawful p k (is.past ++ executor.journal) new.checkpoint.view [] (rows_of f.items)) (sym fields)
+      (lawful_folded p k is.past executor.checkpoint.view new.checkpoint.view executor.journal (rows_of executor.fields.items) is.lawful checkpoint));
+  past_env = AllByRecursion-append (RanWithItsEnv p) is.past executor.journal is.past_env is.env_given;
+  env_given = subst (λ (j : List RecordView). AllByRecursion (RanWithItsEnv p) j) (sym journal) tt;
+  jobs = subst (λ (js : _). AllByRecursion (IsJobOf p k) js.items) (sym jobs) is.jobs;
+}
+
+-- its turns are those that it had
+pub turns_folded : (executor new : Executor) (rows : List (List ℤ)) → new.journal ≡ [] → new.checkpoint.view ≡ folds executor.checkpoint.view executor.journal rows → turns_at new ≡ turns_at executor
+turns_folded executor new rows journal checkpoint =
+    ap (λ (j : List RecordView). all_turns new.checkpoint.view j) journal
+    ∙ ap (λ (c : CheckpointView). all_turns c []) checkpoint
+    ∙ append-nil (turns_at executor)
+
 -- an executor whose first job was run
-pub lane_turned : (p : ScriptView) (k : ℕ) (executor new : Executor) (job : Job) (r : Record) → IsExecutor p k executor → executor.jobs.items ≡ job ∷ new.jobs.items → new.journal.items ≡ executor.journal.items ++ r ∷ [] → IsKept p k (rows_of executor.fields.items) r → RanWithItsEnv p r → rows_of new.fields.items ≡ fields_after p (rows_of executor.fields.items) r → IsExecutor p k new
-lane_turned p k executor new job r is jobs journal kept env_given fields = record {
-  lawful = subst (λ (rs : List Record). IsLawful p k (executor_start p k) rs) (sym journal)
-      (IsLawful-push p k (executor_start p k) executor.journal.items r is.lawful (subst (λ (fs : List (List ℤ)). IsKept p k fs r) is.replayed kept));
-  replayed = fields ∙ ap (λ (fs : List (List ℤ)). fields_after p fs r) is.replayed ∙ sym (replay-push p (executor_start p k) executor.journal.items r) ∙ ap (λ (rs : List Record). replay p (executor_start p k) rs) (sym journal);
-  env_given = subst (λ (rs : List Record). All (RanWithItsEnv p) rs) (sym journal) (All-push (RanWithItsEnv p) executor.journal.items r is.env_given env_given);
+pub lane_turned : (p : ScriptView) (k : ℕ) (executor new : Executor) (job : Job) (r : RecordView) → IsExecutor p k executor → executor.jobs.items ≡ job ∷ new.jobs.items → new.journal ≡ executor.journal ++ r ∷ []
+    → new.checkpoint ≡ executor.checkpoint → IsLawfulRecord p (rows_of executor.fields.items) r → IsTurnOn p k r → RanWithItsEnv p r → rows_of new.fields.items ≡ fields_after p (rows_of executor.fields.items) r → IsExecutor p k new
+lane_turned p k executor new job r is jobs journal checkpoint kept on env_given fields = record {
+  past = is.past;
+  lawful = subst (λ (c : CheckpointRoom). IsLawful p k is.past c.view new.journal (rows_of new.fields.items)) (sym checkpoint)
+      (subst (λ (rs : List RecordView). IsLawful p k is.past executor.checkpoint.view rs (rows_of new.fields.items)) (sym journal)
+      (lawful_grown p k is.past executor.checkpoint.view executor.journal (rows_of executor.fields.items) (rows_of new.fields.items) r is.lawful kept on fields));
+  past_env = is.past_env;
+  env_given = subst (λ (rs : List RecordView). AllByRecursion (RanWithItsEnv p) rs) (sym journal) (AllByRecursion-push (RanWithItsEnv p) executor.journal r is.env_given env_given);
   jobs = (subst (λ (js : List Job). AllByRecursion (IsJobOf p k) js) jobs is.jobs).1;
 }
+
+-- and whose turns have one more
+pub turns_turned : (executor new : Executor) (r : RecordView) → new.journal ≡ executor.journal ++ r ∷ [] → new.checkpoint ≡ executor.checkpoint → turns_at new ≡ turns_at executor ++ folded_of r ∷ []
+turns_turned executor new r journal checkpoint =
+    ap (λ (c : CheckpointRoom). all_turns c.view new.journal) checkpoint
+    ∙ ap (λ (rs : List RecordView). all_turns executor.checkpoint.view rs) journal
+    ∙ ap (λ (ts : List FoldedView). executor.checkpoint.view.folded ++ ts) (map-append folded_of executor.journal (r ∷ []))
+    ∙ sym (append_assoc executor.checkpoint.view.folded (map folded_of executor.journal) (folded_of r ∷ []))
 
 -- the first job of an executor is one of its own
 pub first_job : (p : ScriptView) (k : ℕ) (executor : Executor) (job : Job) (rest : List Job) → IsExecutor p k executor → executor.jobs.items ≡ job ∷ rest → IsJobOf p k job
 first_job p k executor job rest is jobs = (subst (λ (js : List Job). AllByRecursion (IsJobOf p k) js) jobs is.jobs).0
 
--- the journals and the fields of executors are those of a lawful report
-pub lanes_lawful : (p : ScriptView) (k : ℕ) (executors : List Executor) → AreExecutors p k executors → AreLawful p k (map journal_of executors) (map fields_of executors)
-lanes_lawful p k [] are = tt
-lanes_lawful p k (x ∷ executors) are = (are.0.lawful, are.0.replayed, lanes_lawful p (k + 1) executors are.1)
+-- the records of the turns that executors have folded
+pasts_of : (p : ScriptView) (k : ℕ) (executors : List Executor) → AreExecutors p k executors → List (List RecordView)
+pasts_of p k [] are = []
+pasts_of p k (x ∷ executors) are = are.0.past ∷ pasts_of p (k + 1) executors are.1
 
-each_told : (p : ScriptView) (k : ℕ) (executors : List Executor) → AreExecutors p k executors → AllByRecursion (λ (j : Vec Record Global). All (RanWithItsEnv p) j.items) (map journal_of executors)
+lanes_lawful : (p : ScriptView) (k : ℕ) (executors : List Executor) (are : AreExecutors p k executors) → AreAllLawful p k (pasts_of p k executors are) (map checkpoint_of executors) (map journal_of executors) (map fields_of executors)
+unfolding pasts_of
+lanes_lawful p k [] are = tt
+lanes_lawful p k (x ∷ executors) are = (are.0.lawful, lanes_lawful p (k + 1) executors are.1)
+
+past_told : (p : ScriptView) (k : ℕ) (executors : List Executor) (are : AreExecutors p k executors) → HaveTheirEnv p (pasts_of p k executors are)
+unfolding pasts_of
+past_told p k [] are = tt
+past_told p k (x ∷ executors) are = (are.0.past_env, past_told p (k + 1) executors are.1)
+
+each_told : (p : ScriptView) (k : ℕ) (executors : List Executor) → AreExecutors p k executors → HaveTheirEnv p (map journal_of executors)
 each_told p k [] are = tt
 each_told p k (x ∷ executors) are = (are.0.env_given, each_told p (k + 1) executors are.1)
 
--- the turns of the executors were given what belongs to their tasks
-pub lanes_told : (p : ScriptView) (executors : List Executor) → AreExecutors p 0 executors → HaveTheirEnv p (map journal_of executors)
-lanes_told p executors are = All-from_recursion (λ (j : Vec Record Global). All (RanWithItsEnv p) j.items) (map journal_of executors) (each_told p 0 executors are)
+-- the turns of executors are those of a run
+pub lanes_run : (p : ScriptView) (executors : List Executor) → AreExecutors p 0 executors → AreRuns p (map checkpoint_of executors) (map journal_of executors) (map fields_of executors)
+lanes_run p executors are = record {
+  past = pasts_of p 0 executors are;
+  lawful = lanes_lawful p 0 executors are;
+  past_env = past_told p 0 executors are;
+  env_given = each_told p 0 executors are;
+}
 
 -- an executor before its first job
-pub lane_new : (p : ScriptView) (k : ℕ) (executor : Executor) → executor.jobs.items ≡ [] → rows_of executor.fields.items ≡ executor_start p k → executor.journal.items ≡ [] → IsExecutor p k executor
-lane_new p k executor jobs fields journal = record {
-  lawful = subst (λ (rs : List Record). IsLawful p k (executor_start p k) rs) (sym journal) tt;
-  replayed = fields ∙ ap (λ (rs : List Record). replay p (executor_start p k) rs) (sym journal);
-  env_given = subst (λ (rs : List Record). All (RanWithItsEnv p) rs) (sym journal) (All-nil (RanWithItsEnv p));
+pub lane_new : (p : ScriptView) (k : ℕ) (executor : Executor) → executor.jobs.items ≡ [] → rows_of executor.fields.items ≡ executor_start p k → executor.journal ≡ []
+    → executor.checkpoint.view.fields ≡ executor_start p k → executor.checkpoint.view.folded ≡ [] → IsExecutor p k executor
+lane_new p k executor jobs fields journal start folded = record {
+  past = [];
+  lawful = subst (λ (rs : List RecordView). IsLawful p k [] executor.checkpoint.view rs (rows_of executor.fields.items)) (sym journal)
+      (record { folded = folded; past_lawful = tt; past_on = tt; checkpoint = start; lawful = tt; on = tt; replayed = fields ∙ sym start });
+  past_env = tt;
+  env_given = subst (λ (rs : List RecordView). AllByRecursion (RanWithItsEnv p) rs) (sym journal) tt;
   jobs = subst (λ (js : List Job). AllByRecursion (IsJobOf p k) js) (sym jobs) tt;
 }
 

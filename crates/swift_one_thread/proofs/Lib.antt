@@ -1,4 +1,3 @@
 pub mod Pools
-pub mod Journals
 pub mod ExecutorsKept
 pub mod Turned

@@ -1,9 +1,8 @@
--- What an executor keeps: a lawful journal, the fields that its replay gives, and jobs that may run there. What a pool
--- of executors keeps beside: each task that has ended did so by a turn.
+-- What an executor keeps: lawful turns, the fields that their replay gives, and jobs that may run there. What a pool of
+-- executors keeps beside: each task that has ended did so by a turn.
 use Rattle.std.specs.declared.vec.Vec.{Vec}
 use Rattle.std.specs.declared.alloc.Global.{Global}
-use Rattle.swift_report.specs.declared.report.Record.{Record}
-use Rattle.std.specs.Prelude.{◌≡◌, ℕ, ℤ, ◌+◌, ◌≤◌, All, List, [], ◌∷◌, ◌++◌, map, Option, Some, IfSome, if◌then◌else◌, nat_le}
+use Rattle.std.specs.Prelude.{◌≡◌, ℕ, ℤ, ◌+◌, ◌≤◌, All, List, [], ◌∷◌, ◌++◌, map, Option, Some, None, IfSome, if◌then◌else◌, nat_le}
 use Rattle.std.specs.List.{AllByRecursion}
 use Rattle.script_code.specs.Seen.{rows_of}
 use Rattle.swift_script.specs.Scripts.{ScriptView, actor_executor, executor_start, method_actor}
@@ -14,16 +13,20 @@ use Rattle.swift_types.specs.declared.outcome.Resume.TheVariants.{Fault as Raise
 use Rattle.swift_types.specs.declared.outcome.Ending.{Ending}
 use Rattle.swift_report.specs.declared.report.Origin.{Origin}
 use Rattle.swift_report.specs.declared.report.Origin.TheVariants.{Root}
-use Rattle.swift_interpreter.specs.declared.exit.Exit.{Exit}
+use Rattle.swift_interpreter.specs.Frames.{FrameView}
+use Rattle.swift_interpreter.specs.Turn.{EffectView, ExitView, returning, failing, head}
+use Rattle.swift_journal.specs.Checkpoints.{CheckpointRoom, FoldedView}
+use Rattle.swift_journal.specs.Records.{RecordView}
 use Rattle.swift_turn.specs.Body.{BodyView, HasFirst, idle}
 use Rattle.swift_turn.specs.declared.step.Step.{Step}
 use Rattle.swift_turn.specs.declared.step.Step.TheVariants.{Run, Ended}
-use Rattle.swift_report.specs.Lawful.{IsLawful, replay}
+use Rattle.swift_report.specs.Lawful.{IsLawful, all_turns}
 use Rattle.swift_report.specs.Ended.{IsEndedBy, exit_of}
 use Rattle.swift_report.specs.Numbered.{HaveBefore}
 use Rattle.swift_one_thread.specs.declared.pool.Pool.{Pool}
 use Rattle.swift_one_thread.specs.declared.executor.Executor.{Executor}
 use Rattle.swift_one_thread.specs.declared.executor.Job.{Job}
+use Rattle.swift_one_thread.specs.declared.turn.Begun.{Begun}
 use Rattle.swift_one_thread.specs.declared.turn.Turned.{Turned}
 use Rattle.swift_one_thread.specs.Envs.{HasItsEnv, RanWithItsEnv}
 
@@ -41,9 +44,11 @@ pub record IsJobOf (p : ScriptView) (executor : ℕ) (job : Job) : Type 0 where
   pub late : TURNS ≤ job.number → job.resume ≡ Raise Turns
 
 pub record IsExecutor (p : ScriptView) (e : ℕ) (executor : Executor) : Type 0 where
-  pub lawful : IsLawful p e (executor_start p e) executor.journal.items
-  pub replayed : rows_of executor.fields.items ≡ replay p (executor_start p e) executor.journal.items
-  pub env_given : All (RanWithItsEnv p) executor.journal.items
+  -- the records of the turns that were folded
+  pub past : List RecordView
+  pub lawful : IsLawful p e past executor.checkpoint.view executor.journal (rows_of executor.fields.items)
+  pub past_env : AllByRecursion (RanWithItsEnv p) past
+  pub env_given : AllByRecursion (RanWithItsEnv p) executor.journal
   pub jobs : AllByRecursion (IsJobOf p e) executor.jobs.items
 
 -- the executors from a number on
@@ -51,26 +56,33 @@ abbrev pub AreExecutors : ScriptView → ℕ → List Executor → Type 0
 AreExecutors p k [] = Unit {0}
 AreExecutors p k (executor ∷ executors) = IsExecutor p k executor × AreExecutors p (k + 1) executors
 
-abbrev pub journal_of : Executor → Vec Record Global
+abbrev pub journal_of : Executor → List RecordView
 journal_of executor = executor.journal
+
+abbrev pub checkpoint_of : Executor → CheckpointRoom
+checkpoint_of executor = executor.checkpoint
+
+-- the turns of an executor, those that were folded too
+abbrev pub turns_at : Executor → List FoldedView
+turns_at executor = all_turns executor.checkpoint.view executor.journal
 
 abbrev pub fields_of : Executor → Vec (Vec ℤ Global) Global
 fields_of executor = executor.fields
 
--- of the tasks from a number on, each that has ended did so by a turn in one of these journals
-abbrev pub AreEndings : List (Vec Record Global) → ℕ → List (Option Ending) → Type 0
-AreEndings journals task [] = Unit {0}
-AreEndings journals task (e ∷ es) = IfSome e (IsEndedBy journals task) × AreEndings journals (task + 1) es
+-- of the tasks from a number on, each that has ended did so by one of these turns
+abbrev pub AreEndings : List (List FoldedView) → ℕ → List (Option Ending) → Type 0
+AreEndings turns task [] = Unit {0}
+AreEndings turns task (e ∷ es) = IfSome e (IsEndedBy turns task) × AreEndings turns (task + 1) es
 
--- before each job and each turn of an executor, the turns of its task stand in these journals
-pub record IsNumbered (journals : List (Vec Record Global)) (executor : Executor) : Type 0 where
-  pub jobs : AllByRecursion (λ (job : Job). HaveBefore journals job.task.0 job.number) executor.jobs.items
-  pub turns : All (λ (r : Record). HaveBefore journals r.task.0 r.number) executor.journal.items
+-- before each job and each turn of an executor, the turns of its task are among these
+pub record IsNumbered (all : List (List FoldedView)) (executor : Executor) : Type 0 where
+  pub jobs : AllByRecursion (λ (job : Job). HaveBefore all job.task.0 job.number) executor.jobs.items
+  pub turns : All (λ (t : FoldedView). HaveBefore all t.task t.number) (turns_at executor)
 
 pub record AreKept (p : ScriptView) (all : List Executor) (ends : List (Option Ending)) : Type 0 where
   pub executors : AreExecutors p 0 all
-  pub endings : AreEndings (map journal_of all) 0 ends
-  pub numbered : AllByRecursion (IsNumbered (map journal_of all)) all
+  pub endings : AreEndings (map turns_at all) 0 ends
+  pub numbered : AllByRecursion (IsNumbered (map turns_at all)) all
 
 -- all executors, with the endings of the tasks whose turns they ran
 abbrev pub IsPool : ScriptView → Pool → Type 0
@@ -87,17 +99,38 @@ pub record IsTurned (p : ScriptView) (t : Turned) : Type 0 where
   pub env_given : HasItsEnv p t.task.0 t.env
 
 -- where a task ends, its last turn left its frame with that ending
-abbrev pub LeavesBy : Exit → Step → Type 0
+abbrev pub LeavesBy : ExitView → Step → Type 0
 LeavesBy exit (Ended e) = exit ≡ exit_of e
 LeavesBy exit _ = Unit {0}
 
--- a journal has one turn more: the one that the task has had
-pub record Writes (old new : List Record) (t : Turned) : Type 0 where
-  pub turn : Record
+-- there is one turn more: the one that the task has had
+pub record Writes (old new : List FoldedView) (t : Turned) : Type 0 where
+  pub turn : FoldedView
   pub last : new ≡ old ++ turn ∷ []
-  pub task : turn.task ≡ t.task
+  pub task : turn.task ≡ t.task.0
   pub number : turn.number ≡ t.number
   pub left : LeavesBy turn.exit t.step
+
+-- of a task's frames, the one that runs after a turn that ended so, where it goes on
+abbrev pub frame_after_in : ExitView → List FrameView → Option FrameView
+frame_after_in (returning v) frames = None
+frame_after_in (failing f) frames = None
+frame_after_in _ frames = head frames
+
+-- the record of a turn of a body that has not gone on
+abbrev pub record_by : BodyView → FrameView → Begun → ExitView → List EffectView → RecordView
+record_by b frame begun exit effects = record {
+  task = begun.task.0;
+  number = begun.number;
+  worker = 0;
+  frame = frame;
+  outer = b.task.outer;
+  resume = begun.resume;
+  env = begun.env;
+  exit = exit;
+  effects = effects;
+  after = frame_after_in exit b.task.frames;
+}
 
 -- the first job is the one whose turn the task has had
 pub record Takes (old new : List Job) (t : Turned) : Type 0 where
@@ -106,10 +139,10 @@ pub record Takes (old new : List Job) (t : Turned) : Type 0 where
   pub task : job.task ≡ t.task
   pub number : job.number ≡ t.number
 
--- where a task has ended, it did so by a turn in one of these journals
-abbrev pub EndsBy : List (Vec Record Global) → ℕ → Step → Type 0
-EndsBy journals task (Ended e) = IsEndedBy journals task e
-EndsBy journals task _ = Unit {0}
+-- where a task has ended, it did so by one of these turns
+abbrev pub EndsBy : List (List FoldedView) → ℕ → Step → Type 0
+EndsBy turns task (Ended e) = IsEndedBy turns task e
+EndsBy turns task _ = Unit {0}
 
 -- what a task's turn of this number begins with: from number 1,000 on, the fault that stands for too many
 abbrev pub resume_at : ℕ → Resume → Resume

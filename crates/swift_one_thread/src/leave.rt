@@ -3,24 +3,25 @@
 ghost use Rattle.std.specs.Prelude.{◌≡◌, [], length, map, IfOk};
 ghost use Rattle.swift_script.specs.Scripts.{ScriptView};
 ghost use Rattle.swift_report.specs.Ended.{AreEnded};
-ghost use Rattle.swift_report.specs.Lawful.{AreLawful};
+ghost use Rattle.swift_report.specs.Lawful.{turns_of};
 ghost use Rattle.swift_report.specs.Numbered.{HaveNoGaps};
-ghost use Rattle.swift_one_thread.specs.Executors.{AreRootsFrom, IsPool, ending_in, fields_of, journal_of};
-ghost use Rattle.swift_one_thread.specs.Envs.{HaveTheirEnv};
+ghost use Rattle.swift_one_thread.specs.Executors.{AreRootsFrom, IsPool, checkpoint_of, ending_in, fields_of, journal_of};
+ghost use Rattle.swift_one_thread.specs.Envs.{AreRuns};
 
 use crate::executor::Executor;
 use crate::fault::Halt;
 use crate::pool::Pool;
 use std::alloc::Global;
-use swift_report::{Origin, Record, Report};
+use swift_journal::{Checkpoint, Journal};
+use swift_report::{Origin, Report};
 use swift_types::{Ending, RootId};
 
 // The report of a pool whose tasks have all ended.
 pub fn report_of(alloc: Global, pool: Pool) -> Result<Report, Halt>
-    ensures lawful { IfOk result (λ r. (p : ScriptView) → IsPool p pool → AreLawful p 0 r.journals.items r.fields.items) }
-    ensures env_given { IfOk result (λ r. (p : ScriptView) → IsPool p pool → HaveTheirEnv p r.journals.items) }
-    ensures numbered { IfOk result (λ r. (p : ScriptView) → IsPool p pool → HaveNoGaps r.journals.items) }
-    ensures ended { IfOk result (λ r. (p : ScriptView) → IsPool p pool → AreEnded r.journals.items 0 r.endings.items) }
+    ensures lawful { IfOk result (λ r. (p : ScriptView) → IsPool p pool → AreRuns p r.checkpoints.items r.journals.items r.fields.items) }
+    ensures numbered { IfOk result (λ r. (p : ScriptView) → IsPool p pool → HaveNoGaps (turns_of r.checkpoints.items r.journals.items)) }
+    ensures ended { IfOk result (λ r. (p : ScriptView) → IsPool p pool → AreEnded (turns_of r.checkpoints.items r.journals.items) 0 r.endings.items) }
+    ensures checkpoints { IfOk result (λ r. length r.checkpoints.items ≡ length pool.executors.items) }
     ensures journals { IfOk result (λ r. length r.journals.items ≡ length pool.executors.items) }
     ensures fields { IfOk result (λ r. length r.fields.items ≡ length pool.executors.items) }
     ensures log { IfOk result (λ r. r.log.items ≡ []) }
@@ -33,35 +34,52 @@ pub fn report_of(alloc: Global, pool: Pool) -> Result<Report, Halt>
         endings,
     } = pool;
     let endings = endings_of(alloc, &endings)?;
-    let (journals, fields) = journals_and_fields(alloc, executors)?;
+    let Left {
+        journals,
+        checkpoints,
+        fields,
+    } = parts_of(alloc, executors)?;
     Ok(Report {
         journals,
+        checkpoints,
         log: Vec::new(alloc),
         endings,
         fields,
     })
 }
 
-// The journals and the fields of executors.
-fn journals_and_fields(
-    alloc: Global,
-    executors: Vec<Executor>,
-) -> Result<(Vec<Vec<Record>>, Vec<Vec<Vec<i64>>>), Halt>
-    ensures journals { IfOk result (λ r. r.0.items ≡ map journal_of executors.items) }
-    ensures fields { IfOk result (λ r. r.1.items ≡ map fields_of executors.items) }
+// The journals, the checkpoints and the fields of executors.
+#[derive(Drop)]
+struct Left {
+    journals: Vec<Journal>,
+    checkpoints: Vec<Checkpoint>,
+    fields: Vec<Vec<Vec<i64>>>,
+}
+
+fn parts_of(alloc: Global, executors: Vec<Executor>) -> Result<Left, Halt>
+    ensures journals { IfOk result (λ r. r.journals.items ≡ map journal_of executors.items) }
+    ensures checkpoints { IfOk result (λ r. r.checkpoints.items ≡ map checkpoint_of executors.items) }
+    ensures fields { IfOk result (λ r. r.fields.items ≡ map fields_of executors.items) }
 {
     let mut journals = Vec::new(alloc);
+    let mut checkpoints = Vec::new(alloc);
     let mut all = Vec::new(alloc);
     for executor in executors {
         let Executor {
             jobs: _,
             fields,
             journal,
+            checkpoint,
         } = executor;
         journals.push(journal)?;
+        checkpoints.push(checkpoint)?;
         all.push(fields)?;
     }
-    Ok((journals, all))
+    Ok(Left {
+        journals,
+        checkpoints,
+        fields: all,
+    })
 }
 
 // How each task ended, with the root that made it.

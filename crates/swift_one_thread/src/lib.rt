@@ -7,7 +7,10 @@ mod fault;
 // What is given of the moments of a run.
 mod gate;
 
-// The jobs, the fields and the journal of one executor.
+// Copies of rows of numbers.
+mod rows;
+
+// The jobs, the fields, the journal and the checkpoint of one executor.
 mod executor;
 
 // One turn of an executor's oldest job.

@@ -4,7 +4,7 @@ ghost use Rattle.std.specs.Prelude.{◌≡◌, ◌<◌, ◌-◌, ◌+◌, min, [
 ghost use Rattle.std.specs.Arc.{arc_value};
 ghost use Rattle.swift_script.specs.Scripts.{ScriptView, actor_executor, executor_count, root_count};
 ghost use Rattle.swift_report.specs.Numbered.{HaveBefore};
-ghost use Rattle.swift_one_thread.specs.Executors.{EndsBy, IsPool, IsJobOf, IsTurned, journal_of, resume_at};
+ghost use Rattle.swift_one_thread.specs.Executors.{EndsBy, IsPool, IsJobOf, IsTurned, resume_at, turns_at};
 
 use crate::executor::{Executor, Job};
 use crate::fault::Halt;
@@ -39,7 +39,8 @@ pub fn empty_pool(alloc: Global, script: &Script) -> Result<Pool, Halt>
     let mut place = 0;
     for _ in 0..script.executor_count() {
         let fields = script.executor_start(alloc, ExecId(place))?;
-        executors.push(Executor::new(alloc, fields))?;
+        let start = script.executor_start(alloc, ExecId(place))?;
+        executors.push(Executor::new(alloc, fields, start))?;
         let Some(next) = place.checked_add(1) else {
             return Err(Halt::Unfinished);
         };
@@ -54,7 +55,7 @@ pub fn empty_pool(alloc: Global, script: &Script) -> Result<Pool, Halt>
 
 // Puts a job after the others of this executor, whose token goes after the others where it was idle.
 fn enqueue(pool: &mut Pool, on: ExecId, job: Job) -> Result<(), Halt>
-    ensures pool { (p : ScriptView) → IsPool p pool.old → IsJobOf p on.0 job → HaveBefore (map journal_of pool.old.executors.items) job.task.0 job.number → OnOk result (IsPool p pool.new) }
+    ensures pool { (p : ScriptView) → IsPool p pool.old → IsJobOf p on.0 job → HaveBefore (map turns_at pool.old.executors.items) job.task.0 job.number → OnOk result (IsPool p pool.new) }
     ensures actors { OnOk result (length pool.new.executors.items ≡ length pool.old.executors.items) }
     ensures endings { pool.new.endings ≡ pool.old.endings }
 {
@@ -133,7 +134,7 @@ pub fn start_roots(alloc: Global, script: &Arc<Script>, pool: &mut Pool) -> Resu
 
 // What comes after a turn: the next job of its task, or the ending.
 fn go_on(script: &Script, pool: &mut Pool, turned: Turned) -> Result<(), Halt>
-    ensures pool { let p = script.now in IsPool p pool.old → IsTurned p turned → EndsBy (map journal_of pool.old.executors.items) turned.task.0 turned.step → HaveBefore (map journal_of pool.old.executors.items) turned.task.0 (turned.number + 1) → OnOk result (IsPool p pool.new) }
+    ensures pool { let p = script.now in IsPool p pool.old → IsTurned p turned → EndsBy (map turns_at pool.old.executors.items) turned.task.0 turned.step → HaveBefore (map turns_at pool.old.executors.items) turned.task.0 (turned.number + 1) → OnOk result (IsPool p pool.new) }
     ensures actors { OnOk result (length pool.new.executors.items ≡ length pool.old.executors.items) }
     ensures tasks { OnOk result (length pool.new.endings.items ≡ length pool.old.endings.items) }
 {

@@ -4,10 +4,10 @@ ghost use Rattle.std.specs.Prelude.{◌≡◌, ◌≢◌, ◌↔◌, [], Err, le
 ghost use Rattle.std.specs.Arc.{arc_value};
 ghost use Rattle.swift_script.specs.Scripts.{executor_count, root_count};
 ghost use Rattle.swift_report.specs.Ended.{AreEnded};
-ghost use Rattle.swift_report.specs.Lawful.{AreLawful, KeepInvariants};
+ghost use Rattle.swift_report.specs.Lawful.{KeepInvariants, turns_of};
 ghost use Rattle.swift_report.specs.Numbered.{HaveNoGaps};
 ghost use Rattle.swift_one_thread.specs.Executors.{AreRootsFrom};
-ghost use Rattle.swift_one_thread.specs.Envs.{HaveTheirEnv};
+ghost use Rattle.swift_one_thread.specs.Envs.{AreRuns};
 ghost use Rattle.swift_one_thread.specs.declared.fault.RunFault.TheVariants.{Workers};
 
 use crate::fault::{Halt, RunFault};
@@ -29,8 +29,8 @@ use swift_script::Script;
 /// An executor with jobs has a token, and the one whose token is the oldest runs its oldest job next. The roots are
 /// enqueued in order of declaration before the first turn. The runtime is used once, to make what a poll is given.
 ///
-/// The gate is given of each turn's moments. Each turn costs a copy of its frame, which its journal keeps: memory grows
-/// with the turns, at most some thousand for each root.
+/// The gate is given of each turn's moments. A journal that has 4,096 turns is folded. Memory grows with the turns, at most
+/// some thousand for each root, each of which leaves some 64 bytes and the frame after it.
 ///
 /// # Errors
 ///
@@ -42,22 +42,22 @@ where
     R: RandomSource + AllocGlobal,
     G: Gate + Sync,
     ensures workers { (result ≡ Err Workers) ↔ (workers ≢ 1) }
-    // Each journal is lawful, and replaying it gives the fields of its executor's actors.
-    ensures lawful { IfOk result (λ r. AreLawful (arc_value script) 0 r.journals.items r.fields.items) }
+    // Each executor's turns, those that were folded too, are lawful from the start values on, and replaying them gives the
+    // fields of its actors. Each is one of a root's task, was given what belongs to that root, and ran on worker 0.
+    ensures lawful { IfOk result (λ r. AreRuns (arc_value script) r.checkpoints.items r.journals.items r.fields.items) }
     // The fields meet each invariant that holds at the start.
     ensures invariants { IfOk result (λ r. KeepInvariants (arc_value script) 0 r.fields.items) }
-    // Each turn is one of a root's task, was given what belongs to that root, and ran on worker 0.
-    ensures env_given { IfOk result (λ r. HaveTheirEnv (arc_value script) r.journals.items) }
     // The turns of each task are numbered without gaps.
-    ensures numbered { IfOk result (λ r. HaveNoGaps r.journals.items) }
+    ensures numbered { IfOk result (λ r. HaveNoGaps (turns_of r.checkpoints.items r.journals.items)) }
     ensures journals { IfOk result (λ r. length r.journals.items ≡ executor_count (arc_value script)) }
+    ensures checkpoints { IfOk result (λ r. length r.checkpoints.items ≡ executor_count (arc_value script)) }
     ensures fields { IfOk result (λ r. length r.fields.items ≡ executor_count (arc_value script)) }
     ensures log { IfOk result (λ r. r.log.items ≡ []) }
     // One ending for each root, in order of declaration.
     ensures tasks { IfOk result (λ r. length r.endings.items ≡ root_count (arc_value script)) }
     ensures roots { IfOk result (λ r. AreRootsFrom 0 r.endings.items) }
-    // Each ending comes from a turn of its task in one of the journals.
-    ensures ended { IfOk result (λ r. AreEnded r.journals.items 0 r.endings.items) }
+    // Each ending comes from a turn of its task.
+    ensures ended { IfOk result (λ r. AreEnded (turns_of r.checkpoints.items r.journals.items) 0 r.endings.items) }
 {
     if workers != 1 {
         return Err(RunFault::Workers);
@@ -77,16 +77,16 @@ fn run_alone<R, G>(rt: &R, script: &Arc<Script>, gate: &G) -> Result<Report, Hal
 where
     R: RandomSource + AllocGlobal,
     G: Gate,
-    ensures lawful { IfOk result (λ r. AreLawful (arc_value script.now) 0 r.journals.items r.fields.items) }
+    ensures lawful { IfOk result (λ r. AreRuns (arc_value script.now) r.checkpoints.items r.journals.items r.fields.items) }
     ensures invariants { IfOk result (λ r. KeepInvariants (arc_value script.now) 0 r.fields.items) }
-    ensures env_given { IfOk result (λ r. HaveTheirEnv (arc_value script.now) r.journals.items) }
-    ensures numbered { IfOk result (λ r. HaveNoGaps r.journals.items) }
+    ensures numbered { IfOk result (λ r. HaveNoGaps (turns_of r.checkpoints.items r.journals.items)) }
     ensures journals { IfOk result (λ r. length r.journals.items ≡ executor_count (arc_value script.now)) }
+    ensures checkpoints { IfOk result (λ r. length r.checkpoints.items ≡ executor_count (arc_value script.now)) }
     ensures fields { IfOk result (λ r. length r.fields.items ≡ executor_count (arc_value script.now)) }
     ensures log { IfOk result (λ r. r.log.items ≡ []) }
     ensures tasks { IfOk result (λ r. length r.endings.items ≡ root_count (arc_value script.now)) }
     ensures roots { IfOk result (λ r. AreRootsFrom 0 r.endings.items) }
-    ensures ended { IfOk result (λ r. AreEnded r.journals.items 0 r.endings.items) }
+    ensures ended { IfOk result (λ r. AreEnded (turns_of r.checkpoints.items r.journals.items) 0 r.endings.items) }
 {
     invariants_stay();
     let alloc = rt.alloc();

@@ -3,7 +3,5 @@
 
 // A whole text into a writer.
 mod output;
-#[cfg(test)]
-mod tests;
 
 pub use output::{Device, write_all};

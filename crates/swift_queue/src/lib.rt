@@ -18,6 +18,3 @@ mod queue;
 
 pub use job::Job;
 pub use queue::Queue;
-
-#[cfg(test)]
-mod tests;

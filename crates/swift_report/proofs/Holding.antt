@@ -1,37 +1,42 @@
 -- Turns that are kept leave the invariants as they were.
-use Rattle.std.proofs.Common.{◌≡◌, ℕ, ◌+◌, ℤ, IsTrue, List, [], ◌∷◌, Some, sym, subst, ap}
+use Rattle.std.proofs.Common.{◌≡◌, ℕ, ◌+◌, ℤ, IsTrue, List, [], ◌∷◌, Some, sym, subst}
 use Rattle.std.specs.Prelude.{Contains}
+use Rattle.std.specs.List.{AllByRecursion}
 use Rattle.std.specs.declared.vec.Vec.{Vec}
 use Rattle.std.specs.declared.alloc.Global.{Global}
-use Rattle.swift_types.specs.declared.limits.TheConstants.{STEPS}
 use Rattle.script_code.specs.Seen.{rows_of}
 use Rattle.script_code.specs.Tree.{Term}
 use Rattle.script_code.specs.Value.{holds}
-use Rattle.swift_script.specs.Scripts.{ScriptView, actor_executor, executor_invariants, executor_start, method_actor}
-use Rattle.swift_interpreter.specs.Frames.{frame_view}
-use Rattle.swift_interpreter.specs.Laws.{InvariantsAreKept}
-use Rattle.swift_turn.specs.Body.{state_at}
-use Rattle.swift_report.specs.declared.report.Record.{Record}
-use Rattle.swift_report.specs.Lawful.{AreLawful, IsLawful, KeepInvariants, fields_after, replay}
+use Rattle.swift_script.specs.Scripts.{ScriptView, executor_invariants, executor_start}
+use Rattle.swift_journal.specs.Checkpoints.{CheckpointRoom, CheckpointView}
+use Rattle.swift_journal.specs.Records.{RecordView}
+use Rattle.swift_journal.specs.Replay.{InvariantsStay, RunOn, replay}
+use Rattle.swift_report.specs.Lawful.{AreAllLawful, IsLawful, IsTurnOn, KeepInvariants}
 
--- an invariant that holds before the turn of a record holds after it
-turn_holds : InvariantsAreKept → (p : ScriptView) (e : ℕ) (rows : List (List ℤ)) (r : Record) (t : Term) → actor_executor p (method_actor p r.frame.method.0) ≡ e → Contains (executor_invariants p e) t → IsTrue (holds (Some t) rows) → IsTrue (holds (Some t) (fields_after p rows r))
-turn_holds law p e rows r t on has is =
-    let here : Contains (executor_invariants p (actor_executor p (method_actor p r.frame.method.0))) t = subst (λ (n : ℕ). Contains (executor_invariants p n) t) (sym on) has in
-    law (record { outer = r.outer; env = r.env }) STEPS (executor_invariants p (actor_executor p (method_actor p r.frame.method.0))) (state_at p (frame_view r.frame) rows [] r.env.room) r.resume t here is
+run_on : (p : ScriptView) (e : ℕ) (rs : List RecordView) → AllByRecursion (IsTurnOn p e) rs → RunOn p e rs
+run_on p e [] all = tt
+run_on p e (r ∷ rs) all = (all.0.executor, run_on p e rs all.1)
 
--- an invariant that holds of fields holds after a lawful journal
-pub replay_holds : InvariantsAreKept → (p : ScriptView) (e : ℕ) (rows : List (List ℤ)) (rs : List Record) (t : Term) → IsLawful p e rows rs → Contains (executor_invariants p e) t → IsTrue (holds (Some t) rows) → IsTrue (holds (Some t) (replay p rows rs))
-replay_holds law p e rows [] t lawful has is = is
-replay_holds law p e rows (r ∷ rs) t lawful has is = replay_holds law p e (fields_after p rows r) rs t lawful.1 has (turn_holds law p e rows r t lawful.0.executor has is)
+-- an invariant that holds at the start holds of the checkpoint's fields, and so of those at the end
+holds_after : InvariantsStay → (p : ScriptView) (e : ℕ) (past : List RecordView) (c : CheckpointView) (journal : List RecordView) (rows : List (List ℤ)) (t : Term)
+    → IsLawful p e past c journal rows → Contains (executor_invariants p e) t → IsTrue (holds (Some t) (executor_start p e)) → IsTrue (holds (Some t) rows)
+holds_after law p e past c journal rows t is has start =
+    let at = λ (fields : List (List ℤ)). IsTrue (holds (Some t) fields) in
+    let folded : at c.fields = subst at (sym is.checkpoint) (law p e (executor_start p e) past t (run_on p e past is.past_on) has start) in
+    subst at (sym is.replayed) (law p e c.fields journal t (run_on p e journal is.on) has folded)
 
 -- the fields of a lawful report keep the invariants
-pub fields_hold : InvariantsAreKept → (p : ScriptView) (e : ℕ) (journals : List (Vec Record Global)) (fields : List (Vec (Vec ℤ Global) Global)) → AreLawful p e journals fields → KeepInvariants p e fields
-fields_hold law p e [] [] lawful = tt
-fields_hold law p e [] (f ∷ fields) lawful = absurd lawful
-fields_hold law p e (j ∷ journals) [] lawful = tt
-fields_hold law p e (j ∷ journals) (f ∷ fields) lawful = (
-  λ (t : Term) (has : Contains (executor_invariants p e) t) (start : IsTrue (holds (Some t) (executor_start p e))).
-      subst (λ (rows : List (List ℤ)). IsTrue (holds (Some t) rows)) (sym lawful.1) (replay_holds law p e (executor_start p e) j.items t lawful.0 has start),
-  fields_hold law p (e + 1) journals fields lawful.2,
+pub fields_hold : InvariantsStay → (p : ScriptView) (e : ℕ) (past : List (List RecordView)) (checkpoints : List CheckpointRoom) (journals : List (List RecordView)) (fields : List (Vec (Vec ℤ Global) Global))
+    → AreAllLawful p e past checkpoints journals fields → KeepInvariants p e fields
+fields_hold law p e past checkpoints journals [] lawful = tt
+fields_hold law p e [] [] [] (f ∷ fields) lawful = absurd lawful
+fields_hold law p e [] [] (j ∷ journals) (f ∷ fields) lawful = absurd lawful
+fields_hold law p e [] (c ∷ checkpoints) [] (f ∷ fields) lawful = absurd lawful
+fields_hold law p e [] (c ∷ checkpoints) (j ∷ journals) (f ∷ fields) lawful = absurd lawful
+fields_hold law p e (q ∷ past) [] [] (f ∷ fields) lawful = absurd lawful
+fields_hold law p e (q ∷ past) [] (j ∷ journals) (f ∷ fields) lawful = absurd lawful
+fields_hold law p e (q ∷ past) (c ∷ checkpoints) [] (f ∷ fields) lawful = absurd lawful
+fields_hold law p e (q ∷ past) (c ∷ checkpoints) (j ∷ journals) (f ∷ fields) lawful = (
+  λ (t : Term) (has : Contains (executor_invariants p e) t) (start : IsTrue (holds (Some t) (executor_start p e))). holds_after law p e q c.view j (rows_of f.items) t lawful.0 has start,
+  fields_hold law p (e + 1) past checkpoints journals fields lawful.1,
 )

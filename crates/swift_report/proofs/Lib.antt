@@ -1,4 +1,5 @@
 pub mod Holding
 pub mod Joined
 pub mod Past
+pub mod Places
 pub mod Rows

@@ -1,5 +1,7 @@
--- The replay of a journal, and when a journal is lawful (SE-0392 for executors that run one job at a time).
-use Rattle.std.specs.Prelude.{◌≡◌, ℕ, ◌+◌, ◌<◌, ◌≤◌, ℤ, IsTrue, List, [], ◌∷◌, Some, Contains}
+-- When the journals, the checkpoints and the fields of a report are lawful (SE-0392 for executors that run one job at a
+-- time; the rest is our own).
+use Rattle.std.specs.Prelude.{◌≡◌, ℕ, ◌+◌, ◌<◌, ◌≤◌, ℤ, IsTrue, List, [], ◌∷◌, ◌++◌, Some, Contains, map}
+use Rattle.std.specs.List.{AllByRecursion}
 use Rattle.std.specs.declared.vec.Vec.{Vec}
 use Rattle.std.specs.declared.alloc.Global.{Global}
 use Rattle.swift_types.specs.declared.limits.TheConstants.{TURNS}
@@ -9,46 +11,43 @@ use Rattle.script_code.specs.Seen.{rows_of}
 use Rattle.script_code.specs.Tree.{Term}
 use Rattle.script_code.specs.Value.{holds}
 use Rattle.swift_script.specs.Scripts.{ScriptView, actor_executor, executor_invariants, executor_start, method_actor, method_count}
-use Rattle.swift_interpreter.specs.Frames.{frame_view, effect_views}
-use Rattle.swift_interpreter.specs.TurnStates.{exit_view}
-use Rattle.swift_interpreter.specs.Turn.{Played}
-use Rattle.swift_turn.specs.Body.{kept_turn}
-use Rattle.swift_report.specs.declared.report.Record.{Record}
+use Rattle.swift_journal.specs.Checkpoints.{CheckpointRoom, CheckpointView, FoldedView, folded_of}
+use Rattle.swift_journal.specs.Records.{RecordView}
+use Rattle.swift_journal.specs.Replay.{AreLawful, replay}
 
--- the kept turn of a record's frame, on these fields of its executor's actors
-abbrev pub turn_of : ScriptView → List (List ℤ) → Record → Played
-turn_of p rows r = kept_turn p (frame_view r.frame) r.outer rows r.resume r.env
-
--- the fields after a record's turn
-abbrev pub fields_after : ScriptView → List (List ℤ) → Record → List (List ℤ)
-fields_after p rows r = (turn_of p rows r).state.fields
-
--- what replaying a journal on one thread gives, from these fields on
-abbrev pub replay : ScriptView → List (List ℤ) → List Record → List (List ℤ)
-replay p rows [] = rows
-replay p rows (r ∷ rs) = replay p (fields_after p rows r) rs
-
--- A record's exit and effects are those of the kept turn, its frame is of a method that the script has and whose actor
--- runs on this executor, and where its task has had 1,000 turns before, it begins with the fault that says so.
-pub record IsKept (p : ScriptView) (e : ℕ) (rows : List (List ℤ)) (r : Record) : Type 0 where
-  pub exit : exit_view r.exit ≡ (turn_of p rows r).exit
-  pub effects : effect_views r.effects.items ≡ (turn_of p rows r).state.effects
-  pub method : r.frame.method.0 < method_count p
-  pub executor : actor_executor p (method_actor p r.frame.method.0) ≡ e
+-- A record's frame is of a method that the script has and whose actor runs on this executor, and where its task has had 1,000
+-- turns before, it begins with the fault that says so.
+pub record IsTurnOn (p : ScriptView) (e : ℕ) (r : RecordView) : Type 0 where
+  pub method : r.frame.method < method_count p
+  pub executor : actor_executor p (method_actor p r.frame.method) ≡ e
   pub late : TURNS ≤ r.number → r.resume ≡ Raise Turns
 
--- Each record's exit and effects are what the kept turn gives at that point of the replay.
-abbrev pub IsLawful : ScriptView → ℕ → List (List ℤ) → List Record → Type 0
-IsLawful p e rows [] = Unit {0}
-IsLawful p e rows (r ∷ rs) = IsKept p e rows r × (IsLawful p e (fields_after p rows r) rs)
+-- The turns that an executor's checkpoint has are those of records that are lawful from the start values on, and whose replay
+-- gives the checkpoint's fields; from these on its journal is lawful, and its replay gives the fields at the end.
+pub record IsLawful (p : ScriptView) (e : ℕ) (past : List RecordView) (c : CheckpointView) (journal : List RecordView) (fields : List (List ℤ)) : Type 0 where
+  pub folded : c.folded ≡ map folded_of past
+  pub past_lawful : AreLawful p (executor_start p e) past
+  pub past_on : AllByRecursion (IsTurnOn p e) past
+  pub checkpoint : c.fields ≡ replay p (executor_start p e) past
+  pub lawful : AreLawful p c.fields journal
+  pub on : AllByRecursion (IsTurnOn p e) journal
+  pub replayed : fields ≡ replay p c.fields journal
 
--- The journals of the executors from a number on are lawful, and the fields of their actors are what replaying them
--- gives.
-abbrev pub AreLawful : ScriptView → ℕ → List (Vec Record Global) → List (Vec (Vec ℤ Global) Global) → Type 0
-AreLawful p e [] [] = Unit {0}
-AreLawful p e (journal ∷ journals) (rows ∷ others) =
-    IsLawful p e (executor_start p e) journal.items × (rows_of rows.items ≡ replay p (executor_start p e) journal.items) × (AreLawful p (e + 1) journals others)
-AreLawful p e _ _ = ⊥
+-- The same of each executor from a number on.
+abbrev pub AreAllLawful : ScriptView → ℕ → List (List RecordView) → List CheckpointRoom → List (List RecordView) → List (Vec (Vec ℤ Global) Global) → Type 0
+AreAllLawful p e [] [] [] [] = Unit {0}
+AreAllLawful p e (past ∷ pasts) (c ∷ checkpoints) (journal ∷ journals) (fields ∷ others) =
+    IsLawful p e past c.view journal (rows_of fields.items) × AreAllLawful p (e + 1) pasts checkpoints journals others
+AreAllLawful p e _ _ _ _ = ⊥
+
+-- the turns of an executor: those of its checkpoint, and those of its journal
+abbrev pub all_turns : CheckpointView → List RecordView → List FoldedView
+all_turns c journal = c.folded ++ map folded_of journal
+
+-- the turns of each executor
+abbrev pub turns_of : List CheckpointRoom → List (List RecordView) → List (List FoldedView)
+turns_of (c ∷ cs) (j ∷ js) = all_turns c.view j ∷ turns_of cs js
+turns_of _ _ = []
 
 -- Of each executor from a number on: each invariant of its actors that holds of what their fields start with holds of
 -- these.

@@ -15,9 +15,11 @@ use Rattle.script_code.specs.declared.env.Env.{Env}
 use Rattle.script_grammar.specs.declared.declaration.ExecutorKind.{ExecutorKind}
 use Rattle.script_grammar.specs.declared.declaration.ExecutorKind.TheVariants as kind
 use Rattle.swift_script.specs.Scripts.{ScriptView, actor_count, actor_executor, actor_name, executor_actors, executor_kind, executor_name, field_name, method_actor, method_count, method_name, root_name}
-use Rattle.swift_interpreter.specs.declared.exit.Exit.{Exit}
-use Rattle.swift_interpreter.specs.declared.exit.Exit.TheVariants.{Call, Wait, Next, Yield, Close, Return, Fault as Fails}
-use Rattle.swift_report.specs.declared.report.Record.{Record}
+use Rattle.swift_journal.specs.Checkpoints.{CheckpointRoom}
+use Rattle.swift_journal.specs.Records.{RecordView, brief_of}
+use Rattle.swift_journal.specs.declared.brief.BriefExit.{BriefExit}
+use Rattle.swift_journal.specs.declared.brief.BriefExit.TheVariants.{Call, Wait, Next, Yield, Close, Return, Fault as Fails}
+use Rattle.swift_report.specs.declared.line.Line.{Line}
 use Rattle.swift_report.specs.declared.report.Origin.{Origin}
 use Rattle.swift_report.specs.declared.report.Origin.TheVariants.{Root}
 use Rattle.swift_report.specs.declared.report.Report.{Report}
@@ -56,8 +58,8 @@ pending_text None = []
 pending_text (Some f) = codes " fault " ++ fault_text f
 
 -- how a turn ended
-abbrev pub exit_text : ScriptView → Exit → List ℕ
-exit_text p (Call c) = codes "call " ++ method_text p c.method.0
+abbrev pub exit_text : ScriptView → BriefExit → List ℕ
+exit_text p (Call a m) = codes "call " ++ method_text p m.0
 exit_text p (Wait t) = codes "wait"
 exit_text p (Next g) = codes "next"
 exit_text p Yield = codes "yield"
@@ -73,22 +75,26 @@ flag_text true = codes "1"
 abbrev pub env_text : Env → List ℕ
 env_text e = codes " p" ++ decimal (rank e.priority) ++ codes " c" ++ flag_text e.cancelled
 
+-- what the line of a turn says
+abbrev pub line_of : RecordView → Line
+line_of r = record { task = record { 0 = r.task }; number = r.number; worker = r.worker; method = record { 0 = r.frame.method }; env = r.env; resume = r.resume; exit = brief_of r.exit }
+
 -- which turn stands at this place of a journal: the task, the turn's number in it, and the worker
-abbrev pub run_text : ℕ → Record → List ℕ
+abbrev pub run_text : ℕ → Line → List ℕ
 run_text place r = decimal place ++ codes " t" ++ decimal r.task.0 ++ codes "." ++ decimal r.number ++ codes " w" ++ decimal r.worker
 
 -- how a turn began and how it ended
-abbrev pub resume_and_exit_text : ScriptView → Record → List ℕ
+abbrev pub resume_and_exit_text : ScriptView → Line → List ℕ
 resume_and_exit_text p r = resume_text r.resume ++ codes " -> " ++ exit_text p r.exit
 
 -- the line of the turn at this place of a journal
-abbrev pub turn_text : ScriptView → ℕ → Record → List ℕ
-turn_text p place r = run_text place r ++ codes " " ++ method_text p r.frame.method.0 ++ env_text r.env ++ codes " " ++ resume_and_exit_text p r ++ codes "\n"
+abbrev pub turn_text : ScriptView → ℕ → Line → List ℕ
+turn_text p place r = run_text place r ++ codes " " ++ method_text p r.method.0 ++ env_text r.env ++ codes " " ++ resume_and_exit_text p r ++ codes "\n"
 
 -- the lines of the turns from this place of a journal on
-abbrev pub turns_text : ScriptView → ℕ → List Record → List ℕ
+abbrev pub turns_text : ScriptView → ℕ → List RecordView → List ℕ
 turns_text p place [] = []
-turns_text p place (r ∷ rs) = turn_text p place r ++ turns_text p (place + 1) rs
+turns_text p place (r ∷ rs) = turn_text p place (line_of r) ++ turns_text p (place + 1) rs
 
 -- the kind of an executor
 abbrev pub kind_text : ExecutorKind → List ℕ
@@ -100,15 +106,30 @@ kind_text (kind.Pinned worker) = codes "pinned " ++ signed_decimal worker
 abbrev pub heading_text : ScriptView → ℕ → ℕ → List ℕ
 heading_text p e turns = codes "executor " ++ executor_name p e ++ codes " " ++ kind_text (executor_kind p e) ++ codes " turns " ++ decimal turns ++ codes "\n"
 
+-- the line that says how many turns of an executor were folded, where some were
+abbrev pub folded_text : ℕ → List ℕ
+folded_text zero = []
+folded_text (suc n) = codes "folded " ++ decimal (suc n) ++ codes "\n"
+
+-- The lines of an executor, of whose turns so many were folded: the heading counts all turns, and the places of its journal
+-- begin after those that were folded.
+abbrev pub executor_text : ScriptView → ℕ → ℕ → List RecordView → List ℕ
+executor_text p e folded j = heading_text p e (folded + length j) ++ folded_text folded ++ turns_text p folded j
+
+-- how many turns a checkpoint has
+abbrev pub folded_count : Option CheckpointRoom → ℕ
+folded_count None = 0
+folded_count (Some c) = length c.view.folded
+
 -- the lines of the executors from this number on, each with its turns
-abbrev pub executors_text : ScriptView → ℕ → List (Vec Record Global) → List ℕ
-executors_text p k [] = []
-executors_text p k (j ∷ js) = (heading_text p k (length j.items) ++ turns_text p 0 j.items) ++ executors_text p (k + 1) js
+abbrev pub executors_text : ScriptView → List CheckpointRoom → ℕ → List (List RecordView) → List ℕ
+executors_text p cs k [] = []
+executors_text p cs k (j ∷ js) = executor_text p k (folded_count (slice_get cs k)) j ++ executors_text p cs (k + 1) js
 
 -- the journals, which a quiet report leaves out
-abbrev pub journals_text : ScriptView → Bool → List (Vec Record Global) → List ℕ
-journals_text p true js = []
-journals_text p false js = codes "journals\n" ++ executors_text p 0 js
+abbrev pub journals_text : ScriptView → Bool → List CheckpointRoom → List (List RecordView) → List ℕ
+journals_text p true cs js = []
+journals_text p false cs js = codes "journals\n" ++ executors_text p cs 0 js
 
 -- what made a task
 abbrev pub origin_text : ScriptView → Origin → List ℕ
@@ -158,4 +179,4 @@ fields_text p fields k (suc n) = values_text p k 0 (row_of p fields k) ++ fields
 -- The text of a report on a script: the journals unless it is quiet, the tasks, and the fields.
 abbrev pub report_text : ScriptView → Report → Bool → List ℕ
 report_text p r quiet =
-    journals_text p quiet r.journals.items ++ codes "tasks\n" ++ tasks_text p 0 r.endings.items ++ codes "fields\n" ++ fields_text p r.fields.items 0 (actor_count p)
+    journals_text p quiet r.checkpoints.items r.journals.items ++ codes "tasks\n" ++ tasks_text p 0 r.endings.items ++ codes "fields\n" ++ fields_text p r.fields.items 0 (actor_count p)

@@ -5,12 +5,12 @@
 mod append;
 // Laws of journals.
 pub mod laws;
+// What a line says of a turn.
+mod line;
 // Names by the places of journals and fields.
 mod names;
-// Records of turns, and reports.
+// Reports.
 mod report;
-#[cfg(test)]
-mod tests;
 // The text of a report.
 mod text;
 // Lines of turns and executors.
@@ -18,5 +18,5 @@ mod turns;
 // Faults, resumes and endings in words.
 mod word;
 
-pub use report::{Event, Origin, Record, Report};
+pub use report::{Event, Origin, Report};
 pub use text::report_text;

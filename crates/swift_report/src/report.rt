@@ -1,31 +1,7 @@
-//! Records of turns, and reports of runs.
+//! Reports of runs.
 
-use script_code::Env;
-use swift_interpreter::{Effect, Exit, Frame};
-use swift_locals::Bindings;
-use swift_types::{Ending, Resume, RootId, TaskId};
-
-/// One turn, as the journal of its executor has it.
-#[derive(Drop)]
-pub struct Record {
-    pub task: TaskId,
-    /// The turn's number among the turns of its task, from 0.
-    pub number: u32,
-    /// The worker that ran it, from 0.
-    pub worker: u32,
-    /// The frame as it was before the turn.
-    pub frame: Frame,
-    /// The bindings that stood when that frame began.
-    pub outer: Bindings,
-    /// What the turn began with.
-    pub resume: Resume,
-    /// What it was given.
-    pub env: Env,
-    /// How it ended.
-    pub exit: Exit,
-    /// What it did beside its fields: nothing where it was undone.
-    pub effects: Vec<Effect>,
-}
+use swift_journal::{Checkpoint, Journal};
+use swift_types::{Ending, RootId};
 
 /// What a task was made by.
 #[derive(Clone, Copy, Debug, PartialEq, Eq)]
@@ -42,7 +18,9 @@ pub enum Event {}
 #[derive(Drop)]
 pub struct Report {
     /// The journal of each executor, in the order of executors.
-    pub journals: Vec<Vec<Record>>,
+    pub journals: Vec<Journal>,
+    /// The checkpoint of each executor, in the same order: what is left of the turns before its journal.
+    pub checkpoints: Vec<Checkpoint>,
     /// What happened to tasks, in order: empty, since no run writes events yet.
     pub log: Vec<Event>,
     /// What made each task, and how it ended, in the order of tasks.

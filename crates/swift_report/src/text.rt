@@ -6,7 +6,7 @@ ghost use Rattle.swift_script.specs.Scripts.{actor_count};
 
 use crate::append::number;
 use crate::names::{actor_name, field_name};
-use crate::report::{Origin, Record, Report};
+use crate::report::{Origin, Report};
 use crate::turns::executors;
 use crate::word;
 use std::alloc::{AllocError, Global};
@@ -16,8 +16,8 @@ use swift_types::{ActorId, Ending};
 /// The text of a report on a script (the format is our own), as the bytes that are written: the journals unless it
 /// is `quiet`, the tasks, and the fields. All of it is ASCII where the names of the script are.
 ///
-/// A line for each executor, turn, task and field, each ended by a line feed. A name that the script lacks is left
-/// empty. Linear in the report.
+/// A line for each executor, turn, task and field, each ended by a line feed. Of turns that were folded only the number
+/// is told, in a line of its own. A name that the script lacks is left empty. Linear in the report.
 ///
 /// # Errors
 ///
@@ -31,7 +31,7 @@ pub fn report_text(
     ensures { IfOk result (λ t. t.items ≡ report_text script.now report.now quiet) }
 {
     let mut out = Vec::new(alloc);
-    journals(&mut out, script, &report.journals, quiet)?;
+    journals(&mut out, script, report, quiet)?;
     out.extend_from_slice(b"tasks\n")?;
     tasks(&mut out, script, &report.endings)?;
     out.extend_from_slice(b"fields\n")?;
@@ -42,16 +42,16 @@ pub fn report_text(
 fn journals(
     out: &mut Vec<u8>,
     script: &Script,
-    journals: &[Vec<Record>],
+    report: &Report,
     quiet: bool,
 ) -> Result<(), AllocError>
-    ensures { OnOk result (out.new.items ≡ out.old.items ++ journals_text script.now quiet journals.now) }
+    ensures { OnOk result (out.new.items ≡ out.old.items ++ journals_text script.now quiet report.now.checkpoints.items report.now.journals.items) }
 {
     if quiet {
         return Ok(());
     }
     out.extend_from_slice(b"journals\n")?;
-    executors(out, script, journals)
+    executors(out, script, &report.checkpoints, &report.journals)
 }
 
 fn origin(out: &mut Vec<u8>, script: &Script, origin: Origin) -> Result<(), AllocError>

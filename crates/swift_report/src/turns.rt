@@ -1,16 +1,16 @@
 //! Lines of turns, and of executors.
 
-ghost use Rattle.std.specs.Prelude.{◌≡◌, ◌++◌, OnOk};
-ghost use Rattle.swift_report.specs.Text.{method_text, exit_text, flag_text, env_text, run_text, resume_and_exit_text, turn_text, turns_text, kind_text, heading_text, executors_text};
+ghost use Rattle.std.specs.Prelude.{◌≡◌, ◌++◌, OnOk, slice_get};
+ghost use Rattle.swift_report.specs.Text.{method_text, exit_text, flag_text, env_text, run_text, resume_and_exit_text, turn_text, turns_text, kind_text, heading_text, folded_text, executor_text, executors_text, folded_count};
 
 use crate::append::number;
+use crate::line::{Line, line_at};
 use crate::names::{executor_kind, executor_name};
-use crate::report::Record;
 use crate::word;
 use script_code::Env;
 use script_grammar::ExecutorKind;
 use std::alloc::AllocError;
-use swift_interpreter::Exit;
+use swift_journal::{BriefExit, Checkpoint, Journal};
 use swift_script::Script;
 use swift_types::MethodId;
 
@@ -26,28 +26,28 @@ fn method(out: &mut Vec<u8>, script: &Script, method: MethodId) -> Result<(), Al
     out.extend_from_slice(script.method_name(method))
 }
 
-fn exit(out: &mut Vec<u8>, script: &Script, exit: &Exit) -> Result<(), AllocError>
-    ensures { OnOk result (out.new.items ≡ out.old.items ++ exit_text script.now exit.now) }
+fn exit(out: &mut Vec<u8>, script: &Script, exit: BriefExit) -> Result<(), AllocError>
+    ensures { OnOk result (out.new.items ≡ out.old.items ++ exit_text script.now exit) }
 {
     match exit {
-        Exit::Call(call) => {
+        BriefExit::Call(_, called) => {
             out.extend_from_slice(b"call ")?;
-            method(out, script, call.method)
+            method(out, script, called)
         }
-        Exit::Wait(_) => out.extend_from_slice(b"wait"),
-        Exit::Next(_) => out.extend_from_slice(b"next"),
-        Exit::Yield => out.extend_from_slice(b"yield"),
-        Exit::Close(_, pending) => {
+        BriefExit::Wait(_) => out.extend_from_slice(b"wait"),
+        BriefExit::Next(_) => out.extend_from_slice(b"next"),
+        BriefExit::Yield => out.extend_from_slice(b"yield"),
+        BriefExit::Close(_, pending) => {
             out.extend_from_slice(b"close")?;
-            word::pending(out, *pending)
+            word::pending(out, pending)
         }
-        Exit::Return(value) => {
+        BriefExit::Return(value) => {
             out.extend_from_slice(b"return ")?;
-            number(out, *value)
+            number(out, value)
         }
-        Exit::Fault(fault) => {
+        BriefExit::Fault(fault) => {
             out.extend_from_slice(b"fault ")?;
-            word::fault(out, *fault)
+            word::fault(out, fault)
         }
     }
 }
@@ -69,7 +69,7 @@ fn env(out: &mut Vec<u8>, env: &Env) -> Result<(), AllocError>
 }
 
 // The turn's place, its task, its number there and its worker.
-fn run(out: &mut Vec<u8>, place: usize, entry: &Record) -> Result<(), AllocError>
+fn run(out: &mut Vec<u8>, place: usize, entry: &Line) -> Result<(), AllocError>
     ensures { OnOk result (out.new.items ≡ out.old.items ++ run_text place entry.now) }
 {
     number(out, place)?;
@@ -82,31 +82,38 @@ fn run(out: &mut Vec<u8>, place: usize, entry: &Record) -> Result<(), AllocError
 }
 
 // How a turn began and how it ended.
-fn resume_and_exit(out: &mut Vec<u8>, script: &Script, entry: &Record) -> Result<(), AllocError>
+fn resume_and_exit(out: &mut Vec<u8>, script: &Script, entry: &Line) -> Result<(), AllocError>
     ensures { OnOk result (out.new.items ≡ out.old.items ++ resume_and_exit_text script.now entry.now) }
 {
     word::resume(out, entry.resume)?;
     out.extend_from_slice(b" -> ")?;
-    exit(out, script, &entry.exit)
+    exit(out, script, entry.exit)
 }
 
-fn turn(out: &mut Vec<u8>, script: &Script, place: usize, entry: &Record) -> Result<(), AllocError>
+fn turn(out: &mut Vec<u8>, script: &Script, place: usize, entry: &Line) -> Result<(), AllocError>
     ensures { OnOk result (out.new.items ≡ out.old.items ++ turn_text script.now place entry.now) }
 {
     run(out, place, entry)?;
     out.extend_from_slice(b" ")?;
-    method(out, script, entry.frame.method)?;
+    method(out, script, entry.method)?;
     env(out, &entry.env)?;
     out.extend_from_slice(b" ")?;
     resume_and_exit(out, script, entry)?;
     out.extend_from_slice(b"\n")
 }
 
-fn turns(out: &mut Vec<u8>, script: &Script, records: &[Record]) -> Result<(), AllocError>
-    ensures { OnOk result (out.new.items ≡ out.old.items ++ turns_text script.now 0 records.now) }
+// The lines of the turns of a journal, whose places begin at this number. No turn has a place past `usize::MAX`.
+fn turns(
+    out: &mut Vec<u8>,
+    script: &Script,
+    first: usize,
+    journal: &Journal,
+) -> Result<(), AllocError>
+    ensures { OnOk result (out.new.items ≡ out.old.items ++ turns_text script.now first journal.now) }
 {
-    for (place, entry) in records.iter().enumerate() {
-        turn(out, script, place, entry)?;
+    for place in 0..journal.len() {
+        let at = first.checked_add(place).ok_or(AllocError)?;
+        turn(out, script, at, &line_at(journal, place))?;
     }
     Ok(())
 }
@@ -142,17 +149,55 @@ fn heading(
     out.extend_from_slice(b"\n")
 }
 
+// The line that says how many turns were folded, where some were.
+fn folded_line(out: &mut Vec<u8>, folded: usize) -> Result<(), AllocError>
+    ensures { OnOk result (out.new.items ≡ out.old.items ++ folded_text folded) }
+{
+    if folded == 0 {
+        return Ok(());
+    }
+    out.extend_from_slice(b"folded ")?;
+    number(out, folded)?;
+    out.extend_from_slice(b"\n")
+}
+
+// The lines of an executor, of whose turns so many were folded.
+fn executor(
+    out: &mut Vec<u8>,
+    script: &Script,
+    place: usize,
+    folded: usize,
+    journal: &Journal,
+) -> Result<(), AllocError>
+    ensures { OnOk result (out.new.items ≡ out.old.items ++ executor_text script.now place folded journal.now) }
+{
+    let all = folded.checked_add(journal.len()).ok_or(AllocError)?;
+    heading(out, script, place, all)?;
+    folded_line(out, folded)?;
+    turns(out, script, folded, journal)
+}
+
+// How many turns of the executor at a place were folded.
+fn folded_at(checkpoints: &[Checkpoint], place: usize) -> usize
+    ensures { result ≡ folded_count (slice_get checkpoints.now place) }
+{
+    match checkpoints.get(place) {
+        Some(checkpoint) => checkpoint.len(),
+        None => 0,
+    }
+}
+
 /// The lines of all executors, each with its turns.
 pub(crate) fn executors(
     out: &mut Vec<u8>,
     script: &Script,
-    journals: &[Vec<Record>],
+    checkpoints: &[Checkpoint],
+    journals: &[Journal],
 ) -> Result<(), AllocError>
-    ensures { OnOk result (out.new.items ≡ out.old.items ++ executors_text script.now 0 journals.now) }
+    ensures { OnOk result (out.new.items ≡ out.old.items ++ executors_text script.now checkpoints.now 0 journals.now) }
 {
-    for (executor, journal) in journals.iter().enumerate() {
-        heading(out, script, executor, journal.len())?;
-        turns(out, script, journal)?;
+    for (place, journal) in journals.iter().enumerate() {
+        executor(out, script, place, folded_at(checkpoints, place), journal)?;
     }
     Ok(())
 }

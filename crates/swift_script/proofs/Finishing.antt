@@ -1,17 +1,20 @@
 -- What is known where a script is finished, or refused for a root that waits.
 use Rattle.std.proofs.Common.{◌≡◌, ℕ, Option, Some, None, List, map, sym, ap, subst, ◌∙◌}
 use Rattle.std.specs.Prelude.{IfSome, IfNone}
-use Rattle.script_tokens.specs.Pieces.{piece}
+use Rattle.script_tokens.specs.Pieces.{Piece, piece}
 use Rattle.script_tokens.specs.declared.list.Tokens.{Tokens}
 use Rattle.script_tokens.specs.declared.token.Token.{Token}
+use Rattle.script_tokens.proofs.Unique.{unique}
+use Rattle.script_grammar.specs.Grammar.{IsScript}
+use Rattle.script_parser.specs.declared.limits.TheConstants.{NESTING}
 use Rattle.script_printing.specs.Script.{ScriptTree}
 use Rattle.script_waits.specs.Waits.{NoneBefore}
 use Rattle.script_compiler.specs.Waiting.{edges_of, waits_of, root_methods}
 use Rattle.swift_script.specs.Scripts.{parts_of}
 use Rattle.swift_script.specs.Accepted.{IsAccepted, first_false, RootWaits, NoRootWaits}
 use Rattle.swift_script.specs.FaultLines.{is_root, place_of, RootStandsOn}
-use Rattle.swift_script.specs.Spelled.{pieces_of, IsNamed, line_in}
-use Rattle.swift_script.proofs.Refusing.{kept_line, spells}
+use Rattle.swift_script.specs.Spelled.{pieces_of, AreKept, IsNamed, HasNamesInOrder, line_in}
+use Rattle.swift_script.proofs.Refusing.{kept_line}
 
 pub none_waits : (s : ScriptTree) (o : Option ℕ) → o ≡ None → IfNone o (NoRootWaits s) → NoRootWaits s
 none_waits s None is h = h
@@ -40,12 +43,23 @@ root_stands text s kept lent o root place line n is waits first same at on =
       on = on ∙ ap (line_in kept) there ∙ kept_line text kept (place_of is_root root (pieces_of kept)) n.spelled.are_kept;
     }
 
+-- the tokens of a text are the ones that spell it, whenever they are found
+pub named_again : (text : List ℕ) (s : ScriptTree) (kept : Tokens) → HasNamesInOrder text s → AreKept text kept → IsNamed text s kept
+named_again text s kept n k =
+    let same : n.spelled.pieces ≡ pieces_of kept = unique (pieces_of kept) n.spelled.lexed k.are.lexed in
+    record {
+      decls = n.decls;
+      spelled = record { plain = n.plain; are_kept = k; spelled = subst (λ (ps : List Piece). IsScript NESTING ps n.decls) same n.spelled.spelled };
+      names = n.names;
+      is = n.is;
+    }
+
 -- where nothing is refused, the text is accepted
-pub accepted : (text : List ℕ) (s t : ScriptTree) (kept : Tokens) → t ≡ s → IsNamed text s kept → first_false s ≡ None → NoRootWaits s → IsAccepted text t
-accepted text s t kept same n starts waits = record {
-  plain = n.spelled.plain;
+pub accepted : (text : List ℕ) (s t : ScriptTree) → t ≡ s → HasNamesInOrder text s → first_false s ≡ None → NoRootWaits s → IsAccepted text t
+accepted text s t same n starts waits = record {
+  plain = n.plain;
   decls = n.decls;
-  spelled = spells text n.decls kept n.spelled;
+  spelled = n.spelled;
   is = same ∙ n.is;
   names = n.names;
   starts = ap first_false same ∙ starts;

@@ -19,7 +19,7 @@ use Rattle.swift_script.specs.declared.fault.ScriptFaultKind.{ScriptFaultKind}
 use Rattle.swift_script.specs.declared.fault.ScriptFaultKind.TheVariants as kind
 use Rattle.swift_script.specs.declared.place.Sought.{Sought}
 use Rattle.swift_script.specs.declared.place.Sought.TheVariants as sought
-use Rattle.swift_script.specs.Accepted.{IsPlain}
+use Rattle.swift_script.specs.Accepted.{IsPlain, SpellsDecls}
 use Rattle.swift_script.specs.FaultLines.{AreTokens, last_line, is_name, is_invariant, is_root, place_of, past_name}
 
 abbrev pub pieces_of : Tokens → List Piece
@@ -84,5 +84,13 @@ check_line kept (naming.Name e) = line_in kept (place_of is_name e.names_before 
 pub record IsNamed (text : List ℕ) (tree : ScriptTree) (kept : Tokens) : Type 0 where
   pub decls : List DeclTree
   pub spelled : IsSpelled text decls kept
+  pub names : names_error decls ≡ None
+  pub is : tree ≡ script_in decls
+
+-- A plain text spells a script whose names and counts are in order.
+pub record HasNamesInOrder (text : List ℕ) (tree : ScriptTree) : Type 0 where
+  pub plain : IsPlain text
+  pub decls : List DeclTree
+  pub spelled : SpellsDecls NESTING text decls
   pub names : names_error decls ≡ None
   pub is : tree ≡ script_in decls

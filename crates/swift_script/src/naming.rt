@@ -12,13 +12,14 @@ use crate::fault::{ScriptFault, ScriptFaultKind};
 use crate::place::{Sought, line_at, place_of};
 use crate::spelled::fault;
 use script_grammar::Decl;
-use script_names::{CheckError, Declared, NameErrorKind, check};
+use script_names::{CheckError, Declared, NameErrorKind, Seed, check};
 use script_tokens::Tokens;
 use std::alloc::Global;
 
 /// What the declarations declare, where their names are in order.
 pub(crate) fn check_names(
     alloc: Global,
+    seed: Seed,
     decls: &[Decl],
     tokens: &Tokens,
 ) -> Result<Declared, ScriptFault>
@@ -27,7 +28,7 @@ pub(crate) fn check_names(
     ensures refused { (text : List ℕ) → IsSpelled text (map view_decl decls.now) tokens.now → IfErr result (λ e. Refuses e.kind text) }
     ensures line { (text : List ℕ) → IsSpelled text (map view_decl decls.now) tokens.now → IfErr result (λ e. IsAtItsLine e text) }
 {
-    match check(alloc, decls) {
+    match check(alloc, seed, decls) {
         Ok(declared) => Ok(declared),
         Err(error) => Err(refusal(tokens, error)),
     }

@@ -1,29 +1,30 @@
 //! From text to a script.
 
-ghost use Rattle.std.specs.Prelude.{◌≡◌, None, map, IfOk, IfErr};
+ghost use Rattle.std.specs.Prelude.{◌≡◌, None, map, OnOk, IfOk, IfErr};
 ghost use Rattle.script_grammar.specs.Tree.{view_decl};
 ghost use Rattle.script_names.specs.Directory.{directory_of};
 ghost use Rattle.script_names.specs.Rules.{names_error};
+ghost use Rattle.script_parser.specs.declared.limits.TheConstants.{NESTING};
 ghost use Rattle.script_printing.specs.Script.{ScriptTree};
 ghost use Rattle.script_compiler.specs.IsCompiled.{IsCompiled};
-ghost use Rattle.swift_script.specs.Accepted.{IsAccepted};
+ghost use Rattle.swift_script.specs.Accepted.{IsAccepted, IsPlain, NoRootWaits, SpellsDecls, first_false};
 ghost use Rattle.swift_script.specs.Answers.{IsReadAs};
 ghost use Rattle.swift_script.specs.FaultLines.{IsAtItsLine};
 ghost use Rattle.swift_script.specs.Refuses.{Refuses};
 ghost use Rattle.swift_script.specs.ScriptInvariant.{tree_of};
 ghost use Rattle.swift_script.specs.Scripts.{parts_of};
-ghost use Rattle.swift_script.specs.Spelled.{IsSpelled, IsNamed};
+ghost use Rattle.swift_script.specs.Spelled.{HasNamesInOrder};
 
 use crate::fault::ScriptFault;
 use crate::naming::check_names;
 use crate::script::Script;
-use crate::spelled::{Spelled, spell};
+use crate::spelled::{Spelled, all_tokens, spell};
 use crate::split::{Declarations, split};
-use crate::start::{check_starts, check_waits};
+use crate::start::{check_starts, check_waits, is_in_order};
 use script_compiler::{Compiled, compile};
-use script_names::Declared;
+use script_grammar::Decl;
+use script_names::{Declared, Seed};
 use script_printing::print;
-use script_tokens::Tokens;
 use std::alloc::Global;
 
 /// The script that a text spells (the language is our own), in time and memory linear in the text.
@@ -46,54 +47,54 @@ pub fn read(alloc: Global, bytes: &[u8]) -> Result<Script, ScriptFault>
     accept(alloc, bytes)
 }
 
+#[tactic(auto, using(crate::proofs::Refusing::spells))]
 fn accept(alloc: Global, text: &[u8]) -> Result<Script, ScriptFault>
     ensures found { IfOk result (λ s. IsAccepted text.now s) }
     ensures refused { IfErr result (λ e. Refuses e.kind text.now) }
     ensures line { IfErr result (λ e. IsAtItsLine e text.now) }
 {
     let spelled = spell(alloc, text)?;
-    let declared = check_names(alloc, &spelled.decls, &spelled.tokens)?;
-    build(alloc, text, spelled, declared)
+    let declared = check_names(alloc, Seed::of(text), &spelled.decls, &spelled.tokens)?;
+    // Tokens take much memory, and after this a refusal alone needs them, which finds them again.
+    let Spelled { decls, tokens } = spelled;
+    drop(tokens);
+    build(alloc, text, decls, declared)
 }
 
 // The script of declarations whose names are in order.
 fn build(
     alloc: Global,
     text: &[u8],
-    spelled: Spelled,
+    decls: Vec<Decl>,
     declared: Declared,
 ) -> Result<Script, ScriptFault>
-    requires spelled { IsSpelled text.now (map view_decl spelled.decls.items) spelled.tokens }
-    requires names { names_error (map view_decl spelled.decls.items) ≡ None }
-    requires directory { declared ≡ directory_of (map view_decl spelled.decls.items) }
+    requires plain { IsPlain text.now }
+    requires spelled { SpellsDecls NESTING text.now (map view_decl decls.items) }
+    requires names { names_error (map view_decl decls.items) ≡ None }
+    requires directory { declared ≡ directory_of (map view_decl decls.items) }
     ensures found { IfOk result (λ s. IsAccepted text.now s) }
     ensures refused { IfErr result (λ e. Refuses e.kind text.now) }
     ensures line { IfErr result (λ e. IsAtItsLine e text.now) }
 {
-    let Spelled { decls, tokens } = spelled;
     let compiled = compile(alloc, declared, &decls)?;
     let declarations = split(alloc, decls)?;
-    finish(alloc, text, &tokens, declarations, compiled)
+    finish(alloc, text, declarations, compiled)
 }
 
 // The script of what was compiled, unless an invariant is false or a root waits.
 fn finish(
     alloc: Global,
     text: &[u8],
-    tokens: &Tokens,
     declarations: Declarations,
     compiled: Compiled,
 ) -> Result<Script, ScriptFault>
-    requires named { IsNamed text.now (tree_of declarations) tokens.now }
+    requires named { HasNamesInOrder text.now (tree_of declarations) }
     requires compiled { IsCompiled compiled (parts_of (tree_of declarations)) }
     ensures found { IfOk result (λ s. IsAccepted text.now s) }
     ensures refused { IfErr result (λ e. Refuses e.kind text.now) }
     ensures line { IfErr result (λ e. IsAtItsLine e text.now) }
 {
-    // The clauses alone speak of the text.
-    let _ = text;
-    check_starts(alloc, tokens, &declarations, &compiled)?;
-    check_waits(alloc, tokens, &declarations, &compiled)?;
+    settle(alloc, text, &declarations, &compiled)?;
     let printed = print(
         alloc,
         &declarations.executors,
@@ -102,4 +103,27 @@ fn finish(
         &declarations.roots,
     )?;
     Ok(Script::of(declarations, printed, compiled))
+}
+
+// The rules that are looked at once a script is compiled. Only where one is broken the tokens are found again, for its line.
+#[tactic(auto, using(crate::proofs::Finishing::named_again))]
+fn settle(
+    alloc: Global,
+    text: &[u8],
+    declarations: &Declarations,
+    compiled: &Compiled,
+) -> Result<(), ScriptFault>
+    requires named { HasNamesInOrder text.now (tree_of declarations.now) }
+    requires compiled { IsCompiled compiled.now (parts_of (tree_of declarations.now)) }
+    ensures starts { OnOk result (first_false (tree_of declarations.now) ≡ None) }
+    ensures waits { OnOk result (NoRootWaits (tree_of declarations.now)) }
+    ensures refused { IfErr result (λ e. Refuses e.kind text.now) }
+    ensures line { IfErr result (λ e. IsAtItsLine e text.now) }
+{
+    if is_in_order(alloc, declarations, compiled)? {
+        return Ok(());
+    }
+    let tokens = all_tokens(alloc, text)?;
+    check_starts(alloc, &tokens, declarations, compiled)?;
+    check_waits(alloc, &tokens, declarations, compiled)
 }

@@ -39,8 +39,8 @@ pub(crate) fn spell(alloc: Global, text: &[u8]) -> Result<Spelled, ScriptFault>
     declarations(alloc, text, tokens)
 }
 
-// The tokens of a text.
-fn all_tokens(alloc: Global, text: &[u8]) -> Result<Tokens, ScriptFault>
+/// The tokens of a text.
+pub(crate) fn all_tokens(alloc: Global, text: &[u8]) -> Result<Tokens, ScriptFault>
     ensures kept { IfOk result (AreKept text.now) }
     ensures refused { IfErr result (λ e. Refuses e.kind text.now) }
     ensures line { IfErr result (λ e. IsAtItsLine e text.now) }

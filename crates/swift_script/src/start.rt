@@ -1,6 +1,6 @@
 //! The rules that are looked at once a script is compiled: on invariants, and on roots that wait.
 
-ghost use Rattle.std.specs.Prelude.{◌≡◌, ℕ, List, None, map, OnOk, IfErr};
+ghost use Rattle.std.specs.Prelude.{◌≡◌, ℕ, List, None, IsTrue, map, OnOk, IfOk, IfErr};
 ghost use Rattle.script_grammar.specs.Tree.{view_actor};
 ghost use Rattle.script_compiler.specs.IsCompiled.{IsCompiled};
 ghost use Rattle.swift_script.specs.Accepted.{first_false, NoRootWaits};
@@ -17,7 +17,7 @@ use crate::split::Declarations;
 use script_compiler::{Compiled, first_false, first_waiting_root};
 use script_grammar::Actor;
 use script_tokens::Tokens;
-use std::alloc::Global;
+use std::alloc::{AllocError, Global};
 
 // How many of the actors before a place have an invariant.
 fn invariants_before(actors: &[Actor], place: usize) -> usize
@@ -33,6 +33,28 @@ fn invariants_before(actors: &[Actor], place: usize) -> usize
         }
     }
     count
+}
+
+/// Whether each invariant holds at the start, and no root waits for itself or for a later one. Linear in the fields, the
+/// invariants, the instructions and the roots. `Err` says that there was no memory.
+pub(crate) fn is_in_order(
+    alloc: Global,
+    declarations: &Declarations,
+    compiled: &Compiled,
+) -> Result<bool, AllocError>
+    requires { IsCompiled compiled.now (parts_of (tree_of declarations.now)) }
+    ensures starts { IfOk result (λ b. IsTrue b → first_false (tree_of declarations.now) ≡ None) }
+    ensures waits { IfOk result (λ b. IsTrue b → NoRootWaits (tree_of declarations.now)) }
+{
+    // The clauses alone speak of the declarations.
+    let _ = declarations;
+    match first_false(alloc, compiled)? {
+        None => match first_waiting_root(alloc, compiled)? {
+            None => Ok(true),
+            Some(_) => Ok(false),
+        },
+        Some(_) => Ok(false),
+    }
 }
 
 /// Whether each actor's invariant holds of what the fields of its executor's actors start with. Linear in the fields

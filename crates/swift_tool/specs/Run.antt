@@ -10,7 +10,7 @@ use Rattle.swift_script.specs.Accepted.{IsAccepted}
 use Rattle.swift_script.specs.Refuses.{Refuses}
 use Rattle.swift_output.specs.Part.{WritesPart}
 use Rattle.swift_one_thread.specs.Executors.{AreRootsFrom}
-use Rattle.swift_one_thread.specs.Envs.{HaveTheirEnv}
+use Rattle.swift_one_thread.specs.Envs.{AreRuns}
 use Rattle.swift_one_thread.specs.declared.fault.RunFault.{RunFault}
 use Rattle.swift_one_thread.specs.declared.fault.RunFault.TheVariants.{Workers, Memory, Unfinished}
 use Rattle.swift_tool.specs.declared.fault.ToolFault.{ToolFault}
@@ -19,7 +19,7 @@ use Rattle.script_code.specs.Seen.{rows_of}
 use Rattle.swift_interpreter.specs.Turn.{all_hold}
 use Rattle.swift_script.specs.Scripts.{ScriptView, executor_count, executor_invariants, root_count}
 use Rattle.swift_report.specs.declared.report.Report.{Report}
-use Rattle.swift_report.specs.Lawful.{AreLawful}
+use Rattle.swift_report.specs.Lawful.{turns_of}
 use Rattle.swift_report.specs.Ended.{AreEnded}
 use Rattle.swift_report.specs.Numbered.{HaveNoGaps}
 use Rattle.swift_report.specs.Text.{report_text}
@@ -38,23 +38,23 @@ abbrev pub HoldInvariants : ScriptView → ℕ → List (Vec (Vec ℤ Global) Gl
 HoldInvariants p e [] = Unit {0}
 HoldInvariants p e (rows ∷ others) = IsTrue (all_hold (executor_invariants p e) (rows_of rows.items)) × HoldInvariants p (e + 1) others
 
--- A text is that of a run of the script that these bytes spell: the journal of each executor is lawful, and each of its
--- turns was given what belongs to its root; the turns of each task are numbered without gaps; the fields are what
--- replaying the journals gives, and each invariant holds of them; there is one ending for each root, in order of
--- declaration, and each comes from a turn of its task. `well` says whether each is a value.
+-- A text is that of a run of the script that these bytes spell: the turns of each executor, those that were folded too, are
+-- lawful from the start values on, and each was given what belongs to its root; the turns of each task are numbered
+-- without gaps; the fields are what replaying the turns gives, and each invariant holds of them; there is one ending for
+-- each root, in order of declaration, and each comes from a turn of its task. `well` says whether each is a value.
 pub record IsRunOf (bytes : List ℕ) (quiet : Bool) (text : List ℕ) (well : Bool) : Type 0 where
   pub script : ScriptView
   pub report : Report
   pub accepted : IsAccepted bytes script
-  pub lawful : AreLawful script 0 report.journals.items report.fields.items
+  pub runs : AreRuns script report.checkpoints.items report.journals.items report.fields.items
   pub journals : length report.journals.items ≡ executor_count script
+  pub checkpoints : length report.checkpoints.items ≡ executor_count script
   pub fields : length report.fields.items ≡ executor_count script
   pub invariants : HoldInvariants script 0 report.fields.items
-  pub env_given : HaveTheirEnv script report.journals.items
-  pub numbered : HaveNoGaps report.journals.items
+  pub numbered : HaveNoGaps (turns_of report.checkpoints.items report.journals.items)
   pub tasks : length report.endings.items ≡ root_count script
   pub roots : AreRootsFrom 0 report.endings.items
-  pub turned : AreEnded report.journals.items 0 report.endings.items
+  pub turned : AreEnded (turns_of report.checkpoints.items report.journals.items) 0 report.endings.items
   pub ended : well ≡ end_well report.endings.items
   pub printed : text ≡ report_text script report quiet
 

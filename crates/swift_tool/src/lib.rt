@@ -9,8 +9,6 @@ mod fault;
 mod input;
 // From a script's text to a report's.
 mod run;
-#[cfg(test)]
-mod tests;
 
 pub use ended::{ProgramFault, status, take_words};
 pub use fault::ToolFault;

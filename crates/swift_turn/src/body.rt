@@ -318,11 +318,26 @@ impl Body {
         self.script.method_actor(self.turn.frame.method)
     }
 
+    /// The script whose task it is.
+    pub fn script(&self) -> &Script
+        ensures { result.now ≡ self.now.script }
+    {
+        &self.script
+    }
+
     /// The bindings that stood when the frame that runs began (SE-0311).
     pub fn outer(&self) -> &Bindings
         ensures { result.now ≡ self.now.task.outer }
     {
         &self.outer
+    }
+
+    /// The frame that runs. It takes no memory.
+    pub fn top(&self) -> &Frame
+        requires { IsRunning self.now }
+        ensures { IfRunning self.now.task.frames (λ p. p ≡ frame_view result.now) }
+    {
+        &self.turn.frame
     }
 
     /// A copy of the frame that runs, with the bindings that it has made. It costs and takes memory for its variables,

@@ -10,6 +10,9 @@ pub const FRAMES: usize = 64;
 /// How many turns of a task may run statements.
 pub const TURNS: u32 = 1_000;
 
+/// How many turns a journal has when it is folded.
+pub const FOLD: usize = 4_096;
+
 /// How many tasks a run may have, those of the roots included.
 pub const TASKS: usize = 1_024;
 

@@ -29,7 +29,7 @@ fn seen(waits: &Waits) -> [Option<Priority>; 5] {
 fn happen(waits: &mut Waits, event: Event) -> Result<(), WaitsFault> {
     match event {
         Event::Root(task, priority) => waits.add_root(task, priority),
-        Event::Child(task, parent) => waits.add_child(task, parent),
+        Event::Child(task, parent, priority) => waits.add_child(task, parent, priority),
         Event::Free(task, priority) => waits.add_free(task, priority),
         Event::Wait(waiter, task) => waits.wait(waiter, task),
     }
@@ -39,7 +39,7 @@ fn happen(waits: &mut Waits, event: Event) -> Result<(), WaitsFault> {
 fn call_of(event: Event) -> &'static str {
     match event {
         Event::Root(_, _) => "Waits::add_root",
-        Event::Child(_, _) => "Waits::add_child",
+        Event::Child(_, _, _) => "Waits::add_child",
         Event::Free(_, _) => "Waits::add_free",
         Event::Wait(_, _) => "Waits::wait",
     }
@@ -49,10 +49,10 @@ fn call_of(event: Event) -> &'static str {
 const EVENTS: [Event; 8] = [
     Event::Free(TaskId(2), Priority::Medium),
     Event::Root(TaskId(0), Priority::Low),
-    Event::Child(TaskId(1), TaskId(0)),
+    Event::Child(TaskId(1), TaskId(0), Priority::Background),
     Event::Wait(TaskId(2), TaskId(0)),
     Event::Root(TaskId(3), Priority::High),
-    Event::Child(TaskId(4), TaskId(2)),
+    Event::Child(TaskId(4), TaskId(2), Priority::High),
     Event::Wait(TaskId(1), TaskId(2)),
     Event::Wait(TaskId(3), TaskId(1)),
 ];

@@ -48,6 +48,15 @@ fn numbered(alloc: Global, call: &str, mark: char, count: u32) -> Result<String,
     Ok(made)
 }
 
+// The numbers of a range, `FIRST to LAST` or `FIRST to LAST by STEP`.
+fn range_of(range: &str) -> Result<(u32, u32, u32), CaseFault> {
+    let Some((first, rest)) = range.split_once(" to ") else {
+        return Err(CaseFault::Form);
+    };
+    let (last, step) = rest.split_once(" by ").unwrap_or((rest, "1"));
+    Ok((number(first)?, number(last)?, number(step)?))
+}
+
 // Makes a call for each number of a range.
 fn play_range<P: Part>(
     alloc: Global,
@@ -56,17 +65,16 @@ fn play_range<P: Part>(
     call: &str,
     out: &mut Vec<u8>,
 ) -> Result<(), CaseFault> {
-    let Some((first, last)) = range.split_once(" to ") else {
-        return Err(CaseFault::Form);
-    };
-    let first = number(first)?;
-    let last = number(last)?;
+    let (first, last, step) = range_of(range)?;
     let mut before = String::new(alloc);
-    for step in 0..=first.abs_diff(last) {
+    for place in 0..=first.abs_diff(last) {
+        if step > 1 && place % step != 0 {
+            continue;
+        }
         let count = if first <= last {
-            first.saturating_add(step)
+            first.saturating_add(place)
         } else {
-            first.saturating_sub(step)
+            first.saturating_sub(place)
         };
         let call = numbered(alloc, call, '#', count)?;
         let call = numbered(alloc, call.as_str(), '@', count.saturating_sub(1))?;

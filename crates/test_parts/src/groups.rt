@@ -3,27 +3,10 @@
 
 use crate::calls::Part;
 use crate::fault::CaseFault;
-use crate::words::{number, size, value};
+use crate::words::{size, task, value};
 use std::alloc::{AllocError, Global};
 use swift_groups::{Close, GroupFault, GroupId, Groups, Next};
 use swift_types::{Ending, Fault, TaskId};
-
-#[derive(Drop)]
-pub struct GroupsPart {
-    groups: Groups,
-}
-
-impl GroupsPart {
-    pub fn new(alloc: Global) -> Self {
-        GroupsPart {
-            groups: Groups::new(alloc),
-        }
-    }
-}
-
-fn task(word: &str) -> Result<TaskId, CaseFault> {
-    Ok(TaskId(number(word)?))
-}
 
 fn group(word: &str) -> Result<GroupId, CaseFault> {
     Ok(GroupId(size(word)?))
@@ -79,19 +62,18 @@ fn answered(
     }
 }
 
-impl Part for GroupsPart {
+impl Part for Groups {
     fn answer(&mut self, alloc: Global, words: &[&str]) -> Result<String, CaseFault> {
-        let groups = &mut self.groups;
         let answer = match words {
-            ["open", owner] => match groups.open(task(owner)?) {
+            ["open", owner] => match self.open(task(owner)?) {
                 Ok(GroupId(opened)) => Ok(format!(in alloc; "group {opened}")?),
                 Err(fault) => Err(fault),
             },
-            ["next", asked] => match groups.next(group(asked)?) {
+            ["next", asked] => match self.next(group(asked)?) {
                 Ok(next) => Ok(shown(alloc, next)?),
                 Err(fault) => Err(fault),
             },
-            _ => answered(alloc, groups, words)?,
+            _ => answered(alloc, self, words)?,
         };
         match answer {
             Ok(text) => Ok(text),

@@ -1,39 +1,12 @@
 //! Priorities of tasks that wait: `reserve CALLS`, `add_root TASK PRIORITY`, `add_free TASK PRIORITY`, `add_child TASK
-//! PARENT`, `wait TASK TASK`, `priority TASK`.
+//! PARENT PRIORITY`, `wait TASK TASK`, `priority TASK`.
 
 use crate::calls::Part;
 use crate::fault::CaseFault;
-use crate::words::{number, size};
+use crate::words::{priority_of, size, task};
 use std::alloc::{AllocError, Global};
 use swift_escalation::{Waits, WaitsFault};
-use swift_types::{Priority, TaskId};
-
-#[derive(Drop)]
-pub struct WaitsPart {
-    waits: Waits,
-}
-
-impl WaitsPart {
-    pub fn new(alloc: Global) -> Self {
-        WaitsPart {
-            waits: Waits::new(alloc),
-        }
-    }
-}
-
-fn task(word: &str) -> Result<TaskId, CaseFault> {
-    Ok(TaskId(number(word)?))
-}
-
-fn priority_of(word: &str) -> Result<Priority, CaseFault> {
-    match word {
-        "background" => Ok(Priority::Background),
-        "low" => Ok(Priority::Low),
-        "medium" => Ok(Priority::Medium),
-        "high" => Ok(Priority::High),
-        _ => Err(CaseFault::Form),
-    }
-}
+use swift_types::Priority;
 
 fn shown(alloc: Global, found: Option<Priority>) -> Result<String, AllocError> {
     let word = match found {
@@ -54,16 +27,17 @@ fn done(alloc: Global, answer: Result<(), WaitsFault>) -> Result<String, AllocEr
     }
 }
 
-impl Part for WaitsPart {
+impl Part for Waits {
     fn answer(&mut self, alloc: Global, words: &[&str]) -> Result<String, CaseFault> {
-        let waits = &mut self.waits;
         let answer = match words {
-            ["reserve", calls] => waits.reserve(size(calls)?),
-            ["add_root", added, own] => waits.add_root(task(added)?, priority_of(own)?),
-            ["add_free", added, own] => waits.add_free(task(added)?, priority_of(own)?),
-            ["add_child", added, parent] => waits.add_child(task(added)?, task(parent)?),
-            ["wait", waiter, awaited] => waits.wait(task(waiter)?, task(awaited)?),
-            ["priority", asked] => return Ok(shown(alloc, waits.priority(task(asked)?))?),
+            ["reserve", calls] => self.reserve(size(calls)?),
+            ["add_root", added, own] => self.add_root(task(added)?, priority_of(own)?),
+            ["add_free", added, own] => self.add_free(task(added)?, priority_of(own)?),
+            ["add_child", added, parent, own] => {
+                self.add_child(task(added)?, task(parent)?, priority_of(own)?)
+            }
+            ["wait", waiter, awaited] => self.wait(task(waiter)?, task(awaited)?),
+            ["priority", asked] => return Ok(shown(alloc, self.priority(task(asked)?))?),
             _ => return Err(CaseFault::Form),
         };
         Ok(done(alloc, answer)?)

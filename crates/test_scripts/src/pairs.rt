@@ -7,13 +7,33 @@ use std::alloc::Global;
 use std::io::Write;
 use swift_script::{Script, read};
 
-// Whether scripts say the same, or nothing where they do one way round and not the other.
-fn compared(first: &Script, second: &Script) -> Option<bool> {
+/// How two texts compare.
+#[derive(Clone, Copy, PartialEq, Eq)]
+enum Compared {
+    Same,
+    Other,
+    /// One way round alone.
+    SameOneWayRound,
+    /// One of them is no script's.
+    Refused,
+}
+
+fn compare_scripts(first: &Script, second: &Script) -> Compared {
     let there = first.says_the_same(second);
-    if there == (second == first) {
-        Some(there)
+    if there != (second == first) {
+        return Compared::SameOneWayRound;
+    }
+    if there {
+        Compared::Same
     } else {
-        None
+        Compared::Other
+    }
+}
+
+fn compare(alloc: Global, first: &[u8], second: &[u8]) -> Compared {
+    match (read(alloc, first), read(alloc, second)) {
+        (Ok(first), Ok(second)) => compare_scripts(&first, &second),
+        _ => Compared::Refused,
     }
 }
 
@@ -22,44 +42,33 @@ pub fn same(alloc: Global, texts: &str, out: &mut Vec<u8>) -> Result<(), CaseFau
     let Some((first, second)) = texts.split_once("\n--\n") else {
         return Err(CaseFault::Form);
     };
-    let first = read(alloc, &expand(alloc, first)?);
-    let second = read(alloc, &expand(alloc, second)?);
-    let (Ok(first), Ok(second)) = (first, second) else {
-        writeln!(out, "wrong: refused")?;
-        return Ok(());
-    };
-    match compared(&first, &second) {
-        Some(true) => writeln!(out, "same")?,
-        Some(false) => writeln!(out, "other")?,
-        None => writeln!(out, "wrong: same one way round")?,
-    }
+    let first = expand(alloc, first)?;
+    let second = expand(alloc, second)?;
+    out.extend_from_slice(match compare(alloc, &first, &second) {
+        Compared::Same => b"same\n",
+        Compared::Other => b"other\n",
+        Compared::SameOneWayRound => b"wrong: same one way round\n",
+        Compared::Refused => b"wrong: refused\n",
+    })?;
     Ok(())
-}
-
-// The scripts of rows, and a line for each that is refused.
-fn scripts_of(alloc: Global, table: &str, out: &mut Vec<u8>) -> Result<Vec<Script>, CaseFault> {
-    let mut scripts = Vec::new(alloc);
-    let texts = texts_of(alloc, table)?;
-    for text in &texts {
-        match read(alloc, text) {
-            Ok(script) => scripts.push(script)?,
-            Err(fault) => writeln!(out, "wrong: {fault}")?,
-        }
-    }
-    Ok(scripts)
 }
 
 /// How many rows say something else than all the others.
 pub fn distinct(alloc: Global, table: &str, out: &mut Vec<u8>) -> Result<(), CaseFault> {
-    let scripts = scripts_of(alloc, table, out)?;
-    for (i, first) in scripts.iter().enumerate() {
-        for (j, second) in scripts.iter().enumerate() {
-            if compared(first, second) != Some(i == j) {
+    let texts = texts_of(alloc, table)?;
+    for (i, first) in texts.iter().enumerate() {
+        for (j, second) in texts.iter().enumerate() {
+            let wanted = if i == j {
+                Compared::Same
+            } else {
+                Compared::Other
+            };
+            if compare(alloc, first, second) != wanted {
                 writeln!(out, "wrong: row {i} and row {j}")?;
             }
         }
     }
-    let count = scripts.len();
+    let count = texts.len();
     writeln!(out, "{count} rows are distinct")?;
     Ok(())
 }

@@ -3,15 +3,11 @@
 ghost use Rattle.std.specs.Prelude.{◌≡◌, IfOk, slice_set};
 
 use crate::fault::CaseFault;
-use crate::reading::is_read_again;
+use crate::reading::{check, print_text};
+use crate::tally::Tally;
 use std::alloc::{AllocError, Global};
 use std::io::Write;
-use swift_script::{ScriptFault, print_script, read};
-
-// Why a text is refused, if it is.
-fn refusal(alloc: Global, text: &[u8]) -> Option<ScriptFault> {
-    read(alloc, text).err()
-}
+use swift_script::ScriptFault;
 
 // A line for a stretch of places with one answer.
 fn stretch(
@@ -45,13 +41,43 @@ fn stretches(out: &mut Vec<u8>, answers: &[Option<ScriptFault>]) -> Result<(), C
     Ok(())
 }
 
+// Why a text is refused, if it is. A line more where it is accepted and its printed form is not read again.
+fn refusal(
+    alloc: Global,
+    text: &[u8],
+    out: &mut Vec<u8>,
+) -> Result<Option<ScriptFault>, CaseFault> {
+    match print_text(alloc, text)? {
+        Ok(printed) => {
+            check(&printed, out)?;
+            Ok(None)
+        }
+        Err(fault) => Ok(Some(fault)),
+    }
+}
+
+// How often each answer is given.
+fn counted(
+    alloc: Global,
+    answers: &[Option<ScriptFault>],
+    out: &mut Vec<u8>,
+) -> Result<(), CaseFault> {
+    let mut tally = Tally::new(alloc);
+    for answer in answers {
+        tally.add(answer.map(|fault| fault.kind))?;
+    }
+    tally.write(out)?;
+    Ok(())
+}
+
 /// What is said of each prefix, by its length.
 pub fn prefixes(alloc: Global, text: &[u8], out: &mut Vec<u8>) -> Result<(), CaseFault> {
     let mut answers = Vec::new(alloc);
     for length in 0..=text.len() {
-        answers.push(refusal(alloc, &text[..length]))?;
+        answers.push(refusal(alloc, &text[..length], out)?)?;
     }
-    stretches(out, &answers)
+    stretches(out, &answers)?;
+    counted(alloc, &answers, out)
 }
 
 // The text with a byte in this place.
@@ -70,40 +96,32 @@ pub fn spoiled(alloc: Global, text: &[u8], out: &mut Vec<u8>) -> Result<(), Case
     let mut answers = Vec::new(alloc);
     for place in 0..text.len() {
         let changed = with_byte(alloc, text, place, 0x80)?;
-        answers.push(refusal(alloc, &changed))?;
+        answers.push(refusal(alloc, &changed, out)?)?;
     }
-    stretches(out, &answers)
+    stretches(out, &answers)?;
+    counted(alloc, &answers, out)
 }
 
-// Whether a text is refused, or its printed form is read again.
-fn is_kept(alloc: Global, text: &[u8]) -> Result<bool, AllocError> {
-    match read(alloc, text) {
-        Ok(script) => {
-            let printed = print_script(alloc, &script)?;
-            is_read_again(alloc, &script, printed.as_str())
-        }
-        Err(_) => Ok(true),
-    }
-}
-
-// Whether that is so with each byte of text in this place.
-fn is_kept_at(alloc: Global, text: &[u8], place: usize) -> Result<bool, AllocError> {
+// The answers with each byte of text in this place.
+fn replaced_at(
+    alloc: Global,
+    text: &[u8],
+    place: usize,
+    answers: &mut Vec<Option<ScriptFault>>,
+    out: &mut Vec<u8>,
+) -> Result<(), CaseFault> {
     for byte in 0x20..0x7F {
         let changed = with_byte(alloc, text, place, byte)?;
-        if !is_kept(alloc, &changed)? {
-            return Ok(false);
-        }
+        answers.push(refusal(alloc, &changed, out)?)?;
     }
-    Ok(true)
+    Ok(())
 }
 
-/// Whether that is so with each byte of text in each place.
+/// How often each answer is given, with each byte of text in each place.
 pub fn replaced(alloc: Global, text: &[u8], out: &mut Vec<u8>) -> Result<(), CaseFault> {
+    let mut answers = Vec::new(alloc);
     for place in 0..text.len() {
-        if !is_kept_at(alloc, text, place)? {
-            writeln!(out, "wrong: at {place}")?;
-        }
+        replaced_at(alloc, text, place, &mut answers, out)?;
     }
-    writeln!(out, "all returned, and what was accepted reads again")?;
-    Ok(())
+    counted(alloc, &answers, out)
 }

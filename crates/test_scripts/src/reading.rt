@@ -4,40 +4,96 @@ use crate::escapes::expand;
 use crate::fault::CaseFault;
 use std::alloc::{AllocError, Global};
 use std::io::Write;
-use swift_script::{Script, print_script, read};
+use swift_script::{Script, ScriptFault, print_script, read};
 use swift_types::limits::BYTES;
 
-/// Whether a printed form is read as this script, and printed the same.
-pub fn is_read_again(alloc: Global, script: &Script, printed: &str) -> Result<bool, AllocError> {
+/// What is said of a script that was read.
+#[derive(Drop)]
+pub struct Printed {
+    /// Its printed form.
+    pub text: String,
+    /// Whether that is read as the same script and printed the same, or too long to be read.
+    pub is_read_again: bool,
+}
+
+// Whether a printed form is read as this script, and printed the same.
+fn is_read_again(alloc: Global, script: &Script, printed: &str) -> Result<bool, AllocError> {
     match read(alloc, printed.as_bytes()) {
         Ok(again) => {
-            let second = print_script(alloc, &again)?;
-            Ok(script.says_the_same(&again) && second.as_str() == printed)
+            let is_same = script.says_the_same(&again);
+            match print_script(alloc, &again) {
+                Ok(second) => Ok(is_same && second.as_str() == printed),
+                Err(refused) => Err(refused),
+            }
         }
         Err(_) => Ok(false),
     }
 }
 
-// A script that was read: its printed form, unless that is too long to be read.
-fn show(alloc: Global, script: &Script, out: &mut Vec<u8>) -> Result<(), CaseFault> {
-    let printed = print_script(alloc, script)?;
-    if printed.len() > BYTES {
-        if let Err(fault) = read(alloc, printed.as_bytes()) {
-            writeln!(out, "printed form: {fault}")?;
-        }
-        return Ok(());
+// The printed form of a script, and whether it is read again.
+fn print(alloc: Global, script: &Script) -> Result<Printed, AllocError> {
+    let text = print_script(alloc, script)?;
+    let is_read_again = text.len() > BYTES || is_read_again(alloc, script, text.as_str())?;
+    Ok(Printed {
+        text,
+        is_read_again,
+    })
+}
+
+/// The printed form of a text's script, or its refusal.
+pub fn print_text(alloc: Global, text: &[u8]) -> Result<Result<Printed, ScriptFault>, AllocError> {
+    match read(alloc, text) {
+        Ok(script) => match print(alloc, &script) {
+            Ok(printed) => Ok(Ok(printed)),
+            Err(refused) => Err(refused),
+        },
+        Err(fault) => Ok(Err(fault)),
     }
-    out.extend_from_slice(printed.as_bytes())?;
-    if !is_read_again(alloc, script, printed.as_str())? {
-        writeln!(out, "wrong: it is not read again")?;
+}
+
+/// Writes a line more where a printed form is not read again.
+pub fn check(printed: &Printed, out: &mut Vec<u8>) -> Result<(), CaseFault> {
+    if !printed.is_read_again {
+        let text = printed.text.as_str();
+        writeln!(out, "wrong: this is not read again: {text}")?;
     }
     Ok(())
 }
 
+// A printed form, unless that is too long to be read.
+fn show(alloc: Global, printed: &Printed, out: &mut Vec<u8>) -> Result<(), CaseFault> {
+    let text = printed.text.as_bytes();
+    if text.len() > BYTES {
+        if let Err(fault) = read(alloc, text) {
+            writeln!(out, "printed form: {fault}")?;
+        }
+        return Ok(());
+    }
+    out.extend_from_slice(text)?;
+    check(printed, out)
+}
+
 /// A text: its script's printed form, or its refusal.
 pub fn read_text(alloc: Global, text: &[u8], out: &mut Vec<u8>) -> Result<(), CaseFault> {
-    match read(alloc, text) {
-        Ok(script) => show(alloc, &script, out),
+    match print_text(alloc, text)? {
+        Ok(printed) => show(alloc, &printed, out),
+        Err(fault) => {
+            writeln!(out, "{fault}")?;
+            Ok(())
+        }
+    }
+}
+
+/// A text that is accepted: how long its printed form is.
+pub fn counted(alloc: Global, text: &[u8], out: &mut Vec<u8>) -> Result<(), CaseFault> {
+    match print_text(alloc, text)? {
+        Ok(printed) => {
+            let bytes = printed.text.as_bytes();
+            let lines = bytes.iter().filter(|byte| **byte == b'\n').count();
+            let bytes = bytes.len();
+            writeln!(out, "{lines} lines, {bytes} bytes")?;
+            check(&printed, out)
+        }
         Err(fault) => {
             writeln!(out, "{fault}")?;
             Ok(())

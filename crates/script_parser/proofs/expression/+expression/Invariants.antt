@@ -1,4 +1,4 @@
-use Rattle.std.proofs.Common.{◌≡◌, ◌-◌, ◌+◌, ◌*◌, map}
+use Rattle.std.proofs.Common.{◌≡◌, ◌-◌, ◌+◌, ◌*◌, Ok, map}
 use Rattle.script_parser.specs.declared.limits.TheConstants.{NESTING}
 use Rattle.script_tokens.specs.Pieces.{piece}
 use Rattle.script_grammar.specs.Tree.{view}
@@ -19,3 +19,6 @@ decreases-operands l = l.opens * 4000 + (NESTING + 2) + (l.tightness - 1) * 40
 
 abbrev pub invariant-operands-loop : goal.invariant-operands-loop
 invariant-operands-loop l = operands_at NESTING (level_at l.atoms NESTING (inside_at l.atoms NESTING l.opens) (l.tightness - 1)) l.tightness (l.most - l.counter) (view l.left.expr) (map piece l.rest) ≡ operands_at NESTING (level_at l.atoms NESTING (inside_at l.atoms NESTING l.opens) (l.tightness - 1)) l.tightness l.most (view l.fn.first.expr) (map piece l.tokens)
+
+abbrev pub invariant-level-loop-tighter : goal.invariant-level-loop-tighter
+invariant-level-loop-tighter l = level_at l.atoms NESTING (inside_at l.atoms NESTING l.opens) l.tighter (map piece l.tokens) ≡ Ok (view l.left.expr, map piece l.rest)

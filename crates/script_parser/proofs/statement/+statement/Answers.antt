@@ -22,7 +22,7 @@ statements-returns-in_err-next t c =
 
 pub statements-loop-preserved : goal.statements-loop-preserved
 statements-loop-preserved t c =
-    let e : map view_stmt c.push.new.self.items ≡ map view_stmt c.loop.stmts.items ++ view_stmt c.in_ok-next.next ∷ [] = rw c.in_ok-push.ensures.items (map_push _ c.loop.stmts.items c.in_ok-next.next) in
+    let e : map view_stmt c.add_stmt.new.stmts.items ≡ map view_stmt c.loop.stmts.items ++ view_stmt c.in_ok-next.next ∷ [] = rw c.in_ok-add_stmt.ensures (map_push _ c.loop.stmts.items c.in_ok-next.next) in
     rw e (goes_on brace_at (stmt_at NESTING c.args.region (block_at NESTING c.args.blocks)) (map view_stmt c.loop.stmts.items) (length c.args.tokens.now) c.loop.counter (map piece c.loop.rest.now) (view_stmt c.in_ok-next.next) (map piece c.in_ok-next.after.now) (many_at NESTING c.args.region (block_at NESTING c.args.blocks) (length c.args.tokens.now) (map piece c.args.tokens.now)) c.loop-test.true (sym c.in-None.ensures) c.in_ok-next.ensures c.loop.invariant)
 
 pub statements-returns : goal.statements-returns

@@ -1,6 +1,7 @@
-use Rattle.std.proofs.Common.{◌≡◌, ℕ, ◌+◌, ◌-◌, ◌∙◌, ap, arith, rules}
+use Rattle.std.proofs.Common.{◌≡◌, ℕ, ◌+◌, ◌-◌, ◌∙◌, ap, sym, arith, rules}
 use Rattle.swift_interpreter.specs.TurnStates.{lent, state_of, exit_view}
 use Rattle.swift_interpreter.specs.Turn.{turn}
+use Rattle.swift_interpreter.specs.declared.turn_state.TurnState.{TurnState}
 use Rattle.swift_interpreter.proofs.Turns.{turn_on, turn_out, turn_limit}
 use Rattle.swift_interpreter.proofs.play.play.Goals as goal
 
@@ -9,9 +10,25 @@ returns-in-Some-clause-played c = λ code at follows.
     let g = lent c.args.outer.now c.args.env.now in
     let left = c.args.limit - c.loop-used.used in
     let one : left ≡ (left - 1) + 1 = omega arith in
+    let same = c.in_ok-done.ensures.other c.if-done.false in
     let out = rw c.in-Some.is at c.in_ok-exit.ensures.next in
-    turn_out g left (left - 1) (state_of at c.loop-used.turn) (state_of at c.settle.new.turn) (state_of at c.step.new.turn) (exit_view c.in-Some.exit) one (c.settle.ensures.settled code at follows) (out code at follows)
-    ∙ c.loop-used.invariant.same code at follows
+    turn_out g left (left - 1) (state_of at c.step_at_once.new.turn) (state_of at c.settle.new.turn) (state_of at c.step.new.turn) (exit_view c.in-Some.exit) one (c.settle.ensures.settled code at follows) (out code at follows)
+    ∙ (ap (λ (t : TurnState). turn g left (state_of at t)) same ∙ c.loop-used.invariant.same code at follows)
+
+pub loop-used-preserved-then-done : goal.loop-used-preserved-then-done
+loop-used-preserved-then-done c =
+    let g = lent c.args.outer.now c.args.env.now in
+    let left = c.args.limit - c.loop-used.used in
+    let less = c.args.limit - (c.loop-used.used + 1) in
+    let one : left ≡ less + 1 = omega arith in
+    record {
+      same = λ code at follows.
+          let moved = c.in_ok-done.ensures.done c.if-done.true g code at follows in
+          turn_on g left less (state_of at c.loop-used.turn) (state_of at c.loop-used.turn) (state_of at c.step_at_once.new.turn) one (sym moved.0) moved.1
+          ∙ c.loop-used.invariant.same code at follows;
+      back = c.step_at_once.ensures.back ∙ c.loop-used.invariant.back;
+      method = c.step_at_once.ensures.method ∙ c.loop-used.invariant.method;
+    }
 
 pub loop-used-preserved : goal.loop-used-preserved
 loop-used-preserved c =
@@ -19,13 +36,14 @@ loop-used-preserved c =
     let left = c.args.limit - c.loop-used.used in
     let less = c.args.limit - (c.loop-used.used + 1) in
     let one : left ≡ less + 1 = omega arith in
+    let same = c.in_ok-done.ensures.other c.if-done.false in
     let further = rw c.in_default.is at c.in_ok-exit.ensures.next in
     record {
       same = λ code at follows.
-          turn_on g left less (state_of at c.loop-used.turn) (state_of at c.settle.new.turn) (state_of at c.step.new.turn) one (c.settle.ensures.settled code at follows) (further code at follows)
-          ∙ c.loop-used.invariant.same code at follows;
+          turn_on g left less (state_of at c.step_at_once.new.turn) (state_of at c.settle.new.turn) (state_of at c.step.new.turn) one (c.settle.ensures.settled code at follows) (further code at follows)
+          ∙ (ap (λ (t : TurnState). turn g left (state_of at t)) same ∙ c.loop-used.invariant.same code at follows);
       back = search rules;
-      method = c.step.ensures.method ∙ c.settle.ensures.method ∙ c.loop-used.invariant.method;
+      method = c.step.ensures.method ∙ c.settle.ensures.method ∙ c.step_at_once.ensures.method ∙ c.loop-used.invariant.method;
     }
 
 pub returns-clause-played : goal.returns-clause-played

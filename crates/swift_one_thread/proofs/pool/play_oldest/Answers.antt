@@ -2,7 +2,7 @@ use Rattle.std.proofs.Common.{◌<◌, ◌+◌, length, map, sym, subst, arith, 
 use Rattle.swift_report.specs.Numbered.{HaveBefore}
 use Rattle.swift_one_thread.specs.declared.executor.Executor.{Executor}
 use Rattle.swift_one_thread.specs.declared.pool.Pool.{Pool}
-use Rattle.swift_one_thread.specs.Executors.{EndsBy, IsPool, IsExecutor, journal_of}
+use Rattle.swift_one_thread.specs.Executors.{EndsBy, IsPool, IsExecutor, turns_at}
 use Rattle.swift_one_thread.proofs.ExecutorsKept.{lane_at}
 use Rattle.swift_one_thread.proofs.Pools.{board_turned}
 use Rattle.swift_one_thread.proofs.pool.play_oldest.Goals.{then-not-is_empty+in_ok-push_back, else-not-is_empty}
@@ -23,9 +23,9 @@ returns-clause-pool g c =
     let t = c.in_ok-turned.turned in
     let within : k < length c.args.pool.now.executors.items = omega (arith, c.if-place-len.false, c.len.ensures) in
     let turned = board_turned p c.args.pool.now.executors.items c.args.pool.now.endings.items k c.index_mut-here.result.now c.take_turn.new.executor t c.requires within c.index_mut-here.ensures.value c.in_ok-turned.ensures.executor c.in_ok-turned.ensures.taken c.in_ok-turned.ensures.written in
-    let after : IsPool p c.if-not-is_empty.pool × EndsBy (map journal_of c.if-not-is_empty.pool.executors.items) t.task.0 t.step × HaveBefore (map journal_of c.if-not-is_empty.pool.executors.items) t.task.0 (t.number + 1) =
+    let after : IsPool p c.if-not-is_empty.pool × EndsBy (map turns_at c.if-not-is_empty.pool.executors.items) t.task.0 t.step × HaveBefore (map turns_at c.if-not-is_empty.pool.executors.items) t.task.0 (t.number + 1) =
     elim c.if-not-is_empty.branch [
-      | then-not-is_empty+in_ok-push_back w ↦ subst (λ (b : Pool). IsPool p b × EndsBy (map journal_of b.executors.items) t.task.0 t.step × HaveBefore (map journal_of b.executors.items) t.task.0 (t.number + 1)) (sym w.pool-is) turned
-      | else-not-is_empty w ↦ subst (λ (b : Pool). IsPool p b × EndsBy (map journal_of b.executors.items) t.task.0 t.step × HaveBefore (map journal_of b.executors.items) t.task.0 (t.number + 1)) (sym w.pool-is) turned
+      | then-not-is_empty+in_ok-push_back w ↦ subst (λ (b : Pool). IsPool p b × EndsBy (map turns_at b.executors.items) t.task.0 t.step × HaveBefore (map turns_at b.executors.items) t.task.0 (t.number + 1)) (sym w.pool-is) turned
+      | else-not-is_empty w ↦ subst (λ (b : Pool). IsPool p b × EndsBy (map turns_at b.executors.items) t.task.0 t.step × HaveBefore (map turns_at b.executors.items) t.task.0 (t.number + 1)) (sym w.pool-is) turned
     ] in
     c.in_ok-go_on.ensures.pool after.0 c.in_ok-turned.ensures.next after.1 after.2

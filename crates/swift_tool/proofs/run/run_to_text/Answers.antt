@@ -1,8 +1,8 @@
 use Rattle.std.proofs.Common.{◌≡◌, ap, subst, ◌∙◌}
 use Rattle.std.specs.Arc.{arc_value}
 use Rattle.swift_script.specs.Scripts.{ScriptView, executor_count, root_count}
-use Rattle.swift_report.specs.Lawful.{AreLawful, KeepInvariants}
-use Rattle.swift_one_thread.specs.Envs.{HaveTheirEnv}
+use Rattle.swift_report.specs.Lawful.{KeepInvariants}
+use Rattle.swift_one_thread.specs.Envs.{AreRuns}
 use Rattle.swift_report.specs.Text.{report_text}
 use Rattle.swift_tool.specs.Run.{end_well}
 use Rattle.swift_tool.proofs.Invariants.{invariants_hold}
@@ -18,11 +18,11 @@ returns-clause-text g c =
       script = c.in_ok-found.found;
       report = c.in_ok-report.report;
       accepted = c.in_ok-found.ensures.found;
-      lawful = subst (λ (p : ScriptView). AreLawful p 0 c.in_ok-report.report.journals.items c.in_ok-report.report.fields.items) same c.in_ok-report.ensures.lawful;
+      runs = subst (λ (p : ScriptView). AreRuns p c.in_ok-report.report.checkpoints.items c.in_ok-report.report.journals.items c.in_ok-report.report.fields.items) same c.in_ok-report.ensures.lawful;
       journals = c.in_ok-report.ensures.journals ∙ ap executor_count same;
+      checkpoints = c.in_ok-report.ensures.checkpoints ∙ ap executor_count same;
       fields = c.in_ok-report.ensures.fields ∙ ap executor_count same;
       invariants = invariants_hold c.in_ok-found.found c.in_ok-report.report.fields.items c.facts.ensures.starts (subst (λ (p : ScriptView). KeepInvariants p 0 c.in_ok-report.report.fields.items) same c.in_ok-report.ensures.invariants);
-      env_given = subst (λ (p : ScriptView). HaveTheirEnv p c.in_ok-report.report.journals.items) same c.in_ok-report.ensures.env_given;
       numbered = c.in_ok-report.ensures.numbered;
       tasks = c.in_ok-report.ensures.tasks ∙ ap root_count same;
       roots = c.in_ok-report.ensures.roots;

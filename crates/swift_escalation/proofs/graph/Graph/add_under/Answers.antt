@@ -2,10 +2,10 @@ use Rattle.swift_types.specs.declared.priority.Priority.TheVariants.{Background}
 use Rattle.std.proofs.lemmas.List.{get_or_read}
 use Rattle.std.proofs.Common.{◌<◌, get_or, ◌≡◌, ℕ, List, Option, length, arith, subst, sym, ap, ◌∙◌, [], ◌∷◌, ◌++◌}
 use Rattle.swift_escalation.specs.declared.graph.Edge.{Edge}
-use Rattle.swift_escalation.proofs.Push.{settled_under, chained_push}
+use Rattle.swift_escalation.proofs.Push.{settled_under, higher_first, chained_push}
 use Rattle.std.proofs.lemmas.List.{with_items_is}
 use Rattle.std.specs.Vec.{with_items}
-use Rattle.swift_escalation.specs.Levels.{AreChained, IsSettled, GraphIs}
+use Rattle.swift_escalation.specs.Levels.{AreChained, IsSettled, GraphIs, higher}
 use Rattle.swift_types.specs.declared.priority.Priority.{Priority}
 use Rattle.swift_escalation.proofs.graph.Graph.add_under.Goals as goal
 
@@ -20,7 +20,9 @@ invariant_of-self c =
     let room = ap (λ (g : GraphIs). g.room) c.self.view_is in
     let levels = ap (λ (g : GraphIs). g.levels) c.self.view_is in
     let parent : c.args.parent < length c.self.inside.levels.items = subst (λ (s : List Priority). c.args.parent < length s) (sym levels) c.requires.parent in
-    let read : c.index-level.result.now ≡ get_or c.self.inside.levels.items c.args.parent Background = get_or_read c.self.inside.levels.items c.args.parent c.index-level.result.now parent c.index-level.ensures Background in
+    let above : Priority = get_or c.self.inside.levels.items c.args.parent Background in
+    let read : c.index.result.now ≡ above = get_or_read c.self.inside.levels.items c.args.parent c.index.result.now parent c.index.ensures Background in
+    let level : c.more_urgent-level.result ≡ higher above c.args.own = c.more_urgent-level.ensures ∙ ap (λ (q : Priority). higher q c.args.own) read in
     let place : c.len-place.result ≡ length c.self.inside.levels.items = omega (arith, c.len-place.ensures) in
     let same = c.self.invariant.same in
     record {
@@ -28,9 +30,9 @@ invariant_of-self c =
       same = ap length n ∙ omega (arith, c.in-Ok.ensures.len, c.in-Ok-push.ensures.len);
       settled = subst (λ (s : List Edge). IsSettled s c.push.new.self.items) (sym c.link.ensures.edges)
           (subst (λ (s : List Priority). IsSettled (c.self.inside.edges.items ++ (record { from = c.args.parent; to = c.len-place.result }) ∷ []) s) (sym c.in-Ok.ensures.items)
-          (subst (λ (q : Priority). IsSettled (c.self.inside.edges.items ++ (record { from = c.args.parent; to = c.len-place.result }) ∷ []) (c.self.inside.levels.items ++ q ∷ [])) (sym read)
-          (subst (λ (n : ℕ). IsSettled (c.self.inside.edges.items ++ (record { from = c.args.parent; to = n }) ∷ []) (c.self.inside.levels.items ++ get_or c.self.inside.levels.items c.args.parent Background ∷ [])) (sym place)
-          (settled_under c.self.inside.edges.items c.self.inside.levels.items c.args.parent c.self.invariant.settled
+          (subst (λ (q : Priority). IsSettled (c.self.inside.edges.items ++ (record { from = c.args.parent; to = c.len-place.result }) ∷ []) (c.self.inside.levels.items ++ q ∷ [])) (sym level)
+          (subst (λ (n : ℕ). IsSettled (c.self.inside.edges.items ++ (record { from = c.args.parent; to = n }) ∷ []) (c.self.inside.levels.items ++ higher above c.args.own ∷ [])) (sym place)
+          (settled_under c.self.inside.edges.items c.self.inside.levels.items c.args.parent (higher above c.args.own) (higher_first above c.args.own) c.self.invariant.settled
           (λ k h. let w = c.self.invariant.chained.from k h in omega (arith, w, same)) (λ k h. let w = c.self.invariant.chained.to k h in omega (arith, w, same)) parent))));
       empty = omega arith;
       levels_room = omega arith;

@@ -1,7 +1,7 @@
 use Rattle.swift_types.specs.declared.id.TaskId.{TaskId}
 use Rattle.std.proofs.Common.{ℕ, List, Some, [], ◌∷◌, ◌++◌, length, get_or, arith, subst, sym, ap, ◌∙◌, nat_eq, cond, Option}
 use Rattle.std.specs.HashMap.{get}
-use Rattle.swift_escalation.specs.Levels.{GraphIs}
+use Rattle.swift_escalation.specs.Levels.{GraphIs, higher}
 use Rattle.swift_escalation.specs.Waits.{IsKnown, WaitsIs}
 use Rattle.swift_escalation.specs.WaitsInside.{StandsAt, AreOf}
 use Rattle.swift_types.specs.declared.priority.Priority.TheVariants.{Background}
@@ -23,9 +23,9 @@ invariant_of-self c =
     let fresh : IsKnown es c.args.task → ⊥ = subst (λ (s : List Event). IsKnown s c.args.task → ⊥) (sym events) c.requires.fresh in
     let above : StandsAt es c.args.parent c.args.above = subst (λ (s : List Event). StandsAt s c.args.parent c.args.above) (sym events) c.requires.above in
     let none = none_here es (λ t. get nat_eq c.self.inside.places t.0) g.levels g.edges c.args.task k fresh in
-    let levels' : List Priority = g.levels ++ get_or g.levels c.args.above Background ∷ [] in
+    let levels' : List Priority = g.levels ++ higher (get_or g.levels c.args.above Background) c.args.own ∷ [] in
     let edges' : List Edge = g.edges ++ (record { from = c.args.above; to = length g.levels }) ∷ [] in
-    let more : AreOf (es ++ Child c.args.task c.args.parent ∷ []) place' levels' edges' = are_of_child es (λ t. get nat_eq c.self.inside.places t.0) place' g.levels g.edges c.args.task c.args.parent c.args.above k above none
+    let more : AreOf (es ++ Child c.args.task c.args.parent c.args.own ∷ []) place' levels' edges' = are_of_child es (λ t. get nat_eq c.self.inside.places t.0) place' g.levels g.edges c.args.task c.args.parent c.args.own c.args.above k above none
     (λ q. c.in-Ok-insert.ensures.updates.0 q.0 ∙ ap (λ (n : ℕ). cond (nat_eq c.args.task.0 q.0) (Some n) (get nat_eq c.self.inside.places q.0)) c.len-place.ensures) in
     let left = ap (λ (w : GraphIs). w.room) c.add_under.ensures in
     let len = c.in-Ok.ensures.len in let cap = c.in-Ok.ensures.capacity in let spare' = c.in-Ok-insert.ensures.spare in

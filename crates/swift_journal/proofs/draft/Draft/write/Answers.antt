@@ -30,7 +30,7 @@ returns-clause-says c =
     } in
     record_reads h c.write_effects.new.list.items (frame_view t.frame.now) t.outer.now t.resume (exit_view t.exit.now) (effect_views t.effects.now) (frame_if_lent t.after)
     _ _ _ _ _ _ _
-    (chained _ _ _ _ _ _ _ _ _ _ _ _ _ c.clear.ensures.items c.in_ok-resume.ensures.words c.in_ok-exit.ensures.words c.in_ok-frame.ensures.words c.in_ok-write_bindings.ensures.words c.in_ok-after.ensures.words c.in_ok-write_effects.ensures.words)
+    (chained _ _ _ _ _ _ _ _ _ _ _ _ _ c.clear.ensures.items c.in_ok-resume.ensures.words c.in_ok-frame.ensures.words c.in_ok-write_bindings.ensures.words c.in_ok-exit.ensures.words c.in_ok-after.ensures.words c.in_ok-write_effects.ensures.words)
     (resume_reads_back_by t.resume c.in_ok-resume.resume c.in_ok-resume.ensures.kind)
     (exit_reads_back_by t.exit.now c.in_ok-exit.exit c.in_ok-exit.ensures.kind)
     c.in_ok-frame.ensures.reads_back

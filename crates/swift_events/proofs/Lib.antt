@@ -1,0 +1,3 @@
+pub mod LogLemmas
+pub mod Cancels
+pub mod GroupLemmas

@@ -1,0 +1,73 @@
+//! What happens to tasks.
+
+use script_code::Env;
+use swift_types::{Ending, Priority, Resume, TaskId};
+
+/// What happened to a task (SE-0304; that it is logged, and in these steps, is our own). Each event is of one task,
+/// which comes first, and groups are numbered within their owner in order of opening, from 0.
+#[derive(Clone, Copy, PartialEq, Eq)]
+pub enum Event {
+    /// A root's task, with its priority.
+    Root(TaskId, Priority),
+    /// The turn of this number begins, in this environment, whose room is reserved from here on. A turn may begin
+    /// again: the last time counts.
+    Begin(TaskId, u32, Env),
+    /// The turn of this number has ended, and its effects follow.
+    Apply(TaskId, u32),
+    /// A task that is no child is made by another, with its priority; the flag says whether it is detached.
+    Free(TaskId, TaskId, Priority, bool),
+    /// The owner opens its group of this number.
+    Open(TaskId, u32),
+    /// A child is added to the owner's group of this number, with a priority that it has beside its owner's.
+    Child(TaskId, TaskId, u32, Priority),
+    /// A child of the owner's group of this number is left out, since the group is cancelled.
+    Skip(TaskId, u32),
+    /// A task that has not ended is cancelled.
+    CancelTask(TaskId),
+    /// The owner's group of this number is cancelled.
+    CancelGroup(TaskId, u32),
+    /// The first task waits for the end of the second, which has not ended.
+    Wait(TaskId, TaskId),
+    /// The owner asks for one more result of its group of this number, and the group has one or will have.
+    Next(TaskId, u32),
+    /// The owner closes its group of this number, and goes on when each child of it has ended.
+    Close(TaskId, u32),
+    /// The task has ended.
+    End(TaskId, Ending),
+    /// A job is made for the task's turn of this number, which begins with this.
+    Give(TaskId, u32, Resume),
+}
+
+ghost use Rattle.std.specs.Prelude.{◌≡◌};
+ghost use Rattle.swift_events.specs.Events.{task_of, is_made};
+
+impl Event {
+    /// The task that the event is of.
+    pub fn task(&self) -> TaskId
+        ensures { result.0 ≡ task_of self.now }
+    {
+        match *self {
+            Event::Root(task, _)
+            | Event::Begin(task, _, _)
+            | Event::Apply(task, _)
+            | Event::Free(task, _, _, _)
+            | Event::Open(task, _)
+            | Event::Child(task, _, _, _)
+            | Event::Skip(task, _)
+            | Event::CancelTask(task)
+            | Event::CancelGroup(task, _)
+            | Event::Wait(task, _)
+            | Event::Next(task, _)
+            | Event::Close(task, _)
+            | Event::End(task, _)
+            | Event::Give(task, _, _) => task,
+        }
+    }
+
+    /// Whether it makes a task that is no root: one with a new number.
+    pub fn makes_task(&self) -> bool
+        ensures { result ≡ is_made self.now }
+    {
+        matches!(*self, Event::Free(_, _, _, _) | Event::Child(_, _, _, _))
+    }
+}

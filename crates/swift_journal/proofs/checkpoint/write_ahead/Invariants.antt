@@ -1,0 +1,9 @@
+use Rattle.std.proofs.Common.{◌≡◌, ◌++◌, length, map, take}
+use Rattle.swift_journal.specs.Checkpoints.{folded_of}
+use Rattle.swift_journal.proofs.checkpoint.write_ahead.Given as goal
+
+abbrev pub invariant-loop-place : goal.invariant-loop-place
+invariant-loop-place l = record {
+  turns : l.turns ≡ l.initial.turns ++ map folded_of (take l.place l.journal);
+  end : l.place-end ≡ length l.journal;
+}

@@ -1,0 +1,11 @@
+pub mod ListLemmas
+pub mod FormLemmas
+pub mod LivesLemmas
+pub mod FlagLemmas
+pub mod LinkLemmas
+pub mod RelativeLemmas
+pub mod GroupFacts
+pub mod KeptGroups
+pub mod GroupCalls
+pub mod GroupSteps
+pub mod GroupOpenings

@@ -1,0 +1,6 @@
+use Rattle.swift_events.specs.Events.{tasks_of}
+use Rattle.swift_ledger.specs.Flags.{AreMarked}
+use Rattle.swift_ledger.proofs.flags.Flags.spread.Given as goal
+
+abbrev pub invariant-loop-task : goal.invariant-loop-task
+invariant-loop-task l = AreMarked l.self.flags.items l.task (tasks_of l.roots l.log) l.log l.event

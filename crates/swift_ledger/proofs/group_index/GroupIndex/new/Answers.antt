@@ -1,0 +1,6 @@
+use Rattle.std.proofs.Common.{refl, arith}
+use Rattle.swift_ledger.proofs.GroupOpenings.{none-step}
+use Rattle.swift_ledger.proofs.group_index.GroupIndex.new.Goals as goal
+
+pub returns-clause-groups : goal.returns-clause-groups
+returns-clause-groups c = none-step _ c.new.ensures c.new-2.ensures.empty c.new-3.ensures.empty c.new-4.ensures.items refl (let n = c.new-4.ensures.len in omega (arith, n))

@@ -1,0 +1,8 @@
+use Rattle.std.proofs.Common.{List, ◌∙◌, ap, get_or}
+use Rattle.swift_events.specs.declared.life.Life.{Life}
+use Rattle.swift_events.specs.Lives.{unborn}
+use Rattle.swift_ledger.proofs.LivesLemmas.{any_life}
+use Rattle.swift_ledger.proofs.lives.Lives.get.Goals as goal
+
+pub returns : goal.returns
+returns c = λ roots log are form. c.life_at.ensures ∙ ap (λ (xs : List Life). get_or xs c.args.task.0 unborn) are.lives ∙ any_life roots log c.args.task.0 form

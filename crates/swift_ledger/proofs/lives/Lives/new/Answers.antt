@@ -1,0 +1,13 @@
+use Rattle.std.proofs.Common.{[], cond, refl, sym, replicate, ◌∙◌, ap}
+use Rattle.swift_events.specs.Events.{tasks_of}
+use Rattle.swift_events.specs.Lives.{is_open, room_held}
+use Rattle.swift_events.proofs.LogLemmas.{sum_of_none}
+use Rattle.swift_ledger.proofs.LivesLemmas.{no_lives}
+use Rattle.swift_ledger.proofs.lives.Lives.new.Goals as goal
+
+pub returns : goal.returns
+returns c = record {
+  lives = c.in_ok-vec.ensures.items_if_clones_equal (λ y e. e) ∙ ap (replicate c.args.roots) c.unborn.ensures ∙ no_lives c.args.roots;
+  open_tasks = sym (sum_of_none (λ l. cond (is_open l) 1 0) refl (tasks_of c.args.roots []));
+  reserved = sym (sum_of_none room_held refl (tasks_of c.args.roots []));
+}

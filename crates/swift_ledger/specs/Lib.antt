@@ -1,0 +1,10 @@
+pub mod Ledgers
+pub mod WellFormed
+pub mod Lives
+pub mod Flags
+pub mod Lists
+pub mod Relatives
+pub mod Links
+pub mod GroupIndexes
+pub mod Indexes
+pub mod LedgerInside

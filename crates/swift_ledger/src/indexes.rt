@@ -1,0 +1,183 @@
+//! All indexes of a log.
+
+ghost use Rattle.std.specs.Prelude.{◌≡◌, ℕ, ◌+◌, ◌^◌, ◌<◌, ◌≤◌, [], ◌∷◌, ◌++◌, List, IfOk, OnOk, length, false};
+ghost use Rattle.swift_types.specs.declared.limits.TheConstants.{TASKS};
+ghost use Rattle.swift_events.specs.declared.event.Event.{Event};
+ghost use Rattle.swift_events.specs.Lives.{life_of};
+ghost use Rattle.swift_events.specs.Relations.{parent_by};
+ghost use Rattle.swift_ledger.specs.Ledgers.{CanNote};
+ghost use Rattle.swift_ledger.specs.WellFormed.{IsWellFormed};
+ghost use Rattle.swift_ledger.specs.Flags.{HasNoChildren, is_named_in};
+ghost use Rattle.swift_ledger.specs.GroupIndexes.{AreGroupsOf, IsParentIn, plain_parent};
+ghost use Rattle.swift_ledger.specs.Lives.{AreLives};
+ghost use Rattle.swift_ledger.specs.Indexes.{AreIndexes, HasSpare};
+
+use crate::flags::Flags;
+use crate::group_index::GroupIndex;
+use crate::links::{note_link, reserve_links};
+use crate::lists::Lists;
+use crate::lives::Lives;
+use crate::relatives::{note_own, note_waiter};
+use std::alloc::{AllocError, Global};
+use swift_escalation::Waits;
+use swift_events::{Event, Life, Origin};
+use swift_types::TaskId;
+
+/// What is read of a log at once.
+#[derive(Drop)]
+pub(crate) struct Indexes {
+    /// What is known of each task.
+    pub(crate) lives: Lives,
+    /// Which tasks are cancelled.
+    pub(crate) flags: Flags,
+    /// The tasks that each task has spawned or detached.
+    pub(crate) own: Lists,
+    /// The tasks that have waited for each task.
+    pub(crate) waiters: Lists,
+    /// Each task's priority.
+    pub(crate) waits: Waits,
+    /// The groups.
+    pub(crate) groups: GroupIndex,
+}
+
+/// The owner and the group of a child.
+fn parent_of(life: &Life) -> Option<(TaskId, u32)>
+    ensures { plain_parent result ≡ parent_by life.now.origin }
+{
+    match life.origin {
+        Some(Origin::Child(owner, group)) => Some((owner, group)),
+        Some(Origin::Root) | Some(Origin::Spawned(_)) | Some(Origin::Detached(_)) | None => None,
+    }
+}
+
+impl Indexes {
+    /// Of an empty log, for a script with so many roots.
+    pub(crate) fn new(alloc: Global, roots: usize) -> Result<Indexes, AllocError>
+        requires { roots ≤ TASKS }
+        ensures { IfOk result (λ a. AreIndexes a roots []) }
+    {
+        Ok(Indexes {
+            lives: Lives::new(alloc, roots)?,
+            flags: Flags::new(alloc, roots)?,
+            own: Lists::new(alloc),
+            waiters: Lists::new(alloc),
+            waits: Waits::new(alloc),
+            groups: GroupIndex::new(alloc),
+        })
+    }
+
+    /// Makes room for this many calls of `note`. Nothing else changes, also where there is no memory.
+    pub(crate) fn reserve(&mut self, calls: usize) -> Result<(), AllocError>
+        ensures same { (roots : ℕ) (log : List Event) → AreIndexes self.old roots log → AreIndexes self.new roots log }
+        ensures spare { (n : ℕ) → HasSpare self.old n → HasSpare self.new n }
+        ensures ok { OnOk result (HasSpare self.new calls) }
+    {
+        self.lives.reserve(calls)?;
+        self.flags.reserve(calls)?;
+        self.own.reserve(calls)?;
+        self.waiters.reserve(calls)?;
+        self.groups.reserve(calls)?;
+        reserve_links(&mut self.waits, calls)
+    }
+
+    /// Whether a cancel has named the group that an event adds a child to, or cancels.
+    fn is_named_in(&self, log: &[Event], event: Event) -> bool
+        requires { AreGroupsOf self.now.groups log.now }
+        ensures { result ≡ is_named_in log.now event }
+    {
+        match event {
+            Event::Child(_, owner, group, _) => self.groups.is_named(log, owner, group),
+            Event::CancelGroup(owner, group) => self.groups.is_named(log, owner, group),
+            Event::Root(_, _)
+            | Event::Begin(_, _, _)
+            | Event::Apply(_, _)
+            | Event::Free(_, _, _, _)
+            | Event::Open(_, _)
+            | Event::Skip(_, _)
+            | Event::CancelTask(_)
+            | Event::Wait(_, _)
+            | Event::Next(_, _)
+            | Event::Close(_, _)
+            | Event::End(_, _)
+            | Event::Give(_, _, _) => false,
+        }
+    }
+
+    /// Whether the group that an event cancels has children.
+    fn has_children_in(&self, log: &[Event], event: Event) -> bool
+        requires { AreGroupsOf self.now.groups log.now }
+        ensures { result ≡ false → HasNoChildren log.now event }
+    {
+        match event {
+            Event::CancelGroup(owner, group) => self.groups.has_children(log, owner, group),
+            Event::Root(_, _)
+            | Event::Begin(_, _, _)
+            | Event::Apply(_, _)
+            | Event::Free(_, _, _, _)
+            | Event::Open(_, _)
+            | Event::Child(_, _, _, _)
+            | Event::Skip(_, _)
+            | Event::CancelTask(_)
+            | Event::Wait(_, _)
+            | Event::Next(_, _)
+            | Event::Close(_, _)
+            | Event::End(_, _)
+            | Event::Give(_, _, _) => false,
+        }
+    }
+
+    /// The owner and the group of the task that an event ends, if it is a child.
+    fn parent_in(&self, roots: usize, log: &[Event], event: Event) -> Option<(TaskId, u32)>
+        requires lives { AreLives self.now.lives roots log.now }
+        requires log { IsWellFormed roots log.now }
+        ensures { IsParentIn log.now event result }
+    {
+        match event {
+            Event::End(task, _) => {
+                let life = self.lives.get(task);
+                parent_of(&life)
+            }
+            Event::Root(_, _)
+            | Event::Begin(_, _, _)
+            | Event::Apply(_, _)
+            | Event::Free(_, _, _, _)
+            | Event::Open(_, _)
+            | Event::Child(_, _, _, _)
+            | Event::Skip(_, _)
+            | Event::CancelTask(_)
+            | Event::CancelGroup(_, _)
+            | Event::Wait(_, _)
+            | Event::Next(_, _)
+            | Event::Close(_, _)
+            | Event::Give(_, _, _) => None,
+        }
+    }
+
+    /// Follows the log by one event. A begin, an apply and a give take constant time and touch no map.
+    pub(crate) fn note(&mut self, roots: usize, log: &[Event], event: Event)
+        requires indexes { AreIndexes self.old roots log.now }
+        requires log { IsWellFormed roots log.now }
+        requires fits { CanNote roots log.now event }
+        requires short { length log.now + 1 < 2 ^ 64 }
+        requires spare { HasSpare self.old 1 }
+        ensures indexes { AreIndexes self.new roots (log.now ++ event ∷ []) }
+        ensures spare { (n : ℕ) → HasSpare self.old (n + 1) → HasSpare self.new n }
+    {
+        let is_named = self.is_named_in(log, event);
+        let has_children = self.has_children_in(log, event);
+        let parent = self.parent_in(roots, log, event);
+        self.flags.note(
+            roots,
+            log,
+            self.lives.lives(),
+            event,
+            is_named,
+            has_children,
+        );
+        self.groups.note(log, event, parent);
+        note_own(&mut self.own, log, event);
+        note_waiter(&mut self.waiters, log, event);
+        note_link(&mut self.waits, roots, log, event);
+        self.lives.note(roots, log, event);
+    }
+}

@@ -1,0 +1,249 @@
+//! The log and what it gives.
+
+ghost use Rattle.std.specs.Prelude.{◌≡◌, ℕ, ◌+◌, ◌-◌, ◌<◌, ◌≤◌, ◌↔◌, [], ◌∷◌, ◌++◌, IfOk, OnOk, OnErr, IfSome, IsSome, IsTrue, length, slice_get, Some, None};
+ghost use Rattle.swift_types.specs.declared.limits.TheConstants.{TASKS};
+ghost use Rattle.swift_groups.specs.Next.{next_of};
+ghost use Rattle.swift_groups.specs.Close.{close_of};
+ghost use Rattle.swift_escalation.specs.Waits.{IsPriority};
+ghost use Rattle.swift_events.specs.Events.{task_of, tasks_of};
+ghost use Rattle.swift_events.specs.Lives.{life_of, room_held};
+ghost use Rattle.swift_events.specs.Relations.{own_tasks, waiters_of, opened_by, is_open_group, is_cancelled, is_cancelled_group, group_of, parent_of, links_of};
+ghost use Rattle.swift_events.specs.Room.{IsEnv, open_of, reserved_of, room_of};
+ghost use Rattle.swift_ledger.specs.Ledgers.{CanNote, IsMade};
+
+use crate::indexes::Indexes;
+use script_code::Env;
+use std::alloc::{AllocError, Global};
+use std::marker::Model;
+use swift_events::{Event, Life};
+use swift_groups::{Close, Next};
+use swift_types::limits::{MADE, TASKS};
+use swift_types::{Priority, TaskId};
+
+/// The log of a run, and indexes by which each question below is answered in constant time. Only `note` writes.
+#[derive(Drop)]
+pub struct Ledger {
+    roots: usize,
+    log: Vec<Event>,
+    indexes: Indexes,
+    // How many more events find memory for sure.
+    spare: usize,
+}
+
+impl Model for Ledger {
+    ghost use Rattle.swift_ledger.specs.Ledgers.{LedgerView};
+
+    ghost Value = { LedgerView };
+
+    ghost use Rattle.swift_ledger.specs.LedgerInside.{IsLedger};
+
+    ghost view = { λ a. record { roots = a.roots; log = a.log.items; spare = a.spare } };
+
+    ghost invariant = { IsLedger };
+}
+
+impl Ledger {
+    /// An empty log, for a script with so many roots, whose numbers of tasks are taken from the start.
+    pub fn new(alloc: Global, roots: usize) -> Result<Ledger, AllocError>
+        requires { roots ≤ TASKS }
+        ensures { IfOk result (λ a. a ≡ record { roots = roots; log = []; spare = 0 }) }
+    {
+        Ok(Ledger {
+            roots,
+            log: Vec::new(alloc),
+            indexes: Indexes::new(alloc, roots)?,
+            spare: 0,
+        })
+    }
+
+    /// All events so far, the oldest first.
+    pub fn log(&self) -> &[Event]
+        ensures { result.now ≡ self.now.log }
+    {
+        &self.log
+    }
+
+    /// How many numbers of tasks are taken, those of all roots included.
+    pub fn tasks(&self) -> usize
+        ensures count { result ≡ tasks_of self.now.roots self.now.log }
+        ensures limit { tasks_of self.now.roots self.now.log + reserved_of self.now.roots self.now.log ≤ TASKS }
+    {
+        self.indexes.lives.len()
+    }
+
+    /// How many tasks were made and have not ended.
+    pub fn open_tasks(&self) -> usize
+        ensures { result ≡ open_of self.now.roots self.now.log }
+    {
+        self.indexes.lives.open_tasks()
+    }
+
+    /// What is known of a task; of a number that no task has, nothing.
+    pub fn life(&self, task: TaskId) -> Life
+        ensures life { result ≡ life_of task.0 self.now.log }
+        ensures known { IsMade self.now.log task → task.0 < tasks_of self.now.roots self.now.log }
+        // The owner of a child was made.
+        ensures owner { (x : ℕ × ℕ) → parent_of task.0 self.now.log ≡ Some x → IsMade self.now.log (record { 0 = x.0 }) }
+    {
+        self.indexes.lives.get(task)
+    }
+
+    /// Whether a task is cancelled (SE-0304).
+    pub fn is_cancelled(&self, task: TaskId) -> bool
+        ensures { result ≡ is_cancelled task.0 self.now.log }
+    {
+        self.indexes.flags.get(task)
+    }
+
+    /// A task's priority, if the task was made.
+    pub fn priority(&self, task: TaskId) -> Option<Priority>
+        ensures known { IsSome result ↔ IsMade self.now.log task }
+        ensures priority { IfSome result (IsPriority (links_of self.now.log) task) }
+    {
+        self.indexes.waits.priority(task)
+    }
+
+    /// What a turn of the task is given, if it begins now.
+    pub fn env(&self, task: TaskId) -> Env
+        requires { IsMade self.now.log task }
+        ensures env { IsEnv self.now.roots task self.now.log result }
+        ensures begins { (n : ℕ) → CanNote self.now.roots self.now.log (Event.Begin task n result) }
+    {
+        let Some(priority) = self.priority(task) else {
+            unreachable!()
+        };
+        let cancelled = self.is_cancelled(task);
+        let room = self.room(task);
+        Env {
+            priority,
+            cancelled,
+            room,
+        }
+    }
+
+    /// How many tasks a turn of the task may make, if it begins now.
+    fn room(&self, task: TaskId) -> u32
+        requires { IsMade self.now.log task }
+        ensures room { result ≡ room_of self.now.roots task.0 self.now.log }
+        // It fits beside the tasks that there are, and the room of the other turns.
+        ensures fits { tasks_of self.now.roots self.now.log + (reserved_of self.now.roots self.now.log - room_held (life_of task.0 self.now.log)) + result ≤ TASKS }
+    {
+        let held = self.indexes.lives.get(task).room();
+        let others = self.indexes.lives.reserved() - held;
+        let left = TASKS
+            .saturating_sub(self.indexes.lives.len())
+            .saturating_sub(others as usize);
+        left.min(MADE) as u32
+    }
+
+    /// How many tasks a task has spawned or detached.
+    pub fn own_count(&self, task: TaskId) -> usize
+        ensures { result ≡ length (own_tasks task.0 self.now.log) }
+    {
+        self.indexes.own.len(task)
+    }
+
+    /// One of the tasks that a task has spawned or detached, by its number among those.
+    pub fn own_task(&self, task: TaskId, number: u32) -> Option<TaskId>
+        ensures task { result ≡ slice_get (own_tasks task.0 self.now.log) number }
+        ensures made { IfSome result (IsMade self.now.log) }
+    {
+        self.indexes.own.get(task, number as usize)
+    }
+
+    /// One of the tasks that have waited for a task, by its place in the order of waiting.
+    pub fn waiter(&self, task: TaskId, place: usize) -> Option<TaskId>
+        ensures waiter { result ≡ slice_get (waiters_of task.0 self.now.log) place }
+        ensures made { IfSome result (IsMade self.now.log) }
+    {
+        self.indexes.waiters.get(task, place)
+    }
+
+    /// How many tasks have waited for a task.
+    pub fn waiter_count(&self, task: TaskId) -> usize
+        ensures { result ≡ length (waiters_of task.0 self.now.log) }
+    {
+        self.indexes.waiters.len(task)
+    }
+
+    /// How many groups a task has opened.
+    pub fn opened(&self, task: TaskId) -> usize
+        ensures { result ≡ opened_by task.0 self.now.log }
+    {
+        self.indexes.groups.opened(&self.log, task)
+    }
+
+    /// Whether a task has opened its group of this number, and not closed it.
+    pub fn is_open_group(&self, owner: TaskId, group: u32) -> bool
+        ensures { result ≡ is_open_group owner.0 group self.now.log }
+    {
+        self.indexes.groups.is_open_group(&self.log, owner, group)
+    }
+
+    /// Whether an open group is cancelled, by name or with its owner (SE-0304).
+    pub fn is_cancelled_group(&self, owner: TaskId, group: u32) -> bool
+        requires { IsTrue (is_open_group owner.0 group self.now.log) }
+        ensures { result ≡ is_cancelled_group owner.0 group self.now.log }
+    {
+        self.indexes.groups.is_named(&self.log, owner, group) || self.is_cancelled(owner)
+    }
+
+    /// What asking an open group for its next result would give (SE-0304).
+    pub fn next_of(&self, owner: TaskId, group: u32) -> Next
+        requires { IsTrue (is_open_group owner.0 group self.now.log) }
+        ensures { result ≡ next_of (group_of owner.0 group self.now.log) }
+    {
+        self.indexes.groups.next_of(&self.log, owner, group)
+    }
+
+    /// Whether each child of a group has ended; a group that was not opened has none.
+    pub fn close_of(&self, owner: TaskId, group: u32) -> Close
+        ensures { result ≡ close_of (group_of owner.0 group self.now.log) }
+    {
+        self.indexes.groups.close_of(&self.log, owner, group)
+    }
+
+    /// Makes room, so that the next `events` calls of `note` find memory. Out of memory nothing else has changed. Where
+    /// so much is reserved already it takes constant time, else time that is linear in what is kept and in `events`.
+    pub fn reserve(&mut self, events: usize) -> Result<(), AllocError>
+        ensures same { self.new ≡ record self.old { spare = self.new.spare } }
+        ensures ok { OnOk result (events ≤ self.new.spare) }
+    {
+        if events <= self.spare {
+            return Ok(());
+        }
+        self.log.reserve(events)?;
+        self.indexes.reserve(events)?;
+        self.spare = events;
+        Ok(())
+    }
+
+    /// Writes one event, and takes no memory. Constant time but for two kinds of events: a wait may raise priorities,
+    /// as `Waits::wait` says, and a cancel of what was not cancelled goes over all tasks, which happens at most once
+    /// for each task and once for each group with children. A begin, an apply and a give touch no map.
+    pub fn note(&mut self, event: Event)
+        requires fits { CanNote self.old.roots self.old.log event }
+        requires spare { 0 < self.old.spare }
+        ensures log { self.new ≡ record self.old { log = self.old.log ++ event ∷ []; spare = self.new.spare } }
+        ensures spare { self.new.spare + 1 ≡ self.old.spare }
+        // What is reserved changes by what the event's task has reserved.
+        ensures reserved { reserved_of self.new.roots self.new.log + room_held (life_of (task_of event) self.old.log) ≡ reserved_of self.old.roots self.old.log + room_held (life_of (task_of event) self.new.log) }
+    {
+        self.indexes.note(self.roots, &self.log, event);
+        self.log.push_reserved(event);
+        self.spare -= 1;
+    }
+
+    /// Gives the log up.
+    pub fn close(self) -> Vec<Event>
+        ensures { result.items ≡ self.log }
+    {
+        let Ledger {
+            roots: _,
+            log,
+            indexes: _,
+            spare: _,
+        } = self;
+        log
+    }
+}

@@ -1,0 +1,19 @@
+//! The log of a run with all that is read of it at once: a ledger's value is its log, and each index that it keeps is
+//! what the log gives. There is one writer, `Ledger::note`, which appends one event.
+#![tactic(auto)]
+
+// What the log gives, by index.
+mod flags;
+mod group_index;
+mod links;
+mod lists;
+mod lives;
+mod relatives;
+
+// All of them.
+mod indexes;
+
+// The log, with them.
+mod ledger;
+
+pub use ledger::Ledger;

@@ -1,0 +1,74 @@
+//! Lists of tasks, one for each task.
+
+ghost use Rattle.std.specs.Prelude.{◌≡◌, ℕ, ◌+◌, ◌^◌, ◌<◌, List, [], length, slice_get, OnOk};
+ghost use Rattle.swift_types.specs.declared.id.TaskId.{TaskId};
+ghost use Rattle.swift_ledger.specs.Lists.{AreLists, HasSpare, count_in, pushed};
+
+use std::alloc::{AllocError, Global};
+use std::collections::HashMap;
+use swift_types::TaskId;
+
+/// For each task a list of tasks. An element is read by the list's task and its place, in constant time.
+#[derive(Drop)]
+pub(crate) struct Lists {
+    // How many tasks there are in a task's list; nothing where it is empty.
+    counts: HashMap<TaskId, usize>,
+    // By a task and a place in its list, what is there.
+    tasks: HashMap<(TaskId, usize), TaskId>,
+}
+
+impl Lists {
+    /// Each list is empty. Takes no memory.
+    pub(crate) fn new(alloc: Global) -> Lists
+        ensures { AreLists result (λ _. []) }
+    {
+        Lists {
+            counts: HashMap::new(alloc),
+            tasks: HashMap::new(alloc),
+        }
+    }
+
+    /// How many tasks there are in a task's list.
+    pub(crate) fn len(&self, task: TaskId) -> usize
+        ensures count { result ≡ count_in self.now task.0 }
+        ensures lists { (lists : ℕ → List TaskId) → AreLists self.now lists → result ≡ length (lists task.0) }
+    {
+        match self.counts.get(&task) {
+            Some(count) => *count,
+            None => 0,
+        }
+    }
+
+    /// The task at a place of a task's list, if the list is so long.
+    pub(crate) fn get(&self, task: TaskId, place: usize) -> Option<TaskId>
+        ensures { (lists : ℕ → List TaskId) → AreLists self.now lists → result ≡ slice_get (lists task.0) place }
+    {
+        self.tasks.get(&(task, place)).copied()
+    }
+
+    /// Makes room for this many calls of `push`. The lists stay as they are, also where there is no memory.
+    pub(crate) fn reserve(&mut self, calls: usize) -> Result<(), AllocError>
+        ensures same { (lists : ℕ → List TaskId) → AreLists self.old lists → AreLists self.new lists }
+        ensures spare { (n : ℕ) → HasSpare self.old n → HasSpare self.new n }
+        ensures ok { OnOk result (HasSpare self.new calls) }
+    {
+        self.counts.reserve(calls)?;
+        self.tasks.reserve(calls)
+    }
+
+    /// Puts a task at the end of a task's list.
+    pub(crate) fn push(&mut self, task: TaskId, element: TaskId)
+        requires spare { HasSpare self.old 1 }
+        requires short { count_in self.old task.0 + 1 < 2 ^ 64 }
+        ensures lists { (lists : ℕ → List TaskId) → AreLists self.old lists → AreLists self.new (pushed lists task element) }
+        ensures spare { (n : ℕ) → HasSpare self.old (n + 1) → HasSpare self.new n }
+    {
+        let place = self.len(task);
+        let Ok(_) = self.counts.insert(task, place + 1) else {
+            unreachable!()
+        };
+        let Ok(_) = self.tasks.insert((task, place), element) else {
+            unreachable!()
+        };
+    }
+}

@@ -1,0 +1,146 @@
+//! What is known of each task, by its number.
+
+ghost use Rattle.std.specs.Prelude.{◌≡◌, ℕ, ◌+◌, ◌≤◌, [], ◌∷◌, ◌++◌, List, IfOk, OnOk, true, false, if◌then◌else◌, slice_index_or};
+ghost use Rattle.swift_types.specs.declared.limits.TheConstants.{TASKS};
+ghost use Rattle.swift_events.specs.declared.event.Event.{Event};
+ghost use Rattle.swift_events.specs.Events.{is_made, tasks_of};
+ghost use Rattle.swift_events.specs.Lives.{life_of, is_open, unborn};
+ghost use Rattle.swift_events.specs.Room.{open_of, reserved_of, lives_of};
+ghost use Rattle.swift_ledger.specs.Ledgers.{CanNote};
+ghost use Rattle.swift_ledger.specs.WellFormed.{IsWellFormed};
+ghost use Rattle.swift_ledger.specs.Lives.{AreLives, HasSpare};
+
+use std::alloc::{AllocError, Global};
+use swift_events::{Event, Life};
+use swift_types::TaskId;
+
+/// What the log says of each task, how many of them are open, and the room that is reserved for their turns.
+#[derive(Drop)]
+pub(crate) struct Lives {
+    lives: Vec<Life>,
+    open_tasks: usize,
+    reserved: u32,
+}
+
+/// One for a task that is open.
+fn share(life: &Life) -> usize
+    ensures { result ≡ (if is_open life.now then 1 else 0) }
+{
+    usize::from(life.is_open())
+}
+
+impl Lives {
+    /// Of an empty log, for a script with so many roots.
+    pub(crate) fn new(alloc: Global, roots: usize) -> Result<Lives, AllocError>
+        requires { roots ≤ TASKS }
+        ensures { IfOk result (λ a. AreLives a roots []) }
+    {
+        Ok(Lives {
+            lives: vec![in alloc; Life::unborn(); roots]?,
+            open_tasks: 0,
+            reserved: 0,
+        })
+    }
+
+    /// What is known of each task, by its number.
+    pub(crate) fn lives(&self) -> &[Life]
+        ensures { (roots : ℕ) (log : List Event) → AreLives self.now roots log → result.now ≡ lives_of (tasks_of roots log) log }
+    {
+        &self.lives
+    }
+
+    /// How many numbers of tasks are taken.
+    pub(crate) fn len(&self) -> usize
+        ensures { (roots : ℕ) (log : List Event) → AreLives self.now roots log → result ≡ tasks_of roots log }
+    {
+        self.lives.len()
+    }
+
+    /// How many tasks were made and have not ended.
+    pub(crate) fn open_tasks(&self) -> usize
+        ensures { (roots : ℕ) (log : List Event) → AreLives self.now roots log → result ≡ open_of roots log }
+    {
+        self.open_tasks
+    }
+
+    /// The room that is reserved for turns under way.
+    pub(crate) fn reserved(&self) -> u32
+        ensures { (roots : ℕ) (log : List Event) → AreLives self.now roots log → result ≡ reserved_of roots log }
+    {
+        self.reserved
+    }
+
+    /// What is known of a task; of a number that no task has, nothing.
+    pub(crate) fn get(&self, task: TaskId) -> Life
+        ensures { (roots : ℕ) (log : List Event) → AreLives self.now roots log → IsWellFormed roots log → result ≡ life_of task.0 log }
+    {
+        self.life_at(task)
+    }
+
+    /// What is kept of a task; nothing past the end.
+    fn life_at(&self, task: TaskId) -> Life
+        ensures { result ≡ slice_index_or self.now.lives.items task.0 unborn }
+    {
+        if (task.0 as usize) < self.lives.len() {
+            self.lives[task.0 as usize]
+        } else {
+            Life::unborn()
+        }
+    }
+
+    /// Makes room for this many calls of `note`. Nothing else changes, also where there is no memory.
+    pub(crate) fn reserve(&mut self, calls: usize) -> Result<(), AllocError>
+        ensures same { (roots : ℕ) (log : List Event) → AreLives self.old roots log → AreLives self.new roots log }
+        ensures spare { (n : ℕ) → HasSpare self.old n → HasSpare self.new n }
+        ensures ok { OnOk result (HasSpare self.new calls) }
+    {
+        self.lives.reserve(calls)
+    }
+
+    /// Follows the log by one event.
+    pub(crate) fn note(&mut self, roots: usize, log: &[Event], event: Event)
+        requires lives { AreLives self.old roots log.now }
+        requires log { IsWellFormed roots log.now }
+        requires fits { CanNote roots log.now event }
+        requires spare { HasSpare self.old 1 }
+        ensures lives { AreLives self.new roots (log.now ++ event ∷ []) }
+        ensures spare { (n : ℕ) → HasSpare self.old (n + 1) → HasSpare self.new n }
+    {
+        if event.makes_task() {
+            self.add(roots, log, event);
+        } else {
+            self.change(roots, log, event);
+        }
+    }
+
+    /// Adds the task that the event makes.
+    fn add(&mut self, roots: usize, log: &[Event], event: Event)
+        requires lives { AreLives self.old roots log.now }
+        requires log { IsWellFormed roots log.now }
+        requires fits { CanNote roots log.now event }
+        requires made { is_made event ≡ true }
+        requires spare { HasSpare self.old 1 }
+        ensures lives { AreLives self.new roots (log.now ++ event ∷ []) }
+        ensures spare { (n : ℕ) → HasSpare self.old (n + 1) → HasSpare self.new n }
+    {
+        self.open_tasks += 1;
+        self.lives.push_reserved(Life::unborn().after(event));
+    }
+
+    /// Changes what is known of the event's task.
+    fn change(&mut self, roots: usize, log: &[Event], event: Event)
+        requires lives { AreLives self.old roots log.now }
+        requires log { IsWellFormed roots log.now }
+        requires fits { CanNote roots log.now event }
+        requires known { is_made event ≡ false }
+        ensures lives { AreLives self.new roots (log.now ++ event ∷ []) }
+        ensures spare { (n : ℕ) → HasSpare self.old n → HasSpare self.new n }
+    {
+        let place = event.task().0 as usize;
+        let before = self.lives[place];
+        let after = before.after(event);
+        self.lives[place] = after;
+        self.open_tasks = self.open_tasks + share(&after) - share(&before);
+        self.reserved = self.reserved - before.room() + after.room();
+    }
+}

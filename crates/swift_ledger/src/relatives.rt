@@ -1,0 +1,81 @@
+//! Lists of tasks that the log gives of each task: those that it has spawned or detached, and those that have waited
+//! for it.
+
+ghost use Rattle.std.specs.Prelude.{◌≡◌, ℕ, ◌+◌, ◌^◌, ◌<◌, ◌∷◌, [], ◌++◌, length};
+ghost use Rattle.swift_events.specs.Relations.{own_tasks, waiters_of};
+ghost use Rattle.swift_ledger.specs.Lists.{AreLists, HasSpare};
+ghost use Rattle.swift_ledger.specs.Relatives.{own_pair, waiter_pair};
+
+use crate::lists::Lists;
+use swift_events::Event;
+use swift_types::TaskId;
+
+/// The maker and the task where an event is the spawn or the detach of a task.
+fn own_pair(event: Event) -> Option<(TaskId, TaskId)>
+    ensures { result ≡ own_pair event }
+{
+    match event {
+        Event::Free(made, by, _, _) => Some((by, made)),
+        Event::Root(_, _)
+        | Event::Begin(_, _, _)
+        | Event::Apply(_, _)
+        | Event::Open(_, _)
+        | Event::Child(_, _, _, _)
+        | Event::Skip(_, _)
+        | Event::CancelTask(_)
+        | Event::CancelGroup(_, _)
+        | Event::Wait(_, _)
+        | Event::Next(_, _)
+        | Event::Close(_, _)
+        | Event::End(_, _)
+        | Event::Give(_, _, _) => None,
+    }
+}
+
+/// The awaited task and the waiter where an event is a wait for a task.
+fn waiter_pair(event: Event) -> Option<(TaskId, TaskId)>
+    ensures { result ≡ waiter_pair event }
+{
+    match event {
+        Event::Wait(waiter, awaited) => Some((awaited, waiter)),
+        Event::Root(_, _)
+        | Event::Begin(_, _, _)
+        | Event::Apply(_, _)
+        | Event::Free(_, _, _, _)
+        | Event::Open(_, _)
+        | Event::Child(_, _, _, _)
+        | Event::Skip(_, _)
+        | Event::CancelTask(_)
+        | Event::CancelGroup(_, _)
+        | Event::Next(_, _)
+        | Event::Close(_, _)
+        | Event::End(_, _)
+        | Event::Give(_, _, _) => None,
+    }
+}
+
+/// Keeps the tasks that each task has spawned or detached, by one event.
+pub(crate) fn note_own(own: &mut Lists, log: &[Event], event: Event)
+    requires own { AreLists own.old (λ t. own_tasks t log.now) }
+    requires short { length log.now + 1 < 2 ^ 64 }
+    requires spare { HasSpare own.old 1 }
+    ensures own { AreLists own.new (λ t. own_tasks t (log.now ++ event ∷ [])) }
+    ensures spare { (n : ℕ) → HasSpare own.old (n + 1) → HasSpare own.new n }
+{
+    if let Some((by, made)) = own_pair(event) {
+        own.push(by, made);
+    }
+}
+
+/// Keeps the tasks that have waited for each task, by one event.
+pub(crate) fn note_waiter(waiters: &mut Lists, log: &[Event], event: Event)
+    requires waiters { AreLists waiters.old (λ t. waiters_of t log.now) }
+    requires short { length log.now + 1 < 2 ^ 64 }
+    requires spare { HasSpare waiters.old 1 }
+    ensures waiters { AreLists waiters.new (λ t. waiters_of t (log.now ++ event ∷ [])) }
+    ensures spare { (n : ℕ) → HasSpare waiters.old (n + 1) → HasSpare waiters.new n }
+{
+    if let Some((awaited, waiter)) = waiter_pair(event) {
+        waiters.push(awaited, waiter);
+    }
+}

@@ -1,6 +1,0 @@
-use Rattle.std.proofs.Common.{◌≡◌, map}
-use Rattle.swift_one_thread.specs.Executors.{fields_of, journal_of}
-use Rattle.swift_one_thread.proofs.leave.journals_and_fields.Given as goal
-
-abbrev pub invariant-loop-executor : goal.invariant-loop-executor
-invariant-loop-executor l = record { journals : l.journals.items ≡ map journal_of l.yielded; fields : l.all.items ≡ map fields_of l.yielded }

@@ -1,0 +1,10 @@
+pub mod BodiesMade
+pub mod EmptyBook
+pub mod Endings
+pub mod Fitting
+pub mod HeldJobs
+pub mod JobsMade
+pub mod OwnTasks
+pub mod Pushes
+pub mod Tests
+pub mod WithinRoom

@@ -1,0 +1,10 @@
+use Rattle.std.proofs.Common.{◌≡◌, ap, sym, subst, List}
+use Rattle.swift_events.specs.declared.event.Event.{Event}
+use Rattle.swift_ledger.specs.Ledgers.{LedgerView, IsMade}
+use Rattle.swift_tasks.proofs.Pushes.{root_made}
+use Rattle.swift_tasks.proofs.requests.note_root.Goals as goal
+
+pub note-requires-2-clause-fits : goal.note-requires-2-clause-fits
+note-requires-2-clause-fits c =
+    let log = ap (λ (l : LedgerView). l.log) c.note.ensures.log in
+    subst (λ (l : List Event). IsMade l (record { 0 = c.args.root.0 })) (sym log) (root_made (record { 0 = c.args.root.0 }) c.root_priority-priority.result c.args.ledger.now.log)

@@ -1,0 +1,41 @@
+-- A book of tasks, as callers see it.
+use Rattle.std.specs.Prelude.{◌≡◌, ℕ, ◌+◌, Bool, true, is_some, Option, Some, None, List, [], ◌∷◌, length, replicate, slice_index_or}
+use Rattle.swift_types.specs.declared.outcome.Resume.TheVariants.{Go}
+use Rattle.swift_script.specs.Scripts.{ScriptView, root_count}
+use Rattle.swift_queue.specs.Job.{JobIs}
+use Rattle.swift_turn.specs.Body.{BodyView, IsRunning}
+use Rattle.swift_events.specs.declared.event.Event.{Event}
+use Rattle.swift_events.specs.Events.{tasks_of}
+use Rattle.swift_events.specs.Lives.{life_of, is_open, is_waiting}
+use Rattle.swift_history.specs.TurnEnds.{JobView, HeldView}
+
+-- A book: its script, what happened so far, and the tasks that wait, by the number of the task.
+pub record BookView : Type 0 where
+  pub script : ScriptView
+  pub log : List Event
+  pub held : List (Option HeldView)
+
+-- the book of a run that has not begun
+abbrev pub empty_book : ScriptView → BookView
+empty_book script = record { script = script; log = []; held = replicate (root_count script) None }
+
+-- a job without the rest of its body
+abbrev pub job_view : JobIs BodyView → JobView
+job_view j = record { task = j.task.0; number = j.number; resume = j.resume; frames = j.body.task }
+
+-- a job's body is of the script, and has not ended
+pub record IsJobOf (script : ScriptView) (j : JobIs BodyView) : Type 0 where
+  pub script_is : j.body.script ≡ script
+  pub runs : IsRunning j.body
+
+-- A task is held exactly where the log says that it waits, and only a task that was made and has not ended waits.
+pub record HoldsWaiting {A : Type 0} (roots : ℕ) (log : List Event) (held : List (Option A)) : Type 0 where
+  pub size : length held ≡ tasks_of roots log
+  pub waits : (t : ℕ) → is_some (slice_index_or held t None) ≡ is_waiting (life_of t log)
+  pub alive : (t : ℕ) → is_waiting (life_of t log) ≡ true → is_open (life_of t log) ≡ true
+
+-- the jobs of the tasks that wait, by the number of the task; the first task here has this number
+abbrev pub jobs_held : ℕ → List (Option HeldView) → List JobView
+jobs_held t [] = []
+jobs_held t (None ∷ hs) = jobs_held (t + 1) hs
+jobs_held t (Some h ∷ hs) = record { task = t; number = h.number; resume = Go; frames = h.frames } ∷ jobs_held (t + 1) hs

@@ -1,0 +1,61 @@
+-- When the book refuses (our own).
+use Rattle.std.specs.Prelude.{◌≡◌, ℕ, Bool, true, false, ◌&&◌, nat_lt, is_some, is_none, if◌then◌else◌, Option, Some, None, List}
+use Rattle.std.specs.List.{list_all}
+use Rattle.swift_types.specs.declared.id.TaskId.{TaskId}
+use Rattle.swift_types.specs.declared.outcome.Resume.{Resume}
+use Rattle.swift_script.specs.Scripts.{ScriptView, root_count}
+use Rattle.swift_script.specs.SameScripts.{same_scripts}
+use Rattle.swift_interpreter.specs.Turn.{EffectView, ExitView}
+use Rattle.swift_queue.specs.Job.{JobIs}
+use Rattle.swift_turn.specs.Body.{BodyView}
+use Rattle.swift_events.specs.declared.event.Event.{Event}
+use Rattle.swift_events.specs.declared.life.Stage.{Stage}
+use Rattle.swift_events.specs.declared.life.Stage.TheVariants.{Begun}
+use Rattle.swift_events.specs.declared.life.Life.{Life}
+use Rattle.swift_events.specs.Lives.{life_of}
+use Rattle.swift_history.specs.Checks.{is_current, counters, fits_turn}
+use Rattle.swift_tasks.specs.declared.fault.BookFault.{BookFault}
+use Rattle.swift_tasks.specs.declared.fault.BookFault.TheVariants.{Unknown, Completed, Memory, Refused}
+
+-- a refusal is the one that stands, else want of memory
+abbrev pub IsRefusal : Option BookFault → BookFault → Type 0
+IsRefusal (Some cause) fault = fault ≡ cause
+IsRefusal None fault = fault ≡ Memory
+
+-- a root is added once
+abbrev pub refusal_of_root : ScriptView → List Event → ℕ → Option BookFault
+refusal_of_root script log r = if nat_lt r (root_count script) && is_none (life_of r log).origin then None else Some Unknown
+
+-- a task that was made and has not ended
+abbrev pub refusal_unless_open : Life → Option BookFault
+refusal_unless_open l = if is_none l.origin then Some Unknown else if is_some l.ending then Some Completed else None
+
+abbrev pub refusal_of_cancel : List Event → ℕ → Option BookFault
+refusal_of_cancel log t = refusal_unless_open (life_of t log)
+
+-- each of these tasks was made
+abbrev pub refusal_of_priorities : List Event → List TaskId → Option BookFault
+refusal_of_priorities log ts = if list_all (λ t. is_some (life_of t.0 log).origin) ts then None else Some Unknown
+
+-- no cause before, and this holds
+abbrev pub refused_unless : Option BookFault → Bool → Option BookFault
+refused_unless (Some cause) holds = Some cause
+refused_unless None true = None
+refused_unless None false = Some Refused
+
+-- a turn begins if it is the one of the task's last job, and was not applied
+abbrev pub refusal_of_turn : List Event → ℕ → ℕ → Resume → Option BookFault
+refusal_of_turn log t n resume = refused_unless (refusal_unless_open (life_of t log)) (is_current (life_of t log) n resume)
+
+abbrev pub refusal_of_begin : List Event → JobIs BodyView → Option BookFault
+refusal_of_begin log job = refusal_of_turn log job.task.0 job.number job.resume
+
+-- in a turn that has begun, effects and exit that fit it, and a body of the same script
+abbrev pub fits_begun : ScriptView → List Event → ℕ → ScriptView → List EffectView → ExitView → Option Stage → Bool
+fits_begun script log t other effects exit (Some (Begun env)) = fits_turn script t log (counters t log env.room) effects exit && same_scripts script other
+fits_begun script log t other effects exit _ = false
+
+-- a turn is applied if it might begin, has begun, and fits
+abbrev pub refusal_of_apply : ScriptView → List Event → JobIs BodyView → List EffectView → ExitView → Option BookFault
+refusal_of_apply script log job effects exit =
+    refused_unless (refusal_of_begin log job) (fits_begun script log job.task.0 job.body.script effects exit (life_of job.task.0 log).stage)

@@ -1,0 +1,122 @@
+//! The book.
+
+ghost use Rattle.std.specs.Prelude.{◌≡◌, ℕ, ◌+◌, ◌≤◌, [], ◌∷◌, ◌++◌, None, IfOk, IfErr, replicate};
+ghost use Rattle.std.specs.Arc.{arc_value};
+ghost use Rattle.swift_script.specs.Scripts.{root_count};
+ghost use Rattle.swift_events.specs.Lives.{life_of};
+ghost use Rattle.swift_events.specs.Room.{open_of};
+ghost use Rattle.swift_tasks.specs.Books.{HoldsWaiting, empty_book};
+
+use crate::fault::BookFault;
+use crate::held::Held;
+use std::alloc::Global;
+use std::marker::Model;
+use std::sync::Arc;
+use swift_events::{Event, Origin};
+use swift_ledger::Ledger;
+use swift_queue::Job;
+use swift_script::Script;
+use swift_turn::Body;
+use swift_types::{Ending, TaskId};
+
+/// The tasks of one run of a script (SE-0304; that they stand in one book, with a log, is our own). Executors ask it before
+/// each turn, tell it what the turn did, and get the jobs that follow. Each call takes constant time, besides what it writes
+/// and makes, where its own comment says nothing else; a growth is amortized.
+///
+/// A task that waits is held here, and each other one is with whoever has its job, so a book can't be dropped: `close` gives
+/// up what it holds.
+pub struct Book {
+    pub(crate) alloc: Global,
+    pub(crate) script: Arc<Script>,
+    pub(crate) ledger: Ledger,
+    // By the number of the task.
+    pub(crate) held: Vec<Option<Held>>,
+    // It is empty, and has room for the jobs of all tasks.
+    pub(crate) spare: Vec<Job<Body>>,
+}
+
+impl Model for Book {
+    ghost use Rattle.std.specs.Arc.{arc_value};
+    ghost use Rattle.std.specs.Coded.{codes};
+    ghost use Rattle.std.specs.Prelude.{◌≡◌, ◌≤◌, [], vec_len, vec_capacity};
+    ghost use Rattle.swift_script.specs.Codes.{expression_code, statement_code, block_code};
+    ghost use Rattle.swift_tasks.specs.Books.{BookView};
+
+    ghost Value = { BookView };
+
+    ghost coded = { Prim.hlevel (codes, expression_code, statement_code (block_code (Prim.hlevel (codes, expression_code)) (Prim.hlevel (codes, expression_code)))) };
+
+    ghost use Rattle.swift_tasks.specs.BookInvariant.{BookInvariant, held_views};
+
+    ghost view = { λ b. record { script = arc_value b.script; log = b.ledger.log; held = held_views b.held.items } };
+
+    ghost invariant = { λ b. BookInvariant (arc_value b.script) b.ledger.roots b.ledger.log b.held.items × (b.spare.items ≡ []) × (vec_len b.held ≤ vec_capacity b.spare) };
+}
+
+impl Book {
+    /// A book without tasks. It takes memory for the roots.
+    pub fn new(alloc: Global, script: Arc<Script>) -> Result<Book, BookFault>
+        ensures ok { IfOk result (λ book. book ≡ empty_book (arc_value script)) }
+        ensures err { IfErr result (λ fault. fault ≡ BookFault.Memory) }
+    {
+        script.facts();
+        let roots = script.root_count();
+        let ledger = Ledger::new(alloc, roots)?;
+        let held = none_held(alloc, roots)?;
+        let spare = Vec::with_capacity(alloc, roots)?;
+        Ok(Book {
+            alloc,
+            script,
+            ledger,
+            held,
+            spare,
+        })
+    }
+
+    /// What holds of each book: a task is held exactly where the log says that it waits. It does nothing.
+    pub fn facts(&self)
+        ensures { HoldsWaiting (root_count self.now.script) self.now.log self.now.held }
+    {
+        let _ = &self.held;
+    }
+
+    /// All events so far, the oldest first.
+    pub fn log(&self) -> &[Event]
+        ensures { result.now ≡ self.now.log }
+    {
+        self.ledger.log()
+    }
+
+    /// How many tasks were made and have not ended.
+    pub fn open_tasks(&self) -> usize
+        ensures { result ≡ open_of (root_count self.now.script) self.now.log }
+    {
+        self.ledger.open_tasks()
+    }
+
+    /// How a task has ended; nothing where it has not, or was not made (SE-0304).
+    pub fn ending(&self, task: TaskId) -> Option<Ending>
+        ensures { result ≡ (life_of task.0 self.now.log).ending }
+    {
+        self.ledger.life(task).ending
+    }
+
+    /// Where a task comes from; nothing where it was not made (SE-0304).
+    pub fn origin(&self, task: TaskId) -> Option<Origin>
+        ensures { result ≡ (life_of task.0 self.now.log).origin }
+    {
+        self.ledger.life(task).origin
+    }
+}
+
+// So many tasks, of which none waits.
+fn none_held(alloc: Global, tasks: usize) -> Result<Vec<Option<Held>>, BookFault>
+    ensures ok { IfOk result (λ held. held.items ≡ replicate tasks None) }
+    ensures err { IfErr result (λ fault. fault ≡ BookFault.Memory) }
+{
+    let mut held = Vec::with_capacity(alloc, tasks)?;
+    'fill: while held.len() < tasks {
+        held.push_reserved(None);
+    }
+    Ok(held)
+}

@@ -1,0 +1,12 @@
+//! Tasks that wait.
+
+use swift_turn::Body;
+
+/// A task that waits.
+#[derive(Drop)]
+pub struct Held {
+    /// The number of its next turn.
+    pub number: u32,
+    /// What runs it.
+    pub body: Body,
+}

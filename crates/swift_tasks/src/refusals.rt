@@ -1,0 +1,154 @@
+//! Which turns may begin and be applied.
+
+ghost use Rattle.std.specs.Prelude.{◌≡◌, ◌+◌, ◌<◌, ◌^◌, [], ◌∷◌, ◌++◌, None, false, IfOk, OnErr, MatchResult, IsTrue};
+ghost use Rattle.swift_script.specs.Scripts.{root_count};
+ghost use Rattle.swift_ledger.specs.Ledgers.{IsMade};
+ghost use Rattle.swift_events.specs.Lives.{life_of, is_waiting};
+ghost use Rattle.swift_events.specs.Room.{IsEnv};
+ghost use Rattle.swift_history.specs.Checks.{same_fault, same_resume, was_given, is_under_way, is_current};
+ghost use Rattle.swift_tasks.specs.Refusals.{IsRefusal, refusal_unless_open, refusal_of_turn, refusal_of_begin, refusal_of_apply};
+ghost use Rattle.swift_interpreter.specs.Frames.{effect_views};
+ghost use Rattle.swift_interpreter.specs.TurnStates.{exit_view};
+
+use crate::book::Book;
+use crate::checks::begun_fits;
+use crate::fault::BookFault;
+use script_code::Env;
+use swift_events::{Event, Given, Life, Stage};
+use swift_interpreter::{Effect, Exit};
+use swift_queue::Job;
+use swift_turn::Body;
+use swift_types::{Fault, Resume, TaskId};
+
+fn faults_equal(a: Fault, b: Fault) -> bool
+    ensures { result ≡ same_fault a b }
+{
+    match (a, b) {
+        (Fault::Thrown(v), Fault::Thrown(w)) => v == w,
+        (Fault::Cancelled, Fault::Cancelled)
+        | (Fault::Invariant, Fault::Invariant)
+        | (Fault::Overflow, Fault::Overflow)
+        | (Fault::Steps, Fault::Steps)
+        | (Fault::Turns, Fault::Turns)
+        | (Fault::Depth, Fault::Depth)
+        | (Fault::Tasks, Fault::Tasks)
+        | (Fault::Empty, Fault::Empty)
+        | (Fault::Isolation, Fault::Isolation) => true,
+        _ => false,
+    }
+}
+
+fn resumes_equal(a: Resume, b: Resume) -> bool
+    ensures { result ≡ same_resume a b }
+{
+    match (a, b) {
+        (Resume::Start, Resume::Start) | (Resume::Go, Resume::Go) => true,
+        (Resume::Value(v), Resume::Value(w)) => v == w,
+        (Resume::Fault(f), Resume::Fault(g)) => faults_equal(f, g),
+        _ => false,
+    }
+}
+
+// Whether this number and resume were given last.
+fn gave(given: Option<Given>, number: u32, resume: Resume) -> bool
+    ensures { result ≡ was_given given number resume }
+{
+    match given {
+        None => false,
+        Some(given) => given.number == number && resumes_equal(given.resume, resume),
+    }
+}
+
+// Whether a turn was not applied yet.
+fn under_way(stage: Option<Stage>) -> bool
+    ensures { result ≡ is_under_way stage }
+{
+    matches!(stage, Some(Stage::Given | Stage::Begun(_)))
+}
+
+// Whether the turn is that of the task's last job, and was not applied.
+fn current(life: Life, number: u32, resume: Resume) -> bool
+    ensures current { result ≡ is_current life number resume }
+    ensures small { IsTrue result → number + 1 < 2 ^ 32 }
+    ensures goes { IsTrue result → is_waiting life ≡ false }
+{
+    gave(life.given, number, resume) && number < u32::MAX && under_way(life.stage)
+}
+
+// Why nothing can be done to a task.
+pub(crate) fn unless_open(life: Life) -> Option<BookFault>
+    ensures cause { result ≡ refusal_unless_open life }
+{
+    if life.origin.is_none() {
+        return Some(BookFault::Unknown);
+    }
+    if life.ending.is_some() {
+        return Some(BookFault::Completed);
+    }
+    None
+}
+
+impl Book {
+    // Why a turn may not begin.
+    fn refusal_of_turn(&self, task: TaskId, number: u32, resume: Resume) -> Option<BookFault>
+        ensures cause { result ≡ refusal_of_turn self.now.log task.0 number resume }
+        ensures made { result ≡ None → IsMade self.now.log task }
+        ensures small { result ≡ None → number + 1 < 2 ^ 32 }
+        ensures goes { result ≡ None → is_waiting (life_of task.0 self.now.log) ≡ false }
+    {
+        let life = self.ledger.life(task);
+        if let Some(fault) = unless_open(life) {
+            return Some(fault);
+        }
+        if current(life, number, resume) {
+            None
+        } else {
+            Some(BookFault::Refused)
+        }
+    }
+
+    /// Begins a turn, and says in which environment: the one that the log gives (SE-0304). The turn must be the one of the
+    /// task's last job; one that has begun may begin again, until it is applied. A refusal is `Unknown`, `Completed`,
+    /// `Refused` or `Memory`, the first of these that stands.
+    pub fn begin(&mut self, job: &Job<Body>) -> Result<Env, BookFault>
+        ensures env { IfOk result (λ env. IsEnv (root_count self.old.script) job.now.task self.old.log env) }
+        ensures ok { IfOk result (λ env. self.new ≡ record self.old { log = self.old.log ++ Event.Begin job.now.task job.now.number env ∷ [] }) }
+        ensures err { OnErr result (self.new ≡ self.old) }
+        ensures refused { MatchResult result (λ _. refusal_of_begin self.old.log job.now ≡ None) (IsRefusal (refusal_of_begin self.old.log job.now)) }
+    {
+        let task = job.task();
+        let number = job.number();
+        if let Some(fault) = self.refusal_of_turn(task, number, job.resume()) {
+            return Err(fault);
+        }
+        let Ok(_) = self.ledger.reserve(1) else {
+            return Err(BookFault::Memory);
+        };
+        let env = self.ledger.env(task);
+        self.ledger.note(Event::Begin(task, number, env));
+        Ok(env)
+    }
+
+    // Why what a turn did is not taken.
+    pub(crate) fn refusal_to_apply(
+        &self,
+        job: &Job<Body>,
+        exit: &Exit,
+        effects: &[Effect],
+    ) -> Option<BookFault>
+        ensures cause { result ≡ refusal_of_apply self.now.script self.now.log job.now (effect_views effects.now) (exit_view exit.now) }
+        ensures made { result ≡ None → IsMade self.now.log job.now.task }
+        ensures small { result ≡ None → job.now.number + 1 < 2 ^ 32 }
+    {
+        match self.refusal_of_turn(job.task(), job.number(), job.resume()) {
+            Some(fault) => Some(fault),
+            None => {
+                if begun_fits(&self.script, &self.ledger, job, effects, exit) {
+                    None
+                } else {
+                    Some(BookFault::Refused)
+                }
+            }
+        }
+    }
+}

@@ -1,0 +1,181 @@
+//! Calls between turns: roots, cancels, priorities, and the end of the run.
+
+ghost use Rattle.std.specs.Prelude.{◌≡◌, ℕ, ◌<◌, ◌≤◌, [], ◌∷◌, ◌++◌, None, Some, IfOk, IfErr, OnOk, OnErr, MatchResult, is_some, length, map, slice_index_or, vec_len, vec_capacity};
+ghost use Rattle.std.specs.Arc.{arc_value};
+ghost use Rattle.std.specs.List.{AllByRecursion, list_all};
+ghost use Rattle.swift_types.specs.declared.limits.TheConstants.{TASKS};
+ghost use Rattle.swift_types.specs.declared.id.TaskId.{TaskId};
+ghost use Rattle.swift_types.specs.declared.priority.Priority.{Priority};
+ghost use Rattle.swift_script.specs.Scripts.{ScriptView, root_count};
+ghost use Rattle.swift_ledger.specs.Ledgers.{IsMade};
+ghost use Rattle.swift_events.specs.Lives.{life_of};
+ghost use Rattle.swift_escalation.specs.Waits.{IsPriority};
+ghost use Rattle.swift_events.specs.Relations.{links_of};
+ghost use Rattle.swift_history.specs.TurnEnds.{root_job, root_events};
+ghost use Rattle.swift_tasks.specs.BookInvariant.{FitsScript, held_views};
+ghost use Rattle.swift_tasks.specs.Books.{IsJobOf, job_view, jobs_held};
+ghost use Rattle.swift_tasks.specs.Refusals.{IsRefusal, refusal_of_root, refusal_of_cancel, refusal_of_priorities};
+
+use crate::book::Book;
+use crate::fault::BookFault;
+use crate::held::Held;
+use crate::refusals::unless_open;
+use std::alloc::Global;
+use std::sync::Arc;
+use swift_events::Event;
+use swift_ledger::Ledger;
+use swift_locals::Bindings;
+use swift_queue::Job;
+use swift_script::Script;
+use swift_turn::Body;
+use swift_types::{Priority, Resume, RootId, TaskId};
+
+impl Book {
+    /// Adds a root: its task has the root's number, method, arguments and priority, and no bindings. The job of its first
+    /// turn comes back. A refusal is `Unknown` for a root that the script lacks or that was added before, or else `Memory`.
+    pub fn add_root(&mut self, root: RootId) -> Result<Job<Body>, BookFault>
+        ensures job { IfOk result (λ job. job_view job ≡ root_job self.old.script root.0) }
+        ensures body { IfOk result (IsJobOf self.old.script) }
+        ensures ok { OnOk result (self.new ≡ record self.old { log = self.old.log ++ root_events self.old.script root.0 }) }
+        ensures err { OnErr result (self.new ≡ self.old) }
+        ensures refused { MatchResult result (λ _. refusal_of_root self.old.script self.old.log root.0 ≡ None) (IsRefusal (refusal_of_root self.old.script self.old.log root.0)) }
+    {
+        if let Some(fault) = self.refusal_of_root(root) {
+            return Err(fault);
+        }
+        self.ledger.reserve(2)?;
+        let body = root_body(self.alloc, &self.script, root)?;
+        note_root(&mut self.ledger, &self.script, root);
+        Ok(Job::new(TaskId(root.0), 0, Resume::Start, body))
+    }
+
+    // Why a root can't be added.
+    fn refusal_of_root(&self, root: RootId) -> Option<BookFault>
+        ensures cause { result ≡ refusal_of_root self.now.script self.now.log root.0 }
+        ensures there { result ≡ None → root.0 < root_count self.now.script }
+        ensures unmade { result ≡ None → (life_of root.0 self.now.log).origin ≡ None }
+    {
+        if (root.0 as usize) < self.script.root_count()
+            && self.ledger.life(TaskId(root.0)).origin.is_none()
+        {
+            None
+        } else {
+            Some(BookFault::Unknown)
+        }
+    }
+
+    /// Cancels a task, with the children of its groups (SE-0304). A refusal is `Unknown`, `Completed` or `Memory`, the first of
+    /// these that stands.
+    pub fn cancel(&mut self, task: TaskId) -> Result<(), BookFault>
+        ensures ok { OnOk result (self.new ≡ record self.old { log = self.old.log ++ Event.CancelTask task ∷ [] }) }
+        ensures err { OnErr result (self.new ≡ self.old) }
+        ensures refused { MatchResult result (λ _. refusal_of_cancel self.old.log task.0 ≡ None) (IsRefusal (refusal_of_cancel self.old.log task.0)) }
+    {
+        if let Some(fault) = unless_open(self.ledger.life(task)) {
+            return Err(fault);
+        }
+        self.ledger.reserve(1)?;
+        self.ledger.note(Event::CancelTask(task));
+        Ok(())
+    }
+
+    /// The priority of each of these tasks, at its place (SE-0304; our own where tasks wait). `Unknown` where one of them was
+    /// not made: then nothing is written. It takes no memory, and time linear in how many are asked for.
+    pub fn priorities(&self, tasks: &[TaskId], priorities: &mut [Priority]) -> Result<(), BookFault>
+        requires { length tasks.now ≡ length priorities.old }
+        ensures ok { OnOk result ((k : ℕ) (t : TaskId) (p : Priority) → k < length tasks.now → IsPriority (links_of self.now.log) (slice_index_or tasks.now k t) (slice_index_or priorities.new k p)) }
+        ensures err { OnErr result (priorities.new ≡ priorities.old) }
+        ensures refused { MatchResult result (λ _. refusal_of_priorities self.now.log tasks.now ≡ None) (λ fault. refusal_of_priorities self.now.log tasks.now ≡ Some fault) }
+    {
+        if !self.are_made(tasks) {
+            return Err(BookFault::Unknown);
+        }
+        for place in 0..tasks.len() {
+            priorities[place] = priority_of(&self.ledger, tasks[place]);
+        }
+        Ok(())
+    }
+
+    fn are_made(&self, tasks: &[TaskId]) -> bool
+        ensures { result ≡ list_all (λ t. is_some (life_of t.0 self.now.log).origin) tasks.now }
+    {
+        tasks
+            .iter()
+            .all(|task| self.ledger.life(*task).origin.is_some())
+    }
+
+    /// Gives up the log, and the job of each task that still waits, by the number of the task. Such a job goes on where its
+    /// task has waited, as if that were over; its turn is never begun by this book. It takes no memory.
+    pub fn close(self) -> (Vec<Event>, Vec<Job<Body>>)
+        ensures log { result.0.items ≡ self.log }
+        ensures jobs { map job_view result.1.items ≡ jobs_held 0 self.held }
+        ensures bodies { AllByRecursion (IsJobOf self.script) result.1.items }
+    {
+        let Book {
+            alloc: _,
+            script: _,
+            ledger,
+            held,
+            spare,
+        } = self;
+        let _tasks = ledger.tasks();
+        let jobs = jobs_of(held, spare);
+        (ledger.close(), jobs)
+    }
+}
+
+// The task of a root before its first turn.
+fn root_body(alloc: Global, script: &Arc<Script>, root: RootId) -> Result<Body, BookFault>
+    requires { root.0 < root_count (arc_value script.now) }
+    ensures script { IfOk result (λ body. body.script ≡ arc_value script.now) }
+    ensures task { IfOk result (λ body. body.task ≡ (root_job (arc_value script.now) root.0).frames) }
+    ensures err { IfErr result (λ fault. fault ≡ BookFault.Memory) }
+{
+    script.facts();
+    let args = script.root_args(root).to_vec(alloc)?;
+    let bindings = Bindings::new(alloc);
+    let method = script.root_method(root);
+    Ok(Body::start(alloc, script.clone()?, method, args, bindings)?)
+}
+
+// Writes that a root was added, and the job of its first turn.
+fn note_root(ledger: &mut Ledger, script: &Script, root: RootId)
+    requires there { root.0 < ledger.old.roots }
+    requires unmade { (life_of root.0 ledger.old.log).origin ≡ None }
+    requires spare { 1 < ledger.old.spare }
+    ensures roots { ledger.new.roots ≡ ledger.old.roots }
+    ensures log { ledger.new.log ≡ ledger.old.log ++ root_events script.now root.0 }
+{
+    let task = TaskId(root.0);
+    let priority = script.root_priority(root);
+    ledger.note(Event::Root(task, priority));
+    ledger.note(Event::Give(task, 0, Resume::Start));
+}
+
+// The priority of a task that was made.
+fn priority_of(ledger: &Ledger, task: TaskId) -> Priority
+    requires { IsMade ledger.now.log task }
+    ensures { IsPriority (links_of ledger.now.log) task result }
+{
+    match ledger.priority(task) {
+        Some(priority) => priority,
+        None => unreachable!(),
+    }
+}
+
+// The jobs of the tasks that wait, by the number of the task, in a list that has the room for them.
+fn jobs_of(mut held: Vec<Option<Held>>, mut jobs: Vec<Job<Body>>) -> Vec<Job<Body>>
+    requires empty { jobs.items ≡ [] }
+    requires room { vec_len held ≤ vec_capacity jobs }
+    requires few { vec_len held ≤ TASKS }
+    ensures jobs { map job_view result.items ≡ jobs_held 0 (held_views held.items) }
+    ensures bodies { (script : ScriptView) → AllByRecursion (FitsScript script) held.items → AllByRecursion (IsJobOf script) result.items }
+{
+    while let Some(waiting) = held.pop() {
+        if let Some(Held { number, body }) = waiting {
+            jobs.push_reserved(Job::new(TaskId(held.len() as u32), number, Resume::Go, body));
+        }
+    }
+    jobs.reverse();
+    jobs
+}

@@ -1,0 +1,110 @@
+//! A queue of jobs, each with its task's number as its body: `put TASK PRIORITY`, `take`, `take_oldest`, `put_back
+//! PRIORITY` for a job that is taken and put back with another priority, `raise TASK PRIORITY`, `holds TASK`, `len`,
+//! `room`, `arrived`, `is_empty`. The first line of a case is its room.
+
+use crate::calls::{Part, play};
+use crate::fault::CaseFault;
+use crate::words::{priority_of, size, task};
+use std::alloc::{AllocError, Global};
+use std::io::Write;
+use swift_queue::{Job, Queue};
+use swift_types::{Priority, Resume, TaskId};
+
+// Puts a job of a task, where that may be done.
+fn put(queue: &mut Queue<u32>, task: TaskId, priority: Priority) -> &'static str {
+    if queue.len() >= queue.room() || queue.arrived() == u64::MAX {
+        return "full";
+    }
+    if queue.holds(task) {
+        return "inside";
+    }
+    queue.put(Job::new(task, 0, Resume::Start, task.0), priority);
+    "ok"
+}
+
+// The task and the arrival number of what was taken.
+fn told(taken: Option<(Job<u32>, u64)>) -> Option<(u32, u64)> {
+    let (job, arrival) = taken?;
+    let (task, _number, _resume, _body) = job.spend();
+    Some((task.0, arrival))
+}
+
+// Takes a job and puts it back with another priority. Its task and its arrival number.
+fn put_back(queue: &mut Queue<u32>, priority: Priority) -> Option<(u32, u64)> {
+    let (job, arrival) = queue.take()?;
+    let task = job.task();
+    queue.restore(job, arrival, priority);
+    Some((task.0, arrival))
+}
+
+fn shown(alloc: Global, found: Option<(u32, u64)>) -> Result<String, AllocError> {
+    match found {
+        Some((task, arrival)) => format!(in alloc; "task {task} arrival {arrival}"),
+        None => String::from_str(alloc, "none"),
+    }
+}
+
+fn yes_or_no(is_so: bool) -> &'static str {
+    if is_so { "yes" } else { "no" }
+}
+
+// What a call answers whose answer is a number.
+fn counted(alloc: Global, queue: &Queue<u32>, word: &str) -> Result<String, CaseFault> {
+    let count = match word {
+        "len" => queue.len() as u64,
+        "room" => queue.room() as u64,
+        "arrived" => queue.arrived(),
+        _ => return Err(CaseFault::Form),
+    };
+    Ok(format!(in alloc; "{count}")?)
+}
+
+impl Part for Queue<u32> {
+    fn answer(&mut self, alloc: Global, words: &[&str]) -> Result<String, CaseFault> {
+        let word = match words {
+            ["put", added, priority] => put(self, task(added)?, priority_of(priority)?),
+            ["raise", raised, priority] => {
+                self.raise(task(raised)?, priority_of(priority)?);
+                "ok"
+            }
+            ["holds", asked] => yes_or_no(self.holds(task(asked)?)),
+            ["is_empty"] => yes_or_no(self.is_empty()),
+            ["take"] => return Ok(shown(alloc, told(self.take()))?),
+            ["take_oldest"] => return Ok(shown(alloc, told(self.take_oldest()))?),
+            ["put_back", priority] => {
+                let priority = priority_of(priority)?;
+                return Ok(shown(alloc, put_back(self, priority))?);
+            }
+            [word] => return counted(alloc, self, word),
+            _ => return Err(CaseFault::Form),
+        };
+        Ok(String::from_str(alloc, word)?)
+    }
+}
+
+// Takes the rest, and gives the queue up. How many were left?
+fn empty(mut queue: Queue<u32>) -> u64 {
+    let mut left = 0u64;
+    while let Some(taken) = queue.take() {
+        let _ = told(Some(taken));
+        left = left.saturating_add(1);
+    }
+    queue.close();
+    left
+}
+
+/// Makes a queue and the calls of a case, and says how many jobs are left.
+pub fn play_queue(alloc: Global, case: &str, out: &mut Vec<u8>) -> Result<(), CaseFault> {
+    let Some((room, calls)) = case.split_once('\n') else {
+        return Err(CaseFault::Form);
+    };
+    let room = size(room)?;
+    let Ok(mut queue) = Queue::with_room(alloc, room) else {
+        writeln!(out, "out of memory")?;
+        return Ok(());
+    };
+    let played = play(alloc, &mut queue, calls, out);
+    let left = empty(queue);
+    writeln!(out, "{left} left")?;
+    played
+}

@@ -1,0 +1,70 @@
+//! The first root that waits for itself or for a later one: `first_waiting` with an edge `FROM>TO` for each call of a
+//! method by another, a wait `METHOD@ROOT` for each wait of a method for a root, and the method of each root. There are
+//! four methods.
+
+use crate::calls::Part;
+use crate::fault::CaseFault;
+use crate::words::number;
+use script_waits::{Edge, Wait, first_waiting};
+use std::alloc::Global;
+
+/// How many methods there are.
+const METHODS: usize = 4;
+
+/// What knows nothing but the calls that are made of it.
+#[derive(Drop)]
+pub struct RootsPart;
+
+// The first root that waits for itself or for a later one, where each number of a method is one.
+fn first_of(
+    alloc: Global,
+    edges: &[Edge],
+    waits: &[Wait],
+    roots: &[u32],
+) -> Result<Option<usize>, CaseFault> {
+    let from = edges.iter().all(|e| (e.from as usize) < METHODS);
+    let to = edges.iter().all(|e| (e.to as usize) < METHODS);
+    let waiting = waits.iter().all(|w| (w.method as usize) < METHODS);
+    let starting = roots.iter().all(|m| (*m as usize) < METHODS);
+    if from && to && waiting && starting {
+        Ok(first_waiting(alloc, METHODS, edges, waits, roots)?)
+    } else {
+        Err(CaseFault::Form)
+    }
+}
+
+// The two numbers of a word with a mark between them.
+fn pair(word: &str, mark: char) -> Result<Option<(u32, u32)>, CaseFault> {
+    match word.split_once(mark) {
+        Some((one, other)) => Ok(Some((number(one)?, number(other)?))),
+        None => Ok(None),
+    }
+}
+
+fn first_by_words(alloc: Global, words: &[&str]) -> Result<Option<usize>, CaseFault> {
+    let mut edges = Vec::new(alloc);
+    let mut waits = Vec::new(alloc);
+    let mut roots = Vec::new(alloc);
+    for word in words {
+        if let Some((from, to)) = pair(word, '>')? {
+            edges.push(Edge { from, to })?;
+        } else if let Some((method, root)) = pair(word, '@')? {
+            waits.push(Wait { method, root })?;
+        } else {
+            roots.push(number(word)?)?;
+        }
+    }
+    first_of(alloc, &edges, &waits, &roots)
+}
+
+impl Part for RootsPart {
+    fn answer(&mut self, alloc: Global, words: &[&str]) -> Result<String, CaseFault> {
+        match words {
+            ["first_waiting", rest @ ..] => match first_by_words(alloc, rest)? {
+                Some(place) => Ok(format!(in alloc; "root {place}")?),
+                None => Ok(String::from_str(alloc, "none")?),
+            },
+            _ => Err(CaseFault::Form),
+        }
+    }
+}

@@ -1,0 +1,137 @@
+//! Devices that take or give little, and devices that fail.
+
+use crate::escapes::expand;
+use crate::fault::CaseFault;
+use std::alloc::Global;
+use std::io;
+use std::io::{Error, ErrorKind, Read, Write};
+use swift_one_thread::Open;
+use swift_output::write_all;
+use swift_tool::{ToolFault, read_input, run_text};
+
+// Takes at most `step` bytes a call. After `room` bytes it fails, or takes none.
+#[derive(Drop)]
+struct SlowDevice {
+    taken: Vec<u8>,
+    calls: usize,
+    step: usize,
+    room: usize,
+    fails: bool,
+}
+
+impl Write for SlowDevice {
+    fn write(&mut self, buf: &[u8]) -> io::Result<usize> {
+        self.calls = self.calls.saturating_add(1);
+        let left = self.room.saturating_sub(self.taken.len());
+        if left == 0 && self.fails {
+            return Err(Error::from(ErrorKind::BrokenPipe));
+        }
+        let count = buf.len().min(self.step).min(left);
+        self.taken.extend_from_slice(&buf[..count])?;
+        Ok(count)
+    }
+
+    fn flush(&mut self) -> io::Result<()> {
+        Ok(())
+    }
+}
+
+// A device by its words: STEP ROOM, and whether it then `fails` or `stops`.
+fn device_of(alloc: Global, words: &str) -> Option<SlowDevice> {
+    let (step, rest) = words.split_once(' ')?;
+    let (room, ending) = rest.split_once(' ')?;
+    Some(SlowDevice {
+        taken: Vec::new(alloc),
+        calls: 0,
+        step: step.parse::<usize>().ok()?,
+        room: room.parse::<usize>().ok()?,
+        fails: ending == "fails",
+    })
+}
+
+// What was answered, and what the device has taken.
+fn tell(
+    answer: Result<bool, ToolFault>,
+    device: &SlowDevice,
+    out: &mut Vec<u8>,
+) -> Result<(), CaseFault> {
+    let (length, calls) = (device.taken.len(), device.calls);
+    match answer {
+        Ok(is_well) => write!(out, "{is_well}")?,
+        Err(fault) => write!(out, "{fault}")?,
+    }
+    writeln!(out, ", {length} bytes in {calls} calls")?;
+    out.extend_from_slice(&device.taken)?;
+    out.push(b'\n')?;
+    Ok(())
+}
+
+fn wrote(device: &mut SlowDevice, text: &[u8]) -> Result<bool, ToolFault> {
+    write_all(device, text)?;
+    Ok(true)
+}
+
+/// The text of the first line on each of the devices of the other lines: written, or run where it is a script's.
+pub fn slow(
+    rt: &HostRuntime,
+    table: &str,
+    is_run: bool,
+    out: &mut Vec<u8>,
+) -> Result<(), CaseFault> {
+    let Some((text, rows)) = table.split_once('\n') else {
+        return Err(CaseFault::Form);
+    };
+    let text = expand(rt.alloc(), text)?;
+    for row in rows.split('\n') {
+        let Some(mut device) = device_of(rt.alloc(), row) else {
+            return Err(CaseFault::Form);
+        };
+        let answer = if is_run {
+            run_text(rt, &text, 1, false, &Open, &mut device)
+        } else {
+            wrote(&mut device, &text)
+        };
+        tell(answer, &device, out)?;
+    }
+    Ok(())
+}
+
+/// How many bytes of a text the program takes, and how many it leaves.
+pub fn input(alloc: Global, text: &[u8], out: &mut Vec<u8>) -> Result<(), CaseFault> {
+    let mut rest = text;
+    match read_input(alloc, &mut rest) {
+        Ok(taken) => {
+            let (taken, left) = (taken.len(), rest.len());
+            writeln!(out, "{taken} bytes are taken, {left} are left")?;
+        }
+        Err(fault) => writeln!(out, "{fault}")?,
+    }
+    Ok(())
+}
+
+// Gives one byte, and then fails.
+#[derive(Drop)]
+struct Failing {
+    has_given: bool,
+}
+
+impl Read for Failing {
+    fn read(&mut self, buf: &mut [u8]) -> io::Result<usize> {
+        if self.has_given || buf.is_empty() {
+            return Err(Error::from(ErrorKind::BrokenPipe));
+        }
+        self.has_given = true;
+        buf[0] = b' ';
+        Ok(1)
+    }
+}
+
+/// What the program says of a device that gives one byte and then fails.
+pub fn failing_input(alloc: Global, out: &mut Vec<u8>) -> Result<(), CaseFault> {
+    let mut from = Failing { has_given: false };
+    match read_input(alloc, &mut from) {
+        Ok(_) => writeln!(out, "wrong: it was read")?,
+        Err(fault) => writeln!(out, "{fault}")?,
+    }
+    Ok(())
+}

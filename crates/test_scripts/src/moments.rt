@@ -1,0 +1,41 @@
+//! What a gate is given of a run.
+
+use crate::fault::CaseFault;
+use std::io::Write;
+use std::sync::atomic::{AtomicU32, Ordering};
+use swift_one_thread::{Gate, Moment};
+use swift_tool::run_text;
+use swift_types::{ExecId, TaskId};
+
+// Counts the tokens that were taken, and the turns of task 1 on executor 0.
+#[derive(Drop)]
+struct Counting {
+    taken: AtomicU32,
+    turns: AtomicU32,
+}
+
+impl Gate for Counting {
+    fn at(&self, moment: Moment) {
+        let _ = match moment {
+            Moment::Took(_) => self.taken.fetch_add(1, Ordering::SeqCst),
+            Moment::Turned(ExecId(0), TaskId(1)) => self.turns.fetch_add(1, Ordering::SeqCst),
+            Moment::Turned(_, _) => 0,
+        };
+    }
+}
+
+/// How often a gate was told of a token, and of a turn of task 1 on executor 0.
+pub fn moments(rt: &HostRuntime, text: &[u8], out: &mut Vec<u8>) -> Result<(), CaseFault> {
+    let gate = Counting {
+        taken: AtomicU32::new(0),
+        turns: AtomicU32::new(0),
+    };
+    let mut report = Vec::new(rt.alloc());
+    if let Err(fault) = run_text(rt, text, 1, true, &gate, &mut report) {
+        writeln!(out, "wrong: {fault}")?;
+    }
+    let taken = gate.taken.load(Ordering::SeqCst);
+    let turns = gate.turns.load(Ordering::SeqCst);
+    writeln!(out, "{taken} tokens, {turns} turns of task 1")?;
+    Ok(())
+}
