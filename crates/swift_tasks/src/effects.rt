@@ -9,7 +9,7 @@ ghost use Rattle.swift_ledger.specs.Ledgers.{IsMade, HasRoom};
 ghost use Rattle.swift_events.specs.Events.{tasks_of};
 ghost use Rattle.swift_events.specs.Relations.{opened_by, is_open_group};
 ghost use Rattle.swift_history.specs.TurnEnds.{named_task, cancel_events, effect_events, effect_jobs, is_left_out, task as numbered};
-ghost use Rattle.swift_tasks.specs.Applying.{CanTake, add_events, add_jobs, first_of};
+ghost use Rattle.swift_tasks.specs.Applying.{CanName, CanTake, add_events, add_jobs, first_of};
 ghost use Rattle.swift_tasks.specs.Bodies.{IsBodyOf};
 ghost use Rattle.swift_tasks.specs.Books.{job_view, IsJobOf};
 
@@ -22,7 +22,8 @@ use swift_types::{Priority, Resume, TaskId};
 
 // The task that a task names.
 pub fn named(ledger: &Ledger, task: TaskId, name: TaskName) -> TaskId
-    ensures { result ≡ named_task task.0 name ledger.now.log }
+    ensures named { result ≡ named_task task.0 name ledger.now.log }
+    ensures made { CanName task.0 ledger.now.log name → IsMade ledger.now.log result }
 {
     match name {
         TaskName::Root(root) => TaskId(root.0),
