@@ -1,10 +1,15 @@
 pub mod BodiesMade
+pub mod Counting
 pub mod EmptyBook
 pub mod Endings
 pub mod Fitting
+pub mod Grows
 pub mod HeldJobs
+pub mod JobsGiven
 pub mod JobsMade
 pub mod OwnTasks
 pub mod Pushes
 pub mod Tests
+pub mod TurnEndKept
+pub mod WakesKept
 pub mod WithinRoom

@@ -4,7 +4,7 @@ use Rattle.swift_types.specs.declared.limits.TheConstants.{TASKS}
 use Rattle.swift_types.specs.declared.priority.Priority.{Priority}
 use Rattle.script_code.specs.declared.env.Env.{Env}
 use Rattle.swift_types.specs.declared.outcome.Resume.TheVariants.{Start}
-use Rattle.swift_script.specs.Scripts.{ScriptView}
+use Rattle.swift_script.specs.Scripts.{ScriptView, root_count}
 use Rattle.swift_interpreter.specs.declared.effect.TaskName.{TaskName}
 use Rattle.swift_interpreter.specs.declared.effect.TaskName.TheVariants.{Root, Own}
 use Rattle.swift_interpreter.specs.Turn.{EffectView, spawning, detaching, opening, adding, cancelling_task, cancelling_group, ExitView, waiting, asking_next, closing}
@@ -83,20 +83,20 @@ AreMade log (j ∷ js) = IsMade log (task j.task) × AreMade log js
 abbrev pub end_at : ScriptView → List Event → List (Option HeldView) → ℕ → ℕ → List EffectView → ExitView → BodyView → Step → TurnEnd
 end_at script log held t n es exit body step = turn_end script log held t n (begun_priority (life_of t log).stage) es exit (record { task = body.task; step = step })
 
--- what comes after an exit: a task that asks or closes awaits, and any other goes on or has ended
+-- what comes after an exit: a task awaits where it waits for a task, asks a group or closes one, and nowhere else
 abbrev pub StepFits : ExitView → Step → Type 0
 StepFits (waiting name) step = step ≡ Await
 StepFits (asking_next g) step = step ≡ Await
 StepFits (closing g f) step = step ≡ Await
-StepFits _ Await = ⊥
-StepFits _ _ = Unit {0}
+StepFits _ step = step ≡ Await → ⊥
 
 -- A turn of a task that has begun may end so: effects and exit fit, with the bodies of the tasks that it makes; the task's own
 -- body has followed the exit.
 pub record TurnLeaves (script : ScriptView) (roots : ℕ) (log : List Event) (held : List (Option HeldView)) (t : ℕ) (es : List EffectView) (bodies : List (Option BodyView)) (exit : ExitView) (body : BodyView) (step : Step) : Type 0 where
   pub env : Env
   pub begun : (life_of t log).stage ≡ Some (Begun env)
-  pub open : is_open (life_of t log) ≡ true
+  pub alive : is_open (life_of t log) ≡ true
+  pub known : t < tasks_of roots log
   pub fits : fits_turn script t log (counters t log env.room) es exit ≡ true
   pub started : AreBodiesOf script es bodies
   pub roots_are : roots ≡ root_count script
