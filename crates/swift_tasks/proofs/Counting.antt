@@ -32,8 +32,11 @@ both false b p q = p
 itself : (n : ℕ) → (n == n) ≡ true
 itself n = grind (arith, nat_tests)
 
-same_counters : (own own' opened opened' room : ℕ) → own ≡ own' → opened ≡ opened' → the Counters (record { own = own; opened = opened; room = room }) ≡ record { own = own'; opened = opened'; room = room }
-same_counters own own' opened opened' room p q = ap (λ (k : ℕ). the Counters (record { own = k; opened = opened; room = room })) p ∙ ap (λ (k : ℕ). the Counters (record { own = own'; opened = k; room = room })) q
+abbrev counts : ℕ → ℕ → ℕ → Counters
+counts own opened room = record { own = own; opened = opened; room = room }
+
+same_counters : (own own' opened opened' room : ℕ) → own ≡ own' → opened ≡ opened' → counts own opened room ≡ counts own' opened' room
+same_counters own own' opened opened' room p q = ap (λ (k : ℕ). counts k opened room) p ∙ ap (λ (k : ℕ). counts own' k room) q
 
 -- an event that makes no task of this one's own, and opens none of its groups
 uncounted : (t : ℕ) (log : List Event) (e : Event) (room : ℕ) → own_in t e ≡ None → opens t e ≡ false → counters t (log ++ e ∷ []) room ≡ counters t log room

@@ -115,9 +115,6 @@ pub and_false : (a : Bool) → (a && false) ≡ false
 and_false true = refl
 and_false false = refl
 
-given_event : JobView → Event
-given_event j = Give (task j.task) j.number j.resume
-
 give_waits : (t : ℕ) (j : JobView) (log : List Event) → is_waiting (life_of t (log ++ Give (task j.task) j.number j.resume ∷ [])) ≡ (not (t == j.task) && is_waiting (life_of t log))
 give_waits t j log = elim (cases_eq t j.task) [
   | inl eq ↦ ap is_waiting (life_of-push_same t log (Give (task j.task) j.number j.resume) (sym eq)) ∙ sym (ap (λ (b : Bool). not b && is_waiting (life_of t log)) (equal t j.task eq))

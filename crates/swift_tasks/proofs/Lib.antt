@@ -5,6 +5,7 @@ pub mod Endings
 pub mod Fitting
 pub mod Grows
 pub mod HeldJobs
+pub mod HeldTaken
 pub mod JobsGiven
 pub mod JobsMade
 pub mod OwnTasks

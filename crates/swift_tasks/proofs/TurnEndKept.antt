@@ -218,7 +218,7 @@ mid_size m l = m.kept.size ∙ sym l.tasks
 mid_made : {roots t : ℕ} {log log' : List Event} {resume : Option Resume} {step : Step} {f : Follows} → Middle roots t log f → Left roots t log log' resume step → AreMade log' f.jobs
 mid_made {log = log} {log' = log'} {f = f} m l = made_on log log' f.jobs l.made m.kept.made
 
-own_job : ℕ → ℕ → TaskView → Resume → JobView
+abbrev own_job : ℕ → ℕ → TaskView → Resume → JobView
 own_job t n frames resume = record { task = t; number = n; resume = resume_at n resume; frames = frames }
 
 or_true : (b : Bool) → (b || true) ≡ true
@@ -272,7 +272,7 @@ ended_followed roots t log log' e f m l =
     let made : WaitersAreMade log' = record { at = λ u w. open_made (life_of u log') (alive u w) } in
     given roots log' (wake_all t e log' f) (l.closed m.closed) (wake_all_kept (tasks_of roots log') log' t e f made first) (λ u none w. alive u w)
 
-held_job : ℕ → TaskView → HeldView
+abbrev held_job : ℕ → TaskView → HeldView
 held_job n frames = record { number = n; frames = frames }
 
 waits_followed : (roots t n : ℕ) (frames : TaskView) (log log' : List Event) (step : Step) (f : Follows) → Middle roots t log f → Left roots t log log' None step → (is_waiting (life_of t log') ≡ true) × ((life_of t log').ending ≡ (life_of t log).ending)

@@ -37,7 +37,7 @@ in_list [] t x is = absurd (false≢true (ap is_some is))
 in_list (y ∷ ys) zero x is = omega arith
 in_list (y ∷ ys) (suc t) x is = let lt = in_list ys t x is in omega (arith, lt)
 
-job_of : ℕ → Resume → HeldView → JobView
+abbrev job_of : ℕ → Resume → HeldView → JobView
 job_of u resume h = record { task = u; number = h.number; resume = resume_at h.number resume; frames = h.frames }
 
 or_false : (b : Bool) → (b || false) ≡ b
@@ -102,12 +102,15 @@ wake_all_kept n log t e f made kept =
 
 -- Jobs that were made before do not matter.
 
-pub behind : List JobView → Follows → Follows
+abbrev pub behind : List JobView → Follows → Follows
 behind before f = record f { jobs = before ++ f.jobs }
+
+abbrev follows : List (Option HeldView) → List JobView → Follows
+follows held jobs = record { held = held; jobs = jobs }
 
 woken_behind : (before : List JobView) (u : ℕ) (resume : Resume) (f : Follows) (o : Option HeldView) → woken u resume (behind before f) o ≡ behind before (woken u resume f o)
 woken_behind before u resume f None = refl
-woken_behind before u resume f (Some h) = ap (λ (js : List JobView). the Follows (record { held = slice_set f.held u None; jobs = js })) (append_assoc before f.jobs (job_of u resume h ∷ []))
+woken_behind before u resume f (Some h) = ap (follows (slice_set f.held u None)) (append_assoc before f.jobs (job_of u resume h ∷ []))
 
 wake_behind : (before : List JobView) (u : ℕ) (resume : Resume) (f : Follows) → wake u resume (behind before f) ≡ behind before (wake u resume f)
 wake_behind before u resume f = woken_behind before u resume f (slice_index_or f.held u None)
