@@ -1,6 +1,6 @@
 -- A turn's effects one by one: what fits the log before an effect fits the log after it.
 use Rattle.std.proofs.Common.{◌≡◌, ℕ, ◌+◌, ◌-◌, ◌<◌, ◌≤◌, List, [], ◌∷◌, ◌++◌, length, refl, sym, ◌∙◌, ap, arith, Bool, true, false, subst, length-append}
-use Rattle.std.specs.Prelude.{Option, Some, None, is_some, if◌then◌else◌, ◌&&◌, ◌==◌, not, nat_lt, unwrap_or, IsTrue}
+use Rattle.std.specs.Prelude.{Option, Some, None, is_some, if◌then◌else◌, ◌&&◌, ◌==◌, ◌^◌, not, nat_lt, unwrap_or, IsTrue}
 use Rattle.std.proofs.lemmas.Bool.Decides.{nat_tests}
 use Rattle.std.proofs.lemmas.List.{append-nil}
 use Rattle.swift_types.specs.declared.limits.TheConstants.{TASKS}
@@ -135,9 +135,9 @@ effect_on script t log log' c (spawning i p bindings) stays fits = fits
 effect_on script t log log' c (detaching i p) stays fits = fits
 effect_on script t log log' c opening stays fits = fits
 effect_on script t log log' c (adding g unless i p bindings) stays fits =
-    let use = right (nat_lt 0 c.room) (can_use t log c g && can_run script i) fits in
+    let used = right (nat_lt 0 c.room) (can_use t log c g && can_run script i) fits in
     both (nat_lt 0 c.room) (can_use t log' c g && can_run script i) (left (nat_lt 0 c.room) (can_use t log c g && can_run script i) fits)
-    (both (can_use t log' c g) (can_run script i) (use_on t log log' c g stays (left (can_use t log c g) (can_run script i) use)) (right (can_use t log c g) (can_run script i) use))
+    (both (can_use t log' c g) (can_run script i) (use_on t log log' c g stays (left (can_use t log c g) (can_run script i) used)) (right (can_use t log c g) (can_run script i) used))
 effect_on script t log log' c (cancelling_task name) stays fits = name_on script log log' c name stays fits
 effect_on script t log log' c (cancelling_group g) stays fits = use_on t log log' c g stays fits
 

@@ -1,5 +1,6 @@
 pub mod BodiesMade
 pub mod Counting
+pub mod EffectsTaken
 pub mod EmptyBook
 pub mod Endings
 pub mod Fitting
