@@ -1,5 +1,5 @@
 -- A task that is held is taken, seen as callers see it.
-use Rattle.std.proofs.Common.{◌≡◌, ℕ, zero, suc, ◌+◌, ◌<◌, List, [], ◌∷◌, ◌++◌, length, get_or, set, refl, sym, ◌∙◌, ap, drop, arith, subst}
+use Rattle.std.proofs.Common.{◌≡◌, ℕ, zero, suc, ◌+◌, ◌<◌, List, [], ◌∷◌, ◌++◌, length, get_or, set, refl, sym, ◌∙◌, ap, take, drop, arith, subst}
 use Rattle.std.specs.Prelude.{Option, Some, None, is_some, unwrap_or, map, slice_index_or, slice_set, slice_get}
 use Rattle.std.specs.List.{AllByRecursion}
 use Rattle.std.proofs.lemmas.Bool.{false≢true}
@@ -81,3 +81,15 @@ all-set P (x ∷ xs) (suc t) y all this = (all.0, all-set P xs t y all.1 this)
 pub held_follows : (held held' : List (Option Held)) (t : ℕ) (h : Held) (jobs : List (JobIs BodyView)) → held' ≡ slice_set held t (Some h)
     → follows_of held' jobs ≡ made_follows (slice_set (held_views held) t (Some (record { number = h.number; frames = h.body.task }))) (map job_view jobs)
 held_follows held held' t h jobs is = ap (λ (hs : List (Option HeldView)). made_follows hs (map job_view jobs)) (ap held_views is ∙ view_set held t (Some h))
+
+pub all-take : {A : Type 0} (P : A → Type 0) (n : ℕ) (xs : List A) → AllByRecursion P xs → AllByRecursion P (take n xs)
+all-take P zero [] all = tt
+all-take P zero (x ∷ xs) all = tt
+all-take P (suc n) [] all = tt
+all-take P (suc n) (x ∷ xs) all = (all.0, all-take P n xs all.1)
+
+pub all-drop : {A : Type 0} (P : A → Type 0) (n : ℕ) (xs : List A) → AllByRecursion P xs → AllByRecursion P (drop n xs)
+all-drop P zero [] all = tt
+all-drop P zero (x ∷ xs) all = all
+all-drop P (suc n) [] all = tt
+all-drop P (suc n) (x ∷ xs) all = all-drop P n xs all.1

@@ -3,6 +3,7 @@ pub mod Counting
 pub mod EffectsTaken
 pub mod EmptyBook
 pub mod Endings
+pub mod FinishedTurn
 pub mod Fitting
 pub mod Grows
 pub mod HeldJobs

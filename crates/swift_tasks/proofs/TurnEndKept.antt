@@ -370,5 +370,5 @@ end_kept script log held t n es bodies exit body step turn can =
     let written : List Event = done ++ exit_events t done exit step in
     followed_kept roots t (n + 1) body.task done written (exit_resume t done exit step) step
     (record { held = held ++ replicate (length (jobs_made script t own (log ++ Apply (task t) n ∷ []) es)) None; jobs = jobs_made script t own (log ++ Apply (task t) n ∷ []) es })
-    (middle script t n own log held es turn.holds turn.closed (begun_rests (life_of t log).stage turn.env turn.begun) turn.alive turn.known)
+    (middle script t n own log held es turn.holds turn.closed (begun_rests (life_of t log).stage turn.turn.env turn.turn.begun) turn.turn.alive turn.known)
     (exit_left roots t done exit step can turn.fitting)

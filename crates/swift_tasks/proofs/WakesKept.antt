@@ -9,12 +9,15 @@ use Rattle.swift_types.specs.declared.outcome.Ending.{Ending}
 use Rattle.swift_groups.specs.declared.answer.Close.{Close as Closing}
 use Rattle.swift_groups.specs.declared.answer.Close.TheVariants as closing
 use Rattle.swift_groups.specs.Close.{close_of}
+use Rattle.swift_turn.specs.declared.step.Step.{Step}
+use Rattle.swift_turn.specs.declared.step.Step.TheVariants.{Run, Ended, Await}
+use Rattle.swift_turn.specs.Body.{TaskView}
 use Rattle.swift_events.specs.declared.event.Event.{Event}
 use Rattle.swift_events.specs.declared.life.Stage.{Stage}
 use Rattle.swift_events.specs.declared.life.Stage.TheVariants as stage
 use Rattle.swift_events.specs.Lives.{life_of, is_waiting}
 use Rattle.swift_events.specs.Relations.{waiters_of, group_of, parent_of}
-use Rattle.swift_history.specs.TurnEnds.{JobView, HeldView, Follows, resume_at, resume_of, woken, wake, wake_each, wake_closing, wake_owner, wake_parent, wake_all, task}
+use Rattle.swift_history.specs.TurnEnds.{JobView, HeldView, Follows, resume_at, resume_of, woken, wake, wake_each, wake_closing, wake_owner, wake_parent, wake_all, followed, task}
 use Rattle.swift_tasks.specs.Applying.{AreMade}
 use Rattle.swift_tasks.proofs.JobsGiven.{among, among-append, equal, unequal, made-append}
 
@@ -144,3 +147,9 @@ wake_parent_behind before (Some x) e log f = wake_owner_behind before x.0 x.1 e 
 pub wake_all_behind : (before : List JobView) (t : ℕ) (e : Ending) (log : List Event) (f : Follows) → wake_all t e log (behind before f) ≡ behind before (wake_all t e log f)
 wake_all_behind before t e log f =
     ap (wake_parent (parent_of t log) e log) (wake_each_behind before (waiters_of t log) (resume_of e) f) ∙ wake_parent_behind before (parent_of t log) e log (wake_each (waiters_of t log) (resume_of e) f)
+
+pub followed_behind : (before : List JobView) (t n : ℕ) (frames : TaskView) (resume : Option Resume) (step : Step) (log : List Event) (f : Follows) → followed t n frames resume step log (behind before f) ≡ behind before (followed t n frames resume step log f)
+followed_behind before t n frames (Some resume) step log f = ap (follows f.held) (append_assoc before f.jobs (record { task = t; number = n; resume = resume_at n resume; frames = frames } ∷ []))
+followed_behind before t n frames None (Ended e) log f = wake_all_behind before t e log f
+followed_behind before t n frames None (Run actor resume) log f = refl
+followed_behind before t n frames None Await log f = refl
