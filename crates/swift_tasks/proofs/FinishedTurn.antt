@@ -16,7 +16,7 @@ use Rattle.swift_tasks.specs.BookInvariant.{FitsScript, held_view, held_views}
 use Rattle.swift_tasks.specs.Books.{job_view}
 use Rattle.swift_tasks.proofs.WakesKept.{behind, followed_behind}
 
-abbrev both_of : List (Option HeldView) → List JobView → Follows
+abbrev pub both_of : List (Option HeldView) → List JobView → Follows
 both_of held jobs = record { held = held; jobs = jobs }
 
 none_views : (k : ℕ) → held_views (replicate k None) ≡ replicate k None
@@ -32,13 +32,13 @@ split_map f zero (x ∷ xs) = refl
 split_map f (suc n) [] = refl
 split_map f (suc n) (x ∷ xs) = ap (λ ys. f x ∷ ys) (split_map f n xs)
 
-drop_map : {A B : Type 0} (f : A → B) (n : ℕ) (xs : List A) → map f (drop n xs) ≡ drop n (map f xs)
+pub drop_map : {A B : Type 0} (f : A → B) (n : ℕ) (xs : List A) → map f (drop n xs) ≡ drop n (map f xs)
 drop_map f zero [] = refl
 drop_map f zero (x ∷ xs) = refl
 drop_map f (suc n) [] = refl
 drop_map f (suc n) (x ∷ xs) = drop_map f n xs
 
-drop_front : {A : Type 0} (n : ℕ) (xs ys : List A) → length xs ≡ n → drop n (xs ++ ys) ≡ ys
+pub drop_front : {A : Type 0} (n : ℕ) (xs ys : List A) → length xs ≡ n → drop n (xs ++ ys) ≡ ys
 drop_front zero [] ys is = whole ys
   where
     whole : {A : Type 0} (ys : List A) → drop zero ys ≡ ys

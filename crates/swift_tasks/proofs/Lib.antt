@@ -14,5 +14,6 @@ pub mod OwnTasks
 pub mod Pushes
 pub mod Tests
 pub mod TurnEndKept
+pub mod TurnIs
 pub mod WakesKept
 pub mod WithinRoom

@@ -35,8 +35,8 @@ use Rattle.swift_events.specs.Lives.{life_of, lived, is_open, is_waiting, waits_
 use Rattle.swift_events.specs.Relations.{opened_by, closes, is_closed, is_open_group, group_of, waiter_in, waiters_of}
 use Rattle.swift_events.proofs.LogLemmas.{life_of-push_same, life_of-push_other, tasks_of-push_other, is_closed-push, is_closed-push_no, opened_by-push, waiters_of-push, waiters_of-push_none}
 use Rattle.swift_history.specs.Histories.{begun_priority}
-use Rattle.swift_history.specs.TurnEnds.{JobView, HeldView, Follows, task, named_task, wait_events, wait_resume, next_events, next_resume, close_events, close_resume, end_events, step_resume, exit_events, exit_resume, followed, gives, jobs_made, log_after, resume_at, resume_of}
-use Rattle.swift_tasks.specs.Applying.{AreMade, CanLeave, StepFits, TurnLeaves, end_at}
+use Rattle.swift_history.specs.TurnEnds.{JobView, HeldView, Follows, task, named_task, wait_events, wait_resume, next_events, next_resume, close_events, close_resume, end_events, step_resume, exit_events, exit_resume, wake_all, followed, gives, jobs_made, log_after, resume_at, resume_of}
+use Rattle.swift_tasks.specs.Applying.{AreMade, CanLeave, StepFits, TurnLeaves, done_log, written_log, end_at}
 use Rattle.swift_tasks.specs.Books.{HoldsWaiting}
 use Rattle.swift_tasks.specs.Counted.{UnopenedAreNotClosed}
 use Rattle.swift_tasks.proofs.Fitting.{left, right, less}
@@ -249,12 +249,12 @@ goes_followed roots t n frames log log' resume step f m l =
       | inr ne ↦ mid_alive m l u ne w
     ])
 
-same_rests : {t : ℕ} {log log' : List Event} → (life_of t log').stage ≡ (life_of t log).stage → is_waiting (life_of t log) ≡ false → is_waiting (life_of t log') ≡ false
-same_rests same rests = ap waits_at same ∙ rests
+same_rests : (t : ℕ) (log log' : List Event) → (life_of t log').stage ≡ (life_of t log).stage → is_waiting (life_of t log) ≡ false → is_waiting (life_of t log') ≡ false
+same_rests t log log' same rests = ap waits_at same ∙ rests
 
 ended_followed : (roots t : ℕ) (log log' : List Event) (e : Ending) (f : Follows) → Middle roots t log f → Left roots t log log' None (Ended e) → Followed roots log' (wake_all t e log' f)
 ended_followed roots t log log' e f m l =
-    let rests : is_waiting (life_of t log') ≡ false = same_rests {t} {log} {log'} l.leaves m.rests in
+    let rests : is_waiting (life_of t log') ≡ false = same_rests t log log' l.leaves m.rests in
     let alive : (u : ℕ) → is_waiting (life_of u log') ≡ true → is_open (life_of u log') ≡ true =
     λ u w. elim (cases_eq u t) [
       | inl eq ↦ absurd (false≢true (sym (ap (λ (k : ℕ). is_waiting (life_of k log')) eq ∙ rests) ∙ w))
@@ -372,3 +372,20 @@ end_kept script log held t n es bodies exit body step turn can =
     (record { held = held ++ replicate (length (jobs_made script t own (log ++ Apply (task t) n ∷ []) es)) None; jobs = jobs_made script t own (log ++ Apply (task t) n ∷ []) es })
     (middle script t n own log held es turn.holds turn.closed (begun_rests (life_of t log).stage turn.turn.env turn.turn.begun) turn.turn.alive turn.known)
     (exit_left roots t done exit step can turn.fitting)
+
+no_ending : {A : Type 0} (o : Option A) → is_none o ≡ true → o ≡ None
+no_ending None h = refl
+no_ending (Some x) h = absurd (false≢true h)
+
+-- no effect ends its own task
+pub done_unended : (roots t n : ℕ) (log : List Event) (es : List EffectView) → is_open (life_of t log) ≡ true → (life_of t (done_log roots t n log es)).ending ≡ None
+done_unended roots t n log es alive =
+    (effects_grow roots t (begun_priority (life_of t log).stage) (log ++ Apply (task t) n ∷ []) es).ending t
+    ∙ ending-push t log (Apply (task t) n) refl
+    ∙ no_ending (life_of t log).ending (right (is_some (life_of t log).origin) (is_none (life_of t log).ending) alive)
+
+-- the log once effects are written, by its parts
+pub done_is : (roots roots' t n : ℕ) (own : Priority) (l : Life) (log log' log'' : List Event) (es : List EffectView)
+    → log'' ≡ log_after roots' t own log' es → roots' ≡ roots → own ≡ begun_priority l.stage → l ≡ life_of t log → log' ≡ log ++ Apply (task t) n ∷ [] → log'' ≡ done_log roots t n log es
+done_is roots roots' t n own l log log' log'' es is rs os ls gs =
+    is ∙ ap (λ (r : ℕ). log_after r t own log' es) rs ∙ ap (λ (p : Priority). log_after roots t p log' es) (os ∙ ap (λ (m : Life). begun_priority m.stage) ls) ∙ ap (λ (g : List Event). log_after roots t (begun_priority (life_of t log).stage) g es) gs

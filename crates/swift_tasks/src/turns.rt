@@ -178,6 +178,7 @@ fn follow_in(
     ensures bodies { (script : ScriptView) → body.script ≡ script → AllByRecursion (FitsScript script) held.old.items → AllByRecursion (IsJobOf script) jobs.old.items
         → AllByRecursion (FitsScript script) held.new.items × AllByRecursion (IsJobOf script) jobs.new.items }
     ensures few { vec_len jobs.new ≤ vec_len jobs.old + length (waiters_of task.0 ledger.now.log) + 1 }
+    ensures long { vec_len held.new ≡ vec_len held.old }
 {
     follow(ledger, held, jobs, task, number, body, resume, step);
 }
@@ -209,6 +210,7 @@ fn finish(
     ensures jobs { map job_view jobs.new.items ≡ map job_view (take first jobs.old.items) ++ (followed_from first held.old.items jobs.old.items task.0 number body.task resume step ledger.old.log).jobs }
     ensures bodies { (script : ScriptView) → body.script ≡ script → AllByRecursion (FitsScript script) held.old.items → AllByRecursion (IsJobOf script) jobs.old.items
         → AllByRecursion (FitsScript script) held.new.items × AllByRecursion (IsJobOf script) jobs.new.items }
+    ensures long { vec_len held.new ≡ vec_len held.old + (vec_len jobs.old - first) }
 {
     grow_held(held, jobs.len() - first);
     follow_in(ledger, held, jobs, task, number, body, resume, step);
