@@ -15,5 +15,6 @@ pub mod Pushes
 pub mod Tests
 pub mod TurnEndKept
 pub mod TurnIs
+pub mod TurnTaken
 pub mod WakesKept
 pub mod WithinRoom

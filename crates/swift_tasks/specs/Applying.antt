@@ -110,6 +110,15 @@ pub record TurnLeaves (script : ScriptView) (roots : ℕ) (log : List Event) (he
   pub running : GoesOn step → IsRunning body
   pub same : body.script ≡ script
 
+-- the turn of a job that may be applied, before its body follows the exit
+pub record JobFits (script : ScriptView) (roots : ℕ) (log : List Event) (held : List (Option HeldView)) (j : JobIs BodyView) (es : List EffectView) (bodies : List (Option BodyView)) (exit : ExitView) : Type 0 where
+  pub turn : TurnFits script roots log j.task.0 es bodies exit
+  pub known : j.task.0 < tasks_of roots log
+  pub holds : HoldsWaiting roots log held
+  pub closed : UnopenedAreNotClosed log
+  pub running : IsRunning j.body
+  pub same : j.body.script ≡ script
+
 -- the log, the tasks that wait and the jobs after the end of such a turn
 pub record Ends (script : ScriptView) (log : List Event) (held : List (Option HeldView)) (jobs : List JobView) (t n : ℕ) (es : List EffectView) (exit : ExitView) (body : BodyView) (step : Step) (log' : List Event) (held' : List (Option HeldView)) (jobs' : List JobView) : Type 0 where
   pub log_is : log' ≡ (end_at script log held t n es exit body step).log

@@ -9,14 +9,16 @@ ghost use Rattle.swift_interpreter.specs.Frames.{effect_views};
 ghost use Rattle.swift_interpreter.specs.TurnStates.{exit_view};
 ghost use Rattle.swift_turn.specs.Body.{BodyView, IsRunning, GoesOn};
 ghost use Rattle.swift_ledger.specs.Ledgers.{IsMade};
+ghost use Rattle.swift_events.specs.Events.{tasks_of};
 ghost use Rattle.swift_events.specs.Lives.{life_of};
 ghost use Rattle.swift_events.specs.Relations.{waiters_of};
 ghost use Rattle.swift_history.specs.Histories.{begun_priority};
 ghost use Rattle.swift_history.specs.TurnEnds.{log_after, jobs_made, exit_resume, followed, gives};
-ghost use Rattle.swift_tasks.specs.Applying.{CanTakeAll, CanLeave, AreMade, TurnFits, TurnLeaves, Ends, done_log, written_log, follows_of, followed_from};
+ghost use Rattle.swift_tasks.specs.Applying.{CanTakeAll, CanLeave, AreMade, TurnFits, TurnLeaves, JobFits, Ends, done_log, written_log, follows_of, followed_from};
 ghost use Rattle.swift_tasks.specs.Bodies.{AreBodiesOf};
 ghost use Rattle.swift_tasks.specs.BookInvariant.{FitsScript, held_views};
-ghost use Rattle.swift_tasks.specs.Books.{job_view, IsJobOf, end_of_turn};
+ghost use Rattle.swift_tasks.specs.Books.{job_view, IsJobOf, HoldsWaiting, IsEndOf};
+ghost use Rattle.swift_tasks.specs.Counted.{UnopenedAreNotClosed};
 ghost use Rattle.swift_tasks.specs.Refusals.{IsRefusal, refusal_of_apply};
 
 use crate::bodies::bodies_of;
@@ -271,6 +273,8 @@ fn end_turn(
         → Ends script ledger.old.log (held_views held.old.items) (map job_view jobs.old.items) task.0 number (effect_views effects.now) (exit_view exit.now) body step ledger.new.log (held_views held.new.items) (map job_view jobs.new.items) }
     ensures bodies { (script : ScriptView) → TurnLeaves script ledger.old.roots ledger.old.log (held_views held.old.items) task.0 (effect_views effects.now) bodies.items (exit_view exit.now) body step
         → AllByRecursion (FitsScript script) held.old.items → AllByRecursion (IsJobOf script) jobs.old.items → AllByRecursion (FitsScript script) held.new.items × AllByRecursion (IsJobOf script) jobs.new.items }
+    ensures kept { (script : ScriptView) → TurnLeaves script ledger.old.roots ledger.old.log (held_views held.old.items) task.0 (effect_views effects.now) bodies.items (exit_view exit.now) body step
+        → HoldsWaiting ledger.old.roots ledger.new.log (held_views held.new.items) × UnopenedAreNotClosed ledger.new.log }
     ensures few { vec_len held.new ≤ vec_len held.old + length effects.now }
 {
     let first = jobs.len();
@@ -278,7 +282,90 @@ fn end_turn(
     finish(ledger, held, jobs, first, task, number + 1, body, resume, step);
 }
 
+// Follows the exit of a job's turn, which fits, and ends the turn. Where the body finds no memory, nothing has changed and the
+// job comes back.
+fn take_turn(
+    ledger: &mut Ledger,
+    held: &mut Vec<Option<Held>>,
+    jobs: &mut Vec<Job<Body>>,
+    job: Job<Body>,
+    effects: &[Effect],
+    bodies: Vec<Option<Body>>,
+    exit: &Exit,
+) -> Result<(), Job<Body>>
+    requires fits { (script : ScriptView) × JobFits script ledger.old.roots ledger.old.log (held_views held.old.items) job (effect_views effects.now) bodies.items (exit_view exit.now) }
+    requires small { job.number + 1 < 2 ^ 32 }
+    requires log_room { length effects.now + length effects.now + length (waiters_of job.task.0 ledger.old.log) + 5 ≤ ledger.old.spare }
+    requires held_room { vec_len held.old + length effects.now ≤ vec_capacity held.old }
+    requires jobs_room { vec_len jobs.old + length effects.now + length (waiters_of job.task.0 ledger.old.log) + 2 ≤ vec_capacity jobs.old }
+    ensures roots { ledger.new.roots ≡ ledger.old.roots }
+    ensures end { OnOk result ((script : ScriptView) → JobFits script ledger.old.roots ledger.old.log (held_views held.old.items) job (effect_views effects.now) bodies.items (exit_view exit.now)
+        → IsEndOf (record { script = script; log = ledger.old.log; held = held_views held.old.items }) (map job_view jobs.old.items) job (effect_views effects.now) (exit_view exit.now) ledger.new.log (held_views held.new.items) (map job_view jobs.new.items)) }
+    ensures kept { OnOk result ((script : ScriptView) → JobFits script ledger.old.roots ledger.old.log (held_views held.old.items) job (effect_views effects.now) bodies.items (exit_view exit.now)
+        → HoldsWaiting ledger.old.roots ledger.new.log (held_views held.new.items) × UnopenedAreNotClosed ledger.new.log) }
+    ensures bodies { OnOk result ((script : ScriptView) → JobFits script ledger.old.roots ledger.old.log (held_views held.old.items) job (effect_views effects.now) bodies.items (exit_view exit.now)
+        → AllByRecursion (FitsScript script) held.old.items → AllByRecursion (IsJobOf script) jobs.old.items → AllByRecursion (FitsScript script) held.new.items × AllByRecursion (IsJobOf script) jobs.new.items) }
+    ensures few { vec_len held.new ≤ vec_len held.old + length effects.now }
+    ensures err { IfErr result (λ back. (back ≡ job) × (ledger.new ≡ ledger.old) × (held.new ≡ held.old) × (jobs.new ≡ jobs.old)) }
+{
+    let (task, number, resume, mut body) = job.spend();
+    match body.advance(exit) {
+        Ok(step) => {
+            end_turn(
+                ledger, held, jobs, task, number, effects, bodies, exit, body, step,
+            );
+            Ok(())
+        }
+        Err(_) => Err(Job::new(task, number, resume, body)),
+    }
+}
+
 impl Book {
+    // Takes a turn that fits.
+    fn apply_fitting(
+        &mut self,
+        job: Job<Body>,
+        exit: &Exit,
+        effects: Vec<Effect>,
+        jobs: &mut Vec<Job<Body>>,
+    ) -> Result<(), (Job<Body>, Vec<Effect>, BookFault)>
+        requires running { IsRunning job.body }
+        requires fits { refusal_of_apply self.old.script self.old.log job (effect_views effects.items) (exit_view exit.now) ≡ None }
+        requires small { job.number + 1 < 2 ^ 32 }
+        requires known { job.task.0 < tasks_of (root_count self.old.script) self.old.log }
+        requires same { job.body.script ≡ self.old.script }
+        ensures ok { OnOk result (IsEndOf self.old (map job_view jobs.old.items) job (effect_views effects.items) (exit_view exit.now) self.new.log self.new.held (map job_view jobs.new.items)) }
+        ensures script { self.new.script ≡ self.old.script }
+        ensures bodies { AllByRecursion (IsJobOf self.old.script) jobs.old.items → AllByRecursion (IsJobOf self.old.script) jobs.new.items }
+        ensures err { IfErr result (λ e. (self.new ≡ self.old) × (jobs.new.items ≡ jobs.old.items) × (e.0 ≡ job) × (effect_views e.1.items ≡ effect_views effects.items) × (e.2 ≡ BookFault.Memory)) }
+    {
+        let Ok(bodies) = bodies_of(self.alloc, &self.script, &effects) else {
+            return Err((job, effects, BookFault::Memory));
+        };
+        let Ok(()) = make_room(
+            &mut self.ledger,
+            &mut self.held,
+            &mut self.spare,
+            jobs,
+            job.task(),
+            effects.len(),
+        ) else {
+            return Err((job, effects, BookFault::Memory));
+        };
+        match take_turn(
+            &mut self.ledger,
+            &mut self.held,
+            jobs,
+            job,
+            &effects,
+            bodies,
+            exit,
+        ) {
+            Ok(()) => Ok(()),
+            Err(job) => Err((job, effects, BookFault::Memory)),
+        }
+    }
+
     /// Takes what a turn of a job did: its effects, in order, and its exit (SE-0304, SE-0306). The events and the jobs that
     /// follow are those of `end_of_turn`; the jobs come behind those that `jobs` has: for the tasks that were made, in order of effects, for the task's own next
     /// turn, and for those that have waited for its end. It writes three events and takes no more memory for a turn that only gives way; else it takes time linear in
@@ -294,8 +381,8 @@ impl Book {
         jobs: &mut Vec<Job<Body>>,
     ) -> Result<(), (Job<Body>, Vec<Effect>, BookFault)>
         requires running { IsRunning job.body }
-        ensures ok { OnOk result (let e = end_of_turn self.old job (effect_views effects.items) (exit_view exit.now) in
-            (self.new ≡ record self.old { log = e.log; held = e.held }) × (map job_view jobs.new.items ≡ map job_view jobs.old.items ++ e.jobs)) }
+        ensures ok { OnOk result (IsEndOf self.old (map job_view jobs.old.items) job (effect_views effects.items) (exit_view exit.now) self.new.log self.new.held (map job_view jobs.new.items)) }
+        ensures script { self.new.script ≡ self.old.script }
         ensures bodies { AllByRecursion (IsJobOf self.old.script) jobs.old.items → AllByRecursion (IsJobOf self.old.script) jobs.new.items }
         ensures err { IfErr result (λ e. (self.new ≡ self.old) × (jobs.new.items ≡ jobs.old.items) × (e.0 ≡ job) × (effect_views e.1.items ≡ effect_views effects.items)) }
         ensures refused { MatchResult result (λ _. refusal_of_apply self.old.script self.old.log job (effect_views effects.items) (exit_view exit.now) ≡ None)
@@ -304,36 +391,6 @@ impl Book {
         if let Some(fault) = self.refusal_to_apply(&job, exit, &effects) {
             return Err((job, effects, fault));
         }
-        let Ok(bodies) = bodies_of(self.alloc, &self.script, &effects) else {
-            return Err((job, effects, BookFault::Memory));
-        };
-        let Ok(()) = make_room(
-            &mut self.ledger,
-            &mut self.held,
-            &mut self.spare,
-            jobs,
-            job.task(),
-            effects.len(),
-        ) else {
-            return Err((job, effects, BookFault::Memory));
-        };
-        let (task, number, resume, mut body) = job.spend();
-        let Ok(step) = body.advance(exit) else {
-            let job = Job::new(task, number, resume, body);
-            return Err((job, effects, BookFault::Memory));
-        };
-        end_turn(
-            &mut self.ledger,
-            &mut self.held,
-            jobs,
-            task,
-            number,
-            &effects,
-            bodies,
-            exit,
-            body,
-            step,
-        );
-        Ok(())
+        self.apply_fitting(job, exit, effects, jobs)
     }
 }

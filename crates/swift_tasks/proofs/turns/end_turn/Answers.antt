@@ -8,10 +8,11 @@ use Rattle.swift_interpreter.specs.Frames.{effect_views}
 use Rattle.swift_interpreter.specs.TurnStates.{exit_view}
 use Rattle.swift_events.specs.declared.event.Event.{Event}
 use Rattle.swift_events.specs.Relations.{waiters_of}
-use Rattle.swift_history.specs.TurnEnds.{JobView, Follows, gives}
+use Rattle.swift_history.specs.TurnEnds.{JobView, HeldView, Follows, gives}
 use Rattle.swift_tasks.specs.Applying.{AreMade, CanLeave, TurnLeaves, done_log, written_log}
 use Rattle.swift_tasks.specs.BookInvariant.{FitsScript, held_views}
-use Rattle.swift_tasks.specs.Books.{job_view}
+use Rattle.swift_tasks.specs.Books.{job_view, HoldsWaiting}
+use Rattle.swift_tasks.specs.Counted.{UnopenedAreNotClosed}
 use Rattle.swift_tasks.proofs.TurnIs.{made_by, follows_turn, few_since, stood_before, turn_is, written_waiters}
 use Rattle.swift_tasks.proofs.TurnEndKept.{end_kept}
 use Rattle.swift_tasks.proofs.turns.end_turn.Goals as goal
@@ -82,3 +83,21 @@ returns-clause-bodies c = λ script turn held jobs. c.finish.ensures.bodies scri
 
 pub returns-clause-few : goal.returns-clause-few
 returns-clause-few c = omega (arith, c.finish.ensures.long, c.len-first.ensures, c.note_turn-resume.ensures.few)
+
+pub returns-clause-kept : goal.returns-clause-kept
+returns-clause-kept c = λ script turn.
+    let es : List EffectView = effect_views c.args.effects.now in
+    let exit : ExitView = exit_view c.args.exit.now in
+    let t : ℕ = c.args.task.0 in
+    let log : List Event = c.args.ledger.now.log in
+    let ends = returns-clause-end c script turn in
+    let leaves = subst (λ (r : ℕ). TurnLeaves script r log (held_views c.args.held.now.items) t es c.args.bodies.items exit c.args.body c.args.step) turn.turn.roots_are turn in
+    let can = subst (λ (r : ℕ). CanLeave t (done_log r t c.args.number log es) exit) turn.turn.roots_are c.note_turn-resume.ensures.leave in
+    let kept = end_kept script log (held_views c.args.held.now.items) t c.args.number es c.args.bodies.items exit c.args.body c.args.step leaves can in
+    let f : Follows = follows_turn script t c.args.number log (held_views c.args.held.now.items) es exit c.args.body.task c.args.step in
+    let l : List Event = written_log (root_count script) t c.args.number log es exit c.args.step ++ gives f.jobs in
+    (
+      subst (λ (r : ℕ). HoldsWaiting r c.finish.new.ledger.log (held_views c.finish.new.held.items)) (sym turn.turn.roots_are)
+      (subst (λ (g : List Event). HoldsWaiting (root_count script) g (held_views c.finish.new.held.items)) (sym ends.log_is) (subst (λ (hs : List (Option HeldView)). HoldsWaiting (root_count script) l hs) (sym ends.held_is) kept.holds)),
+      subst UnopenedAreNotClosed (sym ends.log_is) kept.closed,
+    )
