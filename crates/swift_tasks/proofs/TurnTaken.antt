@@ -14,18 +14,18 @@ use Rattle.swift_interpreter.specs.Turn.{InvocationView, EffectView, ExitView, c
 use Rattle.swift_queue.specs.Job.{JobIs}
 use Rattle.swift_turn.specs.declared.step.Step.{Step}
 use Rattle.swift_turn.specs.declared.step.Step.TheVariants.{Run, Ended, Await}
-use Rattle.swift_turn.specs.Body.{BodyView, TaskView, Advanced, HasFrames, AdvancesTo, advanced, called, resumed, runs, opening}
+use Rattle.swift_turn.specs.Body.{BodyView, TaskView, Advanced, HasFrames, IsRunning, GoesOn, AdvancesTo, advanced, called, resumed, runs, opening}
 use Rattle.swift_events.specs.declared.event.Event.{Event}
 use Rattle.swift_events.specs.declared.life.Life.{Life}
 use Rattle.swift_events.specs.declared.life.Origin.{Origin}
 use Rattle.swift_events.specs.Lives.{life_of, is_open}
 use Rattle.swift_history.specs.Checks.{is_current}
 use Rattle.swift_history.specs.Histories.{begun_priority}
-use Rattle.swift_history.specs.TurnEnds.{TurnEnd, turn_end}
+use Rattle.swift_history.specs.TurnEnds.{JobView, HeldView, TurnEnd, turn_end}
 use Rattle.swift_tasks.specs.declared.fault.BookFault.{BookFault}
 use Rattle.swift_tasks.specs.declared.fault.BookFault.TheVariants.{Unknown, Completed, Refused}
-use Rattle.swift_tasks.specs.Applying.{StepFits}
-use Rattle.swift_tasks.specs.Books.{BookView, end_of_frames}
+use Rattle.swift_tasks.specs.Applying.{StepFits, JobFits, TurnLeaves, Ends}
+use Rattle.swift_tasks.specs.Books.{BookView, IsEndOf, end_of_frames}
 use Rattle.swift_tasks.specs.Refusals.{refused_unless, refusal_unless_open, refusal_of_turn, refusal_of_begin, refusal_of_apply, fits_begun}
 use Rattle.swift_tasks.proofs.Fitting.{FitsTurn, begun_fits}
 
@@ -57,7 +57,7 @@ taken_open script log job es exit none =
 pub taken_fits : (script : ScriptView) (log : List Event) (job : JobIs BodyView) (es : List EffectView) (exit : ExitView) → refusal_of_apply script log job es exit ≡ None → FitsTurn script log job.task.0 job.body.script es exit (life_of job.task.0 log).stage
 taken_fits script log job es exit none = begun_fits script log job.task.0 job.body.script es exit (life_of job.task.0 log).stage (second_true (refusal_of_begin log job) _ none)
 
-awaits : Step → Bool
+abbrev awaits : Step → Bool
 awaits Await = true
 awaits (Run actor resume) = false
 awaits (Ended e) = false
@@ -93,3 +93,32 @@ pub end_is : (b : BookView) (job : JobIs BodyView) (es : List EffectView) (exit 
 end_is b job es exit script [] after there same is = absurd there
 end_is b job es exit script (p ∷ callers) after there same is =
     ap (λ (a : Advanced). turn_end b.script b.log b.held job.task.0 job.number (begun_priority (life_of job.task.0 b.log).stage) es exit a) (is ∙ ap (λ (s : ScriptView). advanced s p callers job.body.task.outer exit) same)
+
+abbrev after_step : TaskView → Step → Advanced
+after_step task step = record { task = task; step = step }
+
+-- a job's turn that fits ends so once its body has followed the exit
+pub leaves_of : (script : ScriptView) (roots : ℕ) (log : List Event) (held : List (Option HeldView)) (job : JobIs BodyView) (es : List EffectView) (bodies : List (Option BodyView)) (exit : ExitView) (body : BodyView) (step : Step)
+    → JobFits script roots log held job es bodies exit → AdvancesTo job.body.script job.body.task.frames job.body.task.outer exit (record { task = body.task; step = step }) → (GoesOn step → IsRunning body) → body.script ≡ job.body.script
+    → TurnLeaves script roots log held job.task.0 es bodies exit body step
+leaves_of script roots log held job es bodies exit body step fits adv runs same = record {
+  turn = fits.turn;
+  known = fits.known;
+  holds = fits.holds;
+  closed = fits.closed;
+  fitting = step_fits job.body.script job.body.task.frames job.body.task.outer exit (after_step body.task step) fits.running adv;
+  running = runs;
+  same = same ∙ fits.same;
+}
+
+-- and its end is that of the turn of the job
+pub ends_of : (script : ScriptView) (roots : ℕ) (log log' : List Event) (held held' : List (Option HeldView)) (jobs jobs' : List JobView) (job : JobIs BodyView) (es : List EffectView) (bodies : List (Option BodyView)) (exit : ExitView) (body : BodyView) (step : Step)
+    → JobFits script roots log held job es bodies exit → AdvancesTo job.body.script job.body.task.frames job.body.task.outer exit (record { task = body.task; step = step })
+    → Ends script log held jobs job.task.0 job.number es exit body step log' held' jobs' → IsEndOf (record { script = script; log = log; held = held }) jobs job es exit log' held' jobs'
+ends_of script roots log log' held held' jobs jobs' job es bodies exit body step fits adv ends =
+    let is = end_is (record { script = script; log = log; held = held }) job es exit job.body.script job.body.task.frames (after_step body.task step) fits.running fits.same adv in
+    record {
+      log_is = ends.log_is ∙ ap (λ (e : TurnEnd). e.log) is;
+      held_is = ends.held_is ∙ ap (λ (e : TurnEnd). e.held) is;
+      jobs_are = ends.jobs_are ∙ ap (λ (e : TurnEnd). jobs ++ e.jobs) is;
+    }
