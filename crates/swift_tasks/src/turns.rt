@@ -177,8 +177,8 @@ fn follow_in(
     requires goes { (next : Resume) → resume ≡ Some next → GoesOn step }
     requires room { vec_len jobs.old + length (waiters_of task.0 ledger.now.log) < vec_capacity jobs.old }
     ensures follows { follows_of held.new.items jobs.new.items ≡ followed task.0 number body.task resume step ledger.now.log (follows_of held.old.items jobs.old.items) }
-    ensures bodies { (script : ScriptView) → body.script ≡ script → AllByRecursion (FitsScript script) held.old.items → AllByRecursion (IsJobOf script) jobs.old.items
-        → AllByRecursion (FitsScript script) held.new.items × AllByRecursion (IsJobOf script) jobs.new.items }
+    ensures bodies { (script : ScriptView) → body.script ≡ script → AllByRecursion (FitsScript script) held.old.items
+        → AllByRecursion (FitsScript script) held.new.items × (AllByRecursion (IsJobOf script) jobs.old.items → AllByRecursion (IsJobOf script) jobs.new.items) }
     ensures few { vec_len jobs.new ≤ vec_len jobs.old + length (waiters_of task.0 ledger.now.log) + 1 }
     ensures long { vec_len held.new ≡ vec_len held.old }
 {
@@ -210,8 +210,8 @@ fn finish(
     ensures log { ledger.new.log ≡ ledger.old.log ++ gives (followed_from first held.old.items jobs.old.items task.0 number body.task resume step ledger.old.log).jobs }
     ensures held { held_views held.new.items ≡ (followed_from first held.old.items jobs.old.items task.0 number body.task resume step ledger.old.log).held }
     ensures jobs { map job_view jobs.new.items ≡ map job_view (take first jobs.old.items) ++ (followed_from first held.old.items jobs.old.items task.0 number body.task resume step ledger.old.log).jobs }
-    ensures bodies { (script : ScriptView) → body.script ≡ script → AllByRecursion (FitsScript script) held.old.items → AllByRecursion (IsJobOf script) jobs.old.items
-        → AllByRecursion (FitsScript script) held.new.items × AllByRecursion (IsJobOf script) jobs.new.items }
+    ensures bodies { (script : ScriptView) → body.script ≡ script → AllByRecursion (FitsScript script) held.old.items
+        → AllByRecursion (FitsScript script) held.new.items × (AllByRecursion (IsJobOf script) jobs.old.items → AllByRecursion (IsJobOf script) jobs.new.items) }
     ensures long { vec_len held.new ≡ vec_len held.old + (vec_len jobs.old - first) }
 {
     grow_held(held, jobs.len() - first);
@@ -272,7 +272,7 @@ fn end_turn(
     ensures end { (script : ScriptView) → TurnLeaves script ledger.old.roots ledger.old.log (held_views held.old.items) task.0 (effect_views effects.now) bodies.items (exit_view exit.now) body step
         → Ends script ledger.old.log (held_views held.old.items) (map job_view jobs.old.items) task.0 number (effect_views effects.now) (exit_view exit.now) body step ledger.new.log (held_views held.new.items) (map job_view jobs.new.items) }
     ensures bodies { (script : ScriptView) → TurnLeaves script ledger.old.roots ledger.old.log (held_views held.old.items) task.0 (effect_views effects.now) bodies.items (exit_view exit.now) body step
-        → AllByRecursion (FitsScript script) held.old.items → AllByRecursion (IsJobOf script) jobs.old.items → AllByRecursion (FitsScript script) held.new.items × AllByRecursion (IsJobOf script) jobs.new.items }
+        → AllByRecursion (FitsScript script) held.old.items → AllByRecursion (FitsScript script) held.new.items × (AllByRecursion (IsJobOf script) jobs.old.items → AllByRecursion (IsJobOf script) jobs.new.items) }
     ensures kept { (script : ScriptView) → TurnLeaves script ledger.old.roots ledger.old.log (held_views held.old.items) task.0 (effect_views effects.now) bodies.items (exit_view exit.now) body step
         → HoldsWaiting ledger.old.roots ledger.new.log (held_views held.new.items) × UnopenedAreNotClosed ledger.new.log }
     ensures few { vec_len held.new ≤ vec_len held.old + length effects.now }
@@ -304,7 +304,7 @@ fn take_turn(
     ensures kept { OnOk result ((script : ScriptView) → JobFits script ledger.old.roots ledger.old.log (held_views held.old.items) job (effect_views effects.now) bodies.items (exit_view exit.now)
         → HoldsWaiting ledger.old.roots ledger.new.log (held_views held.new.items) × UnopenedAreNotClosed ledger.new.log) }
     ensures bodies { OnOk result ((script : ScriptView) → JobFits script ledger.old.roots ledger.old.log (held_views held.old.items) job (effect_views effects.now) bodies.items (exit_view exit.now)
-        → AllByRecursion (FitsScript script) held.old.items → AllByRecursion (IsJobOf script) jobs.old.items → AllByRecursion (FitsScript script) held.new.items × AllByRecursion (IsJobOf script) jobs.new.items) }
+        → AllByRecursion (FitsScript script) held.old.items → AllByRecursion (FitsScript script) held.new.items × (AllByRecursion (IsJobOf script) jobs.old.items → AllByRecursion (IsJobOf script) jobs.new.items)) }
     ensures few { vec_len held.new ≤ vec_len held.old + length effects.now }
     ensures err { IfErr result (λ back. (back ≡ job) × (ledger.new ≡ ledger.old) × (held.new ≡ held.old) × (jobs.new ≡ jobs.old)) }
 {
@@ -352,7 +352,7 @@ impl Book {
         ) else {
             return Err((job, effects, BookFault::Memory));
         };
-        match take_turn(
+        if let Err(job) = take_turn(
             &mut self.ledger,
             &mut self.held,
             jobs,
@@ -361,9 +361,9 @@ impl Book {
             bodies,
             exit,
         ) {
-            Ok(()) => Ok(()),
-            Err(job) => Err((job, effects, BookFault::Memory)),
+            return Err((job, effects, BookFault::Memory));
         }
+        Ok(())
     }
 
     /// Takes what a turn of a job did: its effects, in order, and its exit (SE-0304, SE-0306). The events and the jobs that

@@ -25,8 +25,8 @@ use swift_types::{Ending, Resume, TaskId};
 fn wake(held: &mut [Option<Held>], jobs: &mut Vec<Job<Body>>, task: TaskId, resume: Resume)
     requires room { vec_len jobs.old < vec_capacity jobs.old }
     ensures follows { follows_of held.new jobs.new.items ≡ wake task.0 resume (follows_of held.old jobs.old.items) }
-    ensures bodies { (script : ScriptView) → AllByRecursion (FitsScript script) held.old → AllByRecursion (IsJobOf script) jobs.old.items
-        → AllByRecursion (FitsScript script) held.new × AllByRecursion (IsJobOf script) jobs.new.items }
+    ensures bodies { (script : ScriptView) → AllByRecursion (FitsScript script) held.old
+        → AllByRecursion (FitsScript script) held.new × (AllByRecursion (IsJobOf script) jobs.old.items → AllByRecursion (IsJobOf script) jobs.new.items) }
     ensures few { vec_len jobs.new ≤ vec_len jobs.old + 1 }
     ensures capacity { vec_capacity jobs.new ≡ vec_capacity jobs.old }
 {
@@ -49,8 +49,8 @@ fn wake_waiters(
 )
     requires room { vec_len jobs.old + length (waiters_of task.0 ledger.now.log) ≤ vec_capacity jobs.old }
     ensures follows { follows_of held.new jobs.new.items ≡ wake_each (waiters_of task.0 ledger.now.log) resume (follows_of held.old jobs.old.items) }
-    ensures bodies { (script : ScriptView) → AllByRecursion (FitsScript script) held.old → AllByRecursion (IsJobOf script) jobs.old.items
-        → AllByRecursion (FitsScript script) held.new × AllByRecursion (IsJobOf script) jobs.new.items }
+    ensures bodies { (script : ScriptView) → AllByRecursion (FitsScript script) held.old
+        → AllByRecursion (FitsScript script) held.new × (AllByRecursion (IsJobOf script) jobs.old.items → AllByRecursion (IsJobOf script) jobs.new.items) }
     ensures few { vec_len jobs.new ≤ vec_len jobs.old + length (waiters_of task.0 ledger.now.log) }
     ensures capacity { vec_capacity jobs.new ≡ vec_capacity jobs.old }
 {
@@ -71,8 +71,8 @@ fn wake_closing(
 )
     requires room { vec_len jobs.old < vec_capacity jobs.old }
     ensures follows { follows_of held.new jobs.new.items ≡ wake_closing owner.0 (close_of (group_of owner.0 group ledger.now.log)) (follows_of held.old jobs.old.items) }
-    ensures bodies { (script : ScriptView) → AllByRecursion (FitsScript script) held.old → AllByRecursion (IsJobOf script) jobs.old.items
-        → AllByRecursion (FitsScript script) held.new × AllByRecursion (IsJobOf script) jobs.new.items }
+    ensures bodies { (script : ScriptView) → AllByRecursion (FitsScript script) held.old
+        → AllByRecursion (FitsScript script) held.new × (AllByRecursion (IsJobOf script) jobs.old.items → AllByRecursion (IsJobOf script) jobs.new.items) }
     ensures few { vec_len jobs.new ≤ vec_len jobs.old + 1 }
     ensures capacity { vec_capacity jobs.new ≡ vec_capacity jobs.old }
 {
@@ -93,8 +93,8 @@ fn wake_owner(
 )
     requires room { vec_len jobs.old < vec_capacity jobs.old }
     ensures follows { follows_of held.new jobs.new.items ≡ wake_owner owner.0 group ending (life_of owner.0 ledger.now.log).stage ledger.now.log (follows_of held.old jobs.old.items) }
-    ensures bodies { (script : ScriptView) → AllByRecursion (FitsScript script) held.old → AllByRecursion (IsJobOf script) jobs.old.items
-        → AllByRecursion (FitsScript script) held.new × AllByRecursion (IsJobOf script) jobs.new.items }
+    ensures bodies { (script : ScriptView) → AllByRecursion (FitsScript script) held.old
+        → AllByRecursion (FitsScript script) held.new × (AllByRecursion (IsJobOf script) jobs.old.items → AllByRecursion (IsJobOf script) jobs.new.items) }
     ensures few { vec_len jobs.new ≤ vec_len jobs.old + 1 }
     ensures capacity { vec_capacity jobs.new ≡ vec_capacity jobs.old }
 {
@@ -123,8 +123,8 @@ fn wake_parent(
 )
     requires room { vec_len jobs.old < vec_capacity jobs.old }
     ensures follows { follows_of held.new jobs.new.items ≡ wake_parent (parent_of task.0 ledger.now.log) ending ledger.now.log (follows_of held.old jobs.old.items) }
-    ensures bodies { (script : ScriptView) → AllByRecursion (FitsScript script) held.old → AllByRecursion (IsJobOf script) jobs.old.items
-        → AllByRecursion (FitsScript script) held.new × AllByRecursion (IsJobOf script) jobs.new.items }
+    ensures bodies { (script : ScriptView) → AllByRecursion (FitsScript script) held.old
+        → AllByRecursion (FitsScript script) held.new × (AllByRecursion (IsJobOf script) jobs.old.items → AllByRecursion (IsJobOf script) jobs.new.items) }
     ensures few { vec_len jobs.new ≤ vec_len jobs.old + 1 }
     ensures capacity { vec_capacity jobs.new ≡ vec_capacity jobs.old }
 {
@@ -144,8 +144,8 @@ fn wake_all(
 )
     requires room { vec_len jobs.old + length (waiters_of task.0 ledger.now.log) < vec_capacity jobs.old }
     ensures follows { follows_of held.new jobs.new.items ≡ wake_all task.0 ending ledger.now.log (follows_of held.old jobs.old.items) }
-    ensures bodies { (script : ScriptView) → AllByRecursion (FitsScript script) held.old → AllByRecursion (IsJobOf script) jobs.old.items
-        → AllByRecursion (FitsScript script) held.new × AllByRecursion (IsJobOf script) jobs.new.items }
+    ensures bodies { (script : ScriptView) → AllByRecursion (FitsScript script) held.old
+        → AllByRecursion (FitsScript script) held.new × (AllByRecursion (IsJobOf script) jobs.old.items → AllByRecursion (IsJobOf script) jobs.new.items) }
     ensures few { vec_len jobs.new ≤ vec_len jobs.old + length (waiters_of task.0 ledger.now.log) + 1 }
     ensures capacity { vec_capacity jobs.new ≡ vec_capacity jobs.old }
 {
@@ -189,8 +189,8 @@ pub fn follow(
     requires goes { (next : Resume) → resume ≡ Some next → GoesOn step }
     requires room { vec_len jobs.old + length (waiters_of task.0 ledger.now.log) < vec_capacity jobs.old }
     ensures follows { follows_of held.new jobs.new.items ≡ followed task.0 number body.task resume step ledger.now.log (follows_of held.old jobs.old.items) }
-    ensures bodies { (script : ScriptView) → body.script ≡ script → AllByRecursion (FitsScript script) held.old → AllByRecursion (IsJobOf script) jobs.old.items
-        → AllByRecursion (FitsScript script) held.new × AllByRecursion (IsJobOf script) jobs.new.items }
+    ensures bodies { (script : ScriptView) → body.script ≡ script → AllByRecursion (FitsScript script) held.old
+        → AllByRecursion (FitsScript script) held.new × (AllByRecursion (IsJobOf script) jobs.old.items → AllByRecursion (IsJobOf script) jobs.new.items) }
     ensures few { vec_len jobs.new ≤ vec_len jobs.old + length (waiters_of task.0 ledger.now.log) + 1 }
     ensures capacity { vec_capacity jobs.new ≡ vec_capacity jobs.old }
 {

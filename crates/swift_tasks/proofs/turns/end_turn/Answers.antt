@@ -79,7 +79,7 @@ returns-clause-end c = λ script turn.
     }
 
 pub returns-clause-bodies : goal.returns-clause-bodies
-returns-clause-bodies c = λ script turn held jobs. c.finish.ensures.bodies script turn.same held (c.note_turn-resume.ensures.bodies script turn.turn.started jobs)
+returns-clause-bodies c = λ script turn held. (let b = c.finish.ensures.bodies script turn.same held in (b.0, λ jobs. b.1 (c.note_turn-resume.ensures.bodies script turn.turn.started jobs)))
 
 pub returns-clause-few : goal.returns-clause-few
 returns-clause-few c = omega (arith, c.finish.ensures.long, c.len-first.ensures, c.note_turn-resume.ensures.few)

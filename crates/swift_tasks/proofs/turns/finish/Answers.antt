@@ -41,5 +41,5 @@ pub returns-clause-jobs : goal.returns-clause-jobs
 returns-clause-jobs c = ap (λ (f : Follows). f.jobs) (all c.before)
 
 pub returns-clause-bodies : goal.returns-clause-bodies
-returns-clause-bodies c = λ script is held jobs.
-    c.follow_in.ensures.bodies script is (subst (AllByRecursion (FitsScript script)) (sym c.grow_held.ensures.held) (all-append (FitsScript script) c.args.held.now.items (replicate (c.len.result - c.args.first) None) held (all_none script (c.len.result - c.args.first)))) jobs
+returns-clause-bodies c = λ script is held.
+    c.follow_in.ensures.bodies script is (subst (AllByRecursion (FitsScript script)) (sym c.grow_held.ensures.held) (all-append (FitsScript script) c.args.held.now.items (replicate (c.len.result - c.args.first) None) held (all_none script (c.len.result - c.args.first))))

@@ -17,7 +17,7 @@ wake-preserved c =
       follows = ap (wake_each (drop (k + 1) us) c.args.resume) c.wake-in-Some.ensures.follows
           ∙ ap (λ (n : ℕ). wake_each (drop n us) c.args.resume (wake c.in-Some.waiter.0 c.args.resume was)) (add-one k)
           ∙ sym (wake_next us k c.in-Some.waiter c.args.resume was is) ∙ c.wake.invariant.follows;
-      bodies = λ script held jobs. (let b = c.wake.invariant.bodies script held jobs in c.wake-in-Some.ensures.bodies script b.0 b.1);
+      bodies = λ script held. (let b = c.wake.invariant.bodies script held in let d = c.wake-in-Some.ensures.bodies script b.0 in (d.0, λ jobs. d.1 (b.1 jobs)));
       few = (let a = c.wake.invariant.few in let b = c.wake-in-Some.ensures.few in omega (arith, a, b));
       capacity = c.wake-in-Some.ensures.capacity ∙ c.wake.invariant.capacity;
       there = omega (arith, lt);
