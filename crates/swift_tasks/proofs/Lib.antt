@@ -13,6 +13,7 @@ pub mod JobsMade
 pub mod OwnTasks
 pub mod Pushes
 pub mod Tests
+pub mod TurnApplied
 pub mod TurnEndKept
 pub mod TurnIs
 pub mod TurnTaken

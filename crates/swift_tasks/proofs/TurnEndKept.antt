@@ -74,7 +74,12 @@ few_waiters t log e =
 -- nothing is written, and the task goes on
 goes_on : (roots t : ℕ) (log : List Event) (resume : Resume) (step : Step) → Left roots t log (log ++ []) (Some resume) step
 goes_on roots t log resume step = subst (λ (l : List Event). Left roots t log l (Some resume) step) (sym (append-nil log)) (record {
-  made = λ u h. h; others = λ u ne. refl; tasks = refl; closed = λ c. c; waiters = omega arith; leaves = tt;
+  made = λ u h. h;
+  others = λ u ne. refl;
+  tasks = refl;
+  closed = λ c. c;
+  waiters = omega arith;
+  leaves = tt;
 })
 
 -- one event of the task is written
@@ -361,8 +366,8 @@ pub end_kept : (script : ScriptView) (log : List Event) (held : List (Option Hel
     → CanLeave t (log_after (root_count script) t (begun_priority (life_of t log).stage) (log ++ Apply (task t) n ∷ []) es) exit
     → Followed (root_count script) (log_after (root_count script) t (begun_priority (life_of t log).stage) (log ++ Apply (task t) n ∷ []) es ++ exit_events t (log_after (root_count script) t (begun_priority (life_of t log).stage) (log ++ Apply (task t) n ∷ []) es) exit step)
     (followed t (n + 1) body.task (exit_resume t (log_after (root_count script) t (begun_priority (life_of t log).stage) (log ++ Apply (task t) n ∷ []) es) exit step) step
-      (log_after (root_count script) t (begun_priority (life_of t log).stage) (log ++ Apply (task t) n ∷ []) es ++ exit_events t (log_after (root_count script) t (begun_priority (life_of t log).stage) (log ++ Apply (task t) n ∷ []) es) exit step)
-      (record { held = held ++ replicate (length (jobs_made script t (begun_priority (life_of t log).stage) (log ++ Apply (task t) n ∷ []) es)) None; jobs = jobs_made script t (begun_priority (life_of t log).stage) (log ++ Apply (task t) n ∷ []) es }))
+    (log_after (root_count script) t (begun_priority (life_of t log).stage) (log ++ Apply (task t) n ∷ []) es ++ exit_events t (log_after (root_count script) t (begun_priority (life_of t log).stage) (log ++ Apply (task t) n ∷ []) es) exit step)
+    (record { held = held ++ replicate (length (jobs_made script t (begun_priority (life_of t log).stage) (log ++ Apply (task t) n ∷ []) es)) None; jobs = jobs_made script t (begun_priority (life_of t log).stage) (log ++ Apply (task t) n ∷ []) es }))
 end_kept script log held t n es bodies exit body step turn can =
     let roots : ℕ = root_count script in
     let own : Priority = begun_priority (life_of t log).stage in

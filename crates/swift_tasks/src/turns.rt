@@ -279,7 +279,17 @@ fn end_turn(
 {
     let first = jobs.len();
     let resume = note_turn(ledger, jobs, task, number, effects, bodies, exit, step);
-    finish(ledger, held, jobs, first, task, number + 1, body, resume, step);
+    finish(
+        ledger,
+        held,
+        jobs,
+        first,
+        task,
+        number + 1,
+        body,
+        resume,
+        step,
+    );
 }
 
 // Follows the exit of a job's turn, which fits, and ends the turn. Where the body finds no memory, nothing has changed and the

@@ -95,9 +95,8 @@ returns-clause-kept c = λ script turn.
     let can = subst (λ (r : ℕ). CanLeave t (done_log r t c.args.number log es) exit) turn.turn.roots_are c.note_turn-resume.ensures.leave in
     let kept = end_kept script log (held_views c.args.held.now.items) t c.args.number es c.args.bodies.items exit c.args.body c.args.step leaves can in
     let f : Follows = follows_turn script t c.args.number log (held_views c.args.held.now.items) es exit c.args.body.task c.args.step in
-    let l : List Event = written_log (root_count script) t c.args.number log es exit c.args.step ++ gives f.jobs in
-    (
+    let l : List Event = written_log (root_count script) t c.args.number log es exit c.args.step ++ gives f.jobs in (
       subst (λ (r : ℕ). HoldsWaiting r c.finish.new.ledger.log (held_views c.finish.new.held.items)) (sym turn.turn.roots_are)
-      (subst (λ (g : List Event). HoldsWaiting (root_count script) g (held_views c.finish.new.held.items)) (sym ends.log_is) (subst (λ (hs : List (Option HeldView)). HoldsWaiting (root_count script) l hs) (sym ends.held_is) kept.holds)),
+          (subst (λ (g : List Event). HoldsWaiting (root_count script) g (held_views c.finish.new.held.items)) (sym ends.log_is) (subst (λ (hs : List (Option HeldView)). HoldsWaiting (root_count script) l hs) (sym ends.held_is) kept.holds)),
       subst UnopenedAreNotClosed (sym ends.log_is) kept.closed,
     )

@@ -28,7 +28,7 @@ advance-requires-clause-call c =
     let fits = c.requires.fits.1 in
     let P : Parts → Type 0 = λ r. CanAdvance r.3.script (exit_view c.args.exit.now) in
     subst P (sym c.spend-number.ensures) (subst (λ (s : ScriptView). CanAdvance s (exit_view c.args.exit.now)) (sym fits.same)
-      (advances script c.args.job.task.0 c.args.ledger.now.log (counters c.args.job.task.0 c.args.ledger.now.log fits.turn.env.room) (effect_views c.args.effects.now) (exit_view c.args.exit.now) fits.turn.fits))
+    (advances script c.args.job.task.0 c.args.ledger.now.log (counters c.args.job.task.0 c.args.ledger.now.log fits.turn.env.room) (effect_views c.args.effects.now) (exit_view c.args.exit.now) fits.turn.fits))
 
 pub end_turn-requires-clause-log_room : goal.end_turn-requires-clause-log_room
 end_turn-requires-clause-log_room c =
