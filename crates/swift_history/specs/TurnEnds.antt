@@ -1,7 +1,6 @@
 -- What the end of a turn writes, and the jobs that it makes (SE-0304 for tasks and groups, SE-0306 for calls, SE-0311 for
 -- bindings; the order is our own).
-use Rattle.std.specs.Prelude.{ℕ, ◌+◌, ◌-◌, ◌==◌, ◌&&◌, nat_lt, if◌then◌else◌, is_some, Bool, true, false, Option, Some, None, List, [], ◌∷◌, ◌++◌, length, map, replicate, count_by, slice_get, slice_set, slice_index_or, unwrap_or, ℤ}
-use Rattle.std.specs.List.{flat_map}
+use Rattle.std.specs.Prelude.{ℕ, ◌+◌, ◌-◌, ◌==◌, ◌&&◌, nat_lt, if◌then◌else◌, is_some, Bool, true, false, Option, Some, None, List, [], ◌∷◌, ◌++◌, length, map, replicate, slice_get, slice_set, slice_index_or, unwrap_or, ℤ}
 use Rattle.swift_types.specs.declared.limits.TheConstants.{TURNS}
 use Rattle.swift_types.specs.declared.id.TaskId.{TaskId}
 use Rattle.swift_types.specs.declared.outcome.Ending.{Ending}
@@ -170,50 +169,53 @@ exit_resume t log (asking_next g) step = next_resume (next_of (group_of t g log)
 exit_resume t log (closing_group g f) step = close_resume (close_of (group_of t g log))
 exit_resume t log _ step = step_resume step
 
--- the job of the task's next turn
-abbrev pub own_job : ℕ → ℕ → TaskView → Option Resume → List JobView
-own_job t n frames None = []
-own_job t n frames (Some resume) = record { task = t; number = n; resume = resume_at n resume; frames = frames } ∷ []
+-- the tasks that wait, by number, and the jobs that are made
+pub record Follows : Type 0 where
+  pub held : List (Option HeldView)
+  pub jobs : List JobView
 
--- the job of a task that waits
-abbrev pub woken : ℕ → Option HeldView → Resume → List JobView
-woken u None resume = []
-woken u (Some h) resume = record { task = u; number = h.number; resume = resume_at h.number resume; frames = h.frames } ∷ []
+-- a task that waits goes on with this, and waits no more
+abbrev pub woken : ℕ → Resume → Follows → Option HeldView → Follows
+woken u resume f None = f
+woken u resume f (Some h) = record {
+  held = slice_set f.held u None;
+  jobs = f.jobs ++ record { task = u; number = h.number; resume = resume_at h.number resume; frames = h.frames } ∷ [];
+}
 
-abbrev pub wakes : List (Option HeldView) → ℕ → Resume → List JobView
-wakes held u resume = woken u (slice_index_or held u None) resume
+abbrev pub wake : ℕ → Resume → Follows → Follows
+wake u resume f = woken u resume f (slice_index_or f.held u None)
+
+-- the same of several tasks, in order
+abbrev pub wake_each : List TaskId → Resume → Follows → Follows
+wake_each [] resume f = f
+wake_each (u ∷ us) resume f = wake_each us resume (wake u.0 resume f)
 
 -- the owner that closes a group goes on where each child has ended
-abbrev pub wakes_closing : ℕ → Closing → List (Option HeldView) → List JobView
-wakes_closing o closing.Done held = wakes held o Go
-wakes_closing o closing.Wait held = []
+abbrev pub wake_closing : ℕ → Closing → Follows → Follows
+wake_closing o closing.Done f = wake o Go f
+wake_closing o closing.Wait f = f
 
 -- The owner of a child that has ended: where it has asked for a result of this group, it gets this one, since it has each
 -- earlier one; where it closes the group, it goes on if this was the last child.
-abbrev pub wakes_owner : ℕ → ℕ → Ending → Option Stage → List Event → List (Option HeldView) → List JobView
-wakes_owner o g e (Some (Asks asked)) log held = if asked == g then wakes held o (resume_of e) else []
-wakes_owner o g e (Some (Closes closed)) log held = if closed == g then wakes_closing o (close_of (group_of o g log)) held else []
-wakes_owner o g e _ log held = []
+abbrev pub wake_owner : ℕ → ℕ → Ending → Option Stage → List Event → Follows → Follows
+wake_owner o g e (Some (Asks asked)) log f = if asked == g then wake o (resume_of e) f else f
+wake_owner o g e (Some (Closes closed)) log f = if closed == g then wake_closing o (close_of (group_of o g log)) f else f
+wake_owner o g e _ log f = f
 
-abbrev pub wakes_parent : Option (ℕ × ℕ) → Ending → List Event → List (Option HeldView) → List JobView
-wakes_parent None e log held = []
-wakes_parent (Some x) e log held = wakes_owner x.0 x.1 e (life_of x.0 log).stage log held
+abbrev pub wake_parent : Option (ℕ × ℕ) → Ending → List Event → Follows → Follows
+wake_parent None e log f = f
+wake_parent (Some x) e log f = wake_owner x.0 x.1 e (life_of x.0 log).stage log f
 
--- the jobs of the tasks that have waited for the end of this one: its waiters in order of waiting, then its owner
-abbrev pub jobs_woken : ℕ → Step → List Event → List (Option HeldView) → List JobView
-jobs_woken t (Ended e) log held = flat_map (λ u. wakes held u.0 (resume_of e)) (waiters_of t log) ++ wakes_parent (parent_of t log) e log held
-jobs_woken t _ log held = []
+-- the tasks that have waited for the end of this one go on: its waiters in order of waiting, then its owner
+abbrev pub wake_all : ℕ → Ending → List Event → Follows → Follows
+wake_all t e log f = wake_parent (parent_of t log) e log (wake_each (waiters_of t log) (resume_of e) f)
 
--- the tasks that wait, without those that have been woken
-abbrev pub without : List (Option HeldView) → List JobView → List (Option HeldView)
-without held [] = held
-without held (j ∷ js) = without (slice_set held j.task None) js
-
--- the task itself waits where it has neither a next turn nor ended
-abbrev pub holds_own : List (Option HeldView) → ℕ → ℕ → TaskView → Option Resume → Step → List (Option HeldView)
-holds_own held t n frames (Some resume) step = held
-holds_own held t n frames None (Ended e) = held
-holds_own held t n frames None _ = slice_set held t (Some (record { number = n; frames = frames }))
+-- What follows from a turn, by what the task's next turn, of this number, begins with: where it goes on, its next job; where
+-- it has ended, those that have waited for it go on; else it waits.
+abbrev pub followed : ℕ → ℕ → TaskView → Option Resume → Step → List Event → Follows → Follows
+followed t n frames (Some resume) step log f = record f { jobs = f.jobs ++ record { task = t; number = n; resume = resume_at n resume; frames = frames } ∷ [] }
+followed t n frames None (Ended e) log f = wake_all t e log f
+followed t n frames None _ log f = record f { held = slice_set f.held t (Some (record { number = n; frames = frames })) }
 
 -- what the end of a turn leaves: the log, the tasks that wait, by number, and the jobs that it makes
 pub record TurnEnd : Type 0 where
@@ -229,11 +231,5 @@ turn_end script log held t n own effects exit after =
     let done = log_after (root_count script) t own begun effects in
     let written = done ++ exit_events t done exit after.step in
     let made = jobs_made script t own begun effects in
-    let resume = exit_resume t done exit after.step in
-    let others = jobs_woken t after.step written held in
-    let jobs = made ++ (own_job t (n + 1) after.task resume ++ others) in
-    record {
-      log = written ++ gives jobs;
-      held = holds_own (without (held ++ replicate (length made) None) others) t (n + 1) after.task resume after.step;
-      jobs = jobs;
-    }
+    let f = followed t (n + 1) after.task (exit_resume t done exit after.step) after.step written (record { held = held ++ replicate (length made) None; jobs = made }) in
+    record { log = written ++ gives f.jobs; held = f.held; jobs = f.jobs }

@@ -10,6 +10,8 @@ mod book;
 mod checks;
 // What the effects of a turn write and make.
 mod effects;
+// What the exit of a turn writes, and what its task's next turn begins with.
+mod exits;
 // Why the book refuses.
 mod fault;
 // Tasks that wait.
@@ -20,6 +22,10 @@ pub mod laws;
 mod refusals;
 // Calls between turns: roots, cancels, priorities, and the end of the run.
 mod requests;
+// The end of a turn.
+mod turns;
+// Which tasks go on after a turn.
+mod waking;
 
 pub use book::Book;
 pub use fault::BookFault;

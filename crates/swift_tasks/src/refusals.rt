@@ -3,6 +3,7 @@
 ghost use Rattle.std.specs.Prelude.{◌≡◌, ◌+◌, ◌<◌, ◌^◌, [], ◌∷◌, ◌++◌, None, false, IfOk, OnErr, MatchResult, IsTrue};
 ghost use Rattle.swift_script.specs.Scripts.{root_count};
 ghost use Rattle.swift_ledger.specs.Ledgers.{IsMade};
+ghost use Rattle.swift_events.specs.Events.{tasks_of};
 ghost use Rattle.swift_events.specs.Lives.{life_of, is_waiting};
 ghost use Rattle.swift_events.specs.Room.{IsEnv};
 ghost use Rattle.swift_history.specs.Checks.{same_fault, same_resume, was_given, is_under_way, is_current};
@@ -95,6 +96,7 @@ impl Book {
         ensures made { result ≡ None → IsMade self.now.log task }
         ensures small { result ≡ None → number + 1 < 2 ^ 32 }
         ensures goes { result ≡ None → is_waiting (life_of task.0 self.now.log) ≡ false }
+        ensures known { result ≡ None → task.0 < tasks_of (root_count self.now.script) self.now.log }
     {
         let life = self.ledger.life(task);
         if let Some(fault) = unless_open(life) {
@@ -139,6 +141,8 @@ impl Book {
         ensures cause { result ≡ refusal_of_apply self.now.script self.now.log job.now (effect_views effects.now) (exit_view exit.now) }
         ensures made { result ≡ None → IsMade self.now.log job.now.task }
         ensures small { result ≡ None → job.now.number + 1 < 2 ^ 32 }
+        ensures known { result ≡ None → job.now.task.0 < tasks_of (root_count self.now.script) self.now.log }
+        ensures same { result ≡ None → job.now.body.script ≡ self.now.script }
     {
         match self.refusal_of_turn(job.task(), job.number(), job.resume()) {
             Some(fault) => Some(fault),
