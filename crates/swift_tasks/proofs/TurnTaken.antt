@@ -26,7 +26,7 @@ use Rattle.swift_tasks.specs.declared.fault.BookFault.{BookFault}
 use Rattle.swift_tasks.specs.declared.fault.BookFault.TheVariants.{Unknown, Completed, Refused}
 use Rattle.swift_tasks.specs.Applying.{StepFits, JobFits, TurnLeaves, Ends}
 use Rattle.swift_tasks.specs.Books.{BookView, IsEndOf, end_of_frames}
-use Rattle.swift_tasks.specs.Refusals.{refused_unless, refusal_unless_open, refusal_of_turn, refusal_of_begin, refusal_of_apply, fits_begun}
+use Rattle.swift_tasks.specs.Refusals.{refused_unless, refusal_unless_open, refusal_of_turn, refusal_of_job, refusal_of_apply, fits_begun}
 use Rattle.swift_tasks.proofs.Fitting.{FitsTurn, begun_fits}
 
 some_none : {A B : Type 0} (o : Option A) → is_some o ≡ true → o ≡ None → B
@@ -49,13 +49,13 @@ open_by (Some o) (Some e) f is none = some_none f (ap is_some is) none
 -- a turn that is not refused is one of a task that has not ended
 pub taken_open : (script : ScriptView) (log : List Event) (job : JobIs BodyView) (es : List EffectView) (exit : ExitView) → refusal_of_apply script log job es exit ≡ None → is_open (life_of job.task.0 log) ≡ true
 taken_open script log job es exit none =
-    let begin = first_none (refusal_of_begin log job) _ none in
+    let begin = first_none (refusal_of_job log job) _ none in
     let alive = first_none (refusal_unless_open (life_of job.task.0 log)) _ begin in
     open_by (life_of job.task.0 log).origin (life_of job.task.0 log).ending (refusal_unless_open (life_of job.task.0 log)) refl alive
 
 -- and fits it
 pub taken_fits : (script : ScriptView) (log : List Event) (job : JobIs BodyView) (es : List EffectView) (exit : ExitView) → refusal_of_apply script log job es exit ≡ None → FitsTurn script log job.task.0 job.body.script es exit (life_of job.task.0 log).stage
-taken_fits script log job es exit none = begun_fits script log job.task.0 job.body.script es exit (life_of job.task.0 log).stage (second_true (refusal_of_begin log job) _ none)
+taken_fits script log job es exit none = begun_fits script log job.task.0 job.body.script es exit (life_of job.task.0 log).stage (second_true (refusal_of_job log job) _ none)
 
 abbrev awaits : Step → Bool
 awaits Await = true

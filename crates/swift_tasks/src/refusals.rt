@@ -109,20 +109,38 @@ impl Book {
         }
     }
 
+    // Why a job's turn may not begin. Where it may, it compares the printed forms of two scripts.
+    fn refusal_to_begin(&self, job: &Job<Body>) -> Option<BookFault>
+        ensures cause { result ≡ refusal_of_begin self.now.script self.now.log job.now }
+        ensures made { result ≡ None → IsMade self.now.log job.now.task }
+        ensures goes { result ≡ None → is_waiting (life_of job.now.task.0 self.now.log) ≡ false }
+    {
+        match self.refusal_of_turn(job.task(), job.number(), job.resume()) {
+            Some(fault) => Some(fault),
+            None => {
+                if self.script.says_the_same(job.body().script()) {
+                    None
+                } else {
+                    Some(BookFault::Refused)
+                }
+            }
+        }
+    }
+
     /// Begins a turn, and says in which environment: the one that the log gives (SE-0304). The turn must be the one of the
-    /// task's last job; one that has begun may begin again, until it is applied. A refusal is `Unknown`, `Completed`,
+    /// task's last job, of an equal script; one that has begun may begin again, until it is applied. A refusal is `Unknown`, `Completed`,
     /// `Refused` or `Memory`, the first of these that stands.
     pub fn begin(&mut self, job: &Job<Body>) -> Result<Env, BookFault>
         ensures env { IfOk result (λ env. IsEnv (root_count self.old.script) job.now.task self.old.log env) }
         ensures ok { IfOk result (λ env. self.new ≡ record self.old { log = self.old.log ++ Event.Begin job.now.task job.now.number env ∷ [] }) }
         ensures err { OnErr result (self.new ≡ self.old) }
-        ensures refused { MatchResult result (λ _. refusal_of_begin self.old.log job.now ≡ None) (IsRefusal (refusal_of_begin self.old.log job.now)) }
+        ensures refused { MatchResult result (λ _. refusal_of_begin self.old.script self.old.log job.now ≡ None) (IsRefusal (refusal_of_begin self.old.script self.old.log job.now)) }
     {
-        let task = job.task();
-        let number = job.number();
-        if let Some(fault) = self.refusal_of_turn(task, number, job.resume()) {
+        if let Some(fault) = self.refusal_to_begin(job) {
             return Err(fault);
         }
+        let task = job.task();
+        let number = job.number();
         let Ok(_) = self.ledger.reserve(1) else {
             return Err(BookFault::Memory);
         };
