@@ -110,10 +110,8 @@ impl Inbox {
         ensures back { IfErr result (λ back. back ≡ job) }
         ensures kept { OnErr result (pass.new ≡ pass.old) }
     {
-        match self
-            .queue
-            .push_as::<Puts, R>(rt, &mut pass.raw, Item::of(job))
-        {
+        let item = Item::of(job);
+        match self.queue.push_as::<Puts, R>(rt, &mut pass.raw, item) {
             Ok(()) => Ok(()),
             Err(item) => Err(item.into_job()),
         }

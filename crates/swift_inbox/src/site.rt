@@ -1,11 +1,15 @@
 //! Where jobs are sent.
 
-ghost use Rattle.std.specs.Prelude.{◌≡◌};
+ghost use Rattle.std.specs.Prelude.{◌≡◌, ◌↔◌, IsTrue};
 ghost use Rattle.std.specs.Arc.{arc_value};
+ghost use Rattle.swift_turn.specs.Body.{IsRunning};
+ghost use Rattle.swift_inbox.specs.Site.{CanRunAt};
 
 use std::marker::Model;
 use std::sync::Arc;
+use swift_queue::Job;
 use swift_script::Script;
+use swift_turn::Body;
 use swift_types::ExecId;
 
 /// One executor of a script: where jobs are sent (SE-0392). In a clause it is the script, and the executor's number.
@@ -48,5 +52,16 @@ impl ExecutorSite {
         ensures { result.0 ≡ self.now.executor }
     {
         self.executor
+    }
+
+    /// Whether a job can run at this executor: the frame that runs is of one of its actors.
+    ///
+    /// For a job of this script whose task has not ended.
+    pub fn can_run(&self, job: &Job<Body>) -> bool
+        requires script { job.now.body.script ≡ self.now.script }
+        requires running { IsRunning job.now.body }
+        ensures { IsTrue result ↔ CanRunAt self.now job.now }
+    {
+        self.script.actor_executor(job.body().actor()) == self.executor
     }
 }
