@@ -209,3 +209,7 @@ pub one_site : (inside : List (JobIs BodyView)) (views : List PassView) → Inbo
 one_site inside views (inl new) a b v w s t at at' is is' = absurd (known_not_blank v s is (all_at (λ v. v ≡ blank) views a v new.all_blank at))
 one_site inside views (inr (here, k)) a b v w s t at at' is is' =
     site_is v.site here s is (all_at (KnowsNoOther here) views a v k.sites at) ∙ sym (site_is w.site here t is' (all_at (KnowsNoOther here) views b w k.sites at'))
+
+-- a list that gets an element at its end goes on as before, and then has that element
+pub goes_on : {X : Type 0} (new list old more : List X) (x : X) → new ≡ list ++ x ∷ [] → list ≡ old ++ more → new ≡ old ++ (more ++ x ∷ [])
+goes_on new list old more x now before = now ∙ ap (λ l. l ++ x ∷ []) before ∙ append_assoc old more (x ∷ [])

@@ -10,6 +10,10 @@ ghost use Rattle.swift_inbox.specs.Sent.{job_view};
 ghost use Rattle.swift_inbox.specs.declared.view.PassView.{PassView};
 ghost use Rattle.swift_inbox.specs.Site.{Site, CanRunAt};
 ghost use Rattle.swift_inbox.specs.Rule.{InboxInvariant, pushed_in, taken_in};
+ghost use Rattle.std.specs.Thread.{IsSend, IsSync};
+ghost use Rattle.swift_turn.specs.contracts.body.Body as body;
+ghost use Rattle.swift_inbox.specs.contracts.inbox.Inbox as inbox;
+ghost use Rattle.swift_inbox.specs.contracts.pass.Pass as pass;
 
 use crate::item::Item;
 use crate::rule::InboxRule;
@@ -41,4 +45,15 @@ pub fn one_executor()
     ensures { (inside : List (JobIs BodyView)) (views : List PassView) → InboxInvariant inside views
         → (a b : ℕ) (v w : PassView) (s t : Site) → get_elem? views a ≡ some v → get_elem? views b ≡ some w
         → v.site ≡ Some s → w.site ≡ Some t → s ≡ t }
+{}
+
+/// Threads may share an inbox.
+pub fn threads_share_an_inbox()
+    ensures { IsSync inbox.the_row }
+{}
+
+/// A pass may go to another thread, as may a job's body.
+pub fn passes_and_bodies_cross_threads()
+    ensures pass { IsSend pass.the_row }
+    ensures body { IsSend body.the_row }
 {}

@@ -1,7 +1,7 @@
-use Rattle.std.proofs.Common.{rules, ◌++◌, ◌∷◌, [], ◌+◌, refl, sym, ap, ◌∙◌, append-nil, append_assoc, length-append}
+use Rattle.std.proofs.Common.{rules, ◌++◌, ◌∷◌, [], ◌+◌, refl, sym, ap, ◌∙◌, append-nil, length-append}
 use Rattle.std.proofs.lemmas.List.{map-append}
 use Rattle.swift_inbox.specs.Sent.{job_view}
-use Rattle.swift_inbox.proofs.AccountIsKept.{admits, takes}
+use Rattle.swift_inbox.proofs.AccountIsKept.{admits, takes, goes_on}
 use Rattle.swift_inbox.proofs.inbox.Inbox.drain.Goals as goal
 
 pub pass-raw-requires : goal.pass-raw-requires
@@ -20,7 +20,7 @@ drain-preserved g c =
       search rules,
       search rules,
       i.2 ++ x ∷ [],
-      c.push_reserved.ensures.items ∙ ap (λ l. l ++ x ∷ []) i.3 ∙ append_assoc c.args.list.items i.2 (x ∷ []),
+      goes_on _ _ c.args.list.items i.2 x c.push_reserved.ensures.items i.3,
       rw (map-append job_view i.2 (x ∷ []), c.into_job.ensures) (rw i.4 at c.in-Some.ensures.rule.0),
       length-append i.2 (x ∷ []) ∙ ap (λ n. n + 1) i.5,
     )
