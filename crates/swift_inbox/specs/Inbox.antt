@@ -1,5 +1,5 @@
 -- An inbox and its passes, as callers see them.
-use Rattle.std.specs.Prelude.{◌≡◌, ℕ, List, [], ◌∷◌, ◌++◌, map, Option, Some, None}
+use Rattle.std.specs.Prelude.{◌≡◌, ◌≤◌, ℕ, List, [], ◌∷◌, ◌++◌, length, map, Option, Some, None}
 use Rattle.atomic_table.specs.Seated.{TableId}
 use Rattle.swift_queue.specs.Job.{JobIs}
 use Rattle.swift_turn.specs.Body.{BodyView}
@@ -39,3 +39,8 @@ has_taken p j = record p { taken = p.taken ++ job_view j ∷ [] }
 -- the pass by which an inbox was drained: it knows no executor, and these jobs came out through it
 abbrev pub drained_by : InboxIs → List (JobIs BodyView) → PassIs
 drained_by i jobs = record { inbox = i.id; site = None; pushed = []; taken = map job_view jobs }
+
+-- What was in an inbox when it was given up came onto a list: no more jobs than it had room for, and just those that came out
+-- through this pass.
+abbrev pub IsDrained : InboxIs → List (JobIs BodyView) → List (JobIs BodyView) → PassIs → Type 0
+IsDrained i before after p = (jobs : List (JobIs BodyView)) × (after ≡ before ++ jobs) × (length jobs ≤ i.room) × (p ≡ drained_by i jobs)

@@ -4,11 +4,9 @@
 //! of its own, which keeps account of what went through it. The rule says that what was put in, through all passes, is
 //! what was taken out and what is inside, each job as often, and that each job inside can run at the inbox's executor.
 
-ghost use Rattle.std.specs.Prelude.{List, ◌≡◌, ◌<◌, ◌≤◌, ◌+◌, ◌++◌, IfOk, IfErr, OnOk, OnErr, IfSome, IfNone, Some, length, vec_len, vec_capacity};
+ghost use Rattle.std.specs.Prelude.{◌≡◌, ◌<◌, ◌≤◌, ◌+◌, IfOk, IfErr, OnOk, OnErr, IfSome, IfNone, Some, vec_len, vec_capacity};
 ghost use Rattle.crossbeam_queue.specs.Passes.{view, IsPassOf as IsRawPassOf};
-ghost use Rattle.swift_queue.specs.Job.{JobIs};
-ghost use Rattle.swift_turn.specs.Body.{BodyView};
-ghost use Rattle.swift_inbox.specs.Inbox.{IsPassOf, new_pass, has_pushed, has_taken, drained_by};
+ghost use Rattle.swift_inbox.specs.Inbox.{IsPassOf, new_pass, has_pushed, has_taken, IsDrained};
 ghost use Rattle.swift_inbox.specs.Rule.{blank, unused};
 ghost use Rattle.swift_inbox.specs.Site.{CanRunAt};
 
@@ -99,7 +97,7 @@ impl Inbox {
     }
 
     /// Puts a job in, as the newest. Where the inbox was full at some moment of the call, the job comes back, and nothing
-    /// has changed. It takes no memory, and as many steps for any room.
+    /// has changed. It takes no memory, and constant time where no other thread is in the way.
     ///
     /// For a job that can run at the inbox's executor: its body is of that script and has not ended, and its running
     /// frame is of an actor of that executor.
@@ -118,7 +116,7 @@ impl Inbox {
     }
 
     /// Takes the oldest job out, which can run at the inbox's executor. Nothing where the inbox was empty at some moment
-    /// of the call. It takes no memory, and as many steps for any room.
+    /// of the call. It takes no memory, and constant time where no other thread is in the way.
     pub fn take<R: Wait>(&self, rt: &R, pass: &mut Pass) -> Option<Job<Body>>
         requires pass { IsPassOf self.now pass.old }
         ensures some { IfSome result (λ job. pass.new ≡ has_taken pass.old job) }
@@ -137,13 +135,11 @@ impl Inbox {
     /// made here, so it knows no executor; a pass that threads share can't be kept in the inbox.
     ///
     /// For a list that has room for as many jobs as the inbox.
-    pub fn drain<R: Wait>(self, rt: &R, list: Vec<Job<Body>>) -> (Vec<Job<Body>>, Pass)
+    pub fn drain<R: Wait>(self, rt: &R, mut list: Vec<Job<Body>>) -> (Vec<Job<Body>>, Pass)
         requires { vec_len list + self.room ≤ vec_capacity list }
-        ensures { (jobs : List (JobIs BodyView)) × (result.0.items ≡ list.items ++ jobs)
-            × (length jobs ≤ self.room) × (result.1 ≡ drained_by self jobs) }
+        ensures { IsDrained self list.items result.0.items result.1 }
     {
         let Inbox { queue, site: _ } = self;
-        let mut list = list;
         let mut raw = queue.pass();
         'drain: for _ in 0..queue.capacity() {
             match queue.pop_as::<Takes, R>(rt, &mut raw) {
