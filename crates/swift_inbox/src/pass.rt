@@ -47,8 +47,7 @@ impl Pass {
         ensures kept { self.new ≡ self.old }
         ensures new { result ≡ new_pass inbox.now }
     {
-        Pass {
-            raw: inbox.queue.another::<NewPass>(&mut self.raw),
-        }
+        let raw = inbox.queue.another::<NewPass>(&mut self.raw);
+        Pass { raw }
     }
 }
