@@ -1,4 +1,4 @@
-//! An inbox of an executor.
+//! An inbox of an executor. Its calls want a handle of their own, which the runtime is in `main` alone.
 
 ghost use Rattle.std.specs.Prelude.{◌≡◌, ◌≤◌, [], IfOk, IfSome, vec_capacity};
 ghost use Rattle.swift_turn.specs.Body.{IsRunning};
@@ -7,7 +7,7 @@ ghost use Rattle.swift_inbox.specs.Inbox.{IsPassOf, new_pass};
 use crate::again::{TRIES, refused, wrong};
 use crate::turn::start_again;
 use std::alloc::{AllocError, Global};
-use std::sync::Arc;
+use std::sync::{Arc, Wait};
 use swift_inbox::{ExecutorSite, Inbox, Pass};
 use swift_queue::Job;
 use swift_script::Script;
@@ -61,7 +61,13 @@ fn number_of(job: Job<Body>) -> u32 {
 }
 
 // Puts a job in, where it can run there.
-fn put(rt: &HostRuntime, inbox: &Inbox, pass: &mut Pass, number: u32) -> Option<()>
+fn put<W: Wait>(
+    rt: &HostRuntime,
+    wait: &W,
+    inbox: &Inbox,
+    pass: &mut Pass,
+    number: u32,
+) -> Option<()>
     requires { IsPassOf inbox.now pass.old }
     ensures { IsPassOf inbox.now pass.new }
 {
@@ -72,7 +78,7 @@ fn put(rt: &HostRuntime, inbox: &Inbox, pass: &mut Pass, number: u32) -> Option<
         wrong(rt, "can_run");
         return None;
     }
-    let _ = match inbox.put(rt, pass, job) {
+    let _ = match inbox.put(wait, pass, job) {
         Ok(()) => println!(rt; "turn {number} is put into the inbox"),
         Err(back) => println!(rt; "turn {} came back", number_of(back)),
     };
@@ -80,20 +86,20 @@ fn put(rt: &HostRuntime, inbox: &Inbox, pass: &mut Pass, number: u32) -> Option<
 }
 
 // Takes a job.
-fn take(rt: &HostRuntime, inbox: &Inbox, pass: &mut Pass)
+fn take<W: Wait>(rt: &HostRuntime, wait: &W, inbox: &Inbox, pass: &mut Pass)
     requires { IsPassOf inbox.now pass.old }
     ensures { IsPassOf inbox.now pass.new }
 {
-    let _ = match inbox.take(rt, pass) {
+    let _ = match inbox.take(wait, pass) {
         Some(job) => println!(rt; "turn {} is taken", number_of(job)),
         None => println!(rt; "nothing is taken"),
     };
 }
 
 // Gives the inbox up, and spends what is inside, the newest first.
-fn drain(rt: &HostRuntime, inbox: Inbox) -> Option<()> {
+fn drain<W: Wait>(rt: &HostRuntime, wait: &W, inbox: Inbox) -> Option<()> {
     let list = list_again(rt, inbox.room())?;
-    let (mut list, _pass) = inbox.drain(rt, list);
+    let (mut list, _pass) = inbox.drain(wait, list);
     while let Some(job) = list.pop() {
         let _ = println!(rt; "turn {} is left", number_of(job));
     }
@@ -101,15 +107,29 @@ fn drain(rt: &HostRuntime, inbox: Inbox) -> Option<()> {
     Some(())
 }
 
+// Puts in one job more than there is room for, and takes by another pass, before and after.
+fn fill<W: Wait>(
+    rt: &HostRuntime,
+    wait: &W,
+    inbox: &Inbox,
+    pass: &mut Pass,
+    other: &mut Pass,
+) -> Option<()>
+    requires one { IsPassOf inbox.now pass.old }
+    requires other { IsPassOf inbox.now other.old }
+{
+    take(rt, wait, inbox, other);
+    for number in 0..3 {
+        put(rt, wait, inbox, pass, number)?;
+    }
+    take(rt, wait, inbox, other);
+    put(rt, wait, inbox, other, 3)
+}
+
 /// Makes an inbox, puts jobs in and takes them by two passes, and gives it up.
-pub fn fill_again(rt: &HostRuntime, script: &Arc<Script>) -> Option<()> {
+pub fn fill_again<W: Wait>(rt: &HostRuntime, wait: &W, script: &Arc<Script>) -> Option<()> {
     let (inbox, mut pass) = inbox_again(rt, script)?;
     let mut other = pass.split(&inbox);
-    take(rt, &inbox, &mut other);
-    for number in 0..3 {
-        put(rt, &inbox, &mut pass, number)?;
-    }
-    take(rt, &inbox, &mut other);
-    put(rt, &inbox, &mut other, 3)?;
-    drain(rt, inbox)
+    fill(rt, wait, &inbox, &mut pass, &mut other)?;
+    drain(rt, wait, inbox)
 }

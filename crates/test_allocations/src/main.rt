@@ -44,7 +44,7 @@ fn main(rt: HostRuntime) -> ExitCode {
     if let Some(found) = script::read_again(&rt, script::WORK) {
         let _ = turn::play_root(&rt, &found);
         let _ = script::print_again(&rt, script::WORK, &found);
-        let _ = inbox::fill_again(&rt, &found);
+        let _ = inbox::fill_again(&rt, &rt, &found);
     }
     locals::bind_again(&rt);
     groups::open_again(&rt);
