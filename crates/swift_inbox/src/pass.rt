@@ -1,7 +1,6 @@
 //! A thread's right to put and take.
 
-ghost use Rattle.std.specs.Prelude.{◌≡◌, []};
-ghost use Rattle.crossbeam_queue.specs.Passes.{view};
+ghost use Rattle.std.specs.Prelude.{◌≡◌};
 ghost use Rattle.swift_inbox.specs.Inbox.{IsPassOf, new_pass};
 
 use crate::inbox::Inbox;
@@ -18,7 +17,7 @@ pub(crate) type RawPass = crossbeam_queue::Pass<Item, PassView>;
 /// what it knows. It has no bytes.
 ///
 /// In a clause a pass is its inbox, the executor whose jobs that is for, and the jobs that were put in and taken out
-/// through this pass, the oldest first. A pass that is dropped takes its account with it, and nothing else.
+/// through this pass, the oldest first. Where a pass is dropped, its account still counts.
 #[derive(Drop)]
 pub struct Pass {
     pub(crate) raw: RawPass,

@@ -86,7 +86,11 @@ fn put<R: Wait>(
         Ok(()) => Ok("ok"),
         Err(back) => {
             let is_same = told(back) == (root.0, number);
-            Ok(if is_same { "full" } else { "full, and another job came back" })
+            Ok(if is_same {
+                "full"
+            } else {
+                "full, and another job came back"
+            })
         }
     }
 }
