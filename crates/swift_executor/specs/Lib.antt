@@ -1,0 +1,4 @@
+pub mod Ready
+pub mod ReadyInside
+pub mod Refusals
+pub mod Tasks
