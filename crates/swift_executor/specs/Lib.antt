@@ -1,4 +1,6 @@
 pub mod Ready
 pub mod ReadyInside
 pub mod Refusals
+pub mod State
+pub mod StateInside
 pub mod Tasks

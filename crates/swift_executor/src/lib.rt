@@ -18,4 +18,5 @@ mod pick;
 mod turns;
 
 pub use fault::ExecFault;
+pub use state::ExecState;
 

@@ -1,6 +1,6 @@
 //! The jobs that are ready.
 
-ghost use Rattle.std.specs.Prelude.{◌≡◌, ◌≢◌, ◌+◌, ◌<◌, ◌≤◌, ◌^◌, ◌↔◌, [], ◌∷◌, ◌++◌, All, IfOk, IfSome, IfNone, IsTrue, length, map, vec_capacity, slice_index_or, if◌then◌else◌, nat_lt};
+ghost use Rattle.std.specs.Prelude.{◌≡◌, ◌≢◌, ◌+◌, ◌<◌, ◌≤◌, ◌^◌, ◌↔◌, [], ◌∷◌, ◌++◌, All, IfOk, IfSome, IfNone, IsTrue, length, map, replicate, if◌then◌else◌, nat_lt};
 ghost use Rattle.std.specs.List.Sorted.{IsPermutation};
 ghost use Rattle.swift_types.specs.declared.id.TaskId.{TaskId};
 ghost use Rattle.swift_types.specs.declared.limits.TheConstants.{TASKS};
@@ -57,9 +57,7 @@ fn priority_of(level: u8) -> Priority
 impl<B> Ready<B> {
     /// No job, with room for this many.
     pub fn with_room(alloc: Global, room: usize) -> Result<Ready<B>, AllocError>
-        ensures front { IfOk result (λ r. (r.front ≡ []) × (r.behind ≡ [])) }
-        ensures room { IfOk result (λ r. (r.room ≡ room) × (r.arrived ≡ 0)) }
-        ensures levels { IfOk result (λ r. (t : TaskId) → level_at r.levels t ≡ 0) }
+        ensures { IfOk result (λ r. r ≡ record { front = []; behind = []; room = room; arrived = 0; levels = replicate TASKS 0 }) }
     {
         let tasks = ReadyTasks::with_room(alloc, room)?;
         let levels = vec![in alloc; 0; TASKS]?;
@@ -102,12 +100,12 @@ impl<B> Ready<B> {
         ensures { Adds self.old job self.new }
     {
         let task = job.task();
+        let priority = priority_of(self.level(task));
         let _inside = self.queue.len();
         self.tasks.add(task);
         if self.queue.holds(task) {
             self.behind.push_reserved(job);
         } else {
-            let priority = priority_of(self.level(task));
             self.queue.put(job, priority);
         }
     }
@@ -181,9 +179,9 @@ impl<B> Ready<B> {
         ensures rest { self.new ≡ record self.old { front = self.new.front } }
     {
         let task = job.task();
+        let priority = priority_of(self.level(task));
         let _inside = self.queue.len();
         self.tasks.add(task);
-        let priority = priority_of(self.level(task));
         self.queue.restore(job, arrival, priority);
     }
 
@@ -195,9 +193,9 @@ impl<B> Ready<B> {
         let Some(place) = self.behind.iter().position(|job| job.task() == task) else {
             return;
         };
+        let priority = priority_of(self.level(task));
         let _inside = self.queue.len();
         let job = self.behind.remove(place);
-        let priority = priority_of(self.level(task));
         self.queue.put(job, priority);
     }
 
