@@ -1,1 +1,3 @@
 pub mod Removed
+pub mod ReadyKept
+pub mod Counting

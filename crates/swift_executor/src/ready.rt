@@ -1,10 +1,12 @@
 //! The jobs that are ready.
 
-ghost use Rattle.std.specs.Prelude.{◌≡◌, ◌≢◌, ◌+◌, ◌<◌, ◌≤◌, ◌^◌, ◌↔◌, [], ◌∷◌, ◌++◌, All, IfOk, IfSome, IfNone, IsTrue, length, map, replicate, if◌then◌else◌, nat_lt};
+ghost use Rattle.std.specs.Prelude.{◌≡◌, ◌≢◌, ◌+◌, ◌<◌, ◌≤◌, ◌^◌, ◌↔◌, [], ◌∷◌, ◌++◌, All, IfOk, IfSome, IfNone, IsTrue, length, map, replicate, take, vec_capacity, vec_len, if◌then◌else◌, nat_lt};
 ghost use Rattle.std.specs.List.Sorted.{IsPermutation};
 ghost use Rattle.swift_types.specs.declared.id.TaskId.{TaskId};
 ghost use Rattle.swift_types.specs.declared.limits.TheConstants.{TASKS};
-ghost use Rattle.swift_executor.specs.Ready.{Adds, AreHigher, CanRestore, ComesFirst, Forwards, HasRoom, IsClear, level_at, priority_of, ready_job, tasks_in};
+ghost use Rattle.swift_queue.specs.Queue.{IsRestorable, Takes};
+ghost use Rattle.swift_executor.specs.ReadyInside.{Comes, HasTaskAt};
+ghost use Rattle.swift_executor.specs.Ready.{Adds, AreHigher, CanRestore, ComesFirst, Forwards, HasRoom, IsClear, level_at, priority_of, ready_job, tasks_in, times};
 
 use crate::tasks::ReadyTasks;
 use std::alloc::{AllocError, Global};
@@ -54,6 +56,22 @@ fn priority_of(level: u8) -> Priority
     }
 }
 
+// Takes the job that comes first out of a queue, with the number of its arrival.
+fn take_from<B>(queue: &mut Queue<B>, by_arrival: bool) -> Option<(Job<B>, u64)>
+    ensures none { IfNone result ((queue.old.jobs ≡ []) × (queue.new ≡ queue.old)) }
+    ensures some { IfSome result (λ r. Takes (Comes by_arrival) queue.old.jobs r.0 r.1 queue.new.jobs) }
+    ensures len { IfSome result (λ _. length queue.new.jobs + 1 ≡ length queue.old.jobs) }
+    ensures restorable { IfSome result (λ r. IsRestorable queue.new r.0.task r.1) }
+    ensures room { queue.new.room ≡ queue.old.room }
+    ensures arrived { queue.new.arrived ≡ queue.old.arrived }
+{
+    if by_arrival {
+        queue.take_oldest()
+    } else {
+        queue.take()
+    }
+}
+
 impl<B> Ready<B> {
     /// No job, with room for this many.
     pub fn with_room(alloc: Global, room: usize) -> Result<Ready<B>, AllocError>
@@ -89,7 +107,7 @@ impl<B> Ready<B> {
 
     /// The tasks of the jobs, in an order that means nothing.
     pub fn tasks(&self) -> &[TaskId]
-        ensures { IsPermutation (tasks_in self.now) result.now }
+        ensures { (t : TaskId) → times t result.now ≡ times t (tasks_in self.now) }
     {
         self.tasks.as_slice()
     }
@@ -134,6 +152,16 @@ impl<B> Ready<B> {
         if seen == given {
             return;
         }
+        self.count_each(given);
+    }
+
+    // The same, task by task.
+    fn count_each(&mut self, given: &[u8])
+        requires { length given.now ≤ TASKS }
+        ensures front { IsPermutation self.old.front self.new.front }
+        ensures levels { AreHigher self.old.levels given.now self.new.levels }
+        ensures rest { self.new ≡ record self.old { front = self.new.front; levels = self.new.levels } }
+    {
         for place in 0..given.len() {
             self.raise(place, given[place]);
         }
@@ -161,15 +189,11 @@ impl<B> Ready<B> {
         ensures same { self.new ≡ record self.old { front = self.new.front } }
         ensures restorable { IfSome result (λ r. CanRestore self.new r.0.task r.1) }
     {
-        let taken = if by_arrival {
-            self.queue.take_oldest()
-        } else {
-            self.queue.take()
+        let Some((job, arrival)) = take_from(&mut self.queue, by_arrival) else {
+            return None;
         };
-        if let Some((job, _)) = &taken {
-            self.tasks.remove(job.task());
-        }
-        taken
+        self.tasks.remove(job.task());
+        Some((job, arrival))
     }
 
     /// Puts a job back that was taken out, with the number of its arrival.
@@ -190,7 +214,7 @@ impl<B> Ready<B> {
         requires { IsClear self.old.front task }
         ensures { Forwards self.old task self.new }
     {
-        let Some(place) = self.behind.iter().position(|job| job.task() == task) else {
+        let Some(place) = place_behind(&self.behind, task) else {
             return;
         };
         let priority = priority_of(self.level(task));
@@ -204,17 +228,39 @@ impl<B> Ready<B> {
         ensures { IsPermutation (map (λ x. x.job) self.front ++ self.behind) result.items }
     {
         let Ready {
-            mut queue,
+            queue,
             behind,
             tasks: _,
             levels: _,
         } = self;
-        let mut jobs = behind;
-        let _inside = queue.len();
-        'empty: while let Some((job, _)) = queue.take() {
-            jobs.push_reserved(job);
-        }
-        queue.close();
-        jobs
+        empty_into(queue, behind)
     }
+}
+
+// The place of the oldest job of a task.
+fn place_behind<B>(behind: &[Job<B>], task: TaskId) -> Option<usize>
+    ensures none { IfNone result (All (λ j. j.task ≢ task) behind.now) }
+    ensures here { IfSome result (λ place. HasTaskAt behind.now task place) }
+    ensures before { IfSome result (λ place. All (λ j. j.task ≢ task) (take place behind.now)) }
+{
+    for place in 0..behind.len() {
+        if behind[place].task() == task {
+            return Some(place);
+        }
+    }
+    None
+}
+
+// Puts all jobs of a queue behind those of a list that has the room.
+fn empty_into<B>(queue: Queue<B>, jobs: Vec<Job<B>>) -> Vec<Job<B>>
+    requires { vec_len jobs + length queue.jobs ≤ vec_capacity jobs }
+    ensures { IsPermutation (jobs.items ++ map (λ w. w.job) queue.jobs) result.items }
+{
+    let mut queue = queue;
+    let mut jobs = jobs;
+    'empty: while let Some((job, _)) = queue.take() {
+        jobs.push_reserved(job);
+    }
+    queue.close();
+    jobs
 }

@@ -5,9 +5,10 @@ ghost use Rattle.std.specs.Arc.{arc_value};
 ghost use Rattle.std.specs.List.Sorted.{IsPermutation};
 ghost use Rattle.script_code.specs.Seen.{rows_of};
 ghost use Rattle.script_code.specs.Tree.{Term};
+ghost use Rattle.swift_types.specs.declared.id.TaskId.{TaskId};
 ghost use Rattle.script_code.specs.Value.{holds};
 ghost use Rattle.swift_script.specs.Scripts.{executor_actors, executor_invariants, executor_start};
-ghost use Rattle.swift_executor.specs.Ready.{HasRoom, tasks_in};
+ghost use Rattle.swift_executor.specs.Ready.{HasRoom, tasks_in, times};
 ghost use Rattle.swift_executor.specs.State.{IsExecutor, chosen_count, fields_at, new_executor};
 
 use crate::chosen::Chosen;
@@ -111,7 +112,7 @@ impl ExecState {
 
     /// The tasks of the jobs that are ready, in an order that means nothing.
     pub fn ready(&self) -> &[TaskId]
-        ensures { IsPermutation (tasks_in self.now.ready) result.now }
+        ensures { (t : TaskId) → times t result.now ≡ times t (tasks_in self.now.ready) }
     {
         self.ready.tasks()
     }
