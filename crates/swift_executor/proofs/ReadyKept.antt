@@ -173,3 +173,28 @@ module _ {B : Type 0} where
 
   pub all_come : (b : Bool) (levels : List ℕ) (w : Waiting B) (jobs : List (Waiting B)) → w.priority ≡ priority_of (level_at levels w.job.task) → AreCounted levels jobs → All (Comes b w) jobs → All (ComesFirst b levels (job_of w)) (map job_of jobs)
   all_come b levels w jobs p are h = All-map (ComesFirst b levels (job_of w)) job_of jobs (λ k d lt. comes_first b levels w (get_or jobs k d) p (are k d lt) (h k d lt))
+
+  -- jobs, seen with the numbers of their arrival
+  pub jobs_seen : (jobs : List (Waiting B)) → map (λ (w : Waiting B). w.job) jobs ≡ map (λ (x : ReadyJob B). x.job) (map job_of jobs)
+  jobs_seen [] = refl
+  jobs_seen (w ∷ jobs) = ap (λ (js : List (JobIs B)). w.job ∷ js) (jobs_seen jobs)
+
+  -- a job from behind comes to the front
+  pub tasks_forward : (jobs new : List (Waiting B)) (w : Waiting B) (behind less : List (JobIs B)) (ts : List TaskId) → ((t : TaskId) → times t ts ≡ times t (map task_of jobs ++ map task_in behind))
+      → IsPermutation behind (w.job ∷ less) → IsPermutation (w ∷ jobs) new → (t : TaskId) → times t ts ≡ times t (map task_of new ++ map task_in less)
+  tasks_forward jobs new w behind less ts are removed added t =
+      let f : TaskId → ℕ = λ (y : TaskId). cond (eqb y.0 t.0) 1 0 in
+      let one = are t in
+      let two = sum_by-append f (map task_of jobs) (map task_in behind) in
+      let three = sum_by-append f (map task_of new) (map task_in less) in
+      let four = times_perm t (map task_in behind) (map task_in (w.job ∷ less)) (IsPermutation-map task_in behind (w.job ∷ less) removed) in
+      let five = sum_by-cons f w.job.task (map task_in less) in
+      let six = times_perm t (map task_of (w ∷ jobs)) (map task_of new) (IsPermutation-map task_of (w ∷ jobs) new added) in
+      let seven = sum_by-cons f w.job.task (map task_of jobs) in
+      omega (arith, one, two, three, four, five, six, seven)
+
+-- a list that is parted at an element
+pub parted : {X : Type 0} (xs : List X) (i : ℕ) (x : X) → i < length xs → x ≡ get_or xs i x → xs ≡ take i xs ++ x ∷ drop (suc i) xs
+parted [] i x lt is = absurd (omega (arith, lt))
+parted (y ∷ ys) zero x lt is = ap (λ (z : _). z ∷ ys) (sym is)
+parted (y ∷ ys) (suc i) x lt is = ap (λ (zs : List _). y ∷ zs) (parted ys i x (omega (arith, lt)) is)

@@ -1,3 +1,4 @@
+pub mod Playing
 pub mod Ready
 pub mod ReadyInside
 pub mod Refusals

@@ -10,7 +10,7 @@ use Rattle.script_grammar.specs.declared.declaration.ExecutorKind.TheVariants as
 use Rattle.script_code.specs.Tree.{Term}
 use Rattle.script_code.specs.Value.{holds}
 use Rattle.script_code.specs.declared.env.Env.{Env}
-use Rattle.swift_script.specs.Scripts.{ScriptView, actor_executor, executor_actors, executor_invariants, executor_kind, executor_start, method_actor, root_count}
+use Rattle.swift_script.specs.Scripts.{ScriptView, actor_executor, executor_actors, executor_invariants, executor_kind, executor_start, method_actor, method_count, root_count}
 use Rattle.swift_interpreter.specs.Frames.{FrameView}
 use Rattle.swift_interpreter.specs.Turn.{EffectView, ExitView, returning, failing, head}
 use Rattle.swift_turn.specs.Body.{BodyView, HasFirst, IsTurnOf, callers_of, left}
@@ -58,10 +58,10 @@ pub record BelongsTo (script : ScriptView) (executor : ℕ) (j : JobIs BodyView)
   pub script_is : j.body.script ≡ script
   pub top : HasFirst j.body.task.frames (λ f. actor_executor script (method_actor script f.method) ≡ executor)
 
--- what a turn that was played has given is its kept turn on these fields
+-- what a turn that was played has given is the kept turn of the frame that ran, on these fields
 abbrev pub HasPlayed : ScriptView → List (List ℤ) → JobIs BodyView → StageView → Type 0
 HasPlayed script fields j (played worker env frame fields' effects exit) =
-    HasFirst j.body.task.frames (λ f. (f.method ≡ frame.method) × IsTurnOf script frame j.body.task.outer fields j.resume env f (left fields' effects exit))
+    (frame.method < method_count script) × HasFirst j.body.task.frames (λ f. (f.method ≡ frame.method) × IsTurnOf script frame j.body.task.outer fields j.resume env f (left fields' effects exit))
 HasPlayed script fields j _ = Unit {0}
 
 abbrev pub chosen_count : Option ChosenView → ℕ

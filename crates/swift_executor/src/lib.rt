@@ -14,6 +14,8 @@ mod chosen;
 mod state;
 // Jobs that come, and the one that is picked.
 mod pick;
+// How a job is played, put back and written.
+mod playing;
 // A turn of the chosen job.
 mod turns;
 

@@ -1,20 +1,102 @@
 //! A turn of the chosen job.
 
-ghost use Rattle.std.specs.Prelude.{◌≡◌, ◌⊎◌, None, map, OnOk, OnErr, IfErr, MatchResult};
+ghost use Rattle.std.specs.Prelude.{◌≡◌, ◌⊎◌, [], None, map, OnOk, OnErr, IfOk, IfErr, MatchResult};
 ghost use Rattle.std.specs.List.{AllByRecursion};
 ghost use Rattle.futures.specs.Task.{Keeps};
+ghost use Rattle.script_code.specs.Seen.{rows_of};
 ghost use Rattle.swift_tasks.specs.Books.{IsJobOf, job_view};
+ghost use Rattle.swift_tasks.specs.Refusals.{IsRefusal as BookRefusal};
+ghost use Rattle.swift_turn.specs.Body.{IsRunning};
+ghost use Rattle.swift_executor.specs.Playing.{AppliesTurn, CanGoBack, HasFoldRoom, StageIsPlayed, WritesRecord};
+ghost use Rattle.swift_executor.specs.StateInside.{stage_of};
 ghost use Rattle.swift_executor.specs.Refusals.{IsRefusal};
-ghost use Rattle.swift_executor.specs.State.{Begins, HasChosen, IsBegun, IsPicked, IsPlayed, Journals, Plays, PutsBack, refusal_to_begin, refusal_to_apply};
+ghost use Rattle.swift_executor.specs.State.{Begins, HasChosen, IsBegun, IsPicked, IsPlayed, Journals, Plays, PutsBack, before_turn, refusal_of_stage, refusal_to_begin, refusal_to_apply};
 
+use crate::chosen::{Chosen, Played, Stage, fill};
 use crate::fault::ExecFault;
+use crate::playing::{
+    as_chosen, copy_into, play_job, room_to_fold, with_frame, write_record,
+};
 use crate::state::ExecState;
 use futures::task::Context;
+use std::alloc::{AllocError, Global};
+use std::mem;
+use swift_journal::{Checkpoint, Journal};
 use swift_queue::Job;
-use swift_tasks::Book;
+use swift_tasks::{Book, BookFault};
 use swift_turn::Body;
 
+// Writes the record of a turn that was played, and makes room for folding the journal where it is then full. Out of memory the
+// journal and the checkpoint are as before.
+fn prepare(
+    alloc: Global,
+    journal: &mut Journal,
+    checkpoint: &mut Checkpoint,
+    chosen: &Chosen,
+    next: &[Vec<i64>],
+) -> Result<Option<Vec<Vec<i64>>>, AllocError>
+    requires { IsRunning chosen.now.job.body × StageIsPlayed chosen.now.stage }
+    ensures written { OnOk result (WritesRecord chosen.now.stage chosen.now.job journal.old journal.new) }
+    ensures room { IfOk result (λ copy. HasFoldRoom copy checkpoint.new journal.new (rows_of next.now)) }
+    ensures same { checkpoint.new.view ≡ checkpoint.old.view }
+    ensures err { OnErr result (journal.new ≡ journal.old) }
+{
+    write_record(journal, &chosen.job, &chosen.stage)?;
+    match room_to_fold(alloc, journal, checkpoint, next) {
+        Ok(copy) => Ok(copy),
+        Err(fault) => {
+            journal.retract();
+            Err(fault)
+        }
+    }
+}
+
+// Lets the book take a turn that was played. A job that it refuses comes back as it was when it was chosen.
+fn apply(
+    book: &mut Book,
+    job: Job<Body>,
+    stage: Stage,
+    jobs: &mut Vec<Job<Body>>,
+) -> Result<(), (Job<Body>, BookFault)>
+    requires running { IsRunning job.body }
+    requires frame { CanGoBack job stage }
+    requires played { StageIsPlayed stage }
+    ensures ok { OnOk result (AppliesTurn book.old book.new job (stage_of [] stage) (map job_view jobs.old.items) (map job_view jobs.new.items)) }
+    ensures bodies { AllByRecursion (IsJobOf book.old.script) jobs.old.items → AllByRecursion (IsJobOf book.old.script) jobs.new.items }
+    ensures err { IfErr result (λ e. (book.new ≡ book.old) × (jobs.new.items ≡ jobs.old.items) × (job_view e.0 ≡ before_turn (stage_of [] stage) job) × (e.0.body.script ≡ job.body.script)) }
+    ensures refused { MatchResult result (λ _. refusal_of_stage book.old job (stage_of [] stage) ≡ None) (λ e. BookRefusal (refusal_of_stage book.old job (stage_of [] stage)) e.1) }
+{
+    let Stage::Played(_worker, _env, played) = stage else {
+        unreachable!()
+    };
+    let Played {
+        frame,
+        effects,
+        exit,
+    } = played;
+    match book.apply(job, &exit, effects, jobs) {
+        Ok(()) => Ok(()),
+        Err((job, _effects, fault)) => Err((with_frame(job, frame), fault)),
+    }
+}
+
 impl ExecState {
+    // The chosen job is ready again.
+    fn put_back(&mut self)
+        requires { HasChosen self.old (λ _. Unit {0}) }
+        ensures { HasChosen self.old (PutsBack self.old self.new) }
+    {
+        let Some(Chosen {
+            job,
+            arrival,
+            stage,
+        }) = self.chosen.take()
+        else {
+            unreachable!()
+        };
+        self.ready.restore(as_chosen(job, stage), arrival);
+    }
+
     /// Begins the turn of the chosen job on a worker, and keeps what the book gives it. The caller sees to it that the executor
     /// is not pinned to another worker. The refusal is that of the book.
     pub fn start(&mut self, worker: u32, book: &mut Book) -> Result<(), ExecFault>
@@ -24,7 +106,19 @@ impl ExecState {
         ensures err { OnErr result (book.new ≡ book.old) }
         ensures refused { MatchResult result (λ _. refusal_to_begin book.old self.old.chosen ≡ None) (IsRefusal (refusal_to_begin book.old self.old.chosen)) }
     {
-        unreachable!()
+        let Some(chosen) = &mut self.chosen else {
+            unreachable!()
+        };
+        match book.begin(&chosen.job) {
+            Ok(env) => {
+                chosen.stage = Stage::Begun(worker, env);
+                Ok(())
+            }
+            Err(fault) => {
+                self.put_back();
+                Err(ExecFault::from(fault))
+            }
+        }
     }
 
     /// Plays the turn that has begun (SE-0306), on a copy of the fields, and keeps what it gave. In time by its steps and by the
@@ -36,7 +130,43 @@ impl ExecState {
         ensures refused { IfErr result (λ fault. fault ≡ ExecFault.Memory) }
         ensures kept { Keeps cx.old cx.new }
     {
-        unreachable!()
+        if copy_into(self.alloc, &mut self.next, &self.fields).is_err() {
+            self.put_back();
+            return Err(ExecFault::Memory);
+        }
+        let Some(Chosen {
+            job,
+            arrival,
+            stage,
+        }) = self.chosen.take()
+        else {
+            unreachable!()
+        };
+        let Stage::Begun(worker, env) = stage else {
+            unreachable!()
+        };
+        let fields = mem::replace(&mut self.next, Vec::new(self.alloc));
+        let (job, played) = play_job(job, cx, fields, env);
+        match played {
+            Ok((fields, played)) => {
+                self.next = fields;
+                let stage = Stage::Played(worker, env, played);
+                fill(
+                    &mut self.chosen,
+                    Chosen {
+                        job,
+                        arrival,
+                        stage,
+                    },
+                );
+                Ok(())
+            }
+            Err(fields) => {
+                self.next = fields;
+                self.ready.restore(job, arrival);
+                Err(ExecFault::Memory)
+            }
+        }
     }
 
     /// Journals the turn that was played, and lets the book take it. The jobs that follow come behind those that `jobs` has. A
@@ -50,6 +180,42 @@ impl ExecState {
         ensures err { OnErr result ((book.new ≡ book.old) × (jobs.new.items ≡ jobs.old.items)) }
         ensures refused { MatchResult result (λ _. refusal_to_apply book.old self.old.chosen ≡ None) (λ fault. IsRefusal (refusal_to_apply book.old self.old.chosen) fault ⊎ (fault ≡ ExecFault.Memory)) }
     {
-        unreachable!()
+        let Some(chosen) = &self.chosen else {
+            unreachable!()
+        };
+        let Ok(copy) = prepare(
+            self.alloc,
+            &mut self.journal,
+            &mut self.checkpoint,
+            chosen,
+            &self.next,
+        ) else {
+            self.put_back();
+            return Err(ExecFault::Memory);
+        };
+        let Some(Chosen {
+            job,
+            arrival,
+            stage,
+        }) = self.chosen.take()
+        else {
+            unreachable!()
+        };
+        let task = job.task();
+        match apply(book, job, stage, jobs) {
+            Ok(()) => {
+                if let Some(copy) = copy {
+                    self.checkpoint.fold(&mut self.journal, copy);
+                }
+                mem::swap(&mut self.fields, &mut self.next);
+                self.ready.forward(task);
+                Ok(())
+            }
+            Err((job, fault)) => {
+                self.journal.retract();
+                self.ready.restore(job, arrival);
+                Err(ExecFault::from(fault))
+            }
+        }
     }
 }
