@@ -1,3 +1,4 @@
 pub mod Removed
 pub mod ReadyKept
 pub mod Counting
+pub mod StateKept

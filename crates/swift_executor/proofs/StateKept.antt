@@ -1,0 +1,188 @@
+-- What an executor keeps at each of its calls.
+use Rattle.std.proofs.Common.{◌≡◌, ◌≢◌, ℕ, suc, ◌+◌, ◌<◌, ◌≤◌, ◌==◌, ℤ, Bool, true, false, IsTrue, if◌then◌else◌, eqb, Option, Some, None, IfSome, List, [], ◌∷◌, ◌++◌, length, map, Contains, refl, ap, sym, subst, ◌∙◌, inl, inr, arith}
+use Rattle.std.proofs.lemmas.Bool.{cases_eq, eq-eqb, ne_eqb}
+use Rattle.std.proofs.lemmas.List.{length-append, length-map}
+use Rattle.std.proofs.lemmas.List.Elements.{All-append, All-cons, All-head, All-nil, All-push, All-tail}
+use Rattle.std.proofs.lemmas.List.Sorted.{All-permutation, length_permutation}
+use Rattle.std.specs.List.{All}
+use Rattle.std.specs.List.Sorted.{IsPermutation}
+use Rattle.swift_types.specs.declared.id.TaskId.{TaskId}
+use Rattle.swift_types.specs.declared.limits.TheConstants.{FOLD}
+use Rattle.script_code.specs.Tree.{Term}
+use Rattle.script_code.specs.Value.{holds}
+use Rattle.script_code.specs.declared.env.Env.{Env}
+use Rattle.swift_script.specs.Scripts.{ScriptView, actor_executor, executor_invariants, executor_start, method_actor}
+use Rattle.swift_interpreter.specs.Frames.{FrameView}
+use Rattle.swift_interpreter.specs.Turn.{EffectView, ExitView}
+use Rattle.swift_turn.specs.Body.{BodyView, HasFirst, IsTurnOf, callers_of, left}
+use Rattle.swift_queue.specs.Job.{JobIs}
+use Rattle.swift_journal.specs.Records.{RecordView}
+use Rattle.swift_journal.specs.Replay.{AreLawful, IsLawfulRecord, InvariantsStay, LawfulGrows, RunOn, fields_after, replay}
+use Rattle.swift_history.specs.TurnEnds.{JobView}
+use Rattle.swift_tasks.specs.Books.{job_view}
+use Rattle.std.specs.declared.vec.Vec.{Vec}
+use Rattle.std.specs.declared.alloc.Global.{Global}
+use Rattle.swift_executor.specs.declared.chosen.Stage.{Stage}
+use Rattle.swift_executor.specs.declared.chosen.Stage.TheVariants.{Picked, Begun, Played}
+use Rattle.swift_executor.specs.StateInside.{stage_of}
+use Rattle.swift_executor.specs.Ready.{Adds, CanRestore, Forwards, ReadyIs, ReadyJob, ready_job}
+use Rattle.swift_executor.specs.State.{BelongsTo, ChosenView, ExecView, HasPlayed, IsChosen, IsExecutor, StageView, accepted, before_turn, begun, checkpoint_with, chosen_count, journal_with, new_executor, picked, played, record_by}
+
+-- of a frame that has had a turn, the one before is of the same actor
+first_before : (script : ScriptView) (executor : ℕ) (frame : FrameView) (Q : FrameView → Type 0) (frames : List FrameView) → HasFirst frames (λ f. actor_executor script (method_actor script f.method) ≡ executor)
+    → HasFirst frames (λ f. (f.method ≡ frame.method) × Q f) → actor_executor script (method_actor script frame.method) ≡ executor
+first_before script executor frame Q [] top is = absurd top
+first_before script executor frame Q (f ∷ frames) top is = ap (λ (m : ℕ). actor_executor script (method_actor script m)) (sym is.0) ∙ top
+
+-- the chosen job as it was when it was chosen is one of the executor
+pub belongs_back : (script : ScriptView) (executor : ℕ) (fields : List (List ℤ)) (stage : StageView) (j j' : JobIs BodyView) → BelongsTo script executor j → HasPlayed script fields j stage → job_view j' ≡ before_turn stage j
+    → j'.body.script ≡ j.body.script → BelongsTo script executor j'
+belongs_back script executor fields picked j j' is plays view same = record {
+  script_is = same ∙ is.script_is;
+  top = subst (λ (v : JobView). HasFirst v.frames.frames (λ f. actor_executor script (method_actor script f.method) ≡ executor)) (sym view) is.top;
+}
+belongs_back script executor fields (begun worker env) j j' is plays view same = record {
+  script_is = same ∙ is.script_is;
+  top = subst (λ (v : JobView). HasFirst v.frames.frames (λ f. actor_executor script (method_actor script f.method) ≡ executor)) (sym view) is.top;
+}
+belongs_back script executor fields (played worker env frame rows effects exit) j j' is plays view same = record {
+  script_is = same ∙ is.script_is;
+  top = subst (λ (v : JobView). HasFirst v.frames.frames (λ f. actor_executor script (method_actor script f.method) ≡ executor)) (sym view)
+      (first_before script executor frame (λ f. IsTurnOf script frame j.body.task.outer fields j.resume env f (left rows effects exit)) j.body.task.frames is.top plays.1);
+}
+
+-- the chosen job is ready again
+pub back_keeps : (s : ExecView) (c : ChosenView) (job : JobIs BodyView) (ready' : ReadyIs BodyView) → IsExecutor s → s.chosen ≡ Some c → BelongsTo s.script s.executor job → IsPermutation (ready_job job c.arrival ∷ s.ready.front) ready'.front
+    → ready' ≡ record s.ready { front = ready'.front } → IsExecutor (record s { ready = ready'; chosen = None })
+back_keeps s c job ready' is at belongs perm same =
+    let P : ReadyJob BodyView → Type 0 = λ x. BelongsTo s.script s.executor x.job in
+    let behind : ready'.behind ≡ s.ready.behind = ap (λ (r : ReadyIs BodyView). r.behind) same in
+    let arrived : ready'.arrived ≡ s.ready.arrived = ap (λ (r : ReadyIs BodyView). r.arrived) same in
+    let len = length_permutation (ready_job job c.arrival ∷ s.ready.front) ready'.front perm in
+    let one : chosen_count s.chosen ≡ 1 = ap chosen_count at in
+    let many = is.counted in
+    let same_behind = ap length behind in
+    record {
+      lawful = is.lawful;
+      replayed = is.replayed;
+      runs = is.runs;
+      kept = is.kept;
+      counted = omega (arith, len, one, many, same_behind, arrived);
+      few = is.few;
+      front = All-permutation P (ready_job job c.arrival ∷ s.ready.front) ready'.front perm (All-cons P (ready_job job c.arrival) s.ready.front belongs is.front);
+      behind = subst (λ (js : List (JobIs BodyView)). All (BelongsTo s.script s.executor) js) (sym behind) is.behind;
+      chosen = tt;
+    }
+
+-- only how far the chosen job is has changed, or its body has had its turn
+pub stage_keeps : (s : ExecView) (c c' : ChosenView) → IsExecutor s → s.chosen ≡ Some c → BelongsTo s.script s.executor c'.job → c'.job.task ≡ c.job.task → c'.arrival ≡ c.arrival → HasPlayed s.script s.fields c'.job c'.stage
+    → IsExecutor (record s { chosen = Some c' })
+stage_keeps s c c' is at belongs task arrival plays =
+    let was : IsChosen s c = subst (λ (x : Option ChosenView). IfSome x (IsChosen s)) at is.chosen in
+    let one : chosen_count s.chosen ≡ 1 = ap chosen_count at in
+    let many = is.counted in
+    record {
+      lawful = is.lawful;
+      replayed = is.replayed;
+      runs = is.runs;
+      kept = is.kept;
+      counted = omega (arith, one, many);
+      few = is.few;
+      front = is.front;
+      behind = is.behind;
+      chosen = record {
+        belongs = belongs;
+        restorable = subst (λ (n : ℕ). CanRestore s.ready c'.job.task n) (sym arrival) (subst (λ (t : TaskId). CanRestore s.ready t c.arrival) (sym task) was.restorable);
+        plays = plays;
+      };
+    }
+
+-- a job was chosen
+pub choose_keeps : (s : ExecView) (job : JobIs BodyView) (arrival : ℕ) (ready' : ReadyIs BodyView) → IsExecutor s → s.chosen ≡ None → IsPermutation s.ready.front (ready_job job arrival ∷ ready'.front)
+    → ready'.behind ≡ s.ready.behind → ready'.arrived ≡ s.ready.arrived → CanRestore ready' job.task arrival
+    → IsExecutor (record s { ready = ready'; chosen = Some (record { job = job; arrival = arrival; stage = picked }) })
+choose_keeps s job arrival ready' is at perm behind arrived can =
+    let P : ReadyJob BodyView → Type 0 = λ x. BelongsTo s.script s.executor x.job in
+    let all = All-permutation P s.ready.front (ready_job job arrival ∷ ready'.front) perm is.front in
+    let len = length_permutation s.ready.front (ready_job job arrival ∷ ready'.front) perm in
+    let none : chosen_count s.chosen ≡ 0 = ap chosen_count at in
+    let many = is.counted in
+    let same_behind = ap length behind in
+    record {
+      lawful = is.lawful;
+      replayed = is.replayed;
+      runs = is.runs;
+      kept = is.kept;
+      counted = omega (arith, len, none, many, same_behind, arrived);
+      few = is.few;
+      front = All-tail P (ready_job job arrival) ready'.front all;
+      behind = subst (λ (js : List (JobIs BodyView)). All (BelongsTo s.script s.executor) js) (sym behind) is.behind;
+      chosen = record { belongs = All-head P (ready_job job arrival) ready'.front all; restorable = can; plays = tt };
+    }
+
+-- the jobs in front stand in another order, and no job is chosen
+pub reorder_keeps : (s : ExecView) (ready' : ReadyIs BodyView) → IsExecutor s → s.chosen ≡ None → IsPermutation s.ready.front ready'.front → ready'.behind ≡ s.ready.behind → ready'.arrived ≡ s.ready.arrived
+    → IsExecutor (record s { ready = ready' })
+reorder_keeps s ready' is at perm behind arrived =
+    let P : ReadyJob BodyView → Type 0 = λ x. BelongsTo s.script s.executor x.job in
+    let len = length_permutation s.ready.front ready'.front perm in
+    let many = is.counted in
+    let same_behind = ap length behind in
+    record {
+      lawful = is.lawful;
+      replayed = is.replayed;
+      runs = is.runs;
+      kept = is.kept;
+      counted = omega (arith, len, many, same_behind, arrived);
+      few = is.few;
+      front = All-permutation P s.ready.front ready'.front perm is.front;
+      behind = subst (λ (js : List (JobIs BodyView)). All (BelongsTo s.script s.executor) js) (sym behind) is.behind;
+      chosen = subst (λ (x : Option ChosenView). IfSome x (IsChosen (record s { ready = ready' }))) (sym at) tt;
+    }
+
+-- a job was accepted
+pub accept_keeps : (s : ExecView) (job : JobIs BodyView) (ready' : ReadyIs BodyView) → IsExecutor s → s.chosen ≡ None → BelongsTo s.script s.executor job → Adds s.ready job ready' → IsExecutor (record s { ready = ready' })
+accept_keeps s job ready' is at belongs (inl h) =
+    let P : ReadyJob BodyView → Type 0 = λ x. BelongsTo s.script s.executor x.job in
+    let new = ready_job job s.ready.arrived in
+    let len = length_permutation (new ∷ s.ready.front) ready'.front h.1 in
+    let behind : ready'.behind ≡ s.ready.behind = ap (λ (r : ReadyIs BodyView). r.behind) h.2 in
+    let arrived : ready'.arrived ≡ s.ready.arrived + 1 = ap (λ (r : ReadyIs BodyView). r.arrived) h.2 in
+    let many = is.counted in
+    let same_behind = ap length behind in
+    record {
+      lawful = is.lawful;
+      replayed = is.replayed;
+      runs = is.runs;
+      kept = is.kept;
+      counted = omega (arith, len, many, same_behind, arrived);
+      few = is.few;
+      front = All-permutation P (new ∷ s.ready.front) ready'.front h.1 (All-cons P new s.ready.front belongs is.front);
+      behind = subst (λ (js : List (JobIs BodyView)). All (BelongsTo s.script s.executor) js) (sym behind) is.behind;
+      chosen = subst (λ (x : Option ChosenView). IfSome x (IsChosen (record s { ready = ready' }))) (sym at) tt;
+    }
+accept_keeps s job ready' is at belongs (inr h) =
+    let front : ready'.front ≡ s.ready.front = ap (λ (r : ReadyIs BodyView). r.front) h.1 in
+    let behind : ready'.behind ≡ s.ready.behind ++ job ∷ [] = ap (λ (r : ReadyIs BodyView). r.behind) h.1 in
+    let arrived : ready'.arrived ≡ s.ready.arrived = ap (λ (r : ReadyIs BodyView). r.arrived) h.1 in
+    let len = length-append s.ready.behind (job ∷ []) in
+    let many = is.counted in
+    let same_behind = ap length behind in
+    let same_front = ap length front in
+    record {
+      lawful = is.lawful;
+      replayed = is.replayed;
+      runs = is.runs;
+      kept = is.kept;
+      counted = omega (arith, len, many, same_behind, same_front, arrived);
+      few = is.few;
+      front = subst (λ (xs : List (ReadyJob BodyView)). All (λ x. BelongsTo s.script s.executor x.job) xs) (sym front) is.front;
+      behind = subst (λ (js : List (JobIs BodyView)). All (BelongsTo s.script s.executor) js) (sym behind) (All-push (BelongsTo s.script s.executor) s.ready.behind job is.behind belongs);
+      chosen = subst (λ (x : Option ChosenView). IfSome x (IsChosen (record s { ready = ready' }))) (sym at) tt;
+    }
+
+-- what was played does not say which job was chosen
+pub same_before : (next next' : List (Vec ℤ Global)) (stage : Stage) (j : JobIs BodyView) → before_turn (stage_of next stage) j ≡ before_turn (stage_of next' stage) j
+same_before next next' Picked j = refl
+same_before next next' (Begun worker env) j = refl
+same_before next next' (Played worker env p) j = refl
