@@ -1,5 +1,5 @@
 -- What an executor keeps at each of its calls.
-use Rattle.std.proofs.Common.{◌≡◌, ◌≢◌, ℕ, suc, ◌+◌, ◌<◌, ◌≤◌, ◌==◌, ℤ, Bool, true, false, IsTrue, if◌then◌else◌, eqb, Option, Some, None, IfSome, List, [], ◌∷◌, ◌++◌, length, map, Contains, refl, ap, sym, subst, ◌∙◌, inl, inr, arith}
+use Rattle.std.proofs.Common.{◌≡◌, ◌≢◌, ℕ, suc, ◌+◌, ◌<◌, ◌≤◌, ◌==◌, ℤ, Bool, true, false, IsTrue, if◌then◌else◌, eqb, Option, Some, None, IfSome, MatchOption, List, [], ◌∷◌, ◌++◌, length, map, Contains, refl, ap, sym, subst, ◌∙◌, inl, inr, arith}
 use Rattle.std.proofs.lemmas.Bool.{cases_eq, eq-eqb, ne_eqb}
 use Rattle.std.proofs.lemmas.List.{length-append, length-map}
 use Rattle.std.proofs.lemmas.List.Elements.{All-append, All-cons, All-head, All-nil, All-push, All-tail}
@@ -24,9 +24,12 @@ use Rattle.std.specs.declared.vec.Vec.{Vec}
 use Rattle.std.specs.declared.alloc.Global.{Global}
 use Rattle.swift_executor.specs.declared.chosen.Stage.{Stage}
 use Rattle.swift_executor.specs.declared.chosen.Stage.TheVariants.{Picked, Begun, Played}
-use Rattle.swift_executor.specs.StateInside.{stage_of}
+use Rattle.swift_executor.specs.declared.chosen.Chosen.{Chosen}
+use Rattle.swift_executor.specs.Playing.{HasJob}
+use Rattle.swift_executor.specs.StateInside.{chosen_of, chosen_view, stage_of}
+use Rattle.std.proofs.lemmas.Option.{same_Some}
 use Rattle.swift_executor.specs.Ready.{Adds, CanRestore, Forwards, ReadyIs, ReadyJob, ready_job}
-use Rattle.swift_executor.specs.State.{BelongsTo, ChosenView, ExecView, HasPlayed, IsChosen, IsExecutor, StageView, accepted, before_turn, begun, checkpoint_with, chosen_count, journal_with, new_executor, picked, played, record_by}
+use Rattle.swift_executor.specs.State.{BelongsTo, ChosenView, ExecView, HasPlayed, IsChosen, IsExecutor, IsPicked, StageView, accepted, before_turn, begun, checkpoint_with, chosen_count, journal_with, new_executor, picked, played, record_by}
 
 -- of a frame that has had a turn, the one before is of the same actor
 first_before : (script : ScriptView) (executor : ℕ) (frame : FrameView) (Q : FrameView → Type 0) (frames : List FrameView) → HasFirst frames (λ f. actor_executor script (method_actor script f.method) ≡ executor)
@@ -186,3 +189,13 @@ pub same_before : (next next' : List (Vec ℤ Global)) (stage : Stage) (j : JobI
 same_before next next' Picked j = refl
 same_before next next' (Begun worker env) j = refl
 same_before next next' (Played worker env p) j = refl
+
+-- a chosen job whose turn has not begun
+pub picked_job : (next : List (Vec ℤ Global)) (place : Option Chosen) → (c : ChosenView) × (chosen_of next place ≡ Some c) × IsPicked c.stage → HasJob place (λ c. c.stage ≡ Picked)
+picked_job next None has = absurd (subst (λ (o : Option ChosenView). MatchOption o (Unit {0}) (λ _. ⊥)) has.1 tt)
+picked_job next (Some c) has = (c, refl, by c.stage (subst (λ (v : ChosenView). IsPicked v.stage) (sym (same_Some (chosen_view next c) has.0 has.1)) has.2))
+  where
+    by : (stage : Stage) → IsPicked (stage_of next stage) → stage ≡ Picked
+    by Picked is = refl
+    by (Begun worker env) is = absurd is
+    by (Played worker env p) is = absurd is

@@ -5,17 +5,17 @@ ghost use Rattle.std.specs.List.{AllByRecursion};
 ghost use Rattle.futures.specs.Task.{Keeps};
 ghost use Rattle.script_code.specs.Seen.{rows_of};
 ghost use Rattle.swift_tasks.specs.Books.{IsJobOf, job_view};
-ghost use Rattle.swift_tasks.specs.Refusals.{IsRefusal as BookRefusal};
+ghost use Rattle.swift_tasks.specs.Refusals.{IsRefusal as BookRefusal, refusal_of_begin};
 ghost use Rattle.swift_turn.specs.Body.{IsRunning};
-ghost use Rattle.swift_executor.specs.Playing.{AppliesTurn, CanGoBack, HasFoldRoom, StageIsPlayed, WritesRecord};
+ghost use Rattle.swift_executor.specs.Playing.{AppliesJob, BeginsJob, HasFoldRoom, HasJob, KeepsJob, PlaysJob, SeemsJob, StageIsBegun, StageIsPlayed, WritesRecord};
 ghost use Rattle.swift_executor.specs.StateInside.{stage_of};
 ghost use Rattle.swift_executor.specs.Refusals.{IsRefusal};
-ghost use Rattle.swift_executor.specs.State.{Begins, HasChosen, IsBegun, IsPicked, IsPlayed, Journals, Plays, PutsBack, before_turn, refusal_of_stage, refusal_to_begin, refusal_to_apply};
+ghost use Rattle.swift_executor.specs.State.{Begins, HasChosen, IsBegun, IsPicked, IsPlayed, Journals, Plays, PutsBack, refusal_of_stage, refusal_to_begin, refusal_to_apply};
 
 use crate::chosen::{Chosen, Played, Stage, fill};
 use crate::fault::ExecFault;
 use crate::playing::{
-    as_chosen, copy_into, play_job, room_to_fold, with_frame, write_record,
+    as_chosen, copy_into, play_job, room_to_fold, write_record,
 };
 use crate::state::ExecState;
 use futures::task::Context;
@@ -25,6 +25,7 @@ use swift_journal::{Checkpoint, Journal};
 use swift_queue::Job;
 use swift_tasks::{Book, BookFault};
 use swift_turn::Body;
+use swift_types::TaskId;
 
 // Writes the record of a turn that was played, and makes room for folding the journal where it is then full. Out of memory the
 // journal and the checkpoint are as before.
@@ -32,15 +33,18 @@ fn prepare(
     alloc: Global,
     journal: &mut Journal,
     checkpoint: &mut Checkpoint,
-    chosen: &Chosen,
+    place: &Option<Chosen>,
     next: &[Vec<i64>],
 ) -> Result<Option<Vec<Vec<i64>>>, AllocError>
-    requires { IsRunning chosen.now.job.body × StageIsPlayed chosen.now.stage }
-    ensures written { OnOk result (WritesRecord chosen.now.stage chosen.now.job journal.old journal.new) }
+    requires { HasJob place.now (λ c. IsRunning c.job.body × StageIsPlayed c.stage) }
+    ensures written { OnOk result (HasJob place.now (λ c. WritesRecord c.stage c.job journal.old journal.new)) }
     ensures room { IfOk result (λ copy. HasFoldRoom copy checkpoint.new journal.new (rows_of next.now)) }
     ensures same { checkpoint.new.view ≡ checkpoint.old.view }
     ensures err { OnErr result (journal.new ≡ journal.old) }
 {
+    let Some(chosen) = place else {
+        unreachable!()
+    };
     write_record(journal, &chosen.job, &chosen.stage)?;
     match room_to_fold(alloc, journal, checkpoint, next) {
         Ok(copy) => Ok(copy),
@@ -51,22 +55,28 @@ fn prepare(
     }
 }
 
-// Lets the book take a turn that was played. A job that it refuses comes back as it was when it was chosen.
-fn apply(
+// Lets the book take the turn of a job that was played. Where it refuses, the job is as before.
+fn apply_chosen(
+    place: &mut Option<Chosen>,
     book: &mut Book,
-    job: Job<Body>,
-    stage: Stage,
     jobs: &mut Vec<Job<Body>>,
-) -> Result<(), (Job<Body>, BookFault)>
-    requires running { IsRunning job.body }
-    requires frame { CanGoBack job stage }
-    requires played { StageIsPlayed stage }
-    ensures ok { OnOk result (AppliesTurn book.old book.new job (stage_of [] stage) (map job_view jobs.old.items) (map job_view jobs.new.items)) }
+) -> Result<TaskId, BookFault>
+    requires { HasJob place.old (λ c. IsRunning c.job.body × StageIsPlayed c.stage) }
+    ensures ok { IfOk result (λ task. HasJob place.old (AppliesJob book.old book.new (map job_view jobs.old.items) (map job_view jobs.new.items) task place.new)) }
     ensures bodies { AllByRecursion (IsJobOf book.old.script) jobs.old.items → AllByRecursion (IsJobOf book.old.script) jobs.new.items }
-    ensures err { IfErr result (λ e. (book.new ≡ book.old) × (jobs.new.items ≡ jobs.old.items) × (job_view e.0 ≡ before_turn (stage_of [] stage) job) × (e.0.body.script ≡ job.body.script)) }
-    ensures refused { MatchResult result (λ _. refusal_of_stage book.old job (stage_of [] stage) ≡ None) (λ e. BookRefusal (refusal_of_stage book.old job (stage_of [] stage)) e.1) }
+    ensures same { OnErr result (HasJob place.old (SeemsJob place.new)) }
+    ensures err { OnErr result ((book.new ≡ book.old) × (jobs.new.items ≡ jobs.old.items)) }
+    ensures refused { MatchResult result (λ _. HasJob place.old (λ c. refusal_of_stage book.old c.job (stage_of [] c.stage) ≡ None)) (λ fault. HasJob place.old (λ c. BookRefusal (refusal_of_stage book.old c.job (stage_of [] c.stage)) fault)) }
 {
-    let Stage::Played(_worker, _env, played) = stage else {
+    let Some(Chosen {
+        job,
+        arrival,
+        stage,
+    }) = place.take()
+    else {
+        unreachable!()
+    };
+    let Stage::Played(worker, env, played) = stage else {
         unreachable!()
     };
     let Played {
@@ -74,9 +84,123 @@ fn apply(
         effects,
         exit,
     } = played;
+    let task = job.task();
     match book.apply(job, &exit, effects, jobs) {
-        Ok(()) => Ok(()),
-        Err((job, _effects, fault)) => Err((with_frame(job, frame), fault)),
+        Ok(()) => Ok(task),
+        Err((job, effects, fault)) => {
+            let played = Played {
+                frame,
+                effects,
+                exit,
+            };
+            let stage = Stage::Played(worker, env, played);
+            fill(
+                place,
+                Chosen {
+                    job,
+                    arrival,
+                    stage,
+                },
+            );
+            Err(fault)
+        }
+    }
+}
+
+// Plays the turn of a job that has begun, on these fields. Out of memory the job has had none.
+fn play_chosen(
+    place: &mut Option<Chosen>,
+    cx: &mut Context<'_>,
+    fields: Vec<Vec<i64>>,
+) -> Result<Vec<Vec<i64>>, Vec<Vec<i64>>>
+    requires { HasJob place.old (λ c. IsRunning c.job.body × StageIsBegun c.stage) }
+    ensures ok { IfOk result (λ next. HasJob place.old (PlaysJob (rows_of fields.items) (rows_of next.items) place.new)) }
+    ensures err { OnErr result (HasJob place.old (KeepsJob place.new)) }
+    ensures kept { Keeps cx.old cx.new }
+{
+    let Some(Chosen {
+        job,
+        arrival,
+        stage,
+    }) = place.take()
+    else {
+        unreachable!()
+    };
+    let Stage::Begun(worker, env) = stage else {
+        unreachable!()
+    };
+    let (job, played) = play_job(job, cx, fields, env);
+    match played {
+        Ok((next, played)) => {
+            let stage = Stage::Played(worker, env, played);
+            fill(
+                place,
+                Chosen {
+                    job,
+                    arrival,
+                    stage,
+                },
+            );
+            Ok(next)
+        }
+        Err(next) => {
+            let stage = Stage::Begun(worker, env);
+            fill(
+                place,
+                Chosen {
+                    job,
+                    arrival,
+                    stage,
+                },
+            );
+            Err(next)
+        }
+    }
+}
+
+// Begins the turn of a job that was picked.
+fn begin_chosen(
+    place: &mut Option<Chosen>,
+    worker: u32,
+    book: &mut Book,
+) -> Result<(), BookFault>
+    requires { HasJob place.old (λ c. c.stage ≡ Stage.Picked) }
+    ensures ok { OnOk result (HasJob place.old (BeginsJob book.old book.new worker place.new)) }
+    ensures err { OnErr result ((place.new ≡ place.old) × (book.new ≡ book.old)) }
+    ensures refused { MatchResult result (λ _. HasJob place.old (λ c. refusal_of_begin book.old.log c.job ≡ None)) (λ fault. HasJob place.old (λ c. BookRefusal (refusal_of_begin book.old.log c.job) fault)) }
+{
+    let Some(Chosen {
+        job,
+        arrival,
+        stage,
+    }) = place.take()
+    else {
+        unreachable!()
+    };
+    match book.begin(&job) {
+        Ok(env) => {
+            let stage = Stage::Begun(worker, env);
+            fill(
+                place,
+                Chosen {
+                    job,
+                    arrival,
+                    stage,
+                },
+            );
+            Ok(())
+        }
+        Err(fault) => {
+            fill(
+                place,
+                Chosen {
+                    job,
+                    arrival,
+                    stage,
+                },
+            );
+            Err(fault)
+        }
     }
 }
 
@@ -106,14 +230,8 @@ impl ExecState {
         ensures err { OnErr result (book.new ≡ book.old) }
         ensures refused { MatchResult result (λ _. refusal_to_begin book.old self.old.chosen ≡ None) (IsRefusal (refusal_to_begin book.old self.old.chosen)) }
     {
-        let Some(chosen) = &mut self.chosen else {
-            unreachable!()
-        };
-        match book.begin(&chosen.job) {
-            Ok(env) => {
-                chosen.stage = Stage::Begun(worker, env);
-                Ok(())
-            }
+        match begin_chosen(&mut self.chosen, worker, book) {
+            Ok(()) => Ok(()),
             Err(fault) => {
                 self.put_back();
                 Err(ExecFault::from(fault))
@@ -134,36 +252,15 @@ impl ExecState {
             self.put_back();
             return Err(ExecFault::Memory);
         }
-        let Some(Chosen {
-            job,
-            arrival,
-            stage,
-        }) = self.chosen.take()
-        else {
-            unreachable!()
-        };
-        let Stage::Begun(worker, env) = stage else {
-            unreachable!()
-        };
         let fields = mem::replace(&mut self.next, Vec::new(self.alloc));
-        let (job, played) = play_job(job, cx, fields, env);
-        match played {
-            Ok((fields, played)) => {
-                self.next = fields;
-                let stage = Stage::Played(worker, env, played);
-                fill(
-                    &mut self.chosen,
-                    Chosen {
-                        job,
-                        arrival,
-                        stage,
-                    },
-                );
+        match play_chosen(&mut self.chosen, cx, fields) {
+            Ok(next) => {
+                self.next = next;
                 Ok(())
             }
-            Err(fields) => {
-                self.next = fields;
-                self.ready.restore(job, arrival);
+            Err(next) => {
+                self.next = next;
+                self.put_back();
                 Err(ExecFault::Memory)
             }
         }
@@ -180,30 +277,18 @@ impl ExecState {
         ensures err { OnErr result ((book.new ≡ book.old) × (jobs.new.items ≡ jobs.old.items)) }
         ensures refused { MatchResult result (λ _. refusal_to_apply book.old self.old.chosen ≡ None) (λ fault. IsRefusal (refusal_to_apply book.old self.old.chosen) fault ⊎ (fault ≡ ExecFault.Memory)) }
     {
-        let Some(chosen) = &self.chosen else {
-            unreachable!()
-        };
         let Ok(copy) = prepare(
             self.alloc,
             &mut self.journal,
             &mut self.checkpoint,
-            chosen,
+            &self.chosen,
             &self.next,
         ) else {
             self.put_back();
             return Err(ExecFault::Memory);
         };
-        let Some(Chosen {
-            job,
-            arrival,
-            stage,
-        }) = self.chosen.take()
-        else {
-            unreachable!()
-        };
-        let task = job.task();
-        match apply(book, job, stage, jobs) {
-            Ok(()) => {
+        match apply_chosen(&mut self.chosen, book, jobs) {
+            Ok(task) => {
                 if let Some(copy) = copy {
                     self.checkpoint.fold(&mut self.journal, copy);
                 }
@@ -211,9 +296,9 @@ impl ExecState {
                 self.ready.forward(task);
                 Ok(())
             }
-            Err((job, fault)) => {
+            Err(fault) => {
                 self.journal.retract();
-                self.ready.restore(job, arrival);
+                self.put_back();
                 Err(ExecFault::from(fault))
             }
         }
