@@ -2,3 +2,4 @@ pub mod Removed
 pub mod ReadyKept
 pub mod Counting
 pub mod StateKept
+pub mod TurnKept

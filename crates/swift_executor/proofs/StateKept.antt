@@ -25,6 +25,9 @@ use Rattle.std.specs.declared.alloc.Global.{Global}
 use Rattle.swift_executor.specs.declared.chosen.Stage.{Stage}
 use Rattle.swift_executor.specs.declared.chosen.Stage.TheVariants.{Picked, Begun, Played}
 use Rattle.swift_executor.specs.declared.chosen.Chosen.{Chosen}
+use Rattle.swift_tasks.specs.declared.fault.BookFault.{BookFault}
+use Rattle.swift_tasks.specs.Refusals.{IsRefusal as BookRefusal}
+use Rattle.swift_executor.specs.Refusals.{IsRefusal, fault_of}
 use Rattle.swift_executor.specs.Playing.{HasJob}
 use Rattle.swift_executor.specs.StateInside.{chosen_of, chosen_view, stage_of}
 use Rattle.std.proofs.lemmas.Option.{same_Some}
@@ -199,3 +202,8 @@ picked_job next (Some c) has = (c, refl, by c.stage (subst (λ (v : ChosenView).
     by Picked is = refl
     by (Begun worker env) is = absurd is
     by (Played worker env p) is = absurd is
+
+-- where the book refuses, the executor does
+pub refused_so : (o : Option BookFault) (cause : BookFault) → BookRefusal o cause → IsRefusal o (fault_of cause)
+refused_so None cause is = ap fault_of is
+refused_so (Some r) cause is = ap fault_of is

@@ -11,7 +11,7 @@ use Rattle.swift_interpreter.specs.Frames.{effect_views, frame_view}
 use Rattle.swift_interpreter.specs.TurnStates.{exit_view}
 use Rattle.swift_turn.specs.Body.{BodyView, HasFirst, Polls, entered, left}
 use Rattle.swift_queue.specs.Job.{JobIs}
-use Rattle.swift_journal.specs.Checkpoints.{CheckpointRoom, folded_of}
+use Rattle.swift_journal.specs.Checkpoints.{CheckpointRoom, folded_of, folds}
 use Rattle.swift_journal.specs.Records.{RecordView}
 use Rattle.swift_executor.specs.declared.chosen.Chosen.{Chosen}
 use Rattle.swift_executor.specs.declared.chosen.Played.{Played}
@@ -122,3 +122,8 @@ pub record SeemsJob (new : Option Chosen) (c : Chosen) : Type 0 where
   pub now : Chosen
   pub new_is : new ≡ Some now
   pub same : (next : List (Vec ℤ Global)) → chosen_view next now ≡ chosen_view next c
+
+-- a journal for which there is room is folded, another stays
+abbrev pub Settles : Option (Vec (Vec ℤ Global) Global) → List RecordView → List RecordView → CheckpointRoom → CheckpointRoom → Type 0
+Settles None journal journal' c c' = (journal' ≡ journal) × (c'.view ≡ c.view)
+Settles (Some copy) journal journal' c c' = (journal' ≡ []) × (c'.view ≡ folds c.view journal (rows_of copy.items))

@@ -1,6 +1,6 @@
 //! How a job is played, put back and written.
 
-ghost use Rattle.std.specs.Prelude.{◌≡◌, ◌<◌, ◌++◌, [], ◌∷◌, IfErr, IfOk, OnErr, OnOk, length};
+ghost use Rattle.std.specs.Prelude.{◌≡◌, ◌<◌, ◌++◌, [], ◌∷◌, IfErr, IfOk, OnErr, OnOk, List, ℤ, length};
 ghost use Rattle.futures.specs.Task.{Keeps};
 ghost use Rattle.script_code.specs.Seen.{rows_of};
 ghost use Rattle.swift_types.specs.declared.limits.TheConstants.{FOLD};
@@ -10,7 +10,7 @@ ghost use Rattle.swift_tasks.specs.Books.{job_view};
 ghost use Rattle.swift_interpreter.specs.Frames.{frame_view};
 ghost use Rattle.swift_script.specs.Scripts.{method_count};
 ghost use Rattle.swift_turn.specs.Body.{IsRunning, callers_of};
-ghost use Rattle.swift_executor.specs.Playing.{CanGoBack, HasFoldRoom, HasTurned, IsUnturned, JobTurned, JobUnturned, WritesRecord};
+ghost use Rattle.swift_executor.specs.Playing.{CanGoBack, HasFoldRoom, HasTurned, IsUnturned, JobTurned, JobUnturned, Settles, WritesRecord};
 ghost use Rattle.swift_executor.specs.State.{before_turn, frame_after};
 ghost use Rattle.swift_executor.specs.StateInside.{stage_of};
 
@@ -169,4 +169,14 @@ pub fn room_to_fold(
     copy_into(alloc, &mut copy, fields)?;
     checkpoint.make_room(journal)?;
     Ok(Some(copy))
+}
+
+/// Folds a journal for which there is room.
+pub fn settle(journal: &mut Journal, checkpoint: &mut Checkpoint, copy: Option<Vec<Vec<i64>>>)
+    requires { (rows : List (List ℤ)) × HasFoldRoom copy checkpoint.old journal.old rows }
+    ensures { Settles copy journal.old journal.new checkpoint.old checkpoint.new }
+{
+    if let Some(copy) = copy {
+        checkpoint.fold(journal, copy);
+    }
 }

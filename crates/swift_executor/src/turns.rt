@@ -15,12 +15,13 @@ ghost use Rattle.swift_executor.specs.State.{Begins, HasChosen, IsBegun, IsPicke
 use crate::chosen::{Chosen, Played, Stage, fill};
 use crate::fault::ExecFault;
 use crate::playing::{
-    as_chosen, copy_into, play_job, room_to_fold, write_record,
+    as_chosen, copy_into, play_job, room_to_fold, settle, write_record,
 };
 use crate::state::ExecState;
 use futures::task::Context;
 use std::alloc::{AllocError, Global};
 use std::mem;
+use swift_journal::laws::{invariants_stay, lawful_grows};
 use swift_journal::{Checkpoint, Journal};
 use swift_queue::Job;
 use swift_tasks::{Book, BookFault};
@@ -289,9 +290,9 @@ impl ExecState {
         };
         match apply_chosen(&mut self.chosen, book, jobs) {
             Ok(task) => {
-                if let Some(copy) = copy {
-                    self.checkpoint.fold(&mut self.journal, copy);
-                }
+                settle(&mut self.journal, &mut self.checkpoint, copy);
+                lawful_grows();
+                invariants_stay();
                 mem::swap(&mut self.fields, &mut self.next);
                 self.ready.forward(task);
                 Ok(())

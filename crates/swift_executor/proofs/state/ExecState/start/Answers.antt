@@ -2,10 +2,13 @@ use Rattle.std.proofs.Common.{◌≡◌, ℤ, List, [], None, Some, Option, IfSo
 use Rattle.std.specs.Arc.{arc_value}
 use Rattle.script_code.specs.Seen.{rows_of}
 use Rattle.swift_tasks.specs.Books.{BookView}
-use Rattle.swift_executor.specs.State.{Begins, ChosenView, ExecView, HasChosen, IsChosen, IsExecutor, IsPicked, PutsBack, begun}
+use Rattle.swift_executor.specs.State.{Begins, ChosenView, ExecView, HasChosen, IsChosen, IsExecutor, IsPicked, PutsBack, begun, refusal_to_begin}
+use Rattle.swift_tasks.specs.Refusals.{refusal_of_begin}
+use Rattle.swift_executor.specs.Refusals.{IsRefusal}
+use Rattle.swift_executor.specs.declared.fault.ExecFault.{ExecFault}
 use Rattle.swift_executor.specs.StateInside.{chosen_of, chosen_view}
 use Rattle.swift_executor.specs.declared.chosen.Chosen.{Chosen}
-use Rattle.swift_executor.proofs.StateKept.{picked_job, stage_keeps}
+use Rattle.swift_executor.proofs.StateKept.{picked_job, refused_so, stage_keeps}
 use Rattle.swift_executor.proofs.state.ExecState.start.Goals as goal
 
 pub begin_chosen-requires : goal.begin_chosen-requires
@@ -57,4 +60,11 @@ returns-in-Err-clause-back c =
     subst (λ (v : ExecView). HasChosen v (PutsBack v c.put_back.new.self)) same c.put_back.ensures
 
 pub returns-in-Err-clause-refused : goal.returns-in-Err-clause-refused
-returns-in-Err-clause-refused c = ?
+returns-in-Err-clause-refused c =
+    let x = c.self.inside in
+    let s : ExecView = record { script = arc_value x.script; executor = x.executor.0; ready = x.ready; chosen = chosen_of x.next.items x.chosen; journal = x.journal; checkpoint = x.checkpoint.view; fields = rows_of x.fields.items } in
+    let h = c.in-Err.ensures.refused in
+    let at : s.chosen ≡ Some (chosen_view x.next.items h.0) = ap (chosen_of x.next.items) h.1 in
+    subst (λ (v : ExecView). IsRefusal (refusal_to_begin c.args.book.now v.chosen) c.from.result) c.self.view_is
+    (subst (λ (o : Option ChosenView). IsRefusal (refusal_to_begin c.args.book.now o) c.from.result) (sym at)
+    (subst (λ (f : ExecFault). IsRefusal (refusal_of_begin c.args.book.now.log h.0.job) f) (sym c.from.ensures) (refused_so (refusal_of_begin c.args.book.now.log h.0.job) c.in-Err.fault h.2)))
