@@ -3,3 +3,4 @@ pub mod ReadyKept
 pub mod Counting
 pub mod StateKept
 pub mod TurnKept
+pub mod Turned

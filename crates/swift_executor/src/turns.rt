@@ -249,10 +249,10 @@ impl ExecState {
         ensures refused { IfErr result (λ fault. fault ≡ ExecFault.Memory) }
         ensures kept { Keeps cx.old cx.new }
     {
-        if copy_into(self.alloc, &mut self.next, &self.fields).is_err() {
+        let Ok(()) = copy_into(self.alloc, &mut self.next, &self.fields) else {
             self.put_back();
             return Err(ExecFault::Memory);
-        }
+        };
         let fields = mem::replace(&mut self.next, Vec::new(self.alloc));
         match play_chosen(&mut self.chosen, cx, fields) {
             Ok(next) => {
