@@ -4,3 +4,5 @@ pub mod Counting
 pub mod StateKept
 pub mod TurnKept
 pub mod Turned
+pub mod Picked
+pub mod Rows

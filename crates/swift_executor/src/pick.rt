@@ -3,7 +3,7 @@
 ghost use Rattle.std.specs.Prelude.{◌≡◌, List, None, nat_lt, IfOk, IfErr, IfSome, IfNone};
 ghost use Rattle.swift_events.specs.declared.event.Event.{Event};
 ghost use Rattle.swift_executor.specs.Ready.{Adds, HasRoom, level_at};
-ghost use Rattle.swift_executor.specs.State.{BelongsTo, Chooses, HasNone, LacksTask};
+ghost use Rattle.swift_executor.specs.State.{BelongsTo, Chooses, HasNone, LacksTask, takes_by_arrival};
 ghost use Rattle.swift_tasks.specs.Levels.{AreLevels};
 
 use crate::chosen::{Chosen, Stage, fill};
@@ -53,7 +53,7 @@ impl ExecState {
         ensures err { IfErr result (λ fault. (fault ≡ ExecFault.Refused BookFault.Unknown) × ((log : List Event) → AreLevels log given.now → LacksTask log self.old self.new)) }
     {
         self.ready.count(given);
-        let by_arrival = matches!(self.script.executor_kind(self.executor), ExecutorKind::Fifo);
+        let by_arrival = takes_by_arrival(self.script.executor_kind(self.executor));
         let Some((job, arrival)) = self.ready.take(by_arrival) else {
             return Ok(None);
         };
@@ -80,4 +80,14 @@ fn is_known(given: &[u8], task: TaskId) -> bool
 {
     let at = task.0 as usize;
     at < given.len() && given[at] > 0
+}
+
+// Whether an executor of this kind takes its jobs in the order of arrival alone.
+fn takes_by_arrival(kind: ExecutorKind) -> bool
+    ensures { result ≡ takes_by_arrival kind }
+{
+    match kind {
+        ExecutorKind::Fifo => true,
+        ExecutorKind::Priority | ExecutorKind::Pinned(_) => false,
+    }
 }

@@ -7,7 +7,7 @@ ghost use Rattle.script_code.specs.Seen.{rows_of};
 ghost use Rattle.script_code.specs.Tree.{Term};
 ghost use Rattle.swift_types.specs.declared.id.TaskId.{TaskId};
 ghost use Rattle.script_code.specs.Value.{holds};
-ghost use Rattle.swift_script.specs.Scripts.{executor_actors, executor_invariants, executor_start};
+ghost use Rattle.swift_script.specs.Scripts.{actor_number, executor_actors, executor_invariants, executor_start};
 ghost use Rattle.swift_executor.specs.Ready.{HasRoom, tasks_in, times};
 ghost use Rattle.swift_executor.specs.State.{IsExecutor, chosen_count, fields_at, new_executor};
 
@@ -136,15 +136,7 @@ impl ExecState {
         ensures { result.now ≡ fields_at (executor_actors self.now.script self.now.executor) self.now.fields actor.0 }
     {
         let actors = self.script.executor_actors(self.executor);
-        for place in 0..actors.len() {
-            if place >= self.fields.len() {
-                return &[];
-            }
-            if actors[place] == actor {
-                return &self.fields[place];
-            }
-        }
-        &[]
+        row_of(actors, &self.fields, actor)
     }
 
     /// Gives up the jobs that are ready, in no order that means anything, the journal, the fields, a list for each actor in text
@@ -172,4 +164,19 @@ impl ExecState {
             Some(_) => unreachable!(),
         }
     }
+}
+
+// The row of an actor, among the rows of these actors.
+fn row_of<'a>(actors: &[ActorId], rows: &'a [Vec<i64>], actor: ActorId) -> &'a [i64]
+    ensures { result.now ≡ fields_at (map actor_number actors.now) (rows_of rows.now) actor.0 }
+{
+    for place in 0..actors.len() {
+        if place >= rows.len() {
+            return &[];
+        }
+        if actors[place] == actor {
+            return &rows[place];
+        }
+    }
+    &[]
 }

@@ -15,14 +15,14 @@ use Rattle.swift_executor.proofs.state.ExecState.play.Goals as goal
 pub put_back-requires-in-Err : goal.put_back-requires-in-Err
 put_back-requires-in-Err c = let h = c.in-Err.ensures.err in (chosen_view c.in-Err.next.items (record { job = h.2.job; arrival = h.0.arrival; stage = h.0.stage }), ap (chosen_of c.in-Err.next.items) h.2.new_is, tt)
 
-pub returns-in-Ok-clause-ok : goal.returns-in-Ok-clause-ok
-returns-in-Ok-clause-ok c =
+pub returns-in-Ok-play_chosen-clause-ok : goal.returns-in-Ok-play_chosen-clause-ok
+returns-in-Ok-play_chosen-clause-ok c =
     let x = c.self.inside in
     let s : ExecView = record { script = arc_value x.script; executor = x.executor.0; ready = x.ready; chosen = chosen_of x.next.items x.chosen; journal = x.journal; checkpoint = x.checkpoint.view; fields = rows_of x.fields.items } in
     let h = c.in-Ok-play_chosen.ensures.ok in
     let at : s.chosen ≡ Some (chosen_view x.next.items h.0) = ap (chosen_of x.next.items) h.1 in
     let was : IsChosen s (chosen_view x.next.items h.0) = subst (λ (o : Option ChosenView). IfSome o (IsChosen s)) at c.self.invariant.chosen in
-    let rows : rows_of c.replace-fields.result.items ≡ s.fields = ap (λ (v : Vec (Vec ℤ Global) Global). rows_of v.items) c.replace-fields.ensures.value ∙ ? in
+    let rows : rows_of c.replace-fields.result.items ≡ s.fields = ap (λ (v : Vec (Vec ℤ Global) Global). rows_of v.items) c.replace-fields.ensures.value ∙ c.in-Ok.ensures ∙ ap rows_of c.deref.ensures.value in
     let is = turned s.script s.executor s.fields (rows_of c.in-Ok-play_chosen.next.items) h.2.env h.2.worker h.0.job h.2.job h.2.left_by was.belongs
     (subst (λ (fs : List (List ℤ)). JobTurned h.0.job h.2.job fs h.2.env (rows_of c.in-Ok-play_chosen.next.items) h.2.left_by) rows h.2.turned) in
     let new : ExecView = record s { chosen = chosen_of c.in-Ok-play_chosen.next.items c.play_chosen.new.place } in
