@@ -7,7 +7,7 @@ ghost use Rattle.script_code.specs.Seen.{rows_of};
 ghost use Rattle.script_code.specs.Tree.{Term};
 ghost use Rattle.swift_types.specs.declared.id.TaskId.{TaskId};
 ghost use Rattle.script_code.specs.Value.{holds};
-ghost use Rattle.swift_script.specs.Scripts.{actor_number, executor_actors, executor_invariants, executor_start};
+ghost use Rattle.swift_script.specs.Scripts.{executor_actors, executor_invariants, executor_start};
 ghost use Rattle.swift_executor.specs.Ready.{HasRoom, tasks_in, times};
 ghost use Rattle.swift_executor.specs.State.{IsExecutor, chosen_count, fields_at, new_executor};
 
@@ -168,7 +168,7 @@ impl ExecState {
 
 // The row of an actor, among the rows of these actors.
 fn row_of<'a>(actors: &[ActorId], rows: &'a [Vec<i64>], actor: ActorId) -> &'a [i64]
-    ensures { result.now ≡ fields_at (map actor_number actors.now) (rows_of rows.now) actor.0 }
+    ensures { result.now ≡ fields_at (map (λ a. a.0) actors.now) (rows_of rows.now) actor.0 }
 {
     for place in 0..actors.len() {
         if place >= rows.len() {
