@@ -180,13 +180,13 @@ fn begin_chosen(
     };
     match book.begin(&job) {
         Ok(env) => {
-            let stage = Stage::Begun(worker, env);
+            let begun = Stage::Begun(worker, env);
             fill(
                 place,
                 Chosen {
                     job,
                     arrival,
-                    stage,
+                    stage: begun,
                 },
             );
             Ok(())
