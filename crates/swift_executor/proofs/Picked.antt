@@ -1,6 +1,6 @@
 -- What a pick leaves.
-use Rattle.std.proofs.Common.{◌≡◌, ℕ, ◌<◌, ◌≤◌, Bool, List, [], ◌∷◌, length, Contains, refl, ap, sym, subst, ◌∙◌, arith}
-use Rattle.std.proofs.lemmas.List.Elements.{Contains-append_left, Contains-push}
+use Rattle.std.proofs.Common.{◌≡◌, ℕ, ◌<◌, ◌≤◌, Bool, List, [], ◌∷◌, length, map, Contains, refl, ap, sym, subst, ◌∙◌, arith}
+use Rattle.std.proofs.lemmas.List.Elements.{All-contains, All-head, All-nil, Contains-append_left, Contains-push}
 use Rattle.std.proofs.lemmas.List.Sorted.{All-permutation, Contains-permutation, IsPermutation-sym, IsPermutation-trans, length_permutation}
 use Rattle.std.specs.List.{All}
 use Rattle.std.specs.List.Sorted.{IsPermutation}
@@ -24,3 +24,11 @@ module _ {B : Type 0} where
   pub was_inside : (xs ys rest : List (ReadyJob B)) (x : ReadyJob B) → IsPermutation xs ys → IsPermutation ys (x ∷ rest) → Contains xs x
   was_inside xs ys rest x one two =
       Contains-permutation (x ∷ rest) xs x (IsPermutation-sym xs (x ∷ rest) (IsPermutation-trans xs ys (x ∷ rest) one two)) (Contains-append_left (x ∷ []) rest x (Contains-push [] x))
+
+  -- where none is in front, none leads
+  pub none_behind : (front : List (ReadyJob B)) (behind : List (JobIs B)) → front ≡ [] → All (λ j. Contains (map (λ (x : ReadyJob B). x.job.task) front) j.task) behind → behind ≡ []
+  none_behind front [] is led = refl
+  none_behind front (j ∷ behind) is led =
+      let has = All-head (λ (j : JobIs B). Contains (map (λ (x : ReadyJob B). x.job.task) front) j.task) j behind led in
+      let none = subst (λ (xs : List (ReadyJob B)). Contains (map (λ (x : ReadyJob B). x.job.task) xs) j.task) is has in
+      absurd (All-contains (λ _. ⊥) [] j.task (All-nil (λ _. ⊥)) none)

@@ -2,8 +2,8 @@
 use Rattle.std.proofs.Common.{◌≡◌, ◌≢◌, ℕ, suc, ◌+◌, ◌<◌, ◌≤◌, ◌==◌, ℤ, Bool, true, false, IsTrue, if◌then◌else◌, eqb, Option, Some, None, IfSome, MatchOption, List, [], ◌∷◌, ◌++◌, length, map, Contains, refl, ap, sym, subst, ◌∙◌, inl, inr, arith}
 use Rattle.std.proofs.lemmas.Bool.{cases_eq, eq-eqb, ne_eqb}
 use Rattle.std.proofs.lemmas.List.{length-append, length-map}
-use Rattle.std.proofs.lemmas.List.Elements.{All-append, All-cons, All-head, All-nil, All-push, All-tail}
-use Rattle.std.proofs.lemmas.List.Sorted.{All-permutation, length_permutation}
+use Rattle.std.proofs.lemmas.List.Elements.{All-cons, All-head, All-nil, All-push, All-tail, All-weaker, Contains-append_left, Contains-append_right, Contains-push}
+use Rattle.std.proofs.lemmas.List.Sorted.{All-permutation, Contains-permutation, IsPermutation-map, length_permutation}
 use Rattle.std.specs.List.{All}
 use Rattle.std.specs.List.Sorted.{IsPermutation}
 use Rattle.swift_types.specs.declared.id.TaskId.{TaskId}
@@ -31,8 +31,24 @@ use Rattle.swift_executor.specs.Refusals.{IsRefusal, fault_of}
 use Rattle.swift_executor.specs.Playing.{HasJob}
 use Rattle.swift_executor.specs.StateInside.{chosen_of, chosen_view, stage_of}
 use Rattle.std.proofs.lemmas.Option.{same_Some}
-use Rattle.swift_executor.specs.Ready.{Adds, CanRestore, Forwards, ReadyIs, ReadyJob, ready_job}
-use Rattle.swift_executor.specs.State.{BelongsTo, ChosenView, ExecView, HasPlayed, IsChosen, IsExecutor, IsPicked, StageView, accepted, before_turn, begun, checkpoint_with, chosen_count, journal_with, new_executor, picked, played, record_by}
+use Rattle.swift_executor.specs.Ready.{Adds, CanRestore, IsClear, ReadyIs, ReadyJob, ready_job}
+use Rattle.swift_executor.specs.State.{BelongsTo, ChosenView, ExecView, HasPlayed, IsChosen, IsExecutor, IsPicked, StageView, accepted, before_turn, begun, chosen_count, leaders, picked, played, record_by}
+
+-- what leads in one order leads in another
+led_by : (ts ts' : List TaskId) (behind : List (JobIs BodyView)) → IsPermutation ts ts' → All (λ j. Contains ts j.task) behind → All (λ j. Contains ts' j.task) behind
+led_by ts ts' behind perm all = All-weaker (λ (j : JobIs BodyView). Contains ts j.task) (λ (j : JobIs BodyView). Contains ts' j.task) (λ j has. Contains-permutation ts ts' j.task perm has) behind all
+
+led_more : (t : TaskId) (ts : List TaskId) (behind : List (JobIs BodyView)) → All (λ j. Contains ts j.task) behind → All (λ j. Contains (t ∷ ts) j.task) behind
+led_more t ts behind all = All-weaker (λ (j : JobIs BodyView). Contains ts j.task) (λ (j : JobIs BodyView). Contains (t ∷ ts) j.task) (λ j has. Contains-append_right (t ∷ []) ts j.task has) behind all
+
+-- where the front is not clear of a task, one of its jobs is there
+pub not_clear : (front : List (ReadyJob BodyView)) (t : TaskId) → (IsClear front t → ⊥) → Contains (map (λ x. x.job.task) front) t
+not_clear [] t some = absurd (some (All-nil (λ (x : ReadyJob BodyView). x.job.task ≢ t)))
+not_clear (x ∷ front) t some = elim (cases_eq x.job.task.0 t.0) [
+  | inl e ↦ subst (λ (y : TaskId). Contains (x.job.task ∷ map (λ x. x.job.task) front) y) (ap (λ (n : ℕ). record { 0 = n }) e) (Contains-append_left (x.job.task ∷ []) (map (λ x. x.job.task) front) x.job.task (Contains-push [] x.job.task))
+  | inr ne ↦ Contains-append_right (x.job.task ∷ []) (map (λ x. x.job.task) front) t
+    (not_clear front t (λ clear. some (All-cons (λ (y : ReadyJob BodyView). y.job.task ≢ t) x front (λ e. ne (ap (λ (y : TaskId). y.0) e)) clear)))
+]
 
 -- of a frame that has had a turn, the one before is of the same actor
 first_before : (script : ScriptView) (executor : ℕ) (frame : FrameView) (Q : FrameView → Type 0) (frames : List FrameView) → HasFirst frames (λ f. actor_executor script (method_actor script f.method) ≡ executor)
@@ -58,9 +74,9 @@ belongs_back script executor fields (played worker env frame rows effects exit) 
 }
 
 -- the chosen job is ready again
-pub back_keeps : (s : ExecView) (c : ChosenView) (job : JobIs BodyView) (ready' : ReadyIs BodyView) → IsExecutor s → s.chosen ≡ Some c → BelongsTo s.script s.executor job → IsPermutation (ready_job job c.arrival ∷ s.ready.front) ready'.front
+pub back_keeps : (s : ExecView) (c : ChosenView) (job : JobIs BodyView) (ready' : ReadyIs BodyView) → IsExecutor s → s.chosen ≡ Some c → BelongsTo s.script s.executor job → job.task ≡ c.job.task → IsPermutation (ready_job job c.arrival ∷ s.ready.front) ready'.front
     → ready' ≡ record s.ready { front = ready'.front } → IsExecutor (record s { ready = ready'; chosen = None })
-back_keeps s c job ready' is at belongs perm same =
+back_keeps s c job ready' is at belongs task perm same =
     let P : ReadyJob BodyView → Type 0 = λ x. BelongsTo s.script s.executor x.job in
     let behind : ready'.behind ≡ s.ready.behind = ap (λ (r : ReadyIs BodyView). r.behind) same in
     let arrived : ready'.arrived ≡ s.ready.arrived = ap (λ (r : ReadyIs BodyView). r.arrived) same in
@@ -77,6 +93,9 @@ back_keeps s c job ready' is at belongs perm same =
       few = is.few;
       front = All-permutation P (ready_job job c.arrival ∷ s.ready.front) ready'.front perm (All-cons P (ready_job job c.arrival) s.ready.front belongs is.front);
       behind = subst (λ (js : List (JobIs BodyView)). All (BelongsTo s.script s.executor) js) (sym behind) is.behind;
+      led = subst (λ (js : List (JobIs BodyView)). All (λ j. Contains (map (λ (x : ReadyJob BodyView). x.job.task) ready'.front) j.task) js) (sym behind)
+          (led_by (job.task ∷ map (λ (x : ReadyJob BodyView). x.job.task) s.ready.front) (map (λ (x : ReadyJob BodyView). x.job.task) ready'.front) s.ready.behind (IsPermutation-map (λ (x : ReadyJob BodyView). x.job.task) (ready_job job c.arrival ∷ s.ready.front) ready'.front perm)
+          (subst (λ (t : TaskId). All (λ j. Contains (t ∷ map (λ (x : ReadyJob BodyView). x.job.task) s.ready.front) j.task) s.ready.behind) (sym task) (subst (λ (o : Option ChosenView). All (λ j. Contains (leaders s.ready.front o) j.task) s.ready.behind) at is.led)));
       chosen = tt;
     }
 
@@ -96,6 +115,7 @@ stage_keeps s c c' is at belongs task arrival plays =
       few = is.few;
       front = is.front;
       behind = is.behind;
+      led = subst (λ (t : TaskId). All (λ j. Contains (t ∷ map (λ (x : ReadyJob BodyView). x.job.task) s.ready.front) j.task) s.ready.behind) (sym task) (subst (λ (o : Option ChosenView). All (λ j. Contains (leaders s.ready.front o) j.task) s.ready.behind) at is.led);
       chosen = record {
         belongs = belongs;
         restorable = subst (λ (n : ℕ). CanRestore s.ready c'.job.task n) (sym arrival) (subst (λ (t : TaskId). CanRestore s.ready t c.arrival) (sym task) was.restorable);
@@ -123,6 +143,9 @@ choose_keeps s job arrival ready' is at perm behind arrived can =
       few = is.few;
       front = All-tail P (ready_job job arrival) ready'.front all;
       behind = subst (λ (js : List (JobIs BodyView)). All (BelongsTo s.script s.executor) js) (sym behind) is.behind;
+      led = subst (λ (js : List (JobIs BodyView)). All (λ j. Contains (job.task ∷ map (λ (x : ReadyJob BodyView). x.job.task) ready'.front) j.task) js) (sym behind)
+          (led_by (map (λ (x : ReadyJob BodyView). x.job.task) s.ready.front) (job.task ∷ map (λ (x : ReadyJob BodyView). x.job.task) ready'.front) s.ready.behind (IsPermutation-map (λ (x : ReadyJob BodyView). x.job.task) s.ready.front (ready_job job arrival ∷ ready'.front) perm)
+          (subst (λ (o : Option ChosenView). All (λ j. Contains (leaders s.ready.front o) j.task) s.ready.behind) at is.led));
       chosen = record { belongs = All-head P (ready_job job arrival) ready'.front all; restorable = can; plays = tt };
     }
 
@@ -143,6 +166,10 @@ reorder_keeps s ready' is at perm behind arrived =
       few = is.few;
       front = All-permutation P s.ready.front ready'.front perm is.front;
       behind = subst (λ (js : List (JobIs BodyView)). All (BelongsTo s.script s.executor) js) (sym behind) is.behind;
+      led = subst (λ (o : Option ChosenView). All (λ j. Contains (leaders ready'.front o) j.task) ready'.behind) (sym at)
+          (subst (λ (js : List (JobIs BodyView)). All (λ j. Contains (map (λ (x : ReadyJob BodyView). x.job.task) ready'.front) j.task) js) (sym behind)
+          (led_by (map (λ (x : ReadyJob BodyView). x.job.task) s.ready.front) (map (λ (x : ReadyJob BodyView). x.job.task) ready'.front) s.ready.behind (IsPermutation-map (λ (x : ReadyJob BodyView). x.job.task) s.ready.front ready'.front perm)
+          (subst (λ (o : Option ChosenView). All (λ j. Contains (leaders s.ready.front o) j.task) s.ready.behind) at is.led)));
       chosen = subst (λ (x : Option ChosenView). IfSome x (IsChosen (record s { ready = ready' }))) (sym at) tt;
     }
 
@@ -165,6 +192,10 @@ accept_keeps s job ready' is at belongs (inl h) =
       few = is.few;
       front = All-permutation P (new ∷ s.ready.front) ready'.front h.1 (All-cons P new s.ready.front belongs is.front);
       behind = subst (λ (js : List (JobIs BodyView)). All (BelongsTo s.script s.executor) js) (sym behind) is.behind;
+      led = subst (λ (o : Option ChosenView). All (λ j. Contains (leaders ready'.front o) j.task) ready'.behind) (sym at)
+          (subst (λ (js : List (JobIs BodyView)). All (λ j. Contains (map (λ (x : ReadyJob BodyView). x.job.task) ready'.front) j.task) js) (sym behind)
+          (led_by (job.task ∷ map (λ (x : ReadyJob BodyView). x.job.task) s.ready.front) (map (λ (x : ReadyJob BodyView). x.job.task) ready'.front) s.ready.behind (IsPermutation-map (λ (x : ReadyJob BodyView). x.job.task) (new ∷ s.ready.front) ready'.front h.1)
+          (led_more job.task (map (λ (x : ReadyJob BodyView). x.job.task) s.ready.front) s.ready.behind (subst (λ (o : Option ChosenView). All (λ j. Contains (leaders s.ready.front o) j.task) s.ready.behind) at is.led))));
       chosen = subst (λ (x : Option ChosenView). IfSome x (IsChosen (record s { ready = ready' }))) (sym at) tt;
     }
 accept_keeps s job ready' is at belongs (inr h) =
@@ -184,6 +215,11 @@ accept_keeps s job ready' is at belongs (inr h) =
       few = is.few;
       front = subst (λ (xs : List (ReadyJob BodyView)). All (λ x. BelongsTo s.script s.executor x.job) xs) (sym front) is.front;
       behind = subst (λ (js : List (JobIs BodyView)). All (BelongsTo s.script s.executor) js) (sym behind) (All-push (BelongsTo s.script s.executor) s.ready.behind job is.behind belongs);
+      led = subst (λ (o : Option ChosenView). All (λ j. Contains (leaders ready'.front o) j.task) ready'.behind) (sym at)
+          (subst (λ (xs : List (ReadyJob BodyView)). All (λ j. Contains (map (λ (x : ReadyJob BodyView). x.job.task) xs) j.task) ready'.behind) (sym front)
+          (subst (λ (js : List (JobIs BodyView)). All (λ j. Contains (map (λ (x : ReadyJob BodyView). x.job.task) s.ready.front) j.task) js) (sym behind)
+          (All-push (λ (j : JobIs BodyView). Contains (map (λ (x : ReadyJob BodyView). x.job.task) s.ready.front) j.task) s.ready.behind job (subst (λ (o : Option ChosenView). All (λ j. Contains (leaders s.ready.front o) j.task) s.ready.behind) at is.led)
+          (not_clear s.ready.front job.task h.0))));
       chosen = subst (λ (x : Option ChosenView). IfSome x (IsChosen (record s { ready = ready' }))) (sym at) tt;
     }
 
@@ -207,3 +243,9 @@ picked_job next (Some c) has = (c, refl, by c.stage (subst (λ (v : ChosenView).
 pub refused_so : (o : Option BookFault) (cause : BookFault) → BookRefusal o cause → IsRefusal o (fault_of cause)
 refused_so None cause is = ap fault_of is
 refused_so (Some r) cause is = ap fault_of is
+
+-- it is of the task that it was
+pub same_task : (stage : StageView) (j : JobIs BodyView) → (before_turn stage j).task ≡ j.task.0
+same_task picked j = refl
+same_task (begun worker env) j = refl
+same_task (played worker env frame rows effects exit) j = refl

@@ -1,9 +1,9 @@
 -- What an executor keeps when a turn is journalled.
-use Rattle.std.proofs.Common.{◌≡◌, ◌≢◌, ℕ, suc, ◌+◌, ◌-◌, ◌<◌, ◌≤◌, ◌==◌, ℤ, Bool, true, false, IsTrue, if◌then◌else◌, eqb, Option, Some, None, IfSome, List, [], ◌∷◌, ◌++◌, length, take, map, Contains, refl, ap, sym, subst, ◌∙◌, inl, inr, arith}
+use Rattle.std.proofs.Common.{◌≡◌, ◌≢◌, ℕ, suc, ◌+◌, ◌-◌, ◌<◌, ◌≤◌, ◌==◌, ℤ, Bool, true, false, IsTrue, if◌then◌else◌, eqb, Option, Some, None, IfSome, List, [], ◌∷◌, ◌++◌, length, take, map, get_or, Contains, refl, ap, sym, subst, ◌∙◌, inl, inr, arith}
 use Rattle.std.proofs.lemmas.Bool.{cases_eq, eq-eqb, ne_eqb}
 use Rattle.std.proofs.lemmas.List.{length-append, length-map, take_at}
-use Rattle.std.proofs.lemmas.List.Elements.{All-append, All-cons, All-head, All-tail}
-use Rattle.std.proofs.lemmas.List.Sorted.{All-permutation, IsPermutation-middle, length_permutation}
+use Rattle.std.proofs.lemmas.List.Elements.{All-contains, All-cons, All-head, All-nil, All-tail, All-weaker, Contains-append_cases, Contains-push_cases}
+use Rattle.std.proofs.lemmas.List.Sorted.{All-permutation, Contains-permutation, IsPermutation-map, IsPermutation-middle, length_permutation}
 use Rattle.std.specs.List.{All}
 use Rattle.std.specs.List.Sorted.{IsPermutation}
 use Rattle.std.specs.declared.vec.Vec.{Vec}
@@ -31,7 +31,7 @@ use Rattle.swift_executor.specs.declared.chosen.Stage.TheVariants.{Picked, Begun
 use Rattle.swift_tasks.specs.Books.{BookView}
 use Rattle.swift_history.specs.TurnEnds.{JobView}
 use Rattle.swift_interpreter.specs.TurnStates.{exit_view}
-use Rattle.swift_executor.specs.State.{BelongsTo, ChosenView, ExecView, HasPlayed, IsChosen, IsExecutor, IsPlayed, Journals, checkpoint_with, chosen_count, frame_after, journal_with, played, record_by}
+use Rattle.swift_executor.specs.State.{BelongsTo, ChosenView, ExecView, HasPlayed, IsChosen, IsExecutor, IsPlayed, Journals, checkpoint_with, chosen_count, frame_after, journal_with, leaders, played, record_by}
 
 -- the frame that a turn leaves stands for what is still to do
 stands : (p : ScriptView) (g : FrameView) (rows : List (List ℤ)) (effects : List EffectView) (s : State) → state_at p g rows effects s.room ≡ s → state_at p g s.fields s.effects s.room ≡ s
@@ -82,19 +82,32 @@ RunOn-push : (script : ScriptView) (executor : ℕ) (rs : List RecordView) (r : 
 RunOn-push script executor [] r are is = (is, tt)
 RunOn-push script executor (x ∷ rs) r are is = (are.0, RunOn-push script executor rs r are.1 is)
 
+-- another task than the first one
+others : (t : TaskId) (ts : List TaskId) (u : TaskId) → u ≢ t → Contains (t ∷ ts) u → Contains ts u
+others t ts u ne has = elim (Contains-append_cases (t ∷ []) ts u has) [
+  | inl first ↦ elim (Contains-push_cases [] t u first) [
+    | inl none ↦ absurd (All-contains (λ _. ⊥) [] u (All-nil (λ _. ⊥)) none)
+    | inr is ↦ absurd (ne (sym is))
+  ]
+  | inr rest ↦ rest
+]
+
 -- what the ready jobs keep where one from behind may come to the front
-pub record Moved (script : ScriptView) (executor : ℕ) (old new : ReadyIs BodyView) : Type 0 where
+pub record Moved (script : ScriptView) (executor : ℕ) (task : TaskId) (old new : ReadyIs BodyView) : Type 0 where
   pub front : All (λ x. BelongsTo script executor x.job) new.front
   pub behind : All (BelongsTo script executor) new.behind
   pub many : new.arrived + length old.front ≡ old.arrived + length new.front
+  pub led : All (λ j. Contains (map (λ (x : ReadyJob BodyView). x.job.task) new.front) j.task) new.behind
 
-moved : (script : ScriptView) (executor : ℕ) (old new : ReadyIs BodyView) (task : TaskId) → All (λ x. BelongsTo script executor x.job) old.front → All (BelongsTo script executor) old.behind → Forwards old task new → Moved script executor old new
-moved script executor old new task front behind (inl h) = record {
+moved : (script : ScriptView) (executor : ℕ) (old new : ReadyIs BodyView) (task : TaskId) → All (λ x. BelongsTo script executor x.job) old.front → All (BelongsTo script executor) old.behind → All (λ j. Contains (task ∷ map (λ (x : ReadyJob BodyView). x.job.task) old.front) j.task) old.behind → Forwards old task new → Moved script executor task old new
+moved script executor old new task front behind led (inl h) = record {
   front = subst (λ (r : ReadyIs BodyView). All (λ x. BelongsTo script executor x.job) r.front) (sym h.1) front;
   behind = subst (λ (r : ReadyIs BodyView). All (BelongsTo script executor) r.behind) (sym h.1) behind;
   many = ap (λ (r : ReadyIs BodyView). r.arrived + length old.front) h.1 ∙ sym (ap (λ (r : ReadyIs BodyView). old.arrived + length r.front) h.1);
+  led = subst (λ (r : ReadyIs BodyView). All (λ j. Contains (map (λ (x : ReadyJob BodyView). x.job.task) r.front) j.task) r.behind) (sym h.1)
+      (λ k d lt. others task (map (λ (x : ReadyJob BodyView). x.job.task) old.front) (get_or old.behind k d).task (h.0 k d lt) (led k d lt));
 }
-moved script executor old new task front behind (inr h) =
+moved script executor old new task front behind led (inr h) =
     let before = h.0 in
     let after = h.1 in
     let job = h.2 in
@@ -110,6 +123,15 @@ moved script executor old new task front behind (inr h) =
       front = All-permutation P (x ∷ old.front) new.front perm (All-cons P x old.front one front);
       behind = subst (λ (js : List (JobIs BodyView)). All (BelongsTo script executor) js) (sym (ap (λ (r : ReadyIs BodyView). r.behind) h.7)) rest;
       many = omega (arith, len, arrived);
+      led =
+          let ts = map (λ (x : ReadyJob BodyView). x.job.task) in
+          let Q : JobIs BodyView → Type 0 = λ j. Contains (task ∷ ts old.front) j.task in
+          let all_led = All-permutation Q (before ++ job ∷ after) (job ∷ (before ++ after)) (IsPermutation-middle before job after) (subst (λ (js : List (JobIs BodyView)). All Q js) h.3 led) in
+          let rest_led = All-tail Q job (before ++ after) all_led in
+          subst (λ (js : List (JobIs BodyView)). All (λ j. Contains (ts new.front) j.task) js) (sym (ap (λ (r : ReadyIs BodyView). r.behind) h.7))
+          (All-weaker Q (λ (j : JobIs BodyView). Contains (ts new.front) j.task)
+          (λ j has. Contains-permutation (job.task ∷ ts old.front) (ts new.front) j.task (IsPermutation-map (λ (x : ReadyJob BodyView). x.job.task) (x ∷ old.front) new.front perm) (subst (λ (t : TaskId). Contains (t ∷ ts old.front) j.task) (sym h.5) has))
+          (before ++ after) rest_led);
     }
 
 -- a journal that is not full yet, or is folded
@@ -123,7 +145,7 @@ turn_keeps s c ready' r rows grows stays is at forwards rec =
     let lawful : AreLawful s.script s.checkpoint.fields j' = law.lawful is.lawful here in
     let replayed : rows ≡ replay s.script s.checkpoint.fields j' = rec.fields_are ∙ ap (λ (fs : List (List ℤ)). fields_after s.script fs r) is.replayed ∙ sym law.replayed in
     let runs = RunOn-push s.script s.executor s.journal r is.runs rec.on in
-    let ready = moved s.script s.executor s.ready ready' c.job.task is.front is.behind forwards in
+    let ready = moved s.script s.executor s.ready ready' c.job.task is.front is.behind (subst (λ (o : Option ChosenView). All (λ j. Contains (leaders s.ready.front o) j.task) s.ready.behind) at is.led) forwards in
     let one : chosen_count s.chosen ≡ 1 = ap chosen_count at in
     let many = is.counted in
     let more = ready.many in
@@ -143,6 +165,7 @@ turn_keeps s c ready' r rows grows stays is at forwards rec =
           few = omega arith;
           front = ready.front;
           behind = ready.behind;
+          led = ready.led;
           chosen = tt;
         })
       | inr more_room ↦
@@ -156,6 +179,7 @@ turn_keeps s c ready' r rows grows stays is at forwards rec =
           few = omega (arith, few, len, more_room);
           front = ready.front;
           behind = ready.behind;
+          led = ready.led;
           chosen = tt;
         })
     ]

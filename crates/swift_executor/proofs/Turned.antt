@@ -14,8 +14,11 @@ use Rattle.swift_turn.specs.Body.{BodyView, HasFirst, IsTurnOf, Polls, TaskView,
 use Rattle.swift_queue.specs.Job.{JobIs}
 use Rattle.swift_history.specs.TurnEnds.{JobView}
 use Rattle.swift_tasks.specs.Books.{job_view}
-use Rattle.swift_executor.specs.Playing.{JobTurned}
-use Rattle.swift_executor.specs.State.{BelongsTo, HasPlayed, before_turn, played}
+use Rattle.swift_executor.specs.Playing.{JobTurned, JobUnturned}
+use Rattle.swift_executor.specs.StateInside.{stage_of}
+use Rattle.swift_executor.specs.declared.chosen.Stage.{Stage}
+use Rattle.swift_executor.specs.declared.chosen.Stage.TheVariants.{Picked, Begun, Played as PlayedStage}
+use Rattle.swift_executor.specs.State.{BelongsTo, HasPlayed, IsBegun, before_turn, played}
 use Rattle.swift_executor.specs.declared.chosen.Played.{Played}
 
 -- the frames of a task that has had a turn
@@ -64,3 +67,16 @@ turned script executor fields rows env worker old new p belongs is =
           ∙ ap (λ (o : List (ℕ × ℤ)). record { task = old.task.0; number = old.number; resume = old.resume; frames = record { frames = old.body.task.frames; outer = o } }) outer;
       belongs = record { script_is = is.body.script ∙ belongs.script_is; top = h.top };
     }
+
+-- a job that has had no turn is one of the executor
+pub unturned : (script : ScriptView) (executor : ℕ) (old new : JobIs BodyView) → BelongsTo script executor old → JobUnturned old new → BelongsTo script executor new
+unturned script executor old new belongs is = record {
+  script_is = is.body.script ∙ belongs.script_is;
+  top = subst (λ (t : TaskView). HasFirst t.frames (λ f. actor_executor script (method_actor script f.method) ≡ executor)) (sym is.body.task) belongs.top;
+}
+
+-- nothing was played where a turn has only begun
+pub begun_plays : (script : ScriptView) (fields : List (List ℤ)) (j : JobIs BodyView) (next next' : List (Vec ℤ Global)) (stage : Stage) → IsBegun (stage_of next stage) → HasPlayed script fields j (stage_of next' stage)
+begun_plays script fields j next next' Picked is = absurd is
+begun_plays script fields j next next' (Begun worker env) is = tt
+begun_plays script fields j next next' (PlayedStage worker env p) is = absurd is

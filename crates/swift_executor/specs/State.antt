@@ -26,7 +26,7 @@ use Rattle.swift_tasks.specs.Books.{BookView, end_of_turn, job_view}
 use Rattle.swift_tasks.specs.Levels.{AreLevels}
 use Rattle.swift_tasks.specs.Refusals.{refusal_of_apply, refusal_of_begin}
 use Rattle.swift_tasks.specs.declared.fault.BookFault.{BookFault}
-use Rattle.swift_executor.specs.Ready.{AreHigher, CanRestore, ComesFirst, Forwards, ReadyIs, level_at, ready_job}
+use Rattle.swift_executor.specs.Ready.{AreHigher, CanRestore, ComesFirst, Forwards, ReadyIs, ReadyJob, level_at, ready_job}
 
 -- How far the chosen job is: its turn has not begun; it has begun, on a worker and with what it was given; or it was played:
 -- then there are the frame as it was before, and the fields, the effects and the exit that the turn has given.
@@ -72,6 +72,11 @@ chosen_count (Some c) = 1
 abbrev pub accepted : ExecView → ℕ
 accepted s = s.ready.arrived + length s.ready.behind
 
+-- the tasks that have a job in front or chosen
+abbrev pub leaders : List (ReadyJob BodyView) → Option ChosenView → List TaskId
+leaders front None = map (λ x. x.job.task) front
+leaders front (Some c) = c.job.task ∷ map (λ x. x.job.task) front
+
 -- the chosen job belongs to the executor and may go back, and what it has played is its kept turn
 pub record IsChosen (s : ExecView) (c : ChosenView) : Type 0 where
   pub belongs : BelongsTo s.script s.executor c.job
@@ -80,7 +85,8 @@ pub record IsChosen (s : ExecView) (c : ChosenView) : Type 0 where
 
 -- What an executor keeps. Its journal is lawful from the checkpoint on, its turns are of its actors, and replaying it gives the
 -- fields. Each invariant of its actors that held at the start holds of the checkpoint's fields. As many jobs were accepted as
--- are ready, chosen and journalled together, those of the checkpoint too. And each job is one of the executor.
+-- are ready, chosen and journalled together, those of the checkpoint too. Each job is one of the executor. And a job waits behind
+-- only where one of its task is in front or chosen.
 pub record IsExecutor (s : ExecView) : Type 0 where
   pub lawful : AreLawful s.script s.checkpoint.fields s.journal
   pub replayed : s.fields ≡ replay s.script s.checkpoint.fields s.journal
@@ -90,6 +96,7 @@ pub record IsExecutor (s : ExecView) : Type 0 where
   pub few : length s.journal < FOLD
   pub front : All (λ x. BelongsTo s.script s.executor x.job) s.ready.front
   pub behind : All (BelongsTo s.script s.executor) s.ready.behind
+  pub led : All (λ j. Contains (leaders s.ready.front s.chosen) j.task) s.ready.behind
   pub chosen : IfSome s.chosen (IsChosen s)
 
 -- an executor that has run no turn and has no job
@@ -138,12 +145,12 @@ pub record LacksTask (log : List Event) (old new : ExecView) : Type 0 where
   pub rest : IsPermutation old.ready.front new.ready.front
   pub same : new ≡ record old { ready = record old.ready { front = new.ready.front; levels = new.ready.levels } }
 
--- no job is in front
+-- no job is ready
 pub record HasNone (log : List Event) (old new : ExecView) : Type 0 where
   pub given : List ℕ
   pub levels : AreLevels log given
   pub higher : AreHigher old.ready.levels given new.ready.levels
-  pub empty : old.ready.front ≡ []
+  pub empty : (old.ready.front ≡ []) × (old.ready.behind ≡ [])
   pub same : new ≡ record old { ready = record old.ready { levels = new.ready.levels } }
 
 -- the chosen job as it was when it was chosen

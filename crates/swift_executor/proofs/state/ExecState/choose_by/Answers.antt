@@ -1,4 +1,4 @@
-use Rattle.std.proofs.Common.{◌≡◌, ◌<◌, ℕ, Bool, true, false, List, [], ◌∷◌, None, Some, Option, refl, ap, sym, subst, ◌∙◌, arith}
+use Rattle.std.proofs.Common.{◌≡◌, ◌<◌, ℕ, Bool, true, false, List, [], ◌∷◌, Contains, None, Some, Option, refl, ap, sym, subst, ◌∙◌, arith}
 use Rattle.std.proofs.lemmas.Bool.{ltb-true, ltb-false}
 use Rattle.std.proofs.lemmas.List.Sorted.{IsPermutation-trans}
 use Rattle.std.specs.Arc.{arc_value}
@@ -12,10 +12,10 @@ use Rattle.swift_events.specs.declared.event.Event.{Event}
 use Rattle.swift_script.specs.Scripts.{ScriptView, executor_kind}
 use Rattle.swift_tasks.specs.Levels.{AreLevels}
 use Rattle.swift_executor.specs.Ready.{AreHigher, ComesFirst, ReadyIs, level_at, ready_job}
-use Rattle.swift_executor.specs.State.{Chooses, ChosenView, ExecView, HasNone, IsExecutor, LacksTask, picked, takes_by_arrival}
+use Rattle.swift_executor.specs.State.{Chooses, ChosenView, ExecView, HasNone, IsExecutor, LacksTask, leaders, picked, takes_by_arrival}
 use Rattle.swift_executor.specs.StateInside.{chosen_of}
 use Rattle.swift_executor.specs.declared.chosen.Chosen.{Chosen}
-use Rattle.swift_executor.proofs.Picked.{all_of, none_left, two_steps, was_inside}
+use Rattle.swift_executor.proofs.Picked.{all_of, none_behind, none_left, two_steps, was_inside}
 use Rattle.swift_executor.proofs.StateKept.{choose_keeps, reorder_keeps}
 use Rattle.swift_executor.proofs.state.ExecState.choose_by.Goals as goal
 
@@ -32,6 +32,7 @@ pub returns-in_default-clause-none : goal.returns-in_default-clause-none
 returns-in_default-clause-none c = λ log are.
     let x = c.self.inside in
     let s : ExecView = record { script = arc_value x.script; executor = x.executor.0; ready = x.ready; chosen = chosen_of x.next.items x.chosen; journal = x.journal; checkpoint = x.checkpoint.view; fields = rows_of x.fields.items } in
+    let free : s.chosen ≡ None = ap (λ (v : ExecView). v.chosen) c.self.view_is ∙ c.requires.free in
     let one = c.count.new.self in
     let two = c.take.new.self in
     let same : two ≡ one = c.in_default.ensures.none.1 in
@@ -45,7 +46,7 @@ returns-in_default-clause-none c = λ log are.
       given = c.args.given.now;
       levels = are;
       higher = subst (λ (r : ReadyIs BodyView). AreHigher s.ready.levels c.args.given.now r.levels) (sym same) c.count.ensures.levels;
-      empty = empty;
+      empty = (empty, none_behind s.ready.front s.ready.behind empty (subst (λ (o : Option ChosenView). All (λ j. Contains (leaders s.ready.front o) j.task) s.ready.behind) free c.self.invariant.led));
       same = ap (λ (r : ReadyIs BodyView). record s { ready = r }) ready;
     })
 

@@ -67,6 +67,23 @@ returns-in-Ok-apply_chosen-clause-ok c =
       subst (λ (v : ExecView). Journals c.args.book.now c.apply_chosen.new.book (map job_view c.args.jobs.now.items) (map job_view c.apply_chosen.new.jobs.items) s v (chosen_view x.next.items h.0)) same d.journals,
     )
 
+pub invariant_of-self-in-Err : goal.invariant_of-self-in-Err
+invariant_of-self-in-Err c =
+    let x = c.self.inside in
+    let s : ExecView = record { script = arc_value x.script; executor = x.executor.0; ready = x.ready; chosen = chosen_of x.next.items x.chosen; journal = x.journal; checkpoint = x.checkpoint.view; fields = rows_of x.fields.items } in
+    let h = c.in-Err.ensures.same in
+    let w = c.in-Ok.ensures.written in
+    let has : HasChosen s (λ c. IsPlayed c.stage) = subst (λ (v : ExecView). HasChosen v (λ c. IsPlayed c.stage)) (sym c.self.view_is) c.requires in
+    let was : IsPlayed (chosen_view x.next.items w.0).stage = subst (λ (v : ChosenView). IsPlayed v.stage) (same_Some has.0 (chosen_view x.next.items w.0) (sym has.1 ∙ ap (chosen_of x.next.items) w.1)) has.2 in
+    let chosen : chosen_of x.next.items c.apply_chosen.new.place ≡ chosen_of x.next.items x.chosen =
+    ap (chosen_of x.next.items) h.2.new_is ∙ ap (λ (v : ChosenView). Some v) (h.2.same x.next.items) ∙ sym (ap (chosen_of x.next.items) h.1) in
+    let journal : c.retract.new.self ≡ x.journal = c.retract.ensures ∙ retracted x.next.items w.0.stage w.0.job x.journal c.prepare.new.journal was w.2 in
+    let same : record s { chosen = chosen_of x.next.items c.apply_chosen.new.place; journal = c.retract.new.self; checkpoint = c.prepare.new.checkpoint.view } ≡ s =
+    ap (λ (o : Option ChosenView). record s { chosen = o; journal = c.retract.new.self; checkpoint = c.prepare.new.checkpoint.view }) chosen
+    ∙ ap (λ (j : List RecordView). record s { journal = j; checkpoint = c.prepare.new.checkpoint.view }) journal
+    ∙ ap (λ (v : _). record s { checkpoint = v }) c.in-Ok.ensures.same in
+    subst (λ (v : ExecView). IsExecutor v) (sym same) c.self.invariant
+
 pub returns-in-Err-clause-back : goal.returns-in-Err-clause-back
 returns-in-Err-clause-back c =
     let x = c.self.inside in
