@@ -4,4 +4,5 @@ pub mod BookInvariant
 pub mod Books
 pub mod Counted
 pub mod Laws
+pub mod Levels
 pub mod Refusals

@@ -14,6 +14,7 @@ ghost use Rattle.swift_events.specs.Relations.{links_of};
 ghost use Rattle.swift_history.specs.TurnEnds.{root_job, root_events};
 ghost use Rattle.swift_tasks.specs.BookInvariant.{FitsScript, held_views};
 ghost use Rattle.swift_tasks.specs.Books.{IsJobOf, job_view, jobs_held};
+ghost use Rattle.swift_tasks.specs.Levels.{AreLevels};
 ghost use Rattle.swift_tasks.specs.Refusals.{IsRefusal, refusal_of_root, refusal_of_cancel, refusal_of_priorities};
 
 use crate::book::Book;
@@ -94,6 +95,15 @@ impl Book {
             priorities[place] = priority_of(&self.ledger, tasks[place]);
         }
         Ok(())
+    }
+
+    /// The priorities of all tasks, by the number of the task: one more than the number of the priority, and 0 for a task that was
+    /// not made, as for each past the end. Two lists are equal only where all priorities are, so a reader that keeps the last
+    /// list sees by one comparison whether one has changed. Constant time.
+    pub fn levels(&self) -> &[u8]
+        ensures { AreLevels self.now.log result.now }
+    {
+        unreachable!()
     }
 
     fn are_made(&self, tasks: &[TaskId]) -> bool

@@ -1,0 +1,260 @@
+-- What an executor keeps when a turn is journalled.
+use Rattle.std.proofs.Common.{◌≡◌, ◌≢◌, ℕ, suc, ◌+◌, ◌-◌, ◌<◌, ◌≤◌, ◌==◌, ℤ, Bool, true, false, IsTrue, if◌then◌else◌, eqb, Option, Some, None, IfSome, List, [], ◌∷◌, ◌++◌, length, take, map, get_or, Contains, refl, ap, sym, subst, ◌∙◌, inl, inr, arith}
+use Rattle.std.proofs.lemmas.Bool.{cases_eq, eq-eqb, ne_eqb}
+use Rattle.std.proofs.lemmas.List.{length-append, length-map, take_at}
+use Rattle.std.proofs.lemmas.List.Elements.{All-contains, All-cons, All-head, All-nil, All-tail, All-weaker, Contains-append_cases, Contains-push_cases}
+use Rattle.std.proofs.lemmas.List.Sorted.{All-permutation, Contains-permutation, IsPermutation-map, IsPermutation-middle, length_permutation}
+use Rattle.std.specs.List.{All}
+use Rattle.std.specs.List.Sorted.{IsPermutation}
+use Rattle.std.specs.declared.vec.Vec.{Vec}
+use Rattle.std.specs.declared.alloc.Global.{Global}
+use Rattle.swift_types.specs.declared.id.TaskId.{TaskId}
+use Rattle.swift_types.specs.declared.limits.TheConstants.{FOLD}
+use Rattle.swift_types.specs.declared.outcome.Resume.{Resume}
+use Rattle.script_code.specs.Seen.{rows_of}
+use Rattle.script_code.specs.Tree.{Term}
+use Rattle.script_code.specs.Value.{holds}
+use Rattle.script_code.specs.declared.env.Env.{Env}
+use Rattle.swift_script.specs.Scripts.{ScriptView, actor_executor, executor_invariants, executor_start, method_actor, method_count}
+use Rattle.swift_interpreter.specs.Frames.{FrameView, effect_views, frame_view}
+use Rattle.swift_interpreter.specs.Turn.{EffectView, ExitView, calling, waiting, asking_next, closing, yielding, returning, failing, State, Played}
+use Rattle.swift_turn.specs.Body.{BodyView, HasFirst, IsTurnOf, kept_turn, left, state_at}
+use Rattle.swift_queue.specs.Job.{JobIs}
+use Rattle.swift_journal.specs.Checkpoints.{CheckpointRoom, CheckpointView, FoldedView, folded_of, folds}
+use Rattle.swift_journal.specs.Records.{RecordView}
+use Rattle.swift_journal.specs.Replay.{AreLawful, IsAfter, IsLawfulRecord, InvariantsStay, LawfulGrows, RunOn, StandsFor, fields_after, replay}
+use Rattle.swift_executor.specs.Ready.{Forwards, ReadyIs, ReadyJob, ready_job}
+use Rattle.swift_executor.specs.Playing.{AppliesTurn, HasFoldRoom, Settles, WritesRecord}
+use Rattle.swift_executor.specs.StateInside.{stage_of}
+use Rattle.swift_executor.specs.declared.chosen.Stage.{Stage}
+use Rattle.swift_executor.specs.declared.chosen.Stage.TheVariants.{Picked, Begun, Played as PlayedStage}
+use Rattle.swift_tasks.specs.Books.{BookView}
+use Rattle.swift_history.specs.TurnEnds.{JobView}
+use Rattle.swift_interpreter.specs.TurnStates.{exit_view}
+use Rattle.swift_executor.specs.State.{BelongsTo, ChosenView, ExecView, HasPlayed, IsChosen, IsExecutor, IsPlayed, Journals, checkpoint_with, chosen_count, frame_after, journal_with, leaders, played, record_by}
+
+-- the frame that a turn leaves stands for what is still to do
+stands : (p : ScriptView) (g : FrameView) (rows : List (List ℤ)) (effects : List EffectView) (s : State) → state_at p g rows effects s.room ≡ s → state_at p g s.fields s.effects s.room ≡ s
+stands p g rows effects s is =
+    ap (λ (fs : List (List ℤ)). state_at p g fs s.effects s.room) (sym (ap (λ (x : State). x.fields) is))
+    ∙ ap (λ (es : List EffectView). state_at p g rows es s.room) (sym (ap (λ (x : State). x.effects) is))
+    ∙ is
+
+after_turn : (p : ScriptView) (m : ℕ) (s : State) (exit : ExitView) (g : FrameView) (others : List FrameView) → StandsFor p m s (Some g) → IsAfter p m s exit (frame_after exit (g ∷ others))
+after_turn p m s (calling c) g others is = is
+after_turn p m s (waiting t) g others is = is
+after_turn p m s (asking_next n) g others is = is
+after_turn p m s (closing n fault) g others is = is
+after_turn p m s yielding g others is = is
+after_turn p m s (returning v) g others is = refl
+after_turn p m s (failing fault) g others is = refl
+
+-- the record of a turn that was played is lawful, gives the fields after it, and is of an actor of the executor
+pub record IsRecorded (script : ScriptView) (executor : ℕ) (fields rows : List (List ℤ)) (r : RecordView) : Type 0 where
+  pub lawful : IsLawfulRecord script fields r
+  pub fields_are : rows ≡ fields_after script fields r
+  pub on : actor_executor script (method_actor script r.frame.method) ≡ executor
+
+recorded_at : (script : ScriptView) (executor : ℕ) (fields rows : List (List ℤ)) (task : TaskId) (number worker : ℕ) (outer : List (ℕ × ℤ)) (resume : Resume) (env : Env) (frame : FrameView) (effects : List EffectView) (exit : ExitView) (frames : List FrameView)
+    → HasFirst frames (λ f. actor_executor script (method_actor script f.method) ≡ executor) → HasFirst frames (λ f. (f.method ≡ frame.method) × IsTurnOf script frame outer fields resume env f (left rows effects exit))
+    → IsRecorded script executor fields rows (record { task = task.0; number = number; worker = worker; frame = frame; outer = outer; resume = resume; env = env; exit = exit; effects = effects; after = frame_after exit frames })
+recorded_at script executor fields rows task number worker outer resume env frame effects exit [] top plays = absurd top
+recorded_at script executor fields rows task number worker outer resume env frame effects exit (g ∷ others) top plays =
+    let k = kept_turn script frame outer fields resume env in
+    let is : record { state = state_at script g rows effects k.state.room; exit = exit } ≡ k = plays.1.1 in
+    let state : state_at script g rows effects k.state.room ≡ k.state = ap (λ (x : Played). x.state) is in
+    record {
+      lawful = record {
+        exit = ap (λ (x : Played). x.exit) is;
+        effects = ap (λ (x : State). x.effects) state;
+        after = after_turn script frame.method k.state exit g others (plays.0, stands script g rows effects k.state state);
+      };
+      fields_are = ap (λ (x : State). x.fields) state;
+      on = ap (λ (m : ℕ). actor_executor script (method_actor script m)) (sym plays.0) ∙ top;
+    }
+
+pub recorded : (script : ScriptView) (executor : ℕ) (fields rows : List (List ℤ)) (j : JobIs BodyView) (worker : ℕ) (env : Env) (frame : FrameView) (effects : List EffectView) (exit : ExitView)
+    → BelongsTo script executor j → HasPlayed script fields j (played worker env frame rows effects exit) → IsRecorded script executor fields rows (record_by j worker env frame effects exit)
+recorded script executor fields rows j worker env frame effects exit belongs plays =
+    recorded_at script executor fields rows j.task j.number worker j.body.task.outer j.resume env frame effects exit j.body.task.frames belongs.top plays.1
+
+RunOn-push : (script : ScriptView) (executor : ℕ) (rs : List RecordView) (r : RecordView) → RunOn script executor rs → actor_executor script (method_actor script r.frame.method) ≡ executor → RunOn script executor (rs ++ r ∷ [])
+RunOn-push script executor [] r are is = (is, tt)
+RunOn-push script executor (x ∷ rs) r are is = (are.0, RunOn-push script executor rs r are.1 is)
+
+-- another task than the first one
+others : (t : TaskId) (ts : List TaskId) (u : TaskId) → u ≢ t → Contains (t ∷ ts) u → Contains ts u
+others t ts u ne has = elim (Contains-append_cases (t ∷ []) ts u has) [
+  | inl first ↦ elim (Contains-push_cases [] t u first) [
+    | inl none ↦ absurd (All-contains (λ _. ⊥) [] u (All-nil (λ _. ⊥)) none)
+    | inr is ↦ absurd (ne (sym is))
+  ]
+  | inr rest ↦ rest
+]
+
+-- what the ready jobs keep where one from behind may come to the front
+pub record Moved (script : ScriptView) (executor : ℕ) (task : TaskId) (old new : ReadyIs BodyView) : Type 0 where
+  pub front : All (λ x. BelongsTo script executor x.job) new.front
+  pub behind : All (BelongsTo script executor) new.behind
+  pub many : new.arrived + length old.front ≡ old.arrived + length new.front
+  pub led : All (λ j. Contains (map (λ (x : ReadyJob BodyView). x.job.task) new.front) j.task) new.behind
+
+moved : (script : ScriptView) (executor : ℕ) (old new : ReadyIs BodyView) (task : TaskId) → All (λ x. BelongsTo script executor x.job) old.front → All (BelongsTo script executor) old.behind → All (λ j. Contains (task ∷ map (λ (x : ReadyJob BodyView). x.job.task) old.front) j.task) old.behind → Forwards old task new → Moved script executor task old new
+moved script executor old new task front behind led (inl h) = record {
+  front = subst (λ (r : ReadyIs BodyView). All (λ x. BelongsTo script executor x.job) r.front) (sym h.1) front;
+  behind = subst (λ (r : ReadyIs BodyView). All (BelongsTo script executor) r.behind) (sym h.1) behind;
+  many = ap (λ (r : ReadyIs BodyView). r.arrived + length old.front) h.1 ∙ sym (ap (λ (r : ReadyIs BodyView). old.arrived + length r.front) h.1);
+  led = subst (λ (r : ReadyIs BodyView). All (λ j. Contains (map (λ (x : ReadyJob BodyView). x.job.task) r.front) j.task) r.behind) (sym h.1)
+      (λ k d lt. others task (map (λ (x : ReadyJob BodyView). x.job.task) old.front) (get_or old.behind k d).task (h.0 k d lt) (led k d lt));
+}
+moved script executor old new task front behind led (inr h) =
+    let before = h.0 in
+    let after = h.1 in
+    let job = h.2 in
+    let P : ReadyJob BodyView → Type 0 = λ x. BelongsTo script executor x.job in
+    let x = ready_job job old.arrived in
+    let all = All-permutation (BelongsTo script executor) (before ++ job ∷ after) (job ∷ (before ++ after)) (IsPermutation-middle before job after) (subst (λ (js : List (JobIs BodyView)). All (BelongsTo script executor) js) h.3 behind) in
+    let one = All-head (BelongsTo script executor) job (before ++ after) all in
+    let rest = All-tail (BelongsTo script executor) job (before ++ after) all in
+    let perm = h.6 in
+    let len = length_permutation (x ∷ old.front) new.front perm in
+    let arrived : new.arrived ≡ old.arrived + 1 = ap (λ (r : ReadyIs BodyView). r.arrived) h.7 in
+    record {
+      front = All-permutation P (x ∷ old.front) new.front perm (All-cons P x old.front one front);
+      behind = subst (λ (js : List (JobIs BodyView)). All (BelongsTo script executor) js) (sym (ap (λ (r : ReadyIs BodyView). r.behind) h.7)) rest;
+      many = omega (arith, len, arrived);
+      led =
+          let ts = map (λ (x : ReadyJob BodyView). x.job.task) in
+          let Q : JobIs BodyView → Type 0 = λ j. Contains (task ∷ ts old.front) j.task in
+          let all_led = All-permutation Q (before ++ job ∷ after) (job ∷ (before ++ after)) (IsPermutation-middle before job after) (subst (λ (js : List (JobIs BodyView)). All Q js) h.3 led) in
+          let rest_led = All-tail Q job (before ++ after) all_led in
+          subst (λ (js : List (JobIs BodyView)). All (λ j. Contains (ts new.front) j.task) js) (sym (ap (λ (r : ReadyIs BodyView). r.behind) h.7))
+          (All-weaker Q (λ (j : JobIs BodyView). Contains (ts new.front) j.task)
+          (λ j has. Contains-permutation (job.task ∷ ts old.front) (ts new.front) j.task (IsPermutation-map (λ (x : ReadyJob BodyView). x.job.task) (x ∷ old.front) new.front perm) (subst (λ (t : TaskId). Contains (t ∷ ts old.front) j.task) (sym h.5) has))
+          (before ++ after) rest_led);
+    }
+
+-- a journal that is not full yet, or is folded
+pub turn_keeps : (s : ExecView) (c : ChosenView) (ready' : ReadyIs BodyView) (r : RecordView) (rows : List (List ℤ)) → ((script : ScriptView) (fields : List (List ℤ)) (rs : List RecordView) (r : RecordView) → LawfulGrows script fields rs r) → InvariantsStay
+    → IsExecutor s → s.chosen ≡ Some c → Forwards s.ready c.job.task ready' → IsRecorded s.script s.executor s.fields rows r
+    → IsExecutor (record s { ready = ready'; chosen = None; journal = journal_with s.journal r; checkpoint = checkpoint_with s.checkpoint s.journal r rows; fields = rows })
+turn_keeps s c ready' r rows grows stays is at forwards rec =
+    let j' = s.journal ++ r ∷ [] in
+    let law = grows s.script s.checkpoint.fields s.journal r in
+    let here = subst (λ (fs : List (List ℤ)). IsLawfulRecord s.script fs r) is.replayed rec.lawful in
+    let lawful : AreLawful s.script s.checkpoint.fields j' = law.lawful is.lawful here in
+    let replayed : rows ≡ replay s.script s.checkpoint.fields j' = rec.fields_are ∙ ap (λ (fs : List (List ℤ)). fields_after s.script fs r) is.replayed ∙ sym law.replayed in
+    let runs = RunOn-push s.script s.executor s.journal r is.runs rec.on in
+    let ready = moved s.script s.executor s.ready ready' c.job.task is.front is.behind (subst (λ (o : Option ChosenView). All (λ j. Contains (leaders s.ready.front o) j.task) s.ready.behind) at is.led) forwards in
+    let one : chosen_count s.chosen ≡ 1 = ap chosen_count at in
+    let many = is.counted in
+    let more = ready.many in
+    let few = is.few in
+    let len = length-append s.journal (r ∷ []) in
+    elim (cases_eq (suc (length s.journal)) FOLD) [
+      | inl full ↦
+        let folded = length-append s.checkpoint.folded (map folded_of j') in
+        let size = length-map j' folded_of in
+        subst (λ (b : Bool). IsExecutor (record s { ready = ready'; chosen = None; journal = if b then [] else j'; checkpoint = if b then folds s.checkpoint j' rows else s.checkpoint; fields = rows })) (sym (eq-eqb (suc (length s.journal)) FOLD full))
+        (record {
+          lawful = tt;
+          replayed = refl;
+          runs = tt;
+          kept = λ t has start. subst (λ (fs : List (List ℤ)). IsTrue (holds (Some t) fs)) (sym replayed) (stays s.script s.executor s.checkpoint.fields j' t runs has (is.kept t has start));
+          counted = omega (arith, one, many, more, len, folded, size);
+          few = omega arith;
+          front = ready.front;
+          behind = ready.behind;
+          led = ready.led;
+          chosen = tt;
+        })
+      | inr more_room ↦
+        subst (λ (b : Bool). IsExecutor (record s { ready = ready'; chosen = None; journal = if b then [] else j'; checkpoint = if b then folds s.checkpoint j' rows else s.checkpoint; fields = rows })) (sym (ne_eqb (suc (length s.journal)) FOLD more_room))
+        (record {
+          lawful = lawful;
+          replayed = replayed;
+          runs = runs;
+          kept = is.kept;
+          counted = omega (arith, one, many, more, len);
+          few = omega (arith, few, len, more_room);
+          front = ready.front;
+          behind = ready.behind;
+          led = ready.led;
+          chosen = tt;
+        })
+    ]
+
+-- what is left of a journal and a checkpoint that are settled
+pub settled : (copy : Option (Vec (Vec ℤ Global) Global)) (room room' : CheckpointRoom) (journal : List RecordView) (r : RecordView) (j' : List RecordView) (rows : List (List ℤ)) → length journal < FOLD → HasFoldRoom copy room (journal ++ r ∷ []) rows
+    → Settles copy (journal ++ r ∷ []) j' room room' → (j' ≡ journal_with journal r) × (room'.view ≡ checkpoint_with room.view journal r rows)
+settled None room room' journal r j' rows few has is =
+    let len = length-append journal (r ∷ []) in
+    let no = ne_eqb (suc (length journal)) FOLD (λ e. omega (arith, has, len, e)) in
+    (
+      is.0 ∙ sym (ap (λ (b : Bool). if b then [] else (journal ++ r ∷ [])) no),
+      is.1 ∙ sym (ap (λ (b : Bool). if b then folds room.view (journal ++ r ∷ []) rows else room.view) no),
+    )
+settled (Some copy) room room' journal r j' rows few has is =
+    let len = length-append journal (r ∷ []) in
+    let full = has.0 in
+    let yes = eq-eqb (suc (length journal)) FOLD (omega (arith, full, len, few)) in
+    (
+      is.0 ∙ sym (ap (λ (b : Bool). if b then [] else (journal ++ r ∷ [])) yes),
+      is.1 ∙ ap (λ (fs : List (List ℤ)). folds room.view (journal ++ r ∷ []) fs) has.1 ∙ sym (ap (λ (b : Bool). if b then folds room.view (journal ++ r ∷ []) rows else room.view) yes),
+    )
+
+-- the executor after a turn that was journalled
+pub record Done (book book' : BookView) (jobs jobs' : List JobView) (s new : ExecView) (c : ChosenView) : Type 0 where
+  pub keeps : IsExecutor new
+  pub journals : Journals book book' jobs jobs' s new c
+
+pub journalled : (book book' : BookView) (jobs jobs' : List JobView) (s : ExecView) (next : List (Vec ℤ Global)) (job : JobIs BodyView) (arrival : ℕ) (stage : Stage) (j1 j' : List RecordView) (copy : Option (Vec (Vec ℤ Global) Global)) (room room' : CheckpointRoom) (ready' : ReadyIs BodyView)
+    → ((script : ScriptView) (fields : List (List ℤ)) (rs : List RecordView) (r : RecordView) → LawfulGrows script fields rs r) → InvariantsStay
+    → IsExecutor s → s.chosen ≡ Some (record { job = job; arrival = arrival; stage = stage_of next stage }) → IsPlayed (stage_of next stage) → WritesRecord stage job s.journal j1 → room.view ≡ s.checkpoint → HasFoldRoom copy room j1 (rows_of next)
+    → Settles copy j1 j' room room' → Forwards s.ready job.task ready' → AppliesTurn book book' job (stage_of [] stage) jobs jobs'
+    → Done book book' jobs jobs' s (record s { ready = ready'; chosen = None; journal = j'; checkpoint = room'.view; fields = rows_of next }) (record { job = job; arrival = arrival; stage = stage_of next stage })
+journalled book book' jobs jobs' s next job arrival Picked j1 j' copy room room' ready' grows stays is at was wrote view has settles forwards applied = absurd was
+journalled book book' jobs jobs' s next job arrival (Begun worker env) j1 j' copy room room' ready' grows stays is at was wrote view has settles forwards applied = absurd was
+journalled book book' jobs jobs' s next job arrival (PlayedStage worker env p) j1 j' copy room room' ready' grows stays is at was wrote view has settles forwards applied =
+    let frame = frame_view p.frame in
+    let effects = effect_views p.effects.items in
+    let exit = exit_view p.exit in
+    let rows = rows_of next in
+    let r = record_by job worker env frame effects exit in
+    let c : ChosenView = record { job = job; arrival = arrival; stage = played worker env frame rows effects exit } in
+    let chosen : IsChosen s c = subst (λ (o : Option ChosenView). IfSome o (IsChosen s)) at is.chosen in
+    let has' = subst (λ (j : List RecordView). HasFoldRoom copy room j rows) wrote has in
+    let settles' = subst (λ (j : List RecordView). Settles copy j j' room room') wrote settles in
+    let done = settled copy room room' s.journal r j' rows is.few has' settles' in
+    let checkpoint : room'.view ≡ checkpoint_with s.checkpoint s.journal r rows = done.1 ∙ ap (λ (v : CheckpointView). checkpoint_with v s.journal r rows) view in
+    let rec = recorded s.script s.executor s.fields rows job worker env frame effects exit chosen.belongs chosen.plays in
+    let keeps = turn_keeps s c ready' r rows grows stays is at forwards rec in
+    let same : record s { ready = ready'; chosen = None; journal = j'; checkpoint = room'.view; fields = rows }
+        ≡ record s { ready = ready'; chosen = None; journal = journal_with s.journal r; checkpoint = checkpoint_with s.checkpoint s.journal r rows; fields = rows } =
+    ap (λ (j : List RecordView). record s { ready = ready'; chosen = None; journal = j; checkpoint = room'.view; fields = rows }) done.0
+    ∙ ap (λ (v : CheckpointView). record s { ready = ready'; chosen = None; journal = journal_with s.journal r; checkpoint = v; fields = rows }) checkpoint in
+    record {
+      keeps = subst (λ (v : ExecView). IsExecutor v) (sym same) keeps;
+      journals = record {
+        worker = worker;
+        env = env;
+        frame = frame;
+        fields = rows;
+        effects = effects;
+        exit = exit;
+        was = refl;
+        book_is = applied.book_is;
+        made = applied.made;
+        forwards = forwards;
+        same = same;
+      };
+    }
+
+-- a record that was written and taken back
+pub retracted : (next : List (Vec ℤ Global)) (stage : Stage) (job : JobIs BodyView) (old new : List RecordView) → IsPlayed (stage_of next stage) → WritesRecord stage job old new → take (length new - 1) new ≡ old
+retracted next Picked job old new was wrote = absurd was
+retracted next (Begun worker env) job old new was wrote = absurd was
+retracted next (PlayedStage worker env p) job old new was wrote =
+    let r = record_by job worker env (frame_view p.frame) (effect_views p.effects.items) (exit_view p.exit) in
+    let len = length-append old (r ∷ []) in
+    ap (λ (xs : List RecordView). take (length xs - 1) xs) wrote ∙ take_at old (r ∷ []) (length (old ++ r ∷ []) - 1) (omega (arith, len))

@@ -1,0 +1,82 @@
+-- What a turn that was played leaves.
+use Rattle.std.proofs.Common.{◌≡◌, ◌<◌, ℕ, ℤ, Option, Some, None, IfSome, List, [], ◌∷◌, refl, ap, sym, subst, ◌∙◌}
+use Rattle.std.specs.declared.vec.Vec.{Vec}
+use Rattle.std.specs.declared.alloc.Global.{Global}
+use Rattle.script_code.specs.Seen.{rows_of}
+use Rattle.script_code.specs.declared.env.Env.{Env}
+use Rattle.swift_types.specs.declared.id.TaskId.{TaskId}
+use Rattle.swift_types.specs.declared.outcome.Resume.{Resume}
+use Rattle.swift_script.specs.Scripts.{ScriptView, actor_executor, method_actor, method_count}
+use Rattle.swift_interpreter.specs.Frames.{FrameView, effect_views, frame_view}
+use Rattle.swift_interpreter.specs.Turn.{EffectView, ExitView}
+use Rattle.swift_interpreter.specs.TurnStates.{exit_view}
+use Rattle.swift_turn.specs.Body.{BodyView, HasFirst, IsTurnOf, Polls, TaskView, callers_of, entered, left}
+use Rattle.swift_queue.specs.Job.{JobIs}
+use Rattle.swift_history.specs.TurnEnds.{JobView}
+use Rattle.swift_tasks.specs.Books.{job_view}
+use Rattle.swift_executor.specs.Playing.{JobTurned, JobUnturned}
+use Rattle.swift_executor.specs.StateInside.{stage_of}
+use Rattle.swift_executor.specs.declared.chosen.Stage.{Stage}
+use Rattle.swift_executor.specs.declared.chosen.Stage.TheVariants.{Picked, Begun, Played as PlayedStage}
+use Rattle.swift_executor.specs.State.{BelongsTo, HasPlayed, IsBegun, before_turn, played}
+use Rattle.swift_executor.specs.declared.chosen.Played.{Played}
+
+-- the frames of a task that has had a turn
+pub record FramesPlayed (script : ScriptView) (executor : ℕ) (outer : List (ℕ × ℤ)) (fields rows : List (List ℤ)) (resume : Resume) (env : Env) (frame : FrameView) (effects : List EffectView) (exit : ExitView) (old new : List FrameView) : Type 0 where
+  pub plays : HasFirst new (λ f. (f.method ≡ frame.method) × IsTurnOf script frame outer fields resume env f (left rows effects exit))
+  pub same : frame ∷ callers_of new ≡ old
+  pub top : HasFirst new (λ f. actor_executor script (method_actor script f.method) ≡ executor)
+
+frames_played : (script : ScriptView) (executor : ℕ) (outer : List (ℕ × ℤ)) (fields rows : List (List ℤ)) (resume : Resume) (env : Env) (frame : FrameView) (effects : List EffectView) (exit : ExitView) (old new : List FrameView)
+    → HasFirst old (λ f. f ≡ frame) → HasFirst old (λ f. actor_executor script (method_actor script f.method) ≡ executor) → Polls script outer old (entered fields resume env) new (left rows effects exit)
+    → FramesPlayed script executor outer fields rows resume env frame effects exit old new
+frames_played script executor outer fields rows resume env frame effects exit [] new first top polls = absurd first
+frames_played script executor outer fields rows resume env frame effects exit (f ∷ callers) [] first top polls = absurd polls
+frames_played script executor outer fields rows resume env frame effects exit (f ∷ callers) (g ∷ others) first top polls =
+    let is = subst (λ (p : FrameView). IsTurnOf script p outer fields resume env g (left rows effects exit)) first polls.1 in
+    record {
+      plays = (is.0, is);
+      same = ap (λ (p : FrameView). p ∷ others) (sym first) ∙ ap (λ (ps : List FrameView). f ∷ ps) polls.0;
+      top = ap (λ (m : ℕ). actor_executor script (method_actor script m)) (is.0 ∙ sym (ap (λ (p : FrameView). p.method) first)) ∙ top;
+    }
+
+-- what is known of a job that has had its turn
+pub record IsTurned (script : ScriptView) (executor : ℕ) (fields rows : List (List ℤ)) (env : Env) (worker : ℕ) (old new : JobIs BodyView) (p : Played) : Type 0 where
+  pub plays : HasPlayed script fields new (played worker env (frame_view p.frame) rows (effect_views p.effects.items) (exit_view p.exit))
+  pub same_job : before_turn (played worker env (frame_view p.frame) rows (effect_views p.effects.items) (exit_view p.exit)) new ≡ job_view old
+  pub belongs : BelongsTo script executor new
+
+pub turned : (script : ScriptView) (executor : ℕ) (fields rows : List (List ℤ)) (env : Env) (worker : ℕ) (old new : JobIs BodyView) (p : Played) → BelongsTo script executor old → JobTurned old new fields env rows p
+    → IsTurned script executor fields rows env worker old new p
+turned script executor fields rows env worker old new p belongs is =
+    let frame = frame_view p.frame in
+    let effects = effect_views p.effects.items in
+    let exit = exit_view p.exit in
+    let polls = subst (λ (s : ScriptView). Polls s old.body.task.outer old.body.task.frames (entered fields old.resume env) new.body.task.frames (left rows effects exit)) belongs.script_is is.body.turn in
+    let h = frames_played script executor old.body.task.outer fields rows old.resume env frame effects exit old.body.task.frames new.body.task.frames is.body.frame belongs.top polls in
+    let outer : new.body.task.outer ≡ old.body.task.outer = is.body.outer in
+    let one = subst (λ (o : List (ℕ × ℤ)). HasFirst new.body.task.frames (λ f. (f.method ≡ frame.method) × IsTurnOf script frame o fields old.resume env f (left rows effects exit))) (sym outer) h.plays in
+    let two = subst (λ (r : Resume). HasFirst new.body.task.frames (λ f. (f.method ≡ frame.method) × IsTurnOf script frame new.body.task.outer fields r env f (left rows effects exit))) (sym is.resume) one in
+    record {
+      plays = (subst (λ (s : ScriptView). p.frame.method.0 < method_count s) belongs.script_is is.body.method, two);
+      same_job =
+          ap (λ (t : TaskId). record { task = t.0; number = new.number; resume = new.resume; frames = record { frames = frame ∷ callers_of new.body.task.frames; outer = new.body.task.outer } }) is.task
+          ∙ ap (λ (n : ℕ). record { task = old.task.0; number = n; resume = new.resume; frames = record { frames = frame ∷ callers_of new.body.task.frames; outer = new.body.task.outer } }) is.number
+          ∙ ap (λ (r : Resume). record { task = old.task.0; number = old.number; resume = r; frames = record { frames = frame ∷ callers_of new.body.task.frames; outer = new.body.task.outer } }) is.resume
+          ∙ ap (λ (fs : List FrameView). record { task = old.task.0; number = old.number; resume = old.resume; frames = record { frames = fs; outer = new.body.task.outer } }) h.same
+          ∙ ap (λ (o : List (ℕ × ℤ)). record { task = old.task.0; number = old.number; resume = old.resume; frames = record { frames = old.body.task.frames; outer = o } }) outer;
+      belongs = record { script_is = is.body.script ∙ belongs.script_is; top = h.top };
+    }
+
+-- a job that has had no turn is one of the executor
+pub unturned : (script : ScriptView) (executor : ℕ) (old new : JobIs BodyView) → BelongsTo script executor old → JobUnturned old new → BelongsTo script executor new
+unturned script executor old new belongs is = record {
+  script_is = is.body.script ∙ belongs.script_is;
+  top = subst (λ (t : TaskView). HasFirst t.frames (λ f. actor_executor script (method_actor script f.method) ≡ executor)) (sym is.body.task) belongs.top;
+}
+
+-- nothing was played where a turn has only begun
+pub begun_plays : (script : ScriptView) (fields : List (List ℤ)) (j : JobIs BodyView) (next next' : List (Vec ℤ Global)) (stage : Stage) → IsBegun (stage_of next stage) → HasPlayed script fields j (stage_of next' stage)
+begun_plays script fields j next next' Picked is = absurd is
+begun_plays script fields j next next' (Begun worker env) is = tt
+begun_plays script fields j next next' (PlayedStage worker env p) is = absurd is

@@ -1,0 +1,8 @@
+use Rattle.std.proofs.Common.{◌≡◌, List, ap, sym, subst, ◌∙◌}
+use Rattle.swift_types.specs.declared.id.TaskId.{TaskId}
+use Rattle.swift_executor.specs.Ready.{tasks_in, times}
+use Rattle.swift_executor.specs.State.{ExecView}
+use Rattle.swift_executor.proofs.state.ExecState.ready.Goals as goal
+
+pub returns : goal.returns
+returns c = λ t. c.tasks.ensures t ∙ ap (λ (v : ExecView). times t (tasks_in v.ready)) c.self.view_is

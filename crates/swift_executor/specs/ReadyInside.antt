@@ -1,0 +1,42 @@
+-- What the ready jobs keep. No public clause names these.
+use Rattle.std.specs.Prelude.{Bool, true, false, ◌≡◌, ℕ, ◌+◌, ◌<◌, ◌≤◌, ◌^◌, List, ◌++◌, length, map, slice_index_or, All, vec_capacity}
+use Rattle.swift_types.specs.declared.id.TaskId.{TaskId}
+use Rattle.swift_queue.specs.Job.{JobIs}
+use Rattle.swift_queue.specs.Picks.{IsOlder, PicksFirst}
+use Rattle.swift_types.specs.declared.limits.TheConstants.{TASKS}
+use Rattle.swift_queue.specs.declared.waiting.Waiting.{Waiting}
+use Rattle.swift_executor.specs.declared.ready.Ready.TheInside.{Inside}
+use Rattle.swift_executor.specs.Ready.{ReadyJob, level_at, priority_of, times}
+
+abbrev pub job_of : {B : Type 0} → Waiting B → ReadyJob B
+job_of w = record { job = w.job; arrival = w.arrival }
+
+abbrev pub task_of : {B : Type 0} → Waiting B → TaskId
+task_of w = w.job.task
+
+abbrev pub task_in : {B : Type 0} → JobIs B → TaskId
+task_in j = j.task
+
+-- a job of the task stands at this place
+pub record HasTaskAt {B : Type 0} (jobs : List (JobIs B)) (task : TaskId) (place : ℕ) : Type 0 where
+  pub within : place < length jobs
+  pub task_is : (d : JobIs B) → (slice_index_or jobs place d).task ≡ task
+
+-- how a queue picks, by arrival alone or by priority first
+abbrev pub Comes : {B : Type 0} → Bool → Waiting B → Waiting B → Type 0
+Comes true = IsOlder
+Comes false = PicksFirst
+
+-- each job waits with the priority of its task's level
+abbrev pub AreCounted : {B : Type 0} → List ℕ → List (Waiting B) → Type 0
+AreCounted levels jobs = All (λ w. w.priority ≡ priority_of (level_at levels w.job.task)) jobs
+
+pub record ReadyInvariant {B : Type 0} (r : Inside B) : Type 0 where
+  pub counted : AreCounted r.levels.items r.queue.jobs
+  pub tasks : (t : TaskId) → times t r.tasks.tasks ≡ times t (map task_of r.queue.jobs ++ map task_in r.behind.items)
+  pub many : length r.tasks.tasks ≡ length r.queue.jobs + length r.behind.items
+  pub inside : length r.queue.jobs + length r.behind.items ≤ r.queue.room
+  pub number : r.queue.arrived + length r.behind.items < 2 ^ 64
+  pub behind_room : r.queue.room ≤ vec_capacity r.behind
+  pub tasks_room : r.queue.room ≤ r.tasks.room
+  pub levels : length r.levels.items ≡ TASKS

@@ -1,0 +1,47 @@
+//! Why an executor refuses.
+
+use std::alloc::AllocError;
+use swift_tasks::BookFault;
+use thiserror::Error;
+
+/// Why an executor refuses a call (our own). Its fields, its journal and its jobs are then as they were.
+#[derive(Clone, Copy, Debug, PartialEq, Eq, Error)]
+pub enum ExecFault {
+    /// A growth was refused.
+    #[error("X1 no memory")]
+    Memory,
+    /// The executor is pinned to another worker.
+    #[error("X2 wrong worker")]
+    Worker,
+    /// There is no room for another job.
+    #[error("X3 full")]
+    Full,
+    /// The book refused, for another reason than memory.
+    #[error("X4 refused by the book: {0}")]
+    Refused(BookFault),
+}
+
+impl From<AllocError> for ExecFault {
+    ghost use Rattle.std.specs.Prelude.{◌≡◌};
+    ghost use Rattle.swift_executor.specs.declared.fault.ExecFault.TheVariants.{Memory};
+
+    ghost from_gives = { λ _ fault. fault ≡ Memory };
+
+    fn from(_e: AllocError) -> ExecFault {
+        ExecFault::Memory
+    }
+}
+
+impl From<BookFault> for ExecFault {
+    ghost use Rattle.std.specs.Prelude.{◌≡◌};
+    ghost use Rattle.swift_executor.specs.Refusals.{fault_of};
+
+    ghost from_gives = { λ cause fault. fault ≡ fault_of cause };
+
+    fn from(cause: BookFault) -> ExecFault {
+        match cause {
+            BookFault::Memory => ExecFault::Memory,
+            _ => ExecFault::Refused(cause),
+        }
+    }
+}

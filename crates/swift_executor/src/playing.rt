@@ -1,0 +1,182 @@
+//! How a job is played, put back and written.
+
+ghost use Rattle.std.specs.Prelude.{◌≡◌, ◌<◌, ◌++◌, [], ◌∷◌, IfErr, IfOk, OnErr, OnOk, List, ℤ, length};
+ghost use Rattle.futures.specs.Task.{Keeps};
+ghost use Rattle.script_code.specs.Seen.{rows_of};
+ghost use Rattle.swift_types.specs.declared.limits.TheConstants.{FOLD};
+ghost use Rattle.swift_interpreter.specs.TurnStates.{exit_view};
+ghost use Rattle.swift_journal.specs.Records.{frame_if_lent};
+ghost use Rattle.swift_tasks.specs.Books.{job_view};
+ghost use Rattle.swift_interpreter.specs.Frames.{frame_view};
+ghost use Rattle.swift_script.specs.Scripts.{method_count};
+ghost use Rattle.swift_turn.specs.Body.{IsRunning, callers_of};
+ghost use Rattle.swift_executor.specs.Playing.{CanGoBack, HasFoldRoom, HasTurned, IsUnturned, JobTurned, JobUnturned, Settles, WritesRecord};
+ghost use Rattle.swift_executor.specs.State.{before_turn, frame_after};
+ghost use Rattle.swift_executor.specs.StateInside.{stage_of};
+
+use crate::chosen::{Played, Stage};
+use futures::task::Context;
+use script_code::Env;
+use std::alloc::{AllocError, Global};
+use swift_interpreter::{Exit, Frame};
+use swift_journal::{Checkpoint, Journal, Record};
+use swift_queue::Job;
+use swift_turn::{Body, run_turn};
+use swift_types::Resume;
+use swift_types::limits::FOLD;
+
+/// Makes rows those of others. Where a growth is refused they mean nothing.
+pub fn copy_into(
+    alloc: Global,
+    rows: &mut Vec<Vec<i64>>,
+    from: &[Vec<i64>],
+) -> Result<(), AllocError>
+    ensures { OnOk result (rows_of rows.new.items ≡ rows_of from.now) }
+{
+    rows.clear();
+    for row in from {
+        rows.push(Vec::from_slice(alloc, row)?)?;
+    }
+    Ok(())
+}
+
+// Runs a turn of a body on these fields. Where there is no memory for it, the fields come back as rows that mean nothing.
+fn play_body(
+    body: &mut Body,
+    cx: &mut Context<'_>,
+    fields: Vec<Vec<i64>>,
+    resume: Resume,
+    env: Env,
+) -> Result<(Vec<Vec<i64>>, Played), Vec<Vec<i64>>>
+    requires { IsRunning body.old }
+    ensures ok { IfOk result (λ r. HasTurned body.old body.new (rows_of fields.items) resume env (rows_of r.0.items) r.1) }
+    ensures err { OnErr result (IsUnturned body.old body.new) }
+    ensures kept { Keeps cx.old cx.new }
+{
+    let Ok(frame) = body.frame() else {
+        return Err(fields);
+    };
+    match run_turn(body, cx, fields, resume, env) {
+        Ok((fields, effects, exit)) => Ok((
+            fields,
+            Played {
+                frame,
+                effects,
+                exit,
+            },
+        )),
+        Err((fields, _)) => Err(fields),
+    }
+}
+
+/// Runs the turn of a job on these fields. Where there is no memory for it, the job has had none.
+pub fn play_job(
+    job: Job<Body>,
+    cx: &mut Context<'_>,
+    fields: Vec<Vec<i64>>,
+    env: Env,
+) -> (Job<Body>, Result<(Vec<Vec<i64>>, Played), Vec<Vec<i64>>>)
+    requires { IsRunning job.body }
+    ensures ok { IfOk result.1 (λ r. JobTurned job result.0 (rows_of fields.items) env (rows_of r.0.items) r.1) }
+    ensures err { OnErr result.1 (JobUnturned job result.0) }
+    ensures kept { Keeps cx.old cx.new }
+{
+    let (task, number, resume, mut body) = job.spend();
+    let played = play_body(&mut body, cx, fields, resume, env);
+    (Job::new(task, number, resume, body), played)
+}
+
+/// The job with this frame in place of the one that runs.
+pub fn with_frame(job: Job<Body>, frame: Frame) -> Job<Body>
+    requires running { IsRunning job.body }
+    requires method { frame.method.0 < method_count job.body.script }
+    ensures job { job_view result ≡ record (job_view job) { frames = record { frames = frame_view frame ∷ callers_of job.body.task.frames; outer = job.body.task.outer } } }
+    ensures script { result.body.script ≡ job.body.script }
+{
+    let (task, number, resume, mut body) = job.spend();
+    body.put_back(frame);
+    Job::new(task, number, resume, body)
+}
+
+/// The job as it was when it was chosen.
+pub fn as_chosen(job: Job<Body>, stage: Stage) -> Job<Body>
+    requires running { IsRunning job.body }
+    requires frame { CanGoBack job stage }
+    ensures job { job_view result ≡ before_turn (stage_of [] stage) job }
+    ensures script { result.body.script ≡ job.body.script }
+{
+    match stage {
+        Stage::Picked | Stage::Begun(_, _) => job,
+        Stage::Played(_, _, played) => {
+            let Played {
+                frame,
+                effects: _,
+                exit: _,
+            } = played;
+            with_frame(job, frame)
+        }
+    }
+}
+
+// The frame after a turn that ended so, where one goes on.
+fn after<'a>(body: &'a Body, exit: &Exit) -> Option<&'a Frame>
+    requires { IsRunning body.now }
+    ensures { frame_if_lent result ≡ frame_after (exit_view exit.now) body.now.task.frames }
+{
+    match exit {
+        Exit::Return(_) | Exit::Fault(_) => None,
+        _ => Some(body.top()),
+    }
+}
+
+/// Writes the record of a turn that was played.
+pub fn write_record(journal: &mut Journal, job: &Job<Body>, stage: &Stage) -> Result<(), AllocError>
+    requires { IsRunning job.now.body }
+    ensures ok { OnOk result (WritesRecord stage.now job.now journal.old journal.new) }
+    ensures err { OnErr result (journal.new ≡ journal.old) }
+{
+    let Stage::Played(worker, env, played) = stage else {
+        return Ok(());
+    };
+    journal.push(&Record {
+        task: job.task(),
+        number: job.number(),
+        worker: *worker,
+        frame: &played.frame,
+        outer: job.body().outer(),
+        resume: job.resume(),
+        env: *env,
+        exit: &played.exit,
+        effects: &played.effects,
+        after: after(job.body(), &played.exit),
+    })
+}
+
+/// Makes room for folding a journal, where it is full, with the fields after it.
+pub fn room_to_fold(
+    alloc: Global,
+    journal: &Journal,
+    checkpoint: &mut Checkpoint,
+    fields: &[Vec<i64>],
+) -> Result<Option<Vec<Vec<i64>>>, AllocError>
+    ensures same { checkpoint.new.view ≡ checkpoint.old.view }
+    ensures ok { IfOk result (λ copy. HasFoldRoom copy checkpoint.new journal.now (rows_of fields.now)) }
+{
+    if journal.len() < FOLD {
+        return Ok(None);
+    }
+    let mut copy = Vec::new(alloc);
+    copy_into(alloc, &mut copy, fields)?;
+    checkpoint.make_room(journal)?;
+    Ok(Some(copy))
+}
+
+/// Folds a journal for which there is room.
+pub fn settle(journal: &mut Journal, checkpoint: &mut Checkpoint, copy: Option<Vec<Vec<i64>>>)
+    requires { (rows : List (List ℤ)) × HasFoldRoom copy checkpoint.old journal.old rows }
+    ensures { Settles copy journal.old journal.new checkpoint.old checkpoint.new }
+{
+    if let Some(copy) = copy {
+        checkpoint.fold(journal, copy);
+    }
+}
