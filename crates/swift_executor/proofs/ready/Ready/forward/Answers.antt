@@ -84,6 +84,6 @@ returns g c =
       task,
       IsPermutation-map job_of (w ∷ x.queue.jobs) c.put.new.self.jobs c.put.ensures.jobs,
       ap (λ (js : List (JobIs g.row.B.Denot)). record new { behind = js }) c.remove-job.ensures.items
-      ∙ ap (λ (n : ℕ). record old { front = new.front; behind = take c.in-Some.place x.behind.items ++ drop (suc c.in-Some.place) x.behind.items; room = n; arrived = new.arrived }) c.put.ensures.room
-      ∙ ap (λ (n : ℕ). record old { front = new.front; behind = take c.in-Some.place x.behind.items ++ drop (suc c.in-Some.place) x.behind.items; arrived = n }) c.put.ensures.arrived,
+          ∙ ap (λ (n : ℕ). record old { front = new.front; behind = take c.in-Some.place x.behind.items ++ drop (suc c.in-Some.place) x.behind.items; room = n; arrived = new.arrived }) c.put.ensures.room
+          ∙ ap (λ (n : ℕ). record old { front = new.front; behind = take c.in-Some.place x.behind.items ++ drop (suc c.in-Some.place) x.behind.items; arrived = n }) c.put.ensures.arrived,
     ))
