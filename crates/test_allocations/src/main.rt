@@ -14,6 +14,8 @@
 mod again;
 // Allocations before all others.
 mod ballast;
+// A book of tasks.
+mod book;
 // Priorities of tasks that wait.
 mod escalation;
 // Task groups.
@@ -42,6 +44,7 @@ fn main(rt: HostRuntime) -> ExitCode {
     if let Some(found) = script::read_again(&rt, script::WORK) {
         let _ = turn::play_root(&rt, &found);
         let _ = script::print_again(&rt, script::WORK, &found);
+        book::play_again(&rt, &found);
     }
     locals::bind_again(&rt);
     groups::open_again(&rt);
