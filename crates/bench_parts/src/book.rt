@@ -62,11 +62,13 @@ fn fill(
 ) -> Result<(), BenchFault> {
     let root = book.add_root(RootId(0))?;
     keep(jobs, root)?;
-    while jobs.len() < entries {
-        let more = (entries - jobs.len()).min(MADE);
-        let root = jobs.len() - 1;
-        let effects = spawns(alloc, more)?;
-        turn(book, jobs, root, effects)?;
+    for _ in 0..entries {
+        let count = jobs.len();
+        if count >= entries {
+            break;
+        }
+        let effects = spawns(alloc, (entries - count).min(MADE))?;
+        turn(book, jobs, count.saturating_sub(1), effects)?;
     }
     Ok(())
 }
