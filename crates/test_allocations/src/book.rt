@@ -138,7 +138,9 @@ fn apply_again(
         match book.apply(job, exit, effects, jobs) {
             Ok(()) => return,
             Err((back, done, fault)) => {
-                let is_same = back.task() == task && back.number() == number && back.resume() == resume;
+                let is_same = back.task() == task
+                    && back.number() == number
+                    && back.resume() == resume;
                 let is_whole = done.len() == count && jobs.len() == few && seen(book) == before;
                 let is_promised = fault.is_want_of_memory() && is_same && is_whole;
                 refused(rt, "Book::apply", is_promised);

@@ -37,10 +37,7 @@ fn method_of(script: &Script, actor: ActorId, word: &str) -> Result<MethodId, Ca
 
 // A method with its arguments, by one word.
 fn invocation(alloc: Global, script: &Script, word: &str) -> Result<Invocation, CaseFault> {
-    let Some((called, args)) = word
-        .strip_suffix(')')
-        .and_then(|rest| rest.split_once('('))
-    else {
+    let Some((called, args)) = word.strip_suffix(')').and_then(|rest| rest.split_once('(')) else {
         return Err(CaseFault::Form);
     };
     let Some((actor, method)) = called.split_once('.') else {
@@ -68,10 +65,7 @@ fn bindings(alloc: Global, words: &[&str]) -> Result<Bindings, CaseFault> {
 }
 
 // A priority that may be given, and bindings.
-fn rest_of(
-    alloc: Global,
-    words: &[&str],
-) -> Result<(Option<Priority>, Bindings), CaseFault> {
+fn rest_of(alloc: Global, words: &[&str]) -> Result<(Option<Priority>, Bindings), CaseFault> {
     match *words {
         [] => Ok((None, Bindings::new(alloc))),
         ["at", priority] => Ok((Some(priority_of(priority)?), Bindings::new(alloc))),

@@ -59,7 +59,13 @@ fn first_body(alloc: Global, script: &Arc<Script>) -> Result<Body, AllocError>
     requires { 0 < method_count (arc_value script.now) }
 {
     let none = Bindings::new(alloc);
-    Body::start(alloc, Arc::clone(script)?, MethodId(0), Vec::new(alloc), none)
+    Body::start(
+        alloc,
+        Arc::clone(script)?,
+        MethodId(0),
+        Vec::new(alloc),
+        none,
+    )
 }
 
 /// The actor of this name.
