@@ -3,7 +3,8 @@
 //!
 //! A case is a line `== TITLE`, a script, a line `--`, and a line for each call, up to the next such line. What stands before
 //! the first case is a comment, and so is a line of calls that begins with `//`. Each case has a book of its own, and ends by
-//! closing it. No turn is played: a line says what a turn has done.
+//! closing it: its last lines are the number of events, how many jobs were given and not applied, and the jobs of tasks that
+//! wait. No turn is played: a line says what a turn has done.
 //!
 //! ```text
 //! root ROOT             adds a root
