@@ -26,9 +26,9 @@ stands t [] lt = absurd (omega (arith, lt))
 stands t (x ∷ xs) lt = elim (cases_eq x.0 t.0) [
   | inl e ↦ subst (λ (y : TaskId). Contains (x ∷ xs) y) (ap (λ (n : ℕ). record { 0 = n }) e) (Contains-append_left (x ∷ []) xs x (Contains-push [] x))
   | inr ne ↦
-    let none : cond {A = ℕ} (eqb x.0 t.0) 1 0 ≡ 0 = ap (λ (b : Bool). cond {A = ℕ} b 1 0) (ne_eqb x.0 t.0 ne) in
-    let all = sum_by-cons (λ (y : TaskId). cond (eqb y.0 t.0) 1 0) x xs in
-    Contains-append_right (x ∷ []) xs t (stands t xs (omega (arith, lt, none, all)))
+      let none : cond {A = ℕ} (eqb x.0 t.0) 1 0 ≡ 0 = ap (λ (b : Bool). cond {A = ℕ} b 1 0) (ne_eqb x.0 t.0 ne) in
+      let all = sum_by-cons (λ (y : TaskId). cond (eqb y.0 t.0) 1 0) x xs in
+      Contains-append_right (x ∷ []) xs t (stands t xs (omega (arith, lt, none, all)))
 ]
 
 -- the priority of a greater level is no lower
@@ -135,19 +135,19 @@ module _ {B : Type 0} where
       → w.priority ≡ priority_of (level_at levels w.job.task) → (raised task (priority_of l) w).priority ≡ priority_of (level_at levels' w.job.task)
   counted_one levels levels' task l w lt at others is = elim (cases_eq w.job.task.0 task.0) [
     | inl e ↦
-      let same : w.job.task ≡ task = ap (λ (n : ℕ). record { 0 = n }) e in
-      let here : level_at levels' w.job.task ≡ l = ap (level_at levels') same ∙ at in
-      let was : w.priority ≡ priority_of (level_at levels task) = is ∙ ap (λ (t : TaskId). priority_of (level_at levels t)) same in
-      raised_priority task (priority_of l) w
-      ∙ ap (λ (b : Bool). if b && nat_lt (rank w.priority) (rank (priority_of l)) then priority_of l else w.priority) (eq-eqb w.job.task.0 task.0 e)
-      ∙ ap (λ (p : Priority). if nat_lt (rank p) (rank (priority_of l)) then priority_of l else p) was
-      ∙ greater (level_at levels task) l lt
-      ∙ ap priority_of (sym here)
+        let same : w.job.task ≡ task = ap (λ (n : ℕ). record { 0 = n }) e in
+        let here : level_at levels' w.job.task ≡ l = ap (level_at levels') same ∙ at in
+        let was : w.priority ≡ priority_of (level_at levels task) = is ∙ ap (λ (t : TaskId). priority_of (level_at levels t)) same in
+        raised_priority task (priority_of l) w
+        ∙ ap (λ (b : Bool). if b && nat_lt (rank w.priority) (rank (priority_of l)) then priority_of l else w.priority) (eq-eqb w.job.task.0 task.0 e)
+        ∙ ap (λ (p : Priority). if nat_lt (rank p) (rank (priority_of l)) then priority_of l else p) was
+        ∙ greater (level_at levels task) l lt
+        ∙ ap priority_of (sym here)
     | inr ne ↦
-      raised_priority task (priority_of l) w
-      ∙ ap (λ (b : Bool). if b && nat_lt (rank w.priority) (rank (priority_of l)) then priority_of l else w.priority) (ne_eqb w.job.task.0 task.0 ne)
-      ∙ is
-      ∙ ap priority_of (sym (others w.job.task ne))
+        raised_priority task (priority_of l) w
+        ∙ ap (λ (b : Bool). if b && nat_lt (rank w.priority) (rank (priority_of l)) then priority_of l else w.priority) (ne_eqb w.job.task.0 task.0 ne)
+        ∙ is
+        ∙ ap priority_of (sym (others w.job.task ne))
   ]
 
   -- where the level of one task becomes greater, each job counts at the level of its task again

@@ -47,7 +47,7 @@ not_clear [] t some = absurd (some (All-nil (λ (x : ReadyJob BodyView). x.job.t
 not_clear (x ∷ front) t some = elim (cases_eq x.job.task.0 t.0) [
   | inl e ↦ subst (λ (y : TaskId). Contains (x.job.task ∷ map (λ x. x.job.task) front) y) (ap (λ (n : ℕ). record { 0 = n }) e) (Contains-append_left (x.job.task ∷ []) (map (λ x. x.job.task) front) x.job.task (Contains-push [] x.job.task))
   | inr ne ↦ Contains-append_right (x.job.task ∷ []) (map (λ x. x.job.task) front) t
-    (not_clear front t (λ clear. some (All-cons (λ (y : ReadyJob BodyView). y.job.task ≢ t) x front (λ e. ne (ap (λ (y : TaskId). y.0) e)) clear)))
+      (not_clear front t (λ clear. some (All-cons (λ (y : ReadyJob BodyView). y.job.task ≢ t) x front (λ e. ne (ap (λ (y : TaskId). y.0) e)) clear)))
 ]
 
 -- of a frame that has had a turn, the one before is of the same actor

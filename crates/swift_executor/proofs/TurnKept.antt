@@ -153,35 +153,35 @@ turn_keeps s c ready' r rows grows stays is at forwards rec =
     let len = length-append s.journal (r ∷ []) in
     elim (cases_eq (suc (length s.journal)) FOLD) [
       | inl full ↦
-        let folded = length-append s.checkpoint.folded (map folded_of j') in
-        let size = length-map j' folded_of in
-        subst (λ (b : Bool). IsExecutor (record s { ready = ready'; chosen = None; journal = if b then [] else j'; checkpoint = if b then folds s.checkpoint j' rows else s.checkpoint; fields = rows })) (sym (eq-eqb (suc (length s.journal)) FOLD full))
-        (record {
-          lawful = tt;
-          replayed = refl;
-          runs = tt;
-          kept = λ t has start. subst (λ (fs : List (List ℤ)). IsTrue (holds (Some t) fs)) (sym replayed) (stays s.script s.executor s.checkpoint.fields j' t runs has (is.kept t has start));
-          counted = omega (arith, one, many, more, len, folded, size);
-          few = omega arith;
-          front = ready.front;
-          behind = ready.behind;
-          led = ready.led;
-          chosen = tt;
-        })
+          let folded = length-append s.checkpoint.folded (map folded_of j') in
+          let size = length-map j' folded_of in
+          subst (λ (b : Bool). IsExecutor (record s { ready = ready'; chosen = None; journal = if b then [] else j'; checkpoint = if b then folds s.checkpoint j' rows else s.checkpoint; fields = rows })) (sym (eq-eqb (suc (length s.journal)) FOLD full))
+          (record {
+            lawful = tt;
+            replayed = refl;
+            runs = tt;
+            kept = λ t has start. subst (λ (fs : List (List ℤ)). IsTrue (holds (Some t) fs)) (sym replayed) (stays s.script s.executor s.checkpoint.fields j' t runs has (is.kept t has start));
+            counted = omega (arith, one, many, more, len, folded, size);
+            few = omega arith;
+            front = ready.front;
+            behind = ready.behind;
+            led = ready.led;
+            chosen = tt;
+          })
       | inr more_room ↦
-        subst (λ (b : Bool). IsExecutor (record s { ready = ready'; chosen = None; journal = if b then [] else j'; checkpoint = if b then folds s.checkpoint j' rows else s.checkpoint; fields = rows })) (sym (ne_eqb (suc (length s.journal)) FOLD more_room))
-        (record {
-          lawful = lawful;
-          replayed = replayed;
-          runs = runs;
-          kept = is.kept;
-          counted = omega (arith, one, many, more, len);
-          few = omega (arith, few, len, more_room);
-          front = ready.front;
-          behind = ready.behind;
-          led = ready.led;
-          chosen = tt;
-        })
+          subst (λ (b : Bool). IsExecutor (record s { ready = ready'; chosen = None; journal = if b then [] else j'; checkpoint = if b then folds s.checkpoint j' rows else s.checkpoint; fields = rows })) (sym (ne_eqb (suc (length s.journal)) FOLD more_room))
+          (record {
+            lawful = lawful;
+            replayed = replayed;
+            runs = runs;
+            kept = is.kept;
+            counted = omega (arith, one, many, more, len);
+            few = omega (arith, few, len, more_room);
+            front = ready.front;
+            behind = ready.behind;
+            led = ready.led;
+            chosen = tt;
+          })
     ]
 
 -- what is left of a journal and a checkpoint that are settled
@@ -189,16 +189,14 @@ pub settled : (copy : Option (Vec (Vec ℤ Global) Global)) (room room' : Checkp
     → Settles copy (journal ++ r ∷ []) j' room room' → (j' ≡ journal_with journal r) × (room'.view ≡ checkpoint_with room.view journal r rows)
 settled None room room' journal r j' rows few has is =
     let len = length-append journal (r ∷ []) in
-    let no = ne_eqb (suc (length journal)) FOLD (λ e. omega (arith, has, len, e)) in
-    (
+    let no = ne_eqb (suc (length journal)) FOLD (λ e. omega (arith, has, len, e)) in (
       is.0 ∙ sym (ap (λ (b : Bool). if b then [] else (journal ++ r ∷ [])) no),
       is.1 ∙ sym (ap (λ (b : Bool). if b then folds room.view (journal ++ r ∷ []) rows else room.view) no),
     )
 settled (Some copy) room room' journal r j' rows few has is =
     let len = length-append journal (r ∷ []) in
     let full = has.0 in
-    let yes = eq-eqb (suc (length journal)) FOLD (omega (arith, full, len, few)) in
-    (
+    let yes = eq-eqb (suc (length journal)) FOLD (omega (arith, full, len, few)) in (
       is.0 ∙ sym (ap (λ (b : Bool). if b then [] else (journal ++ r ∷ [])) yes),
       is.1 ∙ ap (λ (fs : List (List ℤ)). folds room.view (journal ++ r ∷ []) fs) has.1 ∙ sym (ap (λ (b : Bool). if b then folds room.view (journal ++ r ∷ []) rows else room.view) yes),
     )
@@ -230,7 +228,7 @@ journalled book book' jobs jobs' s next job arrival (PlayedStage worker env p) j
     let rec = recorded s.script s.executor s.fields rows job worker env frame effects exit chosen.belongs chosen.plays in
     let keeps = turn_keeps s c ready' r rows grows stays is at forwards rec in
     let same : record s { ready = ready'; chosen = None; journal = j'; checkpoint = room'.view; fields = rows }
-        ≡ record s { ready = ready'; chosen = None; journal = journal_with s.journal r; checkpoint = checkpoint_with s.checkpoint s.journal r rows; fields = rows } =
+    ≡ record s { ready = ready'; chosen = None; journal = journal_with s.journal r; checkpoint = checkpoint_with s.checkpoint s.journal r rows; fields = rows } =
     ap (λ (j : List RecordView). record s { ready = ready'; chosen = None; journal = j; checkpoint = room'.view; fields = rows }) done.0
     ∙ ap (λ (v : CheckpointView). record s { ready = ready'; chosen = None; journal = journal_with s.journal r; checkpoint = v; fields = rows }) checkpoint in
     record {

@@ -78,8 +78,8 @@ abbrev pub Forwards : {B : Type 0} → ReadyIs B → TaskId → ReadyIs B → Ty
 Forwards {B} r task new =
     (All (λ j. j.task ≢ task) r.behind × (new ≡ r))
     ⊎ ((before after : List (JobIs B)) × (job : JobIs B) × (r.behind ≡ before ++ job ∷ after) × All (λ j. j.task ≢ task) before × (job.task ≡ task)
-        × IsPermutation (ready_job job r.arrived ∷ r.front) new.front
-        × (new ≡ record r { front = new.front; behind = before ++ after; arrived = r.arrived + 1 }))
+    × IsPermutation (ready_job job r.arrived ∷ r.front) new.front
+    × (new ≡ record r { front = new.front; behind = before ++ after; arrived = r.arrived + 1 }))
 
 -- each level becomes the greater of itself and the one that is given
 abbrev pub AreHigher : List ℕ → List ℕ → List ℕ → Type 0

@@ -21,4 +21,3 @@ mod turns;
 
 pub use fault::ExecFault;
 pub use state::ExecState;
-

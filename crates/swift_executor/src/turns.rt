@@ -14,9 +14,7 @@ ghost use Rattle.swift_executor.specs.State.{Begins, HasChosen, IsBegun, IsPicke
 
 use crate::chosen::{Chosen, Played, Stage, fill};
 use crate::fault::ExecFault;
-use crate::playing::{
-    as_chosen, copy_into, play_job, room_to_fold, settle, write_record,
-};
+use crate::playing::{as_chosen, copy_into, play_job, room_to_fold, settle, write_record};
 use crate::state::ExecState;
 use futures::task::Context;
 use std::alloc::{AllocError, Global};
@@ -43,9 +41,7 @@ fn prepare(
     ensures same { checkpoint.new.view ≡ checkpoint.old.view }
     ensures err { OnErr result (journal.new ≡ journal.old) }
 {
-    let Some(chosen) = place else {
-        unreachable!()
-    };
+    let Some(chosen) = place else { unreachable!() };
     write_record(journal, &chosen.job, &chosen.stage)?;
     match room_to_fold(alloc, journal, checkpoint, next) {
         Ok(copy) => Ok(copy),
@@ -69,11 +65,13 @@ fn apply_chosen(
     ensures err { OnErr result ((book.new ≡ book.old) × (jobs.new.items ≡ jobs.old.items)) }
     ensures refused { MatchResult result (λ _. HasJob place.old (λ c. refusal_of_stage book.old c.job (stage_of [] c.stage) ≡ None)) (λ fault. HasJob place.old (λ c. BookRefusal (refusal_of_stage book.old c.job (stage_of [] c.stage)) fault)) }
 {
-    let Some(Chosen {
-        job,
-        arrival,
-        stage,
-    }) = place.take()
+    let Some(
+        Chosen {
+            job,
+            arrival,
+            stage,
+        },
+    ) = place.take()
     else {
         unreachable!()
     };
@@ -119,11 +117,13 @@ fn play_chosen(
     ensures err { OnErr result (HasJob place.old (KeepsJob place.new)) }
     ensures kept { Keeps cx.old cx.new }
 {
-    let Some(Chosen {
-        job,
-        arrival,
-        stage,
-    }) = place.take()
+    let Some(
+        Chosen {
+            job,
+            arrival,
+            stage,
+        },
+    ) = place.take()
     else {
         unreachable!()
     };
@@ -160,21 +160,19 @@ fn play_chosen(
 }
 
 // Begins the turn of a job that was picked.
-fn begin_chosen(
-    place: &mut Option<Chosen>,
-    worker: u32,
-    book: &mut Book,
-) -> Result<(), BookFault>
+fn begin_chosen(place: &mut Option<Chosen>, worker: u32, book: &mut Book) -> Result<(), BookFault>
     requires { HasJob place.old (λ c. c.stage ≡ Stage.Picked) }
     ensures ok { OnOk result (HasJob place.old (BeginsJob book.old book.new worker place.new)) }
     ensures err { OnErr result ((place.new ≡ place.old) × (book.new ≡ book.old)) }
     ensures refused { MatchResult result (λ _. HasJob place.old (λ c. refusal_of_begin book.old.log c.job ≡ None)) (λ fault. HasJob place.old (λ c. BookRefusal (refusal_of_begin book.old.log c.job) fault)) }
 {
-    let Some(Chosen {
-        job,
-        arrival,
-        stage,
-    }) = place.take()
+    let Some(
+        Chosen {
+            job,
+            arrival,
+            stage,
+        },
+    ) = place.take()
     else {
         unreachable!()
     };
@@ -211,11 +209,13 @@ impl ExecState {
         requires { HasChosen self.old (λ _. Unit {0}) }
         ensures { HasChosen self.old (PutsBack self.old self.new) }
     {
-        let Some(Chosen {
-            job,
-            arrival,
-            stage,
-        }) = self.chosen.take()
+        let Some(
+            Chosen {
+                job,
+                arrival,
+                stage,
+            },
+        ) = self.chosen.take()
         else {
             unreachable!()
         };

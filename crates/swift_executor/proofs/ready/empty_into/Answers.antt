@@ -1,7 +1,6 @@
-use Rattle.std.proofs.Common.{◌≡◌, ◌+◌, ◌≤◌, List, [], ◌∷◌, ◌++◌, length, map, ap, sym, subst, ◌∙◌, arith}
+use Rattle.std.proofs.Common.{List, ◌∷◌, ◌++◌, map, sym, subst, arith}
 use Rattle.std.proofs.lemmas.List.Sorted.{IsPermutation-map, IsPermutation-pop_more}
 use Rattle.std.specs.List.Sorted.{IsPermutation}
-use Rattle.std.specs.Vec.{vec_capacity, vec_len}
 use Rattle.swift_queue.specs.Job.{JobIs}
 use Rattle.swift_queue.specs.Queue.{waiting}
 use Rattle.swift_queue.specs.declared.waiting.Waiting.{Waiting}
@@ -18,8 +17,7 @@ empty-preserved g c =
     let more = c.in-Some.ensures.len in
     let len = c.push_reserved.ensures.len in
     let cap = c.push_reserved.ensures.capacity in
-    let few = c.empty.invariant.1 in
-    (
+    let few = c.empty.invariant.1 in (
       subst (λ (js : List (JobIs g.row.B.Denot)). IsPermutation all (js ++ rest)) (sym c.push_reserved.ensures.items)
           (IsPermutation-pop_more all c.empty.jobs.items (map f c.empty.queue.jobs) rest c.in-Some.job c.empty.invariant.0 moved),
       omega (arith, more, len, cap, few),

@@ -1,13 +1,12 @@
-use Rattle.std.proofs.Common.{◌≡◌, ◌≢◌, ◌<◌, ◌≤◌, ◌+◌, ◌^◌, ℕ, suc, List, [], ◌∷◌, ◌++◌, lit<, length, map, take, drop, get_or, inl, inr, refl, ap, sym, subst, ◌∙◌, arith}
-use Rattle.std.proofs.lemmas.List.{length-map}
+use Rattle.std.proofs.Common.{◌≡◌, ◌≢◌, ◌<◌, ℕ, suc, List, ◌∷◌, ◌++◌, lit<, length, map, take, drop, get_or, inr, ap, sym, subst, ◌∙◌, arith}
 use Rattle.std.proofs.lemmas.List.Sorted.{IsPermutation-map, IsPermutation-remove, length_permutation}
-use Rattle.std.specs.List.{remove, All}
+use Rattle.std.specs.List.{All}
 use Rattle.std.specs.List.Sorted.{IsPermutation}
 use Rattle.swift_types.specs.declared.id.TaskId.{TaskId}
 use Rattle.swift_queue.specs.Job.{JobIs}
 use Rattle.swift_queue.specs.Queue.{waiting}
-use Rattle.swift_executor.specs.Ready.{Forwards, IsClear, ReadyIs, ReadyJob, level_at, priority_of, ready_job}
-use Rattle.swift_executor.specs.ReadyInside.{job_of, task_in}
+use Rattle.swift_executor.specs.Ready.{Forwards, IsClear, ReadyIs, ReadyJob, level_at, priority_of}
+use Rattle.swift_executor.specs.ReadyInside.{job_of}
 use Rattle.swift_executor.proofs.ReadyKept.{all_unmap, counted_add, parted, tasks_forward}
 use Rattle.swift_executor.proofs.ready.Ready.forward.Goals as goal
 
@@ -84,6 +83,6 @@ returns g c =
       task,
       IsPermutation-map job_of (w ∷ x.queue.jobs) c.put.new.self.jobs c.put.ensures.jobs,
       ap (λ (js : List (JobIs g.row.B.Denot)). record new { behind = js }) c.remove-job.ensures.items
-      ∙ ap (λ (n : ℕ). record old { front = new.front; behind = take c.in-Some.place x.behind.items ++ drop (suc c.in-Some.place) x.behind.items; room = n; arrived = new.arrived }) c.put.ensures.room
-      ∙ ap (λ (n : ℕ). record old { front = new.front; behind = take c.in-Some.place x.behind.items ++ drop (suc c.in-Some.place) x.behind.items; arrived = n }) c.put.ensures.arrived,
+          ∙ ap (λ (n : ℕ). record old { front = new.front; behind = take c.in-Some.place x.behind.items ++ drop (suc c.in-Some.place) x.behind.items; room = n; arrived = new.arrived }) c.put.ensures.room
+          ∙ ap (λ (n : ℕ). record old { front = new.front; behind = take c.in-Some.place x.behind.items ++ drop (suc c.in-Some.place) x.behind.items; arrived = n }) c.put.ensures.arrived,
     ))

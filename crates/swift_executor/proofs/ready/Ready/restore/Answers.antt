@@ -1,4 +1,4 @@
-use Rattle.std.proofs.Common.{◌≡◌, ◌≢◌, ◌<◌, ◌≤◌, ◌+◌, ◌^◌, ℕ, List, [], ◌∷◌, ◌++◌, lit<, length, map, refl, ap, sym, subst, ◌∙◌, arith}
+use Rattle.std.proofs.Common.{◌≢◌, ◌∷◌, lit<, map, ap, sym, subst, ◌∙◌, arith}
 use Rattle.std.proofs.lemmas.List.{length-map}
 use Rattle.std.proofs.lemmas.List.Sorted.{IsPermutation-map, length_permutation}
 use Rattle.std.specs.List.Sorted.{IsPermutation}
@@ -27,13 +27,15 @@ restore-requires g c =
     let can : CanRestore (record { front = map job_of x.queue.jobs; behind = x.behind.items; room = x.queue.room; arrived = x.queue.arrived; levels = x.levels.items }) c.args.job.task c.args.arrival =
     subst (λ (r : ReadyIs g.row.B.Denot). CanRestore r c.args.job.task c.args.arrival) (sym c.self.view_is) c.requires in
     let len = length-map x.queue.jobs job_of in
-    let lt = can.room in
-    (lit< tt, record {
-      room = omega (arith, lt, len);
-      below = can.below;
-      apart = all_unmap (λ (y : ReadyJob g.row.B.Denot). y.arrival ≢ c.args.arrival) job_of x.queue.jobs can.apart;
-      without = all_unmap (λ (y : ReadyJob g.row.B.Denot). y.job.task ≢ c.args.job.task) job_of x.queue.jobs can.clear;
-    })
+    let lt = can.room in (
+      lit< tt,
+      record {
+        room = omega (arith, lt, len);
+        below = can.below;
+        apart = all_unmap (λ (y : ReadyJob g.row.B.Denot). y.arrival ≢ c.args.arrival) job_of x.queue.jobs can.apart;
+        without = all_unmap (λ (y : ReadyJob g.row.B.Denot). y.job.task ≢ c.args.job.task) job_of x.queue.jobs can.clear;
+      },
+    )
 
 pub invariant_of-self : goal.invariant_of-self
 invariant_of-self g c =

@@ -1,18 +1,15 @@
-use Rattle.std.proofs.Common.{◌≡◌, ◌<◌, ℕ, Bool, true, false, List, [], ◌∷◌, Contains, None, Some, Option, refl, ap, sym, subst, ◌∙◌, arith}
+use Rattle.std.proofs.Common.{◌≡◌, ℕ, Bool, List, [], ◌∷◌, Contains, None, Option, refl, ap, sym, subst, ◌∙◌, arith}
 use Rattle.std.proofs.lemmas.Bool.{ltb-true, ltb-false}
 use Rattle.std.proofs.lemmas.List.Sorted.{IsPermutation-trans}
 use Rattle.std.specs.Arc.{arc_value}
 use Rattle.std.specs.List.{All}
 use Rattle.std.specs.List.Sorted.{IsPermutation}
 use Rattle.script_code.specs.Seen.{rows_of}
-use Rattle.script_grammar.specs.declared.declaration.ExecutorKind.{ExecutorKind}
 use Rattle.swift_types.specs.declared.id.TaskId.{TaskId}
 use Rattle.swift_turn.specs.Body.{BodyView}
-use Rattle.swift_events.specs.declared.event.Event.{Event}
 use Rattle.swift_script.specs.Scripts.{ScriptView, executor_kind}
-use Rattle.swift_tasks.specs.Levels.{AreLevels}
 use Rattle.swift_executor.specs.Ready.{AreHigher, ComesFirst, ReadyIs, level_at, ready_job}
-use Rattle.swift_executor.specs.State.{Chooses, ChosenView, ExecView, HasNone, IsExecutor, LacksTask, leaders, picked, takes_by_arrival}
+use Rattle.swift_executor.specs.State.{Chooses, ChosenView, ExecView, HasNone, IsExecutor, LacksTask, leaders, takes_by_arrival}
 use Rattle.swift_executor.specs.StateInside.{chosen_of}
 use Rattle.swift_executor.specs.declared.chosen.Chosen.{Chosen}
 use Rattle.swift_executor.proofs.Picked.{all_of, none_behind, none_left, two_steps, was_inside}
@@ -64,31 +61,33 @@ invariant_of-self-then-not-is_known c =
     reorder_keeps s three c.self.invariant free perm (ap (λ (r : ReadyIs BodyView). r.behind) same) (ap (λ (r : ReadyIs BodyView). r.arrived) same)
 
 pub returns-then-not-is_known-clause-err : goal.returns-then-not-is_known-clause-err
-returns-then-not-is_known-clause-err c = (refl, λ log are.
-    let x = c.self.inside in
-    let s : ExecView = record { script = arc_value x.script; executor = x.executor.0; ready = x.ready; chosen = chosen_of x.next.items x.chosen; journal = x.journal; checkpoint = x.checkpoint.view; fields = rows_of x.fields.items } in
-    let one = c.count.new.self in
-    let two = c.take.new.self in
-    let three = c.restore.new.self in
-    let x0 = ready_job c.in-Some.job c.in-Some.arrival in
-    let new : ExecView = record s { ready = three } in
-    let levels : three.levels ≡ one.levels = ap (λ (r : ReadyIs BodyView). r.levels) (c.restore.ensures.rest ∙ ap (λ (r : ReadyIs BodyView). record r { front = three.front }) c.in-Some.ensures.same) in
-    let ready = two_steps s.ready one three c.count.ensures.rest (c.restore.ensures.rest ∙ ap (λ (r : ReadyIs BodyView). record r { front = three.front }) c.in-Some.ensures.same) in
-    subst (λ (v : ExecView). LacksTask log v new) c.self.view_is (record {
-      job = c.in-Some.job;
-      arrival = c.in-Some.arrival;
-      picks = record {
-        given = c.args.given.now;
-        levels = are;
-        higher = subst (λ (ls : List ℕ). AreHigher s.ready.levels c.args.given.now ls) (sym levels) c.count.ensures.levels;
-        first = subst (λ (ls : List ℕ). All (ComesFirst (takes_by_arrival (executor_kind s.script s.executor)) ls x0) s.ready.front) (sym levels)
-            (subst (λ (b : Bool). All (ComesFirst b one.levels x0) s.ready.front) (c.takes_by_arrival-by_arrival.ensures ∙ ap takes_by_arrival (c.executor_kind.ensures ∙ ap (λ (v : ScriptView). executor_kind v x.executor.0) c.deref.ensures)) (all_of c.takes_by_arrival-by_arrival.result one.levels x0 s.ready.front one.front c.count.ensures.front c.in-Some.ensures.first));
-      };
-      inside = was_inside s.ready.front one.front two.front x0 c.count.ensures.front c.in-Some.ensures.rest;
-      unknown = subst (λ (t : TaskId). level_at c.args.given.now t ≡ 0) c.task-task.ensures (let none = ltb-false 0 (level_at c.args.given.now c.task-task.result) (sym c.if-not-is_known.ensures) in omega (arith, none));
-      rest = IsPermutation-trans s.ready.front one.front three.front c.count.ensures.front (IsPermutation-trans one.front (x0 ∷ two.front) three.front c.in-Some.ensures.rest c.restore.ensures.front);
-      same = ap (λ (r : ReadyIs BodyView). record s { ready = r }) ready;
-    })
+returns-then-not-is_known-clause-err c = (
+  refl,
+  λ log are.
+      let x = c.self.inside in
+      let s : ExecView = record { script = arc_value x.script; executor = x.executor.0; ready = x.ready; chosen = chosen_of x.next.items x.chosen; journal = x.journal; checkpoint = x.checkpoint.view; fields = rows_of x.fields.items } in
+      let one = c.count.new.self in
+      let two = c.take.new.self in
+      let three = c.restore.new.self in
+      let x0 = ready_job c.in-Some.job c.in-Some.arrival in
+      let new : ExecView = record s { ready = three } in
+      let levels : three.levels ≡ one.levels = ap (λ (r : ReadyIs BodyView). r.levels) (c.restore.ensures.rest ∙ ap (λ (r : ReadyIs BodyView). record r { front = three.front }) c.in-Some.ensures.same) in
+      let ready = two_steps s.ready one three c.count.ensures.rest (c.restore.ensures.rest ∙ ap (λ (r : ReadyIs BodyView). record r { front = three.front }) c.in-Some.ensures.same) in
+      subst (λ (v : ExecView). LacksTask log v new) c.self.view_is (record {
+        job = c.in-Some.job;
+        arrival = c.in-Some.arrival;
+        picks = record {
+          given = c.args.given.now;
+          levels = are;
+          higher = subst (λ (ls : List ℕ). AreHigher s.ready.levels c.args.given.now ls) (sym levels) c.count.ensures.levels;
+          first = subst (λ (ls : List ℕ). All (ComesFirst (takes_by_arrival (executor_kind s.script s.executor)) ls x0) s.ready.front) (sym levels)
+              (subst (λ (b : Bool). All (ComesFirst b one.levels x0) s.ready.front) (c.takes_by_arrival-by_arrival.ensures ∙ ap takes_by_arrival (c.executor_kind.ensures ∙ ap (λ (v : ScriptView). executor_kind v x.executor.0) c.deref.ensures)) (all_of c.takes_by_arrival-by_arrival.result one.levels x0 s.ready.front one.front c.count.ensures.front c.in-Some.ensures.first));
+        };
+        inside = was_inside s.ready.front one.front two.front x0 c.count.ensures.front c.in-Some.ensures.rest;
+        unknown = subst (λ (t : TaskId). level_at c.args.given.now t ≡ 0) c.task-task.ensures (let none = ltb-false 0 (level_at c.args.given.now c.task-task.result) (sym c.if-not-is_known.ensures) in omega (arith, none));
+        rest = IsPermutation-trans s.ready.front one.front three.front c.count.ensures.front (IsPermutation-trans one.front (x0 ∷ two.front) three.front c.in-Some.ensures.rest c.restore.ensures.front);
+        same = ap (λ (r : ReadyIs BodyView). record s { ready = r }) ready;
+      }),
 )
 
 pub invariant_of-self-2 : goal.invariant_of-self-2
