@@ -7,8 +7,8 @@ use crate::told;
 use std::io;
 use std::sync::Arc;
 use std::time::Instant;
-use swift_one_thread::{Open, run};
 use swift_journal::{Checkpoint, Journal};
+use swift_one_thread::{Open, run};
 use swift_report::{Report, report_text};
 use swift_script::read;
 

@@ -262,7 +262,7 @@ fields_at (a ∷ others) (row ∷ rows) actor = if a == actor then row else fiel
 -- why the book does not begin the turn of the chosen job
 abbrev pub refusal_to_begin : BookView → Option ChosenView → Option BookFault
 refusal_to_begin book None = None
-refusal_to_begin book (Some c) = refusal_of_begin book.log c.job
+refusal_to_begin book (Some c) = refusal_of_begin book.script book.log c.job
 
 -- why the book does not take a turn that was played
 abbrev pub refusal_of_stage : BookView → JobIs BodyView → StageView → Option BookFault

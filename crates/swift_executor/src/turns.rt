@@ -164,7 +164,7 @@ fn begin_chosen(place: &mut Option<Chosen>, worker: u32, book: &mut Book) -> Res
     requires { HasJob place.old (λ c. c.stage ≡ Stage.Picked) }
     ensures ok { OnOk result (HasJob place.old (BeginsJob book.old book.new worker place.new)) }
     ensures err { OnErr result ((place.new ≡ place.old) × (book.new ≡ book.old)) }
-    ensures refused { MatchResult result (λ _. HasJob place.old (λ c. refusal_of_begin book.old.log c.job ≡ None)) (λ fault. HasJob place.old (λ c. BookRefusal (refusal_of_begin book.old.log c.job) fault)) }
+    ensures refused { MatchResult result (λ _. HasJob place.old (λ c. refusal_of_begin book.old.script book.old.log c.job ≡ None)) (λ fault. HasJob place.old (λ c. BookRefusal (refusal_of_begin book.old.script book.old.log c.job) fault)) }
 {
     let Some(
         Chosen {

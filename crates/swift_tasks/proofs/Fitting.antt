@@ -16,15 +16,15 @@ use Rattle.swift_history.specs.Checks.{Counters, counters, can_run, can_use, fit
 use Rattle.swift_tasks.specs.Bodies.{CanStart}
 use Rattle.swift_tasks.specs.Refusals.{fits_begun}
 
-left : (a b : Bool) → (a && b) ≡ true → a ≡ true
+pub left : (a b : Bool) → (a && b) ≡ true → a ≡ true
 left true b h = refl
 left false b h = h
 
-right : (a b : Bool) → (a && b) ≡ true → b ≡ true
+pub right : (a b : Bool) → (a && b) ≡ true → b ≡ true
 right true b h = h
 right false b h = absurd (false≢true h)
 
-less : (a b : ℕ) → nat_lt a b ≡ true → a < b
+pub less : (a b : ℕ) → nat_lt a b ≡ true → a < b
 less a b h = grind (arith, nat_tests)
 
 -- what can be run is a method of the script

@@ -1,19 +1,20 @@
 -- While a turn is applied. No public clause names these.
-use Rattle.std.specs.Prelude.{◌≡◌, ℕ, ◌+◌, ◌<◌, ◌≤◌, ◌^◌, IsTrue, Bool, true, if◌then◌else◌, Option, Some, List, [], ◌∷◌, ◌++◌, length, map}
+use Rattle.std.specs.Prelude.{◌≡◌, ℕ, ◌+◌, ◌-◌, ◌<◌, ◌≤◌, ◌^◌, IsTrue, Bool, true, if◌then◌else◌, Option, Some, None, List, [], ◌∷◌, ◌++◌, length, map, drop, replicate}
 use Rattle.swift_types.specs.declared.limits.TheConstants.{TASKS}
 use Rattle.swift_types.specs.declared.priority.Priority.{Priority}
 use Rattle.script_code.specs.declared.env.Env.{Env}
+use Rattle.swift_types.specs.declared.outcome.Resume.{Resume}
 use Rattle.swift_types.specs.declared.outcome.Resume.TheVariants.{Start}
-use Rattle.swift_script.specs.Scripts.{ScriptView}
+use Rattle.swift_script.specs.Scripts.{ScriptView, root_count}
 use Rattle.swift_interpreter.specs.declared.effect.TaskName.{TaskName}
 use Rattle.swift_interpreter.specs.declared.effect.TaskName.TheVariants.{Root, Own}
 use Rattle.swift_interpreter.specs.Turn.{EffectView, spawning, detaching, opening, adding, cancelling_task, cancelling_group, ExitView, waiting, asking_next, closing}
 use Rattle.swift_queue.specs.Job.{JobIs}
 use Rattle.swift_turn.specs.declared.step.Step.{Step}
 use Rattle.swift_turn.specs.declared.step.Step.TheVariants.{Await}
-use Rattle.swift_turn.specs.Body.{BodyView, IsRunning, GoesOn}
+use Rattle.swift_turn.specs.Body.{BodyView, TaskView, IsRunning, GoesOn}
 use Rattle.swift_events.specs.declared.event.Event.{Event}
-use Rattle.swift_events.specs.declared.event.Event.TheVariants.{Child, Skip}
+use Rattle.swift_events.specs.declared.event.Event.TheVariants.{Apply, Child, Skip}
 use Rattle.swift_events.specs.declared.life.Stage.TheVariants.{Begun}
 use Rattle.swift_events.specs.Events.{tasks_of}
 use Rattle.swift_events.specs.Lives.{life_of, is_open}
@@ -22,7 +23,7 @@ use Rattle.swift_events.specs.Room.{reserved_of}
 use Rattle.swift_ledger.specs.Ledgers.{IsMade, HasRoom}
 use Rattle.swift_history.specs.Checks.{counters, fits_turn}
 use Rattle.swift_history.specs.Histories.{begun_priority}
-use Rattle.swift_history.specs.TurnEnds.{JobView, HeldView, Follows, TurnEnd, turn_end, task}
+use Rattle.swift_history.specs.TurnEnds.{JobView, HeldView, Follows, TurnEnd, turn_end, log_after, exit_events, followed, task}
 use Rattle.swift_tasks.specs.declared.held.Held.{Held}
 use Rattle.swift_tasks.specs.Bodies.{AreBodiesOf}
 use Rattle.swift_tasks.specs.BookInvariant.{held_views}
@@ -83,31 +84,55 @@ AreMade log (j ∷ js) = IsMade log (task j.task) × AreMade log js
 abbrev pub end_at : ScriptView → List Event → List (Option HeldView) → ℕ → ℕ → List EffectView → ExitView → BodyView → Step → TurnEnd
 end_at script log held t n es exit body step = turn_end script log held t n (begun_priority (life_of t log).stage) es exit (record { task = body.task; step = step })
 
--- what comes after an exit: a task that asks or closes awaits, and any other goes on or has ended
+-- what comes after an exit: a task awaits where it waits for a task, asks a group or closes one, and nowhere else
 abbrev pub StepFits : ExitView → Step → Type 0
 StepFits (waiting name) step = step ≡ Await
 StepFits (asking_next g) step = step ≡ Await
 StepFits (closing g f) step = step ≡ Await
-StepFits _ Await = ⊥
-StepFits _ _ = Unit {0}
+StepFits _ step = step ≡ Await → ⊥
 
--- A turn of a task that has begun may end so: effects and exit fit, with the bodies of the tasks that it makes; the task's own
--- body has followed the exit.
-pub record TurnLeaves (script : ScriptView) (roots : ℕ) (log : List Event) (held : List (Option HeldView)) (t : ℕ) (es : List EffectView) (bodies : List (Option BodyView)) (exit : ExitView) (body : BodyView) (step : Step) : Type 0 where
+-- a turn of a task that has begun, whose effects and exit fit, with the bodies of the tasks that it makes
+pub record TurnFits (script : ScriptView) (roots : ℕ) (log : List Event) (t : ℕ) (es : List EffectView) (bodies : List (Option BodyView)) (exit : ExitView) : Type 0 where
   pub env : Env
   pub begun : (life_of t log).stage ≡ Some (Begun env)
-  pub open : is_open (life_of t log) ≡ true
+  pub alive : is_open (life_of t log) ≡ true
   pub fits : fits_turn script t log (counters t log env.room) es exit ≡ true
   pub started : AreBodiesOf script es bodies
   pub roots_are : roots ≡ root_count script
+
+-- such a turn in a book that keeps what it has to, when the task's own body has followed the exit
+pub record TurnLeaves (script : ScriptView) (roots : ℕ) (log : List Event) (held : List (Option HeldView)) (t : ℕ) (es : List EffectView) (bodies : List (Option BodyView)) (exit : ExitView) (body : BodyView) (step : Step) : Type 0 where
+  pub turn : TurnFits script roots log t es bodies exit
+  pub known : t < tasks_of roots log
   pub holds : HoldsWaiting roots log held
   pub closed : UnopenedAreNotClosed log
   pub fitting : StepFits exit step
   pub running : GoesOn step → IsRunning body
   pub same : body.script ≡ script
 
+-- the turn of a job that may be applied, before its body follows the exit
+pub record JobFits (script : ScriptView) (roots : ℕ) (log : List Event) (held : List (Option HeldView)) (j : JobIs BodyView) (es : List EffectView) (bodies : List (Option BodyView)) (exit : ExitView) : Type 0 where
+  pub turn : TurnFits script roots log j.task.0 es bodies exit
+  pub known : j.task.0 < tasks_of roots log
+  pub holds : HoldsWaiting roots log held
+  pub closed : UnopenedAreNotClosed log
+  pub running : IsRunning j.body
+  pub same : j.body.script ≡ script
+
 -- the log, the tasks that wait and the jobs after the end of such a turn
 pub record Ends (script : ScriptView) (log : List Event) (held : List (Option HeldView)) (jobs : List JobView) (t n : ℕ) (es : List EffectView) (exit : ExitView) (body : BodyView) (step : Step) (log' : List Event) (held' : List (Option HeldView)) (jobs' : List JobView) : Type 0 where
   pub log_is : log' ≡ (end_at script log held t n es exit body step).log
   pub held_is : held' ≡ (end_at script log held t n es exit body step).held
   pub jobs_are : jobs' ≡ jobs ++ (end_at script log held t n es exit body step).jobs
+
+-- the log of a turn once its effects are written, and once its exit is
+abbrev pub done_log : ℕ → ℕ → ℕ → List Event → List EffectView → List Event
+done_log roots t n log es = log_after roots t (begun_priority (life_of t log).stage) (log ++ Apply (task t) n ∷ []) es
+
+abbrev pub written_log : ℕ → ℕ → ℕ → List Event → List EffectView → ExitView → Step → List Event
+written_log roots t n log es exit step = done_log roots t n log es ++ exit_events t (done_log roots t n log es) exit step
+
+-- what follows from a turn, where the jobs from this one on are those that it has made
+abbrev pub followed_from : ℕ → List (Option Held) → List (JobIs BodyView) → ℕ → ℕ → TaskView → Option Resume → Step → List Event → Follows
+followed_from first held jobs t n frames resume step log =
+    followed t n frames resume step log (record { held = held_views held ++ replicate (length jobs - first) None; jobs = map job_view (drop first jobs) })

@@ -1,5 +1,5 @@
 -- A book of tasks, as callers see it.
-use Rattle.std.specs.Prelude.{◌≡◌, ℕ, ◌+◌, Bool, true, is_some, Option, Some, None, List, [], ◌∷◌, length, replicate, slice_index_or}
+use Rattle.std.specs.Prelude.{◌≡◌, ℕ, ◌+◌, Bool, true, is_some, Option, Some, None, List, [], ◌∷◌, ◌++◌, length, replicate, slice_index_or}
 use Rattle.swift_types.specs.declared.outcome.Resume.TheVariants.{Go}
 use Rattle.swift_script.specs.Scripts.{ScriptView, root_count}
 use Rattle.swift_queue.specs.Job.{JobIs}
@@ -45,6 +45,12 @@ end_of_frames b j effects exit (p ∷ callers) =
 
 abbrev pub end_of_turn : BookView → JobIs BodyView → List EffectView → ExitView → TurnEnd
 end_of_turn b j effects exit = end_of_frames b j effects exit j.body.task.frames
+
+-- the log, the tasks that wait and the jobs are those after the end of that turn; these jobs stood before
+pub record IsEndOf (b : BookView) (jobs : List JobView) (j : JobIs BodyView) (effects : List EffectView) (exit : ExitView) (log : List Event) (held : List (Option HeldView)) (jobs' : List JobView) : Type 0 where
+  pub log_is : log ≡ (end_of_turn b j effects exit).log
+  pub held_is : held ≡ (end_of_turn b j effects exit).held
+  pub jobs_are : jobs' ≡ jobs ++ (end_of_turn b j effects exit).jobs
 
 -- the jobs of the tasks that wait, by the number of the task; the first task here has this number
 abbrev pub jobs_held : ℕ → List (Option HeldView) → List JobView

@@ -47,8 +47,12 @@ refused_unless None false = Some Refused
 abbrev pub refusal_of_turn : List Event → ℕ → ℕ → Resume → Option BookFault
 refusal_of_turn log t n resume = refused_unless (refusal_unless_open (life_of t log)) (is_current (life_of t log) n resume)
 
-abbrev pub refusal_of_begin : List Event → JobIs BodyView → Option BookFault
-refusal_of_begin log job = refusal_of_turn log job.task.0 job.number job.resume
+abbrev pub refusal_of_job : List Event → JobIs BodyView → Option BookFault
+refusal_of_job log job = refusal_of_turn log job.task.0 job.number job.resume
+
+-- and its body is of the same script
+abbrev pub refusal_of_begin : ScriptView → List Event → JobIs BodyView → Option BookFault
+refusal_of_begin script log job = refused_unless (refusal_of_job log job) (same_scripts script job.body.script)
 
 -- in a turn that has begun, effects and exit that fit it, and a body of the same script
 abbrev pub fits_begun : ScriptView → List Event → ℕ → ScriptView → List EffectView → ExitView → Option Stage → Bool
@@ -58,4 +62,4 @@ fits_begun script log t other effects exit _ = false
 -- a turn is applied if it might begin, has begun, and fits
 abbrev pub refusal_of_apply : ScriptView → List Event → JobIs BodyView → List EffectView → ExitView → Option BookFault
 refusal_of_apply script log job effects exit =
-    refused_unless (refusal_of_begin log job) (fits_begun script log job.task.0 job.body.script effects exit (life_of job.task.0 log).stage)
+    refused_unless (refusal_of_job log job) (fits_begun script log job.task.0 job.body.script effects exit (life_of job.task.0 log).stage)

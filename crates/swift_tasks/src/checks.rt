@@ -1,6 +1,6 @@
 //! Whether the effects and the exit of a turn fit it.
 
-ghost use Rattle.std.specs.Prelude.{◌≡◌, ◌+◌, ◌<◌, ◌≤◌, ◌^◌, true, false, IfSome, IfNone};
+ghost use Rattle.std.specs.Prelude.{◌≡◌, ◌+◌, ◌<◌, ◌≤◌, ◌^◌, true, false, IsTrue, IfSome, IfNone};
 ghost use Rattle.swift_interpreter.specs.Frames.{invocation_view, effect_view, effect_views};
 ghost use Rattle.swift_interpreter.specs.TurnStates.{exit_view};
 ghost use Rattle.swift_history.specs.Checks.{can_run, can_name, can_use, fits_effect, counted, fits_exit, fits_turn, counters};
@@ -157,7 +157,8 @@ pub fn begun_fits(
     exit: &Exit,
 ) -> bool
     requires { UnopenedAreNotClosed ledger.now.log }
-    ensures { result ≡ fits_begun script.now ledger.now.log job.now.task.0 job.now.body.script (effect_views effects.now) (exit_view exit.now) (life_of job.now.task.0 ledger.now.log).stage }
+    ensures fits { result ≡ fits_begun script.now ledger.now.log job.now.task.0 job.now.body.script (effect_views effects.now) (exit_view exit.now) (life_of job.now.task.0 ledger.now.log).stage }
+    ensures same { IsTrue result → job.now.body.script ≡ script.now }
 {
     let task = job.task();
     let stage = ledger.life(task).stage;
@@ -175,7 +176,8 @@ fn stage_fits(
     body: &Body,
 ) -> bool
     requires { UnopenedAreNotClosed ledger.now.log }
-    ensures { result ≡ fits_begun script.now ledger.now.log task.0 body.now.script (effect_views effects.now) (exit_view exit.now) stage }
+    ensures fits { result ≡ fits_begun script.now ledger.now.log task.0 body.now.script (effect_views effects.now) (exit_view exit.now) stage }
+    ensures same { IsTrue result → body.now.script ≡ script.now }
 {
     match stage {
         Some(Stage::Begun(env)) => {

@@ -1,13 +1,15 @@
 //! What the effects of a turn write and make.
 
-ghost use Rattle.std.specs.Prelude.{◌≡◌, ℕ, ◌+◌, ◌<◌, ◌≤◌, ◌^◌, [], ◌∷◌, ◌++◌, IsTrue, map, vec_len, vec_capacity};
+ghost use Rattle.std.specs.Prelude.{◌≡◌, ℕ, ◌+◌, ◌<◌, ◌≤◌, ◌^◌, [], ◌∷◌, ◌++◌, None, IsTrue, map, vec_len, vec_capacity};
 ghost use Rattle.std.specs.List.{AllByRecursion};
 ghost use Rattle.swift_types.specs.declared.outcome.Resume.TheVariants.{Start};
 ghost use Rattle.swift_script.specs.Scripts.{ScriptView, root_count};
 ghost use Rattle.swift_interpreter.specs.Frames.{effect_view};
-ghost use Rattle.swift_ledger.specs.Ledgers.{IsMade, HasRoom};
+ghost use Rattle.swift_ledger.specs.Ledgers.{CanNote, IsMade, HasRoom};
+ghost use Rattle.swift_events.specs.Lives.{stage_in};
 ghost use Rattle.swift_events.specs.Events.{tasks_of};
 ghost use Rattle.swift_events.specs.Relations.{opened_by, is_open_group};
+ghost use Rattle.swift_events.specs.Room.{reserved_of};
 ghost use Rattle.swift_history.specs.TurnEnds.{named_task, cancel_events, effect_events, effect_jobs, is_left_out, task as numbered};
 ghost use Rattle.swift_tasks.specs.Applying.{CanName, CanTake, add_events, add_jobs, first_of};
 ghost use Rattle.swift_tasks.specs.Bodies.{IsBodyOf};
@@ -31,6 +33,19 @@ pub fn named(ledger: &Ledger, task: TaskId, name: TaskName) -> TaskId
     }
 }
 
+// Writes an event that leaves the stage of its task.
+pub fn note_aside(ledger: &mut Ledger, event: Event)
+    requires fits { CanNote ledger.old.roots ledger.old.log event }
+    requires aside { stage_in event ≡ None }
+    requires spare { 0 < ledger.old.spare }
+    ensures roots { ledger.new.roots ≡ ledger.old.roots }
+    ensures log { ledger.new.log ≡ ledger.old.log ++ event ∷ [] }
+    ensures spare { ledger.new.spare + 1 ≡ ledger.old.spare }
+    ensures reserved { reserved_of ledger.new.roots ledger.new.log ≡ reserved_of ledger.old.roots ledger.old.log }
+{
+    ledger.note(event);
+}
+
 // A task is spawned or detached: it is written, and its first job is made.
 fn note_free(
     ledger: &mut Ledger,
@@ -47,11 +62,12 @@ fn note_free(
     ensures roots { ledger.new.roots ≡ ledger.old.roots }
     ensures log { ledger.new.log ≡ ledger.old.log ++ Event.Free (numbered (tasks_of ledger.old.roots ledger.old.log)) task priority detached ∷ [] }
     ensures spare { ledger.new.spare + 1 ≡ ledger.old.spare }
+    ensures reserved { reserved_of ledger.new.roots ledger.new.log ≡ reserved_of ledger.old.roots ledger.old.log }
     ensures jobs { jobs.new.items ≡ jobs.old.items ++ first_of (tasks_of ledger.old.roots ledger.old.log) body ∷ [] }
     ensures capacity { vec_capacity jobs.new ≡ vec_capacity jobs.old }
 {
     let made = TaskId(ledger.tasks() as u32);
-    ledger.note(Event::Free(made, task, priority, detached));
+    note_aside(ledger, Event::Free(made, task, priority, detached));
     jobs.push_reserved(Job::new(made, 0, Resume::Start, body));
 }
 
@@ -72,11 +88,12 @@ fn note_child(
     ensures roots { ledger.new.roots ≡ ledger.old.roots }
     ensures log { ledger.new.log ≡ ledger.old.log ++ Event.Child (numbered (tasks_of ledger.old.roots ledger.old.log)) task group priority ∷ [] }
     ensures spare { ledger.new.spare + 1 ≡ ledger.old.spare }
+    ensures reserved { reserved_of ledger.new.roots ledger.new.log ≡ reserved_of ledger.old.roots ledger.old.log }
     ensures jobs { jobs.new.items ≡ jobs.old.items ++ first_of (tasks_of ledger.old.roots ledger.old.log) body ∷ [] }
     ensures capacity { vec_capacity jobs.new ≡ vec_capacity jobs.old }
 {
     let made = TaskId(ledger.tasks() as u32);
-    ledger.note(Event::Child(made, task, group, priority));
+    note_aside(ledger, Event::Child(made, task, group, priority));
     jobs.push_reserved(Job::new(made, 0, Resume::Start, body));
 }
 
@@ -106,12 +123,13 @@ fn note_add(
     ensures roots { ledger.new.roots ≡ ledger.old.roots }
     ensures log { ledger.new.log ≡ ledger.old.log ++ add_events ledger.old.roots task.0 group (is_left_out task.0 group unless ledger.old.log) ledger.old.log priority }
     ensures spare { ledger.new.spare + 1 ≡ ledger.old.spare }
+    ensures reserved { reserved_of ledger.new.roots ledger.new.log ≡ reserved_of ledger.old.roots ledger.old.log }
     ensures jobs { jobs.new.items ≡ jobs.old.items ++ add_jobs (is_left_out task.0 group unless ledger.old.log) (tasks_of ledger.old.roots ledger.old.log) body }
     ensures capacity { vec_capacity jobs.new ≡ vec_capacity jobs.old }
 {
     let left_out = leaves_out(ledger, task, group, unless);
     if left_out {
-        ledger.note(Event::Skip(task, group));
+        note_aside(ledger, Event::Skip(task, group));
     } else {
         note_child(ledger, jobs, task, group, priority, body);
     }
@@ -125,9 +143,10 @@ fn note_open(ledger: &mut Ledger, task: TaskId)
     ensures roots { ledger.new.roots ≡ ledger.old.roots }
     ensures log { ledger.new.log ≡ ledger.old.log ++ Event.Open task (opened_by task.0 ledger.old.log) ∷ [] }
     ensures spare { ledger.new.spare + 1 ≡ ledger.old.spare }
+    ensures reserved { reserved_of ledger.new.roots ledger.new.log ≡ reserved_of ledger.old.roots ledger.old.log }
 {
     let group = ledger.opened(task) as u32;
-    ledger.note(Event::Open(task, group));
+    note_aside(ledger, Event::Open(task, group));
 }
 
 // A task is cancelled, where it has not ended.
@@ -137,9 +156,10 @@ fn note_cancel(ledger: &mut Ledger, task: TaskId)
     ensures roots { ledger.new.roots ≡ ledger.old.roots }
     ensures log { ledger.new.log ≡ ledger.old.log ++ cancel_events task ledger.old.log }
     ensures spare { ledger.old.spare ≤ ledger.new.spare + 1 }
+    ensures reserved { reserved_of ledger.new.roots ledger.new.log ≡ reserved_of ledger.old.roots ledger.old.log }
 {
     if ledger.life(task).ending.is_none() {
-        ledger.note(Event::CancelTask(task));
+        note_aside(ledger, Event::CancelTask(task));
     }
 }
 
@@ -160,8 +180,10 @@ pub fn note_effect(
     ensures roots { ledger.new.roots ≡ ledger.old.roots }
     ensures log { ledger.new.log ≡ ledger.old.log ++ effect_events ledger.old.roots task.0 own ledger.old.log (effect_view effect.now) }
     ensures spare { ledger.old.spare ≤ ledger.new.spare + 1 }
+    ensures reserved { reserved_of ledger.new.roots ledger.new.log ≡ reserved_of ledger.old.roots ledger.old.log }
     ensures jobs { (script : ScriptView) → IsBodyOf script (effect_view effect.now) body → root_count script ≡ ledger.old.roots
         → map job_view jobs.new.items ≡ map job_view jobs.old.items ++ effect_jobs script task.0 ledger.old.log (effect_view effect.now) }
+    ensures bodies { (script : ScriptView) → IsBodyOf script (effect_view effect.now) body → AllByRecursion (IsJobOf script) jobs.old.items → AllByRecursion (IsJobOf script) jobs.new.items }
     ensures capacity { vec_capacity jobs.new ≡ vec_capacity jobs.old }
     ensures few { vec_len jobs.new ≤ vec_len jobs.old + 1 }
 {
@@ -184,6 +206,6 @@ pub fn note_effect(
             let named = named(ledger, task, *name);
             note_cancel(ledger, named);
         }
-        Effect::CancelGroup(group) => ledger.note(Event::CancelGroup(task, *group)),
+        Effect::CancelGroup(group) => note_aside(ledger, Event::CancelGroup(task, *group)),
     }
 }

@@ -98,12 +98,7 @@ pub fn note_cancel_group(ledger: &mut Ledger, task: TaskId, group: u32)
 }
 
 // A task closes a group, which is cancelled first where it is closed with a fault.
-fn note_close(
-    ledger: &mut Ledger,
-    task: TaskId,
-    group: u32,
-    fault: Option<Fault>,
-) -> Option<Resume>
+fn note_close(ledger: &mut Ledger, task: TaskId, group: u32, fault: Option<Fault>) -> Option<Resume>
     requires mine { IsMade ledger.old.log task }
     requires group { IsTrue (is_open_group task.0 group ledger.old.log) }
     requires spare { 1 < ledger.old.spare }

@@ -3,6 +3,7 @@
 ghost use Rattle.std.specs.Prelude.{◌≡◌, ◌+◌, ◌<◌, ◌^◌, [], ◌∷◌, ◌++◌, None, false, IfOk, OnErr, MatchResult, IsTrue};
 ghost use Rattle.swift_script.specs.Scripts.{root_count};
 ghost use Rattle.swift_ledger.specs.Ledgers.{IsMade};
+ghost use Rattle.swift_events.specs.Events.{tasks_of};
 ghost use Rattle.swift_events.specs.Lives.{life_of, is_waiting};
 ghost use Rattle.swift_events.specs.Room.{IsEnv};
 ghost use Rattle.swift_history.specs.Checks.{same_fault, same_resume, was_given, is_under_way, is_current};
@@ -95,6 +96,7 @@ impl Book {
         ensures made { result ≡ None → IsMade self.now.log task }
         ensures small { result ≡ None → number + 1 < 2 ^ 32 }
         ensures goes { result ≡ None → is_waiting (life_of task.0 self.now.log) ≡ false }
+        ensures known { result ≡ None → task.0 < tasks_of (root_count self.now.script) self.now.log }
     {
         let life = self.ledger.life(task);
         if let Some(fault) = unless_open(life) {
@@ -107,20 +109,38 @@ impl Book {
         }
     }
 
+    // Why a job's turn may not begin. Where it may, it compares the printed forms of two scripts.
+    fn refusal_to_begin(&self, job: &Job<Body>) -> Option<BookFault>
+        ensures cause { result ≡ refusal_of_begin self.now.script self.now.log job.now }
+        ensures made { result ≡ None → IsMade self.now.log job.now.task }
+        ensures goes { result ≡ None → is_waiting (life_of job.now.task.0 self.now.log) ≡ false }
+    {
+        match self.refusal_of_turn(job.task(), job.number(), job.resume()) {
+            Some(fault) => Some(fault),
+            None => {
+                if self.script.says_the_same(job.body().script()) {
+                    None
+                } else {
+                    Some(BookFault::Refused)
+                }
+            }
+        }
+    }
+
     /// Begins a turn, and says in which environment: the one that the log gives (SE-0304). The turn must be the one of the
-    /// task's last job; one that has begun may begin again, until it is applied. A refusal is `Unknown`, `Completed`,
+    /// task's last job, of an equal script; one that has begun may begin again, until it is applied. A refusal is `Unknown`, `Completed`,
     /// `Refused` or `Memory`, the first of these that stands.
     pub fn begin(&mut self, job: &Job<Body>) -> Result<Env, BookFault>
         ensures env { IfOk result (λ env. IsEnv (root_count self.old.script) job.now.task self.old.log env) }
         ensures ok { IfOk result (λ env. self.new ≡ record self.old { log = self.old.log ++ Event.Begin job.now.task job.now.number env ∷ [] }) }
         ensures err { OnErr result (self.new ≡ self.old) }
-        ensures refused { MatchResult result (λ _. refusal_of_begin self.old.log job.now ≡ None) (IsRefusal (refusal_of_begin self.old.log job.now)) }
+        ensures refused { MatchResult result (λ _. refusal_of_begin self.old.script self.old.log job.now ≡ None) (IsRefusal (refusal_of_begin self.old.script self.old.log job.now)) }
     {
-        let task = job.task();
-        let number = job.number();
-        if let Some(fault) = self.refusal_of_turn(task, number, job.resume()) {
+        if let Some(fault) = self.refusal_to_begin(job) {
             return Err(fault);
         }
+        let task = job.task();
+        let number = job.number();
         let Ok(_) = self.ledger.reserve(1) else {
             return Err(BookFault::Memory);
         };
@@ -139,6 +159,8 @@ impl Book {
         ensures cause { result ≡ refusal_of_apply self.now.script self.now.log job.now (effect_views effects.now) (exit_view exit.now) }
         ensures made { result ≡ None → IsMade self.now.log job.now.task }
         ensures small { result ≡ None → job.now.number + 1 < 2 ^ 32 }
+        ensures known { result ≡ None → job.now.task.0 < tasks_of (root_count self.now.script) self.now.log }
+        ensures same { result ≡ None → job.now.body.script ≡ self.now.script }
     {
         match self.refusal_of_turn(job.task(), job.number(), job.resume()) {
             Some(fault) => Some(fault),

@@ -1,22 +1,24 @@
 //! The end of a turn.
 
-ghost use Rattle.std.specs.Prelude.{◌≡◌, ℕ, ◌+◌, ◌<◌, ◌≤◌, ◌^◌, [], ◌∷◌, ◌++◌, List, Some, None, IfOk, OnOk, OnErr, IfErr, MatchResult, drop, length, map, replicate, vec_len, vec_capacity};
+ghost use Rattle.std.specs.Prelude.{◌≡◌, ℕ, ◌+◌, ◌-◌, ◌<◌, ◌≤◌, ◌^◌, [], ◌∷◌, ◌++◌, List, Option, Some, None, IfOk, OnOk, OnErr, IfErr, MatchResult, take, drop, length, map, replicate, vec_len, vec_capacity};
 ghost use Rattle.std.specs.Arc.{arc_value};
 ghost use Rattle.std.specs.List.{AllByRecursion};
 ghost use Rattle.swift_script.specs.Scripts.{ScriptView, root_count};
-ghost use Rattle.swift_interpreter.specs.Turn.{ExitView};
+ghost use Rattle.swift_interpreter.specs.Turn.{EffectView, ExitView};
 ghost use Rattle.swift_interpreter.specs.Frames.{effect_views};
 ghost use Rattle.swift_interpreter.specs.TurnStates.{exit_view};
-ghost use Rattle.swift_turn.specs.Body.{IsRunning, GoesOn};
+ghost use Rattle.swift_turn.specs.Body.{BodyView, IsRunning, GoesOn};
 ghost use Rattle.swift_ledger.specs.Ledgers.{IsMade};
+ghost use Rattle.swift_events.specs.Events.{tasks_of};
 ghost use Rattle.swift_events.specs.Lives.{life_of};
 ghost use Rattle.swift_events.specs.Relations.{waiters_of};
 ghost use Rattle.swift_history.specs.Histories.{begun_priority};
-ghost use Rattle.swift_history.specs.TurnEnds.{log_after, jobs_made, exit_events, exit_resume, gives};
-ghost use Rattle.swift_tasks.specs.Applying.{CanTakeAll, CanLeave, AreMade, TurnLeaves, Ends};
+ghost use Rattle.swift_history.specs.TurnEnds.{log_after, jobs_made, exit_resume, followed, gives};
+ghost use Rattle.swift_tasks.specs.Applying.{CanTakeAll, CanLeave, AreMade, TurnFits, TurnLeaves, JobFits, Ends, done_log, written_log, follows_of, followed_from};
 ghost use Rattle.swift_tasks.specs.Bodies.{AreBodiesOf};
 ghost use Rattle.swift_tasks.specs.BookInvariant.{FitsScript, held_views};
-ghost use Rattle.swift_tasks.specs.Books.{job_view, IsJobOf, end_of_turn};
+ghost use Rattle.swift_tasks.specs.Books.{job_view, IsJobOf, HoldsWaiting, IsEndOf};
+ghost use Rattle.swift_tasks.specs.Counted.{UnopenedAreNotClosed};
 ghost use Rattle.swift_tasks.specs.Refusals.{IsRefusal, refusal_of_apply};
 
 use crate::bodies::bodies_of;
@@ -32,7 +34,7 @@ use swift_interpreter::{Effect, Exit};
 use swift_ledger::Ledger;
 use swift_queue::Job;
 use swift_turn::{Body, Step};
-use swift_types::{Priority, TaskId};
+use swift_types::{Priority, Resume, TaskId};
 
 // The priority of a task in the turn that it has begun.
 fn begun_priority(stage: Option<Stage>) -> Priority
@@ -42,6 +44,20 @@ fn begun_priority(stage: Option<Stage>) -> Priority
         Some(Stage::Begun(env)) => env.priority,
         _ => Priority::Background,
     }
+}
+
+// A turn is applied: the room that was reserved for it is free, and what fits it still does.
+fn note_apply(ledger: &mut Ledger, task: TaskId, number: u32)
+    requires mine { IsMade ledger.old.log task }
+    requires spare { 0 < ledger.old.spare }
+    ensures roots { ledger.new.roots ≡ ledger.old.roots }
+    ensures log { ledger.new.log ≡ ledger.old.log ++ Event.Apply task number ∷ [] }
+    ensures spare { ledger.new.spare + 1 ≡ ledger.old.spare }
+    ensures mine { IsMade ledger.new.log task }
+    ensures take { (script : ScriptView) (es : List EffectView) (bodies : List (Option BodyView)) (exit : ExitView) → TurnFits script ledger.old.roots ledger.old.log task.0 es bodies exit → CanTakeAll ledger.new.roots task.0 ledger.new.log es bodies exit }
+{
+    let _limit = ledger.tasks();
+    ledger.note(Event::Apply(task, number));
 }
 
 // The effects of a turn are written in order, and the first jobs of the tasks that they make are made of their bodies.
@@ -134,6 +150,106 @@ fn make_room(
     ledger.reserve(most.saturating_add(effects).saturating_add(3))
 }
 
+// The jobs from this one on were made: they are written.
+fn note_gives_from(ledger: &mut Ledger, jobs: &Vec<Job<Body>>, first: usize)
+    requires there { first ≤ vec_len jobs.now }
+    requires made { AreMade ledger.old.log (map job_view (drop first jobs.now.items)) }
+    requires spare { vec_len jobs.now - first ≤ ledger.old.spare }
+    ensures roots { ledger.new.roots ≡ ledger.old.roots }
+    ensures log { ledger.new.log ≡ ledger.old.log ++ gives (map job_view (drop first jobs.now.items)) }
+{
+    note_gives(ledger, &jobs[first..]);
+}
+
+// What follows from a turn, as `follow` has it.
+fn follow_in(
+    ledger: &Ledger,
+    held: &mut Vec<Option<Held>>,
+    jobs: &mut Vec<Job<Body>>,
+    task: TaskId,
+    number: u32,
+    body: Body,
+    resume: Option<Resume>,
+    step: Step,
+)
+    requires there { task.0 < vec_len held.old }
+    requires running { GoesOn step → IsRunning body }
+    requires goes { (next : Resume) → resume ≡ Some next → GoesOn step }
+    requires room { vec_len jobs.old + length (waiters_of task.0 ledger.now.log) < vec_capacity jobs.old }
+    ensures follows { follows_of held.new.items jobs.new.items ≡ followed task.0 number body.task resume step ledger.now.log (follows_of held.old.items jobs.old.items) }
+    ensures bodies { (script : ScriptView) → body.script ≡ script → AllByRecursion (FitsScript script) held.old.items
+        → AllByRecursion (FitsScript script) held.new.items × (AllByRecursion (IsJobOf script) jobs.old.items → AllByRecursion (IsJobOf script) jobs.new.items) }
+    ensures few { vec_len jobs.new ≤ vec_len jobs.old + length (waiters_of task.0 ledger.now.log) + 1 }
+    ensures long { vec_len held.new ≡ vec_len held.old }
+{
+    follow(ledger, held, jobs, task, number, body, resume, step);
+}
+
+// A turn was written, with the jobs from this one on for the tasks that it makes: the task goes on, has ended or waits, and all
+// jobs that were made are written.
+fn finish(
+    ledger: &mut Ledger,
+    held: &mut Vec<Option<Held>>,
+    jobs: &mut Vec<Job<Body>>,
+    first: usize,
+    task: TaskId,
+    number: u32,
+    body: Body,
+    resume: Option<Resume>,
+    step: Step,
+)
+    requires there { task.0 < vec_len held.old }
+    requires first { first ≤ vec_len jobs.old }
+    requires running { GoesOn step → IsRunning body }
+    requires goes { (next : Resume) → resume ≡ Some next → GoesOn step }
+    requires held_room { vec_len held.old + (vec_len jobs.old - first) ≤ vec_capacity held.old }
+    requires jobs_room { vec_len jobs.old + length (waiters_of task.0 ledger.old.log) < vec_capacity jobs.old }
+    requires spare { (vec_len jobs.old - first) + length (waiters_of task.0 ledger.old.log) + 1 ≤ ledger.old.spare }
+    requires made { AreMade ledger.old.log (followed_from first held.old.items jobs.old.items task.0 number body.task resume step ledger.old.log).jobs }
+    ensures roots { ledger.new.roots ≡ ledger.old.roots }
+    ensures log { ledger.new.log ≡ ledger.old.log ++ gives (followed_from first held.old.items jobs.old.items task.0 number body.task resume step ledger.old.log).jobs }
+    ensures held { held_views held.new.items ≡ (followed_from first held.old.items jobs.old.items task.0 number body.task resume step ledger.old.log).held }
+    ensures jobs { map job_view jobs.new.items ≡ map job_view (take first jobs.old.items) ++ (followed_from first held.old.items jobs.old.items task.0 number body.task resume step ledger.old.log).jobs }
+    ensures bodies { (script : ScriptView) → body.script ≡ script → AllByRecursion (FitsScript script) held.old.items
+        → AllByRecursion (FitsScript script) held.new.items × (AllByRecursion (IsJobOf script) jobs.old.items → AllByRecursion (IsJobOf script) jobs.new.items) }
+    ensures long { vec_len held.new ≡ vec_len held.old + (vec_len jobs.old - first) }
+{
+    grow_held(held, jobs.len() - first);
+    follow_in(ledger, held, jobs, task, number, body, resume, step);
+    note_gives_from(ledger, jobs, first);
+}
+
+// A turn is written: that it was applied, its effects, and its exit. What the task's next turn begins with comes back.
+fn note_turn(
+    ledger: &mut Ledger,
+    jobs: &mut Vec<Job<Body>>,
+    task: TaskId,
+    number: u32,
+    effects: &[Effect],
+    bodies: Vec<Option<Body>>,
+    exit: &Exit,
+    step: Step,
+) -> Option<Resume>
+    requires turn { (script : ScriptView) × TurnFits script ledger.old.roots ledger.old.log task.0 (effect_views effects.now) bodies.items (exit_view exit.now) }
+    requires spare { length effects.now + 3 ≤ ledger.old.spare }
+    requires room { vec_len jobs.old + length effects.now ≤ vec_capacity jobs.old }
+    ensures roots { ledger.new.roots ≡ ledger.old.roots }
+    ensures log { ledger.new.log ≡ written_log ledger.old.roots task.0 number ledger.old.log (effect_views effects.now) (exit_view exit.now) step }
+    ensures resume { result ≡ exit_resume task.0 (done_log ledger.old.roots task.0 number ledger.old.log (effect_views effects.now)) (exit_view exit.now) step }
+    ensures leave { CanLeave task.0 (done_log ledger.old.roots task.0 number ledger.old.log (effect_views effects.now)) (exit_view exit.now) }
+    ensures spare { ledger.old.spare ≤ ledger.new.spare + length effects.now + 3 }
+    ensures jobs { (script : ScriptView) → AreBodiesOf script (effect_views effects.now) bodies.items → root_count script ≡ ledger.old.roots
+        → map job_view jobs.new.items ≡ map job_view jobs.old.items ++ jobs_made script task.0 (begun_priority (life_of task.0 ledger.old.log).stage) (ledger.old.log ++ Event.Apply task number ∷ []) (effect_views effects.now) }
+    ensures bodies { (script : ScriptView) → AreBodiesOf script (effect_views effects.now) bodies.items → AllByRecursion (IsJobOf script) jobs.old.items → AllByRecursion (IsJobOf script) jobs.new.items }
+    ensures few { vec_len jobs.new ≤ vec_len jobs.old + length effects.now }
+    ensures capacity { vec_capacity jobs.new ≡ vec_capacity jobs.old }
+{
+    let own = begun_priority(ledger.life(task).stage);
+    note_apply(ledger, task, number);
+    note_effects(ledger, jobs, task, own, effects, bodies);
+    note_exit(ledger, task, exit, step)
+}
+
 // What the end of a turn leaves, in memory that was made for it.
 fn end_turn(
     ledger: &mut Ledger,
@@ -157,19 +273,109 @@ fn end_turn(
         → Ends script ledger.old.log (held_views held.old.items) (map job_view jobs.old.items) task.0 number (effect_views effects.now) (exit_view exit.now) body step ledger.new.log (held_views held.new.items) (map job_view jobs.new.items) }
     ensures bodies { (script : ScriptView) → TurnLeaves script ledger.old.roots ledger.old.log (held_views held.old.items) task.0 (effect_views effects.now) bodies.items (exit_view exit.now) body step
         → AllByRecursion (FitsScript script) held.old.items → AllByRecursion (FitsScript script) held.new.items × (AllByRecursion (IsJobOf script) jobs.old.items → AllByRecursion (IsJobOf script) jobs.new.items) }
+    ensures kept { (script : ScriptView) → TurnLeaves script ledger.old.roots ledger.old.log (held_views held.old.items) task.0 (effect_views effects.now) bodies.items (exit_view exit.now) body step
+        → HoldsWaiting ledger.old.roots ledger.new.log (held_views held.new.items) × UnopenedAreNotClosed ledger.new.log }
     ensures few { vec_len held.new ≤ vec_len held.old + length effects.now }
 {
-    let own = begun_priority(ledger.life(task).stage);
     let first = jobs.len();
-    ledger.note(Event::Apply(task, number));
-    note_effects(ledger, jobs, task, own, effects, bodies);
-    let resume = note_exit(ledger, task, exit, step);
-    grow_held(held, jobs.len() - first);
-    follow(ledger, held, jobs, task, number + 1, body, resume, step);
-    note_gives(ledger, &jobs[first..]);
+    let resume = note_turn(ledger, jobs, task, number, effects, bodies, exit, step);
+    finish(
+        ledger,
+        held,
+        jobs,
+        first,
+        task,
+        number + 1,
+        body,
+        resume,
+        step,
+    );
+}
+
+// Follows the exit of a job's turn, which fits, and ends the turn. Where the body finds no memory, nothing has changed and the
+// job comes back.
+fn take_turn(
+    ledger: &mut Ledger,
+    held: &mut Vec<Option<Held>>,
+    jobs: &mut Vec<Job<Body>>,
+    job: Job<Body>,
+    effects: &[Effect],
+    bodies: Vec<Option<Body>>,
+    exit: &Exit,
+) -> Result<(), Job<Body>>
+    requires fits { (script : ScriptView) × JobFits script ledger.old.roots ledger.old.log (held_views held.old.items) job (effect_views effects.now) bodies.items (exit_view exit.now) }
+    requires small { job.number + 1 < 2 ^ 32 }
+    requires log_room { length effects.now + length effects.now + length (waiters_of job.task.0 ledger.old.log) + 5 ≤ ledger.old.spare }
+    requires held_room { vec_len held.old + length effects.now ≤ vec_capacity held.old }
+    requires jobs_room { vec_len jobs.old + length effects.now + length (waiters_of job.task.0 ledger.old.log) + 2 ≤ vec_capacity jobs.old }
+    ensures roots { ledger.new.roots ≡ ledger.old.roots }
+    ensures end { OnOk result ((script : ScriptView) → JobFits script ledger.old.roots ledger.old.log (held_views held.old.items) job (effect_views effects.now) bodies.items (exit_view exit.now)
+        → IsEndOf (record { script = script; log = ledger.old.log; held = held_views held.old.items }) (map job_view jobs.old.items) job (effect_views effects.now) (exit_view exit.now) ledger.new.log (held_views held.new.items) (map job_view jobs.new.items)) }
+    ensures kept { OnOk result ((script : ScriptView) → JobFits script ledger.old.roots ledger.old.log (held_views held.old.items) job (effect_views effects.now) bodies.items (exit_view exit.now)
+        → HoldsWaiting ledger.old.roots ledger.new.log (held_views held.new.items) × UnopenedAreNotClosed ledger.new.log) }
+    ensures bodies { OnOk result ((script : ScriptView) → JobFits script ledger.old.roots ledger.old.log (held_views held.old.items) job (effect_views effects.now) bodies.items (exit_view exit.now)
+        → AllByRecursion (FitsScript script) held.old.items → AllByRecursion (FitsScript script) held.new.items × (AllByRecursion (IsJobOf script) jobs.old.items → AllByRecursion (IsJobOf script) jobs.new.items)) }
+    ensures few { vec_len held.new ≤ vec_len held.old + length effects.now }
+    ensures err { IfErr result (λ back. (back ≡ job) × (ledger.new ≡ ledger.old) × (held.new ≡ held.old) × (jobs.new ≡ jobs.old)) }
+{
+    let (task, number, resume, mut body) = job.spend();
+    match body.advance(exit) {
+        Ok(step) => {
+            end_turn(
+                ledger, held, jobs, task, number, effects, bodies, exit, body, step,
+            );
+            Ok(())
+        }
+        Err(_) => Err(Job::new(task, number, resume, body)),
+    }
 }
 
 impl Book {
+    // Takes a turn that fits.
+    fn apply_fitting(
+        &mut self,
+        job: Job<Body>,
+        exit: &Exit,
+        effects: Vec<Effect>,
+        jobs: &mut Vec<Job<Body>>,
+    ) -> Result<(), (Job<Body>, Vec<Effect>, BookFault)>
+        requires running { IsRunning job.body }
+        requires fits { refusal_of_apply self.old.script self.old.log job (effect_views effects.items) (exit_view exit.now) ≡ None }
+        requires small { job.number + 1 < 2 ^ 32 }
+        requires known { job.task.0 < tasks_of (root_count self.old.script) self.old.log }
+        requires same { job.body.script ≡ self.old.script }
+        ensures ok { OnOk result (IsEndOf self.old (map job_view jobs.old.items) job (effect_views effects.items) (exit_view exit.now) self.new.log self.new.held (map job_view jobs.new.items)) }
+        ensures script { self.new.script ≡ self.old.script }
+        ensures bodies { AllByRecursion (IsJobOf self.old.script) jobs.old.items → AllByRecursion (IsJobOf self.old.script) jobs.new.items }
+        ensures err { IfErr result (λ e. (self.new ≡ self.old) × (jobs.new.items ≡ jobs.old.items) × (e.0 ≡ job) × (effect_views e.1.items ≡ effect_views effects.items) × (e.2 ≡ BookFault.Memory)) }
+    {
+        let Ok(bodies) = bodies_of(self.alloc, &self.script, &effects) else {
+            return Err((job, effects, BookFault::Memory));
+        };
+        let Ok(()) = make_room(
+            &mut self.ledger,
+            &mut self.held,
+            &mut self.spare,
+            jobs,
+            job.task(),
+            effects.len(),
+        ) else {
+            return Err((job, effects, BookFault::Memory));
+        };
+        if let Err(job) = take_turn(
+            &mut self.ledger,
+            &mut self.held,
+            jobs,
+            job,
+            &effects,
+            bodies,
+            exit,
+        ) {
+            return Err((job, effects, BookFault::Memory));
+        }
+        Ok(())
+    }
+
     /// Takes what a turn of a job did: its effects, in order, and its exit (SE-0304, SE-0306). The events and the jobs that
     /// follow are those of `end_of_turn`; the jobs come behind those that `jobs` has: for the tasks that were made, in order of effects, for the task's own next
     /// turn, and for those that have waited for its end. It writes three events and takes no more memory for a turn that only gives way; else it takes time linear in
@@ -185,8 +391,8 @@ impl Book {
         jobs: &mut Vec<Job<Body>>,
     ) -> Result<(), (Job<Body>, Vec<Effect>, BookFault)>
         requires running { IsRunning job.body }
-        ensures ok { OnOk result (let e = end_of_turn self.old job (effect_views effects.items) (exit_view exit.now) in
-            (self.new ≡ record self.old { log = e.log; held = e.held }) × (map job_view jobs.new.items ≡ map job_view jobs.old.items ++ e.jobs)) }
+        ensures ok { OnOk result (IsEndOf self.old (map job_view jobs.old.items) job (effect_views effects.items) (exit_view exit.now) self.new.log self.new.held (map job_view jobs.new.items)) }
+        ensures script { self.new.script ≡ self.old.script }
         ensures bodies { AllByRecursion (IsJobOf self.old.script) jobs.old.items → AllByRecursion (IsJobOf self.old.script) jobs.new.items }
         ensures err { IfErr result (λ e. (self.new ≡ self.old) × (jobs.new.items ≡ jobs.old.items) × (e.0 ≡ job) × (effect_views e.1.items ≡ effect_views effects.items)) }
         ensures refused { MatchResult result (λ _. refusal_of_apply self.old.script self.old.log job (effect_views effects.items) (exit_view exit.now) ≡ None)
@@ -195,36 +401,6 @@ impl Book {
         if let Some(fault) = self.refusal_to_apply(&job, exit, &effects) {
             return Err((job, effects, fault));
         }
-        let Ok(bodies) = bodies_of(self.alloc, &self.script, &effects) else {
-            return Err((job, effects, BookFault::Memory));
-        };
-        let Ok(()) = make_room(
-            &mut self.ledger,
-            &mut self.held,
-            &mut self.spare,
-            jobs,
-            job.task(),
-            effects.len(),
-        ) else {
-            return Err((job, effects, BookFault::Memory));
-        };
-        let (task, number, resume, mut body) = job.spend();
-        let Ok(step) = body.advance(exit) else {
-            let job = Job::new(task, number, resume, body);
-            return Err((job, effects, BookFault::Memory));
-        };
-        end_turn(
-            &mut self.ledger,
-            &mut self.held,
-            jobs,
-            task,
-            number,
-            &effects,
-            bodies,
-            exit,
-            body,
-            step,
-        );
-        Ok(())
+        self.apply_fitting(job, exit, effects, jobs)
     }
 }

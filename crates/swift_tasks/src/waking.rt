@@ -1,12 +1,13 @@
 //! Which tasks go on after a turn.
 
-ghost use Rattle.std.specs.Prelude.{◌≡◌, ◌+◌, ◌<◌, ◌≤◌, Some, None, length, vec_len, vec_capacity};
+ghost use Rattle.std.specs.Prelude.{◌≡◌, ◌+◌, ◌<◌, ◌≤◌, [], ◌∷◌, ◌++◌, Some, None, length, slice_set, vec_len, vec_capacity};
 ghost use Rattle.std.specs.List.{AllByRecursion};
 ghost use Rattle.swift_script.specs.Scripts.{ScriptView};
+ghost use Rattle.swift_groups.specs.Close.{close_of};
 ghost use Rattle.swift_turn.specs.Body.{IsRunning, GoesOn};
 ghost use Rattle.swift_events.specs.Lives.{life_of};
-ghost use Rattle.swift_events.specs.Relations.{waiters_of, parent_of};
-ghost use Rattle.swift_history.specs.TurnEnds.{wake, wake_each, wake_parent, wake_all, followed};
+ghost use Rattle.swift_events.specs.Relations.{waiters_of, group_of, parent_of};
+ghost use Rattle.swift_history.specs.TurnEnds.{wake, wake_each, wake_closing, wake_owner, wake_parent, wake_all, resume_at, followed};
 ghost use Rattle.swift_tasks.specs.Applying.{follows_of};
 ghost use Rattle.swift_tasks.specs.BookInvariant.{FitsScript};
 ghost use Rattle.swift_tasks.specs.Books.{IsJobOf};
@@ -24,8 +25,8 @@ use swift_types::{Ending, Resume, TaskId};
 fn wake(held: &mut [Option<Held>], jobs: &mut Vec<Job<Body>>, task: TaskId, resume: Resume)
     requires room { vec_len jobs.old < vec_capacity jobs.old }
     ensures follows { follows_of held.new jobs.new.items ≡ wake task.0 resume (follows_of held.old jobs.old.items) }
-    ensures bodies { (script : ScriptView) → AllByRecursion (FitsScript script) held.old → AllByRecursion (IsJobOf script) jobs.old.items
-        → AllByRecursion (FitsScript script) held.new × AllByRecursion (IsJobOf script) jobs.new.items }
+    ensures bodies { (script : ScriptView) → AllByRecursion (FitsScript script) held.old
+        → AllByRecursion (FitsScript script) held.new × (AllByRecursion (IsJobOf script) jobs.old.items → AllByRecursion (IsJobOf script) jobs.new.items) }
     ensures few { vec_len jobs.new ≤ vec_len jobs.old + 1 }
     ensures capacity { vec_capacity jobs.new ≡ vec_capacity jobs.old }
 {
@@ -48,8 +49,8 @@ fn wake_waiters(
 )
     requires room { vec_len jobs.old + length (waiters_of task.0 ledger.now.log) ≤ vec_capacity jobs.old }
     ensures follows { follows_of held.new jobs.new.items ≡ wake_each (waiters_of task.0 ledger.now.log) resume (follows_of held.old jobs.old.items) }
-    ensures bodies { (script : ScriptView) → AllByRecursion (FitsScript script) held.old → AllByRecursion (IsJobOf script) jobs.old.items
-        → AllByRecursion (FitsScript script) held.new × AllByRecursion (IsJobOf script) jobs.new.items }
+    ensures bodies { (script : ScriptView) → AllByRecursion (FitsScript script) held.old
+        → AllByRecursion (FitsScript script) held.new × (AllByRecursion (IsJobOf script) jobs.old.items → AllByRecursion (IsJobOf script) jobs.new.items) }
     ensures few { vec_len jobs.new ≤ vec_len jobs.old + length (waiters_of task.0 ledger.now.log) }
     ensures capacity { vec_capacity jobs.new ≡ vec_capacity jobs.old }
 {
@@ -60,7 +61,59 @@ fn wake_waiters(
     }
 }
 
+// The owner that closes a group goes on, where each child has ended.
+fn wake_closing(
+    ledger: &Ledger,
+    held: &mut [Option<Held>],
+    jobs: &mut Vec<Job<Body>>,
+    owner: TaskId,
+    group: u32,
+)
+    requires room { vec_len jobs.old < vec_capacity jobs.old }
+    ensures follows { follows_of held.new jobs.new.items ≡ wake_closing owner.0 (close_of (group_of owner.0 group ledger.now.log)) (follows_of held.old jobs.old.items) }
+    ensures bodies { (script : ScriptView) → AllByRecursion (FitsScript script) held.old
+        → AllByRecursion (FitsScript script) held.new × (AllByRecursion (IsJobOf script) jobs.old.items → AllByRecursion (IsJobOf script) jobs.new.items) }
+    ensures few { vec_len jobs.new ≤ vec_len jobs.old + 1 }
+    ensures capacity { vec_capacity jobs.new ≡ vec_capacity jobs.old }
+{
+    match ledger.close_of(owner, group) {
+        Close::Done => wake(held, jobs, owner, Resume::Go),
+        Close::Wait => {}
+    }
+}
+
 // The owner of a child that has ended goes on, where it has waited for this.
+fn wake_owner(
+    ledger: &Ledger,
+    held: &mut [Option<Held>],
+    jobs: &mut Vec<Job<Body>>,
+    owner: TaskId,
+    group: u32,
+    ending: Ending,
+)
+    requires room { vec_len jobs.old < vec_capacity jobs.old }
+    ensures follows { follows_of held.new jobs.new.items ≡ wake_owner owner.0 group ending (life_of owner.0 ledger.now.log).stage ledger.now.log (follows_of held.old jobs.old.items) }
+    ensures bodies { (script : ScriptView) → AllByRecursion (FitsScript script) held.old
+        → AllByRecursion (FitsScript script) held.new × (AllByRecursion (IsJobOf script) jobs.old.items → AllByRecursion (IsJobOf script) jobs.new.items) }
+    ensures few { vec_len jobs.new ≤ vec_len jobs.old + 1 }
+    ensures capacity { vec_capacity jobs.new ≡ vec_capacity jobs.old }
+{
+    match ledger.life(owner).stage {
+        Some(Stage::Asks(asked)) => {
+            if asked == group {
+                wake(held, jobs, owner, resume_of(ending));
+            }
+        }
+        Some(Stage::Closes(closed)) => {
+            if closed == group {
+                wake_closing(ledger, held, jobs, owner, group);
+            }
+        }
+        _ => {}
+    }
+}
+
+// The same, where the task is a child.
 fn wake_parent(
     ledger: &Ledger,
     held: &mut [Option<Held>],
@@ -70,28 +123,13 @@ fn wake_parent(
 )
     requires room { vec_len jobs.old < vec_capacity jobs.old }
     ensures follows { follows_of held.new jobs.new.items ≡ wake_parent (parent_of task.0 ledger.now.log) ending ledger.now.log (follows_of held.old jobs.old.items) }
-    ensures bodies { (script : ScriptView) → AllByRecursion (FitsScript script) held.old → AllByRecursion (IsJobOf script) jobs.old.items
-        → AllByRecursion (FitsScript script) held.new × AllByRecursion (IsJobOf script) jobs.new.items }
+    ensures bodies { (script : ScriptView) → AllByRecursion (FitsScript script) held.old
+        → AllByRecursion (FitsScript script) held.new × (AllByRecursion (IsJobOf script) jobs.old.items → AllByRecursion (IsJobOf script) jobs.new.items) }
     ensures few { vec_len jobs.new ≤ vec_len jobs.old + 1 }
     ensures capacity { vec_capacity jobs.new ≡ vec_capacity jobs.old }
 {
-    let Some(Origin::Child(owner, group)) = ledger.life(task).origin else {
-        return;
-    };
-    match ledger.life(owner).stage {
-        Some(Stage::Asks(asked)) => {
-            if asked == group {
-                wake(held, jobs, owner, resume_of(ending));
-            }
-        }
-        Some(Stage::Closes(closed)) => {
-            if closed == group {
-                match ledger.close_of(owner, group) {
-                    Close::Done => wake(held, jobs, owner, Resume::Go),
-                    Close::Wait => {}
-                }
-            }
-        }
+    match ledger.life(task).origin {
+        Some(Origin::Child(owner, group)) => wake_owner(ledger, held, jobs, owner, group, ending),
         _ => {}
     }
 }
@@ -106,13 +144,32 @@ fn wake_all(
 )
     requires room { vec_len jobs.old + length (waiters_of task.0 ledger.now.log) < vec_capacity jobs.old }
     ensures follows { follows_of held.new jobs.new.items ≡ wake_all task.0 ending ledger.now.log (follows_of held.old jobs.old.items) }
-    ensures bodies { (script : ScriptView) → AllByRecursion (FitsScript script) held.old → AllByRecursion (IsJobOf script) jobs.old.items
-        → AllByRecursion (FitsScript script) held.new × AllByRecursion (IsJobOf script) jobs.new.items }
+    ensures bodies { (script : ScriptView) → AllByRecursion (FitsScript script) held.old
+        → AllByRecursion (FitsScript script) held.new × (AllByRecursion (IsJobOf script) jobs.old.items → AllByRecursion (IsJobOf script) jobs.new.items) }
     ensures few { vec_len jobs.new ≤ vec_len jobs.old + length (waiters_of task.0 ledger.now.log) + 1 }
     ensures capacity { vec_capacity jobs.new ≡ vec_capacity jobs.old }
 {
     wake_waiters(ledger, held, jobs, task, resume_of(ending));
     wake_parent(ledger, held, jobs, task, ending);
+}
+
+// A task goes on with this in its turn of this number.
+fn go_on(jobs: &mut Vec<Job<Body>>, task: TaskId, number: u32, resume: Resume, body: Body)
+    requires running { IsRunning body }
+    requires room { vec_len jobs.old < vec_capacity jobs.old }
+    ensures jobs { jobs.new.items ≡ jobs.old.items ++ record { task = task; number = number; resume = resume_at number resume; body = body } ∷ [] }
+    ensures capacity { vec_capacity jobs.new ≡ vec_capacity jobs.old }
+{
+    let resume = resume_at(number, resume);
+    jobs.push_reserved(Job::new(task, number, resume, body));
+}
+
+// A task waits, before its turn of this number.
+fn hold(held: &mut [Option<Held>], task: TaskId, number: u32, body: Body)
+    requires there { task.0 < length held.old }
+    ensures held { held.new ≡ slice_set held.old task.0 (Some (record { number = number; body = body })) }
+{
+    held[task.0 as usize] = Some(Held { number, body });
 }
 
 // What follows from a turn: the task goes on with this in its turn of this number; or it has ended, and those that have
@@ -132,21 +189,17 @@ pub fn follow(
     requires goes { (next : Resume) → resume ≡ Some next → GoesOn step }
     requires room { vec_len jobs.old + length (waiters_of task.0 ledger.now.log) < vec_capacity jobs.old }
     ensures follows { follows_of held.new jobs.new.items ≡ followed task.0 number body.task resume step ledger.now.log (follows_of held.old jobs.old.items) }
-    ensures bodies { (script : ScriptView) → body.script ≡ script → AllByRecursion (FitsScript script) held.old → AllByRecursion (IsJobOf script) jobs.old.items
-        → AllByRecursion (FitsScript script) held.new × AllByRecursion (IsJobOf script) jobs.new.items }
+    ensures bodies { (script : ScriptView) → body.script ≡ script → AllByRecursion (FitsScript script) held.old
+        → AllByRecursion (FitsScript script) held.new × (AllByRecursion (IsJobOf script) jobs.old.items → AllByRecursion (IsJobOf script) jobs.new.items) }
     ensures few { vec_len jobs.new ≤ vec_len jobs.old + length (waiters_of task.0 ledger.now.log) + 1 }
     ensures capacity { vec_capacity jobs.new ≡ vec_capacity jobs.old }
 {
     match resume {
-        Some(resume) => {
-            let resume = resume_at(number, resume);
-            jobs.push_reserved(Job::new(task, number, resume, body));
-        }
+        Some(resume) => go_on(jobs, task, number, resume, body),
         None => match step {
             Step::Ended(ending) => wake_all(ledger, held, jobs, task, ending),
-            Step::Run(_, _) | Step::Await => {
-                held[task.0 as usize] = Some(Held { number, body });
-            }
+            Step::Await => hold(held, task, number, body),
+            Step::Run(_, _) => hold(held, task, number, body),
         },
     }
 }

@@ -18,6 +18,8 @@ mod ballast;
 mod escalation;
 // Task groups.
 mod groups;
+// An inbox of an executor.
+mod inbox;
 // Bindings of task locals.
 mod locals;
 // A queue of jobs.
@@ -42,6 +44,7 @@ fn main(rt: HostRuntime) -> ExitCode {
     if let Some(found) = script::read_again(&rt, script::WORK) {
         let _ = turn::play_root(&rt, &found);
         let _ = script::print_again(&rt, script::WORK, &found);
+        let _ = inbox::fill_again(&rt, &rt, &found);
     }
     locals::bind_again(&rt);
     groups::open_again(&rt);

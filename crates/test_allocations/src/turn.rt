@@ -117,6 +117,7 @@ fn bound(alloc: Global) -> Result<Bindings, AllocError> {
 
 fn start(alloc: Global, script: &Arc<Script>, method: MethodId) -> Result<Body, AllocError>
     requires { method.0 < method_count (arc_value script.now) }
+    ensures script { IfOk result (λ b. b.script ≡ arc_value script.now) }
     ensures idle { IfOk result (λ b. b.phase ≡ idle) }
     ensures running { IfOk result (λ b. IsRunning b) }
 {
@@ -125,8 +126,9 @@ fn start(alloc: Global, script: &Arc<Script>, method: MethodId) -> Result<Body, 
     Body::start(alloc, Arc::clone(script)?, method, args, bindings)
 }
 
-// The task of the root, made again where it is refused.
-fn start_again(rt: &HostRuntime, script: &Arc<Script>) -> Option<Body>
+/// The task of the root, made again where it is refused.
+pub fn start_again(rt: &HostRuntime, script: &Arc<Script>) -> Option<Body>
+    ensures script { IfSome result (λ b. b.script ≡ arc_value script.now) }
     ensures idle { IfSome result (λ b. b.phase ≡ idle) }
     ensures running { IfSome result (λ b. IsRunning b) }
 {

@@ -2,8 +2,8 @@
 //! stands in the file stdout.
 //!
 //! A case begins with a line `== PART TITLE`, and has a line for each call, up to the next such line. What stands
-//! before the first case is a comment. PART is `locals`, `waits`, `groups`, `roots`, `formulas`, `queue` or `words`,
-//! and each case has a part of its own. A line `FIRST to LAST: CALL`, or `FIRST to LAST by STEP: CALL`, makes a call
+//! before the first case is a comment. PART is `locals`, `waits`, `groups`, `roots`, `formulas`, `queue`, `words`,
+//! `inbox` or `inbox_threads`, and each case has a part of its own. A line `FIRST to LAST: CALL`, or `FIRST to LAST by STEP: CALL`, makes a call
 //! for each number, up or down, which stands in place of `#`, and the number below it in place of `@`; of its answers
 //! one that is the same as the one before is not written again.
 //!
@@ -19,6 +19,8 @@ mod fault;
 mod formulas;
 // Task groups.
 mod groups;
+// Inboxes of executors, and two threads.
+mod inbox;
 // Bindings of task locals.
 mod locals;
 // A queue of jobs.
@@ -35,6 +37,7 @@ mod words;
 use crate::calls::play;
 use crate::fault::CaseFault;
 use crate::formulas::FormulasPart;
+use crate::inbox::{play_inbox, play_threads};
 use crate::locals::LocalsPart;
 use crate::queue::play_queue;
 use crate::roots::RootsPart;
@@ -94,6 +97,8 @@ fn answer<R: Threads + Wait + Sync>(
         "formulas" => play(alloc, &mut FormulasPart, calls, out),
         "queue" => play_queue(alloc, calls, out),
         "words" => play_words(rt, alloc, calls, out),
+        "inbox" => play_inbox(rt, alloc, calls, out),
+        "inbox_threads" => play_threads(rt, alloc, calls, out),
         _ => Err(CaseFault::Form),
     }
 }

@@ -1,12 +1,11 @@
-use Rattle.std.proofs.Common.{◌≡◌, ◌∙◌, ap, sym, true, false}
-use Rattle.swift_ledger.specs.Ledgers.{LedgerView}
+use Rattle.std.proofs.Common.{◌≡◌, ◌∙◌, sym, true, false}
 use Rattle.swift_history.specs.TurnEnds.{is_left_out}
 use Rattle.swift_tasks.proofs.effects.note_add.Goals as goal
 
 pub returns-then-left_out-clause-log : goal.returns-then-left_out-clause-log
 returns-then-left_out-clause-log c =
     let b : is_left_out c.args.task.0 c.args.group c.args.unless c.args.ledger.now.log ≡ true = sym c.leaves_out-left_out.ensures ∙ c.if-left_out.true in
-    rw b (ap (λ (l : LedgerView). l.log) c.note.ensures.log)
+    rw b c.note_aside.ensures.log
 
 pub returns-else-left_out-clause-log : goal.returns-else-left_out-clause-log
 returns-else-left_out-clause-log c =

@@ -67,4 +67,4 @@ returns-in-Err-clause-refused c =
     let at : s.chosen ≡ Some (chosen_view x.next.items h.0) = ap (chosen_of x.next.items) h.1 in
     subst (λ (v : ExecView). IsRefusal (refusal_to_begin c.args.book.now v.chosen) c.from.result) c.self.view_is
     (subst (λ (o : Option ChosenView). IsRefusal (refusal_to_begin c.args.book.now o) c.from.result) (sym at)
-    (subst (λ (f : ExecFault). IsRefusal (refusal_of_begin c.args.book.now.log h.0.job) f) (sym c.from.ensures) (refused_so (refusal_of_begin c.args.book.now.log h.0.job) c.in-Err.fault h.2)))
+    (subst (λ (f : ExecFault). IsRefusal (refusal_of_begin c.args.book.now.script c.args.book.now.log h.0.job) f) (sym c.from.ensures) (refused_so (refusal_of_begin c.args.book.now.script c.args.book.now.log h.0.job) c.in-Err.fault h.2)))

@@ -1,0 +1,2 @@
+pub mod AccountIsKept
+pub mod CrossesThreads

@@ -1,0 +1,8 @@
+use Rattle.swift_inbox.proofs.CrossesThreads.{pass_send, body_send}
+use Rattle.swift_inbox.proofs.laws.passes_and_bodies_cross_threads.Goals as goal
+
+pub returns-clause-pass : goal.returns-clause-pass
+returns-clause-pass c = pass_send
+
+pub returns-clause-body : goal.returns-clause-body
+returns-clause-body c = body_send

@@ -1,0 +1,4 @@
+pub mod Inbox
+pub mod Rule
+pub mod Sent
+pub mod Site

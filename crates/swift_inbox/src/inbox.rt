@@ -1,0 +1,152 @@
+//! The inbox, and what its calls answer.
+//!
+//! An inbox is the bounded queue of the kit's `crossbeam_queue`, under a rule. Each thread puts and takes through a `Pass`
+//! of its own, which keeps account of what went through it. The rule says that what was put in, through all passes, is
+//! what was taken out and what is inside, each job as often, and that each job inside can run at the inbox's executor.
+
+ghost use Rattle.std.specs.Prelude.{◌≡◌, ◌<◌, ◌≤◌, ◌+◌, IfOk, IfErr, OnOk, OnErr, IfSome, IfNone, Some, vec_len, vec_capacity};
+ghost use Rattle.crossbeam_queue.specs.Passes.{view, IsPassOf as IsRawPassOf};
+ghost use Rattle.swift_inbox.specs.Inbox.{IsPassOf, new_pass, has_pushed, has_taken, IsDrained};
+ghost use Rattle.swift_inbox.specs.Rule.{blank, unused};
+ghost use Rattle.swift_inbox.specs.Site.{CanRunAt};
+
+use crate::item::Item;
+use crate::pass::{Pass, RawPass};
+use crate::rule::{InboxRule, Placed, Places, Puts, Takes};
+use crate::site::ExecutorSite;
+use crate::view::PassView;
+use crossbeam_queue::RuledArrayQueue;
+use std::alloc::{AllocError, Global};
+use std::marker::{Brand, Model};
+use std::sync::Wait;
+use swift_queue::Job;
+use swift_turn::Body;
+
+/// The queue of an inbox.
+pub(crate) type Queue = RuledArrayQueue<Item, PassView, InboxRule>;
+
+/// The jobs that were sent to one executor and not yet taken: a bounded queue, first in, first out (SE-0392 for what may
+/// be enqueued on an executor; the bound is our own). Any number of threads share an inbox by reference; each puts and
+/// takes with a `Pass` of its own. There is no lock: a call waits only while another thread is between two steps of a
+/// call of its own, and one that stops there for ever stops the others too. After more than 2^62 puts, `put` and `take`
+/// wait for ever.
+///
+/// In a clause it is which inbox it is, the executor whose jobs it is for, and how many it has room for. No clause knows
+/// what is inside, since other threads may change it at any moment; what holds of it is said in `laws`. Where an inbox is
+/// dropped, the jobs inside are spent.
+#[derive(Drop)]
+pub struct Inbox {
+    pub(crate) queue: Queue,
+    site: ExecutorSite,
+}
+
+impl Model for Inbox {
+    ghost use Rattle.std.specs.Coded.{codes};
+    ghost use Rattle.swift_script.specs.Codes.{expression_code, statement_code, block_code};
+    ghost use Rattle.std.specs.Prelude.{◌<◌};
+    ghost use Rattle.crossbeam_queue.specs.Passes.{ruled_capacity};
+    ghost use Rattle.swift_inbox.specs.Inbox.{InboxIs};
+
+    ghost Value = { InboxIs };
+
+    ghost coded = { Prim.hlevel (codes, expression_code, statement_code (block_code (Prim.hlevel (codes, expression_code)) (Prim.hlevel (codes, expression_code)))) };
+
+    ghost view = { λ i. record { id = i.queue.table.shared.table_id; site = i.site; room = ruled_capacity i.queue } };
+
+    ghost invariant = { λ i. 0 < ruled_capacity i.queue };
+}
+
+// Tells a new inbox its executor, and makes a pass. The rule has no other way to learn it: it begins without, and the
+// first pass is told once.
+fn make_placed<K: Placed>(queue: &Queue, first: &mut RawPass, site: &ExecutorSite) -> RawPass
+    requires first { IsRawPassOf queue.now first.old × (first.old.id ≡ 0) × (view first.old ≡ blank) }
+    requires site { K.site ≡ Some site.now }
+    ensures pass { IsRawPassOf queue.now result × (view result ≡ unused (Some site.now)) }
+{
+    queue.another::<Places<K>>(first)
+}
+
+impl Inbox {
+    /// An empty inbox for the jobs of this executor, with room for so many, and its first pass. The only call that takes
+    /// memory: a place for each job and 8 bytes beside it, and each place is marked as empty. An `Err` says that a growth
+    /// was refused, and a room of 2^60 or more is refused too.
+    pub fn new(alloc: Global, site: ExecutorSite, room: usize) -> Result<(Inbox, Pass), AllocError>
+        requires { 0 < room }
+        ensures site { IfOk result (λ r. r.0.site ≡ site) }
+        ensures room { IfOk result (λ r. r.0.room ≡ room) }
+        ensures pass { IfOk result (λ r. r.1 ≡ new_pass r.0) }
+    {
+        let (queue, mut first) = Queue::ruled(alloc, room)?;
+        let raw = make_placed::<Brand>(&queue, &mut first, &site);
+        Ok((Inbox { queue, site }, Pass { raw }))
+    }
+
+    /// The executor whose jobs it is for.
+    pub fn site(&self) -> &ExecutorSite
+        ensures { result.now ≡ self.now.site }
+    {
+        &self.site
+    }
+
+    /// How many jobs it has room for, at least 1.
+    pub fn room(&self) -> usize
+        ensures same { result ≡ self.now.room }
+        ensures least { 0 < result }
+    {
+        self.queue.capacity()
+    }
+
+    /// Puts a job in, as the newest. Where the inbox was full at some moment of the call, the job comes back, and nothing
+    /// has changed. It takes no memory, and constant time where no other thread is in the way.
+    ///
+    /// For a job that can run at the inbox's executor: its body is of that script and has not ended, and its running
+    /// frame is of an actor of that executor.
+    pub fn put<R: Wait>(&self, rt: &R, pass: &mut Pass, job: Job<Body>) -> Result<(), Job<Body>>
+        requires pass { IsPassOf self.now pass.old }
+        requires job { CanRunAt self.now.site job }
+        ensures ok { OnOk result (pass.new ≡ has_pushed pass.old job) }
+        ensures back { IfErr result (λ back. back ≡ job) }
+        ensures kept { OnErr result (pass.new ≡ pass.old) }
+    {
+        let item = Item::of(job);
+        match self.queue.push_as::<Puts, R>(rt, &mut pass.raw, item) {
+            Ok(()) => Ok(()),
+            Err(item) => Err(item.into_job()),
+        }
+    }
+
+    /// Takes the oldest job out, which can run at the inbox's executor. Nothing where the inbox was empty at some moment
+    /// of the call. It takes no memory, and constant time where no other thread is in the way.
+    pub fn take<R: Wait>(&self, rt: &R, pass: &mut Pass) -> Option<Job<Body>>
+        requires pass { IsPassOf self.now pass.old }
+        ensures some { IfSome result (λ job. pass.new ≡ has_taken pass.old job) }
+        ensures job { IfSome result (λ job. CanRunAt self.now.site job) }
+        ensures none { IfNone result (pass.new ≡ pass.old) }
+    {
+        match self.queue.pop_as::<Takes, R>(rt, &mut pass.raw) {
+            Some(item) => Some(item.into_job()),
+            None => None,
+        }
+    }
+
+    /// Gives the inbox up: what is inside goes onto a list, the oldest first. It takes no memory.
+    ///
+    /// With the list comes the pass by which the jobs were taken out: its account is what came onto the list. That pass is
+    /// made here, so it knows no executor; a pass that threads share can't be kept in the inbox.
+    ///
+    /// For a list that has room for as many jobs as the inbox.
+    pub fn drain<R: Wait>(self, rt: &R, mut list: Vec<Job<Body>>) -> (Vec<Job<Body>>, Pass)
+        requires { vec_len list + self.room ≤ vec_capacity list }
+        ensures { IsDrained self list.items result.0.items result.1 }
+    {
+        let Inbox { queue, site: _ } = self;
+        let mut raw = queue.pass();
+        'drain: for _ in 0..queue.capacity() {
+            match queue.pop_as::<Takes, R>(rt, &mut raw) {
+                Some(item) => list.push_reserved(item.into_job()),
+                None => break,
+            }
+        }
+        (list, Pass { raw })
+    }
+}

@@ -1,0 +1,52 @@
+//! A thread's right to put and take.
+
+ghost use Rattle.std.specs.Prelude.{◌≡◌};
+ghost use Rattle.swift_inbox.specs.Inbox.{IsPassOf, new_pass};
+
+use crate::inbox::Inbox;
+use crate::item::Item;
+use crate::rule::NewPass;
+use crate::view::PassView;
+use std::marker::Model;
+
+/// What the queue calls a pass.
+pub(crate) type RawPass = crossbeam_queue::Pass<Item, PassView>;
+
+/// A thread's right to put jobs into one inbox, and to take them out. An inbox is made with its first pass, and each
+/// further one is split from another. A pass may go to another thread, and can't be shared: each of its steps changes
+/// what it knows. It has no bytes.
+///
+/// In a clause a pass is its inbox, the executor whose jobs that is for, and the jobs that were put in and taken out
+/// through this pass, the oldest first. Where a pass is dropped, its account still counts.
+#[derive(Drop)]
+pub struct Pass {
+    pub(crate) raw: RawPass,
+}
+
+impl Model for Pass {
+    ghost use Rattle.std.specs.Coded.{codes};
+    ghost use Rattle.swift_script.specs.Codes.{expression_code, statement_code, block_code};
+    ghost use Rattle.std.specs.Prelude.{◌≡◌, []};
+    ghost use Rattle.crossbeam_queue.specs.Passes.{view as known};
+    ghost use Rattle.swift_inbox.specs.Inbox.{PassIs};
+
+    ghost Value = { PassIs };
+
+    ghost coded = { Prim.hlevel (codes, expression_code, statement_code (block_code (Prim.hlevel (codes, expression_code)) (Prim.hlevel (codes, expression_code)))) };
+
+    ghost view = { λ p. record { inbox = p.raw.table_id; site = (known p.raw).site; pushed = (known p.raw).pushed; taken = (known p.raw).taken } };
+
+    ghost invariant = { λ p. p.raw.me.1 ≡ [] };
+}
+
+impl Pass {
+    /// A new pass of the same inbox, through which nothing went yet. This pass keeps what it knows. It takes no memory.
+    pub fn split(&mut self, inbox: &Inbox) -> Pass
+        requires { IsPassOf inbox.now self.old }
+        ensures kept { self.new ≡ self.old }
+        ensures new { result ≡ new_pass inbox.now }
+    {
+        let raw = inbox.queue.another::<NewPass>(&mut self.raw);
+        Pass { raw }
+    }
+}

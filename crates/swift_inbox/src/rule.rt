@@ -1,0 +1,83 @@
+//! The rule of an inbox, and what each kind of step tells its pass.
+
+use crate::item::Item;
+use crate::view::PassView;
+use crossbeam_queue::protocol::{Lesson, Outcome, Protocol, Split};
+use std::marker::{Brand, PhantomData};
+
+/// The rule.
+pub struct InboxRule;
+
+impl Protocol<Item, PassView> for InboxRule {
+    ghost use Rattle.swift_inbox.specs.Rule.{InboxInvariant, blank};
+
+    ghost holds = { InboxInvariant };
+
+    ghost first = { blank };
+}
+
+/// A job is put in.
+pub struct Puts;
+
+impl Outcome<Item, PassView> for Puts {
+    ghost use Rattle.std.specs.Prelude.{◌≡◌};
+    ghost use Rattle.swift_inbox.specs.Rule.{with_pushed};
+
+    ghost then = { λ v job w. w ≡ with_pushed v job };
+}
+
+/// The oldest job is taken out.
+pub struct Takes;
+
+impl Outcome<Item, PassView> for Takes {
+    ghost use Rattle.swift_inbox.specs.Rule.{IsTaken};
+
+    ghost then = { IsTaken };
+}
+
+// No step learns what else is inside, since no pass knows what the others do.
+impl Lesson<Item, PassView> for Puts {
+    ghost fact = { λ _ _. Unit {0} };
+}
+
+impl Lesson<Item, PassView> for Takes {
+    ghost fact = { λ _ _. Unit {0} };
+}
+
+/// A new pass of the same executor, through which nothing went.
+pub struct NewPass;
+
+impl Split<PassView> for NewPass {
+    ghost use Rattle.swift_inbox.specs.Rule.{unused};
+
+    ghost left = { λ v. v };
+
+    ghost right = { λ v. unused v.site };
+}
+
+/// Names an executor, in proofs alone.
+pub trait Placed {
+    ghost use Rattle.std.specs.Prelude.{Option};
+    ghost use Rattle.swift_inbox.specs.Site.{Site};
+
+    ghost site: { Option Site };
+}
+
+impl Placed for Brand {
+    ghost use Rattle.std.specs.Prelude.{None};
+
+    ghost site = { None };
+}
+
+/// A new inbox is told which executor it is of.
+pub struct Places<K> {
+    of: PhantomData<K>,
+}
+
+impl<K: Placed> Split<PassView> for Places<K> {
+    ghost use Rattle.swift_inbox.specs.Rule.{unused};
+
+    ghost left = { λ v. unused K.site };
+
+    ghost right = { λ v. unused K.site };
+}

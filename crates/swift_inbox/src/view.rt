@@ -1,0 +1,30 @@
+//! What a pass knows of its inbox. No value of these types is made.
+
+use crate::item::Item;
+use crate::site::ExecutorSite;
+use std::collections::LinkedList;
+use std::marker::Model;
+
+/// A job that went through a pass: its task, number, resume and frames.
+pub struct NotedJob {
+    item: Item,
+}
+
+impl Model for NotedJob {
+    ghost use Rattle.swift_history.specs.TurnEnds.{JobView};
+    ghost use Rattle.swift_inbox.specs.Sent.{job_view};
+
+    ghost Value = { JobView };
+
+    ghost view = { λ n. job_view n.item };
+}
+
+/// A pass's view.
+pub struct PassView {
+    // Whose jobs the inbox is for. The pass that drains it knows none.
+    pub site: Option<ExecutorSite>,
+    // The jobs that were put in through this pass, the oldest first.
+    pub pushed: LinkedList<NotedJob>,
+    // The jobs that were taken out through this pass, the oldest first.
+    pub taken: LinkedList<NotedJob>,
+}

@@ -1,0 +1,14 @@
+use Rattle.std.proofs.Common.{◌≡◌, ◌∙◌, ap, sym, arith, List, [], ◌∷◌, ◌++◌, ℕ}
+use Rattle.swift_events.specs.declared.event.Event.{Event}
+use Rattle.swift_events.specs.Events.{task_of}
+use Rattle.swift_events.specs.Lives.{life_of, room_in, room_held}
+use Rattle.swift_ledger.specs.Ledgers.{LedgerView}
+use Rattle.swift_tasks.proofs.Grows.{stage-push}
+use Rattle.swift_tasks.proofs.effects.note_aside.Goals as goal
+
+pub returns-clause-reserved : goal.returns-clause-reserved
+returns-clause-reserved c =
+    let log = ap (λ (l : LedgerView). l.log) c.note.ensures.log in
+    let same : room_held (life_of (task_of c.args.event) c.note.new.self.log) ≡ room_held (life_of (task_of c.args.event) c.args.ledger.now.log) =
+    ap (λ (l : List Event). room_held (life_of (task_of c.args.event) l)) log ∙ ap room_in (stage-push (task_of c.args.event) c.args.ledger.now.log c.args.event c.requires.aside) in
+    omega (arith, same, c.note.ensures.reserved)

@@ -1,0 +1,93 @@
+use Rattle.std.proofs.Common.{◌≡◌, ℕ, ◌+◌, ◌∙◌, ap, sym, subst, suc, add-one, drop, arith, List, [], ◌∷◌, ◌++◌, append_assoc, length}
+use Rattle.std.specs.Prelude.{Option, map, reverse}
+use Rattle.std.specs.List.{AllByRecursion}
+use Rattle.swift_script.specs.Scripts.{ScriptView, root_count}
+use Rattle.swift_interpreter.specs.Turn.{EffectView, ExitView}
+use Rattle.swift_interpreter.specs.declared.effect.Effect.{Effect}
+use Rattle.swift_interpreter.specs.Frames.{effect_view, effect_views}
+use Rattle.swift_turn.specs.Body.{BodyView}
+use Rattle.swift_events.specs.declared.event.Event.{Event}
+use Rattle.swift_events.specs.Lives.{life_of}
+use Rattle.swift_events.specs.Room.{reserved_of}
+use Rattle.swift_ledger.specs.Ledgers.{IsMade}
+use Rattle.swift_history.specs.TurnEnds.{JobView, effect_events, effect_jobs, log_after, jobs_made}
+use Rattle.swift_tasks.specs.Applying.{CanTake, CanTakeAll, CanLeave}
+use Rattle.swift_tasks.specs.Bodies.{AreBodiesOf, IsBodyOf}
+use Rattle.swift_tasks.specs.Books.{job_view, IsJobOf}
+use Rattle.swift_tasks.proofs.Grows.{effect_grows}
+use Rattle.swift_tasks.proofs.EffectsTaken.{drop_at, drop_all, take_first, take_rest, take_none, last_first, first_body, rest_bodies}
+use Rattle.swift_tasks.proofs.turns.note_effects.Goals as goal
+
+pub note_effect-requires-clause-take : goal.note_effect-requires-clause-take
+note_effect-requires-clause-take c =
+    let es = c.args.effects.now in
+    let k : ℕ = c.loop-effect.effect-index in
+    let roots : ℕ = c.args.ledger.now.roots in
+    let log : List Event = c.loop-effect.ledger.log in
+    let bodies : List (Option BodyView) = reverse c.loop-effect.bodies.items in
+    let at : effect_views (drop k es) ≡ effect_view c.effect-item.result ∷ effect_views (drop (suc k) es) = ap effect_views (drop_at es k c.effect-item.result c.loop-effect-test.true c.effect-item.is) in
+    let exit : ExitView = c.requires.take.0 in
+    let can = subst (λ (vs : List EffectView). CanTakeAll roots c.args.task.0 log vs bodies exit) at (c.loop-effect.invariant.take exit c.requires.take.1) in
+    subst (λ (r : ℕ). CanTake r c.args.task.0 log (effect_view c.effect-item.result)) (sym c.loop-effect.invariant.roots) (take_first roots c.args.task.0 log (effect_view c.effect-item.result) (effect_views (drop (suc k) es)) bodies exit can)
+
+pub loop-effect-preserved : goal.loop-effect-preserved
+loop-effect-preserved c =
+    let es = c.args.effects.now in
+    let k : ℕ = c.loop-effect.effect-index in
+    let t : ℕ = c.args.task.0 in
+    let roots : ℕ = c.args.ledger.now.roots in
+    let log : List Event = c.loop-effect.ledger.log in
+    let e : EffectView = effect_view c.effect-item.result in
+    let next : List EffectView = effect_views (drop (suc k) es) in
+    let at : effect_views (drop k es) ≡ e ∷ next = ap effect_views (drop_at es k c.effect-item.result c.loop-effect-test.true c.effect-item.is) in
+    let one : effect_views (drop (k + 1) es) ≡ next = ap (λ (n : ℕ). effect_views (drop n es)) (add-one k) in
+    let bs : List (Option BodyView) = reverse c.pop.new.self.items in
+    let b : Option BodyView = c.in-Some.body in
+    let popped : reverse c.loop-effect.bodies.items ≡ b ∷ bs = last_first c.pop.new.self.items c.loop-effect.bodies.items b c.in-Some.ensures.items in
+    let same : c.loop-effect.ledger.roots ≡ roots = c.loop-effect.invariant.roots in
+    let more : c.note_effect.new.ledger.log ≡ log ++ effect_events roots t c.args.own log e = c.note_effect.ensures.log ∙ ap (λ (r : ℕ). log ++ effect_events r t c.args.own log e) same in
+    let room : reserved_of roots (log ++ effect_events roots t c.args.own log e) ≡ reserved_of roots log =
+    sym (ap (reserved_of roots) more) ∙ ap (λ (r : ℕ). reserved_of r c.note_effect.new.ledger.log) (sym (c.note_effect.ensures.roots ∙ same)) ∙ c.note_effect.ensures.reserved ∙ ap (λ (r : ℕ). reserved_of r log) same in
+    record {
+      roots = c.note_effect.ensures.roots ∙ same;
+      mine = subst (λ (l : List Event). IsMade l c.args.task) (sym more) ((effect_grows roots t c.args.own log e).stays.made t c.loop-effect.invariant.mine);
+      take = λ exit can.
+          (let was = subst (λ (vs : List EffectView). CanTakeAll roots t log vs (reverse c.loop-effect.bodies.items) exit) at (c.loop-effect.invariant.take exit can) in
+          let whole = subst (λ (xs : List (Option BodyView)). CanTakeAll roots t log (e ∷ next) xs exit) popped was in
+          let rest = take_rest roots t c.args.own log e next b bs exit room whole in
+          subst (λ (vs : List EffectView). CanTakeAll roots t c.note_effect.new.ledger.log vs bs exit) (sym one) (subst (λ (l : List Event). CanTakeAll roots t l next bs exit) (sym more) rest));
+      log = ap (λ (vs : List EffectView). log_after roots t c.args.own c.note_effect.new.ledger.log vs) one
+          ∙ ap (λ (l : List Event). log_after roots t c.args.own l next) more
+          ∙ sym (ap (λ (vs : List EffectView). log_after roots t c.args.own log vs) at)
+          ∙ c.loop-effect.invariant.log;
+      spare = (let a = c.loop-effect.invariant.spare in let d = c.note_effect.ensures.spare in omega (arith, a, d));
+      started = λ script are.
+          (let was = subst (λ (vs : List EffectView). AreBodiesOf script vs (reverse c.loop-effect.bodies.items)) at (c.loop-effect.invariant.started script are) in
+          subst (λ (vs : List EffectView). AreBodiesOf script vs bs) (sym one) (rest_bodies script e next b bs (subst (AreBodiesOf script (e ∷ next)) popped was)));
+      jobs = λ script are count.
+          (let was = subst (λ (vs : List EffectView). AreBodiesOf script vs (reverse c.loop-effect.bodies.items)) at (c.loop-effect.invariant.started script are) in
+          let this = first_body script e next b bs (subst (AreBodiesOf script (e ∷ next)) popped was) in
+          let added = c.note_effect.ensures.jobs script this (count ∙ sym same) in
+          let before : List JobView = map job_view c.loop-effect.jobs.items in
+          let log' : List Event = log ++ effect_events roots t c.args.own log e in
+          let unrolled : jobs_made script t c.args.own log (effect_views (drop k es)) ≡ effect_jobs script t log e ++ jobs_made script t c.args.own log' next =
+          ap (jobs_made script t c.args.own log) at ∙ ap (λ (r : ℕ). effect_jobs script t log e ++ jobs_made script t c.args.own (log ++ effect_events r t c.args.own log e) next) count in
+          ap (λ (js : List JobView). js ++ jobs_made script t c.args.own c.note_effect.new.ledger.log (effect_views (drop (k + 1) es))) added
+          ∙ ap (λ (vs : List EffectView). (before ++ effect_jobs script t log e) ++ jobs_made script t c.args.own c.note_effect.new.ledger.log vs) one
+          ∙ ap (λ (l : List Event). (before ++ effect_jobs script t log e) ++ jobs_made script t c.args.own l next) more
+          ∙ append_assoc before (effect_jobs script t log e) (jobs_made script t c.args.own log' next)
+          ∙ sym (ap (λ (js : List JobView). before ++ js) unrolled)
+          ∙ c.loop-effect.invariant.jobs script are count);
+      bodies = λ script are all.
+          (let was = subst (λ (vs : List EffectView). AreBodiesOf script vs (reverse c.loop-effect.bodies.items)) at (c.loop-effect.invariant.started script are) in
+          c.note_effect.ensures.bodies script (first_body script e next b bs (subst (AreBodiesOf script (e ∷ next)) popped was)) (c.loop-effect.invariant.bodies script are all));
+      few = (let a = c.loop-effect.invariant.few in let d = c.note_effect.ensures.few in omega (arith, a, d));
+      capacity = c.note_effect.ensures.capacity ∙ c.loop-effect.invariant.capacity;
+    }
+
+pub returns-clause-leave : goal.returns-clause-leave
+returns-clause-leave c = λ exit can.
+    let es = c.args.effects.now in
+    let none : effect_views (drop c.loop-effect.effect-index es) ≡ [] =
+    (let end : c.loop-effect.effect-index ≡ length es = omega (arith, c.loop-effect-test.false, c.loop-effect.auto.effect-index-end) in ap (λ (n : ℕ). effect_views (drop n es)) end ∙ ap effect_views (drop_all es)) in
+    take_none c.args.ledger.now.roots c.args.task.0 c.loop-effect.ledger.log (reverse c.loop-effect.bodies.items) exit (subst (λ (vs : List EffectView). CanTakeAll c.args.ledger.now.roots c.args.task.0 c.loop-effect.ledger.log vs (reverse c.loop-effect.bodies.items) exit) none (c.loop-effect.invariant.take exit can))

@@ -1,0 +1,28 @@
+use Rattle.std.proofs.Common.{◌≡◌, ◌+◌, ◌≤◌, ◌++◌, vec_len, drop}
+use Rattle.std.specs.Prelude.{map, reverse, length, vec_capacity}
+use Rattle.std.specs.List.{AllByRecursion}
+use Rattle.swift_script.specs.Scripts.{ScriptView, root_count}
+use Rattle.swift_interpreter.specs.Turn.{ExitView}
+use Rattle.swift_interpreter.specs.Frames.{effect_views}
+use Rattle.swift_ledger.specs.Ledgers.{IsMade}
+use Rattle.swift_history.specs.TurnEnds.{log_after, jobs_made}
+use Rattle.swift_tasks.specs.Applying.{CanTakeAll}
+use Rattle.swift_tasks.specs.Bodies.{AreBodiesOf}
+use Rattle.swift_tasks.specs.Books.{job_view, IsJobOf}
+use Rattle.swift_tasks.proofs.turns.note_effects.Given as goal
+
+abbrev pub invariant-loop-effect : goal.invariant-loop-effect
+invariant-loop-effect l = record {
+  roots : l.ledger.roots ≡ l.initial.ledger.roots;
+  mine : IsMade l.ledger.log l.task;
+  take : (exit : ExitView) → CanTakeAll l.initial.ledger.roots l.task.0 l.initial.ledger.log (effect_views l.effects) l.fn.bodies.items exit
+      → CanTakeAll l.initial.ledger.roots l.task.0 l.ledger.log (effect_views (drop l.effect-index l.effects)) (reverse l.bodies.items) exit;
+  log : log_after l.initial.ledger.roots l.task.0 l.own l.ledger.log (effect_views (drop l.effect-index l.effects)) ≡ log_after l.initial.ledger.roots l.task.0 l.own l.initial.ledger.log (effect_views l.effects);
+  spare : l.initial.ledger.spare ≤ l.ledger.spare + l.effect-index;
+  started : (script : ScriptView) → AreBodiesOf script (effect_views l.effects) l.fn.bodies.items → AreBodiesOf script (effect_views (drop l.effect-index l.effects)) (reverse l.bodies.items);
+  jobs : (script : ScriptView) → AreBodiesOf script (effect_views l.effects) l.fn.bodies.items → root_count script ≡ l.initial.ledger.roots
+      → map job_view l.jobs.items ++ jobs_made script l.task.0 l.own l.ledger.log (effect_views (drop l.effect-index l.effects)) ≡ map job_view l.initial.jobs.items ++ jobs_made script l.task.0 l.own l.initial.ledger.log (effect_views l.effects);
+  bodies : (script : ScriptView) → AreBodiesOf script (effect_views l.effects) l.fn.bodies.items → AllByRecursion (IsJobOf script) l.initial.jobs.items → AllByRecursion (IsJobOf script) l.jobs.items;
+  few : vec_len l.jobs ≤ vec_len l.initial.jobs + l.effect-index;
+  capacity : vec_capacity l.jobs ≡ vec_capacity l.initial.jobs;
+}

@@ -1,0 +1,14 @@
+use Rattle.std.proofs.Common.{◌≡◌, ◌+◌, ◌≤◌, ◌++◌, drop}
+use Rattle.std.specs.Prelude.{map, length}
+use Rattle.swift_history.specs.TurnEnds.{gives}
+use Rattle.swift_tasks.specs.Applying.{AreMade}
+use Rattle.swift_tasks.specs.Books.{job_view}
+use Rattle.swift_tasks.proofs.turns.note_gives.Given as goal
+
+abbrev pub invariant-loop-job : goal.invariant-loop-job
+invariant-loop-job l = record {
+  roots : l.ledger.roots ≡ l.initial.ledger.roots;
+  made : AreMade l.ledger.log (map job_view (drop l.job-index l.jobs));
+  log : l.ledger.log ++ gives (map job_view (drop l.job-index l.jobs)) ≡ l.initial.ledger.log ++ gives (map job_view l.jobs);
+  spare : l.initial.ledger.spare ≤ l.ledger.spare + l.job-index;
+}

@@ -1,0 +1,23 @@
+use Rattle.std.proofs.Common.{◌≡◌, ◌+◌, ◌-◌, ◌≤◌, vec_len, drop}
+use Rattle.std.specs.Prelude.{length, vec_capacity}
+use Rattle.std.specs.List.{AllByRecursion}
+use Rattle.swift_script.specs.Scripts.{ScriptView}
+use Rattle.swift_events.specs.Relations.{waiters_of}
+use Rattle.swift_history.specs.TurnEnds.{wake_each}
+use Rattle.swift_tasks.specs.Applying.{follows_of}
+use Rattle.swift_tasks.specs.BookInvariant.{FitsScript}
+use Rattle.swift_tasks.specs.Books.{IsJobOf}
+use Rattle.swift_tasks.proofs.waking.wake_waiters.Given as goal
+
+abbrev pub invariant-wake : goal.invariant-wake
+invariant-wake l = record {
+  follows : wake_each (drop l.place (waiters_of l.task.0 l.ledger.log)) l.resume (follows_of l.held l.jobs.items) ≡ wake_each (waiters_of l.task.0 l.ledger.log) l.resume (follows_of l.initial.held l.initial.jobs.items);
+  bodies : (script : ScriptView) → AllByRecursion (FitsScript script) l.initial.held
+      → AllByRecursion (FitsScript script) l.held × (AllByRecursion (IsJobOf script) l.initial.jobs.items → AllByRecursion (IsJobOf script) l.jobs.items);
+  few : vec_len l.jobs ≤ vec_len l.initial.jobs + l.place;
+  capacity : vec_capacity l.jobs ≡ vec_capacity l.initial.jobs;
+  there : l.place ≤ length (waiters_of l.task.0 l.ledger.log);
+}
+
+abbrev pub decreases-wake : goal.decreases-wake
+decreases-wake l = length (waiters_of l.task.0 l.ledger.log) - l.place
