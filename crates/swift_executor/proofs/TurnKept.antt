@@ -241,8 +241,8 @@ journalled book book' jobs jobs' s next job arrival (PlayedStage worker env p) j
         effects = effects;
         exit = exit;
         was = refl;
-        book_is = applied.book_is;
-        made = applied.made;
+        script_is = applied.script_is;
+        ends = applied.ends;
         forwards = forwards;
         same = same;
       };

@@ -21,7 +21,7 @@ use Rattle.swift_executor.specs.declared.chosen.Stage.{Stage}
 use Rattle.swift_executor.specs.declared.chosen.Stage.TheVariants as stage
 use Rattle.swift_interpreter.specs.Turn.{EffectView, ExitView}
 use Rattle.swift_history.specs.TurnEnds.{JobView}
-use Rattle.swift_tasks.specs.Books.{BookView, end_of_turn}
+use Rattle.swift_tasks.specs.Books.{BookView, IsEndOf}
 use Rattle.swift_types.specs.declared.id.TaskId.{TaskId}
 use Rattle.swift_executor.specs.State.{StageView, played, record_by}
 use Rattle.swift_executor.specs.StateInside.{chosen_view, stage_of}
@@ -73,8 +73,8 @@ StageIsPlayed _ = ⊥
 
 -- the book has taken the turn, and the jobs that it makes come behind others
 pub record Applied (book book' : BookView) (j : JobIs BodyView) (effects : List EffectView) (exit : ExitView) (jobs jobs' : List JobView) : Type 0 where
-  pub book_is : book' ≡ record book { log = (end_of_turn book j effects exit).log; held = (end_of_turn book j effects exit).held }
-  pub made : jobs' ≡ jobs ++ (end_of_turn book j effects exit).jobs
+  pub script_is : book'.script ≡ book.script
+  pub ends : IsEndOf book jobs j effects exit book'.log book'.held jobs'
 
 abbrev pub AppliesTurn : BookView → BookView → JobIs BodyView → StageView → List JobView → List JobView → Type 0
 AppliesTurn book book' j (played worker env frame fields effects exit) jobs jobs' = Applied book book' j effects exit jobs jobs'

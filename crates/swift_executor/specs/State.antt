@@ -22,7 +22,7 @@ use Rattle.swift_events.specs.declared.event.Event.{Event}
 use Rattle.swift_events.specs.declared.event.Event.TheVariants.{Begin}
 use Rattle.swift_events.specs.Room.{IsEnv}
 use Rattle.swift_history.specs.TurnEnds.{JobView}
-use Rattle.swift_tasks.specs.Books.{BookView, end_of_turn, job_view}
+use Rattle.swift_tasks.specs.Books.{BookView, IsEndOf, job_view}
 use Rattle.swift_tasks.specs.Levels.{AreLevels}
 use Rattle.swift_tasks.specs.Refusals.{refusal_of_apply, refusal_of_begin}
 use Rattle.swift_tasks.specs.declared.fault.BookFault.{BookFault}
@@ -242,8 +242,8 @@ pub record Journals (book book' : BookView) (jobs jobs' : List JobView) (old new
   pub effects : List EffectView
   pub exit : ExitView
   pub was : c.stage ≡ played worker env frame fields effects exit
-  pub book_is : book' ≡ record book { log = (end_of_turn book c.job effects exit).log; held = (end_of_turn book c.job effects exit).held }
-  pub made : jobs' ≡ jobs ++ (end_of_turn book c.job effects exit).jobs
+  pub script_is : book'.script ≡ book.script
+  pub ends : IsEndOf book jobs c.job effects exit book'.log book'.held jobs'
   pub forwards : Forwards old.ready c.job.task new.ready
   pub same : new ≡ record old {
     ready = new.ready;

@@ -25,7 +25,7 @@ use swift_turn::{Body, run_turn};
 use swift_types::Resume;
 use swift_types::limits::FOLD;
 
-/// Makes rows those of others. Where a growth is refused they mean nothing.
+/// Makes rows those of others. Where a growth is refused they mean nothing. It takes memory only where a row has had less before.
 pub fn copy_into(
     alloc: Global,
     rows: &mut Vec<Vec<i64>>,
@@ -33,11 +33,32 @@ pub fn copy_into(
 ) -> Result<(), AllocError>
     ensures { OnOk result (rows_of rows.new.items ≡ rows_of from.now) }
 {
+    if rows.len() != from.len() {
+        return copy_anew(alloc, rows, from);
+    }
+    for place in 0..from.len() {
+        copy_row(&mut rows[place], &from[place])?;
+    }
+    Ok(())
+}
+
+// The same, in rows of their own.
+fn copy_anew(alloc: Global, rows: &mut Vec<Vec<i64>>, from: &[Vec<i64>]) -> Result<(), AllocError>
+    ensures { OnOk result (rows_of rows.new.items ≡ rows_of from.now) }
+{
     rows.clear();
     for row in from {
         rows.push(Vec::from_slice(alloc, row)?)?;
     }
     Ok(())
+}
+
+// Makes a row that of another.
+fn copy_row(row: &mut Vec<i64>, from: &[i64]) -> Result<(), AllocError>
+    ensures { OnOk result (row.new.items ≡ from.now) }
+{
+    row.clear();
+    row.extend_from_slice(from)
 }
 
 // Runs a turn of a body on these fields. Where there is no memory for it, the fields come back as rows that mean nothing.

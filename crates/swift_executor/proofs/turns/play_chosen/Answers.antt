@@ -1,4 +1,4 @@
-use Rattle.std.proofs.Common.{◌≡◌, ℤ, List, [], None, Some, Option, Result, IfOk, refl, ap, sym, subst, ◌∙◌}
+use Rattle.std.proofs.Common.{ℤ, Result, IfOk, sym, subst, ◌∙◌}
 use Rattle.std.specs.declared.vec.Vec.{Vec}
 use Rattle.std.specs.declared.alloc.Global.{Global}
 use Rattle.script_code.specs.Seen.{rows_of}

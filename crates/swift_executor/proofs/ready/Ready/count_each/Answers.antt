@@ -1,7 +1,6 @@
-use Rattle.std.proofs.Common.{◌≡◌, ◌<◌, ℕ, List, length, get_or, refl, ap, sym, subst, ◌∙◌, arith}
-use Rattle.std.proofs.lemmas.List.{get_or_default}
+use Rattle.std.proofs.Common.{get_or, refl, ap, ◌∙◌}
 use Rattle.std.proofs.lemmas.List.Sorted.{IsPermutation-trans}
-use Rattle.swift_executor.specs.Ready.{ReadyIs, ReadyJob, level_at}
+use Rattle.swift_executor.specs.Ready.{ReadyIs}
 use Rattle.swift_executor.proofs.Counting.{one_counted}
 use Rattle.swift_executor.proofs.ready.Ready.count_each.Goals as goal
 

@@ -1,13 +1,12 @@
-use Rattle.std.proofs.Common.{◌≡◌, ◌≢◌, ◌<◌, ◌≤◌, ◌+◌, ◌^◌, ℕ, suc, List, [], ◌∷◌, ◌++◌, lit<, length, map, take, drop, get_or, inl, inr, refl, ap, sym, subst, ◌∙◌, arith}
-use Rattle.std.proofs.lemmas.List.{length-map}
+use Rattle.std.proofs.Common.{◌≡◌, ◌≢◌, ◌<◌, ℕ, suc, List, ◌∷◌, ◌++◌, lit<, length, map, take, drop, get_or, inr, ap, sym, subst, ◌∙◌, arith}
 use Rattle.std.proofs.lemmas.List.Sorted.{IsPermutation-map, IsPermutation-remove, length_permutation}
-use Rattle.std.specs.List.{remove, All}
+use Rattle.std.specs.List.{All}
 use Rattle.std.specs.List.Sorted.{IsPermutation}
 use Rattle.swift_types.specs.declared.id.TaskId.{TaskId}
 use Rattle.swift_queue.specs.Job.{JobIs}
 use Rattle.swift_queue.specs.Queue.{waiting}
-use Rattle.swift_executor.specs.Ready.{Forwards, IsClear, ReadyIs, ReadyJob, level_at, priority_of, ready_job}
-use Rattle.swift_executor.specs.ReadyInside.{job_of, task_in}
+use Rattle.swift_executor.specs.Ready.{Forwards, IsClear, ReadyIs, ReadyJob, level_at, priority_of}
+use Rattle.swift_executor.specs.ReadyInside.{job_of}
 use Rattle.swift_executor.proofs.ReadyKept.{all_unmap, counted_add, parted, tasks_forward}
 use Rattle.swift_executor.proofs.ready.Ready.forward.Goals as goal
 

@@ -1,4 +1,4 @@
-use Rattle.std.proofs.Common.{◌≡◌, List, ◌++◌, map, ap, sym, subst, ◌∙◌}
+use Rattle.std.proofs.Common.{List, ◌++◌, map, subst}
 use Rattle.std.proofs.lemmas.List.Sorted.{IsPermutation-append_comm, IsPermutation-trans}
 use Rattle.std.specs.List.Sorted.{IsPermutation}
 use Rattle.swift_queue.specs.Job.{JobIs}

@@ -1,4 +1,4 @@
-use Rattle.std.proofs.Common.{◌≡◌, ◌≢◌, ◌<◌, ◌≤◌, ◌+◌, ◌^◌, ℕ, Bool, List, [], ◌∷◌, ◌++◌, Contains, length, map, refl, ap, sym, subst, ◌∙◌, arith}
+use Rattle.std.proofs.Common.{◌≢◌, ◌∷◌, Contains, map, sym, subst, arith}
 use Rattle.std.proofs.lemmas.List.{length-map}
 use Rattle.std.proofs.lemmas.List.Elements.{All-map}
 use Rattle.std.proofs.lemmas.List.Sorted.{IsPermutation-map, length_permutation}
@@ -6,7 +6,7 @@ use Rattle.std.specs.List.{All}
 use Rattle.std.specs.List.Sorted.{IsPermutation}
 use Rattle.swift_types.specs.declared.id.TaskId.{TaskId}
 use Rattle.swift_queue.specs.Queue.{QueueIs, waiting}
-use Rattle.swift_executor.specs.Ready.{ComesFirst, ReadyIs, ReadyJob, ready_job}
+use Rattle.swift_executor.specs.Ready.{ComesFirst, ReadyIs, ready_job}
 use Rattle.swift_executor.specs.ReadyInside.{ReadyInvariant, job_of, task_in}
 use Rattle.swift_executor.proofs.ReadyKept.{all_come, counted_take, stands_taken, tasks_take}
 use Rattle.swift_executor.proofs.ready.Ready.take.Goals as goal

@@ -1,4 +1,4 @@
-use Rattle.std.proofs.Common.{◌≡◌, List, ◌++◌, map, ap, sym, subst, ◌∙◌}
+use Rattle.std.proofs.Common.{List, ◌++◌, map, ap, ◌∙◌}
 use Rattle.swift_types.specs.declared.id.TaskId.{TaskId}
 use Rattle.swift_executor.specs.Ready.{ReadyIs, tasks_in, times}
 use Rattle.swift_executor.specs.ReadyInside.{task_in}

@@ -1,8 +1,6 @@
-use Rattle.std.proofs.Common.{◌≡◌, ℕ, List, [], map, replicate, ap, sym, subst, ◌∙◌}
-use Rattle.swift_types.specs.declared.limits.TheConstants.{TASKS}
+use Rattle.std.proofs.Common.{ℕ, List, [], map, ap, ◌∙◌}
 use Rattle.swift_queue.specs.Job.{JobIs}
 use Rattle.swift_queue.specs.Queue.{QueueIs}
-use Rattle.swift_executor.specs.Ready.{ReadyIs}
 use Rattle.swift_executor.specs.ReadyInside.{job_of}
 use Rattle.swift_executor.proofs.ready.Ready.with_room.Goals as goal
 

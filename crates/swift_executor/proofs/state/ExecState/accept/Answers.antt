@@ -1,7 +1,7 @@
-use Rattle.std.proofs.Common.{◌≡◌, List, None, Some, Option, ap, sym, subst, ◌∙◌}
+use Rattle.std.proofs.Common.{◌≡◌, None, ap, sym, subst, ◌∙◌}
 use Rattle.std.specs.Arc.{arc_value}
 use Rattle.script_code.specs.Seen.{rows_of}
-use Rattle.swift_executor.specs.State.{BelongsTo, ExecView, IsExecutor}
+use Rattle.swift_executor.specs.State.{BelongsTo, ExecView}
 use Rattle.swift_executor.specs.StateInside.{chosen_of}
 use Rattle.swift_executor.proofs.StateKept.{accept_keeps}
 use Rattle.swift_executor.proofs.state.ExecState.accept.Goals as goal

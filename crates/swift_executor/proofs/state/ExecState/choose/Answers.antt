@@ -1,18 +1,15 @@
-use Rattle.std.proofs.Common.{◌≡◌, ◌<◌, ℕ, Bool, true, false, List, [], ◌∷◌, Contains, None, Some, Option, refl, ap, sym, subst, ◌∙◌, arith}
+use Rattle.std.proofs.Common.{◌≡◌, ℕ, Bool, List, [], ◌∷◌, Contains, None, Option, refl, ap, sym, subst, ◌∙◌, arith}
 use Rattle.std.proofs.lemmas.Bool.{ltb-true, ltb-false}
 use Rattle.std.proofs.lemmas.List.Sorted.{IsPermutation-trans}
 use Rattle.std.specs.Arc.{arc_value}
 use Rattle.std.specs.List.{All}
 use Rattle.std.specs.List.Sorted.{IsPermutation}
 use Rattle.script_code.specs.Seen.{rows_of}
-use Rattle.script_grammar.specs.declared.declaration.ExecutorKind.{ExecutorKind}
 use Rattle.swift_types.specs.declared.id.TaskId.{TaskId}
 use Rattle.swift_turn.specs.Body.{BodyView}
-use Rattle.swift_events.specs.declared.event.Event.{Event}
 use Rattle.swift_script.specs.Scripts.{ScriptView, executor_kind}
-use Rattle.swift_tasks.specs.Levels.{AreLevels}
 use Rattle.swift_executor.specs.Ready.{AreHigher, ComesFirst, ReadyIs, level_at, ready_job}
-use Rattle.swift_executor.specs.State.{Chooses, ChosenView, ExecView, HasNone, IsExecutor, LacksTask, leaders, picked, takes_by_arrival}
+use Rattle.swift_executor.specs.State.{Chooses, ChosenView, ExecView, HasNone, IsExecutor, LacksTask, leaders, takes_by_arrival}
 use Rattle.swift_executor.specs.StateInside.{chosen_of}
 use Rattle.swift_executor.specs.declared.chosen.Chosen.{Chosen}
 use Rattle.swift_executor.proofs.Picked.{all_of, none_behind, none_left, two_steps, was_inside}

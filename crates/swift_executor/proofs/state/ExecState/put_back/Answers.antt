@@ -1,9 +1,9 @@
-use Rattle.std.proofs.Common.{◌≡◌, ℕ, ℤ, List, [], None, Some, Option, IfSome, refl, ap, sym, subst, ◌∙◌}
+use Rattle.std.proofs.Common.{◌≡◌, ℕ, [], Some, Option, IfSome, ap, sym, subst, ◌∙◌}
 use Rattle.std.specs.Arc.{arc_value}
 use Rattle.script_code.specs.Seen.{rows_of}
 use Rattle.swift_history.specs.TurnEnds.{JobView}
-use Rattle.swift_executor.specs.State.{BelongsTo, ChosenView, ExecView, IsChosen, IsExecutor, before_turn}
-use Rattle.swift_executor.specs.StateInside.{chosen_of, chosen_view, stage_of}
+use Rattle.swift_executor.specs.State.{ChosenView, ExecView, IsChosen, IsExecutor}
+use Rattle.swift_executor.specs.StateInside.{chosen_of, chosen_view}
 use Rattle.swift_executor.specs.declared.chosen.Chosen.{Chosen}
 use Rattle.swift_executor.proofs.StateKept.{back_keeps, belongs_back, same_before, same_task}
 use Rattle.swift_executor.proofs.state.ExecState.put_back.Goals as goal

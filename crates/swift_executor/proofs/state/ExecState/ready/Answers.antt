@@ -1,5 +1,4 @@
-use Rattle.std.proofs.Common.{◌≡◌, List, ap, sym, subst, ◌∙◌}
-use Rattle.swift_types.specs.declared.id.TaskId.{TaskId}
+use Rattle.std.proofs.Common.{ap, ◌∙◌}
 use Rattle.swift_executor.specs.Ready.{tasks_in, times}
 use Rattle.swift_executor.specs.State.{ExecView}
 use Rattle.swift_executor.proofs.state.ExecState.ready.Goals as goal
