@@ -6,12 +6,13 @@ use swift_escalation::WaitsFault;
 use swift_groups::GroupFault;
 use swift_one_thread::RunFault;
 use swift_script::ScriptFault;
+use swift_tasks::BookFault;
 use thiserror::Error;
 
 /// Why a measure was given up.
 #[derive(Clone, Copy, Debug, PartialEq, Eq, Error)]
 pub enum BenchFault {
-    /// No part or stage has this name, or the number of entries is none from 1 to 65,536.
+    /// No part or stage has this name, or the number of entries is none from 1 to 65,536 (of tasks in a book, to 1,024).
     #[error("words refused")]
     Words,
     #[error("no memory")]
@@ -83,5 +84,14 @@ impl From<ScriptFault> for BenchFault {
 impl From<RunFault> for BenchFault {
     fn from(fault: RunFault) -> BenchFault {
         BenchFault::Run(fault)
+    }
+}
+
+impl From<BookFault> for BenchFault {
+    fn from(fault: BookFault) -> BenchFault {
+        match fault {
+            BookFault::Memory => BenchFault::Memory,
+            _ => BenchFault::Refused,
+        }
     }
 }

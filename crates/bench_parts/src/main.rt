@@ -6,6 +6,8 @@
 //! same. Status 2 stands for words that were refused, 1 for a measure that was given up.
 #![tactic(auto)]
 
+// A million turns begun and applied.
+mod book;
 // A million waits between tasks.
 mod escalation;
 // Why a measure was given up.
@@ -88,6 +90,7 @@ fn measure_part(rt: &HostRuntime, name: &str, entries: u32) -> Result<(), BenchF
             println!(rt; "escalation {events} events")?;
             escalation::measure(rt, entries)?
         }
+        "book" => book::measure(rt, entries)?,
         "word" => word::measure(rt)?,
         _ => return Err(BenchFault::Words),
     };

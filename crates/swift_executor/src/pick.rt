@@ -11,14 +11,14 @@ use crate::fault::ExecFault;
 use crate::state::ExecState;
 use script_grammar::ExecutorKind;
 use swift_queue::Job;
-use swift_tasks::{Book, BookFault};
+use swift_tasks::BookFault;
 use swift_turn::Body;
 use swift_types::TaskId;
 
 impl ExecState {
-    /// Adds a job to those that are ready, as the newest. It is one of this executor: its body is of an equal script
-    /// and has not ended, and its frame is of an actor that runs here. There is room, and no job is chosen. Where a job
-    /// of its task is ready already, it waits behind that one. It takes no memory.
+    /// Adds a job to those that are ready, as the newest. It is one of this executor: its body is of an equal script and has not
+    /// ended, and its frame is of an actor that runs here. There is room, and no job is chosen. Where a job of its task is
+    /// ready already, it waits behind that one. It takes no memory.
     pub fn accept(&mut self, job: Job<Body>)
         requires belongs { BelongsTo self.old.script self.old.executor job }
         requires room { HasRoom self.old.ready 0 }
@@ -29,25 +29,14 @@ impl ExecState {
         self.ready.add(job);
     }
 
-    /// Chooses the job that is to run next: the most urgent one, and among equals the one that arrived first; for an
-    /// executor by arrival the one that arrived first (SE-0306; the order among equals is our own). A task counts at
-    /// the priority that the book gives it, or at a greater one that a book gave it before. None where no job is ready.
-    /// No job is chosen yet.
+    /// Chooses the job that is to run next: the most urgent one, and among equals the one that arrived first; for an executor
+    /// by arrival the one that arrived first (SE-0306; the order among equals is our own). A task counts at the priority that
+    /// the levels of a book give it (`Book::fill_levels`), or at a greater one that it was given before. None where no job is
+    /// ready. No job is chosen yet.
     ///
-    /// It takes no memory, and constant time where no priority has changed since the last call, besides the comparison
-    /// of a byte for each task. The refusal is that of the book, where the task of that job was not made; the job is
-    /// then ready as before.
-    pub fn choose(&mut self, book: &Book) -> Result<Option<TaskId>, ExecFault>
-        requires free { self.old.chosen ≡ None }
-        ensures some { IfOk result (λ picked. IfSome picked (Chooses book.now.log self.old self.new)) }
-        ensures none { IfOk result (λ picked. IfNone picked (HasNone book.now.log self.old self.new)) }
-        ensures err { IfErr result (λ fault. (fault ≡ ExecFault.Refused BookFault.Unknown) × LacksTask book.now.log self.old self.new) }
-    {
-        self.choose_by(book.levels())
-    }
-
-    // Chooses a job by these levels.
-    fn choose_by(&mut self, given: &[u8]) -> Result<Option<TaskId>, ExecFault>
+    /// It takes no memory, and constant time where no level has changed since the last call, besides the comparison of a byte
+    /// for each task. The refusal is that of the book, where the task of that job was not made; the job is then ready as before.
+    pub fn choose(&mut self, given: &[u8]) -> Result<Option<TaskId>, ExecFault>
         requires free { self.old.chosen ≡ None }
         requires levels { (log : List Event) × AreLevels log given.now }
         ensures some { IfOk result (λ picked. IfSome picked (λ task. (log : List Event) → AreLevels log given.now → Chooses log self.old self.new task)) }

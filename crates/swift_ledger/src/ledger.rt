@@ -2,6 +2,7 @@
 
 ghost use Rattle.std.specs.Prelude.{◌≡◌, ℕ, ◌+◌, ◌-◌, ◌<◌, ◌≤◌, ◌↔◌, [], ◌∷◌, ◌++◌, IfOk, OnOk, OnErr, IfSome, IsSome, IsTrue, length, slice_get, Some, None};
 ghost use Rattle.swift_types.specs.declared.limits.TheConstants.{TASKS};
+ghost use Rattle.swift_types.specs.declared.id.TaskId.{TaskId};
 ghost use Rattle.swift_groups.specs.Next.{next_of};
 ghost use Rattle.swift_groups.specs.Close.{close_of};
 ghost use Rattle.swift_escalation.specs.Waits.{IsPriority};
@@ -67,6 +68,7 @@ impl Ledger {
     pub fn tasks(&self) -> usize
         ensures count { result ≡ tasks_of self.now.roots self.now.log }
         ensures limit { tasks_of self.now.roots self.now.log + reserved_of self.now.roots self.now.log ≤ TASKS }
+        ensures known { (t : TaskId) → IsMade self.now.log t → t.0 < tasks_of self.now.roots self.now.log }
     {
         self.indexes.lives.len()
     }

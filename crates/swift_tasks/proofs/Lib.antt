@@ -10,6 +10,7 @@ pub mod HeldJobs
 pub mod HeldTaken
 pub mod JobsGiven
 pub mod JobsMade
+pub mod LevelsFilled
 pub mod OwnTasks
 pub mod Pushes
 pub mod Tests

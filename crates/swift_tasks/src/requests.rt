@@ -8,13 +8,14 @@ ghost use Rattle.swift_types.specs.declared.id.TaskId.{TaskId};
 ghost use Rattle.swift_types.specs.declared.priority.Priority.{Priority};
 ghost use Rattle.swift_script.specs.Scripts.{ScriptView, root_count};
 ghost use Rattle.swift_ledger.specs.Ledgers.{IsMade};
+ghost use Rattle.swift_events.specs.Events.{tasks_of};
 ghost use Rattle.swift_events.specs.Lives.{life_of};
 ghost use Rattle.swift_escalation.specs.Waits.{IsPriority};
 ghost use Rattle.swift_events.specs.Relations.{links_of};
 ghost use Rattle.swift_history.specs.TurnEnds.{root_job, root_events};
 ghost use Rattle.swift_tasks.specs.BookInvariant.{FitsScript, held_views};
 ghost use Rattle.swift_tasks.specs.Books.{IsJobOf, job_view, jobs_held};
-ghost use Rattle.swift_tasks.specs.Levels.{AreLevels};
+ghost use Rattle.swift_tasks.specs.Levels.{AreLevels, IsLevel};
 ghost use Rattle.swift_tasks.specs.Refusals.{IsRefusal, refusal_of_root, refusal_of_cancel, refusal_of_priorities};
 
 use crate::book::Book;
@@ -97,13 +98,17 @@ impl Book {
         Ok(())
     }
 
-    /// The priorities of all tasks, by the number of the task: one more than the number of the priority, and 0 for a task that was
-    /// not made, as for each past the end. Two lists are equal only where all priorities are, so a reader that keeps the last
-    /// list sees by one comparison whether one has changed. Constant time.
-    pub fn levels(&self) -> &[u8]
-        ensures { AreLevels self.now.log result.now }
+    /// The priorities of all tasks, by the number of the task, in place of what `levels` had: one more than the number of the
+    /// priority, and 0 for a task that was not made, as for each past the end. In time by the number of tasks. The only
+    /// refusal is `Memory`; then `levels` is empty.
+    pub fn fill_levels(&self, levels: &mut Vec<u8>) -> Result<(), BookFault>
+        ensures ok { OnOk result (AreLevels self.now.log levels.new.items) }
+        ensures refused { IfErr result (λ fault. (fault ≡ BookFault.Memory) × (levels.new.items ≡ [])) }
     {
-        unreachable!()
+        levels.clear();
+        levels.reserve(self.ledger.tasks())?;
+        note_levels(&self.ledger, levels);
+        Ok(())
     }
 
     fn are_made(&self, tasks: &[TaskId]) -> bool
@@ -160,6 +165,29 @@ fn note_root(ledger: &mut Ledger, script: &Script, root: RootId)
     let priority = script.root_priority(root);
     ledger.note(Event::Root(task, priority));
     ledger.note(Event::Give(task, 0, Resume::Start));
+}
+
+// The level of a task: one more than the number of its priority, and 0 where it was not made.
+fn level_of(ledger: &Ledger, task: TaskId) -> u8
+    ensures { IsLevel ledger.now.log task result }
+{
+    match ledger.priority(task) {
+        Some(priority) => priority.number() + 1,
+        None => 0,
+    }
+}
+
+// The level of each task, into a list that has room.
+fn note_levels(ledger: &Ledger, levels: &mut Vec<u8>)
+    requires empty { levels.old.items ≡ [] }
+    requires room { tasks_of ledger.now.roots ledger.now.log ≤ vec_capacity levels.old }
+    ensures { AreLevels ledger.now.log levels.new.items }
+{
+    let tasks = ledger.tasks();
+    'fill: while levels.len() < tasks {
+        let level = level_of(ledger, TaskId(levels.len() as u32));
+        levels.push_reserved(level);
+    }
 }
 
 // The priority of a task that was made.

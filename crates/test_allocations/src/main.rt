@@ -14,6 +14,8 @@
 mod again;
 // Allocations before all others.
 mod ballast;
+// A book of tasks.
+mod book;
 // Priorities of tasks that wait.
 mod escalation;
 // Task groups.
@@ -45,6 +47,7 @@ fn main(rt: HostRuntime) -> ExitCode {
         let _ = turn::play_root(&rt, &found);
         let _ = script::print_again(&rt, script::WORK, &found);
         let _ = inbox::fill_again(&rt, &rt, &found);
+        book::play_again(&rt, &found);
     }
     locals::bind_again(&rt);
     groups::open_again(&rt);

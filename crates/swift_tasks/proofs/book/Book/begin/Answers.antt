@@ -1,4 +1,5 @@
 use Rattle.std.proofs.Common.{◌≡◌, ◌∙◌, ap, refl, false, List, [], ◌∷◌, ◌++◌}
+use Rattle.swift_types.specs.declared.id.TaskId.{TaskId}
 use Rattle.swift_events.specs.declared.event.Event.{Event}
 use Rattle.swift_events.specs.declared.event.Event.TheVariants.{Begin}
 use Rattle.swift_events.specs.Lives.{life_of, is_waiting}
@@ -13,7 +14,7 @@ note-requires-clause-fits c = c.env-env.ensures.begins c.number-number.result
 pub invariant_of-self-2 : goal.invariant_of-self-2
 invariant_of-self-2 c =
     let e : Event = Begin c.task-task.result c.number-number.result c.env-env.result in
-    let goes : is_waiting (life_of c.task-task.result.0 c.args.self.now.log) ≡ false = c.refusal_to_begin.ensures.goes c.in_default.is in
+    let goes : is_waiting (life_of c.task-task.result.0 c.args.self.now.log) ≡ false = ap (λ (t : TaskId). is_waiting (life_of t.0 c.args.self.now.log)) c.task-task.ensures ∙ c.refusal_to_begin.ensures.goes c.in_default.is in
     let rests : is_waiting (life_of c.task-task.result.0 c.self.inside.ledger.log) ≡ false = ap (λ (b : BookView). is_waiting (life_of c.task-task.result.0 b.log)) c.self.view_is ∙ goes in
     let roots = ap (λ (l : LedgerView). l.roots) c.note.ensures.log ∙ ap (λ (l : LedgerView). l.roots) c.reserve.ensures.same in
     let log = ap (λ (l : LedgerView). l.log) c.note.ensures.log ∙ ap (λ (l : LedgerView). l.log ++ e ∷ []) c.reserve.ensures.same in

@@ -14,7 +14,7 @@ use Rattle.swift_executor.specs.StateInside.{chosen_of}
 use Rattle.swift_executor.specs.declared.chosen.Chosen.{Chosen}
 use Rattle.swift_executor.proofs.Picked.{all_of, none_behind, none_left, two_steps, was_inside}
 use Rattle.swift_executor.proofs.StateKept.{choose_keeps, reorder_keeps}
-use Rattle.swift_executor.proofs.state.ExecState.choose_by.Goals as goal
+use Rattle.swift_executor.proofs.state.ExecState.choose.Goals as goal
 
 pub invariant_of-self : goal.invariant_of-self
 invariant_of-self c =

@@ -1,0 +1,265 @@
+//! Calls on a book.
+
+use crate::answers::{refused, tell_jobs, told_events, told_priorities};
+use crate::done::{effect, exit};
+use crate::fault::CaseFault;
+use crate::jobs::{keep, made, place_of, spend, spend_all, take};
+use crate::scripts::Scripts;
+use crate::show;
+use crate::words::{number, task};
+use script_code::Env;
+use std::alloc::Global;
+use std::fmt::Write;
+use swift_interpreter::{Effect, Exit};
+use swift_queue::Job;
+use swift_tasks::{Book, BookFault};
+use swift_turn::Body;
+use swift_types::{Priority, RootId, TaskId};
+
+/// A book, and the jobs that it gave and that were not applied.
+pub struct Tasks {
+    alloc: Global,
+    scripts: Scripts,
+    book: Book,
+    jobs: Vec<Job<Body>>,
+    // Those that the call that is being made gave.
+    given: Vec<Job<Body>>,
+}
+
+// What a turn has done.
+#[derive(Drop)]
+struct Done {
+    effects: Vec<Effect>,
+    exit: Exit,
+}
+
+impl Tasks {
+    /// A book of this script.
+    pub fn new(alloc: Global, text: &str) -> Result<Tasks, CaseFault> {
+        let scripts = Scripts::read(alloc, text)?;
+        let script = scripts.own.clone()?;
+        let book = Book::new(alloc, script)?;
+        Ok(Tasks {
+            alloc,
+            scripts,
+            book,
+            jobs: Vec::new(alloc),
+            given: Vec::new(alloc),
+        })
+    }
+
+    /// Makes a call, and writes what it answered, and each event and job.
+    pub fn call(&mut self, line: &str, out: &mut String) -> Result<(), CaseFault> {
+        let events = self.book.log().len();
+        match line.strip_prefix("quiet ") {
+            Some(quiet) => self.answer(quiet, out)?,
+            None => {
+                self.answer(line, out)?;
+                told_events(out, self.book.log(), events)?;
+                tell_jobs(out, &self.scripts.own, &self.given)?;
+            }
+        }
+        Ok(self.jobs.append(&mut self.given)?)
+    }
+
+    // Makes a call, and writes what it answered.
+    fn answer(&mut self, call: &str, out: &mut String) -> Result<(), CaseFault> {
+        let mut parts: Vec<&str> = call.split("; ").collect(self.alloc)?;
+        let last = parts.pop().unwrap_or("");
+        let Some((head, effects)) = parts.split_first() else {
+            let words: Vec<&str> = last.split(' ').collect(self.alloc)?;
+            return self.plain(&words, out);
+        };
+        let head: Vec<&str> = head.split(' ').collect(self.alloc)?;
+        let done = self.done(effects, last)?;
+        match *head {
+            ["apply", ref job @ ..] => self.apply(job, done, out),
+            ["turn", ref job @ ..] => self.turn(job, done, out),
+            _ => Err(CaseFault::Form),
+        }
+    }
+
+    // A call other than of what a turn has done.
+    fn plain(&mut self, words: &[&str], out: &mut String) -> Result<(), CaseFault> {
+        match *words {
+            ["root", root] => self.add_root(RootId(number(root)?), out),
+            ["begin", ref job @ ..] => {
+                self.begin(job, out)?;
+                Ok(())
+            }
+            ["cancel", named] => match self.book.cancel(task(named)?) {
+                Ok(()) => Ok(out.push_str("ok")?),
+                Err(fault) => refused(out, fault),
+            },
+            ["ending", named] => Ok(show::ending(out, self.book.ending(task(named)?))?),
+            ["origin", named] => Ok(show::origin(out, self.book.origin(task(named)?))?),
+            ["open_tasks"] => {
+                let open = self.book.open_tasks();
+                Ok(write!(out, "{open}")?)
+            }
+            ["priorities", ref named @ ..] => self.priorities(named, out),
+            _ => Err(CaseFault::Form),
+        }
+    }
+
+    fn done(&self, effects: &[&str], last: &str) -> Result<Done, CaseFault> {
+        let script = &self.scripts.own;
+        let mut found = Vec::new(self.alloc);
+        for text in effects {
+            let words: Vec<&str> = text.split(' ').collect(self.alloc)?;
+            found.push(effect(self.alloc, script, &words)?)?;
+        }
+        let words: Vec<&str> = last.split(' ').collect(self.alloc)?;
+        Ok(Done {
+            effects: found,
+            exit: exit(self.alloc, script, &words)?,
+        })
+    }
+
+    fn add_root(&mut self, root: RootId, out: &mut String) -> Result<(), CaseFault> {
+        match self.book.add_root(root) {
+            Ok(job) => {
+                keep(&mut self.given, job)?;
+                Ok(out.push_str("ok")?)
+            }
+            Err(fault) => refused(out, fault),
+        }
+    }
+
+    // Begins the turn of a job. Whether it has begun.
+    fn begin(&mut self, words: &[&str], out: &mut String) -> Result<bool, CaseFault> {
+        let begun = match *words {
+            [named] => {
+                let Some(place) = place_of(&self.jobs, task(named)?) else {
+                    out.push_str("no job")?;
+                    return Ok(false);
+                };
+                self.book.begin(&self.jobs[place])
+            }
+            _ => {
+                let job = made(&self.scripts, words)?;
+                let begun = self.book.begin(&job);
+                spend(job);
+                begun
+            }
+        };
+        begun_with(begun, out)
+    }
+
+    // Begins the turn of a job, and applies it if it has begun.
+    fn turn(&mut self, words: &[&str], done: Done, out: &mut String) -> Result<(), CaseFault> {
+        if self.begin(words, out)? {
+            out.push_str(", ")?;
+            self.apply(words, done, out)?;
+        }
+        Ok(())
+    }
+
+    fn apply(&mut self, words: &[&str], done: Done, out: &mut String) -> Result<(), CaseFault> {
+        match *words {
+            [named] => match take(&mut self.jobs, task(named)?) {
+                Some(job) => match self.applied(job, done, out)? {
+                    Some(job) => keep(&mut self.jobs, job),
+                    None => Ok(()),
+                },
+                None => Ok(out.push_str("no job")?),
+            },
+            _ => {
+                let job = made(&self.scripts, words)?;
+                let named = job.task();
+                match self.applied(job, done, out)? {
+                    Some(job) => spend(job),
+                    None => {
+                        // The job that the book gave for this turn is no longer the task's last one.
+                        if let Some(stale) = take(&mut self.jobs, named) {
+                            spend(stale);
+                        }
+                    }
+                }
+                Ok(())
+            }
+        }
+    }
+
+    // Applies a job. It comes back where that is refused.
+    fn applied(
+        &mut self,
+        job: Job<Body>,
+        done: Done,
+        out: &mut String,
+    ) -> Result<Option<Job<Body>>, CaseFault> {
+        if !job.body().is_running() {
+            spend(job);
+            return Err(CaseFault::Form);
+        }
+        let Done { effects, exit } = done;
+        match self.book.apply(job, &exit, effects, &mut self.given) {
+            Ok(()) => {
+                out.push_str("ok")?;
+                Ok(None)
+            }
+            Err((job, _effects, fault)) => match refused(out, fault) {
+                Ok(()) => Ok(Some(job)),
+                Err(fault) => {
+                    spend(job);
+                    Err(fault)
+                }
+            },
+        }
+    }
+
+    fn priorities(&self, words: &[&str], out: &mut String) -> Result<(), CaseFault> {
+        let mut tasks: Vec<TaskId> = Vec::new(self.alloc);
+        for word in words {
+            tasks.push(task(word)?)?;
+        }
+        let mut found = Vec::new(self.alloc);
+        found.resize(tasks.len(), Priority::Background)?;
+        match self.book.priorities(&tasks, &mut found) {
+            Ok(()) => told_priorities(out, &found),
+            Err(fault) => refused(out, fault),
+        }
+    }
+
+    /// Closes the book, and writes how many events it had, and the jobs of the tasks that wait.
+    pub fn close(self, out: &mut String) -> Result<(), CaseFault> {
+        let Tasks {
+            alloc: _,
+            scripts,
+            book,
+            jobs,
+            given,
+        } = self;
+        let (log, waiting) = book.close();
+        let told = told_end(out, &scripts, log.len(), jobs.len(), &waiting);
+        spend_all(waiting);
+        spend_all(jobs);
+        spend_all(given);
+        told
+    }
+}
+
+// Writes what a turn that has begun is given.
+fn begun_with(begun: Result<Env, BookFault>, out: &mut String) -> Result<bool, CaseFault> {
+    match begun {
+        Ok(env) => {
+            show::env(out, env)?;
+            Ok(true)
+        }
+        Err(fault) => {
+            refused(out, fault)?;
+            Ok(false)
+        }
+    }
+}
+
+fn told_end(
+    out: &mut String,
+    scripts: &Scripts,
+    events: usize,
+    jobs: usize,
+    waiting: &[Job<Body>],
+) -> Result<(), CaseFault> {
+    write!(out, "closed: {events} events, {jobs} jobs not applied")?;
+    Ok(tell_jobs(out, &scripts.own, waiting)?)
+}

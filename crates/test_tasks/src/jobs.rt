@@ -1,0 +1,73 @@
+//! Jobs that were given, and jobs that were not.
+
+ghost use Rattle.std.specs.Prelude.{◌<◌, IfSome, length};
+
+use crate::fault::CaseFault;
+use crate::scripts::Scripts;
+use crate::words::{number, resume_of, task};
+use std::alloc::AllocFailed;
+use swift_queue::Job;
+use swift_turn::Body;
+use swift_types::TaskId;
+
+/// The place of the job of a task.
+pub fn place_of(jobs: &[Job<Body>], task: TaskId) -> Option<usize>
+    ensures { IfSome result (λ place. place < length jobs.now) }
+{
+    jobs.iter().position(|job| job.task() == task)
+}
+
+/// Takes the job of a task out.
+pub fn take(jobs: &mut Vec<Job<Body>>, task: TaskId) -> Option<Job<Body>> {
+    let place = place_of(jobs, task)?;
+    Some(jobs.swap_remove(place))
+}
+
+/// Gives a job up.
+pub fn spend(job: Job<Body>) {
+    let (_task, _number, _resume, _body) = job.spend();
+}
+
+/// Gives all jobs up.
+pub fn spend_all(mut jobs: Vec<Job<Body>>) {
+    while let Some(job) = jobs.pop() {
+        spend(job);
+    }
+    jobs.destroy_empty();
+}
+
+/// Adds a job. Where there is no memory for its place, it is given up.
+pub fn keep(jobs: &mut Vec<Job<Body>>, job: Job<Body>) -> Result<(), CaseFault> {
+    match jobs.push(job) {
+        Ok(()) => Ok(()),
+        Err(AllocFailed { value }) => {
+            spend(value);
+            Err(CaseFault::Memory)
+        }
+    }
+}
+
+/// A job that was not given by a book: `TASK as NUMBER RESUME`, with `of WHICH` for one of another script.
+pub fn made(scripts: &Scripts, words: &[&str]) -> Result<Job<Body>, CaseFault> {
+    match *words {
+        [named, "as", turn, ref resume @ .., "of", which] => {
+            made_of(scripts, named, turn, resume, Some(which))
+        }
+        [named, "as", turn, ref resume @ ..] => made_of(scripts, named, turn, resume, None),
+        _ => Err(CaseFault::Form),
+    }
+}
+
+fn made_of(
+    scripts: &Scripts,
+    named: &str,
+    turn: &str,
+    resume: &[&str],
+    which: Option<&str>,
+) -> Result<Job<Body>, CaseFault> {
+    let named = task(named)?;
+    let turn = number(turn)?;
+    let resume = resume_of(resume)?;
+    let body = scripts.body_of(which)?;
+    Ok(Job::new(named, turn, resume, body))
+}

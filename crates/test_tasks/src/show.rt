@@ -1,0 +1,182 @@
+//! Events and jobs as text.
+
+use script_code::Env;
+use std::alloc::AllocError;
+use std::fmt::Write;
+use swift_events::{Event, Origin};
+use swift_interpreter::Frame;
+use swift_locals::Bindings;
+use swift_queue::Job;
+use swift_script::Script;
+use swift_turn::Body;
+use swift_types::{Ending, Fault, LocalId, Priority, Resume};
+
+/// The name of a priority.
+pub fn priority(given: Priority) -> &'static str {
+    match given {
+        Priority::Background => "background",
+        Priority::Low => "low",
+        Priority::Medium => "medium",
+        Priority::High => "high",
+    }
+}
+
+fn fault(out: &mut String, raised: Fault) -> Result<(), AllocError> {
+    match raised {
+        Fault::Thrown(value) => write!(out, "thrown {value}"),
+        Fault::Cancelled => out.push_str("cancelled"),
+        Fault::Invariant => out.push_str("invariant"),
+        Fault::Overflow => out.push_str("overflow"),
+        Fault::Steps => out.push_str("steps"),
+        Fault::Turns => out.push_str("turns"),
+        Fault::Depth => out.push_str("depth"),
+        Fault::Tasks => out.push_str("tasks"),
+        Fault::Empty => out.push_str("empty"),
+        Fault::Isolation => out.push_str("isolation"),
+    }
+}
+
+fn resume(out: &mut String, begun: Resume) -> Result<(), AllocError> {
+    match begun {
+        Resume::Start => out.push_str("start"),
+        Resume::Go => out.push_str("go"),
+        Resume::Value(value) => write!(out, "value {value}"),
+        Resume::Fault(raised) => {
+            out.push_str("fault ")?;
+            fault(out, raised)
+        }
+    }
+}
+
+/// How a task has ended.
+pub fn ending(out: &mut String, ended: Option<Ending>) -> Result<(), AllocError> {
+    match ended {
+        None => out.push_str("none"),
+        Some(Ending::Value(value)) => write!(out, "value {value}"),
+        Some(Ending::Fault(raised)) => {
+            out.push_str("fault ")?;
+            fault(out, raised)
+        }
+    }
+}
+
+/// Where a task comes from.
+pub fn origin(out: &mut String, from: Option<Origin>) -> Result<(), AllocError> {
+    match from {
+        None => out.push_str("none"),
+        Some(Origin::Root) => out.push_str("root"),
+        Some(Origin::Child(owner, group)) => {
+            let owner = owner.0;
+            write!(out, "child of t{owner} group {group}")
+        }
+        Some(Origin::Spawned(by)) => {
+            let by = by.0;
+            write!(out, "spawned by t{by}")
+        }
+        Some(Origin::Detached(by)) => {
+            let by = by.0;
+            write!(out, "detached by t{by}")
+        }
+    }
+}
+
+/// What a turn is given.
+pub fn env(out: &mut String, given: Env) -> Result<(), AllocError> {
+    let urgency = priority(given.priority);
+    let cancelled = u32::from(given.cancelled);
+    let room = given.room;
+    write!(out, "{urgency} {cancelled} {room}")
+}
+
+/// An event.
+pub fn event(out: &mut String, happened: Event) -> Result<(), AllocError> {
+    let task = happened.task().0;
+    match happened {
+        Event::Root(_, own) => {
+            let own = priority(own);
+            write!(out, "root t{task} {own}")
+        }
+        Event::Begin(_, number, given) => {
+            write!(out, "begin t{task}.{number} ")?;
+            env(out, given)
+        }
+        Event::Apply(_, number) => write!(out, "apply t{task}.{number}"),
+        Event::Free(_, by, own, detached) => {
+            let (by, own) = (by.0, priority(own));
+            let word = if detached { "detach" } else { "spawn" };
+            write!(out, "{word} t{task} by t{by} {own}")
+        }
+        Event::Child(_, owner, group, own) => {
+            let (owner, own) = (owner.0, priority(own));
+            write!(out, "child t{task} of t{owner} group {group} {own}")
+        }
+        Event::CancelTask(_) => write!(out, "cancel t{task}"),
+        Event::Wait(_, awaited) => {
+            let awaited = awaited.0;
+            write!(out, "wait t{task} for t{awaited}")
+        }
+        Event::End(_, ended) => {
+            write!(out, "end t{task} ")?;
+            ending(out, Some(ended))
+        }
+        Event::Give(_, number, begun) => {
+            write!(out, "give t{task}.{number} ")?;
+            resume(out, begun)
+        }
+        _ => group_event(out, happened),
+    }
+}
+
+// An event of a group.
+fn group_event(out: &mut String, happened: Event) -> Result<(), AllocError> {
+    let owner = happened.task().0;
+    match happened {
+        Event::Open(_, group) => write!(out, "open t{owner} group {group}"),
+        Event::Skip(_, group) => write!(out, "skip t{owner} group {group}"),
+        Event::CancelGroup(_, group) => write!(out, "cancel t{owner} group {group}"),
+        Event::Next(_, group) => write!(out, "next t{owner} group {group}"),
+        Event::Close(_, group) => write!(out, "close t{owner} group {group}"),
+        _ => Ok(()),
+    }
+}
+
+/// A job.
+pub fn job(out: &mut String, script: &Script, made: &Job<Body>) -> Result<(), AllocError> {
+    let (task, number) = (made.task().0, made.number());
+    write!(out, "job t{task}.{number} ")?;
+    resume(out, made.resume())?;
+    out.push_str(" in ")?;
+    let body = made.body();
+    if !body.is_running() {
+        return out.push_str("no frame");
+    }
+    frame(out, script, body.top())?;
+    bindings(out, script, body.outer())
+}
+
+// The method of a frame, by its name, and its variables.
+fn frame(out: &mut String, script: &Script, top: &Frame) -> Result<(), AllocError> {
+    if top.method.0 as usize >= script.method_count() {
+        return out.push_str("no method");
+    }
+    for byte in script.method_name(top.method) {
+        out.push(char::from(*byte))?;
+    }
+    let variables = top.variables.as_slice();
+    write!(out, " {variables:?}")
+}
+
+// What is read of each local that is bound, and how many bindings stand.
+fn bindings(out: &mut String, script: &Script, standing: &Bindings) -> Result<(), AllocError> {
+    let depth = standing.depth();
+    if depth == 0 {
+        return Ok(());
+    }
+    for place in 0..script.local_count() {
+        let local = LocalId(u32::try_from(place).unwrap_or(u32::MAX));
+        if let Some(value) = standing.read(local) {
+            write!(out, " {place}={value}")?;
+        }
+    }
+    write!(out, " of {depth}")
+}
