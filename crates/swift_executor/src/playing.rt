@@ -25,7 +25,8 @@ use swift_turn::{Body, run_turn};
 use swift_types::Resume;
 use swift_types::limits::FOLD;
 
-/// Makes rows those of others. Where a growth is refused they mean nothing. It takes memory only where a row has had less before.
+/// Makes rows those of others. Where a growth is refused they mean nothing. It takes memory only where a row has had
+/// less before.
 pub fn copy_into(
     alloc: Global,
     rows: &mut Vec<Vec<i64>>,

@@ -94,7 +94,8 @@ impl<B> Ready<B> {
         }
     }
 
-    /// Whether there is room for one more job, and a number for its arrival, beside so many that were taken out: one or none.
+    /// Whether there is room for one more job, and a number for its arrival, beside so many that were taken out: one or
+    /// none.
     pub fn has_room(&self, taken: usize) -> bool
         requires { taken ≤ 1 }
         ensures { IsTrue result ↔ HasRoom self.now taken }
@@ -140,8 +141,8 @@ impl<B> Ready<B> {
         }
     }
 
-    /// Counts each task at the greater of its level and the one that is given, by the number of the task. Where nothing has
-    /// changed it is one comparison of bytes.
+    /// Counts each task at the greater of its level and the one that is given, by the number of the task. Where nothing
+    /// has changed it is one comparison of bytes.
     pub fn count(&mut self, given: &[u8])
         requires { length given.now ≤ TASKS }
         ensures front { IsPermutation self.old.front self.new.front }

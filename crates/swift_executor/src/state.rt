@@ -23,14 +23,14 @@ use swift_script::Script;
 use swift_turn::Body;
 use swift_types::{ActorId, ExecId, TaskId};
 
-/// What a serial executor keeps, apart from threads (SE-0392): the jobs that are ready, the one that is chosen, its checkpoint
-/// and journal, and the fields of its actors. Whoever holds it runs a turn by `choose`, `start`, `play` and `turn`, in this
-/// order.
+/// What a serial executor keeps, apart from threads (SE-0392): the jobs that are ready, the one that is chosen, its
+/// checkpoint and journal, and the fields of its actors. Whoever holds it runs a turn by `choose`, `start`, `play` and
+/// `turn`, in this order.
 ///
-/// Its type keeps that the journal is lawful from the checkpoint on and that replaying it gives the fields; that each job is one
-/// of the executor; and that as many jobs were accepted as are ready, chosen and journalled together. After a refusal of one
-/// of the four calls the job is ready again, as it was and with the number of its arrival; the fields and the journal are as
-/// before.
+/// Its type keeps that the journal is lawful from the checkpoint on and that replaying it gives the fields; that each
+/// job is one of the executor; and that as many jobs were accepted as are ready, chosen and journalled together. After
+/// a refusal of one of the four calls the job is ready again, as it was and with the number of its arrival; the fields
+/// and the journal are as before.
 ///
 /// It holds jobs, so it can't be dropped: `into_parts` gives up what it has.
 pub struct ExecState {
@@ -65,8 +65,8 @@ impl Model for ExecState {
 }
 
 impl ExecState {
-    /// An executor of a script that has run no turn, with room for this many jobs. Out of memory nothing remains. The room is
-    /// not touched before it is used.
+    /// An executor of a script that has run no turn, with room for this many jobs. Out of memory nothing remains. The
+    /// room is not touched before it is used.
     pub fn new(
         alloc: Global,
         script: Arc<Script>,
@@ -139,8 +139,8 @@ impl ExecState {
         row_of(actors, &self.fields, actor)
     }
 
-    /// Gives up the jobs that are ready, in no order that means anything, the journal, the fields, a list for each actor in text
-    /// order, and the checkpoint. No job is chosen. It takes no memory.
+    /// Gives up the jobs that are ready, in no order that means anything, the journal, the fields, a list for each
+    /// actor in text order, and the checkpoint. No job is chosen. It takes no memory.
     pub fn into_parts(self) -> (Vec<Job<Body>>, Journal, Vec<Vec<i64>>, Checkpoint)
         requires { self.chosen ≡ None }
         ensures jobs { IsPermutation (map (λ x. x.job) self.ready.front ++ self.ready.behind) result.0.items }

@@ -26,8 +26,8 @@ use swift_tasks::{Book, BookFault};
 use swift_turn::Body;
 use swift_types::TaskId;
 
-// Writes the record of a turn that was played, and makes room for folding the journal where it is then full. Out of memory the
-// journal and the checkpoint are as before.
+// Writes the record of a turn that was played, and makes room for folding the journal where it is then full. Out of
+// memory the journal and the checkpoint are as before.
 fn prepare(
     alloc: Global,
     journal: &mut Journal,
@@ -222,8 +222,8 @@ impl ExecState {
         self.ready.restore(as_chosen(job, stage), arrival);
     }
 
-    /// Begins the turn of the chosen job on a worker, and keeps what the book gives it. The caller sees to it that the executor
-    /// is not pinned to another worker. The refusal is that of the book.
+    /// Begins the turn of the chosen job on a worker, and keeps what the book gives it. The caller sees to it that the
+    /// executor is not pinned to another worker. The refusal is that of the book.
     pub fn start(&mut self, worker: u32, book: &mut Book) -> Result<(), ExecFault>
         requires { HasChosen self.old (λ c. IsPicked c.stage) }
         ensures ok { OnOk result (HasChosen self.old (Begins book.old book.new worker self.old self.new)) }
@@ -240,8 +240,8 @@ impl ExecState {
         }
     }
 
-    /// Plays the turn that has begun (SE-0306), on a copy of the fields, and keeps what it gave. In time by its steps and by the
-    /// fields of the executor's actors. The only refusal is `Memory`.
+    /// Plays the turn that has begun (SE-0306), on a copy of the fields, and keeps what it gave. In time by its steps
+    /// and by the fields of the executor's actors. The only refusal is `Memory`.
     pub fn play(&mut self, cx: &mut Context<'_>) -> Result<(), ExecFault>
         requires { HasChosen self.old (λ c. IsBegun c.stage) }
         ensures ok { OnOk result (HasChosen self.old (Plays self.old self.new)) }
@@ -267,9 +267,10 @@ impl ExecState {
         }
     }
 
-    /// Journals the turn that was played, and lets the book take it. The jobs that follow come behind those that `jobs` has. A
-    /// journal that has 4,096 turns then is folded. It takes no memory for a turn that only gives way, but for the growth of the journal and of the log; all
-    /// memory is taken before the book changes. A refusal is that of the book, or `Memory`; `jobs` is then as before.
+    /// Journals the turn that was played, and lets the book take it. The jobs that follow come behind those that `jobs`
+    /// has. A journal that has 4,096 turns then is folded. It takes no memory for a turn that only gives way, but for
+    /// the growth of the journal and of the log; all memory is taken before the book changes. A refusal is that of the
+    /// book, or `Memory`; `jobs` is then as before.
     pub fn turn(&mut self, book: &mut Book, jobs: &mut Vec<Job<Body>>) -> Result<(), ExecFault>
         requires { HasChosen self.old (λ c. IsPlayed c.stage) }
         ensures ok { OnOk result (HasChosen self.old (Journals book.old book.new (map job_view jobs.old.items) (map job_view jobs.new.items) self.old self.new)) }
