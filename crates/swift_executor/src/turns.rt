@@ -61,6 +61,7 @@ fn apply_chosen(
     requires { HasJob place.old (λ c. IsRunning c.job.body × StageIsPlayed c.stage) }
     ensures ok { IfOk result (λ task. HasJob place.old (AppliesJob book.old book.new (map job_view jobs.old.items) (map job_view jobs.new.items) task place.new)) }
     ensures bodies { AllByRecursion (IsJobOf book.old.script) jobs.old.items → AllByRecursion (IsJobOf book.old.script) jobs.new.items }
+    ensures script { OnOk result (HasJob place.old (λ c. c.job.body.script ≡ book.old.script)) }
     ensures same { OnErr result (HasJob place.old (SeemsJob place.new)) }
     ensures err { OnErr result ((book.new ≡ book.old) × (jobs.new.items ≡ jobs.old.items)) }
     ensures refused { MatchResult result (λ _. HasJob place.old (λ c. refusal_of_stage book.old c.job (stage_of [] c.stage) ≡ None)) (λ fault. HasJob place.old (λ c. BookRefusal (refusal_of_stage book.old c.job (stage_of [] c.stage)) fault)) }
@@ -275,6 +276,8 @@ impl ExecState {
         requires { HasChosen self.old (λ c. IsPlayed c.stage) }
         ensures ok { OnOk result (HasChosen self.old (Journals book.old book.new (map job_view jobs.old.items) (map job_view jobs.new.items) self.old self.new)) }
         ensures bodies { AllByRecursion (IsJobOf book.old.script) jobs.old.items → AllByRecursion (IsJobOf book.old.script) jobs.new.items }
+        // A turn is taken only by a book of an equal script.
+        ensures same { OnOk result (self.old.script ≡ book.old.script) }
         ensures back { OnErr result (HasChosen self.old (PutsBack self.old self.new)) }
         ensures err { OnErr result ((book.new ≡ book.old) × (jobs.new.items ≡ jobs.old.items)) }
         ensures refused { MatchResult result (λ _. refusal_to_apply book.old self.old.chosen ≡ None) (λ fault. IsRefusal (refusal_to_apply book.old self.old.chosen) fault ⊎ (fault ≡ ExecFault.Memory)) }

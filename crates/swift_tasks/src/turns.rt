@@ -392,6 +392,7 @@ impl Book {
     ) -> Result<(), (Job<Body>, Vec<Effect>, BookFault)>
         requires running { IsRunning job.body }
         ensures ok { OnOk result (IsEndOf self.old (map job_view jobs.old.items) job (effect_views effects.items) (exit_view exit.now) self.new.log self.new.held (map job_view jobs.new.items)) }
+        ensures same { OnOk result (job.body.script ≡ self.old.script) }
         ensures script { self.new.script ≡ self.old.script }
         ensures bodies { AllByRecursion (IsJobOf self.old.script) jobs.old.items → AllByRecursion (IsJobOf self.old.script) jobs.new.items }
         ensures err { IfErr result (λ e. (self.new ≡ self.old) × (jobs.new.items ≡ jobs.old.items) × (e.0 ≡ job) × (effect_views e.1.items ≡ effect_views effects.items)) }
