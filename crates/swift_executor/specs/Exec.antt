@@ -9,10 +9,14 @@ use Rattle.swift_inbox.specs.Inbox.{InboxIs, PassIs}
 use Rattle.swift_inbox.specs.Sent.{job_view}
 use Rattle.swift_inbox.specs.Site.{Site}
 use Rattle.swift_queue.specs.Job.{JobIs}
+use Rattle.swift_script.specs.Scripts.{ScriptView}
+use Rattle.swift_tasks.specs.Books.{BookView}
+use Rattle.swift_types.specs.declared.id.TaskId.{TaskId}
 use Rattle.swift_tasks.specs.declared.fault.BookFault.{BookFault}
 use Rattle.swift_turn.specs.Body.{BodyView}
 use Rattle.swift_word.specs.Seat.{SeatIs, ended, left}
-use Rattle.swift_executor.specs.State.{ExecView}
+use Rattle.swift_executor.specs.Account.{HasTaken}
+use Rattle.swift_executor.specs.State.{ChosenView, ExecView, HasChosen, Journals}
 use Rattle.swift_executor.specs.declared.fault.ExecFault.{ExecFault}
 use Rattle.swift_executor.specs.declared.fault.ExecFault.TheVariants.{Memory, Refused}
 use Rattle.swift_executor.specs.declared.ran.Ran.{Ran}
@@ -65,9 +69,10 @@ after_run (Nothing left) d = d
 abbrev pub site_of : ExecView → Site
 site_of s = record { script = s.script; executor = s.executor }
 
--- The state of the executor that a pass takes jobs for.
+-- The state of the executor that a pass takes jobs for; what came out of the inbox through the pass is ready, chosen or
+-- journalled, each once.
 abbrev pub IsOf : PassIs → ExecView → Type 0
-IsOf p s = p.site ≡ Some (site_of s)
+IsOf p s = (p.site ≡ Some (site_of s)) × HasTaken p.taken s
 
 -- what a word knows of a state: whose it is, and from which inbox it takes its jobs
 abbrev pub state_name : Site → TableId → StateName
@@ -83,11 +88,32 @@ seat_after (Turn task l) s = ended s
 seat_after Busy s = s
 seat_after (Nothing l) s = left s
 
+-- where a turn was run, this holds of its task
+abbrev pub IfTurn : (TaskId → Type 0) → Ran → Type 0
+IfTurn P (Turn task left) = P task
+IfTurn P _ = Unit {0}
+
 -- where no turn was run, this holds
-abbrev pub IfNoTurn : Ran → Type 0 → Type 0
-IfNoTurn (Turn task left) P = Unit {0}
-IfNoTurn Busy P = P
-IfNoTurn (Nothing left) P = P
+abbrev pub IfNoTurn : Type 0 → Ran → Type 0
+IfNoTurn P (Turn task left) = Unit {0}
+IfNoTurn P _ = P
+
+-- the task of the chosen job, where one is
+abbrev pub chosen_task : Option ChosenView → Option TaskId
+chosen_task None = None
+chosen_task (Some c) = Some c.job.task
+
+-- What came behind other jobs is what the end of a turn of this task has made: a turn that an executor of this script has
+-- journalled, and that a book of an equal script has taken.
+pub record IsMadeBy (script : ScriptView) (task : Option TaskId) (jobs jobs' : List JobView) : Type 0 where
+  pub old : ExecView
+  pub new : ExecView
+  pub book : BookView
+  pub book_after : BookView
+  pub executor_of : old.script ≡ script
+  pub book_of : book.script ≡ script
+  pub task_is : chosen_task old.chosen ≡ task
+  pub turn : HasChosen old (Journals book book_after jobs jobs' old new)
 
 -- whether a worker may run the executor: a pinned one is run by one worker alone
 abbrev pub may_run : ExecutorKind → ℕ → ℕ → Bool

@@ -8,6 +8,7 @@ ghost use Rattle.swift_executor.specs.Exec.{IsDeskOf, IsOf, first_desk, has_sent
 use crate::desk::Desk;
 use crate::fault::ExecFault;
 use crate::gate::{Gate, Moment};
+use crate::laws::new_has_taken_none;
 use crate::resting::{Held, Resting, spend_all, spend_held};
 use crate::state::ExecState;
 use std::alloc::{AllocError, Global};
@@ -91,6 +92,7 @@ fn first_state(
     requires { (pass.site ≡ Some site.now) × (pass.taken ≡ []) }
     ensures { IfOk result (λ r. (site_of r.state ≡ site.now) × (r.pass ≡ pass)) }
 {
+    new_has_taken_none();
     let levels = Vec::new(alloc);
     let script = Arc::clone(site.script())?;
     let state = ExecState::new(alloc, script, site.executor(), room)?;

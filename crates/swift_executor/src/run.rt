@@ -1,13 +1,14 @@
 //! A visit of a worker to an executor.
 
-ghost use Rattle.std.specs.Prelude.{◌≡◌, ◌<◌, ◌↔◌, None, Some, Err, false, IfOk, IfErr, IfSome, IfNone, IsSome, IsSomeAnd, OnOk, OnErr};
+ghost use Rattle.std.specs.Prelude.{◌≡◌, ◌<◌, ◌↔◌, None, Some, Err, false, map, IfOk, IfErr, IfSome, IfNone, IsSome, IsSomeAnd, OnOk, OnErr};
 ghost use Rattle.std.specs.List.{AllByRecursion};
 ghost use Rattle.futures.specs.Task.{Keeps};
 ghost use Rattle.swift_events.specs.declared.event.Event.{Event};
 ghost use Rattle.swift_script.specs.Scripts.{executor_kind};
-ghost use Rattle.swift_tasks.specs.Books.{IsJobOf};
+ghost use Rattle.swift_tasks.specs.Books.{IsJobOf, job_view};
 ghost use Rattle.swift_tasks.specs.Levels.{AreLevels};
-ghost use Rattle.swift_executor.specs.Exec.{IfNoTurn, IsAt, IsDeskOf, IsRunFault, IsSeatAt, after_run, may_run, seat_after, site_of};
+ghost use Rattle.swift_executor.specs.Account.{HasTaken};
+ghost use Rattle.swift_executor.specs.Exec.{IfNoTurn, IfTurn, IsMadeBy, chosen_task, IsAt, IsDeskOf, IsRunFault, IsSeatAt, after_run, may_run, seat_after, site_of};
 ghost use Rattle.swift_word.specs.Seat.{ended, left};
 ghost use Rattle.swift_executor.specs.State.{HasChosen, IsBegun, IsPicked, IsPlayed};
 
@@ -15,6 +16,10 @@ use crate::desk::Desk;
 use crate::exec::Exec;
 use crate::fault::ExecFault;
 use crate::gate::{Gate, Moment};
+use crate::laws::{
+    accept_takes_one, choose_loses_none, play_loses_none, refusal_loses_none, start_loses_none,
+    turn_loses_none,
+};
 use crate::ran::Ran;
 use crate::resting::{Held, Resting};
 use futures::task::Context;
@@ -53,6 +58,7 @@ fn accept_one<R: Wait>(rt: &R, inbox: &Inbox, held: &mut Held) -> bool
     match inbox.take(rt, &mut held.pass) {
         Some(job) => {
             held.state.accept(job);
+            accept_takes_one();
             true
         }
         None => false,
@@ -90,12 +96,14 @@ fn choose_one<R: Wait>(
 ) -> Result<Option<TaskId>, ExecFault>
     requires free { held.old.state.chosen ≡ None }
     ensures same { (held.new.pass ≡ held.old.pass) × (site_of held.new.state ≡ site_of held.old.state) }
-    ensures some { IfOk result (λ picked. IfSome picked (λ _. HasChosen held.new.state (λ c. IsPicked c.stage))) }
+    ensures taken { HasTaken held.old.pass.taken held.old.state → HasTaken held.new.pass.taken held.new.state }
+    ensures some { IfOk result (λ picked. IfSome picked (λ task. HasChosen held.new.state (λ c. IsPicked c.stage) × (chosen_task held.new.state.chosen ≡ Some task))) }
     ensures none { IfOk result (λ picked. IfNone picked (held.new.state.chosen ≡ None)) }
     ensures free { OnErr result (held.new.state.chosen ≡ None) }
     ensures err { IfErr result IsRunFault }
 {
     note_levels(rt, book, &mut held.levels)?;
+    choose_loses_none();
     held.state.choose(&held.levels)
 }
 
@@ -108,10 +116,13 @@ fn start_one<R: Wait>(
 ) -> Result<(), ExecFault>
     requires picked { HasChosen held.old.state (λ c. IsPicked c.stage) }
     ensures same { (held.new.pass ≡ held.old.pass) × (site_of held.new.state ≡ site_of held.old.state) }
-    ensures ok { OnOk result (HasChosen held.new.state (λ c. IsBegun c.stage)) }
+    ensures taken { HasTaken held.old.pass.taken held.old.state → HasTaken held.new.pass.taken held.new.state }
+    ensures ok { OnOk result (HasChosen held.new.state (λ c. IsBegun c.stage) × (chosen_task held.new.state.chosen ≡ chosen_task held.old.state.chosen)) }
     ensures free { OnErr result (held.new.state.chosen ≡ None) }
     ensures err { IfErr result IsRunFault }
 {
+    start_loses_none();
+    refusal_loses_none();
     let mut book = book.lock(rt);
     held.state.start(worker, &mut book)
 }
@@ -120,11 +131,14 @@ fn start_one<R: Wait>(
 fn play_one(held: &mut Held, cx: &mut Context<'_>) -> Result<(), ExecFault>
     requires begun { HasChosen held.old.state (λ c. IsBegun c.stage) }
     ensures same { (held.new.pass ≡ held.old.pass) × (site_of held.new.state ≡ site_of held.old.state) }
-    ensures ok { OnOk result (HasChosen held.new.state (λ c. IsPlayed c.stage)) }
+    ensures taken { HasTaken held.old.pass.taken held.old.state → HasTaken held.new.pass.taken held.new.state }
+    ensures ok { OnOk result (HasChosen held.new.state (λ c. IsPlayed c.stage) × (chosen_task held.new.state.chosen ≡ chosen_task held.old.state.chosen)) }
     ensures free { OnErr result (held.new.state.chosen ≡ None) }
     ensures err { IfErr result IsRunFault }
     ensures kept { Keeps cx.old cx.new }
 {
+    play_loses_none();
+    refusal_loses_none();
     held.state.play(cx)
 }
 
@@ -137,11 +151,15 @@ fn end_one<R: Wait>(
 ) -> Result<(), ExecFault>
     requires played { HasChosen held.old.state (λ c. IsPlayed c.stage) }
     ensures same { (held.new.pass ≡ held.old.pass) × (site_of held.new.state ≡ site_of held.old.state) }
+    ensures taken { HasTaken held.old.pass.taken held.old.state → HasTaken held.new.pass.taken held.new.state }
     ensures free { held.new.state.chosen ≡ None }
+    ensures made { OnOk result (IsMadeBy held.old.state.script (chosen_task held.old.state.chosen) (map job_view jobs.old.items) (map job_view jobs.new.items)) }
     ensures jobs { OnErr result (jobs.new.items ≡ jobs.old.items) }
     ensures bodies { OnOk result (AllByRecursion (IsJobOf held.old.state.script) jobs.old.items → AllByRecursion (IsJobOf held.old.state.script) jobs.new.items) }
     ensures err { IfErr result IsRunFault }
 {
+    turn_loses_none();
+    refusal_loses_none();
     let mut book = book.lock(rt);
     held.state.turn(&mut book, jobs)
 }
@@ -162,7 +180,9 @@ where
     G: Gate,
     requires free { held.old.state.chosen ≡ None }
     ensures same { (held.new.pass ≡ held.old.pass) × (site_of held.new.state ≡ site_of held.old.state) }
+    ensures taken { HasTaken held.old.pass.taken held.old.state → HasTaken held.new.pass.taken held.new.state }
     ensures free { held.new.state.chosen ≡ None }
+    ensures made { IfOk result (λ ran. IfSome ran (λ task. IsMadeBy held.old.state.script (Some task) (map job_view jobs.old.items) (map job_view jobs.new.items))) }
     ensures none { IfOk result (λ ran. IfNone ran (jobs.new.items ≡ jobs.old.items)) }
     ensures jobs { OnErr result (jobs.new.items ≡ jobs.old.items) }
     ensures bodies { AllByRecursion (IsJobOf held.old.state.script) jobs.old.items → AllByRecursion (IsJobOf held.old.state.script) jobs.new.items }
@@ -225,7 +245,8 @@ impl Exec {
         requires free { held.state.chosen ≡ None }
         ensures seat { IfOk result (λ ran. seat.new ≡ seat_after ran seat.old) }
         ensures kept { OnErr result (seat.new ≡ left seat.old) }
-        ensures jobs { IfOk result (λ ran. IfNoTurn ran (jobs.new.items ≡ jobs.old.items)) }
+        ensures made { IfOk result (IfTurn (λ task. IsMadeBy self.now.inbox.site.script (Some task) (map job_view jobs.old.items) (map job_view jobs.new.items))) }
+        ensures jobs { IfOk result (IfNoTurn (jobs.new.items ≡ jobs.old.items)) }
         ensures none { OnErr result (jobs.new.items ≡ jobs.old.items) }
         ensures bodies { AllByRecursion (IsJobOf self.now.inbox.site.script) jobs.old.items → AllByRecursion (IsJobOf self.now.inbox.site.script) jobs.new.items }
         ensures err { IfErr result IsRunFault }
@@ -274,7 +295,8 @@ impl Exec {
         requires { IsDeskOf self.now desk.old }
         ensures desk { IfOk result (λ ran. desk.new ≡ after_run ran desk.old) }
         ensures kept { OnErr result (desk.new ≡ desk.old) }
-        ensures jobs { IfOk result (λ ran. IfNoTurn ran (jobs.new.items ≡ jobs.old.items)) }
+        ensures made { IfOk result (IfTurn (λ task. IsMadeBy self.now.inbox.site.script (Some task) (map job_view jobs.old.items) (map job_view jobs.new.items))) }
+        ensures jobs { IfOk result (IfNoTurn (jobs.new.items ≡ jobs.old.items)) }
         ensures none { OnErr result (jobs.new.items ≡ jobs.old.items) }
         ensures bodies { AllByRecursion (IsJobOf self.now.inbox.site.script) jobs.old.items → AllByRecursion (IsJobOf self.now.inbox.site.script) jobs.new.items }
         ensures worker { (result ≡ Err ExecFault.Worker) ↔ (may_run (executor_kind self.now.inbox.site.script self.now.inbox.site.executor) self.now.workers worker ≡ false) }
