@@ -1,3 +1,4 @@
+pub mod Account
 pub mod Playing
 pub mod Ready
 pub mod ReadyInside

@@ -18,6 +18,8 @@ mod pick;
 mod playing;
 // A turn of the chosen job.
 mod turns;
+// The account of an executor.
+pub mod laws;
 
 pub use fault::ExecFault;
 pub use state::ExecState;
