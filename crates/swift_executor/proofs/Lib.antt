@@ -1,3 +1,4 @@
+pub mod CrossesThreads
 pub mod Visits
 pub mod AccountKept
 pub mod Removed

@@ -12,6 +12,9 @@ ghost use Rattle.swift_types.specs.declared.id.TaskId.{TaskId};
 ghost use Rattle.swift_tasks.specs.Books.{BookView, job_view};
 ghost use Rattle.swift_executor.specs.Account.{HasTaken, job_entry, journal_entries, noted};
 ghost use Rattle.swift_executor.specs.Ready.{Adds};
+ghost use Rattle.std.specs.Thread.{IsSend, IsSync};
+ghost use Rattle.swift_executor.specs.contracts.desk.Desk as desk;
+ghost use Rattle.swift_executor.specs.contracts.exec.Exec as exec;
 ghost use Rattle.swift_executor.specs.State.{Begins, Chooses, ExecView, HasChosen, HasNone, Journals, LacksTask, Plays, PutsBack, new_executor};
 
 /// A new executor has taken no job (our own).
@@ -68,4 +71,14 @@ pub fn parts_are_what_was_taken()
     ensures { (taken : List JobView) (s : ExecView) (jobs : List (JobIs BodyView)) → HasTaken taken s → s.chosen ≡ None
         → IsPermutation (map (λ x. x.job) s.ready.front ++ s.ready.behind) jobs
         → IsPermutation (noted taken) (map job_entry jobs ++ journal_entries s.journal s.checkpoint) }
+{}
+
+/// Threads may share an executor (our own).
+pub fn threads_share_an_executor()
+    ensures { IsSync exec.the_row }
+{}
+
+/// A desk may go to another thread (our own).
+pub fn desks_cross_threads()
+    ensures { IsSend desk.the_row }
 {}
