@@ -4,7 +4,7 @@ ghost use Rattle.std.specs.Prelude.{◌≡◌, List, None, nat_lt, IfOk, IfErr, 
 ghost use Rattle.swift_events.specs.declared.event.Event.{Event};
 ghost use Rattle.swift_executor.specs.Ready.{Adds, HasRoom, level_at};
 ghost use Rattle.swift_executor.specs.State.{BelongsTo, Chooses, HasNone, LacksTask, takes_by_arrival};
-ghost use Rattle.swift_tasks.specs.Levels.{AreLevels};
+ghost use Rattle.swift_ledger.specs.Levels.{AreLevels};
 
 use crate::chosen::{Chosen, Stage, fill};
 use crate::fault::ExecFault;
