@@ -1,17 +1,22 @@
 -- A list of levels: filled from the first task on, and which events leave it as it is.
-use Rattle.std.proofs.Common.{◌≡◌, ℕ, zero, suc, ◌+◌, ◌<◌, ◌≤◌, List, [], ◌∷◌, ◌++◌, length, get_or, refl, sym, ◌∙◌, ap, arith, subst, Bool, true, false, inl, inr, length-append}
-use Rattle.std.specs.Prelude.{slice_index_or, Option, Some, None, IsSome}
-use Rattle.std.proofs.lemmas.Bool.{cases_lt}
+use Rattle.std.proofs.Common.{◌≡◌, ℕ, zero, suc, ◌<◌, ◌≤◌, List, [], ◌∷◌, ◌++◌, length, get_or, refl, sym, ◌∙◌, ap, arith, subst, inl, inr, length-append}
+use Rattle.std.specs.Prelude.{slice_index_or, Option, Some, None, IsSome, is_some}
+use Rattle.std.proofs.lemmas.Bool.{cases_lt, false≢true}
+use Rattle.swift_types.specs.Priority.{rank}
 use Rattle.swift_types.specs.declared.id.TaskId.{TaskId}
+use Rattle.swift_types.specs.declared.priority.Priority.{Priority}
 use Rattle.swift_escalation.specs.declared.waits.Event.{Event as Link}
+use Rattle.swift_escalation.specs.declared.waits.Event.TheVariants as link
 use Rattle.swift_escalation.specs.Waits.{IsPriority, IsKnown}
 use Rattle.swift_events.specs.declared.event.Event.{Event}
-use Rattle.swift_events.specs.declared.event.Event.TheVariants.{Root, Free, Child}
+use Rattle.swift_events.specs.declared.event.Event.TheVariants.{Root, Free, Child, Wait}
 use Rattle.swift_events.specs.Lives.{life_of, origin_in}
 use Rattle.swift_events.specs.Relations.{link_in, links_of}
-use Rattle.swift_events.proofs.LogLemmas.{origin-push, links_of-push_none}
+use Rattle.swift_events.proofs.LogLemmas.{origin-push, links_of-push_some, links_of-push_none}
+use Rattle.swift_ledger.specs.Ledgers.{IsMade}
 use Rattle.swift_ledger.specs.Levels.{IsLevel, AreLevels}
 use Rattle.swift_ledger.proofs.LinkLemmas.{made_known}
+use Rattle.swift_ledger.proofs.WaitLemmas.{priority_stays}
 
 last_or : (xs : List ℕ) (y d : ℕ) → get_or (xs ++ y ∷ []) (length xs) d ≡ y
 last_or [] y d = refl
@@ -35,6 +40,8 @@ each_more log xs ys k y is long each this t lt = elim (cases_lt t.0 (length xs))
       let value : slice_index_or ys t.0 0 ≡ y = ap (λ (zs : List ℕ). get_or zs t.0 0) is ∙ ap (λ (n : ℕ). get_or (xs ++ y ∷ []) n 0) at ∙ last_or xs y 0 in
       subst (IsLevel log t) (sym value) (subst (λ (n : ℕ). IsLevel log (number n) y) (sym (at ∙ long)) this))
 ]
+
+-- which events leave each level as it is
 
 -- an event that is nothing for priorities makes no task
 link_or_origin : (e : Event) → link_in e ≡ None → origin_in e ≡ None
@@ -61,3 +68,30 @@ not_some None h = refl
 -- the level of a task that priorities do not know
 pub none_level : (log : List Event) (t : TaskId) → (IsKnown (links_of log) t → ⊥) → IsLevel log t 0
 none_level log t unknown = inl (not_some (life_of t.0 log).origin (λ made. unknown (made_known log t made)), refl)
+
+-- so does a wait for a task that is at least as urgent
+
+level_at_wait : (log : List Event) (u t : TaskId) (p q : Priority) → IsPriority (links_of log) u p → IsPriority (links_of log) t q → rank p ≤ rank q
+    → (x : TaskId) (l : ℕ) → IsLevel log x l → IsLevel (log ++ Wait u t ∷ []) x l
+level_at_wait log u t p q waiter awaited le x l (inl unmade) = inl (origin-push x.0 log (Wait u t) refl ∙ unmade.0, unmade.1)
+level_at_wait log u t p q waiter awaited le x l (inr made) = inr (
+  made.0,
+  subst (λ (links : List Link). IsPriority links x made.0) (sym (links_of-push_some log (Wait u t) (link.Wait u t) refl))
+      (priority_stays (links_of log) u t p q waiter awaited le x made.0 made.1),
+  made.2,
+)
+
+-- the priority that a level says
+priority_at : (log : List Event) (t : TaskId) (l : ℕ) → IsMade log t → IsLevel log t l → (p : Priority) × IsPriority (links_of log) t p × (l ≡ suc (rank p))
+priority_at log t l made (inl unmade) = absurd (false≢true (sym (ap is_some unmade.0) ∙ made))
+priority_at log t l made (inr is) = is
+
+pub levels_at_wait : (log : List Event) (u t : TaskId) (l m : ℕ) (ls : List ℕ) → IsMade log u → IsMade log t → IsLevel log u l → IsLevel log t m → l ≤ m → AreLevels log ls → AreLevels (log ++ Wait u t ∷ []) ls
+levels_at_wait log u t l m ls u_made t_made u_level t_level le are =
+    let waiter = priority_at log u l u_made u_level in
+    let awaited = priority_at log t m t_made t_level in
+    let urgent : rank waiter.0 ≤ rank awaited.0 = omega (arith, le, waiter.2, awaited.2) in
+    record {
+      each = λ x. level_at_wait log u t waiter.0 awaited.0 waiter.1 awaited.1 urgent x (slice_index_or ls x.0 0) (are.each x);
+      few = are.few;
+    }

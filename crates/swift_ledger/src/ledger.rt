@@ -114,8 +114,8 @@ impl Ledger {
     }
 
     /// The level of each task, by its number: one more than the number of its priority, and 0 where it was not made, as for each
-    /// past the end (our own). It takes no memory. Constant time where no task was made and none has waited since the last call,
-    /// else time that is linear in the tasks.
+    /// past the end (our own). It takes no memory. Constant time where no task was made and no wait has raised a priority since
+    /// the last call, else time that is linear in the tasks.
     pub fn levels(&mut self) -> &[u8]
         // What the ledger is once the levels are no longer borrowed.
         ensures* same { sem 𝓛 (Rests the_row self.entry (λ new. new ≡ self.old)) }
@@ -252,8 +252,9 @@ impl Ledger {
         // What is reserved changes by what the event's task has reserved.
         ensures reserved { reserved_of self.new.roots self.new.log + room_held (life_of (task_of event) self.old.log) ≡ reserved_of self.old.roots self.old.log + room_held (life_of (task_of event) self.new.log) }
     {
+        self.levels
+            .note(&self.indexes.waits, self.roots, &self.log, event);
         self.indexes.note(self.roots, &self.log, event);
-        self.levels.note(&self.log, event);
         self.log.push_reserved(event);
         self.spare -= 1;
     }

@@ -1,11 +1,11 @@
 //! The level of each task.
 
-ghost use Rattle.std.specs.Prelude.{◌≡◌, ◌<◌, ◌≤◌, ◌∷◌, [], ◌++◌, List, IfOk, vec_capacity};
+ghost use Rattle.std.specs.Prelude.{◌≡◌, ℕ, ◌<◌, ◌≤◌, ◌∷◌, [], ◌++◌, List, false, IfOk, vec_capacity};
 ghost use Rattle.swift_types.specs.declared.limits.TheConstants.{TASKS};
 ghost use Rattle.swift_types.specs.declared.id.TaskId.{TaskId};
 ghost use Rattle.swift_events.specs.declared.event.Event.{Event};
 ghost use Rattle.swift_events.specs.Relations.{links_of};
-ghost use Rattle.swift_ledger.specs.Ledgers.{IsMade};
+ghost use Rattle.swift_ledger.specs.Ledgers.{CanNote, IsMade};
 ghost use Rattle.swift_ledger.specs.Levels.{AreLevels, IsLevel};
 ghost use Rattle.swift_ledger.specs.LevelsInside.{KeepsLevels};
 
@@ -20,7 +20,7 @@ use swift_types::limits::TASKS;
 #[derive(Drop)]
 pub(crate) struct Levels {
     levels: Vec<u8>,
-    // Whether a task was made or has waited since then.
+    // Whether a level may have changed since then.
     stale: bool,
 }
 
@@ -35,12 +35,14 @@ impl Levels {
         })
     }
 
-    /// Follows the log by one event. Only a task that is made and a wait change levels.
-    pub(crate) fn note(&mut self, log: &[Event], event: Event)
-        requires { KeepsLevels self.old log.now }
+    /// Follows the log by one event, which the waits do not have yet.
+    pub(crate) fn note(&mut self, waits: &Waits, roots: usize, log: &[Event], event: Event)
+        requires kept { KeepsLevels self.old log.now }
+        requires links { waits.now.events ≡ links_of log.now }
+        requires fits { CanNote roots log.now event }
         ensures { KeepsLevels self.new (log.now ++ event ∷ []) }
     {
-        if link_of(event).is_some() {
+        if may_change(waits, roots, log, event) {
             self.stale = true;
         }
     }
@@ -66,6 +68,18 @@ impl Levels {
     {
         &self.levels
     }
+}
+
+// Whether an event may change a level: it makes a task, or it is a wait for a task that is less urgent than the waiter.
+fn may_change(waits: &Waits, roots: usize, log: &[Event], event: Event) -> bool
+    requires links { waits.now.events ≡ links_of log.now }
+    requires fits { CanNote roots log.now event }
+    ensures { result ≡ false → (levels : List ℕ) → AreLevels log.now levels → AreLevels (log.now ++ event ∷ []) levels }
+{
+    if let Event::Wait(task, awaited) = event {
+        return level_of(waits, log, awaited) < level_of(waits, log, task);
+    }
+    link_of(event).is_some()
 }
 
 // The level of a task.

@@ -102,8 +102,8 @@ impl Book {
     }
 
     /// The levels of the tasks, by the number of the task: one more than the number of the priority, and 0 for a task that was
-    /// not made, as for each past the end (our own). It takes no memory. Constant time where no task was made and none has
-    /// waited since the last call, else time that is linear in the tasks.
+    /// not made, as for each past the end (our own). It takes no memory. Constant time where no task was made and no wait
+    /// has raised a priority since the last call, else time that is linear in the tasks.
     pub fn levels(&mut self) -> &[u8]
         // What the book is once the levels are no longer borrowed.
         ensures* same { sem 𝓛 (Rests the_row self.entry (λ new. new ≡ self.old)) }
