@@ -22,7 +22,7 @@ use Rattle.swift_events.specs.declared.event.Event.TheVariants.{Begin}
 use Rattle.swift_events.specs.Room.{IsEnv}
 use Rattle.swift_history.specs.TurnEnds.{JobView}
 use Rattle.swift_tasks.specs.Books.{BookView, IsEndOf, job_view}
-use Rattle.swift_tasks.specs.Levels.{AreLevels}
+use Rattle.swift_ledger.specs.Levels.{AreLevels}
 use Rattle.swift_tasks.specs.Refusals.{refusal_of_apply, refusal_of_begin}
 use Rattle.swift_tasks.specs.declared.fault.BookFault.{BookFault}
 use Rattle.swift_executor.specs.Ready.{AreHigher, CanRestore, ComesFirst, Forwards, ReadyIs, ReadyJob, level_at, ready_job}
