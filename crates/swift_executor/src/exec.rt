@@ -93,14 +93,9 @@ fn first_state(
     ensures { IfOk result (λ r. (site_of r.state ≡ site.now) × (r.pass ≡ pass)) }
 {
     new_has_taken_none();
-    let levels = Vec::new(alloc);
     let script = Arc::clone(site.script())?;
     let state = ExecState::new(alloc, script, site.executor(), room)?;
-    let held = Held {
-        state,
-        pass,
-        levels,
-    };
+    let held = Held { state, pass };
     match Box::new(alloc, held) {
         Ok(held) => Ok(Resting::new(held)),
         Err(refused) => {

@@ -11,12 +11,10 @@ use swift_queue::Job;
 use swift_turn::Body;
 use swift_word::Named;
 
-/// What a worker holds of an executor: its state, the pass by which its jobs come out of the inbox, and a list for the
-/// levels of the book's tasks.
+/// What a worker holds of an executor: its state, and the pass by which its jobs come out of the inbox.
 pub struct Held {
     pub state: ExecState,
     pub pass: Pass,
-    pub levels: Vec<u8>,
 }
 
 /// The state of an executor while no worker holds it: no job is chosen. Where it is dropped, its jobs are spent.
@@ -74,11 +72,7 @@ impl Resting {
         ensures is_of { IsOf result.1 result.0 }
     {
         let held = Box::into_inner(self.into_held());
-        let Held {
-            state,
-            pass,
-            levels: _,
-        } = held;
+        let Held { state, pass } = held;
         (state, pass)
     }
 }
@@ -95,11 +89,7 @@ pub fn spend_all(mut jobs: Vec<Job<Body>>) {
 pub fn spend_held(held: Held)
     requires { held.state.chosen ≡ None }
 {
-    let Held {
-        state,
-        pass: _,
-        levels: _,
-    } = held;
+    let Held { state, pass: _ } = held;
     let (jobs, _journal, _fields, _checkpoint) = state.into_parts();
     spend_all(jobs);
 }

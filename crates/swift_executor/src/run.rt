@@ -1,12 +1,10 @@
 //! A visit of a worker to an executor.
 
-ghost use Rattle.std.specs.Prelude.{List, ◌≡◌, ◌<◌, ◌↔◌, None, Some, Err, false, map, IfOk, IfErr, IfSome, IfNone, IsSome, IsSomeAnd, OnOk, OnErr};
+ghost use Rattle.std.specs.Prelude.{◌≡◌, ◌<◌, ◌↔◌, None, Some, Err, false, map, IfOk, IfErr, IfSome, IfNone, IsSome, IsSomeAnd, OnOk, OnErr};
 ghost use Rattle.std.specs.List.{AllByRecursion};
 ghost use Rattle.futures.specs.Task.{Keeps};
-ghost use Rattle.swift_events.specs.declared.event.Event.{Event};
 ghost use Rattle.swift_script.specs.Scripts.{executor_kind};
 ghost use Rattle.swift_tasks.specs.Books.{IsJobOf, job_view};
-ghost use Rattle.swift_tasks.specs.Levels.{AreLevels};
 ghost use Rattle.swift_executor.specs.Account.{HasTaken};
 ghost use Rattle.swift_executor.specs.Exec.{IfNoTurn, IfTurn, IsMadeBy, chosen_task, IsAt, IsDeskOf, IsRunFault, IsSeatAt, after_run, may_run, seat_after, site_of};
 ghost use Rattle.swift_word.specs.Seat.{ended, left};
@@ -76,15 +74,6 @@ fn accept_all<R: Wait>(rt: &R, inbox: &Inbox, held: &mut Held)
     }
 }
 
-// The levels of a book's tasks.
-fn note_levels<R: Wait>(rt: &R, book: &Mutex<Book>, levels: &mut Vec<u8>) -> Result<(), ExecFault>
-    ensures ok { OnOk result ((log : List Event) × AreLevels log levels.new.items) }
-    ensures err { IfErr result IsRunFault }
-{
-    let book = book.lock(rt);
-    Ok(book.fill_levels(levels)?)
-}
-
 // Chooses the job that runs next.
 fn choose_one<R: Wait>(
     rt: &R,
@@ -99,8 +88,8 @@ fn choose_one<R: Wait>(
     ensures free { OnErr result (held.new.state.chosen ≡ None) }
     ensures err { IfErr result IsRunFault }
 {
-    note_levels(rt, book, &mut held.levels)?;
-    held.state.choose(&held.levels)
+    let mut book = book.lock(rt);
+    held.state.choose(book.levels())
 }
 
 // Begins the turn of the chosen job.
@@ -267,7 +256,7 @@ impl Exec {
     /// are of an equal script and their bodies have not ended. `Busy` where another worker holds the executor.
     ///
     /// It waits for the lock of the book, and for another thread that is between two steps of a call of the inbox. It takes no
-    /// memory but what `ExecState::play` and `ExecState::turn` say, and a byte for each task at the first visits.
+    /// memory but what `ExecState::play` and `ExecState::turn` say.
     ///
     /// # Errors
     ///
