@@ -1,3 +1,5 @@
+pub mod Visits
+pub mod AccountKept
 pub mod Removed
 pub mod ReadyKept
 pub mod Counting
