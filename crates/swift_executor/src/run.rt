@@ -6,7 +6,7 @@ ghost use Rattle.futures.specs.Task.{Keeps};
 ghost use Rattle.swift_events.specs.declared.event.Event.{Event};
 ghost use Rattle.swift_script.specs.Scripts.{executor_kind};
 ghost use Rattle.swift_tasks.specs.Books.{IsJobOf, job_view};
-ghost use Rattle.swift_tasks.specs.Levels.{AreLevels};
+ghost use Rattle.swift_ledger.specs.Levels.{AreLevels};
 ghost use Rattle.swift_executor.specs.Account.{HasTaken};
 ghost use Rattle.swift_executor.specs.Exec.{IfNoTurn, IfTurn, IsMadeBy, chosen_task, IsAt, IsDeskOf, IsRunFault, IsSeatAt, after_run, may_run, seat_after, site_of};
 ghost use Rattle.swift_word.specs.Seat.{ended, left};

@@ -1,5 +1,5 @@
 use Rattle.std.proofs.Common.{subst, refl, sym}
-use Rattle.swift_tasks.specs.Levels.{AreLevels}
+use Rattle.swift_ledger.specs.Levels.{AreLevels}
 use Rattle.swift_executor.proofs.Visits.{is_free, is_none, is_picked, same_site, same_taken}
 use Rattle.swift_executor.proofs.run.choose_one.Goals as goal
 
