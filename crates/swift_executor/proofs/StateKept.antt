@@ -78,6 +78,7 @@ back_keeps s c job ready' is at belongs task perm same =
     let many = is.counted in
     let same_behind = ap length behind in
     record {
+      past = is.past;
       lawful = is.lawful;
       replayed = is.replayed;
       runs = is.runs;
@@ -100,6 +101,7 @@ stage_keeps s c c' is at belongs task arrival plays =
     let one : chosen_count s.chosen ≡ 1 = ap chosen_count at in
     let many = is.counted in
     record {
+      past = is.past;
       lawful = is.lawful;
       replayed = is.replayed;
       runs = is.runs;
@@ -128,6 +130,7 @@ choose_keeps s job arrival ready' is at perm behind arrived can =
     let many = is.counted in
     let same_behind = ap length behind in
     record {
+      past = is.past;
       lawful = is.lawful;
       replayed = is.replayed;
       runs = is.runs;
@@ -151,6 +154,7 @@ reorder_keeps s ready' is at perm behind arrived =
     let many = is.counted in
     let same_behind = ap length behind in
     record {
+      past = is.past;
       lawful = is.lawful;
       replayed = is.replayed;
       runs = is.runs;
@@ -177,6 +181,7 @@ accept_keeps s job ready' is at belongs (inl h) =
     let many = is.counted in
     let same_behind = ap length behind in
     record {
+      past = is.past;
       lawful = is.lawful;
       replayed = is.replayed;
       runs = is.runs;
@@ -200,6 +205,7 @@ accept_keeps s job ready' is at belongs (inr h) =
     let same_behind = ap length behind in
     let same_front = ap length front in
     record {
+      past = is.past;
       lawful = is.lawful;
       replayed = is.replayed;
       runs = is.runs;

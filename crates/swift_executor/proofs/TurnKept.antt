@@ -1,7 +1,7 @@
 -- What an executor keeps when a turn is journalled.
 use Rattle.std.proofs.Common.{◌≡◌, ◌≢◌, ℕ, suc, ◌+◌, ◌-◌, ◌<◌, ℤ, Bool, IsTrue, if◌then◌else◌, Option, Some, None, IfSome, List, [], ◌∷◌, ◌++◌, length, take, map, get_or, Contains, refl, ap, sym, subst, ◌∙◌, inl, inr, arith}
 use Rattle.std.proofs.lemmas.Bool.{cases_eq, eq-eqb, ne_eqb}
-use Rattle.std.proofs.lemmas.List.{length-append, length-map, take_at}
+use Rattle.std.proofs.lemmas.List.{length-append, length-map, map-append, take_at}
 use Rattle.std.proofs.lemmas.List.Elements.{All-contains, All-cons, All-head, All-nil, All-tail, All-weaker, Contains-append_cases, Contains-push_cases}
 use Rattle.std.proofs.lemmas.List.Sorted.{All-permutation, Contains-permutation, IsPermutation-map, IsPermutation-middle, length_permutation}
 use Rattle.std.specs.List.{All}
@@ -13,13 +13,14 @@ use Rattle.swift_types.specs.declared.outcome.Resume.{Resume}
 use Rattle.script_code.specs.Seen.{rows_of}
 use Rattle.script_code.specs.Value.{holds}
 use Rattle.script_code.specs.declared.env.Env.{Env}
-use Rattle.swift_script.specs.Scripts.{ScriptView, actor_executor, method_actor}
+use Rattle.swift_script.specs.Scripts.{ScriptView, actor_executor, executor_start, method_actor}
 use Rattle.swift_interpreter.specs.Frames.{FrameView, effect_views, frame_view}
 use Rattle.swift_interpreter.specs.Turn.{EffectView, ExitView, calling, waiting, asking_next, closing, yielding, returning, failing, State, Played}
 use Rattle.swift_turn.specs.Body.{BodyView, HasFirst, IsTurnOf, kept_turn, left, state_at}
 use Rattle.swift_queue.specs.Job.{JobIs}
-use Rattle.swift_journal.specs.Checkpoints.{CheckpointRoom, CheckpointView, folded_of, folds}
+use Rattle.swift_journal.specs.Checkpoints.{CheckpointRoom, CheckpointView, FoldedView, folded_of, folds}
 use Rattle.swift_journal.specs.Records.{RecordView}
+use Rattle.swift_journal.proofs.Replayed.{lawful-append, replay-append}
 use Rattle.swift_journal.specs.Replay.{AreLawful, IsAfter, IsLawfulRecord, InvariantsStay, LawfulGrows, RunOn, StandsFor, fields_after, replay}
 use Rattle.swift_executor.specs.Ready.{Forwards, ReadyIs, ReadyJob, ready_job}
 use Rattle.swift_executor.specs.Playing.{AppliesTurn, HasFoldRoom, Settles, WritesRecord}
@@ -29,7 +30,7 @@ use Rattle.swift_executor.specs.declared.chosen.Stage.TheVariants.{Picked, Begun
 use Rattle.swift_tasks.specs.Books.{BookView}
 use Rattle.swift_history.specs.TurnEnds.{JobView}
 use Rattle.swift_interpreter.specs.TurnStates.{exit_view}
-use Rattle.swift_executor.specs.State.{BelongsTo, ChosenView, ExecView, HasPlayed, IsChosen, IsExecutor, IsPlayed, Journals, checkpoint_with, chosen_count, frame_after, journal_with, leaders, played, record_by}
+use Rattle.swift_executor.specs.State.{BelongsTo, ChosenView, ExecView, HasPast, HasPlayed, IsChosen, IsExecutor, IsPlayed, Journals, checkpoint_with, chosen_count, frame_after, journal_with, leaders, played, record_by}
 
 -- the frame that a turn leaves stands for what is still to do
 stands : (p : ScriptView) (g : FrameView) (rows : List (List ℤ)) (effects : List EffectView) (s : State) → state_at p g rows effects s.room ≡ s → state_at p g s.fields s.effects s.room ≡ s
@@ -79,6 +80,10 @@ recorded script executor fields rows j worker env frame effects exit belongs pla
 RunOn-push : (script : ScriptView) (executor : ℕ) (rs : List RecordView) (r : RecordView) → RunOn script executor rs → actor_executor script (method_actor script r.frame.method) ≡ executor → RunOn script executor (rs ++ r ∷ [])
 RunOn-push script executor [] r are is = (is, tt)
 RunOn-push script executor (x ∷ rs) r are is = (are.0, RunOn-push script executor rs r are.1 is)
+
+RunOn-append : (script : ScriptView) (executor : ℕ) (rs more : List RecordView) → RunOn script executor rs → RunOn script executor more → RunOn script executor (rs ++ more)
+RunOn-append script executor [] more are rest = rest
+RunOn-append script executor (x ∷ rs) more are rest = (are.0, RunOn-append script executor rs more are.1 rest)
 
 -- another task than the first one
 others : (t : TaskId) (ts : List TaskId) (u : TaskId) → u ≢ t → Contains (t ∷ ts) u → Contains ts u
@@ -132,6 +137,19 @@ moved script executor old new task front behind led (inr h) =
           (before ++ after) rest_led);
     }
 
+-- the turns of a journal that is folded are lawful after those of the checkpoint
+past_grown : (script : ScriptView) (executor : ℕ) (c : CheckpointView) (journal : List RecordView) (rows : List (List ℤ)) → HasPast script executor c → AreLawful script c.fields journal → RunOn script executor journal → rows ≡ replay script c.fields journal
+    → HasPast script executor (folds c journal rows)
+past_grown script executor c journal rows past lawful runs after =
+    let start = executor_start script executor in
+    record {
+      records = past.records ++ journal;
+      folded = ap (λ (ts : List FoldedView). ts ++ map folded_of journal) past.folded ∙ sym (map-append folded_of past.records journal);
+      lawful = lawful-append script start past.records journal past.lawful (subst (λ (fs : List (List ℤ)). AreLawful script fs journal) past.replayed lawful);
+      runs = RunOn-append script executor past.records journal past.runs runs;
+      replayed = after ∙ ap (λ (fs : List (List ℤ)). replay script fs journal) past.replayed ∙ sym (replay-append script start past.records journal);
+    }
+
 -- a journal that is not full yet, or is folded
 pub turn_keeps : (s : ExecView) (c : ChosenView) (ready' : ReadyIs BodyView) (r : RecordView) (rows : List (List ℤ)) → ((script : ScriptView) (fields : List (List ℤ)) (rs : List RecordView) (r : RecordView) → LawfulGrows script fields rs r) → InvariantsStay
     → IsExecutor s → s.chosen ≡ Some c → Forwards s.ready c.job.task ready' → IsRecorded s.script s.executor s.fields rows r
@@ -155,6 +173,7 @@ turn_keeps s c ready' r rows grows stays is at forwards rec =
           let size = length-map j' folded_of in
           subst (λ (b : Bool). IsExecutor (record s { ready = ready'; chosen = None; journal = if b then [] else j'; checkpoint = if b then folds s.checkpoint j' rows else s.checkpoint; fields = rows })) (sym (eq-eqb (suc (length s.journal)) FOLD full))
           (record {
+            past = past_grown s.script s.executor s.checkpoint j' rows is.past lawful runs replayed;
             lawful = tt;
             replayed = refl;
             runs = tt;
@@ -169,6 +188,7 @@ turn_keeps s c ready' r rows grows stays is at forwards rec =
       | inr more_room ↦
           subst (λ (b : Bool). IsExecutor (record s { ready = ready'; chosen = None; journal = if b then [] else j'; checkpoint = if b then folds s.checkpoint j' rows else s.checkpoint; fields = rows })) (sym (ne_eqb (suc (length s.journal)) FOLD more_room))
           (record {
+            past = is.past;
             lawful = lawful;
             replayed = replayed;
             runs = runs;

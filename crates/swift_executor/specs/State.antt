@@ -14,7 +14,7 @@ use Rattle.swift_interpreter.specs.Frames.{FrameView}
 use Rattle.swift_interpreter.specs.Turn.{EffectView, ExitView, returning, failing, head}
 use Rattle.swift_turn.specs.Body.{BodyView, HasFirst, IsTurnOf, callers_of, left}
 use Rattle.swift_queue.specs.Job.{JobIs}
-use Rattle.swift_journal.specs.Checkpoints.{CheckpointView, folds}
+use Rattle.swift_journal.specs.Checkpoints.{CheckpointView, folded_of, folds}
 use Rattle.swift_journal.specs.Records.{RecordView}
 use Rattle.swift_journal.specs.Replay.{AreLawful, RunOn, replay}
 use Rattle.swift_events.specs.declared.event.Event.{Event}
@@ -82,11 +82,22 @@ pub record IsChosen (s : ExecView) (c : ChosenView) : Type 0 where
   pub restorable : CanRestore s.ready c.job.task c.arrival
   pub plays : HasPlayed s.script s.fields c.job c.stage
 
--- What an executor keeps. Its journal is lawful from the checkpoint on, its turns are of its actors, and replaying it gives the
--- fields. Each invariant of its actors that held at the start holds of the checkpoint's fields. As many jobs were accepted as
+-- There are records of the turns that a checkpoint has: they are lawful from the start values on and of the executor's actors, and
+-- the checkpoint's fields are their replay.
+pub record HasPast (script : ScriptView) (executor : ℕ) (c : CheckpointView) : Type 0 where
+  pub records : List RecordView
+  pub folded : c.folded ≡ map folded_of records
+  pub lawful : AreLawful script (executor_start script executor) records
+  pub runs : RunOn script executor records
+  pub replayed : c.fields ≡ replay script (executor_start script executor) records
+
+-- What an executor keeps. The turns of its checkpoint were lawful (`HasPast`). Its journal is lawful from the checkpoint on, its
+-- turns are of its actors, and replaying it gives the fields. Each invariant of its actors that held at the start holds of the
+-- checkpoint's fields. As many jobs were accepted as
 -- are ready, chosen and journalled together, those of the checkpoint too. Each job is one of the executor. And a job waits behind
 -- only where one of its task is in front or chosen.
 pub record IsExecutor (s : ExecView) : Type 0 where
+  pub past : HasPast s.script s.executor s.checkpoint
   pub lawful : AreLawful s.script s.checkpoint.fields s.journal
   pub replayed : s.fields ≡ replay s.script s.checkpoint.fields s.journal
   pub runs : RunOn s.script s.executor s.journal
