@@ -1,3 +1,6 @@
+pub mod CrossesThreads
+pub mod Visits
+pub mod AccountKept
 pub mod Removed
 pub mod ReadyKept
 pub mod Counting

@@ -1,3 +1,5 @@
+pub mod Account
+pub mod Exec
 pub mod Playing
 pub mod Ready
 pub mod ReadyInside

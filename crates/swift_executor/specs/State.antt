@@ -4,13 +4,12 @@ use Rattle.std.specs.Prelude.{◌≡◌, ℕ, suc, ◌+◌, ◌<◌, ◌==◌, �
 use Rattle.std.specs.List.Sorted.{IsPermutation}
 use Rattle.swift_types.specs.declared.id.TaskId.{TaskId}
 use Rattle.swift_types.specs.declared.limits.TheConstants.{FOLD, TASKS}
-use Rattle.swift_types.specs.declared.outcome.Resume.{Resume}
 use Rattle.script_grammar.specs.declared.declaration.ExecutorKind.{ExecutorKind}
 use Rattle.script_grammar.specs.declared.declaration.ExecutorKind.TheVariants as kind
 use Rattle.script_code.specs.Tree.{Term}
 use Rattle.script_code.specs.Value.{holds}
 use Rattle.script_code.specs.declared.env.Env.{Env}
-use Rattle.swift_script.specs.Scripts.{ScriptView, actor_executor, executor_actors, executor_invariants, executor_kind, executor_start, method_actor, method_count, root_count}
+use Rattle.swift_script.specs.Scripts.{ScriptView, actor_executor, executor_invariants, executor_kind, executor_start, method_actor, method_count, root_count}
 use Rattle.swift_interpreter.specs.Frames.{FrameView}
 use Rattle.swift_interpreter.specs.Turn.{EffectView, ExitView, returning, failing, head}
 use Rattle.swift_turn.specs.Body.{BodyView, HasFirst, IsTurnOf, callers_of, left}
@@ -23,7 +22,7 @@ use Rattle.swift_events.specs.declared.event.Event.TheVariants.{Begin}
 use Rattle.swift_events.specs.Room.{IsEnv}
 use Rattle.swift_history.specs.TurnEnds.{JobView}
 use Rattle.swift_tasks.specs.Books.{BookView, IsEndOf, job_view}
-use Rattle.swift_tasks.specs.Levels.{AreLevels}
+use Rattle.swift_ledger.specs.Levels.{AreLevels}
 use Rattle.swift_tasks.specs.Refusals.{refusal_of_apply, refusal_of_begin}
 use Rattle.swift_tasks.specs.declared.fault.BookFault.{BookFault}
 use Rattle.swift_executor.specs.Ready.{AreHigher, CanRestore, ComesFirst, Forwards, ReadyIs, ReadyJob, level_at, ready_job}

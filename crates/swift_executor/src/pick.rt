@@ -4,7 +4,7 @@ ghost use Rattle.std.specs.Prelude.{◌≡◌, List, None, nat_lt, IfOk, IfErr, 
 ghost use Rattle.swift_events.specs.declared.event.Event.{Event};
 ghost use Rattle.swift_executor.specs.Ready.{Adds, HasRoom, level_at};
 ghost use Rattle.swift_executor.specs.State.{BelongsTo, Chooses, HasNone, LacksTask, takes_by_arrival};
-ghost use Rattle.swift_tasks.specs.Levels.{AreLevels};
+ghost use Rattle.swift_ledger.specs.Levels.{AreLevels};
 
 use crate::chosen::{Chosen, Stage, fill};
 use crate::fault::ExecFault;
@@ -31,7 +31,7 @@ impl ExecState {
 
     /// Chooses the job that is to run next: the most urgent one, and among equals the one that arrived first; for an executor
     /// by arrival the one that arrived first (SE-0306; the order among equals is our own). A task counts at the priority that
-    /// the levels of a book give it (`Book::fill_levels`), or at a greater one that it was given before. None where no job is
+    /// the levels of a book give it (`Book::levels`), or at a greater one that it was given before. None where no job is
     /// ready. No job is chosen yet.
     ///
     /// It takes no memory, and constant time where no level has changed since the last call, besides the comparison of a byte

@@ -3,6 +3,8 @@ pub mod FormLemmas
 pub mod LivesLemmas
 pub mod FlagLemmas
 pub mod LinkLemmas
+pub mod WaitLemmas
+pub mod LevelLemmas
 pub mod RelativeLemmas
 pub mod GroupFacts
 pub mod KeptGroups

@@ -1,4 +1,5 @@
 pub mod Ledgers
+pub mod Levels
 pub mod WellFormed
 pub mod Lives
 pub mod Flags
@@ -7,4 +8,5 @@ pub mod Relatives
 pub mod Links
 pub mod GroupIndexes
 pub mod Indexes
+pub mod LevelsInside
 pub mod LedgerInside

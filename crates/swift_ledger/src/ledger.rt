@@ -1,6 +1,8 @@
 //! The log and what it gives.
 
 ghost use Rattle.std.specs.Prelude.{◌≡◌, ℕ, ◌+◌, ◌-◌, ◌<◌, ◌≤◌, ◌↔◌, [], ◌∷◌, ◌++◌, IfOk, OnOk, OnErr, IfSome, IsSome, IsTrue, length, slice_get, Some, None};
+ghost use Rattle.std.specs.Borrow.{sem};
+ghost use Rattle.std.specs.Io.BufRead.{Rests};
 ghost use Rattle.swift_types.specs.declared.limits.TheConstants.{TASKS};
 ghost use Rattle.swift_types.specs.declared.id.TaskId.{TaskId};
 ghost use Rattle.swift_groups.specs.Next.{next_of};
@@ -11,8 +13,10 @@ ghost use Rattle.swift_events.specs.Lives.{life_of, room_held};
 ghost use Rattle.swift_events.specs.Relations.{own_tasks, waiters_of, opened_by, is_open_group, is_cancelled, is_cancelled_group, group_of, parent_of, links_of};
 ghost use Rattle.swift_events.specs.Room.{IsEnv, open_of, reserved_of, room_of};
 ghost use Rattle.swift_ledger.specs.Ledgers.{CanNote, IsMade};
+ghost use Rattle.swift_ledger.specs.Levels.{AreLevels};
 
 use crate::indexes::Indexes;
+use crate::levels::Levels;
 use script_code::Env;
 use std::alloc::{AllocError, Global};
 use std::marker::Model;
@@ -29,6 +33,7 @@ pub struct Ledger {
     indexes: Indexes,
     // How many more events find memory for sure.
     spare: usize,
+    levels: Levels,
 }
 
 impl Model for Ledger {
@@ -44,6 +49,8 @@ impl Model for Ledger {
 }
 
 impl Ledger {
+    ghost use Rattle.swift_ledger.specs.contracts.ledger.Ledger.{the_row};
+
     /// An empty log, for a script with so many roots, whose numbers of tasks are taken from the start.
     pub fn new(alloc: Global, roots: usize) -> Result<Ledger, AllocError>
         requires { roots ≤ TASKS }
@@ -54,6 +61,7 @@ impl Ledger {
             log: Vec::new(alloc),
             indexes: Indexes::new(alloc, roots)?,
             spare: 0,
+            levels: Levels::new(alloc)?,
         })
     }
 
@@ -103,6 +111,19 @@ impl Ledger {
         ensures priority { IfSome result (IsPriority (links_of self.now.log) task) }
     {
         self.indexes.waits.priority(task)
+    }
+
+    /// The level of each task, by its number: one more than the number of its priority, and 0 where it was not made, as for each
+    /// past the end (our own). It takes no memory. Constant time where no task was made and no wait has raised a priority since
+    /// the last call, else time that is linear in the tasks.
+    pub fn levels(&mut self) -> &[u8]
+        // What the ledger is once the levels are no longer borrowed.
+        ensures* same { sem 𝓛 (Rests the_row self.entry (λ new. new ≡ self.old)) }
+        ensures levels { AreLevels self.old.log result.now }
+    {
+        let tasks = self.indexes.lives.len();
+        self.levels.refresh(&self.indexes.waits, &self.log, tasks);
+        self.levels.as_slice()
     }
 
     /// What a turn of the task is given, if it begins now.
@@ -231,6 +252,8 @@ impl Ledger {
         // What is reserved changes by what the event's task has reserved.
         ensures reserved { reserved_of self.new.roots self.new.log + room_held (life_of (task_of event) self.old.log) ≡ reserved_of self.old.roots self.old.log + room_held (life_of (task_of event) self.new.log) }
     {
+        self.levels
+            .note(&self.indexes.waits, self.roots, &self.log, event);
         self.indexes.note(self.roots, &self.log, event);
         self.log.push_reserved(event);
         self.spare -= 1;
@@ -245,6 +268,7 @@ impl Ledger {
             log,
             indexes: _,
             spare: _,
+            levels: _,
         } = self;
         log
     }

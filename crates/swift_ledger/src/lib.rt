@@ -5,6 +5,7 @@
 // What the log gives, by index.
 mod flags;
 mod group_index;
+mod levels;
 mod links;
 mod lists;
 mod lives;

@@ -12,7 +12,7 @@ use swift_escalation::{Event as Link, Waits};
 use swift_events::Event;
 
 /// What an event is for priorities, if it is anything.
-fn link_of(event: Event) -> Option<Link>
+pub(crate) fn link_of(event: Event) -> Option<Link>
     ensures { result ≡ link_in event }
 {
     match event {

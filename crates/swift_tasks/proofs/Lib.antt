@@ -10,7 +10,6 @@ pub mod HeldJobs
 pub mod HeldTaken
 pub mod JobsGiven
 pub mod JobsMade
-pub mod LevelsFilled
 pub mod OwnTasks
 pub mod Pushes
 pub mod Tests

@@ -4,5 +4,4 @@ pub mod BookInvariant
 pub mod Books
 pub mod Counted
 pub mod Laws
-pub mod Levels
 pub mod Refusals

@@ -54,7 +54,7 @@ impl Model for Book {
 }
 
 impl Book {
-    /// A book without tasks. It takes memory for the roots.
+    /// A book without tasks. It takes memory for the roots, and a byte for each of 1,024 tasks.
     pub fn new(alloc: Global, script: Arc<Script>) -> Result<Book, BookFault>
         ensures ok { IfOk result (λ book. book ≡ empty_book (arc_value script)) }
         ensures err { IfErr result (λ fault. fault ≡ BookFault.Memory) }

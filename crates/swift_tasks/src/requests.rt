@@ -2,20 +2,21 @@
 
 ghost use Rattle.std.specs.Prelude.{◌≡◌, ℕ, ◌<◌, ◌≤◌, [], ◌∷◌, ◌++◌, None, Some, IfOk, IfErr, OnOk, OnErr, MatchResult, is_some, length, map, slice_index_or, vec_len, vec_capacity};
 ghost use Rattle.std.specs.Arc.{arc_value};
+ghost use Rattle.std.specs.Borrow.{sem};
+ghost use Rattle.std.specs.Io.BufRead.{Rests};
 ghost use Rattle.std.specs.List.{AllByRecursion, list_all};
 ghost use Rattle.swift_types.specs.declared.limits.TheConstants.{TASKS};
 ghost use Rattle.swift_types.specs.declared.id.TaskId.{TaskId};
 ghost use Rattle.swift_types.specs.declared.priority.Priority.{Priority};
 ghost use Rattle.swift_script.specs.Scripts.{ScriptView, root_count};
 ghost use Rattle.swift_ledger.specs.Ledgers.{IsMade};
-ghost use Rattle.swift_events.specs.Events.{tasks_of};
+ghost use Rattle.swift_ledger.specs.Levels.{AreLevels};
 ghost use Rattle.swift_events.specs.Lives.{life_of};
 ghost use Rattle.swift_escalation.specs.Waits.{IsPriority};
 ghost use Rattle.swift_events.specs.Relations.{links_of};
 ghost use Rattle.swift_history.specs.TurnEnds.{root_job, root_events};
 ghost use Rattle.swift_tasks.specs.BookInvariant.{FitsScript, held_views};
 ghost use Rattle.swift_tasks.specs.Books.{IsJobOf, job_view, jobs_held};
-ghost use Rattle.swift_tasks.specs.Levels.{AreLevels, IsLevel};
 ghost use Rattle.swift_tasks.specs.Refusals.{IsRefusal, refusal_of_root, refusal_of_cancel, refusal_of_priorities};
 
 use crate::book::Book;
@@ -33,6 +34,8 @@ use swift_turn::Body;
 use swift_types::{Priority, Resume, RootId, TaskId};
 
 impl Book {
+    ghost use Rattle.swift_tasks.specs.contracts.book.Book.{the_row};
+
     /// Adds a root: its task has the root's number, method, arguments and priority, and no bindings. The job of its first
     /// turn comes back. A refusal is `Unknown` for a root that the script lacks or that was added before, or else `Memory`.
     pub fn add_root(&mut self, root: RootId) -> Result<Job<Body>, BookFault>
@@ -98,17 +101,15 @@ impl Book {
         Ok(())
     }
 
-    /// The priorities of all tasks, by the number of the task, in place of what `levels` had: one more than the number of the
-    /// priority, and 0 for a task that was not made, as for each past the end. In time by the number of tasks. The only
-    /// refusal is `Memory`; then `levels` is empty.
-    pub fn fill_levels(&self, levels: &mut Vec<u8>) -> Result<(), BookFault>
-        ensures ok { OnOk result (AreLevels self.now.log levels.new.items) }
-        ensures refused { IfErr result (λ fault. (fault ≡ BookFault.Memory) × (levels.new.items ≡ [])) }
+    /// The levels of the tasks, by the number of the task: one more than the number of the priority, and 0 for a task that was
+    /// not made, as for each past the end (our own). It takes no memory. Constant time where no task was made and no wait
+    /// has raised a priority since the last call, else time that is linear in the tasks.
+    pub fn levels(&mut self) -> &[u8]
+        // What the book is once the levels are no longer borrowed.
+        ensures* same { sem 𝓛 (Rests the_row self.entry (λ new. new ≡ self.old)) }
+        ensures levels { AreLevels self.old.log result.now }
     {
-        levels.clear();
-        levels.reserve(self.ledger.tasks())?;
-        note_levels(&self.ledger, levels);
-        Ok(())
+        self.ledger.levels()
     }
 
     fn are_made(&self, tasks: &[TaskId]) -> bool
@@ -165,29 +166,6 @@ fn note_root(ledger: &mut Ledger, script: &Script, root: RootId)
     let priority = script.root_priority(root);
     ledger.note(Event::Root(task, priority));
     ledger.note(Event::Give(task, 0, Resume::Start));
-}
-
-// The level of a task: one more than the number of its priority, and 0 where it was not made.
-fn level_of(ledger: &Ledger, task: TaskId) -> u8
-    ensures { IsLevel ledger.now.log task result }
-{
-    match ledger.priority(task) {
-        Some(priority) => priority.number() + 1,
-        None => 0,
-    }
-}
-
-// The level of each task, into a list that has room.
-fn note_levels(ledger: &Ledger, levels: &mut Vec<u8>)
-    requires empty { levels.old.items ≡ [] }
-    requires room { tasks_of ledger.now.roots ledger.now.log ≤ vec_capacity levels.old }
-    ensures { AreLevels ledger.now.log levels.new.items }
-{
-    let tasks = ledger.tasks();
-    'fill: while levels.len() < tasks {
-        let level = level_of(ledger, TaskId(levels.len() as u32));
-        levels.push_reserved(level);
-    }
 }
 
 // The priority of a task that was made.

@@ -258,6 +258,8 @@ pub fn play_again(rt: &HostRuntime, script: &Arc<Script>) {
     if play(rt, &mut book, &mut jobs).is_none() {
         wrong(rt, "book");
     }
+    let levels = book.levels();
+    let _ = println!(rt; "levels {levels:?}");
     let (log, waiting) = book.close();
     let (events, waits, left) = (log.len(), waiting.len(), jobs.len());
     let _ = println!(rt; "book closed: {events} events, {waits} tasks wait, {left} jobs");

@@ -44,3 +44,13 @@ pub fn told_priorities(out: &mut String, found: &[Priority]) -> Result<(), CaseF
     }
     Ok(())
 }
+
+/// Levels of tasks, in order.
+pub fn told_levels(out: &mut String, levels: &[u8]) -> Result<(), CaseFault> {
+    let mut between = "";
+    for level in levels {
+        write!(out, "{between}{level}")?;
+        between = " ";
+    }
+    Ok(())
+}

@@ -1,6 +1,6 @@
 //! Calls on a book.
 
-use crate::answers::{refused, tell_jobs, told_events, told_priorities};
+use crate::answers::{refused, tell_jobs, told_events, told_levels, told_priorities};
 use crate::done::{effect, exit};
 use crate::fault::CaseFault;
 use crate::jobs::{keep, made, place_of, spend, spend_all, take};
@@ -98,6 +98,7 @@ impl Tasks {
                 Ok(write!(out, "{open}")?)
             }
             ["priorities", ref named @ ..] => self.priorities(named, out),
+            ["levels"] => told_levels(out, self.book.levels()),
             _ => Err(CaseFault::Form),
         }
     }

@@ -13,7 +13,7 @@
 //!                       applies it, with its effects in order
 //! turn JOB; EFFECT; ..; EXIT
 //!                       begins it, and applies it if it has begun
-//! cancel TASK, ending TASK, origin TASK, priorities TASK .., open_tasks
+//! cancel TASK, ending TASK, origin TASK, priorities TASK .., levels, open_tasks
 //! quiet CALL            the same, of which only the answer is written
 //! FIRST to LAST: CALL   a call for each number, which stands in place of `#`; an answer that is the one before is not
 //!                       written again

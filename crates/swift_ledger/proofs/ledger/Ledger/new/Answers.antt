@@ -18,4 +18,5 @@ invariant_of-result c = record {
     waits = omega arith;
     groups = omega arith;
   };
+  levels = c.in_ok-new-2.ensures c.new.result.items;
 }

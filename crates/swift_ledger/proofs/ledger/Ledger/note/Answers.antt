@@ -6,6 +6,7 @@ use Rattle.swift_events.specs.Room.{reserved_of}
 use Rattle.swift_ledger.specs.Ledgers.{LedgerView, CanNote}
 use Rattle.swift_ledger.specs.WellFormed.{IsWellFormed}
 use Rattle.swift_ledger.specs.Indexes.{AreIndexes, HasSpare}
+use Rattle.swift_ledger.specs.LevelsInside.{KeepsLevels}
 use Rattle.swift_ledger.proofs.FormLemmas.{form_push, reserved_push}
 use Rattle.swift_ledger.proofs.ledger.Ledger.note.Goals as goal
 
@@ -19,9 +20,10 @@ invariant_of-self c =
     let items = c.push_reserved.ensures.items in
     record {
       form = subst (λ (es : List Event). IsWellFormed s.roots es) (sym items) (form_push s.roots s.log.items c.args.event inv.form fits);
-      indexes = subst (λ (es : List Event). AreIndexes c.note.new.self s.roots es) (sym items) (subst (λ (es : List Event). AreIndexes c.note.new.self s.roots (es ++ c.args.event ∷ [])) c.deref.ensures.value c.note.ensures.indexes);
+      indexes = subst (λ (es : List Event). AreIndexes c.note-2.new.self s.roots es) (sym items) (subst (λ (es : List Event). AreIndexes c.note-2.new.self s.roots (es ++ c.args.event ∷ [])) c.deref-2.ensures.value c.note-2.ensures.indexes);
       log_room = omega (arith, some, inv.log_room, c.push_reserved.ensures.len, c.push_reserved.ensures.capacity);
-      indexes_room = c.note.ensures.spare (s.spare - 1) (subst (λ (n : ℕ). HasSpare s.indexes n) one inv.indexes_room);
+      indexes_room = c.note-2.ensures.spare (s.spare - 1) (subst (λ (n : ℕ). HasSpare s.indexes n) one inv.indexes_room);
+      levels = subst (λ (es : List Event). KeepsLevels c.note.new.self es) (sym items) (subst (λ (es : List Event). KeepsLevels c.note.new.self (es ++ c.args.event ∷ [])) c.deref.ensures.value c.note.ensures);
     }
 
 pub returns-clause-reserved : goal.returns-clause-reserved

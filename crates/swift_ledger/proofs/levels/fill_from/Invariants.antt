@@ -1,15 +1,15 @@
 use Rattle.std.proofs.Common.{◌-◌, ◌<◌, ◌≤◌, vec_len}
 use Rattle.std.specs.Prelude.{slice_index_or, vec_capacity, length}
+use Rattle.swift_types.specs.declared.limits.TheConstants.{TASKS}
 use Rattle.swift_types.specs.declared.id.TaskId.{TaskId}
-use Rattle.swift_events.specs.Events.{tasks_of}
-use Rattle.swift_tasks.specs.Levels.{IsLevel}
-use Rattle.swift_tasks.proofs.requests.note_levels.Given as goal
+use Rattle.swift_ledger.specs.Levels.{IsLevel}
+use Rattle.swift_ledger.proofs.levels.fill_from.Given as goal
 
 abbrev pub invariant-fill : goal.invariant-fill
 invariant-fill l = record {
-  each : (t : TaskId) → t.0 < length l.levels.items → IsLevel l.ledger.log t (slice_index_or l.levels.items t.0 0);
+  each : (t : TaskId) → t.0 < length l.levels.items → IsLevel l.log t (slice_index_or l.levels.items t.0 0);
   few : vec_len l.levels ≤ l.tasks;
-  room : l.tasks ≤ vec_capacity l.levels;
+  room : TASKS ≤ vec_capacity l.levels;
 }
 
 abbrev pub decreases-fill : goal.decreases-fill

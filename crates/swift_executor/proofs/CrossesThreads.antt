@@ -1,0 +1,52 @@
+-- An executor may be shared by threads, and its state and its desks may go to another. Who starts a thread with one of these
+-- lists the lemma that is meant beside `sendable`.
+use denote.Param.Send.{IsSend, IsSync, sendable}
+use Rattle.std.proofs.Crossing as Crossing
+use Rattle.swift_turn.specs.contracts.body.Body as body
+use Rattle.swift_interpreter.proofs.turn_state.TurnState.TheSendSync as TurnState
+use Rattle.swift_interpreter.proofs.undo.Undo.TheSendSync as Undo
+use Rattle.swift_locals.proofs.bindings.Bindings.TheSendSync as Bindings
+use Rattle.swift_turn.proofs.phase.Phase.TheSendSync as Phase
+use Rattle.swift_turn.proofs.stack.Stack.TheSendSync as Stack
+use Rattle.futures.proofs.task.source.Source.TheSendSync as Source
+use Rattle.futures.proofs.task.waker.Waker.TheSendSync as Waker
+use Rattle.swift_journal.proofs.journal.Journal.TheSendSync as Journal
+use Rattle.swift_journal.proofs.checkpoint.Checkpoint.TheSendSync as Checkpoint
+use Rattle.swift_inbox.proofs.CrossesThreads.{body_send, inbox_sync, pass_send, script_send, script_sync}
+use Rattle.swift_executor.proofs.tasks.ReadyTasks.TheSendSync as ReadyTasks
+use Rattle.swift_executor.specs.contracts.state.ExecState as state
+use Rattle.swift_executor.specs.contracts.resting.Resting as resting
+use Rattle.swift_executor.specs.contracts.resting.Held as held
+use Rattle.swift_executor.specs.contracts.chosen.Chosen as chosen
+use Rattle.swift_executor.specs.contracts.exec.Spare as spare
+use Rattle.swift_executor.specs.contracts.exec.Exec as exec
+use Rattle.swift_executor.specs.contracts.desk.Desk as desk
+use Rattle.atomic_table.proofs.shared.Seat.TheSendSync as Seat
+use Rattle.swift_word.proofs.word.Word.TheSendSync as Word
+
+-- what is made of types that were shown before
+ruleset plain = (Crossing.crosses, sendable)
+
+pub body_sync : IsSync body.the_row
+body_sync = search (plain, script_send, script_sync, TurnState.the_field_sync, Undo.the_field_sync, Bindings.the_sync, Phase.the_field_sync, Stack.the_sync, Source.the_sync, Waker.the_sync) depth 60 fits 20000
+
+chosen_send : IsSend (chosen.the_field).row
+chosen_send = search (plain, body_send) depth 60 fits 20000
+
+state_send : IsSend state.the_row
+state_send = search (plain, script_send, script_sync, body_send, chosen_send, ReadyTasks.the_send, Journal.the_send, Checkpoint.the_send) depth 60 fits 20000
+
+held_send : IsSend (held.the_field).row
+held_send = search (plain, state_send, pass_send) depth 60 fits 20000
+
+resting_send : IsSend resting.the_row
+resting_send = search (plain, held_send) depth 60 fits 20000
+
+spare_sync : IsSync (spare.the_field).row
+spare_sync = search (plain, body_sync) depth 60 fits 20000
+
+pub exec_sync : IsSync exec.the_row
+exec_sync = search (plain, resting_send, inbox_sync, spare_sync, Word.the_sync) depth 60 fits 20000
+
+pub desk_send : IsSend desk.the_row
+desk_send = search (plain, resting_send, pass_send, Seat.the_send) depth 60 fits 20000

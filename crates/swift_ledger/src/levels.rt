@@ -1,0 +1,110 @@
+//! The level of each task.
+
+ghost use Rattle.std.specs.Prelude.{◌≡◌, ℕ, ◌<◌, ◌≤◌, ◌∷◌, [], ◌++◌, List, false, IfOk, vec_capacity};
+ghost use Rattle.swift_types.specs.declared.limits.TheConstants.{TASKS};
+ghost use Rattle.swift_types.specs.declared.id.TaskId.{TaskId};
+ghost use Rattle.swift_events.specs.declared.event.Event.{Event};
+ghost use Rattle.swift_events.specs.Relations.{links_of};
+ghost use Rattle.swift_ledger.specs.Ledgers.{CanNote, IsMade};
+ghost use Rattle.swift_ledger.specs.Levels.{AreLevels, IsLevel};
+ghost use Rattle.swift_ledger.specs.LevelsInside.{KeepsLevels};
+
+use crate::links::link_of;
+use std::alloc::{AllocError, Global};
+use swift_escalation::Waits;
+use swift_events::Event;
+use swift_types::TaskId;
+use swift_types::limits::TASKS;
+
+/// The level of each task, when the levels were last asked for.
+#[derive(Drop)]
+pub(crate) struct Levels {
+    levels: Vec<u8>,
+    // Whether a level may have changed since then.
+    stale: bool,
+}
+
+impl Levels {
+    /// Not filled yet, with room for each task that a run may have.
+    pub(crate) fn new(alloc: Global) -> Result<Levels, AllocError>
+        ensures { IfOk result (λ l. (log : List Event) → KeepsLevels l log) }
+    {
+        Ok(Levels {
+            levels: Vec::with_capacity(alloc, TASKS)?,
+            stale: true,
+        })
+    }
+
+    /// Follows the log by one event, which the waits do not have yet.
+    pub(crate) fn note(&mut self, waits: &Waits, roots: usize, log: &[Event], event: Event)
+        requires kept { KeepsLevels self.old log.now }
+        requires links { waits.now.events ≡ links_of log.now }
+        requires fits { CanNote roots log.now event }
+        ensures { KeepsLevels self.new (log.now ++ event ∷ []) }
+    {
+        if may_change(waits, roots, log, event) {
+            self.stale = true;
+        }
+    }
+
+    /// Fills the list anew, if it is stale. So many numbers of tasks are taken.
+    pub(crate) fn refresh(&mut self, waits: &Waits, log: &[Event], tasks: usize)
+        requires kept { KeepsLevels self.old log.now }
+        requires links { waits.now.events ≡ links_of log.now }
+        requires known { (t : TaskId) → IsMade log.now t → t.0 < tasks }
+        requires few { tasks ≤ TASKS }
+        ensures kept { KeepsLevels self.new log.now }
+        ensures fresh { AreLevels log.now self.new.levels.items }
+    {
+        if self.stale {
+            fill_from(&mut self.levels, waits, log, tasks);
+            self.stale = false;
+        }
+    }
+
+    /// The list, as it was last filled.
+    pub(crate) fn as_slice(&self) -> &[u8]
+        ensures { result.now ≡ self.now.levels.items }
+    {
+        &self.levels
+    }
+}
+
+// Whether an event may change a level: it makes a task, or it is a wait for a task that is less urgent than the waiter.
+fn may_change(waits: &Waits, roots: usize, log: &[Event], event: Event) -> bool
+    requires links { waits.now.events ≡ links_of log.now }
+    requires fits { CanNote roots log.now event }
+    ensures { result ≡ false → (levels : List ℕ) → AreLevels log.now levels → AreLevels (log.now ++ event ∷ []) levels }
+{
+    if let Event::Wait(task, awaited) = event {
+        return level_of(waits, log, awaited) < level_of(waits, log, task);
+    }
+    link_of(event).is_some()
+}
+
+// The level of a task.
+fn level_of(waits: &Waits, log: &[Event], task: TaskId) -> u8
+    requires { waits.now.events ≡ links_of log.now }
+    ensures { IsLevel log.now task result }
+{
+    match waits.priority(task) {
+        Some(priority) => priority.number() + 1,
+        None => 0,
+    }
+}
+
+// The level of each task, into a list that has room.
+fn fill_from(levels: &mut Vec<u8>, waits: &Waits, log: &[Event], tasks: usize)
+    requires links { waits.now.events ≡ links_of log.now }
+    requires known { (t : TaskId) → IsMade log.now t → t.0 < tasks }
+    requires few { tasks ≤ TASKS }
+    requires room { TASKS ≤ vec_capacity levels.old }
+    ensures levels { AreLevels log.now levels.new.items }
+    ensures room { TASKS ≤ vec_capacity levels.new }
+{
+    levels.clear();
+    'fill: while levels.len() < tasks {
+        let level = level_of(waits, log, TaskId(levels.len() as u32));
+        levels.push_reserved(level);
+    }
+}
