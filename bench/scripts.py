@@ -70,6 +70,30 @@ actor Looper {
 }
 """
 
+GROUP = """\
+actor Group {
+    var done = 0;
+    invariant done >= 0;
+    func child(value) { done = done + 1; return value; }
+    func parent() {
+        let i = 0;
+        let made = 0;
+        let value = 0;
+        let sum = 0;
+        group g {
+            while i < 1000 {
+                i = i + 1;
+                made = made + 1;
+                add g Group.child(i);
+                if made == 16 { made = 0; yield; }
+            }
+            while i > 0 { i = i - 1; value = await next g; sum = sum + value; }
+        }
+        return sum;
+    }
+}
+"""
+
 METHOD = """\
     func method{m}(first, second) {{
         let third = first * {m} + second - (first - {a}) * 2;
@@ -86,6 +110,18 @@ METHOD = """\
 
 def roots(count, call):
     return "".join(f"root task{k} = {call};\n" for k in range(count))
+
+
+def sixteen():
+    """64 executors with 16 jobs each."""
+    actors = "".join(COUNTER.replace("Counter", f"Counter{k}") for k in range(64))
+    return actors + "".join(f"root task{k} = Counter{k % 64}.spin(990);\n" for k in range(1024))
+
+
+def executors():
+    """128 executors, and nothing to run."""
+    declared = "".join(f"executor Executor{k} fifo;\n" for k in range(64))
+    return declared + "".join(f"actor Actor{k} {{ var count = 0; func count_one() {{ count = count + 1; }} }}\n" for k in range(64))
 
 
 def to_be_read():
@@ -134,8 +170,13 @@ def actor(number, methods):
 # Of each script: its text, and how many steps it makes, where that is worth saying. A step is a statement that begins,
 # a `while` apart, or a test of a `while`.
 SCRIPTS = {
-    # Each task yields 990 times.
+    # Each task yields 990 times; 1,000 jobs are ready at a time.
     "spin": (COUNTER + roots(1000, "Counter.spin(990)"), None),
+    # The same, with 16 jobs ready at each of 64 executors.
+    "sixteen": (sixteen(), None),
+    # A group of 1,000 children.
+    "group": (GROUP + roots(1, "Group.parent()"), None),
+    "executors": (executors(), None),
     # Each task awaits a method of another actor 490 times.
     "calls": (ASKER + roots(1000, "Asker.ask(490)"), None),
     # Of each round: 3,300 times a test and two statements, a last test, and a test and three statements outside.
