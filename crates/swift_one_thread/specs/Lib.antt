@@ -1,2 +1,2 @@
-pub mod Executors
-pub mod Envs
+pub mod Crew
+pub mod Leaves

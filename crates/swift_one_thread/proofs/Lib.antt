@@ -1,3 +1,0 @@
-pub mod Pools
-pub mod ExecutorsKept
-pub mod Turned
