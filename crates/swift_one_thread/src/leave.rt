@@ -84,7 +84,7 @@ fn close(rt: &impl Wait, exec: Exec) -> Result<ExecState, Halt>
     } = exec.close(rt);
     give_all_up(inbox);
     match state {
-        Some(state) => Ok(state),
+        Some((state, _pass)) => Ok(state),
         None => Err(Halt::Unfinished),
     }
 }

@@ -9,12 +9,13 @@ ghost use Rattle.swift_one_thread.specs.Crew.{AreAtSites, AreDesksOf};
 use crate::crew::Hand;
 use crate::fault::Halt;
 use std::sync::Wait;
-use swift_executor::{Exec, Gate, Was};
+use swift_executor::{Exec, Gate};
 use swift_queue::Job;
 use swift_script::Script;
 use swift_tasks::Book;
 use swift_turn::Body;
 use swift_types::RootId;
+use swift_word::Was;
 
 /// Gives a job up, with the task that it would go on with.
 pub fn give_up(job: Job<Body>) {

@@ -10,12 +10,13 @@ use crate::fault::Halt;
 use crate::sending::send_all;
 use futures::task::Context;
 use std::sync::{Mutex, Wait};
-use swift_executor::{Exec, Gate, Left, Ran};
+use swift_executor::{Exec, Gate, Ran};
 use swift_queue::Job;
 use swift_script::Script;
 use swift_tasks::Book;
 use swift_turn::Body;
 use swift_types::ExecId;
+use swift_word::Left;
 
 // The number of the only worker.
 const WORKER: u32 = 0;
