@@ -1,3 +1,4 @@
+pub mod Exec
 pub mod Playing
 pub mod Ready
 pub mod ReadyInside

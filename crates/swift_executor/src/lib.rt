@@ -1,5 +1,6 @@
-//! Serial executors: what one keeps, apart from threads (SE-0392). Its jobs, the job that it has chosen, its journal and
-//! checkpoint, and the fields of its actors.
+//! Serial executors (SE-0392). First what one keeps, apart from threads: its jobs, the job that it has chosen, its journal and
+//! checkpoint, and the fields of its actors. Then the executor that threads share: this state behind a status word, and an
+//! inbox without a lock.
 #![tactic(auto)]
 
 // Why an executor refuses.
@@ -19,5 +20,24 @@ mod playing;
 // A turn of the chosen job.
 mod turns;
 
+// What is given of the moments of a run.
+mod gate;
+// The name of a state.
+mod state_name;
+// A state while no worker holds it.
+mod resting;
+// What came of a visit.
+mod ran;
+// A thread's right to send jobs and to run turns.
+mod desk;
+// An executor that threads share.
+mod exec;
+// A visit of a worker.
+mod run;
+
+pub use desk::Desk;
+pub use exec::{Closed, Exec};
 pub use fault::ExecFault;
+pub use gate::{Gate, Moment, Open};
+pub use ran::Ran;
 pub use state::ExecState;

@@ -1,0 +1,136 @@
+-- A serial executor that threads share, and their desks, as callers see them (SE-0392 for executors that run one job at a
+-- time; the rest is our own).
+use Rattle.std.specs.Prelude.{◌≡◌, ◌≤◌, ◌<◌, ℕ, suc, ◌+◌, ◌-◌, ◌/◌, ◌^◌, ◌%◌, ◌==◌, Bool, true, false, pos, negsuc, Option, Some, None, IfSome, List, [], ◌∷◌, ◌++◌, ◌⊎◌}
+use Rattle.atomic_table.specs.Seated.{TableId}
+use Rattle.script_grammar.specs.declared.declaration.ExecutorKind.{ExecutorKind}
+use Rattle.script_grammar.specs.declared.declaration.ExecutorKind.TheVariants as kind
+use Rattle.swift_history.specs.TurnEnds.{JobView}
+use Rattle.swift_inbox.specs.Inbox.{InboxIs, PassIs}
+use Rattle.swift_inbox.specs.Sent.{job_view}
+use Rattle.swift_inbox.specs.Site.{Site}
+use Rattle.swift_queue.specs.Job.{JobIs}
+use Rattle.swift_script.specs.Scripts.{ScriptView}
+use Rattle.swift_tasks.specs.Books.{BookView}
+use Rattle.swift_types.specs.declared.id.TaskId.{TaskId}
+use Rattle.swift_tasks.specs.declared.fault.BookFault.{BookFault}
+use Rattle.swift_turn.specs.Body.{BodyView}
+use Rattle.swift_word.specs.Seat.{SeatIs, ended, left}
+use Rattle.swift_executor.specs.Account.{HasTaken}
+use Rattle.swift_executor.specs.State.{ChosenView, ExecView, HasChosen, Journals}
+use Rattle.swift_executor.specs.declared.fault.ExecFault.{ExecFault}
+use Rattle.swift_executor.specs.declared.fault.ExecFault.TheVariants.{Memory, Refused}
+use Rattle.swift_executor.specs.declared.ran.Ran.{Ran}
+use Rattle.swift_executor.specs.declared.ran.Ran.TheVariants.{Turn, Busy, Nothing}
+use Rattle.swift_executor.specs.declared.state_name.StateName.{StateName}
+
+-- Which executor it is: the word of its state, its inbox with its script and number, and how many workers there are.
+pub record ExecIs : Type 0 where
+  pub word : TableId
+  pub inbox : InboxIs
+  pub workers : ℕ
+
+-- A desk: of which executor it is, the jobs that were sent by it, the oldest first, how many turns were run by it, and how many
+-- jobs may still be sent.
+pub record DeskIs : Type 0 where
+  pub word : TableId
+  pub inbox : TableId
+  pub site : Option Site
+  pub sent : List JobView
+  pub finished : ℕ
+  pub allowance : ℕ
+
+-- the desk is of this executor
+abbrev pub IsDeskOf : ExecIs → DeskIs → Type 0
+IsDeskOf e d = (d.word ≡ e.word) × (d.inbox ≡ e.inbox.id) × (d.site ≡ Some e.inbox.site)
+
+-- the desk that an executor is made with
+abbrev pub first_desk : ExecIs → DeskIs
+first_desk e = record { word = e.word; inbox = e.inbox.id; site = Some e.inbox.site; sent = []; finished = 0; allowance = 2 ^ 60 }
+
+-- one job more was sent by the desk
+abbrev pub has_sent : DeskIs → JobIs BodyView → DeskIs
+has_sent d j = record d { sent = d.sent ++ job_view j ∷ []; allowance = d.allowance - 1 }
+
+-- a desk that was split keeps the half of its allowance, rounded up
+abbrev pub kept_desk : DeskIs → DeskIs
+kept_desk d = record d { allowance = d.allowance - d.allowance / 2 }
+
+-- the new desk has the other half
+abbrev pub other_desk : DeskIs → DeskIs
+other_desk d = record d { sent = []; finished = 0; allowance = d.allowance / 2 }
+
+-- one turn more was run by the desk, where one was
+abbrev pub after_run : Ran → DeskIs → DeskIs
+after_run (Turn task left) d = record d { finished = d.finished + 1 }
+after_run Busy d = d
+after_run (Nothing left) d = d
+
+-- the executor whose state it is
+abbrev pub site_of : ExecView → Site
+site_of s = record { script = s.script; executor = s.executor }
+
+-- The state of the executor that a pass takes jobs for; what came out of the inbox through the pass is ready, chosen or
+-- journalled, each once.
+abbrev pub IsOf : PassIs → ExecView → Type 0
+IsOf p s = (p.site ≡ Some (site_of s)) × HasTaken p.taken s
+
+-- what a word knows of a state: whose it is, and from which inbox it takes its jobs
+abbrev pub state_name : Site → TableId → StateName
+state_name site inbox = record { site = site; inbox = record { inbox = inbox } }
+
+-- a seat of the executor's word
+abbrev pub IsSeatAt : ExecIs → SeatIs StateName → Type 0
+IsSeatAt e s = (s.word ≡ e.word) × (s.name ≡ Some (state_name e.inbox.site e.inbox.id))
+
+-- what a visit leaves of the seat that held the state
+abbrev pub seat_after : Ran → SeatIs StateName → SeatIs StateName
+seat_after (Turn task l) s = ended s
+seat_after Busy s = s
+seat_after (Nothing l) s = left s
+
+-- where a turn was run, this holds of its task
+abbrev pub IfTurn : (TaskId → Type 0) → Ran → Type 0
+IfTurn P (Turn task left) = P task
+IfTurn P _ = Unit {0}
+
+-- where no turn was run, this holds
+abbrev pub IfNoTurn : Type 0 → Ran → Type 0
+IfNoTurn P (Turn task left) = Unit {0}
+IfNoTurn P _ = P
+
+-- the task of the chosen job, where one is
+abbrev pub chosen_task : Option ChosenView → Option TaskId
+chosen_task None = None
+chosen_task (Some c) = Some c.job.task
+
+-- What came behind other jobs is what the end of a turn of this task has made: a turn that an executor of this script has
+-- journalled, and that a book of an equal script has taken.
+pub record IsMadeBy (script : ScriptView) (task : Option TaskId) (jobs jobs' : List JobView) : Type 0 where
+  pub old : ExecView
+  pub new : ExecView
+  pub book : BookView
+  pub book_after : BookView
+  pub executor_of : old.script ≡ script
+  pub book_of : book.script ≡ script
+  pub task_is : chosen_task old.chosen ≡ task
+  pub turn : HasChosen old (Journals book book_after jobs jobs' old new)
+
+-- whether a worker may run the executor: a pinned one is run by one worker alone
+abbrev pub may_run : ExecutorKind → ℕ → ℕ → Bool
+may_run (kind.Pinned (pos k)) workers worker = worker == k % workers
+may_run (kind.Pinned (negsuc k)) workers worker = false
+may_run kind.Priority workers worker = true
+may_run kind.Fifo workers worker = true
+
+-- a refusal of a worker that may run the executor
+abbrev pub IsRunFault : ExecFault → Type 0
+IsRunFault fault = (fault ≡ Memory) ⊎ ((cause : BookFault) × (fault ≡ Refused cause))
+
+-- a state while no worker holds it, with the pass by which its jobs come
+pub record RestingIs : Type 0 where
+  pub state : ExecView
+  pub pass : PassIs
+
+-- the state of this executor, with a pass of its inbox
+abbrev pub IsAt : InboxIs → PassIs → ExecView → Type 0
+IsAt i p s = (p.inbox ≡ i.id) × (site_of s ≡ i.site) × IsOf p s

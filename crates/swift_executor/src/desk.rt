@@ -1,0 +1,59 @@
+//! A thread's right to send jobs to an executor, and to run it.
+
+ghost use Rattle.std.specs.Prelude.{◌≡◌};
+ghost use Rattle.swift_executor.specs.Exec.{IsDeskOf, kept_desk, other_desk};
+
+use crate::exec::Exec;
+use crate::resting::Resting;
+use std::marker::Model;
+use swift_inbox::Pass;
+use swift_word::Seat;
+
+/// A thread's right to send jobs to one executor, and to run a turn there. An executor is made with its first desk, and each
+/// further one is split from another. A desk may go to another thread, and can't be shared: each of its steps changes what
+/// it knows.
+///
+/// It has an allowance, how many jobs may still be sent by it: all those of an executor together began as 2^60. In a clause a
+/// desk is its executor, the jobs that were sent by it, the oldest first, how many turns were run by it, and its allowance.
+/// A desk that is dropped takes its allowance with it.
+#[derive(Drop)]
+pub struct Desk {
+    pub(crate) seat: Seat<Resting>,
+    pub(crate) pass: Pass,
+}
+
+impl Model for Desk {
+    ghost use Rattle.std.specs.Prelude.{◌≡◌, Some, None, IfSome};
+    ghost use Rattle.std.specs.Coded.{codes};
+    ghost use Rattle.swift_script.specs.Codes.{expression_code, statement_code, block_code};
+    ghost use Rattle.swift_executor.specs.Exec.{DeskIs, state_name};
+
+    ghost Value = { DeskIs };
+
+    ghost coded = { Prim.hlevel (codes, expression_code, statement_code (block_code (Prim.hlevel (codes, expression_code)) (Prim.hlevel (codes, expression_code)))) };
+
+    ghost view = { λ d. record { word = d.seat.word; inbox = d.pass.inbox; site = d.pass.site; sent = d.pass.pushed; finished = d.seat.finished; allowance = d.seat.allowance } };
+
+    ghost invariant = { λ d. IfSome d.pass.site (λ site. d.seat.name ≡ Some (state_name site d.pass.inbox)) × (d.seat.holding ≡ None) };
+}
+
+impl Desk {
+    /// How many jobs may still be sent by it, from 0 to 2^60.
+    pub fn allowance(&self) -> u64
+        ensures { result ≡ self.now.allowance }
+    {
+        self.seat.allowance()
+    }
+
+    /// A new desk of the same executor, by which nothing was sent yet. It gets half of the allowance, rounded down, and
+    /// this one keeps the rest. It takes no memory.
+    pub fn split(&mut self, exec: &Exec) -> Desk
+        requires { IsDeskOf exec.now self.old }
+        ensures kept { self.new ≡ kept_desk self.old }
+        ensures new { result ≡ other_desk self.old }
+    {
+        let seat = self.seat.split(&exec.word);
+        let pass = self.pass.split(&exec.inbox);
+        Desk { seat, pass }
+    }
+}

@@ -1,0 +1,222 @@
+//! A serial executor that threads share, and what is left of it.
+
+ghost use Rattle.std.specs.Prelude.{◌≡◌, ◌<◌, [], None, Some, IfOk, IfErr, IfSome, OnOk, OnErr};
+ghost use Rattle.std.specs.Arc.{arc_value};
+ghost use Rattle.swift_inbox.specs.Site.{CanRunAt};
+ghost use Rattle.swift_executor.specs.Exec.{IsDeskOf, IsOf, first_desk, has_sent, site_of};
+
+use crate::desk::Desk;
+use crate::fault::ExecFault;
+use crate::gate::{Gate, Moment};
+use crate::laws::new_has_taken_none;
+use crate::resting::{Held, Resting, spend_all, spend_held};
+use crate::state::ExecState;
+use std::alloc::{AllocError, Global};
+use std::marker::Model;
+use std::sync::{Arc, Wait};
+use swift_inbox::{ExecutorSite, Inbox, Pass};
+use swift_queue::Job;
+use swift_script::Script;
+use swift_turn::Body;
+use swift_types::ExecId;
+use swift_word::{Was, Word};
+
+/// A serial executor (SE-0392): its state behind a status word, and its inbox. Any number of threads share it by reference; each
+/// sends jobs and runs turns with a `Desk` of its own. One turn runs at a time, since a worker takes the state out of the
+/// word before it, and puts it back after. No call waits for a turn that another thread runs.
+///
+/// In a clause it is its word, its inbox, with its script and number, and how many workers the run has. No clause knows
+/// the state, since other threads may change it at any moment: what holds of it is said by its type, `ExecState`. Where an
+/// executor is dropped, its jobs are spent.
+#[derive(Drop)]
+pub struct Exec {
+    pub(crate) word: Word<Resting>,
+    pub(crate) inbox: Inbox,
+    pub(crate) workers: u32,
+    // It is empty, and has room for what is in the inbox.
+    spare: Spare,
+}
+
+// A list that jobs can go onto. Where it is dropped, they are spent.
+struct Spare {
+    list: Vec<Job<Body>>,
+}
+
+impl Drop for Spare {
+    fn drop(self) {
+        spend_all(self.into_list());
+    }
+}
+
+impl Spare {
+    fn into_list(self) -> Vec<Job<Body>>
+        ensures { result ≡ self.list }
+    {
+        let Spare { list } = self;
+        list
+    }
+}
+
+impl Model for Exec {
+    ghost use Rattle.std.specs.Prelude.{◌≡◌, ◌≤◌, ◌<◌, [], vec_capacity};
+    ghost use Rattle.std.specs.Coded.{codes};
+    ghost use Rattle.swift_script.specs.Codes.{expression_code, statement_code, block_code};
+    ghost use Rattle.swift_executor.specs.Exec.{ExecIs, state_name};
+
+    ghost Value = { ExecIs };
+
+    ghost coded = { Prim.hlevel (codes, expression_code, statement_code (block_code (Prim.hlevel (codes, expression_code)) (Prim.hlevel (codes, expression_code)))) };
+
+    ghost view = { λ e. record { word = e.word.id; inbox = e.inbox; workers = e.workers } };
+
+    ghost invariant = { λ e. (e.word.name ≡ state_name e.inbox.site e.inbox.id) × (0 < e.workers) × (e.spare.list.items ≡ []) × (e.inbox.room ≤ vec_capacity e.spare.list) };
+}
+
+/// What is left of an executor.
+pub struct Closed {
+    /// How many jobs were counted and not run.
+    pub pending: u64,
+    /// Its state, with the pass by which its jobs came out of the inbox; none where a desk held it.
+    pub state: Option<(ExecState, Pass)>,
+    /// The jobs that were in the inbox, the oldest first.
+    pub inbox: Vec<Job<Body>>,
+}
+
+// The first state of an executor, with no job.
+fn first_state(
+    alloc: Global,
+    site: &ExecutorSite,
+    pass: Pass,
+    room: usize,
+) -> Result<Resting, AllocError>
+    requires { (pass.site ≡ Some site.now) × (pass.taken ≡ []) }
+    ensures { IfOk result (λ r. (site_of r.state ≡ site.now) × (r.pass ≡ pass)) }
+{
+    new_has_taken_none();
+    let levels = Vec::new(alloc);
+    let script = Arc::clone(site.script())?;
+    let state = ExecState::new(alloc, script, site.executor(), room)?;
+    let held = Held {
+        state,
+        pass,
+        levels,
+    };
+    match Box::new(alloc, held) {
+        Ok(held) => Ok(Resting::new(held)),
+        Err(refused) => {
+            spend_held(refused.value);
+            Err(AllocError)
+        }
+    }
+}
+
+impl Exec {
+    /// An executor of a script, by its number, that has run no turn, with room for so many jobs in its inbox and as many that
+    /// are ready; and its first desk, by which 2^60 jobs may be sent. A run of so many workers, at least 1. Out of memory
+    /// nothing remains. The room is not touched before it is used, but for a mark at each place of the inbox.
+    pub fn new(
+        alloc: Global,
+        script: Arc<Script>,
+        executor: ExecId,
+        workers: u32,
+        room: usize,
+    ) -> Result<(Exec, Desk), AllocError>
+        requires workers { 0 < workers }
+        requires room { 0 < room }
+        ensures site { IfOk result (λ r. r.0.inbox.site ≡ record { script = arc_value script; executor = executor.0 }) }
+        ensures room { IfOk result (λ r. r.0.inbox.room ≡ room) }
+        ensures workers { IfOk result (λ r. r.0.workers ≡ workers) }
+        ensures desk { IfOk result (λ r. r.1 ≡ first_desk r.0) }
+    {
+        let site = ExecutorSite::new(script, executor);
+        let own = ExecutorSite::new(Arc::clone(site.script())?, executor);
+        let (inbox, mut pass) = Inbox::new(alloc, site, room)?;
+        let list = Vec::with_capacity(alloc, room)?;
+        let spare = Spare { list };
+        let taking = pass.split(&inbox);
+        let state = first_state(alloc, &own, taking, room)?;
+        match Word::open(alloc, state) {
+            Ok((word, seat)) => Ok((
+                Exec {
+                    word,
+                    inbox,
+                    workers,
+                    spare,
+                },
+                Desk { seat, pass },
+            )),
+            Err((_state, fault)) => Err(fault),
+        }
+    }
+
+    /// The script, and the executor's number.
+    pub fn site(&self) -> &ExecutorSite
+        ensures { result.now ≡ self.now.inbox.site }
+    {
+        self.inbox.site()
+    }
+
+    /// Sends a job: it goes into the inbox, and then it is counted. `Idle` where no job was pending and no worker held the
+    /// executor: whoever sent it has to see that a worker comes. It takes no memory, and constant time where no other thread is
+    /// in the way. The gate is called between the two steps, and after them.
+    ///
+    /// For a job that can run here: its body is of an equal script and has not ended, and its running frame is of an actor of
+    /// this executor (SE-0392). A refusal is `Full`, where the inbox was full at some moment of the call or the desk has no
+    /// allowance left; the job comes back, and nothing has changed.
+    pub fn enqueue<R, G>(
+        &self,
+        rt: &R,
+        desk: &mut Desk,
+        job: Job<Body>,
+        gate: &G,
+    ) -> Result<Was, (Job<Body>, ExecFault)>
+    where
+        R: Wait,
+        G: Gate,
+        requires desk { IsDeskOf self.now desk.old }
+        requires job { CanRunAt self.now.inbox.site job }
+        ensures ok { OnOk result (desk.new ≡ has_sent desk.old job) }
+        ensures back { IfErr result (λ e. (e.0 ≡ job) × (e.1 ≡ ExecFault.Full)) }
+        ensures kept { OnErr result (desk.new ≡ desk.old) }
+    {
+        if desk.seat.allowance() == 0 {
+            return Err((job, ExecFault::Full));
+        }
+        let executor = self.inbox.site().executor();
+        let task = job.task();
+        if let Err(job) = self.inbox.put(rt, &mut desk.pass, job) {
+            return Err((job, ExecFault::Full));
+        }
+        gate.at(Moment::Pushed(executor, task));
+        match self.word.count(&mut desk.seat) {
+            Ok(was) => {
+                gate.at(Moment::Counted(executor, task));
+                Ok(was)
+            }
+            Err(_) => unreachable!(),
+        }
+    }
+
+    /// Gives the executor up. The state comes where no desk holds it, with no job chosen. It takes no memory.
+    pub fn close<R: Wait>(self, rt: &R) -> Closed
+        ensures state { IfSome result.state (λ s. (site_of s.0 ≡ self.inbox.site) × IsOf s.1 s.0 × (s.0.chosen ≡ None)) }
+    {
+        let Exec {
+            word,
+            inbox,
+            workers: _,
+            spare,
+        } = self;
+        let (pending, state) = word.close();
+        let (inbox, _pass) = inbox.drain(rt, spare.into_list());
+        let state = match state {
+            Some(resting) => Some(resting.into_parts()),
+            None => None,
+        };
+        Closed {
+            pending,
+            state,
+            inbox,
+        }
+    }
+}

@@ -1,0 +1,39 @@
+//! What is given of the moments of a run.
+
+use swift_types::{ExecId, TaskId};
+
+/// A moment of a run, at an executor (our own). Those of a turn come in the order of this list, each with the executor and
+/// the worker that runs there; the last two are of a job that is sent, by whatever thread.
+#[derive(Clone, Copy, Debug, PartialEq, Eq)]
+pub enum Moment {
+    /// The worker has taken the executor's token.
+    Took(ExecId, u32),
+    /// The worker holds the executor's state.
+    Began(ExecId, u32),
+    /// The jobs that were in the inbox are ready.
+    Accepted(ExecId, u32),
+    /// The job of this task was chosen.
+    Chose(ExecId, u32, TaskId),
+    /// The turn of this task was journalled. What follows from it is not enqueued yet.
+    Turned(ExecId, u32, TaskId),
+    /// The worker has given the state back.
+    Ended(ExecId, u32),
+    /// A job of this task lies in the executor's inbox, and is not counted yet.
+    Pushed(ExecId, TaskId),
+    /// That job is counted.
+    Counted(ExecId, TaskId),
+}
+
+/// Is given of each moment as it comes (our own). It can look on, and changes nothing of the run.
+pub trait Gate {
+    /// Called on the thread that the moment is of, which waits until it returns. The book of tasks is not locked then.
+    fn at(&self, moment: Moment);
+}
+
+/// The gate that does nothing.
+#[derive(Clone, Copy, Debug)]
+pub struct Open;
+
+impl Gate for Open {
+    fn at(&self, _moment: Moment) {}
+}

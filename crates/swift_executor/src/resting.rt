@@ -1,0 +1,111 @@
+//! The state of an executor while no worker holds it.
+
+ghost use Rattle.std.specs.Prelude.{◌≡◌, None};
+ghost use Rattle.swift_executor.specs.Exec.{IsOf};
+
+use crate::state::ExecState;
+use crate::state_name::StateName;
+use std::marker::Model;
+use swift_inbox::Pass;
+use swift_queue::Job;
+use swift_turn::Body;
+use swift_word::Named;
+
+/// What a worker holds of an executor: its state, the pass by which its jobs come out of the inbox, and a list for the
+/// levels of the book's tasks.
+pub struct Held {
+    pub state: ExecState,
+    pub pass: Pass,
+    pub levels: Vec<u8>,
+}
+
+/// The state of an executor while no worker holds it: no job is chosen. Where it is dropped, its jobs are spent.
+pub struct Resting {
+    held: Box<Held>,
+}
+
+impl Model for Resting {
+    ghost use Rattle.std.specs.Prelude.{◌≡◌, None};
+    ghost use Rattle.std.specs.Coded.{codes};
+    ghost use Rattle.swift_script.specs.Codes.{expression_code, statement_code, block_code};
+    ghost use Rattle.swift_executor.specs.Exec.{IsOf, RestingIs};
+
+    ghost Value = { RestingIs };
+
+    ghost coded = { Prim.hlevel (codes, expression_code, statement_code (block_code (Prim.hlevel (codes, expression_code)) (Prim.hlevel (codes, expression_code)))) };
+
+    ghost view = { λ r. record { state = r.held.state; pass = r.held.pass } };
+
+    ghost invariant = { λ r. (r.held.state.chosen ≡ None) × IsOf r.held.pass r.held.state };
+}
+
+impl Named for Resting {
+    type Name = StateName;
+
+    ghost use Rattle.swift_executor.specs.Exec.{state_name, site_of};
+
+    ghost name = { λ r. state_name (site_of r.state) r.pass.inbox };
+}
+
+impl Resting {
+    /// The state that a worker has held.
+    pub fn new(held: Box<Held>) -> Resting
+        requires free { held.state.chosen ≡ None }
+        requires is_of { IsOf held.pass held.state }
+        ensures { result ≡ record { state = held.state; pass = held.pass } }
+    {
+        Resting { held }
+    }
+
+    /// The state, for the worker that holds it.
+    pub fn into_held(self) -> Box<Held>
+        ensures same { (result.state ≡ self.state) × (result.pass ≡ self.pass) }
+        ensures free { result.state.chosen ≡ None }
+        ensures is_of { IsOf result.pass result.state }
+    {
+        let Resting { held } = self;
+        held
+    }
+
+    /// The state, and the pass by which its jobs came.
+    pub fn into_parts(self) -> (ExecState, Pass)
+        ensures same { (result.0 ≡ self.state) × (result.1 ≡ self.pass) }
+        ensures free { result.0.chosen ≡ None }
+        ensures is_of { IsOf result.1 result.0 }
+    {
+        let held = Box::into_inner(self.into_held());
+        let Held {
+            state,
+            pass,
+            levels: _,
+        } = held;
+        (state, pass)
+    }
+}
+
+/// Spends jobs.
+pub fn spend_all(mut jobs: Vec<Job<Body>>) {
+    while let Some(job) = jobs.pop() {
+        let (_task, _number, _resume, _body) = job.spend();
+    }
+    jobs.destroy_empty();
+}
+
+/// Spends the jobs of a state.
+pub fn spend_held(held: Held)
+    requires { held.state.chosen ≡ None }
+{
+    let Held {
+        state,
+        pass: _,
+        levels: _,
+    } = held;
+    let (jobs, _journal, _fields, _checkpoint) = state.into_parts();
+    spend_all(jobs);
+}
+
+impl Drop for Resting {
+    fn drop(self) {
+        spend_held(Box::into_inner(self.into_held()));
+    }
+}

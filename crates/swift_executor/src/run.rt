@@ -1,0 +1,324 @@
+//! A visit of a worker to an executor.
+
+ghost use Rattle.std.specs.Prelude.{◌≡◌, ◌<◌, ◌↔◌, None, Some, Err, false, map, IfOk, IfErr, IfSome, IfNone, IsSome, IsSomeAnd, OnOk, OnErr};
+ghost use Rattle.std.specs.List.{AllByRecursion};
+ghost use Rattle.futures.specs.Task.{Keeps};
+ghost use Rattle.swift_events.specs.declared.event.Event.{Event};
+ghost use Rattle.swift_script.specs.Scripts.{executor_kind};
+ghost use Rattle.swift_tasks.specs.Books.{IsJobOf, job_view};
+ghost use Rattle.swift_tasks.specs.Levels.{AreLevels};
+ghost use Rattle.swift_executor.specs.Account.{HasTaken};
+ghost use Rattle.swift_executor.specs.Exec.{IfNoTurn, IfTurn, IsMadeBy, chosen_task, IsAt, IsDeskOf, IsRunFault, IsSeatAt, after_run, may_run, seat_after, site_of};
+ghost use Rattle.swift_word.specs.Seat.{ended, left};
+ghost use Rattle.swift_executor.specs.State.{HasChosen, IsBegun, IsPicked, IsPlayed};
+
+use crate::desk::Desk;
+use crate::exec::Exec;
+use crate::fault::ExecFault;
+use crate::gate::{Gate, Moment};
+use crate::laws::{
+    accept_takes_one, choose_loses_none, play_loses_none, refusal_loses_none, start_loses_none,
+    turn_loses_none,
+};
+use crate::ran::Ran;
+use crate::resting::{Held, Resting};
+use futures::task::Context;
+use script_grammar::ExecutorKind;
+use std::sync::{Mutex, Wait};
+use swift_inbox::Inbox;
+use swift_queue::Job;
+use swift_tasks::Book;
+use swift_turn::Body;
+use swift_types::{ExecId, TaskId};
+use swift_word::{Begun, Left, Seat};
+
+// Whether a worker may run an executor of this kind.
+fn may_run(kind: ExecutorKind, workers: u32, worker: u32) -> bool
+    requires { 0 < workers }
+    ensures { result ≡ may_run kind workers worker }
+{
+    match kind {
+        ExecutorKind::Pinned(place) => {
+            place >= 0 && u64::from(worker) == place as u64 % u64::from(workers)
+        }
+        ExecutorKind::Priority | ExecutorKind::Fifo => true,
+    }
+}
+
+// Takes the oldest job of the inbox, where there is one, and room for it.
+fn accept_one<R: Wait>(rt: &R, inbox: &Inbox, held: &mut Held) -> bool
+    requires at { IsAt inbox.now held.old.pass held.old.state }
+    requires free { held.old.state.chosen ≡ None }
+    ensures at { IsAt inbox.now held.new.pass held.new.state }
+    ensures free { held.new.state.chosen ≡ None }
+{
+    if !held.state.has_room() {
+        return false;
+    }
+    match inbox.take(rt, &mut held.pass) {
+        Some(job) => {
+            held.state.accept(job);
+            accept_takes_one();
+            true
+        }
+        None => false,
+    }
+}
+
+// Takes what is in the inbox, as far as there is room.
+fn accept_all<R: Wait>(rt: &R, inbox: &Inbox, held: &mut Held)
+    requires at { IsAt inbox.now held.old.pass held.old.state }
+    requires free { held.old.state.chosen ≡ None }
+    ensures at { IsAt inbox.now held.new.pass held.new.state }
+    ensures free { held.new.state.chosen ≡ None }
+{
+    for _ in 0..inbox.room() {
+        if !accept_one(rt, inbox, held) {
+            return;
+        }
+    }
+}
+
+// The levels of a book's tasks.
+fn note_levels<R: Wait>(rt: &R, book: &Mutex<Book>, levels: &mut Vec<u8>) -> Result<(), ExecFault>
+    ensures ok { OnOk result ((log : List Event) × AreLevels log levels.new.items) }
+    ensures err { IfErr result IsRunFault }
+{
+    let book = book.lock(rt);
+    Ok(book.fill_levels(levels)?)
+}
+
+// Chooses the job that runs next.
+fn choose_one<R: Wait>(
+    rt: &R,
+    held: &mut Held,
+    book: &Mutex<Book>,
+) -> Result<Option<TaskId>, ExecFault>
+    requires free { held.old.state.chosen ≡ None }
+    ensures same { (held.new.pass ≡ held.old.pass) × (site_of held.new.state ≡ site_of held.old.state) }
+    ensures taken { HasTaken held.old.pass.taken held.old.state → HasTaken held.new.pass.taken held.new.state }
+    ensures some { IfOk result (λ picked. IfSome picked (λ task. HasChosen held.new.state (λ c. IsPicked c.stage) × (chosen_task held.new.state.chosen ≡ Some task))) }
+    ensures none { IfOk result (λ picked. IfNone picked (held.new.state.chosen ≡ None)) }
+    ensures free { OnErr result (held.new.state.chosen ≡ None) }
+    ensures err { IfErr result IsRunFault }
+{
+    note_levels(rt, book, &mut held.levels)?;
+    choose_loses_none();
+    held.state.choose(&held.levels)
+}
+
+// Begins the turn of the chosen job.
+fn start_one<R: Wait>(
+    rt: &R,
+    held: &mut Held,
+    worker: u32,
+    book: &Mutex<Book>,
+) -> Result<(), ExecFault>
+    requires picked { HasChosen held.old.state (λ c. IsPicked c.stage) }
+    ensures same { (held.new.pass ≡ held.old.pass) × (site_of held.new.state ≡ site_of held.old.state) }
+    ensures taken { HasTaken held.old.pass.taken held.old.state → HasTaken held.new.pass.taken held.new.state }
+    ensures ok { OnOk result (HasChosen held.new.state (λ c. IsBegun c.stage) × (chosen_task held.new.state.chosen ≡ chosen_task held.old.state.chosen)) }
+    ensures free { OnErr result (held.new.state.chosen ≡ None) }
+    ensures err { IfErr result IsRunFault }
+{
+    start_loses_none();
+    refusal_loses_none();
+    let mut book = book.lock(rt);
+    held.state.start(worker, &mut book)
+}
+
+// Plays the turn that has begun.
+fn play_one(held: &mut Held, cx: &mut Context<'_>) -> Result<(), ExecFault>
+    requires begun { HasChosen held.old.state (λ c. IsBegun c.stage) }
+    ensures same { (held.new.pass ≡ held.old.pass) × (site_of held.new.state ≡ site_of held.old.state) }
+    ensures taken { HasTaken held.old.pass.taken held.old.state → HasTaken held.new.pass.taken held.new.state }
+    ensures ok { OnOk result (HasChosen held.new.state (λ c. IsPlayed c.stage) × (chosen_task held.new.state.chosen ≡ chosen_task held.old.state.chosen)) }
+    ensures free { OnErr result (held.new.state.chosen ≡ None) }
+    ensures err { IfErr result IsRunFault }
+    ensures kept { Keeps cx.old cx.new }
+{
+    play_loses_none();
+    refusal_loses_none();
+    held.state.play(cx)
+}
+
+// Journals the turn that was played.
+fn end_one<R: Wait>(
+    rt: &R,
+    held: &mut Held,
+    book: &Mutex<Book>,
+    jobs: &mut Vec<Job<Body>>,
+) -> Result<(), ExecFault>
+    requires played { HasChosen held.old.state (λ c. IsPlayed c.stage) }
+    ensures same { (held.new.pass ≡ held.old.pass) × (site_of held.new.state ≡ site_of held.old.state) }
+    ensures taken { HasTaken held.old.pass.taken held.old.state → HasTaken held.new.pass.taken held.new.state }
+    ensures free { held.new.state.chosen ≡ None }
+    ensures made { OnOk result (IsMadeBy held.old.state.script (chosen_task held.old.state.chosen) (map job_view jobs.old.items) (map job_view jobs.new.items)) }
+    ensures jobs { OnErr result (jobs.new.items ≡ jobs.old.items) }
+    ensures bodies { OnOk result (AllByRecursion (IsJobOf held.old.state.script) jobs.old.items → AllByRecursion (IsJobOf held.old.state.script) jobs.new.items) }
+    ensures err { IfErr result IsRunFault }
+{
+    turn_loses_none();
+    refusal_loses_none();
+    let mut book = book.lock(rt);
+    held.state.turn(&mut book, jobs)
+}
+
+// Runs a turn of the job that comes first. None where no job is ready.
+fn turn_one<R, G>(
+    rt: &R,
+    held: &mut Held,
+    executor: ExecId,
+    worker: u32,
+    book: &Mutex<Book>,
+    cx: &mut Context<'_>,
+    jobs: &mut Vec<Job<Body>>,
+    gate: &G,
+) -> Result<Option<TaskId>, ExecFault>
+where
+    R: Wait,
+    G: Gate,
+    requires free { held.old.state.chosen ≡ None }
+    ensures same { (held.new.pass ≡ held.old.pass) × (site_of held.new.state ≡ site_of held.old.state) }
+    ensures taken { HasTaken held.old.pass.taken held.old.state → HasTaken held.new.pass.taken held.new.state }
+    ensures free { held.new.state.chosen ≡ None }
+    ensures made { IfOk result (λ ran. IfSome ran (λ task. IsMadeBy held.old.state.script (Some task) (map job_view jobs.old.items) (map job_view jobs.new.items))) }
+    ensures none { IfOk result (λ ran. IfNone ran (jobs.new.items ≡ jobs.old.items)) }
+    ensures jobs { OnErr result (jobs.new.items ≡ jobs.old.items) }
+    ensures bodies { AllByRecursion (IsJobOf held.old.state.script) jobs.old.items → AllByRecursion (IsJobOf held.old.state.script) jobs.new.items }
+    ensures err { IfErr result IsRunFault }
+    ensures kept { Keeps cx.old cx.new }
+{
+    let Some(task) = choose_one(rt, held, book)? else {
+        return Ok(None);
+    };
+    gate.at(Moment::Chose(executor, worker, task));
+    start_one(rt, held, worker, book)?;
+    play_one(held, cx)?;
+    end_one(rt, held, book, jobs)?;
+    gate.at(Moment::Turned(executor, worker, task));
+    Ok(Some(task))
+}
+
+impl Exec {
+    // Gives the state back after a turn.
+    fn end_turn(&self, seat: &mut Seat<Resting>, held: Box<Held>) -> Left
+        requires seat { IsSeatAt self.now seat.old }
+        requires found { IsSomeAnd seat.old.holding (λ found. 0 < found) }
+        requires at { IsAt self.now.inbox held.pass held.state }
+        requires free { held.state.chosen ≡ None }
+        ensures { seat.new ≡ ended seat.old }
+    {
+        self.word.end(seat, Resting::new(held))
+    }
+
+    // Gives the state back where no turn was run.
+    fn leave(&self, seat: &mut Seat<Resting>, held: Box<Held>) -> Left
+        requires seat { IsSeatAt self.now seat.old }
+        requires found { IsSome seat.old.holding }
+        requires at { IsAt self.now.inbox held.pass held.state }
+        requires free { held.state.chosen ≡ None }
+        ensures { seat.new ≡ left seat.old }
+    {
+        self.word.leave(seat, Resting::new(held))
+    }
+
+    // Runs a turn where so many jobs are pending, and gives the state back.
+    fn run_held<R, G>(
+        &self,
+        rt: &R,
+        seat: &mut Seat<Resting>,
+        found: u64,
+        mut held: Box<Held>,
+        worker: u32,
+        book: &Mutex<Book>,
+        cx: &mut Context<'_>,
+        jobs: &mut Vec<Job<Body>>,
+        gate: &G,
+    ) -> Result<Ran, ExecFault>
+    where
+        R: Wait,
+        G: Gate,
+        requires seat { IsSeatAt self.now seat.old }
+        requires found { seat.old.holding ≡ Some found }
+        requires at { IsAt self.now.inbox held.pass held.state }
+        requires free { held.state.chosen ≡ None }
+        ensures seat { IfOk result (λ ran. seat.new ≡ seat_after ran seat.old) }
+        ensures kept { OnErr result (seat.new ≡ left seat.old) }
+        ensures made { IfOk result (IfTurn (λ task. IsMadeBy self.now.inbox.site.script (Some task) (map job_view jobs.old.items) (map job_view jobs.new.items))) }
+        ensures jobs { IfOk result (IfNoTurn (jobs.new.items ≡ jobs.old.items)) }
+        ensures none { OnErr result (jobs.new.items ≡ jobs.old.items) }
+        ensures bodies { AllByRecursion (IsJobOf self.now.inbox.site.script) jobs.old.items → AllByRecursion (IsJobOf self.now.inbox.site.script) jobs.new.items }
+        ensures err { IfErr result IsRunFault }
+        ensures context { Keeps cx.old cx.new }
+    {
+        if found == 0 {
+            return Ok(Ran::Nothing(self.leave(seat, held)));
+        }
+        let executor = self.inbox.site().executor();
+        match turn_one(rt, &mut held, executor, worker, book, cx, jobs, gate) {
+            Ok(Some(task)) => Ok(Ran::Turn(task, self.end_turn(seat, held))),
+            Ok(None) => Ok(Ran::Nothing(self.leave(seat, held))),
+            Err(fault) => {
+                self.leave(seat, held);
+                Err(fault)
+            }
+        }
+    }
+
+    /// Visits the executor (SE-0306): a worker takes its state, makes the jobs ready that are in the inbox, and runs a turn of the
+    /// one that comes first (`ExecState::choose`), where a job is pending. The book is locked while that job is chosen, while its turn
+    /// begins and while it is journalled, and not while it is played. The jobs that the turn makes come behind those that `jobs` has; they
+    /// are of an equal script and their bodies have not ended. `Busy` where another worker holds the executor.
+    ///
+    /// It waits for the lock of the book, and for another thread that is between two steps of a call of the inbox. It takes no
+    /// memory but what `ExecState::play` and `ExecState::turn` say, and a byte for each task at the first visits.
+    ///
+    /// # Errors
+    ///
+    /// `Worker` where the executor is pinned to another worker, before anything else. `Memory` where a growth was refused, and
+    /// `Refused` where the book has refused the turn for another reason. The jobs that were taken out of the inbox are ready then, the chosen
+    /// one again with the number of its arrival; journal and fields are as before, and `jobs` too.
+    pub fn run_one<R, G>(
+        &self,
+        rt: &R,
+        desk: &mut Desk,
+        worker: u32,
+        book: &Mutex<Book>,
+        cx: &mut Context<'_>,
+        jobs: &mut Vec<Job<Body>>,
+        gate: &G,
+    ) -> Result<Ran, ExecFault>
+    where
+        R: Wait,
+        G: Gate,
+        requires { IsDeskOf self.now desk.old }
+        ensures desk { IfOk result (λ ran. desk.new ≡ after_run ran desk.old) }
+        ensures kept { OnErr result (desk.new ≡ desk.old) }
+        ensures made { IfOk result (IfTurn (λ task. IsMadeBy self.now.inbox.site.script (Some task) (map job_view jobs.old.items) (map job_view jobs.new.items))) }
+        ensures jobs { IfOk result (IfNoTurn (jobs.new.items ≡ jobs.old.items)) }
+        ensures none { OnErr result (jobs.new.items ≡ jobs.old.items) }
+        ensures bodies { AllByRecursion (IsJobOf self.now.inbox.site.script) jobs.old.items → AllByRecursion (IsJobOf self.now.inbox.site.script) jobs.new.items }
+        ensures worker { (result ≡ Err ExecFault.Worker) ↔ (may_run (executor_kind self.now.inbox.site.script self.now.inbox.site.executor) self.now.workers worker ≡ false) }
+        ensures context { Keeps cx.old cx.new }
+    {
+        let site = self.inbox.site();
+        let executor = site.executor();
+        if !may_run(site.script().executor_kind(executor), self.workers, worker) {
+            return Err(ExecFault::Worker);
+        }
+        match self.word.begin(&mut desk.seat) {
+            Begun::Busy => Ok(Ran::Busy),
+            Begun::Run(found, resting) => {
+                gate.at(Moment::Began(executor, worker));
+                let mut held = resting.into_held();
+                accept_all(rt, &self.inbox, &mut held);
+                gate.at(Moment::Accepted(executor, worker));
+                let seat = &mut desk.seat;
+                let ran = self.run_held(rt, seat, found, held, worker, book, cx, jobs, gate);
+                gate.at(Moment::Ended(executor, worker));
+                ran
+            }
+        }
+    }
+}
