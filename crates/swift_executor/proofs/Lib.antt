@@ -1,3 +1,4 @@
+pub mod AccountKept
 pub mod Removed
 pub mod ReadyKept
 pub mod Counting

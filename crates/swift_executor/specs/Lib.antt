@@ -1,3 +1,4 @@
+pub mod Account
 pub mod Exec
 pub mod Playing
 pub mod Ready

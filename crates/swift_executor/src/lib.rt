@@ -19,6 +19,8 @@ mod pick;
 mod playing;
 // A turn of the chosen job.
 mod turns;
+// The account of an executor.
+pub mod laws;
 
 // What is given of the moments of a run.
 mod gate;

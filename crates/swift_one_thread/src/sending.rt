@@ -27,6 +27,7 @@ pub fn give_all_up(mut jobs: Vec<Job<Body>>) {
     while let Some(job) = jobs.pop() {
         give_up(job);
     }
+    jobs.destroy_empty();
 }
 
 // Sends a job to the executor of its actor. Where that was idle, its token goes behind the others. A job that is refused is

@@ -1,0 +1,71 @@
+//! The account of an executor: a job that it has taken is ready, chosen or journalled, exactly one of these, once. Each
+//! function's contract is a law on what the calls of `ExecState` ensure; the functions do nothing.
+
+ghost use Rattle.std.specs.Prelude.{◌≡◌, ℕ, List, [], ◌∷◌, ◌++◌, None, map};
+ghost use Rattle.std.specs.List.Sorted.{IsPermutation};
+ghost use Rattle.swift_script.specs.Scripts.{ScriptView};
+ghost use Rattle.swift_turn.specs.Body.{BodyView};
+ghost use Rattle.swift_queue.specs.Job.{JobIs};
+ghost use Rattle.swift_events.specs.declared.event.Event.{Event};
+ghost use Rattle.swift_history.specs.TurnEnds.{JobView};
+ghost use Rattle.swift_types.specs.declared.id.TaskId.{TaskId};
+ghost use Rattle.swift_tasks.specs.Books.{BookView, job_view};
+ghost use Rattle.swift_executor.specs.Account.{HasTaken, job_entry, journal_entries, noted};
+ghost use Rattle.swift_executor.specs.Ready.{Adds};
+ghost use Rattle.swift_executor.specs.State.{Begins, Chooses, ExecView, HasChosen, HasNone, Journals, LacksTask, Plays, PutsBack, new_executor};
+
+/// A new executor has taken no job (our own).
+pub fn new_has_taken_none()
+    ensures { (script : ScriptView) (executor room : ℕ) → HasTaken [] (new_executor script executor room) }
+{}
+
+/// A job that is accepted is one more that was taken, and no other is lost or doubled (our own).
+pub fn accept_takes_one()
+    ensures { (taken : List JobView) (job : JobIs BodyView) (old new : ExecView) → HasTaken taken old
+        → Adds old.ready job new.ready → new ≡ record old { ready = new.ready }
+        → HasTaken (taken ++ job_view job ∷ []) new }
+{}
+
+/// Whatever a book says, to choose a job loses none and doubles none: where one is chosen, where its task was not made,
+/// and where none is ready (our own).
+pub fn choose_loses_none()
+    ensures some { (taken : List JobView) (log : List Event) (task : TaskId) (old new : ExecView) → HasTaken taken old
+        → old.chosen ≡ None → Chooses log old new task → HasTaken taken new }
+    ensures err { (taken : List JobView) (log : List Event) (old new : ExecView) → HasTaken taken old
+        → LacksTask log old new → HasTaken taken new }
+    ensures none { (taken : List JobView) (log : List Event) (old new : ExecView) → HasTaken taken old
+        → HasNone log old new → HasTaken taken new }
+{}
+
+/// A turn that begins loses no job and doubles none (our own).
+pub fn start_loses_none()
+    ensures { (taken : List JobView) (book book' : BookView) (worker : ℕ) (old new : ExecView) → HasTaken taken old
+        → HasChosen old (Begins book book' worker old new) → HasTaken taken new }
+{}
+
+/// A turn that is played loses no job and doubles none (our own).
+pub fn play_loses_none()
+    ensures { (taken : List JobView) (old new : ExecView) → HasTaken taken old
+        → HasChosen old (Plays old new) → HasTaken taken new }
+{}
+
+/// After a refusal the chosen job is ready again; none is lost and none is doubled (our own).
+pub fn refusal_loses_none()
+    ensures { (taken : List JobView) (old new : ExecView) → HasTaken taken old
+        → HasChosen old (PutsBack old new) → HasTaken taken new }
+{}
+
+/// A turn that is journalled loses no job and doubles none: the job is journalled and no longer chosen, and a journal that
+/// is folded stands in the checkpoint (our own).
+pub fn turn_loses_none()
+    ensures { (taken : List JobView) (book book' : BookView) (jobs jobs' : List JobView) (old new : ExecView)
+        → HasTaken taken old → HasChosen old (Journals book book' jobs jobs' old new) → HasTaken taken new }
+{}
+
+/// An executor that is taken apart gives up the jobs that are not journalled: those that it took are those given up and
+/// those of its journal and checkpoint (our own).
+pub fn parts_are_what_was_taken()
+    ensures { (taken : List JobView) (s : ExecView) (jobs : List (JobIs BodyView)) → HasTaken taken s → s.chosen ≡ None
+        → IsPermutation (map (λ x. x.job) s.ready.front ++ s.ready.behind) jobs
+        → IsPermutation (noted taken) (map job_entry jobs ++ journal_entries s.journal s.checkpoint) }
+{}
