@@ -44,6 +44,13 @@ use swift_types::{ActorId, Ending, Fault, MethodId, Resume};
 /// ```
 #[derive(Drop)]
 pub struct Body {
+    // In a box, since a body moves from list to list with its job.
+    inside: Box<Inside>,
+}
+
+// What a body has.
+#[derive(Drop)]
+struct Inside {
     alloc: Global,
     script: Arc<Script>,
     // The frame that runs, and the turn that is under way. Where the task has ended, its last frame.
@@ -74,14 +81,14 @@ impl Model for Body {
     ghost use Rattle.swift_turn.specs.BodyInvariant.{BodyInvariant, frames_of, phase_of};
 
     ghost view = { λ b. record {
-      script = arc_value b.script;
-      task = record { frames = frames_of b.running b.turn b.callers; outer = b.outer };
-      phase = phase_of b.phase b.turn;
-      source = b.source.id;
-      armed = is_some b.waker;
+      script = arc_value b.inside.value.script;
+      task = record { frames = frames_of b.inside.value.running b.inside.value.turn b.inside.value.callers; outer = b.inside.value.outer };
+      phase = phase_of b.inside.value.phase b.inside.value.turn;
+      source = b.inside.value.source.id;
+      armed = is_some b.inside.value.waker;
     } };
 
-    ghost invariant = { λ b. BodyInvariant (arc_value b.script) b.running (frame_view b.turn.frame) b.callers };
+    ghost invariant = { λ b. BodyInvariant (arc_value b.inside.value.script) b.inside.value.running (frame_view b.inside.value.turn.frame) b.inside.value.callers };
 }
 
 impl Future for Body {
@@ -112,17 +119,18 @@ impl Future for Body {
         ensures rest { self.new ≡ record self.old { task = record self.old.task { frames = self.new.task.frames }; phase = self.new.phase; armed = self.new.armed } }
         ensures answer { result ≡ answer_of self.old.task.frames self.old.phase self.new.phase }
     {
-        if !self.running || !matches!(self.phase, Phase::Entered(_, _)) {
+        if !self.inside.running || !matches!(self.inside.phase, Phase::Entered(_, _)) {
             return cx.yield_now();
         }
         self.play_turn();
-        let Phase::Played(exit) = &self.phase else {
+        let inside = &mut *self.inside;
+        let Phase::Played(exit) = &inside.phase else {
             return cx.yield_now();
         };
-        self.waker = None;
-        match last_ending(&self.callers, exit) {
+        inside.waker = None;
+        match last_ending(&inside.callers, exit) {
             Some(ending) => Poll::Ready(ending),
-            None if waits(exit) => cx.register(&self.source, &mut self.waker),
+            None if waits(exit) => cx.register(&inside.source, &mut inside.waker),
             None => cx.yield_now(),
         }
     }
@@ -179,7 +187,7 @@ fn play(
 
 impl Body {
     /// A task whose first frame is the method's (SE-0304), in which these bindings stand (SE-0311). Numbers that are no
-    /// arguments are 0. It takes memory for those; out of memory, nothing remains.
+    /// arguments are 0. It takes memory for those and for itself; out of memory, nothing remains.
     pub fn start(
         alloc: Global,
         script: Arc<Script>,
@@ -193,7 +201,7 @@ impl Body {
         ensures phase { IfOk result (λ b. b.phase ≡ idle) }
     {
         let frame = opening_of(alloc, &script, method, args, 0, 0)?;
-        Ok(Body {
+        let inside = Inside {
             alloc,
             script,
             turn: TurnState {
@@ -209,7 +217,11 @@ impl Body {
             undo: Undo::new(alloc),
             source: Source::new(),
             waker: None,
-        })
+        };
+        match Box::new(alloc, inside) {
+            Ok(inside) => Ok(Body { inside }),
+            Err(_) => Err(AllocError),
+        }
     }
 
     /// Enters a turn of the frame that runs, on the fields of the actors of its executor, a list for each in text order.
@@ -225,11 +237,12 @@ impl Body {
         ensures ok { OnOk result (self.new ≡ record self.old { phase = entered (rows_of fields.items) resume env }) }
         ensures err { IfErr result (λ e. (self.new ≡ self.old) × (rows_of e.0.items ≡ rows_of fields.items)) }
     {
-        if self.undo.make_room(&self.turn.frame).is_err() {
+        let inside = &mut *self.inside;
+        if inside.undo.make_room(&inside.turn.frame).is_err() {
             return Err((fields, AllocError));
         }
-        self.turn.fields = fields;
-        self.phase = Phase::Entered(resume, env);
+        inside.turn.fields = fields;
+        inside.phase = Phase::Entered(resume, env);
         Ok(())
     }
 
@@ -243,10 +256,11 @@ impl Body {
         ensures err { IfErr result (λ e. self.old.phase ≡ out_of_memory (rows_of e.0.items)) }
         ensures rest { self.new ≡ at_rest self.old }
     {
-        let fields = mem::replace(&mut self.turn.fields, Vec::new(self.alloc));
-        match mem::replace(&mut self.phase, Phase::Idle) {
+        let inside = &mut *self.inside;
+        let fields = mem::replace(&mut inside.turn.fields, Vec::new(inside.alloc));
+        match mem::replace(&mut inside.phase, Phase::Idle) {
             Phase::Played(exit) => {
-                let effects = mem::replace(&mut self.turn.effects, Vec::new(self.alloc));
+                let effects = mem::replace(&mut inside.turn.effects, Vec::new(inside.alloc));
                 Ok((fields, effects, exit))
             }
             Phase::OutOfMemory => Err((fields, AllocError)),
@@ -283,21 +297,21 @@ impl Body {
     pub fn is_running(&self) -> bool
         ensures { IsTrue result ↔ IsRunning self.now }
     {
-        self.running
+        self.inside.running
     }
 
     /// Whether `leave` can be called: a turn was entered and polled, and was not left.
     pub fn is_polled(&self) -> bool
         ensures { IsTrue result ↔ IsPolled self.now.phase }
     {
-        matches!(self.phase, Phase::Played(_) | Phase::OutOfMemory)
+        matches!(self.inside.phase, Phase::Played(_) | Phase::OutOfMemory)
     }
 
     /// Whether `put_back` can take this frame: it is of a method of the script.
     pub fn can_put_back(&self, frame: &Frame) -> bool
         ensures { IsTrue result ↔ (frame.now.method.0 < method_count self.now.script) }
     {
-        (frame.method.0 as usize) < self.script.method_count()
+        (frame.method.0 as usize) < self.inside.script.method_count()
     }
 
     /// Whether `advance` can follow this exit: a call is of a method of the script.
@@ -305,7 +319,8 @@ impl Body {
         ensures { IsTrue result ↔ CanAdvance self.now.script (exit_view exit.now) }
     {
         match exit {
-            Exit::Call(invocation) => (invocation.method.0 as usize) < self.script.method_count(),
+            Exit::Call(invocation) => (invocation.method.0 as usize)
+                < self.inside.script.method_count(),
             _ => true,
         }
     }
@@ -315,21 +330,23 @@ impl Body {
         requires { IsRunning self.now }
         ensures { IfRunning self.now.task.frames (λ p. result.0 ≡ method_actor self.now.script p.method) }
     {
-        self.script.method_actor(self.turn.frame.method)
+        self.inside
+            .script
+            .method_actor(self.inside.turn.frame.method)
     }
 
     /// The script whose task it is.
     pub fn script(&self) -> &Script
         ensures { result.now ≡ self.now.script }
     {
-        &self.script
+        &self.inside.script
     }
 
     /// The bindings that stood when the frame that runs began (SE-0311).
     pub fn outer(&self) -> &Bindings
         ensures { result.now ≡ self.now.task.outer }
     {
-        &self.outer
+        &self.inside.outer
     }
 
     /// The frame that runs. It takes no memory.
@@ -337,7 +354,7 @@ impl Body {
         requires { IsRunning self.now }
         ensures { IfRunning self.now.task.frames (λ p. p ≡ frame_view result.now) }
     {
-        &self.turn.frame
+        &self.inside.turn.frame
     }
 
     /// A copy of the frame that runs, with the bindings that it has made. It costs and takes memory for its variables,
@@ -347,7 +364,7 @@ impl Body {
         ensures frame { IfOk result (λ f. IfRunning self.now.task.frames (λ p. p ≡ frame_view f)) }
         ensures method { IfOk result (λ f. f.method.0 < method_count self.now.script) }
     {
-        copy_of(self.alloc, &self.turn.frame)
+        copy_of(self.inside.alloc, &self.inside.turn.frame)
     }
 
     /// Sets the frame that runs to what `frame` gave before a turn. Its line may be any: one past the last line of its
@@ -357,7 +374,7 @@ impl Body {
         requires method { frame.method.0 < method_count self.old.script }
         ensures { self.new ≡ record self.old { task = record self.old.task { frames = frame_view frame ∷ callers_of self.old.task.frames } } }
     {
-        self.turn.frame = frame;
+        self.inside.turn.frame = frame;
     }
 
     // Plays the turn that was entered.
@@ -366,19 +383,20 @@ impl Body {
         ensures turned { Polls self.old.script self.old.task.outer self.old.task.frames self.old.phase self.new.task.frames self.new.phase }
         ensures rest { self.new ≡ record self.old { task = record self.old.task { frames = self.new.task.frames }; phase = self.new.phase } }
     {
-        let Phase::Entered(resume, env) = self.phase else {
+        let Phase::Entered(resume, env) = self.inside.phase else {
             return;
         };
+        let inside = &mut *self.inside;
         let played = play(
-            self.alloc,
-            &self.script,
-            &self.outer,
-            &mut self.turn,
-            &mut self.undo,
+            inside.alloc,
+            &inside.script,
+            &inside.outer,
+            &mut inside.turn,
+            &mut inside.undo,
             resume,
             &env,
         );
-        self.phase = match played {
+        inside.phase = match played {
             Ok(exit) => Phase::Played(exit),
             Err(_) => Phase::OutOfMemory,
         };
@@ -393,21 +411,29 @@ impl Body {
         ensures err { OnErr result (self.new ≡ self.old) }
         ensures memory { OnErr result (length self.old.task.frames < FRAMES) }
     {
-        if self.callers.len() >= FRAMES - 1 {
+        if self.inside.callers.len() >= FRAMES - 1 {
             return Ok(Step::Run(self.actor(), Resume::Fault(Fault::Depth)));
         }
+        let inside = &mut *self.inside;
         let method = invocation.method;
-        let args = invocation.args.to_vec(self.alloc)?;
-        let top = &self.turn.frame;
-        let callee = opening_of(self.alloc, &self.script, method, args, top.made, top.opened)?;
-        bind_all(&mut self.outer, &top.own)?;
-        let caller = mem::replace(&mut self.turn.frame, callee);
-        if let Err(refused) = self.callers.push(caller) {
-            self.turn.frame = refused.value;
-            unbind_all(&mut self.outer, self.turn.frame.own.len());
+        let args = invocation.args.to_vec(inside.alloc)?;
+        let top = &inside.turn.frame;
+        let callee = opening_of(
+            inside.alloc,
+            &inside.script,
+            method,
+            args,
+            top.made,
+            top.opened,
+        )?;
+        bind_all(&mut inside.outer, &top.own)?;
+        let caller = mem::replace(&mut inside.turn.frame, callee);
+        if let Err(refused) = inside.callers.push(caller) {
+            inside.turn.frame = refused.value;
+            unbind_all(&mut inside.outer, inside.turn.frame.own.len());
             return Err(AllocError);
         }
-        Ok(Step::Run(self.script.method_actor(method), Resume::Start))
+        Ok(Step::Run(inside.script.method_actor(method), Resume::Start))
     }
 
     fn resume_caller(&mut self, resume: Resume, ending: Ending) -> Step
@@ -416,14 +442,15 @@ impl Body {
         ensures resumed { Resumes self.old.script self.old.task.frames self.old.task.outer resume ending (record { task = self.new.task; step = result }) }
         ensures running { GoesOn result → IsRunning self.new }
     {
-        let Some(mut caller) = self.callers.pop() else {
-            self.running = false;
+        let inside = &mut *self.inside;
+        let Some(mut caller) = inside.callers.pop() else {
+            inside.running = false;
             return Step::Ended(ending);
         };
-        caller.made = self.turn.frame.made;
-        caller.opened = self.turn.frame.opened;
-        unbind_all(&mut self.outer, caller.own.len());
-        self.turn.frame = caller;
+        caller.made = inside.turn.frame.made;
+        caller.opened = inside.turn.frame.opened;
+        unbind_all(&mut inside.outer, caller.own.len());
+        inside.turn.frame = caller;
         Step::Run(self.actor(), resume)
     }
 }
