@@ -34,9 +34,9 @@ impl Model for Resting {
 
     ghost coded = { Prim.hlevel (codes, expression_code, statement_code (block_code (Prim.hlevel (codes, expression_code)) (Prim.hlevel (codes, expression_code)))) };
 
-    ghost view = { λ r. record { state = r.held.state; pass = r.held.pass } };
+    ghost view = { λ r. record { state = r.held.value.state; pass = r.held.value.pass } };
 
-    ghost invariant = { λ r. (r.held.state.chosen ≡ None) × IsOf r.held.pass r.held.state };
+    ghost invariant = { λ r. (r.held.value.state.chosen ≡ None) × IsOf r.held.value.pass r.held.value.state };
 }
 
 impl Named for Resting {
@@ -50,18 +50,18 @@ impl Named for Resting {
 impl Resting {
     /// The state that a worker has held.
     pub fn new(held: Box<Held>) -> Resting
-        requires free { held.state.chosen ≡ None }
-        requires is_of { IsOf held.pass held.state }
-        ensures { result ≡ record { state = held.state; pass = held.pass } }
+        requires free { held.value.state.chosen ≡ None }
+        requires is_of { IsOf held.value.pass held.value.state }
+        ensures { result ≡ record { state = held.value.state; pass = held.value.pass } }
     {
         Resting { held }
     }
 
     /// The state, for the worker that holds it.
     pub fn into_held(self) -> Box<Held>
-        ensures same { (result.state ≡ self.state) × (result.pass ≡ self.pass) }
-        ensures free { result.state.chosen ≡ None }
-        ensures is_of { IsOf result.pass result.state }
+        ensures same { (result.value.state ≡ self.state) × (result.value.pass ≡ self.pass) }
+        ensures free { result.value.state.chosen ≡ None }
+        ensures is_of { IsOf result.value.pass result.value.state }
     {
         let Resting { held } = self;
         held

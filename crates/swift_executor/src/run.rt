@@ -205,8 +205,8 @@ impl Exec {
     fn end_turn(&self, seat: &mut Seat<Resting>, held: Box<Held>) -> Left
         requires seat { IsSeatAt self.now seat.old }
         requires found { IsSomeAnd seat.old.holding (λ found. 0 < found) }
-        requires at { IsAt self.now.inbox held.pass held.state }
-        requires free { held.state.chosen ≡ None }
+        requires at { IsAt self.now.inbox held.value.pass held.value.state }
+        requires free { held.value.state.chosen ≡ None }
         ensures { seat.new ≡ ended seat.old }
     {
         self.word.end(seat, Resting::new(held))
@@ -216,8 +216,8 @@ impl Exec {
     fn leave(&self, seat: &mut Seat<Resting>, held: Box<Held>) -> Left
         requires seat { IsSeatAt self.now seat.old }
         requires found { IsSome seat.old.holding }
-        requires at { IsAt self.now.inbox held.pass held.state }
-        requires free { held.state.chosen ≡ None }
+        requires at { IsAt self.now.inbox held.value.pass held.value.state }
+        requires free { held.value.state.chosen ≡ None }
         ensures { seat.new ≡ left seat.old }
     {
         self.word.leave(seat, Resting::new(held))
@@ -241,8 +241,8 @@ impl Exec {
         G: Gate,
         requires seat { IsSeatAt self.now seat.old }
         requires found { seat.old.holding ≡ Some found }
-        requires at { IsAt self.now.inbox held.pass held.state }
-        requires free { held.state.chosen ≡ None }
+        requires at { IsAt self.now.inbox held.value.pass held.value.state }
+        requires free { held.value.state.chosen ≡ None }
         ensures seat { IfOk result (λ ran. seat.new ≡ seat_after ran seat.old) }
         ensures kept { OnErr result (seat.new ≡ left seat.old) }
         ensures made { IfOk result (IfTurn (λ task. IsMadeBy self.now.inbox.site.script (Some task) (map job_view jobs.old.items) (map job_view jobs.new.items))) }
