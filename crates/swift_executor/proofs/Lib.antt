@@ -1,3 +1,4 @@
+pub mod Visits
 pub mod AccountKept
 pub mod Removed
 pub mod ReadyKept

@@ -1,23 +1,16 @@
 -- What an executor keeps at each of its calls.
-use Rattle.std.proofs.Common.{◌≡◌, ◌≢◌, ℕ, suc, ◌+◌, ◌<◌, ◌≤◌, ◌==◌, ℤ, Bool, true, false, IsTrue, if◌then◌else◌, eqb, Option, Some, None, IfSome, MatchOption, List, [], ◌∷◌, ◌++◌, length, map, Contains, refl, ap, sym, subst, ◌∙◌, inl, inr, arith}
-use Rattle.std.proofs.lemmas.Bool.{cases_eq, eq-eqb, ne_eqb}
-use Rattle.std.proofs.lemmas.List.{length-append, length-map}
+use Rattle.std.proofs.Common.{◌≡◌, ◌≢◌, ℕ, ◌+◌, ℤ, Option, Some, None, IfSome, MatchOption, List, [], ◌∷◌, ◌++◌, length, map, Contains, refl, ap, sym, subst, ◌∙◌, inl, inr, arith}
+use Rattle.std.proofs.lemmas.Bool.{cases_eq}
+use Rattle.std.proofs.lemmas.List.{length-append}
 use Rattle.std.proofs.lemmas.List.Elements.{All-cons, All-head, All-nil, All-push, All-tail, All-weaker, Contains-append_left, Contains-append_right, Contains-push}
 use Rattle.std.proofs.lemmas.List.Sorted.{All-permutation, Contains-permutation, IsPermutation-map, length_permutation}
 use Rattle.std.specs.List.{All}
 use Rattle.std.specs.List.Sorted.{IsPermutation}
 use Rattle.swift_types.specs.declared.id.TaskId.{TaskId}
-use Rattle.swift_types.specs.declared.limits.TheConstants.{FOLD}
-use Rattle.script_code.specs.Tree.{Term}
-use Rattle.script_code.specs.Value.{holds}
-use Rattle.script_code.specs.declared.env.Env.{Env}
-use Rattle.swift_script.specs.Scripts.{ScriptView, actor_executor, executor_invariants, executor_start, method_actor}
+use Rattle.swift_script.specs.Scripts.{ScriptView, actor_executor, method_actor}
 use Rattle.swift_interpreter.specs.Frames.{FrameView}
-use Rattle.swift_interpreter.specs.Turn.{EffectView, ExitView}
-use Rattle.swift_turn.specs.Body.{BodyView, HasFirst, IsTurnOf, callers_of, left}
+use Rattle.swift_turn.specs.Body.{BodyView, HasFirst, IsTurnOf, left}
 use Rattle.swift_queue.specs.Job.{JobIs}
-use Rattle.swift_journal.specs.Records.{RecordView}
-use Rattle.swift_journal.specs.Replay.{AreLawful, IsLawfulRecord, InvariantsStay, LawfulGrows, RunOn, fields_after, replay}
 use Rattle.swift_history.specs.TurnEnds.{JobView}
 use Rattle.swift_tasks.specs.Books.{job_view}
 use Rattle.std.specs.declared.vec.Vec.{Vec}
@@ -32,7 +25,7 @@ use Rattle.swift_executor.specs.Playing.{HasJob}
 use Rattle.swift_executor.specs.StateInside.{chosen_of, chosen_view, stage_of}
 use Rattle.std.proofs.lemmas.Option.{same_Some}
 use Rattle.swift_executor.specs.Ready.{Adds, CanRestore, IsClear, ReadyIs, ReadyJob, ready_job}
-use Rattle.swift_executor.specs.State.{BelongsTo, ChosenView, ExecView, HasPlayed, IsChosen, IsExecutor, IsPicked, StageView, accepted, before_turn, begun, chosen_count, leaders, picked, played, record_by}
+use Rattle.swift_executor.specs.State.{BelongsTo, ChosenView, ExecView, HasPlayed, IsChosen, IsExecutor, IsPicked, StageView, before_turn, begun, chosen_count, leaders, picked, played}
 
 -- what leads in one order leads in another
 led_by : (ts ts' : List TaskId) (behind : List (JobIs BodyView)) → IsPermutation ts ts' → All (λ j. Contains ts j.task) behind → All (λ j. Contains ts' j.task) behind

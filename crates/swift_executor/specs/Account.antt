@@ -7,7 +7,7 @@ use Rattle.swift_queue.specs.Job.{JobIs}
 use Rattle.swift_journal.specs.Checkpoints.{CheckpointView, FoldedView}
 use Rattle.swift_journal.specs.Records.{RecordView}
 use Rattle.swift_history.specs.TurnEnds.{JobView}
-use Rattle.swift_executor.specs.Ready.{ReadyIs, ReadyJob}
+use Rattle.swift_executor.specs.Ready.{ReadyIs}
 use Rattle.swift_executor.specs.State.{ChosenView, ExecView}
 
 -- What an account has of a job: its task, and the number of its turn. Of a job that was taken, of one that the executor has, of one

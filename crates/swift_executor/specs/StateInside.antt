@@ -3,13 +3,12 @@ use Rattle.std.specs.Prelude.{ℤ, Option, Some, None, List}
 use Rattle.script_code.specs.Seen.{rows_of}
 use Rattle.std.specs.declared.vec.Vec.{Vec}
 use Rattle.std.specs.declared.alloc.Global.{Global}
-use Rattle.std.specs.Arc.{arc_value}
 use Rattle.swift_interpreter.specs.Frames.{frame_view, effect_views}
 use Rattle.swift_interpreter.specs.TurnStates.{exit_view}
 use Rattle.swift_executor.specs.declared.chosen.Chosen.{Chosen}
 use Rattle.swift_executor.specs.declared.chosen.Stage.{Stage}
 use Rattle.swift_executor.specs.declared.chosen.Stage.TheVariants.{Picked, Begun, Played}
-use Rattle.swift_executor.specs.State.{ChosenView, ExecView, StageView, picked, begun, played}
+use Rattle.swift_executor.specs.State.{ChosenView, StageView, picked, begun, played}
 
 abbrev pub stage_of : List (Vec ℤ Global) → Stage → StageView
 stage_of next Picked = picked

@@ -1,6 +1,6 @@
 //! A visit of a worker to an executor.
 
-ghost use Rattle.std.specs.Prelude.{◌≡◌, ◌<◌, ◌↔◌, None, Some, Err, false, map, IfOk, IfErr, IfSome, IfNone, IsSome, IsSomeAnd, OnOk, OnErr};
+ghost use Rattle.std.specs.Prelude.{List, ◌≡◌, ◌<◌, ◌↔◌, None, Some, Err, false, map, IfOk, IfErr, IfSome, IfNone, IsSome, IsSomeAnd, OnOk, OnErr};
 ghost use Rattle.std.specs.List.{AllByRecursion};
 ghost use Rattle.futures.specs.Task.{Keeps};
 ghost use Rattle.swift_events.specs.declared.event.Event.{Event};
@@ -16,10 +16,7 @@ use crate::desk::Desk;
 use crate::exec::Exec;
 use crate::fault::ExecFault;
 use crate::gate::{Gate, Moment};
-use crate::laws::{
-    accept_takes_one, choose_loses_none, play_loses_none, refusal_loses_none, start_loses_none,
-    turn_loses_none,
-};
+use crate::laws::{accept_takes_one, play_loses_none, refusal_loses_none, start_loses_none};
 use crate::ran::Ran;
 use crate::resting::{Held, Resting};
 use futures::task::Context;
@@ -103,7 +100,6 @@ fn choose_one<R: Wait>(
     ensures err { IfErr result IsRunFault }
 {
     note_levels(rt, book, &mut held.levels)?;
-    choose_loses_none();
     held.state.choose(&held.levels)
 }
 
@@ -158,8 +154,6 @@ fn end_one<R: Wait>(
     ensures bodies { OnOk result (AllByRecursion (IsJobOf held.old.state.script) jobs.old.items → AllByRecursion (IsJobOf held.old.state.script) jobs.new.items) }
     ensures err { IfErr result IsRunFault }
 {
-    turn_loses_none();
-    refusal_loses_none();
     let mut book = book.lock(rt);
     held.state.turn(&mut book, jobs)
 }
@@ -245,6 +239,7 @@ impl Exec {
         requires free { held.value.state.chosen ≡ None }
         ensures seat { IfOk result (λ ran. seat.new ≡ seat_after ran seat.old) }
         ensures kept { OnErr result (seat.new ≡ left seat.old) }
+        ensures free { (seat.new.name ≡ seat.old.name) × (seat.new.holding ≡ None) }
         ensures made { IfOk result (IfTurn (λ task. IsMadeBy self.now.inbox.site.script (Some task) (map job_view jobs.old.items) (map job_view jobs.new.items))) }
         ensures jobs { IfOk result (IfNoTurn (jobs.new.items ≡ jobs.old.items)) }
         ensures none { OnErr result (jobs.new.items ≡ jobs.old.items) }

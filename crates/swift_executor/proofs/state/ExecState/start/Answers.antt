@@ -1,7 +1,6 @@
-use Rattle.std.proofs.Common.{◌≡◌, ℤ, List, [], None, Some, Option, IfSome, refl, ap, sym, subst, ◌∙◌}
+use Rattle.std.proofs.Common.{◌≡◌, Some, Option, IfSome, refl, ap, sym, subst, ◌∙◌}
 use Rattle.std.specs.Arc.{arc_value}
 use Rattle.script_code.specs.Seen.{rows_of}
-use Rattle.swift_tasks.specs.Books.{BookView}
 use Rattle.swift_executor.specs.State.{Begins, ChosenView, ExecView, HasChosen, IsChosen, IsExecutor, IsPicked, PutsBack, begun, refusal_to_begin}
 use Rattle.swift_tasks.specs.Refusals.{refusal_of_begin}
 use Rattle.swift_executor.specs.Refusals.{IsRefusal}

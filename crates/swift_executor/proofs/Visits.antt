@@ -1,0 +1,63 @@
+-- What a visit to an executor leaves, by what its calls have answered.
+use Rattle.std.proofs.Common.{◌≡◌, ℕ, Option, Some, None, Result, Ok, Err, IfOk, IfErr, IfSome, IfNone, OnOk, OnErr, List, ap, ◌∙◌}
+use Rattle.swift_types.specs.declared.id.TaskId.{TaskId}
+use Rattle.swift_events.specs.declared.event.Event.{Event}
+use Rattle.swift_history.specs.TurnEnds.{JobView}
+use Rattle.swift_tasks.specs.Levels.{AreLevels}
+use Rattle.swift_executor.specs.declared.fault.ExecFault.{ExecFault}
+use Rattle.swift_executor.specs.Account.{HasTaken}
+use Rattle.swift_executor.specs.Exec.{chosen_task, site_of}
+use Rattle.swift_executor.specs.State.{Chooses, ExecView, HasChosen, HasNone, IsPicked, LacksTask}
+use Rattle.swift_executor.proofs.AccountKept.{chose, had_none, lacked}
+
+-- what holds after each answer holds
+pub either : {A E : Type 0} (r : Result A E) (P : Type 0) → OnOk r P → OnErr r P → P
+either (Ok a) P ok err = ok
+either (Err e) P ok err = err
+
+pub map_ok : {A E : Type 0} (r : Result A E) (P Q : Type 0) → (P → Q) → OnOk r P → OnOk r Q
+map_ok (Ok a) P Q f ok = f ok
+map_ok (Err e) P Q f ok = tt
+
+pub map_err : {A E : Type 0} (r : Result A E) (P Q : Type 0) → (P → Q) → OnErr r P → OnErr r Q
+map_err (Ok a) P Q f err = tt
+map_err (Err e) P Q f err = f err
+
+-- A choice by the levels of a log, of a state in which no job was chosen.
+module _ (given : List ℕ) (old new : ExecView) where
+  abbrev pub SomeIs : Result (Option TaskId) ExecFault → Type 0
+  SomeIs r = IfOk r (λ picked. IfSome picked (λ task. (log : List Event) → AreLevels log given → Chooses log old new task))
+
+  abbrev pub NoneIs : Result (Option TaskId) ExecFault → Type 0
+  NoneIs r = IfOk r (λ picked. IfNone picked ((log : List Event) → AreLevels log given → HasNone log old new))
+
+  abbrev pub FaultIs : (ExecFault → Type 0) → Result (Option TaskId) ExecFault → Type 0
+  FaultIs F r = IfErr r (λ fault. F fault × ((log : List Event) → AreLevels log given → LacksTask log old new))
+
+  module _ (log : List Event) (levels : AreLevels log given) (free : old.chosen ≡ None) where
+    pub same_site : (F : ExecFault → Type 0) (r : Result (Option TaskId) ExecFault) → SomeIs r → NoneIs r → FaultIs F r → site_of new ≡ site_of old
+    same_site F (Ok (Some task)) some none err = ap site_of (some log levels).same
+    same_site F (Ok None) some none err = ap site_of (none log levels).same
+    same_site F (Err fault) some none err = ap site_of (err.1 log levels).same
+
+    pub same_taken : (F : ExecFault → Type 0) (taken : List JobView) (r : Result (Option TaskId) ExecFault) → SomeIs r → NoneIs r → FaultIs F r → HasTaken taken old → HasTaken taken new
+    same_taken F taken (Ok (Some task)) some none err was = chose taken log task old new was free (some log levels)
+    same_taken F taken (Ok None) some none err was = had_none taken log old new was (none log levels)
+    same_taken F taken (Err fault) some none err was = lacked taken log old new was (err.1 log levels)
+
+    pub is_picked : (r : Result (Option TaskId) ExecFault) → SomeIs r → IfOk r (λ picked. IfSome picked (λ task. HasChosen new (λ c. IsPicked c.stage) × (chosen_task new.chosen ≡ Some task)))
+    is_picked (Ok (Some task)) some =
+        let h = some log levels in
+        let is = ap (λ (s : ExecView). s.chosen) h.same in
+        ((_, is, tt), ap chosen_task is ∙ ap (λ (t : TaskId). Some t) h.task_is)
+    is_picked (Ok None) some = tt
+    is_picked (Err fault) some = tt
+
+    pub is_none : (r : Result (Option TaskId) ExecFault) → NoneIs r → IfOk r (λ picked. IfNone picked (new.chosen ≡ None))
+    is_none (Ok (Some task)) none = tt
+    is_none (Ok None) none = ap (λ (s : ExecView). s.chosen) (none log levels).same ∙ free
+    is_none (Err fault) none = tt
+
+    pub is_free : (F : ExecFault → Type 0) (r : Result (Option TaskId) ExecFault) → FaultIs F r → OnErr r (new.chosen ≡ None)
+    is_free F (Ok picked) err = tt
+    is_free F (Err fault) err = ap (λ (s : ExecView). s.chosen) (err.1 log levels).same ∙ free

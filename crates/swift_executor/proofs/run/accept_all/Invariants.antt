@@ -1,0 +1,6 @@
+use Rattle.std.proofs.Common.{◌≡◌, None}
+use Rattle.swift_executor.specs.Exec.{IsAt}
+use Rattle.swift_executor.proofs.run.accept_all.Given as goal
+
+abbrev pub invariant-loop : goal.invariant-loop
+invariant-loop g l = IsAt l.inbox l.held.pass l.held.state × (l.held.state.chosen ≡ None)
