@@ -1,12 +1,13 @@
 //! What a run leaves.
 
-ghost use Rattle.std.specs.Prelude.{◌≡◌, length, IfOk};
-ghost use Rattle.std.specs.Arc.{arc_value};
-ghost use Rattle.swift_script.specs.Scripts.{ScriptView, executor_count, root_count};
+ghost use Rattle.std.specs.Prelude.{◌≡◌, ◌↔◌, ℕ, ◌+◌, None, length, IfOk, IfSome, IsTrue, OnOk};
+ghost use Rattle.swift_script.specs.Scripts.{ScriptView, root_count};
 ghost use Rattle.swift_events.specs.Events.{tasks_of};
+ghost use Rattle.swift_executor.specs.Exec.{site_of};
 ghost use Rattle.swift_report.specs.Lawful.{KeepInvariants};
 ghost use Rattle.swift_one_thread.specs.Crew.{AreAtSites};
-ghost use Rattle.swift_one_thread.specs.Leaves.{AreEndings, AreEndingsFrom, AreReplayed, IsEnding};
+ghost use Rattle.swift_one_thread.specs.Leaves.{AreEndings, AreReplayed, IsEnding};
+ghost use Rattle.swift_one_thread.specs.PartsInside.{AreParts};
 
 use crate::fault::Halt;
 use crate::sending::give_all_up;
@@ -22,6 +23,7 @@ use swift_types::{Ending, TaskId};
 
 // How many tasks there are by a log: those of the roots, and those that were made since.
 fn tasks_in(roots: usize, log: &[Event]) -> Option<usize>
+    ensures { IfSome result (λ tasks. tasks ≡ tasks_of roots log.now) }
 {
     let mut tasks = roots;
     for event in log {
@@ -32,8 +34,15 @@ fn tasks_in(roots: usize, log: &[Event]) -> Option<usize>
     Some(tasks)
 }
 
+fn is_root(origin: Origin) -> bool
+    ensures { IsTrue result ↔ (origin ≡ Origin.Root) }
+{
+    matches!(origin, Origin::Root)
+}
+
 // Where a task comes from, and how it has ended. The first tasks are those of the roots.
 fn ending_of(book: &Book, roots: usize, task: TaskId) -> Result<(Origin, Ending), Halt>
+    ensures { IfOk result (IsEnding roots book.now.log task.0) }
 {
     let Some(origin) = book.origin(task) else {
         return Err(Halt::Unfinished);
@@ -41,8 +50,8 @@ fn ending_of(book: &Book, roots: usize, task: TaskId) -> Result<(Origin, Ending)
     let Some(ending) = book.ending(task) else {
         return Err(Halt::Unfinished);
     };
-    let is_root = origin == Origin::Root;
-    if is_root != ((task.0 as usize) < roots) {
+    let is_first = (task.0 as usize) < roots;
+    if is_root(origin) != is_first {
         return Err(Halt::Unfinished);
     }
     Ok((origin, ending))
@@ -75,7 +84,8 @@ struct Parts {
 }
 
 // The state of an executor whose jobs have all been run.
-fn close(rt: &impl Wait, exec: Exec) -> Result<ExecState, Halt>
+fn close<R: Wait>(rt: &R, exec: Exec) -> Result<ExecState, Halt>
+    ensures { IfOk result (λ s. (site_of s ≡ exec.inbox.site) × (s.chosen ≡ None)) }
 {
     let Closed {
         pending: _,
@@ -89,7 +99,10 @@ fn close(rt: &impl Wait, exec: Exec) -> Result<ExecState, Halt>
     }
 }
 
+// Notes what a state has, as that of the next executor.
 fn note_state(parts: &mut Parts, state: ExecState) -> Result<(), Halt>
+    requires free { state.chosen ≡ None }
+    ensures { (p : ScriptView) (k : ℕ) → site_of state ≡ record { script = p; executor = k } → AreParts p k parts.old → OnOk result (AreParts p (k + 1) parts.new) }
 {
     state.facts();
     let (jobs, journal, fields, checkpoint) = state.into_parts();
@@ -101,6 +114,7 @@ fn note_state(parts: &mut Parts, state: ExecState) -> Result<(), Halt>
 }
 
 fn parts_of<R: Wait>(rt: &R, alloc: Global, execs: Vec<Exec>) -> Result<Parts, Halt>
+    ensures { IfOk result (λ parts. (p : ScriptView) → AreAtSites p execs.items → AreParts p (length execs.items) parts) }
 {
     let mut parts = Parts {
         journals: Vec::new(alloc),

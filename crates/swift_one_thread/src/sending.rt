@@ -1,7 +1,6 @@
 //! Jobs on their way to executors.
 
 ghost use Rattle.std.specs.Prelude.{◌≡◌, [], OnOk};
-ghost use Rattle.std.specs.Arc.{arc_value};
 ghost use Rattle.std.specs.List.{AllByRecursion};
 ghost use Rattle.swift_tasks.specs.Books.{IsJobOf};
 ghost use Rattle.swift_one_thread.specs.Crew.{AreAtSites, AreDesksOf};

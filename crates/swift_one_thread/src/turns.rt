@@ -1,8 +1,6 @@
 //! Turns, until no token is left.
 
-ghost use Rattle.std.specs.Prelude.{◌≡◌, [], ◌<◌, length};
-ghost use Rattle.std.specs.Arc.{arc_value};
-ghost use Rattle.std.specs.List.{AllByRecursion};
+ghost use Rattle.std.specs.Prelude.{◌≡◌, [], OnOk};
 ghost use Rattle.swift_one_thread.specs.Crew.{AreAtSites, AreDesksOf};
 
 use crate::crew::Hand;
@@ -10,7 +8,7 @@ use crate::fault::Halt;
 use crate::sending::send_all;
 use futures::task::Context;
 use std::sync::{Mutex, Wait};
-use swift_executor::{Exec, Gate, Ran};
+use swift_executor::{Exec, Gate, Moment, Ran};
 use swift_queue::Job;
 use swift_script::Script;
 use swift_tasks::Book;
@@ -38,6 +36,7 @@ fn turn_at<R: Wait, G: Gate>(
     requires desks { AreDesksOf execs.now hand.old.desks.items }
     requires jobs { jobs.old.items ≡ [] }
     ensures desks { AreDesksOf execs.now hand.new.desks.items }
+    ensures sent { OnOk result (jobs.new.items ≡ []) }
 {
     let place = on.0 as usize;
     if place >= execs.len() {
@@ -46,6 +45,7 @@ fn turn_at<R: Wait, G: Gate>(
     }
     let exec = &execs[place];
     let desk = &mut hand.desks[place];
+    gate.at(Moment::Took(on, WORKER));
     let left = match exec.run_one(rt, desk, WORKER, book, cx, jobs, gate)? {
         Ran::Turn(_, left) | Ran::Nothing(left) => left,
         Ran::Busy => Left::Idle,
