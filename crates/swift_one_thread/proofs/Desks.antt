@@ -28,6 +28,10 @@ same_length [] k d = refl
 same_length (y ∷ ys) zero d = refl
 same_length (y ∷ ys) (suc k) d = ap suc (same_length ys k d)
 
+-- the desk at a place is of the executor there
+pub desk_at : (execs : List ExecIs) (desks : List DeskIs) (k : ℕ) (e : ExecIs) (d : DeskIs) → AreDesksOf execs desks → k < length execs → e ≡ get_or execs k e → d ≡ get_or desks k d → IsDeskOf e d
+desk_at execs desks k e d are lt at desk = are.each k e d (slice_get_read execs (length execs) k e refl lt at) (slice_get_read desks (length desks) k d refl (omega (arith, lt, are.as_many)) desk)
+
 -- a desk of an executor in place of another one
 pub desk_set : (execs : List ExecIs) (desks : List DeskIs) (k : ℕ) (e : ExecIs) (d : DeskIs) → AreDesksOf execs desks → k < length execs → e ≡ get_or execs k e → IsDeskOf e d → AreDesksOf execs (slice_set desks k d)
 desk_set execs desks k e d are lt at is = record {
@@ -68,7 +72,10 @@ sites_from p n (x ∷ xs) e are is (suc k) f at =
 
 -- one executor more, at its place
 pub site_push : (p : ScriptView) (execs : List ExecIs) (e : ExecIs) → AreAtSites p execs → e.inbox.site ≡ record { script = p; executor = length execs } → AreAtSites p (execs ++ e ∷ [])
-site_push p execs e are is = sites_from p 0 execs e are is
+site_push p execs e are is =
+    let to : (n : ℕ) → 0 + n ≡ n = λ n. omega arith in
+    λ k f at. subst (λ n. f.inbox.site ≡ record { script = p; executor = n }) (to k)
+      (sites_from p 0 execs e (λ i g there. subst (λ n. g.inbox.site ≡ record { script = p; executor = n }) (sym (to i)) (are i g there)) (subst (λ n. e.inbox.site ≡ record { script = p; executor = n }) (sym (to (length execs))) is) k f at)
 
 at_end : (xs rest : List ExecIs) (e : ExecIs) → slice_get (xs ++ e ∷ rest) (length xs) ≡ Some e
 at_end [] rest e = refl

@@ -44,6 +44,9 @@ keep_push : (p : ScriptView) (e : ℕ) (fs : List Rows) (f : Rows) → KeepInvar
 keep_push p e [] f are is = (subst (λ n. Keeps p n (rows_of f.items)) (add-zero e) is, tt)
 keep_push p e (g ∷ fs) f are is = (are.0, keep_push p (e + 1) fs f are.1 (subst (λ n. Keeps p n (rows_of f.items)) (next_place e (length fs)) is))
 
+zero_more : (n : ℕ) → n ≡ 0 + n
+zero_more n = omega arith
+
 one_longer : {X : Type 0} (xs : List X) (x : X) (n : ℕ) → length xs ≡ n → length (xs ++ x ∷ []) ≡ n + 1
 one_longer xs x n is = omega (arith, is, length-append xs (x ∷ []))
 
@@ -56,11 +59,11 @@ parts_push p many old new s c f are site is keeps checkpoint fields cs js fs =
     let executor : s.executor ≡ many = ap (λ (x : Site). x.executor) site in
     let own : IsReplayed s.script s.executor s.checkpoint s.journal s.fields = record { lawful = is.lawful; runs = is.runs; replayed = is.replayed } in
     let of_script : IsReplayed p s.executor s.checkpoint s.journal s.fields = subst (λ (x : ScriptView). IsReplayed x s.executor s.checkpoint s.journal s.fields) script own in
-    let at_place : IsReplayed p (0 + length old.checkpoints.items) s.checkpoint s.journal s.fields = subst (λ n. IsReplayed p n s.checkpoint s.journal s.fields) (executor ∙ sym are.checkpoints) of_script in
+    let at_place : IsReplayed p (0 + length old.checkpoints.items) s.checkpoint s.journal s.fields = subst (λ n. IsReplayed p n s.checkpoint s.journal s.fields) (executor ∙ sym are.checkpoints ∙ zero_more (length old.checkpoints.items)) of_script in
     let with_view : IsReplayed p (0 + length old.checkpoints.items) c.view s.journal s.fields = subst (λ (x : CheckpointView). IsReplayed p (0 + length old.checkpoints.items) x s.journal s.fields) (sym checkpoint) at_place in
     let replayed : IsReplayed p (0 + length old.checkpoints.items) c.view s.journal (rows_of f.items) = subst (λ (x : List (List ℤ)). IsReplayed p (0 + length old.checkpoints.items) c.view s.journal x) (sym fields) with_view in
     let keeps_script : Keeps p s.executor s.fields = subst (λ (x : ScriptView). Keeps x s.executor s.fields) script keeps in
-    let keeps_place : Keeps p (0 + length old.fields.items) s.fields = subst (λ n. Keeps p n s.fields) (executor ∙ sym are.fields) keeps_script in
+    let keeps_place : Keeps p (0 + length old.fields.items) s.fields = subst (λ n. Keeps p n s.fields) (executor ∙ sym are.fields ∙ zero_more (length old.fields.items)) keeps_script in
     let kept : Keeps p (0 + length old.fields.items) (rows_of f.items) = subst (λ (x : List (List ℤ)). Keeps p (0 + length old.fields.items) x) (sym fields) keeps_place in
     let all = replayed_push p 0 old.checkpoints.items old.journals.items old.fields.items c s.journal f are.lawful replayed in
     let all_cs = subst (λ (x : List CheckpointRoom). AreReplayed p 0 x (old.journals.items ++ s.journal ∷ []) (old.fields.items ++ f ∷ [])) (sym cs) all in

@@ -62,10 +62,10 @@ fn endings_of(alloc: Global, script: &Script, book: &Book) -> Result<Vec<(Origin
     ensures { IfOk result (λ endings. AreEndings (root_count script.now) book.now.log endings.items) }
 {
     let roots = script.root_count();
-    let Some(tasks) = tasks_in(roots, book.log()) else {
+    let Some(made) = tasks_in(roots, book.log()) else {
         return Err(Halt::Unfinished);
     };
-    let Ok(tasks) = u32::try_from(tasks) else {
+    let Ok(tasks) = u32::try_from(made) else {
         return Err(Halt::Unfinished);
     };
     let mut endings = Vec::new(alloc);

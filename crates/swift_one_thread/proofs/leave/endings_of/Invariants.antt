@@ -1,6 +1,5 @@
-use Rattle.std.proofs.Common.{◌≡◌, length}
+use Rattle.std.proofs.Common.{◌≡◌, ◌≤◌, length}
 use Rattle.swift_script.specs.Scripts.{root_count}
-use Rattle.swift_events.specs.Events.{tasks_of}
 use Rattle.swift_one_thread.specs.Leaves.{AreEndingsFrom}
 use Rattle.swift_one_thread.proofs.leave.endings_of.Given as goal
 
@@ -8,5 +7,5 @@ abbrev pub invariant-loop-task : goal.invariant-loop-task
 invariant-loop-task l = record {
   each : AreEndingsFrom (root_count l.script) l.book.log 0 l.endings.items;
   many : length l.endings.items ≡ l.task;
-  end : l.task-end ≡ tasks_of (root_count l.script) l.book.log;
+  bound : l.task ≤ l.tasks;
 }
