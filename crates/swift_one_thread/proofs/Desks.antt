@@ -5,6 +5,7 @@ use Rattle.std.proofs.lemmas.Option.{same_Some, slice_get_read}
 use Rattle.swift_queue.specs.Job.{JobIs}
 use Rattle.swift_turn.specs.Body.{BodyView}
 use Rattle.swift_script.specs.Scripts.{ScriptView}
+use Rattle.swift_inbox.specs.Site.{Site}
 use Rattle.swift_executor.specs.Exec.{ExecIs, DeskIs, IsDeskOf, after_run}
 use Rattle.swift_executor.specs.declared.ran.Ran.{Ran}
 use Rattle.swift_executor.specs.declared.ran.Ran.TheVariants.{Turn, Busy, Nothing}
@@ -80,6 +81,10 @@ site_push p execs e are is =
 at_end : (xs rest : List ExecIs) (e : ExecIs) → slice_get (xs ++ e ∷ rest) (length xs) ≡ Some e
 at_end [] rest e = refl
 at_end (x ∷ xs) rest e = at_end xs rest e
+
+-- the script of the executor at a place
+pub site_script : (p : ScriptView) (execs : List ExecIs) (k : ℕ) (e : ExecIs) → AreAtSites p execs → k < length execs → e ≡ get_or execs k e → e.inbox.site.script ≡ p
+site_script p execs k e are lt at = ap (λ (x : Site). x.script) (are k e (slice_get_read execs (length execs) k e refl lt at))
 
 -- the executor after those of a prefix
 pub site_after : (p : ScriptView) (before rest execs : List ExecIs) (e : ExecIs) → AreAtSites p execs → before ++ e ∷ rest ≡ execs → e.inbox.site ≡ record { script = p; executor = length before }

@@ -47,7 +47,7 @@ keep_push p e (g ∷ fs) f are is = (are.0, keep_push p (e + 1) fs f are.1 (subs
 zero_more : (n : ℕ) → n ≡ 0 + n
 zero_more n = omega arith
 
-one_longer : {X : Type 0} (xs : List X) (x : X) (n : ℕ) → length xs ≡ n → length (xs ++ x ∷ []) ≡ n + 1
+pub one_longer : {X : Type 0} (xs : List X) (x : X) (n : ℕ) → length xs ≡ n → length (xs ++ x ∷ []) ≡ n + 1
 one_longer xs x n is = omega (arith, is, length-append xs (x ∷ []))
 
 -- the parts of the executors of a prefix, and of the one after them, whose state this was

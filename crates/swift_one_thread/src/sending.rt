@@ -8,12 +8,12 @@ ghost use Rattle.swift_one_thread.specs.Crew.{AreAtSites, AreDesksOf};
 use crate::crew::Hand;
 use crate::fault::Halt;
 use std::sync::Wait;
-use swift_executor::{Exec, Gate};
+use swift_executor::{Desk, Exec, Gate};
 use swift_queue::Job;
 use swift_script::Script;
 use swift_tasks::Book;
 use swift_turn::Body;
-use swift_types::RootId;
+use swift_types::{ExecId, RootId};
 use swift_word::Was;
 
 /// Gives a job up, with the task that it would go on with.
@@ -29,8 +29,39 @@ pub fn give_all_up(mut jobs: Vec<Job<Body>>) {
     jobs.destroy_empty();
 }
 
-// Sends a job to the executor of its actor. Where that was idle, its token goes behind the others. A job that is refused is
-// given up.
+// Puts a job into the inbox of the executor of its actor. A job that is refused is given up.
+fn put<R: Wait, G: Gate>(
+    rt: &R,
+    script: &Script,
+    execs: &[Exec],
+    desks: &mut Vec<Desk>,
+    job: Job<Body>,
+    gate: &G,
+) -> Result<(ExecId, Was), Halt>
+    requires sites { AreAtSites script.now execs.now }
+    requires desks { AreDesksOf execs.now desks.old.items }
+    requires job { IsJobOf script.now job }
+    ensures desks { AreDesksOf execs.now desks.new.items }
+{
+    let on = script.actor_executor(job.body().actor());
+    let place = on.0 as usize;
+    if place >= execs.len() {
+        // Each actor has one of these executors.
+        give_up(job);
+        return Err(Halt::Executor);
+    }
+    let exec = &execs[place];
+    let desk = &mut desks[place];
+    match exec.enqueue(rt, desk, job, gate) {
+        Ok(was) => Ok((on, was)),
+        Err((job, fault)) => {
+            give_up(job);
+            Err(Halt::from(fault))
+        }
+    }
+}
+
+// Sends a job to the executor of its actor. Where that was idle, its token goes behind the others.
 fn send<R: Wait, G: Gate>(
     rt: &R,
     script: &Script,
@@ -44,23 +75,11 @@ fn send<R: Wait, G: Gate>(
     requires job { IsJobOf script.now job }
     ensures desks { AreDesksOf execs.now hand.new.desks.items }
 {
-    let on = script.actor_executor(job.body().actor());
-    let place = on.0 as usize;
-    if place >= execs.len() {
-        // Each actor has one of these executors.
-        give_up(job);
-        return Err(Halt::Executor);
+    let (on, was) = put(rt, script, execs, &mut hand.desks, job, gate)?;
+    if was == Was::Idle {
+        hand.tokens.push_back(on)?;
     }
-    let exec = &execs[place];
-    let desk = &mut hand.desks[place];
-    match exec.enqueue(rt, desk, job, gate) {
-        Ok(Was::Idle) => Ok(hand.tokens.push_back(on)?),
-        Ok(Was::Busy) => Ok(()),
-        Err((job, fault)) => {
-            give_up(job);
-            Err(Halt::from(fault))
-        }
-    }
+    Ok(())
 }
 
 /// Sends each of these jobs to the executor of its actor, in order. After a refusal those that are left stand in the list.
