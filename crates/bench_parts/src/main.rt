@@ -28,12 +28,15 @@ mod word;
 use fault::BenchFault;
 use pick::{MOST, OPERATIONS};
 use script::Stage;
+use std::alloc::AllocGlobal;
 use std::env;
 use std::process::ExitCode;
+use std::random::RandomSource;
+use std::sync::Wait;
 use std::time::Duration;
 
 fn main(rt: HostRuntime) -> ExitCode {
-    match whole(&rt) {
+    match whole(&rt, &rt) {
         Ok(()) => ExitCode::SUCCESS,
         Err(fault) => {
             let _ = eprintln!(rt; "bench_parts: {fault}");
@@ -42,8 +45,11 @@ fn main(rt: HostRuntime) -> ExitCode {
     }
 }
 
-// What the words ask for.
-fn whole(rt: &HostRuntime) -> Result<(), BenchFault> {
+// What the words ask for. The runtime comes twice, since it waits in `main` alone.
+fn whole<W>(rt: &HostRuntime, wait: &W) -> Result<(), BenchFault>
+where
+    W: RandomSource + AllocGlobal + Wait,
+{
     let mut words = env::args(rt)?;
     let _program = words.next();
     let (Some(name), count) = (words.next(), words.next()) else {
@@ -53,7 +59,7 @@ fn whole(rt: &HostRuntime) -> Result<(), BenchFault> {
         return Err(BenchFault::Words);
     }
     match count {
-        None => stage(rt, name.as_str()),
+        None => stage(rt, wait, name.as_str()),
         Some(word) => match word.parse::<u32>() {
             Ok(entries) => measure_part(rt, name.as_str(), entries),
             Err(_) => Err(BenchFault::Words),
@@ -62,11 +68,14 @@ fn whole(rt: &HostRuntime) -> Result<(), BenchFault> {
 }
 
 // Takes the script as far as the stage of this name.
-fn stage(rt: &HostRuntime, name: &str) -> Result<(), BenchFault> {
+fn stage<W>(rt: &HostRuntime, wait: &W, name: &str) -> Result<(), BenchFault>
+where
+    W: RandomSource + AllocGlobal + Wait,
+{
     match name {
-        "read" => script::measure(rt, Stage::Read),
-        "run" => script::measure(rt, Stage::Run),
-        "text" => script::measure(rt, Stage::Text),
+        "read" => script::measure(rt, wait, Stage::Read),
+        "run" => script::measure(rt, wait, Stage::Run),
+        "text" => script::measure(rt, wait, Stage::Text),
         _ => Err(BenchFault::Words),
     }
 }

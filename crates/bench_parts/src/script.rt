@@ -4,8 +4,10 @@ ghost use Rattle.std.specs.Prelude.{◌≡◌, ◌+◌, IfOk, length, sum_by};
 
 use crate::fault::BenchFault;
 use crate::told;
+use std::alloc::AllocGlobal;
 use std::io;
-use std::sync::Arc;
+use std::random::RandomSource;
+use std::sync::{Arc, Wait};
 use std::time::Instant;
 use swift_journal::{Checkpoint, Journal};
 use swift_one_thread::{Open, run};
@@ -24,7 +26,10 @@ pub enum Stage {
 }
 
 // Takes the script on standard input as far as a stage, and says how long each one took.
-pub fn measure(rt: &HostRuntime, stage: Stage) -> Result<(), BenchFault> {
+pub fn measure<W>(rt: &HostRuntime, wait: &W, stage: Stage) -> Result<(), BenchFault>
+where
+    W: RandomSource + AllocGlobal + Wait,
+{
     let alloc = rt.alloc();
     let text = io::read_to_string(alloc, rt.stdin())?;
     let start = Instant::now(rt)?;
@@ -37,7 +42,7 @@ pub fn measure(rt: &HostRuntime, stage: Stage) -> Result<(), BenchFault> {
         return Ok(());
     }
     let start = Instant::now(rt)?;
-    let report = run(rt, Arc::clone(&script)?, 1, &Open)?;
+    let report = run(wait, Arc::clone(&script)?, 1, &Open)?;
     told(rt, "run", start.elapsed(rt)?)?;
     let turns = turns_of(&report)?;
     println!(rt; "run {turns} turns")?;

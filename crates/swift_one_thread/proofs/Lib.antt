@@ -1,3 +1,2 @@
-pub mod Pools
-pub mod ExecutorsKept
-pub mod Turned
+pub mod Desks
+pub mod Left

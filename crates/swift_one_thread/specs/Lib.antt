@@ -1,2 +1,3 @@
-pub mod Executors
-pub mod Envs
+pub mod Crew
+pub mod Leaves
+pub mod PartsInside

@@ -1,6 +1,8 @@
 //! Why a run was given up.
 
 use std::alloc::{AllocError, AllocFailed};
+use swift_executor::ExecFault;
+use swift_tasks::BookFault;
 use thiserror::Error;
 
 /// Why a run leaves no report (our own). Nothing of it remains.
@@ -12,9 +14,12 @@ pub enum RunFault {
     /// A growth was refused.
     #[error("N2 no memory")]
     Memory,
-    /// Jobs were left that no worker would ever run, or a script asked for what no script that was read can.
+    /// A task has not ended, and no executor has a job that could go on with it.
     #[error("N3 unfinished jobs")]
     Unfinished,
+    /// An executor had no room for a job, or the book refused a turn.
+    #[error("N5 executor refused")]
+    Executor,
 }
 
 // Why a run of one worker was given up.
@@ -22,6 +27,7 @@ pub enum RunFault {
 pub enum Halt {
     Memory,
     Unfinished,
+    Executor,
 }
 
 impl From<AllocError> for Halt {
@@ -33,5 +39,35 @@ impl From<AllocError> for Halt {
 impl<T: Drop> From<AllocFailed<T>> for Halt {
     fn from(_e: AllocFailed<T>) -> Halt {
         Halt::Memory
+    }
+}
+
+impl From<ExecFault> for Halt {
+    fn from(fault: ExecFault) -> Halt {
+        match fault {
+            ExecFault::Memory => Halt::Memory,
+            ExecFault::Worker | ExecFault::Full | ExecFault::Refused(_) => Halt::Executor,
+        }
+    }
+}
+
+impl From<BookFault> for Halt {
+    fn from(fault: BookFault) -> Halt {
+        Halt::from(ExecFault::from(fault))
+    }
+}
+
+impl From<Halt> for RunFault {
+    ghost use Rattle.std.specs.Prelude.{◌≢◌};
+    ghost use Rattle.swift_one_thread.specs.declared.fault.RunFault.TheVariants.{Workers};
+
+    ghost from_gives = { λ _ fault. fault ≢ Workers };
+
+    fn from(halt: Halt) -> RunFault {
+        match halt {
+            Halt::Memory => RunFault::Memory,
+            Halt::Unfinished => RunFault::Unfinished,
+            Halt::Executor => RunFault::Executor,
+        }
     }
 }

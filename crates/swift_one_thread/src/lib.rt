@@ -1,33 +1,24 @@
-//! Runs a script on one thread, until its real executors come.
+//! Runs a script to its end on one thread, over the executors and the book of tasks.
 #![tactic(auto)]
+
+// The executors of a script, and a desk at each.
+mod crew;
 
 // Why a run was given up.
 mod fault;
 
-// What is given of the moments of a run.
-mod gate;
-
-// Copies of rows of numbers.
-mod rows;
-
-// The jobs, the fields, the journal and the checkpoint of one executor.
-mod executor;
-
-// One turn of an executor's oldest job.
-mod turn;
-
-// All executors, and the tokens of those that have jobs.
-mod pool;
-
 // What a run leaves.
 mod leave;
 
-// What this crate can run.
-mod playable;
+// Jobs on their way to executors.
+mod sending;
+
+// Turns, until no token is left.
+mod turns;
 
 // Whole runs.
 mod whole;
 
 pub use fault::RunFault;
-pub use gate::{Gate, Moment, Open};
+pub use swift_executor::{Gate, Moment, Open};
 pub use whole::run;

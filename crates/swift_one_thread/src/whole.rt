@@ -1,103 +1,111 @@
 //! Whole runs.
 
-ghost use Rattle.std.specs.Prelude.{◌≡◌, ◌≢◌, ◌↔◌, [], Err, length, IfOk};
+ghost use Rattle.std.specs.Prelude.{◌≡◌, ◌≢◌, ◌↔◌, Err, length, IfOk};
 ghost use Rattle.std.specs.Arc.{arc_value};
 ghost use Rattle.swift_script.specs.Scripts.{executor_count, root_count};
-ghost use Rattle.swift_report.specs.Ended.{AreEnded};
-ghost use Rattle.swift_report.specs.Lawful.{KeepInvariants, turns_of};
-ghost use Rattle.swift_report.specs.Numbered.{HaveNoGaps};
-ghost use Rattle.swift_one_thread.specs.Executors.{AreRootsFrom};
-ghost use Rattle.swift_one_thread.specs.Envs.{AreRuns};
+ghost use Rattle.swift_report.specs.Lawful.{KeepInvariants};
+ghost use Rattle.swift_one_thread.specs.Crew.{AreAtSites, AreDesksOf};
+ghost use Rattle.swift_one_thread.specs.Leaves.{AreEndings, AreReplayed};
 ghost use Rattle.swift_one_thread.specs.declared.fault.RunFault.TheVariants.{Workers};
 
+use crate::crew::{Hand, open_all};
 use crate::fault::{Halt, RunFault};
-use crate::gate::Gate;
 use crate::leave::report_of;
-use crate::playable::is_playable;
-use crate::pool::{drain, empty_pool, start_roots};
-use futures::task::{Doorbell, Solo};
-use std::alloc::AllocGlobal;
+use crate::sending::{give_all_up, start_roots};
+use crate::turns::drain;
+use futures::task::{Context, Doorbell, Solo};
+use std::alloc::{AllocGlobal, Global};
 use std::random::RandomSource;
-use std::sync::Arc;
+use std::sync::{Arc, Mutex, Wait};
+use swift_executor::{Exec, Gate};
 use swift_report::Report;
-use swift_report::laws::invariants_stay;
 use swift_script::Script;
+use swift_tasks::Book;
 
 /// Runs a script to its end on the calling thread, and leaves the report of the run (SE-0304 for tasks, SE-0392 for
 /// executors that run one job at a time; the order of turns is our own, and is determined).
 ///
-/// An executor with jobs has a token, and the one whose token is the oldest runs its oldest job next. The roots are
-/// enqueued in order of declaration before the first turn. The runtime is used once, to make what a poll is given.
+/// An executor with jobs has a token, and the one whose token is the oldest runs the job that comes first there. Its token
+/// goes behind the others where it has more jobs, and then the jobs that the turn made are sent, in order; an executor that
+/// was idle gets a token. The roots are sent in order of declaration before the first turn. Each executor has room for the
+/// jobs of 1,024 tasks. The runtime is used once, to make what a poll is given, and for locks that nobody else takes.
 ///
-/// The gate is given of each turn's moments. A journal that has 4,096 turns is folded. Memory grows with the turns, at most
-/// some thousand for each root, each of which leaves some 64 bytes and the frame after it.
+/// The gate is given of each moment of a turn and of a job that is sent. Memory grows with the turns, at most some thousand
+/// for each task, each of which leaves some hundred bytes and the frame after it.
 ///
 /// # Errors
 ///
-/// `Workers` stands for any number of workers but 1, `Memory` for a growth that was refused, and `Unfinished` for a
-/// task that did not end, or a script with a method that makes a task, opens a group, cancels or waits for a task: these
-/// come with the executors. Nothing of a refused run remains.
+/// `Workers` stands for any number of workers but 1, `Memory` for a growth that was refused, `Unfinished` for a task that has
+/// not ended though no executor has a token, and `Executor` for one that had no room or a turn that the book refused. Nothing of
+/// a refused run remains.
 pub fn run<R, G>(rt: &R, script: Arc<Script>, workers: u32, gate: &G) -> Result<Report, RunFault>
 where
-    R: RandomSource + AllocGlobal,
+    R: RandomSource + AllocGlobal + Wait,
     G: Gate + Sync,
     ensures workers { (result ≡ Err Workers) ↔ (workers ≢ 1) }
-    // Each executor's turns, those that were folded too, are lawful from the start values on, and replaying them gives the
-    // fields of its actors. Each is one of a root's task, was given what belongs to that root, and ran on worker 0.
-    ensures lawful { IfOk result (λ r. AreRuns (arc_value script) r.checkpoints.items r.journals.items r.fields.items) }
+    // Each executor's journal is lawful from its checkpoint on, its turns are of its actors, and replaying them gives the
+    // fields.
+    ensures lawful { IfOk result (λ r. AreReplayed (arc_value script) 0 r.checkpoints.items r.journals.items r.fields.items) }
     // The fields meet each invariant that holds at the start.
     ensures invariants { IfOk result (λ r. KeepInvariants (arc_value script) 0 r.fields.items) }
-    // The turns of each task are numbered without gaps.
-    ensures numbered { IfOk result (λ r. HaveNoGaps (turns_of r.checkpoints.items r.journals.items)) }
     ensures journals { IfOk result (λ r. length r.journals.items ≡ executor_count (arc_value script)) }
     ensures checkpoints { IfOk result (λ r. length r.checkpoints.items ≡ executor_count (arc_value script)) }
     ensures fields { IfOk result (λ r. length r.fields.items ≡ executor_count (arc_value script)) }
-    ensures log { IfOk result (λ r. r.log.items ≡ []) }
-    // One ending for each root, in order of declaration.
-    ensures tasks { IfOk result (λ r. length r.endings.items ≡ root_count (arc_value script)) }
-    ensures roots { IfOk result (λ r. AreRootsFrom 0 r.endings.items) }
-    // Each ending comes from a turn of its task.
-    ensures ended { IfOk result (λ r. AreEnded (turns_of r.checkpoints.items r.journals.items) 0 r.endings.items) }
+    // The log says of each task where it comes from and how it has ended. The first tasks are the roots, in order of declaration.
+    ensures endings { IfOk result (λ r. AreEndings (root_count (arc_value script)) r.log.items r.endings.items) }
 {
     if workers != 1 {
         return Err(RunFault::Workers);
     }
-    if !is_playable(&script) {
-        return Err(RunFault::Unfinished);
-    }
-    match run_alone(rt, &script, gate) {
-        Ok(report) => Ok(report),
-        Err(Halt::Memory) => Err(RunFault::Memory),
-        Err(Halt::Unfinished) => Err(RunFault::Unfinished),
-    }
+    Ok(run_alone(rt, &script, gate)?)
 }
 
 // A run of one worker.
 fn run_alone<R, G>(rt: &R, script: &Arc<Script>, gate: &G) -> Result<Report, Halt>
 where
-    R: RandomSource + AllocGlobal,
+    R: RandomSource + AllocGlobal + Wait,
     G: Gate,
-    ensures lawful { IfOk result (λ r. AreRuns (arc_value script.now) r.checkpoints.items r.journals.items r.fields.items) }
+    ensures lawful { IfOk result (λ r. AreReplayed (arc_value script.now) 0 r.checkpoints.items r.journals.items r.fields.items) }
     ensures invariants { IfOk result (λ r. KeepInvariants (arc_value script.now) 0 r.fields.items) }
-    ensures numbered { IfOk result (λ r. HaveNoGaps (turns_of r.checkpoints.items r.journals.items)) }
     ensures journals { IfOk result (λ r. length r.journals.items ≡ executor_count (arc_value script.now)) }
     ensures checkpoints { IfOk result (λ r. length r.checkpoints.items ≡ executor_count (arc_value script.now)) }
     ensures fields { IfOk result (λ r. length r.fields.items ≡ executor_count (arc_value script.now)) }
-    ensures log { IfOk result (λ r. r.log.items ≡ []) }
-    ensures tasks { IfOk result (λ r. length r.endings.items ≡ root_count (arc_value script.now)) }
-    ensures roots { IfOk result (λ r. AreRootsFrom 0 r.endings.items) }
-    ensures ended { IfOk result (λ r. AreEnded (turns_of r.checkpoints.items r.journals.items) 0 r.endings.items) }
+    ensures endings { IfOk result (λ r. AreEndings (root_count (arc_value script.now)) r.log.items r.endings.items) }
 {
-    invariants_stay();
     let alloc = rt.alloc();
     let Ok(solo) = Solo::new(rt, Doorbell::spinning()) else {
         return Err(Halt::Memory);
     };
-    let mut pool = empty_pool(alloc, script)?;
-    start_roots(alloc, script, &mut pool)?;
+    let (execs, mut hand) = open_all(alloc, script)?;
+    let book = Book::new(alloc, Arc::clone(script)?)?;
     let mut cx = solo.begin();
-    let drained = drain(alloc, &mut cx, script, &mut pool, gate);
+    let (book, played) = play(rt, alloc, &mut cx, script, &execs, &mut hand, book, gate);
     cx.cancel();
-    drained?;
-    report_of(alloc, pool)
+    report_of(rt, alloc, script, execs, book, played)
+}
+
+// Adds the roots to a book without tasks, and runs turns until no token is left. The book as it is then, and whether the run was
+// given up.
+fn play<R: Wait, G: Gate>(
+    rt: &R,
+    alloc: Global,
+    cx: &mut Context<'_>,
+    script: &Script,
+    execs: &[Exec],
+    hand: &mut Hand,
+    mut book: Book,
+    gate: &G,
+) -> (Book, Result<(), Halt>)
+    requires sites { AreAtSites script.now execs.now }
+    requires desks { AreDesksOf execs.now hand.old.desks.items }
+    requires book { book.script ≡ script.now }
+{
+    if let Err(halt) = start_roots(rt, script, execs, hand, &mut book, gate) {
+        return (book, Err(halt));
+    }
+    let book = Mutex::new(book);
+    let mut jobs = Vec::new(alloc);
+    let drained = drain(rt, cx, script, execs, hand, &book, &mut jobs, gate);
+    give_all_up(jobs);
+    (book.into_inner(), drained)
 }

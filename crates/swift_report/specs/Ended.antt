@@ -4,7 +4,7 @@ use Rattle.swift_types.specs.declared.outcome.Ending.{Ending}
 use Rattle.swift_types.specs.declared.outcome.Ending.TheVariants.{Value as Returned, Fault as Failed}
 use Rattle.swift_interpreter.specs.Turn.{ExitView, returning, failing}
 use Rattle.swift_journal.specs.Checkpoints.{FoldedView}
-use Rattle.swift_report.specs.declared.report.Origin.{Origin}
+use Rattle.swift_events.specs.declared.life.Origin.{Origin}
 
 -- the exit of the turn with which a task ends so: it leaves its frame with that value, or with that fault
 abbrev pub exit_of : Ending → ExitView

@@ -20,8 +20,9 @@ use Rattle.swift_journal.specs.Records.{RecordView, brief_of}
 use Rattle.swift_journal.specs.declared.brief.BriefExit.{BriefExit}
 use Rattle.swift_journal.specs.declared.brief.BriefExit.TheVariants.{Call, Wait, Next, Yield, Close, Return, Fault as Fails}
 use Rattle.swift_report.specs.declared.line.Line.{Line}
-use Rattle.swift_report.specs.declared.report.Origin.{Origin}
-use Rattle.swift_report.specs.declared.report.Origin.TheVariants.{Root}
+use Rattle.swift_types.specs.declared.id.TaskId.{TaskId}
+use Rattle.swift_events.specs.declared.life.Origin.{Origin}
+use Rattle.swift_events.specs.declared.life.Origin.TheVariants.{Root, Child, Spawned, Detached}
 use Rattle.swift_report.specs.declared.report.Report.{Report}
 
 -- the word of a fault, after a throw its value
@@ -131,13 +132,20 @@ abbrev pub journals_text : ScriptView → Bool → List CheckpointRoom → List 
 journals_text p true cs js = []
 journals_text p false cs js = codes "journals\n" ++ executors_text p cs 0 js
 
--- what made a task
-abbrev pub origin_text : ScriptView → Origin → List ℕ
-origin_text p (Root r) = codes "root " ++ root_name p r.0
+-- a task, by its number
+abbrev pub task_name : TaskId → List ℕ
+task_name t = codes "t" ++ decimal t.0
+
+-- where the task of this number comes from: root k of the script has task k
+abbrev pub origin_text : ScriptView → ℕ → Origin → List ℕ
+origin_text p k Root = codes "root " ++ root_name p k
+origin_text p k (Child owner group) = codes "child " ++ task_name owner
+origin_text p k (Spawned by) = codes "spawned " ++ task_name by
+origin_text p k (Detached by) = codes "detached " ++ task_name by
 
 -- the line of the task with this number
 abbrev pub task_text : ScriptView → ℕ → Origin × Ending → List ℕ
-task_text p k t = codes "t" ++ decimal k ++ codes " " ++ origin_text p t.0 ++ codes " " ++ ending_text t.1 ++ codes "\n"
+task_text p k t = codes "t" ++ decimal k ++ codes " " ++ origin_text p k t.0 ++ codes " " ++ ending_text t.1 ++ codes "\n"
 
 -- the lines of the tasks from this number on
 abbrev pub tasks_text : ScriptView → ℕ → List (Origin × Ending) → List ℕ

@@ -18,5 +18,5 @@ mod turns;
 // Faults, resumes and endings in words.
 mod word;
 
-pub use report::{Event, Origin, Report};
+pub use report::Report;
 pub use text::report_text;

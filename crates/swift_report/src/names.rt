@@ -1,11 +1,11 @@
 //! Names and kinds by the places of journals and fields.
 
 ghost use Rattle.std.specs.Prelude.{◌≡◌};
-ghost use Rattle.swift_script.specs.Scripts.{actor_name, executor_kind, executor_name, field_name};
+ghost use Rattle.swift_script.specs.Scripts.{actor_name, executor_kind, executor_name, field_name, root_name};
 
 use script_grammar::ExecutorKind;
 use swift_script::Script;
-use swift_types::{ActorId, ExecId};
+use swift_types::{ActorId, ExecId, RootId};
 
 /// The name of the actor at a place; empty where there is none.
 #[tactic(auto, using(crate::proofs::Past::no_actor_name))]
@@ -28,6 +28,19 @@ pub(crate) fn field_name(script: &Script, place: usize, field: usize) -> &[u8]
     script.facts();
     if place < script.actor_count() {
         script.field_name(ActorId(place as u32), field)
+    } else {
+        &[]
+    }
+}
+
+/// The name of the root at a place; empty where there is none.
+#[tactic(auto, using(crate::proofs::Past::no_root_name))]
+pub(crate) fn root_name(script: &Script, place: usize) -> &[u8]
+    ensures { result.now ≡ root_name script.now place }
+{
+    script.facts();
+    if place < script.root_count() {
+        script.root_name(RootId(place as u32))
     } else {
         &[]
     }

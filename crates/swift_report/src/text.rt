@@ -1,17 +1,18 @@
 //! The text of a report.
 
 ghost use Rattle.std.specs.Prelude.{◌≡◌, ℤ, ◌<◌, ◌++◌, map, IfOk, OnOk};
-ghost use Rattle.swift_report.specs.Text.{journals_text, origin_text, task_text, tasks_text, field_text, number_of, row_among, row_of, values_text, fields_text, report_text};
+ghost use Rattle.swift_report.specs.Text.{journals_text, origin_text, task_name, task_text, tasks_text, field_text, number_of, row_among, row_of, values_text, fields_text, report_text};
 ghost use Rattle.swift_script.specs.Scripts.{actor_count};
 
 use crate::append::number;
-use crate::names::{actor_name, field_name};
-use crate::report::{Origin, Report};
+use crate::names::{actor_name, field_name, root_name};
+use crate::report::Report;
 use crate::turns::executors;
 use crate::word;
 use std::alloc::{AllocError, Global};
+use swift_events::Origin;
 use swift_script::Script;
-use swift_types::{ActorId, Ending};
+use swift_types::{ActorId, Ending, TaskId};
 
 /// The text of a report on a script (the format is our own), as the bytes that are written: the journals unless it
 /// is `quiet`, the tasks, and the fields. All of it is ASCII where the names of the script are.
@@ -54,13 +55,39 @@ fn journals(
     executors(out, script, &report.checkpoints, &report.journals)
 }
 
-fn origin(out: &mut Vec<u8>, script: &Script, origin: Origin) -> Result<(), AllocError>
-    ensures { OnOk result (out.new.items ≡ out.old.items ++ origin_text script.now origin) }
+// A task, by its number.
+fn task_name(out: &mut Vec<u8>, task: TaskId) -> Result<(), AllocError>
+    ensures { OnOk result (out.new.items ≡ out.old.items ++ task_name task) }
+{
+    out.extend_from_slice(b"t")?;
+    number(out, task.0)
+}
+
+// Where the task of this number comes from.
+fn origin(
+    out: &mut Vec<u8>,
+    script: &Script,
+    number_of: usize,
+    origin: Origin,
+) -> Result<(), AllocError>
+    ensures { OnOk result (out.new.items ≡ out.old.items ++ origin_text script.now number_of origin) }
 {
     match origin {
-        Origin::Root(root) => {
+        Origin::Root => {
             out.extend_from_slice(b"root ")?;
-            out.extend_from_slice(script.root_name(root))
+            out.extend_from_slice(root_name(script, number_of))
+        }
+        Origin::Child(owner, _) => {
+            out.extend_from_slice(b"child ")?;
+            task_name(out, owner)
+        }
+        Origin::Spawned(by) => {
+            out.extend_from_slice(b"spawned ")?;
+            task_name(out, by)
+        }
+        Origin::Detached(by) => {
+            out.extend_from_slice(b"detached ")?;
+            task_name(out, by)
         }
     }
 }
@@ -73,11 +100,11 @@ fn task(
 ) -> Result<(), AllocError>
     ensures { OnOk result (out.new.items ≡ out.old.items ++ task_text script.now number_of ended) }
 {
-    let (made_by, ending) = ended;
+    let (comes_from, ending) = ended;
     out.extend_from_slice(b"t")?;
     number(out, number_of)?;
     out.extend_from_slice(b" ")?;
-    origin(out, script, made_by)?;
+    origin(out, script, number_of, comes_from)?;
     out.extend_from_slice(b" ")?;
     word::ending(out, ending)?;
     out.extend_from_slice(b"\n")

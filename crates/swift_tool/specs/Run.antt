@@ -4,24 +4,20 @@ use Rattle.std.specs.declared.vec.Vec.{Vec}
 use Rattle.std.specs.declared.alloc.Global.{Global}
 use Rattle.swift_types.specs.declared.outcome.Ending.{Ending}
 use Rattle.swift_types.specs.declared.outcome.Ending.TheVariants.{Value, Fault}
-use Rattle.swift_report.specs.declared.report.Origin.{Origin}
+use Rattle.swift_events.specs.declared.life.Origin.{Origin}
 use Rattle.std.specs.Io.KnownBytes.{Appends}
 use Rattle.swift_script.specs.Accepted.{IsAccepted}
 use Rattle.swift_script.specs.Refuses.{Refuses}
 use Rattle.swift_output.specs.Part.{WritesPart}
-use Rattle.swift_one_thread.specs.Executors.{AreRootsFrom}
-use Rattle.swift_one_thread.specs.Envs.{AreRuns}
+use Rattle.swift_one_thread.specs.Leaves.{AreEndings, AreReplayed}
 use Rattle.swift_one_thread.specs.declared.fault.RunFault.{RunFault}
-use Rattle.swift_one_thread.specs.declared.fault.RunFault.TheVariants.{Workers, Memory, Unfinished}
+use Rattle.swift_one_thread.specs.declared.fault.RunFault.TheVariants.{Workers, Memory, Unfinished, Executor}
 use Rattle.swift_tool.specs.declared.fault.ToolFault.{ToolFault}
 use Rattle.swift_tool.specs.declared.fault.ToolFault.TheVariants as tool
 use Rattle.script_code.specs.Seen.{rows_of}
 use Rattle.swift_interpreter.specs.Turn.{all_hold}
 use Rattle.swift_script.specs.Scripts.{ScriptView, executor_count, executor_invariants, root_count}
 use Rattle.swift_report.specs.declared.report.Report.{Report}
-use Rattle.swift_report.specs.Lawful.{turns_of}
-use Rattle.swift_report.specs.Ended.{AreEnded}
-use Rattle.swift_report.specs.Numbered.{HaveNoGaps}
 use Rattle.swift_report.specs.Text.{report_text}
 
 -- whether each task ended with a value
@@ -38,23 +34,20 @@ abbrev pub HoldInvariants : ScriptView → ℕ → List (Vec (Vec ℤ Global) Gl
 HoldInvariants p e [] = Unit {0}
 HoldInvariants p e (rows ∷ others) = IsTrue (all_hold (executor_invariants p e) (rows_of rows.items)) × HoldInvariants p (e + 1) others
 
--- A text is that of a run of the script that these bytes spell: the turns of each executor, those that were folded too, are
--- lawful from the start values on, and each was given what belongs to its root; the turns of each task are numbered
--- without gaps; the fields are what replaying the turns gives, and each invariant holds of them; there is one ending for
--- each root, in order of declaration, and each comes from a turn of its task. `well` says whether each is a value.
+-- A text is that of a run of the script that these bytes spell. Of each executor the journal is lawful from its checkpoint on, its
+-- turns are of the executor's actors, and the fields are what replaying them gives; each invariant holds of the fields. The log
+-- says of each task where it comes from and how it has ended, and the first tasks are those of the roots, in order of declaration. `well` says
+-- whether each has ended with a value.
 pub record IsRunOf (bytes : List ℕ) (quiet : Bool) (text : List ℕ) (well : Bool) : Type 0 where
   pub script : ScriptView
   pub report : Report
   pub accepted : IsAccepted bytes script
-  pub runs : AreRuns script report.checkpoints.items report.journals.items report.fields.items
+  pub replayed : AreReplayed script 0 report.checkpoints.items report.journals.items report.fields.items
   pub journals : length report.journals.items ≡ executor_count script
   pub checkpoints : length report.checkpoints.items ≡ executor_count script
   pub fields : length report.fields.items ≡ executor_count script
   pub invariants : HoldInvariants script 0 report.fields.items
-  pub numbered : HaveNoGaps (turns_of report.checkpoints.items report.journals.items)
-  pub tasks : length report.endings.items ≡ root_count script
-  pub roots : AreRootsFrom 0 report.endings.items
-  pub turned : AreEnded (turns_of report.checkpoints.items report.journals.items) 0 report.endings.items
+  pub endings : AreEndings (root_count script) report.log.items report.endings.items
   pub ended : well ≡ end_well report.endings.items
   pub printed : text ≡ report_text script report quiet
 
@@ -72,11 +65,12 @@ pub record WritesPrefix (bytes : List ℕ) (quiet : Bool) (old new : Option (Lis
   pub part : WritesPart old new text
 
 -- Why a run of these bytes was refused: a number of workers other than 1, which is looked at first, or else, of a
--- script that is accepted, memory ran out or jobs were left.
+-- script that is accepted, memory ran out, a task was left, or an executor refused.
 abbrev pub IsRunRefusal : List ℕ → ℕ → RunFault → Type 0
 IsRunRefusal bytes workers Workers = workers ≢ 1
 IsRunRefusal bytes workers Memory = (workers ≡ 1) × ((script : ScriptView) × IsAccepted bytes script)
 IsRunRefusal bytes workers Unfinished = (workers ≡ 1) × ((script : ScriptView) × IsAccepted bytes script)
+IsRunRefusal bytes workers Executor = (workers ≡ 1) × ((script : ScriptView) × IsAccepted bytes script)
 
 -- Why no run of these bytes gave a text: the script was refused, for the stated cause, or the run was.
 abbrev pub IsRefusal : List ℕ → ℕ → ToolFault → Type 0

@@ -9,10 +9,11 @@ use crate::fault::ToolFault;
 use std::alloc::AllocGlobal;
 use std::io::Write;
 use std::random::RandomSource;
-use std::sync::Arc;
+use std::sync::{Arc, Wait};
+use swift_events::Origin;
 use swift_one_thread::{Gate, RunFault, run};
 use swift_output::write_all;
-use swift_report::{Origin, report_text};
+use swift_report::report_text;
 use swift_script::read;
 use swift_types::Ending;
 
@@ -33,7 +34,7 @@ pub fn run_text<R, G, W>(
     out: &mut W,
 ) -> Result<bool, ToolFault>
 where
-    R: RandomSource + AllocGlobal,
+    R: RandomSource + AllocGlobal + Wait,
     G: Gate + Sync,
     W: Write,
     ensures text { IfOk result (λ well. WritesRun bytes.now quiet well (W.contents out.old) (W.contents out.new)) }
@@ -56,7 +57,7 @@ fn run_to_text<R, G>(
     gate: &G,
 ) -> Result<(Vec<u8>, bool), ToolFault>
 where
-    R: RandomSource + AllocGlobal,
+    R: RandomSource + AllocGlobal + Wait,
     G: Gate + Sync,
     ensures text { IfOk result (λ r. IsRunOf bytes.now quiet r.0.items r.1) }
     ensures refused { IfErr result (IsRefusal bytes.now 1) }

@@ -40,7 +40,7 @@ use std::process::ExitCode;
 fn main(rt: HostRuntime) -> ExitCode {
     ballast::burn(&rt);
     if let Some(found) = script::read_again(&rt, script::TEXT) {
-        let _ = report::run_again(&rt, &found);
+        let _ = report::run_again(&rt, &rt, &found);
         let _ = script::print_again(&rt, script::TEXT, &found);
     }
     if let Some(found) = script::read_again(&rt, script::WORK) {

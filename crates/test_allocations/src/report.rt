@@ -1,12 +1,14 @@
-//! Whole runs, and their reports.
+//! Whole runs, and their reports. Their calls want a handle of their own, which the runtime is in `main` alone.
 
 ghost use Rattle.std.specs.Prelude.{◌≡◌, ◌↔◌, IsTrue};
 ghost use Rattle.swift_one_thread.specs.declared.fault.RunFault.TheVariants.{Memory};
 ghost use Rattle.test_allocations.specs.Want.{IsWantOfMemory};
 
-use crate::again::{Refusal, again, again_on, wrong};
+use crate::again::{Refusal, TRIES, again, refused, wrong};
 use crate::script::TEXT;
-use std::sync::Arc;
+use std::alloc::AllocGlobal;
+use std::random::RandomSource;
+use std::sync::{Arc, Wait};
 use swift_one_thread::{Open, RunFault, run};
 use swift_output::write_all;
 use swift_report::{Report, report_text};
@@ -33,39 +35,73 @@ impl Refusal for ToolFault {
     }
 }
 
-fn run_shared(rt: &HostRuntime, script: &Arc<Script>) -> Result<Report, RunFault> {
+fn run_shared<W>(wait: &W, script: &Arc<Script>) -> Result<Report, RunFault>
+where
+    W: RandomSource + AllocGlobal + Wait,
+{
     let Ok(shared) = Arc::clone(script) else {
         return Err(RunFault::Memory);
     };
-    run(rt, shared, 1, &Open)
+    run(wait, shared, 1, &Open)
+}
+
+// A run, made again where it is refused.
+fn report_again<W>(rt: &HostRuntime, wait: &W, script: &Arc<Script>) -> Option<Report>
+where
+    W: RandomSource + AllocGlobal + Wait,
+{
+    for _ in 0..TRIES {
+        match run_shared(wait, script) {
+            Ok(report) => return Some(report),
+            Err(fault) => refused(rt, "run", fault.is_want_of_memory()),
+        }
+    }
+    wrong(rt, "run");
+    None
 }
 
 /// Runs a script, makes the text of its report in two ways, and writes it.
-pub fn run_again(rt: &HostRuntime, script: &Arc<Script>) -> Option<()> {
-    let report = again(rt, "run", || run_shared(rt, script))?;
+pub fn run_again<W>(rt: &HostRuntime, wait: &W, script: &Arc<Script>) -> Option<()>
+where
+    W: RandomSource + AllocGlobal + Wait,
+{
+    let report = report_again(rt, wait, script)?;
     let text = again(rt, "report_text", || {
         report_text(rt.alloc(), script, &report, false)
     })?;
-    text_again(rt, &text)?;
+    text_again(rt, wait, &text)?;
     write_all(&mut rt.stdout(), &text).ok()
 }
 
 // Goes from the script's text to the report's in one call, and compares with the text that was made step by step.
 // There is room for it, so that no write is refused.
-fn text_again(rt: &HostRuntime, text: &[u8]) -> Option<()> {
+fn text_again<W>(rt: &HostRuntime, wait: &W, text: &[u8]) -> Option<()>
+where
+    W: RandomSource + AllocGlobal + Wait,
+{
     let alloc = rt.alloc();
     let mut out = again(rt, "room for a text", || {
         Vec::with_capacity(alloc, text.len())
     })?;
-    let is_well = again_on(
-        rt,
-        "run_text",
-        &mut out,
-        |out| out.len(),
-        |out| run_text(rt, TEXT.as_bytes(), 1, false, &Open, out),
-    )?;
+    let is_well = run_text_again(rt, wait, &mut out)?;
     if is_well || out.as_slice() != text {
         wrong(rt, "run_text");
     }
     Some(())
+}
+
+// Runs the script's text, again where that is refused; a refusal has to leave the text that was written as it was.
+fn run_text_again<W>(rt: &HostRuntime, wait: &W, out: &mut Vec<u8>) -> Option<bool>
+where
+    W: RandomSource + AllocGlobal + Wait,
+{
+    for _ in 0..TRIES {
+        let before = out.len();
+        match run_text(wait, TEXT.as_bytes(), 1, false, &Open, out) {
+            Ok(is_well) => return Some(is_well),
+            Err(fault) => refused(rt, "run_text", fault.is_want_of_memory() && out.len() == before),
+        }
+    }
+    wrong(rt, "run_text");
+    None
 }

@@ -2,9 +2,11 @@
 
 use crate::escapes::expand;
 use crate::fault::CaseFault;
-use std::alloc::Global;
+use std::alloc::{AllocGlobal, Global};
 use std::io;
 use std::io::{Error, ErrorKind, Read, Write};
+use std::random::RandomSource;
+use std::sync::Wait;
 use swift_one_thread::Open;
 use swift_output::write_all;
 use swift_tool::{ToolFault, read_input, run_text};
@@ -72,12 +74,15 @@ fn wrote(device: &mut SlowDevice, text: &[u8]) -> Result<bool, ToolFault> {
 }
 
 /// The text of the first line on each of the devices of the other lines: written, or run where it is a script's.
-pub fn slow(
-    rt: &HostRuntime,
+pub fn slow<R>(
+    rt: &R,
     table: &str,
     is_run: bool,
     out: &mut Vec<u8>,
-) -> Result<(), CaseFault> {
+) -> Result<(), CaseFault>
+where
+    R: RandomSource + AllocGlobal + Wait,
+{
     let Some((text, rows)) = table.split_once('\n') else {
         return Err(CaseFault::Form);
     };

@@ -24,8 +24,7 @@
 //! - `input`: how many bytes the program takes of a text; `failing`: what it says of a device that gives one byte and
 //!   then fails.
 //! - `moments`: how often a gate is told of a token, and of a turn of task 1 on executor 0.
-//! - `faults`: what the program says of each fault of its own; `endings`: the report of tasks that ended with faults
-//!   that no script reaches.
+//! - `faults`: what the program says of each fault of its own.
 //!
 //! What is accepted is printed, and has to be read again.
 //!
@@ -38,7 +37,7 @@ mod devices;
 mod escapes;
 // Why a case has no answer.
 mod fault;
-// The words of faults that no script reaches.
+// The words of faults that the program says.
 mod faults;
 // What a gate is given of a run.
 mod moments;
@@ -55,8 +54,11 @@ mod tally;
 
 use crate::escapes::expand;
 use crate::fault::CaseFault;
+use std::alloc::AllocGlobal;
 use std::io;
 use std::io::Write;
+use std::random::RandomSource;
+use std::sync::Wait;
 use swift_output::write_all;
 
 fn main(rt: HostRuntime) -> Result<(), CaseFault> {
@@ -72,7 +74,10 @@ fn main(rt: HostRuntime) -> Result<(), CaseFault> {
 }
 
 // What is written for a case.
-fn answered(rt: &HostRuntime, case: &str) -> Result<Vec<u8>, CaseFault> {
+fn answered<R>(rt: &R, case: &str) -> Result<Vec<u8>, CaseFault>
+where
+    R: RandomSource + AllocGlobal + Wait,
+{
     let (head, text) = case.split_once('\n').unwrap_or((case, ""));
     let Some((kind, title)) = head.split_once(' ') else {
         return Err(CaseFault::Form);
@@ -84,7 +89,10 @@ fn answered(rt: &HostRuntime, case: &str) -> Result<Vec<u8>, CaseFault> {
 }
 
 // What is said of a text in a case of this kind.
-fn answer(rt: &HostRuntime, kind: &str, text: &str, out: &mut Vec<u8>) -> Result<(), CaseFault> {
+fn answer<R>(rt: &R, kind: &str, text: &str, out: &mut Vec<u8>) -> Result<(), CaseFault>
+where
+    R: RandomSource + AllocGlobal + Wait,
+{
     let alloc = rt.alloc();
     match kind {
         "rows" => reading::rows(alloc, text, out),
@@ -99,12 +107,15 @@ fn answer(rt: &HostRuntime, kind: &str, text: &str, out: &mut Vec<u8>) -> Result
 }
 
 // What is said of one text.
-fn answer_whole(
-    rt: &HostRuntime,
+fn answer_whole<R>(
+    rt: &R,
     kind: &str,
     text: &[u8],
     out: &mut Vec<u8>,
-) -> Result<(), CaseFault> {
+) -> Result<(), CaseFault>
+where
+    R: RandomSource + AllocGlobal + Wait,
+{
     let alloc = rt.alloc();
     match kind {
         "read" => reading::read_text(alloc, text, out),
@@ -116,7 +127,6 @@ fn answer_whole(
         "quiet" => running::run_text_to(rt, text, true, out),
         "input" => devices::input(alloc, text, out),
         "moments" => moments::moments(rt, text, out),
-        "endings" => faults::endings(alloc, text, out),
         _ => Err(CaseFault::Form),
     }
 }

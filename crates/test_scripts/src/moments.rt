@@ -1,7 +1,10 @@
 //! What a gate is given of a run.
 
 use crate::fault::CaseFault;
+use std::alloc::AllocGlobal;
 use std::io::Write;
+use std::random::RandomSource;
+use std::sync::Wait;
 use std::sync::atomic::{AtomicU32, Ordering};
 use swift_one_thread::{Gate, Moment};
 use swift_tool::run_text;
@@ -17,15 +20,18 @@ struct Counting {
 impl Gate for Counting {
     fn at(&self, moment: Moment) {
         let _ = match moment {
-            Moment::Took(_) => self.taken.fetch_add(1, Ordering::SeqCst),
-            Moment::Turned(ExecId(0), TaskId(1)) => self.turns.fetch_add(1, Ordering::SeqCst),
-            Moment::Turned(_, _) => 0,
+            Moment::Took(_, _) => self.taken.fetch_add(1, Ordering::SeqCst),
+            Moment::Turned(ExecId(0), _, TaskId(1)) => self.turns.fetch_add(1, Ordering::SeqCst),
+            _ => 0,
         };
     }
 }
 
 /// How often a gate was told of a token, and of a turn of task 1 on executor 0.
-pub fn moments(rt: &HostRuntime, text: &[u8], out: &mut Vec<u8>) -> Result<(), CaseFault> {
+pub fn moments<R>(rt: &R, text: &[u8], out: &mut Vec<u8>) -> Result<(), CaseFault>
+where
+    R: RandomSource + AllocGlobal + Wait,
+{
     let gate = Counting {
         taken: AtomicU32::new(0),
         turns: AtomicU32::new(0),

@@ -1,10 +1,10 @@
-use Rattle.std.proofs.Common.{◌≡◌, map}
-use Rattle.swift_one_thread.specs.Executors.{checkpoint_of, fields_of, journal_of}
+use Rattle.std.proofs.Common.{◌≡◌, List, ◌++◌, length}
+use Rattle.swift_script.specs.Scripts.{ScriptView}
+use Rattle.swift_executor.specs.Exec.{ExecIs}
+use Rattle.swift_one_thread.specs.Crew.{AreAtSites}
+use Rattle.swift_one_thread.specs.PartsInside.{AreParts}
 use Rattle.swift_one_thread.proofs.leave.parts_of.Given as goal
 
-abbrev pub invariant-loop-executor : goal.invariant-loop-executor
-invariant-loop-executor l = record {
-  journals : l.journals.items ≡ map journal_of l.yielded;
-  checkpoints : l.checkpoints.items ≡ map checkpoint_of l.yielded;
-  fields : l.all.items ≡ map fields_of l.yielded;
-}
+-- the executors that were closed are the first ones of those that were given
+abbrev pub invariant-loop-exec : goal.invariant-loop-exec
+invariant-loop-exec g l = (p : ScriptView) (rest all : List ExecIs) → AreAtSites p all → l.yielded ++ rest ≡ all → AreParts p (length l.yielded) l.parts

@@ -2,7 +2,7 @@ use Rattle.std.proofs.Common.{◌≡◌, ap, subst, ◌∙◌}
 use Rattle.std.specs.Arc.{arc_value}
 use Rattle.swift_script.specs.Scripts.{ScriptView, executor_count, root_count}
 use Rattle.swift_report.specs.Lawful.{KeepInvariants}
-use Rattle.swift_one_thread.specs.Envs.{AreRuns}
+use Rattle.swift_one_thread.specs.Leaves.{AreEndings, AreReplayed}
 use Rattle.swift_report.specs.Text.{report_text}
 use Rattle.swift_tool.specs.Run.{end_well}
 use Rattle.swift_tool.proofs.Invariants.{invariants_hold}
@@ -18,15 +18,12 @@ returns-clause-text g c =
       script = c.in_ok-found.found;
       report = c.in_ok-report.report;
       accepted = c.in_ok-found.ensures.found;
-      runs = subst (λ (p : ScriptView). AreRuns p c.in_ok-report.report.checkpoints.items c.in_ok-report.report.journals.items c.in_ok-report.report.fields.items) same c.in_ok-report.ensures.lawful;
+      replayed = subst (λ (p : ScriptView). AreReplayed p 0 c.in_ok-report.report.checkpoints.items c.in_ok-report.report.journals.items c.in_ok-report.report.fields.items) same c.in_ok-report.ensures.lawful;
       journals = c.in_ok-report.ensures.journals ∙ ap executor_count same;
       checkpoints = c.in_ok-report.ensures.checkpoints ∙ ap executor_count same;
       fields = c.in_ok-report.ensures.fields ∙ ap executor_count same;
       invariants = invariants_hold c.in_ok-found.found c.in_ok-report.report.fields.items c.facts.ensures.starts (subst (λ (p : ScriptView). KeepInvariants p 0 c.in_ok-report.report.fields.items) same c.in_ok-report.ensures.invariants);
-      numbered = c.in_ok-report.ensures.numbered;
-      tasks = c.in_ok-report.ensures.tasks ∙ ap root_count same;
-      roots = c.in_ok-report.ensures.roots;
-      turned = c.in_ok-report.ensures.ended;
+      endings = subst (λ (p : ScriptView). AreEndings (root_count p) c.in_ok-report.report.log.items c.in_ok-report.report.endings.items) same c.in_ok-report.ensures.endings;
       ended = c.all_ended_well-is_well.ensures ∙ ap end_well c.deref-2.ensures.value;
       printed = c.in_ok-text.ensures ∙ ap (λ (p : ScriptView). report_text p c.in_ok-report.report c.args.quiet) (lent ∙ made);
     }

@@ -1,0 +1,14 @@
+use Rattle.std.proofs.Common.{vec_len}
+use Rattle.std.specs.List.{AllByRecursion}
+use Rattle.swift_tasks.specs.Books.{IsJobOf}
+use Rattle.swift_one_thread.specs.Crew.{AreDesksOf}
+use Rattle.swift_one_thread.proofs.sending.send_all.Given as goal
+
+abbrev pub invariant-loop-job : goal.invariant-loop-job
+invariant-loop-job g l = record {
+  desks : AreDesksOf l.execs l.hand.desks.items;
+  jobs : AllByRecursion (IsJobOf l.script) l.jobs.items;
+}
+
+abbrev pub decreases-loop-job : goal.decreases-loop-job
+decreases-loop-job g l = vec_len l.jobs

@@ -1,0 +1,127 @@
+//! Jobs on their way to executors.
+
+ghost use Rattle.std.specs.Prelude.{◌≡◌, [], OnOk};
+ghost use Rattle.std.specs.List.{AllByRecursion};
+ghost use Rattle.swift_tasks.specs.Books.{IsJobOf};
+ghost use Rattle.swift_one_thread.specs.Crew.{AreAtSites, AreDesksOf};
+
+use crate::crew::Hand;
+use crate::fault::Halt;
+use std::sync::Wait;
+use swift_executor::{Desk, Exec, Gate};
+use swift_queue::Job;
+use swift_script::Script;
+use swift_tasks::Book;
+use swift_turn::Body;
+use swift_types::{ExecId, RootId};
+use swift_word::Was;
+
+/// Gives a job up, with the task that it would go on with.
+pub fn give_up(job: Job<Body>) {
+    let (_task, _number, _resume, _body) = job.spend();
+}
+
+/// Gives all of these jobs up.
+pub fn give_all_up(mut jobs: Vec<Job<Body>>) {
+    while let Some(job) = jobs.pop() {
+        give_up(job);
+    }
+    jobs.destroy_empty();
+}
+
+// Puts a job into the inbox of the executor of its actor. A job that is refused is given up.
+fn put<R: Wait, G: Gate>(
+    rt: &R,
+    script: &Script,
+    execs: &[Exec],
+    desks: &mut Vec<Desk>,
+    job: Job<Body>,
+    gate: &G,
+) -> Result<(ExecId, Was), Halt>
+    requires sites { AreAtSites script.now execs.now }
+    requires desks { AreDesksOf execs.now desks.old.items }
+    requires job { IsJobOf script.now job }
+    ensures desks { AreDesksOf execs.now desks.new.items }
+{
+    let on = script.actor_executor(job.body().actor());
+    let place = on.0 as usize;
+    if place >= execs.len() {
+        // Each actor has one of these executors.
+        give_up(job);
+        return Err(Halt::Executor);
+    }
+    let exec = &execs[place];
+    let desk = &mut desks[place];
+    match exec.enqueue(rt, desk, job, gate) {
+        Ok(was) => Ok((on, was)),
+        Err((job, fault)) => {
+            give_up(job);
+            Err(Halt::from(fault))
+        }
+    }
+}
+
+// Sends a job to the executor of its actor. Where that was idle, its token goes behind the others.
+fn send<R: Wait, G: Gate>(
+    rt: &R,
+    script: &Script,
+    execs: &[Exec],
+    hand: &mut Hand,
+    job: Job<Body>,
+    gate: &G,
+) -> Result<(), Halt>
+    requires sites { AreAtSites script.now execs.now }
+    requires desks { AreDesksOf execs.now hand.old.desks.items }
+    requires job { IsJobOf script.now job }
+    ensures desks { AreDesksOf execs.now hand.new.desks.items }
+{
+    let (on, was) = put(rt, script, execs, &mut hand.desks, job, gate)?;
+    if was == Was::Idle {
+        hand.tokens.push_back(on)?;
+    }
+    Ok(())
+}
+
+/// Sends each of these jobs to the executor of its actor, in order. After a refusal those that are left stand in the list.
+pub fn send_all<R: Wait, G: Gate>(
+    rt: &R,
+    script: &Script,
+    execs: &[Exec],
+    hand: &mut Hand,
+    jobs: &mut Vec<Job<Body>>,
+    gate: &G,
+) -> Result<(), Halt>
+    requires sites { AreAtSites script.now execs.now }
+    requires desks { AreDesksOf execs.now hand.old.desks.items }
+    requires jobs { AllByRecursion (IsJobOf script.now) jobs.old.items }
+    ensures desks { AreDesksOf execs.now hand.new.desks.items }
+    ensures sent { OnOk result (jobs.new.items ≡ []) }
+{
+    jobs.reverse();
+    while let Some(job) = jobs.pop() {
+        send(rt, script, execs, hand, job, gate)?;
+    }
+    Ok(())
+}
+
+/// Adds each root to a book that has none, in order of declaration, and sends its first job.
+pub fn start_roots<R: Wait, G: Gate>(
+    rt: &R,
+    script: &Script,
+    execs: &[Exec],
+    hand: &mut Hand,
+    book: &mut Book,
+    gate: &G,
+) -> Result<(), Halt>
+    requires sites { AreAtSites script.now execs.now }
+    requires desks { AreDesksOf execs.now hand.old.desks.items }
+    requires book { book.old.script ≡ script.now }
+    ensures desks { AreDesksOf execs.now hand.new.desks.items }
+{
+    script.facts();
+    for place in 0..script.root_count() {
+        let job = book.add_root(RootId(place as u32))?;
+        send(rt, script, execs, hand, job, gate)?;
+    }
+    Ok(())
+}
