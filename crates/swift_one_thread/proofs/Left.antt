@@ -57,7 +57,7 @@ pub parts_push : (p : ScriptView) (many : ℕ) (old new : Parts) (s : ExecView) 
 parts_push p many old new s c f are site is keeps checkpoint fields cs js fs =
     let script : s.script ≡ p = ap (λ (x : Site). x.script) site in
     let executor : s.executor ≡ many = ap (λ (x : Site). x.executor) site in
-    let own : IsReplayed s.script s.executor s.checkpoint s.journal s.fields = record { lawful = is.lawful; runs = is.runs; replayed = is.replayed } in
+    let own : IsReplayed s.script s.executor s.checkpoint s.journal s.fields = record { past = is.past; lawful = is.lawful; runs = is.runs; replayed = is.replayed } in
     let of_script : IsReplayed p s.executor s.checkpoint s.journal s.fields = subst (λ (x : ScriptView). IsReplayed x s.executor s.checkpoint s.journal s.fields) script own in
     let at_place : IsReplayed p (0 + length old.checkpoints.items) s.checkpoint s.journal s.fields = subst (λ n. IsReplayed p n s.checkpoint s.journal s.fields) (executor ∙ sym are.checkpoints ∙ zero_more (length old.checkpoints.items)) of_script in
     let with_view : IsReplayed p (0 + length old.checkpoints.items) c.view s.journal s.fields = subst (λ (x : CheckpointView). IsReplayed p (0 + length old.checkpoints.items) x s.journal s.fields) (sym checkpoint) at_place in

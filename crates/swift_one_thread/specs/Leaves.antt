@@ -14,10 +14,12 @@ use Rattle.swift_events.specs.declared.life.Origin.{Origin}
 use Rattle.swift_events.specs.declared.life.Origin.TheVariants.{Root}
 use Rattle.swift_events.specs.Events.{tasks_of}
 use Rattle.swift_events.specs.Lives.{life_of}
+use Rattle.swift_executor.specs.State.{HasPast}
 
--- An executor's journal is lawful from its checkpoint on, its turns are of the executor's actors, and replaying them gives these
--- fields.
+-- The turns of an executor's checkpoint were lawful from the start values on (`HasPast`), its journal is lawful from the checkpoint
+-- on, its turns are of the executor's actors, and replaying them gives these fields.
 pub record IsReplayed (p : ScriptView) (e : ℕ) (c : CheckpointView) (journal : List RecordView) (fields : List (List ℤ)) : Type 0 where
+  pub past : HasPast p e c
   pub lawful : AreLawful p c.fields journal
   pub runs : RunOn p e journal
   pub replayed : fields ≡ replay p c.fields journal
