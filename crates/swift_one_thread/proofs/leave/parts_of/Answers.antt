@@ -26,6 +26,6 @@ returns g c = λ p at.
     (let ys = c.loop-exec.yielded in
     let gives = c.into_iter-exec-iterator.ensures.into_iter_gives in
     let road = YieldsList-from_vec {s = c.into_iter-exec-iterator.result} c.args.execs.items gives.0 (gives.1 ∙ c.args.execs.ok.0) in
-    let seen = YieldsList-end road ys _ c.loop-exec.yielded_by _ _ c.in-None.is c.next.ensures.steps in
+    let seen = YieldsList-end road ys c.loop-exec.exec-iterator c.loop-exec.yielded_by c.next.result c.next.new.self c.in-None.is c.next.ensures.steps in
     let whole : ys ≡ c.args.execs.items = sym (map_same ys) ∙ seen.0 in
     subst (λ (xs : List ExecIs). AreParts p (length xs) c.loop-exec.parts) whole (c.loop-exec.invariant p [] c.args.execs.items at (append-nil ys ∙ whole)))
