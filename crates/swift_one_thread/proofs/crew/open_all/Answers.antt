@@ -1,4 +1,4 @@
-use Rattle.std.proofs.Common.{◌≡◌, ℕ, List, length, refl, sym, subst, ap, ◌∙◌}
+use Rattle.std.proofs.Common.{◌≡◌, ℕ, List, [], ◌∷◌, ◌++◌, length, refl, sym, subst, ap, ◌∙◌}
 use Rattle.std.specs.Arc.{arc_value}
 use Rattle.swift_script.specs.Scripts.{ScriptView}
 use Rattle.swift_inbox.specs.Site.{Site}
@@ -21,7 +21,7 @@ loop-place-preserved c =
     let both = desk_push execs desks e d c.loop-place.invariant.desks desk in
     record {
       sites = subst (λ (xs : List ExecIs). AreAtSites p xs) (sym c.in_ok-push.ensures.items) (site_push p execs e c.loop-place.invariant.sites site);
-      desks = subst (λ (xs : List ExecIs). AreDesksOf xs c.push-in-loop-place.new.self.items) (sym c.in_ok-push.ensures.items) (subst (λ (xs : List DeskIs). AreDesksOf _ xs) (sym c.in_ok-push-2.ensures.items) both);
+      desks = subst (λ (xs : List ExecIs). AreDesksOf xs c.push-in-loop-place.new.self.items) (sym c.in_ok-push.ensures.items) (subst (λ (xs : List DeskIs). AreDesksOf (execs ++ e ∷ []) xs) (sym c.in_ok-push-2.ensures.items) both);
       many = ap length c.in_ok-push.ensures.items ∙ one_longer execs e c.loop-place.place c.loop-place.invariant.many;
       end = c.loop-place.invariant.end;
     }

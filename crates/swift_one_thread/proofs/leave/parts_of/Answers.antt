@@ -1,10 +1,16 @@
-use Rattle.std.proofs.Common.{rules, ◌≡◌, ℕ, ◌+◌, [], ◌∷◌, ◌++◌, List, length, refl, sym, subst, ap, ◌∙◌, append_assoc}
+use Rattle.std.proofs.Common.{◌≡◌, ℕ, ◌+◌, [], ◌∷◌, ◌++◌, List, length, map, refl, sym, subst, ap, ◌∙◌, append_assoc}
 use Rattle.std.proofs.lemmas.List.{append-nil}
+use Rattle.std.proofs.lemmas.Iterator.Adapters.{YieldsList-from_vec}
+use Rattle.std.proofs.lemmas.Iterator.Consumers.{YieldsList-end}
 use Rattle.swift_executor.specs.Exec.{ExecIs}
 use Rattle.swift_one_thread.specs.PartsInside.{AreParts}
 use Rattle.swift_one_thread.proofs.Desks.{site_after}
 use Rattle.swift_one_thread.proofs.Left.{one_longer}
 use Rattle.swift_one_thread.proofs.leave.parts_of.Goals as goal
+
+map_same : (xs : List ExecIs) → map (λ x. x) xs ≡ xs
+map_same [] = refl
+map_same (x ∷ xs) = ap (λ ys. x ∷ ys) (map_same xs)
 
 pub loop-exec-preserved : goal.loop-exec-preserved
 loop-exec-preserved g c = λ p rest all at is.
@@ -18,5 +24,8 @@ loop-exec-preserved g c = λ p rest all at is.
 pub returns : goal.returns
 returns g c = λ p at.
     (let ys = c.loop-exec.yielded in
-    let whole : ys ≡ c.args.execs.items = search rules in
+    let gives = c.into_iter-exec-iterator.ensures.into_iter_gives in
+    let road = YieldsList-from_vec {s = c.into_iter-exec-iterator.result} c.args.execs.items gives.0 (gives.1 ∙ c.args.execs.ok.0) in
+    let seen = YieldsList-end road ys c.loop-exec.exec-iterator c.loop-exec.yielded_by c.next.result c.next.new.self c.in-None.is c.next.ensures.steps in
+    let whole : ys ≡ c.args.execs.items = sym (map_same ys) ∙ seen.0 in
     subst (λ (xs : List ExecIs). AreParts p (length xs) c.loop-exec.parts) whole (c.loop-exec.invariant p [] c.args.execs.items at (append-nil ys ∙ whole)))
