@@ -1,5 +1,5 @@
 -- One executor more, and one task more, of what a run leaves.
-use Rattle.std.proofs.Common.{◌≡◌, ℕ, zero, suc, ◌+◌, ℤ, IsTrue, Some, List, [], ◌∷◌, ◌++◌, length, refl, sym, subst, ap, ◌∙◌, arith, add-zero, length-append}
+use Rattle.std.proofs.Common.{◌≡◌, ℕ, suc, ◌+◌, ℤ, IsTrue, Some, List, [], ◌∷◌, ◌++◌, length, sym, subst, ap, ◌∙◌, arith, add-zero, length-append}
 use Rattle.std.specs.Prelude.{Contains}
 use Rattle.std.specs.declared.vec.Vec.{Vec}
 use Rattle.std.specs.declared.alloc.Global.{Global}

@@ -1,4 +1,4 @@
-use Rattle.std.proofs.Common.{◌≡◌, ℕ, ◌+◌, List, length, sym, subst, ap, ◌∙◌, arith}
+use Rattle.std.proofs.Common.{◌≡◌, ◌+◌, List, length, sym, subst, ap, ◌∙◌, arith}
 use Rattle.swift_types.specs.declared.outcome.Ending.{Ending}
 use Rattle.swift_script.specs.Scripts.{root_count}
 use Rattle.swift_events.specs.declared.life.Origin.{Origin}

@@ -1,4 +1,4 @@
-use Rattle.std.proofs.Common.{◌≡◌, List, [], ◌∷◌, ◌++◌, ap, ◌∙◌}
+use Rattle.std.proofs.Common.{List, [], ◌∷◌, ◌++◌, ap, ◌∙◌}
 use Rattle.swift_journal.specs.Records.{RecordView}
 use Rattle.swift_one_thread.proofs.Left.{parts_push}
 use Rattle.swift_one_thread.proofs.leave.note_state.Goals as goal

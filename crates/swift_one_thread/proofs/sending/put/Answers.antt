@@ -1,4 +1,4 @@
-use Rattle.std.proofs.Common.{◌≡◌, sym, subst, length, ◌<◌, arith}
+use Rattle.std.proofs.Common.{sym, subst, length, ◌<◌, arith}
 use Rattle.swift_executor.specs.Exec.{DeskIs, IsDeskOf}
 use Rattle.swift_one_thread.proofs.Desks.{desk_at, desk_set}
 use Rattle.swift_one_thread.proofs.sending.put.Goals as goal

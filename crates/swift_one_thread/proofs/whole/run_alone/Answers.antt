@@ -1,4 +1,4 @@
-use Rattle.std.proofs.Common.{◌≡◌, sym, subst}
+use Rattle.std.proofs.Common.{sym, subst}
 use Rattle.swift_script.specs.Scripts.{ScriptView}
 use Rattle.swift_one_thread.specs.Crew.{AreAtSites}
 use Rattle.swift_one_thread.proofs.whole.run_alone.Goals as goal
