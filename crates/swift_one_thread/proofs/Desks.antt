@@ -76,7 +76,7 @@ pub site_push : (p : ScriptView) (execs : List ExecIs) (e : ExecIs) → AreAtSit
 site_push p execs e are is =
     let to : (n : ℕ) → 0 + n ≡ n = λ n. omega arith in
     λ k f at. subst (λ n. f.inbox.site ≡ record { script = p; executor = n }) (to k)
-      (sites_from p 0 execs e (λ i g there. subst (λ n. g.inbox.site ≡ record { script = p; executor = n }) (sym (to i)) (are i g there)) (subst (λ n. e.inbox.site ≡ record { script = p; executor = n }) (sym (to (length execs))) is) k f at)
+    (sites_from p 0 execs e (λ i g there. subst (λ n. g.inbox.site ≡ record { script = p; executor = n }) (sym (to i)) (are i g there)) (subst (λ n. e.inbox.site ≡ record { script = p; executor = n }) (sym (to (length execs))) is) k f at)
 
 at_end : (xs rest : List ExecIs) (e : ExecIs) → slice_get (xs ++ e ∷ rest) (length xs) ≡ Some e
 at_end [] rest e = refl
