@@ -99,7 +99,11 @@ where
         let before = out.len();
         match run_text(wait, TEXT.as_bytes(), 1, false, &Open, out) {
             Ok(is_well) => return Some(is_well),
-            Err(fault) => refused(rt, "run_text", fault.is_want_of_memory() && out.len() == before),
+            Err(fault) => refused(
+                rt,
+                "run_text",
+                fault.is_want_of_memory() && out.len() == before,
+            ),
         }
     }
     wrong(rt, "run_text");

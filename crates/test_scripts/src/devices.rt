@@ -74,12 +74,7 @@ fn wrote(device: &mut SlowDevice, text: &[u8]) -> Result<bool, ToolFault> {
 }
 
 /// The text of the first line on each of the devices of the other lines: written, or run where it is a script's.
-pub fn slow<R>(
-    rt: &R,
-    table: &str,
-    is_run: bool,
-    out: &mut Vec<u8>,
-) -> Result<(), CaseFault>
+pub fn slow<R>(rt: &R, table: &str, is_run: bool, out: &mut Vec<u8>) -> Result<(), CaseFault>
 where
     R: RandomSource + AllocGlobal + Wait,
 {

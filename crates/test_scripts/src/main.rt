@@ -107,12 +107,7 @@ where
 }
 
 // What is said of one text.
-fn answer_whole<R>(
-    rt: &R,
-    kind: &str,
-    text: &[u8],
-    out: &mut Vec<u8>,
-) -> Result<(), CaseFault>
+fn answer_whole<R>(rt: &R, kind: &str, text: &[u8], out: &mut Vec<u8>) -> Result<(), CaseFault>
 where
     R: RandomSource + AllocGlobal + Wait,
 {

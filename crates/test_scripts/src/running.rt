@@ -9,12 +9,7 @@ use swift_one_thread::Open;
 use swift_tool::{ProgramFault, run_text, status};
 
 /// What the program writes for this script, on both its devices, and its status.
-pub fn run_text_to<R>(
-    rt: &R,
-    text: &[u8],
-    quiet: bool,
-    out: &mut Vec<u8>,
-) -> Result<(), CaseFault>
+pub fn run_text_to<R>(rt: &R, text: &[u8], quiet: bool, out: &mut Vec<u8>) -> Result<(), CaseFault>
 where
     R: RandomSource + AllocGlobal + Wait,
 {
