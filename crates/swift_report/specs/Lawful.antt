@@ -1,6 +1,6 @@
 -- When the journals, the checkpoints and the fields of a report are lawful (SE-0392 for executors that run one job at a
 -- time; the rest is our own).
-use Rattle.std.specs.Prelude.{◌≡◌, ℕ, ◌+◌, ◌<◌, ◌≤◌, ℤ, IsTrue, List, [], ◌∷◌, ◌++◌, Some, Contains, map}
+use Rattle.std.specs.Prelude.{◌≡◌, ℕ, ◌+◌, ◌<◌, ◌≤◌, ℤ, IsTrue, List, [], ◌∷◌, Some, Contains, map}
 use Rattle.std.specs.List.{AllByRecursion}
 use Rattle.std.specs.declared.vec.Vec.{Vec}
 use Rattle.std.specs.declared.alloc.Global.{Global}
@@ -11,7 +11,7 @@ use Rattle.script_code.specs.Seen.{rows_of}
 use Rattle.script_code.specs.Tree.{Term}
 use Rattle.script_code.specs.Value.{holds}
 use Rattle.swift_script.specs.Scripts.{ScriptView, actor_executor, executor_invariants, executor_start, method_actor, method_count}
-use Rattle.swift_journal.specs.Checkpoints.{CheckpointRoom, CheckpointView, FoldedView, folded_of}
+use Rattle.swift_journal.specs.Checkpoints.{CheckpointRoom, CheckpointView, folded_of}
 use Rattle.swift_journal.specs.Records.{RecordView}
 use Rattle.swift_journal.specs.Replay.{AreLawful, replay}
 
@@ -39,15 +39,6 @@ AreAllLawful p e [] [] [] [] = Unit {0}
 AreAllLawful p e (past ∷ pasts) (c ∷ checkpoints) (journal ∷ journals) (fields ∷ others) =
     IsLawful p e past c.view journal (rows_of fields.items) × AreAllLawful p (e + 1) pasts checkpoints journals others
 AreAllLawful p e _ _ _ _ = ⊥
-
--- the turns of an executor: those of its checkpoint, and those of its journal
-abbrev pub all_turns : CheckpointView → List RecordView → List FoldedView
-all_turns c journal = c.folded ++ map folded_of journal
-
--- the turns of each executor
-abbrev pub turns_of : List CheckpointRoom → List (List RecordView) → List (List FoldedView)
-turns_of (c ∷ cs) (j ∷ js) = all_turns c.view j ∷ turns_of cs js
-turns_of _ _ = []
 
 -- Of each executor from a number on: each invariant of its actors that holds of what their fields start with holds of
 -- these.

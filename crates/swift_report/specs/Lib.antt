@@ -1,4 +1,2 @@
-pub mod Ended
 pub mod Lawful
-pub mod Numbered
 pub mod Text
