@@ -37,7 +37,7 @@ examples: $(PROGRAM)
 	done
 
 # More allocations than a run of test_allocations makes.
-ALLOCATIONS = 4300
+ALLOCATIONS = 5000
 
 # Runs test_allocations once for each STEP-th of its allocations, with that one refused, and compares what it writes with
 # its file stdout. A run's file has the number of allocations that are made and given back first; the run of the file 0

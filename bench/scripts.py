@@ -81,7 +81,7 @@ actor Group {
         let value = 0;
         let sum = 0;
         group g {
-            while i < 1000 {
+            while i < 900 {
                 i = i + 1;
                 made = made + 1;
                 add g Group.child(i);
@@ -174,7 +174,7 @@ SCRIPTS = {
     "spin": (COUNTER + roots(1000, "Counter.spin(990)"), None),
     # The same, with 16 jobs ready at each of 64 executors.
     "sixteen": (sixteen(), None),
-    # A group of 1,000 children.
+    # A group of 900 children, by a task that takes 964 turns.
     "group": (GROUP + roots(1, "Group.parent()"), None),
     "executors": (executors(), None),
     # Each task awaits a method of another actor 490 times.
