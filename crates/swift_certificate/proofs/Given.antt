@@ -1,0 +1,84 @@
+-- What the next turn of each task begins with, when a job comes or goes.
+use Rattle.std.proofs.Common.{◌≡◌, ◌≢◌, ℕ, List, [], ◌∷◌, ◌++◌, map, reverse, refl, sym, ap, ◌∙◌, true, false, arith, inl, inr}
+use Rattle.std.specs.Prelude.{Option, Some, None, if◌then◌else◌, ◌==◌}
+use Rattle.std.proofs.lemmas.Bool.{cases_eq}
+use Rattle.std.proofs.lemmas.Bool.Decides.{nat_tests}
+use Rattle.std.proofs.lemmas.Option.{none-some}
+use Rattle.std.proofs.lemmas.List.{reverse-append}
+use Rattle.swift_types.specs.declared.id.TaskId.{TaskId}
+use Rattle.swift_queue.specs.Job.{JobIs}
+use Rattle.swift_turn.specs.Body.{BodyView}
+use Rattle.swift_tasks.specs.Books.{job_view}
+use Rattle.swift_history.specs.Histories.{taken, with_jobs}
+use Rattle.swift_history.specs.TurnEnds.{JobView}
+use Rattle.swift_certificate.specs.declared.waiting.Ready.{Ready}
+use Rattle.swift_certificate.proofs.Blocks.{same_one}
+use Rattle.swift_certificate.specs.ReplayInside.{AreGiven, given_at, given_view, with_given}
+
+pub equal : (a b : ℕ) → a ≡ b → (a == b) ≡ true
+equal a b is = grind (arith, nat_tests)
+
+pub unequal : (a b : ℕ) → a ≢ b → (a == b) ≡ false
+unequal a b ne = grind (arith, nat_tests)
+
+-- a job is put to the others
+pub given_put : (seen : ℕ → Option JobView) (tasks tasks' : List (Option Ready)) (t : ℕ) (g : Ready)
+    → AreGiven seen tasks → ((u : ℕ) → given_at tasks' u ≡ with_given t (Some g) (given_at tasks) u)
+    → AreGiven (λ u. if u == t then Some (given_view t g) else seen u) tasks'
+given_put seen tasks tasks' t g given put u h is = elim (cases_eq u t) [
+  | inl e ↦
+      let here : with_given t (Some g) (given_at tasks) u ≡ Some g = ap (λ b. if b then Some g else given_at tasks u) (equal u t e) in
+      let same : g ≡ h = same_one g h (sym here ∙ sym (put u) ∙ is) in
+      ap (λ b. if b then Some (given_view t g) else seen u) (equal u t e) ∙ ap (λ v. Some (given_view v g)) (sym e) ∙ ap (λ x. Some (given_view u x)) same
+  | inr ne ↦
+      let here = ap (λ b. if b then Some g else given_at tasks u) (unequal u t ne) in
+      ap (λ b. if b then Some (given_view t g) else seen u) (unequal u t ne) ∙ given u h (sym here ∙ sym (put u) ∙ is)
+]
+
+-- a job is taken
+pub given_taken : (seen : ℕ → Option JobView) (tasks tasks' : List (Option Ready)) (t : ℕ)
+    → AreGiven seen tasks → ((u : ℕ) → given_at tasks' u ≡ with_given t None (given_at tasks) u)
+    → AreGiven (taken t seen) tasks'
+given_taken seen tasks tasks' t given took u h is = elim (cases_eq u t) [
+  | inl e ↦
+      let here = ap (λ b. if b then None else given_at tasks u) (equal u t e) in
+      absurd (none-some h (sym here ∙ sym (took u) ∙ is))
+  | inr ne ↦
+      let here = ap (λ b. if b then None else given_at tasks u) (unequal u t ne) in
+      ap (λ b. if b then None else seen u) (unequal u t ne) ∙ given u h (sym here ∙ sym (took u) ∙ is)
+]
+
+-- a job that is taken and put back is there
+pub given_back : (seen : ℕ → Option JobView) (tasks between tasks' : List (Option Ready)) (t : ℕ) (g : Ready)
+    → AreGiven seen tasks → given_at tasks t ≡ Some g → ((u : ℕ) → given_at between u ≡ with_given t None (given_at tasks) u) → ((u : ℕ) → given_at tasks' u ≡ with_given t (Some g) (given_at between) u)
+    → AreGiven seen tasks'
+given_back seen tasks between tasks' t g given was took put u h is = elim (cases_eq u t) [
+  | inl e ↦
+      let here = ap (λ b. if b then Some g else given_at between u) (equal u t e) in
+      given u h (ap (given_at tasks) e ∙ was ∙ sym here ∙ sym (put u) ∙ is)
+  | inr ne ↦
+      let here = ap (λ b. if b then Some g else given_at between u) (unequal u t ne) in
+      let there = ap (λ b. if b then None else given_at tasks u) (unequal u t ne) in
+      given u h (sym there ∙ sym (took u) ∙ sym here ∙ sym (put u) ∙ is)
+]
+
+-- the last of a list comes first of the list turned round
+pub last_first : {A : Type 0} (xs : List A) (x : A) → reverse (xs ++ x ∷ []) ≡ x ∷ reverse xs
+last_first xs x = reverse-append xs (x ∷ [])
+
+pub twice : {A : Type 0} (xs : List A) → reverse (reverse xs) ≡ xs
+twice [] = refl
+twice (x ∷ xs) = ap reverse (reverse-append (x ∷ []) xs) ∙ last_first (reverse xs) x ∙ ap (λ ys. x ∷ ys) (twice xs)
+
+-- the next of some jobs is put to the others
+pub given_step : (now : ℕ → Option JobView) (tasks tasks' : List (Option Ready)) (js : List (JobIs BodyView)) (j : JobIs BodyView) (t : TaskId) (g : Ready)
+    → t ≡ j.task → g ≡ record { number = j.number; resume = j.resume; body = j.body }
+    → AreGiven now tasks → ((u : ℕ) → given_at tasks' u ≡ with_given t.0 (Some g) (given_at tasks) u)
+    → (now' : ℕ → Option JobView) × AreGiven now' tasks' × (with_jobs (map job_view (reverse js)) now' ≡ with_jobs (map job_view (reverse (js ++ j ∷ []))) now)
+given_step now tasks tasks' js j t g at is given put = (
+  (λ u. if u == t.0 then Some (given_view t.0 g) else now u),
+  given_put now tasks tasks' t.0 g given put,
+  (ap (λ (x : TaskId). with_jobs (map job_view (reverse js)) (λ u. if u == x.0 then Some (given_view x.0 g) else now u)) at
+      ∙ ap (λ (h : Ready). with_jobs (map job_view (reverse js)) (λ u. if u == j.task.0 then Some (given_view j.task.0 h) else now u)) is
+      ∙ sym (ap (λ (xs : List (JobIs BodyView)). with_jobs (map job_view xs) now) (last_first js j))),
+)

@@ -1,0 +1,7 @@
+pub mod Blocks
+pub mod Ended
+pub mod First
+pub mod Given
+pub mod Places
+pub mod Played
+pub mod Steps

@@ -1,0 +1,6 @@
+use Rattle.std.proofs.Common.{◌≡◌, take}
+use Rattle.script_code.specs.Seen.{rows_of}
+use Rattle.swift_certificate.proofs.ends.are_same_fields.Given as goal
+
+abbrev pub invariant-loop-place : goal.invariant-loop-place
+invariant-loop-place l = rows_of (take l.place l.rows) ≡ rows_of (take l.place l.others)

@@ -1,0 +1,9 @@
+use Rattle.std.proofs.Common.{◌≡◌, ◌<◌, ℕ, Some}
+use Rattle.std.specs.Prelude.{slice_get}
+use Rattle.swift_types.specs.declared.outcome.Ending.{Ending}
+use Rattle.swift_events.specs.declared.life.Origin.{Origin}
+use Rattle.swift_events.specs.Lives.{life_of}
+use Rattle.swift_certificate.proofs.ends.have_ended.Given as goal
+
+abbrev pub invariant-loop-place : goal.invariant-loop-place
+invariant-loop-place l = (t : ℕ) (x : Origin × Ending) → t < l.place → slice_get l.endings t ≡ Some x → ((life_of t l.book.log).origin ≡ Some x.0) × ((life_of t l.book.log).ending ≡ Some x.1)

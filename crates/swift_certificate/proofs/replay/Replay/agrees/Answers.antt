@@ -1,0 +1,15 @@
+use Rattle.std.proofs.Common.{rules, ◌≡◌, subst}
+use Rattle.std.specs.Arc.{arc_value}
+use Rattle.swift_script.specs.Scripts.{root_count}
+use Rattle.swift_certificate.specs.Reports.{report_view}
+use Rattle.swift_certificate.specs.ReplayInside.{AreEndedAt}
+use Rattle.swift_certificate.proofs.Ended.{legal_is}
+use Rattle.swift_certificate.proofs.Steps.{map_ok}
+use Rattle.swift_certificate.proofs.replay.Replay.agrees.Goals as goal
+
+pub returns : goal.returns
+returns c =
+    let x = c.args.self.now in
+    let roots : x.roots ≡ root_count (arc_value x.script) = search rules in
+    let script = c.deref-2.ensures in
+    map_ok c.are_ended.result _ _ (λ yes ended is. legal_is (arc_value x.script) (report_view c.args.report.now) x c.requires (search rules) roots (search rules) (search rules) (subst (λ p. AreEndedAt p x.rows.items (report_view c.args.report.now)) script (subst (λ rows. AreEndedAt c.deref-2.result.now rows (report_view c.args.report.now)) c.deref-3.ensures.value (ended is)))) c.are_ended.ensures

@@ -1,0 +1,14 @@
+use Rattle.std.proofs.Common.{◌≡◌, ℕ, Option, map, reverse, vec_len}
+use Rattle.swift_history.specs.Histories.{with_jobs}
+use Rattle.swift_history.specs.TurnEnds.{JobView}
+use Rattle.swift_tasks.specs.Books.{job_view}
+use Rattle.swift_certificate.specs.ReplayInside.{AreGiven}
+use Rattle.swift_certificate.proofs.waiting.put_all.Given as goal
+
+-- what is there is what the jobs that were put lead to, and the others lead on to the end
+abbrev pub invariant-loop-job : goal.invariant-loop-job
+invariant-loop-job l = (seen : ℕ → Option JobView) → AreGiven seen l.fn.tasks.items →
+    (now : ℕ → Option JobView) × AreGiven now l.tasks.items × (with_jobs (map job_view (reverse l.jobs.items)) now ≡ with_jobs (map job_view l.fn.jobs.items) seen)
+
+abbrev pub decreases-loop-job : goal.decreases-loop-job
+decreases-loop-job l = vec_len l.jobs

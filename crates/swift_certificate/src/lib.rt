@@ -1,0 +1,15 @@
+//! Whether a report of a run is legal: some history of blocks, each of which may stand after those before it, made it.
+#![tactic(auto)]
+
+// What a report says at its end.
+mod ends;
+// One turn, played again or taken from a checkpoint.
+mod playing;
+// A run that is followed along its log.
+mod replay;
+// What the next turn of each task begins with.
+mod waiting;
+// Whether a whole report is legal.
+mod whole;
+
+pub use whole::legal;

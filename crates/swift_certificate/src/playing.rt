@@ -1,0 +1,216 @@
+//! One turn, played again or taken from a checkpoint.
+
+ghost use Rattle.std.specs.Prelude.{◌≡◌, ◌<◌, ◌↔◌, ◌+◌, IfOk, IfSome, IsTrue, None, ◌∷◌};
+ghost use Rattle.swift_interpreter.specs.Frames.{effect_view, effect_views, frame_view};
+ghost use Rattle.swift_interpreter.specs.TurnStates.{exit_view};
+ghost use Rattle.swift_journal.specs.Records.{frame_if, frame_if_lent};
+ghost use Rattle.swift_history.specs.Histories.{left_as, makes_own, opens_group};
+ghost use Rattle.swift_script.specs.Scripts.{method_count};
+ghost use Rattle.swift_turn.specs.Body.{HasFirst, IsRunning, callers_of};
+ghost use Rattle.swift_certificate.specs.ReplayInside.{Folds, IsAfterFrame, IsLeft, Plays};
+
+use crate::waiting::Ready;
+use script_code::Env;
+use std::alloc::{AllocError, Global};
+use std::mem;
+use swift_interpreter::{Effect, Exit, Frame};
+use swift_journal::{Checkpoint, Folded, Journal, Record};
+use swift_turn::{Body, replay_turn};
+use swift_types::TaskId;
+
+/// How far an executor was followed: the fields of its actors, a list for each, and how many of its checkpoint's turns and of
+/// its journal's there were.
+#[derive(Drop)]
+pub struct Place {
+    pub fields: Vec<Vec<i64>>,
+    pub folded: usize,
+    pub played: usize,
+}
+
+/// A turn that was followed, and is to be applied.
+#[derive(Drop)]
+pub struct Done {
+    pub ready: Ready,
+    pub exit: Exit,
+    pub effects: Vec<Effect>,
+}
+
+// Whether an effect counts among the tasks that its task has made of its own.
+fn makes_own(effect: &Effect) -> bool
+    ensures { result ≡ makes_own (effect_view effect.now) }
+{
+    matches!(effect, Effect::Spawn(_, _, _) | Effect::Detach(_, _))
+}
+
+fn opens_group(effect: &Effect) -> bool
+    ensures { result ≡ opens_group (effect_view effect.now) }
+{
+    matches!(effect, Effect::Open)
+}
+
+// The frame with its task's counts after these effects. Nothing where a count would not fit.
+fn counted(mut frame: Frame, effects: &[Effect]) -> Option<Frame>
+    ensures counts { IfSome result (λ after. frame_view after ≡ left_as (frame_view frame) (effect_views effects.now) None) }
+    ensures method { IfSome result (λ after. after.method ≡ frame.method) }
+{
+    for effect in effects {
+        if makes_own(effect) {
+            frame.made = frame.made.checked_add(1)?;
+        }
+        if opens_group(effect) {
+            frame.opened = frame.opened.checked_add(1)?;
+        }
+    }
+    Some(frame)
+}
+
+// Whether a frame is left by such an exit.
+fn is_left(exit: &Exit) -> bool
+    ensures { IsTrue result ↔ IsLeft (exit_view exit.now) }
+{
+    matches!(exit, Exit::Return(_) | Exit::Fault(_))
+}
+
+// The frame after a turn that ended so, where one goes on.
+fn after<'a>(body: &'a Body, exit: &Exit) -> Option<&'a Frame>
+    requires { IsRunning body.now }
+    ensures { IsAfterFrame body.now.task.frames (exit_view exit.now) (frame_if_lent result) }
+{
+    if is_left(exit) {
+        None
+    } else {
+        Some(body.top())
+    }
+}
+
+// Sets the frame that runs, where such an exit leaves it, to what it was before the turn with its task's counts after it:
+// these alone matter from then on. Whether the counts fit.
+fn settle(body: &mut Body, before: Frame, exit: &Exit, effects: &[Effect]) -> bool
+    requires running { IsRunning body.old }
+    requires method { before.method.0 < method_count body.old.script }
+    ensures left { IsTrue result → IsLeft (exit_view exit.now) → body.new.task.frames ≡ left_as (frame_view before) (effect_views effects.now) None ∷ callers_of body.old.task.frames }
+    ensures stays { (IsLeft (exit_view exit.now) → ⊥) → body.new.task.frames ≡ body.old.task.frames }
+    ensures rest { body.new ≡ record body.old { task = record body.old.task { frames = body.new.task.frames } } }
+{
+    if is_left(exit) {
+        let Some(frame) = counted(before, effects) else {
+            return false;
+        };
+        body.put_back(frame);
+    }
+    true
+}
+
+/// Plays the next turn of an executor's journal again, from what its task's job gives. Nothing where the journal has another
+/// turn there, or none.
+pub fn play(
+    alloc: Global,
+    row: &mut Place,
+    journal: &Journal,
+    scratch: &mut Journal,
+    task: TaskId,
+    ready: Ready,
+    env: Env,
+) -> Result<Option<Done>, AllocError>
+    requires running { IsRunning ready.body }
+    ensures { IfOk result (λ answer. IfSome answer (λ done. Plays journal.now row.old row.new task ready env done)) }
+{
+    let place = row.played;
+    if place >= journal.len() {
+        return Ok(None);
+    }
+    let Ready {
+        number,
+        resume,
+        mut body,
+    } = ready;
+    let frame = body.frame()?;
+    let fields = mem::replace(&mut row.fields, Vec::new(alloc));
+    let Ok((fields, effects, exit)) = replay_turn(&mut body, fields, resume, env) else {
+        return Err(AllocError);
+    };
+    row.fields = fields;
+    let record = Record {
+        task,
+        number,
+        worker: journal.worker(place),
+        frame: &frame,
+        outer: body.outer(),
+        resume,
+        env,
+        exit: &exit,
+        effects: &effects,
+        after: after(&body, &exit),
+    };
+    if !journal.has(place, &record, scratch)? {
+        return Ok(None);
+    }
+    row.played += 1;
+    if !settle(&mut body, frame, &exit, &effects) {
+        return Ok(None);
+    }
+    Ok(Some(Done {
+        ready: Ready {
+            number,
+            resume,
+            body,
+        },
+        exit,
+        effects,
+    }))
+}
+
+// The frame with which a task goes on after a folded turn.
+fn frame_after(
+    body: &Body,
+    effects: &[Effect],
+    after: Option<Frame>,
+) -> Result<Option<Frame>, AllocError>
+    requires { IsRunning body.now }
+    ensures left { IfOk result (λ answer. IfSome answer (λ frame. HasFirst body.now.task.frames (λ p. frame_view frame ≡ left_as p (effect_views effects.now) (frame_if after)))) }
+    ensures method { IfOk result (λ answer. IfSome answer (λ frame. frame.method.0 < method_count body.now.script)) }
+{
+    match after {
+        Some(frame) if body.can_put_back(&frame) => Ok(Some(frame)),
+        Some(_) => Ok(None),
+        None => Ok(counted(body.frame()?, effects)),
+    }
+}
+
+/// Takes the next turn of an executor's checkpoint. It is not played again. Nothing where the checkpoint has a turn of another
+/// task or number there, or none.
+pub fn fold(
+    alloc: Global,
+    row: &mut Place,
+    checkpoint: &Checkpoint,
+    task: TaskId,
+    ready: Ready,
+) -> Result<Option<Done>, AllocError>
+    requires running { IsRunning ready.body }
+    ensures { IfOk result (λ answer. IfSome answer (λ done. Folds checkpoint.now.view row.old row.new task ready done)) }
+{
+    if row.folded >= checkpoint.len() {
+        return Ok(None);
+    }
+    let Folded {
+        task: of,
+        number,
+        exit,
+        effects,
+        after,
+    } = checkpoint.read(alloc, row.folded)?;
+    if of != task || number != ready.number {
+        return Ok(None);
+    }
+    let Some(frame) = frame_after(&ready.body, &effects, after)? else {
+        return Ok(None);
+    };
+    row.folded += 1;
+    let mut ready = ready;
+    ready.body.put_back(frame);
+    Ok(Some(Done {
+        ready,
+        exit,
+        effects,
+    }))
+}
