@@ -17,6 +17,9 @@ pub enum RunFault {
     /// A task has not ended, and no executor has a job that could go on with it.
     #[error("N3 unfinished jobs")]
     Unfinished,
+    /// What the run has left is not a legal report of the script.
+    #[error("N4 report not legal")]
+    Illegal,
     /// An executor had no room for a job, or the book refused a turn.
     #[error("N5 executor refused")]
     Executor,

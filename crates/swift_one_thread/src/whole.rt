@@ -4,6 +4,8 @@ ghost use Rattle.std.specs.Prelude.{◌≡◌, ◌≢◌, ◌↔◌, Err, length
 ghost use Rattle.std.specs.Arc.{arc_value};
 ghost use Rattle.swift_script.specs.Scripts.{executor_count, root_count};
 ghost use Rattle.swift_report.specs.Lawful.{KeepInvariants};
+ghost use Rattle.swift_history.specs.Histories.{IsLegal};
+ghost use Rattle.swift_certificate.specs.Reports.{report_view};
 ghost use Rattle.swift_one_thread.specs.Crew.{AreAtSites, AreDesksOf};
 ghost use Rattle.swift_one_thread.specs.Leaves.{AreEndings, AreReplayed};
 ghost use Rattle.swift_one_thread.specs.declared.fault.RunFault.TheVariants.{Workers};
@@ -17,6 +19,7 @@ use futures::task::{Context, Doorbell, Solo};
 use std::alloc::{AllocGlobal, Global};
 use std::random::RandomSource;
 use std::sync::{Arc, Mutex, Wait};
+use swift_certificate::legal;
 use swift_executor::{Exec, Gate};
 use swift_report::Report;
 use swift_script::Script;
@@ -30,19 +33,24 @@ use swift_tasks::Book;
 /// was idle gets a token. The roots are sent in order of declaration before the first turn. Each executor has room for the
 /// jobs of 1,024 tasks. The runtime is used once, to make what a poll is given, and for locks that nobody else takes.
 ///
+/// Before the report is handed out, it is followed again by a second book, and each turn that is not folded is played again
+/// (`swift_certificate::legal`), in about the time of the run.
+///
 /// The gate is given of each moment of a turn and of a job that is sent. Memory grows with the turns, at most some thousand
 /// for each task, each of which leaves some hundred bytes and the frame after it.
 ///
 /// # Errors
 ///
 /// `Workers` stands for any number of workers but 1, `Memory` for a growth that was refused, `Unfinished` for a task that has
-/// not ended though no executor has a token, and `Executor` for one that had no room or a turn that the book refused. Nothing of
-/// a refused run remains.
+/// not ended though no executor has a token, `Illegal` for a report that is not legal, and `Executor` for an executor that had
+/// no room or a turn that the book refused. Nothing of a refused run remains.
 pub fn run<R, G>(rt: &R, script: Arc<Script>, workers: u32, gate: &G) -> Result<Report, RunFault>
 where
     R: RandomSource + AllocGlobal + Wait,
     G: Gate + Sync,
     ensures workers { (result ≡ Err Workers) ↔ (workers ≢ 1) }
+    // The report is one that a history of blocks has made, each of which may stand after those before it.
+    ensures legal { IfOk result (λ r. IsLegal (arc_value script) (report_view r)) }
     // Each executor's journal is lawful from its checkpoint on, its turns are of its actors, and replaying them gives the
     // fields.
     ensures lawful { IfOk result (λ r. AreReplayed (arc_value script) 0 r.checkpoints.items r.journals.items r.fields.items) }
@@ -57,7 +65,12 @@ where
     if workers != 1 {
         return Err(RunFault::Workers);
     }
-    Ok(run_alone(rt, &script, gate)?)
+    let report = run_alone(rt, &script, gate)?;
+    match legal(rt.alloc(), &script, &report) {
+        Ok(true) => Ok(report),
+        Ok(false) => Err(RunFault::Illegal),
+        Err(_) => Err(RunFault::Memory),
+    }
 }
 
 // A run of one worker.

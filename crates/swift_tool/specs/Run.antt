@@ -8,10 +8,12 @@ use Rattle.swift_events.specs.declared.life.Origin.{Origin}
 use Rattle.std.specs.Io.KnownBytes.{Appends}
 use Rattle.swift_script.specs.Accepted.{IsAccepted}
 use Rattle.swift_script.specs.Refuses.{Refuses}
+use Rattle.swift_history.specs.Histories.{IsLegal}
+use Rattle.swift_certificate.specs.Reports.{report_view}
 use Rattle.swift_output.specs.Part.{WritesPart}
 use Rattle.swift_one_thread.specs.Leaves.{AreEndings, AreReplayed}
 use Rattle.swift_one_thread.specs.declared.fault.RunFault.{RunFault}
-use Rattle.swift_one_thread.specs.declared.fault.RunFault.TheVariants.{Workers, Memory, Unfinished, Executor}
+use Rattle.swift_one_thread.specs.declared.fault.RunFault.TheVariants.{Workers, Memory, Unfinished, Illegal, Executor}
 use Rattle.swift_tool.specs.declared.fault.ToolFault.{ToolFault}
 use Rattle.swift_tool.specs.declared.fault.ToolFault.TheVariants as tool
 use Rattle.script_code.specs.Seen.{rows_of}
@@ -34,7 +36,7 @@ abbrev pub HoldInvariants : ScriptView → ℕ → List (Vec (Vec ℤ Global) Gl
 HoldInvariants p e [] = Unit {0}
 HoldInvariants p e (rows ∷ others) = IsTrue (all_hold (executor_invariants p e) (rows_of rows.items)) × HoldInvariants p (e + 1) others
 
--- A text is that of a run of the script that these bytes spell. Of each executor the journal is lawful from its checkpoint on, its
+-- A text is that of a run of the script that these bytes spell. The run's report is legal. Of each executor the journal is lawful from its checkpoint on, its
 -- turns are of the executor's actors, and the fields are what replaying them gives; each invariant holds of the fields. The log
 -- says of each task where it comes from and how it has ended, and the first tasks are those of the roots, in order of declaration. `well` says
 -- whether each has ended with a value.
@@ -42,6 +44,7 @@ pub record IsRunOf (bytes : List ℕ) (quiet : Bool) (text : List ℕ) (well : B
   pub script : ScriptView
   pub report : Report
   pub accepted : IsAccepted bytes script
+  pub legal : IsLegal script (report_view report)
   pub replayed : AreReplayed script 0 report.checkpoints.items report.journals.items report.fields.items
   pub journals : length report.journals.items ≡ executor_count script
   pub checkpoints : length report.checkpoints.items ≡ executor_count script
@@ -65,11 +68,12 @@ pub record WritesPrefix (bytes : List ℕ) (quiet : Bool) (old new : Option (Lis
   pub part : WritesPart old new text
 
 -- Why a run of these bytes was refused: a number of workers other than 1, which is looked at first, or else, of a
--- script that is accepted, memory ran out, a task was left, or an executor refused.
+-- script that is accepted, memory ran out, a task was left, the report was not legal, or an executor refused.
 abbrev pub IsRunRefusal : List ℕ → ℕ → RunFault → Type 0
 IsRunRefusal bytes workers Workers = workers ≢ 1
 IsRunRefusal bytes workers Memory = (workers ≡ 1) × ((script : ScriptView) × IsAccepted bytes script)
 IsRunRefusal bytes workers Unfinished = (workers ≡ 1) × ((script : ScriptView) × IsAccepted bytes script)
+IsRunRefusal bytes workers Illegal = (workers ≡ 1) × ((script : ScriptView) × IsAccepted bytes script)
 IsRunRefusal bytes workers Executor = (workers ≡ 1) × ((script : ScriptView) × IsAccepted bytes script)
 
 -- Why no run of these bytes gave a text: the script was refused, for the stated cause, or the run was.

@@ -20,6 +20,7 @@ pub fn program_faults(out: &mut Vec<u8>) -> Result<(), CaseFault> {
         ProgramFault::Tool(ToolFault::Run(RunFault::Workers)),
         ProgramFault::Tool(ToolFault::Run(RunFault::Memory)),
         ProgramFault::Tool(ToolFault::Run(RunFault::Unfinished)),
+        ProgramFault::Tool(ToolFault::Run(RunFault::Illegal)),
         ProgramFault::Tool(ToolFault::Run(RunFault::Executor)),
         ProgramFault::Tool(ToolFault::Device),
     ] {
