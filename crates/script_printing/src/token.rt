@@ -22,6 +22,8 @@ fn digits(out: &mut Vec<u8>, number: u64) -> Result<(), AllocError>
     Ok(())
 }
 
+// With a mark that is known, its spelling is too.
+#[inline(always)]
 #[tactic(auto, unfolding(crate::specs::Printed::after))]
 pub(crate) fn write_sign(out: &mut Vec<u8>, mark: Mark) -> Result<(), AllocError>
     ensures { OnOk result (out.new.items ≡ after out.old.items (Sign mark ∷ [])) }
