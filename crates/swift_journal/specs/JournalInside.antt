@@ -1,5 +1,5 @@
 -- What the fields of a journal say, and what they keep. No public clause names these.
-use Rattle.std.specs.Prelude.{ℕ, ℤ, List, take, drop}
+use Rattle.std.specs.Prelude.{ℤ, List, take, drop}
 use Rattle.swift_journal.specs.EffectWords.{effects_of}
 use Rattle.swift_journal.specs.Ends.{resume_of, skip_resume, exit_of, skip_exit}
 use Rattle.swift_journal.specs.FrameWords.{frame_of, skip_frame, frame_if_of, skip_frame_if}

@@ -1,6 +1,7 @@
 //! The journal of an executor.
 
-ghost use Rattle.std.specs.Prelude.{◌≡◌, [], ◌∷◌, ◌++◌, ◌-◌, ◌<◌, length, take, slice_index_or, IfOk, OnOk, OnErr};
+ghost use Rattle.std.specs.Prelude.{◌≡◌, [], ◌∷◌, ◌++◌, ◌-◌, ◌<◌, length, take, slice_index_or, IfOk, IsTrue, OnOk, OnErr};
+ghost use Rattle.swift_journal.specs.JournalInside.{record_of};
 
 use crate::brief::BriefExit;
 use crate::draft::Draft;
@@ -188,6 +189,119 @@ impl Journal {
         let words = words_of(&self.words, head);
         read_record(alloc, head, words, effects_of(&self.effects, head))
     }
+
+    /// Whether the turn at a place is this one, in time by its size. It is written in the room of another journal first,
+    /// whose own turns stay. An `Err` says that a growth was refused, or that the turn has more than 2^32 - 1 numbers or
+    /// effects.
+    pub fn has(
+        &self,
+        place: usize,
+        turn: &Record<'_>,
+        scratch: &mut Journal,
+    ) -> Result<bool, AllocError>
+        requires { place < length self.now }
+        ensures same { IfOk result (λ yes. IsTrue yes → (d : RecordView) → slice_index_or self.now place d ≡ record_view turn.now) }
+        ensures scratch { scratch.new ≡ scratch.old }
+    {
+        let head = &self.heads[place];
+        let written = scratch.draft.write(turn, head.start, head.first_effect)?;
+        let words = words_of(&self.words, head);
+        let effects = effects_of(&self.effects, head);
+        Ok(is_written(head, words, effects, &written, &scratch.draft))
+    }
+}
+
+// Whether a turn was written with this head, these words and these effects.
+fn is_written(
+    head: &Head,
+    words: &[i64],
+    effects: &[StoredEffect],
+    written: &Head,
+    draft: &Draft,
+) -> bool
+    ensures { IsTrue result → record_of written.now draft.now.words.items draft.now.effects.items ≡ record_of head.now words.now effects.now }
+{
+    is_same_head(written, head)
+        && are_same_words(&draft.words, words)
+        && are_same(&draft.effects, effects)
+}
+
+fn is_same_head(head: &Head, other: &Head) -> bool
+    ensures { IsTrue result → head.now ≡ other.now }
+{
+    is_same_span(head, other)
+        && is_same_turn(head, other)
+        && is_same_env(head, other)
+        && is_same_frame(&head.frame, &other.frame)
+        && is_same_frame(&head.after, &other.after)
+        && is_same_end(head, other)
+}
+
+// Whether they say that the words and the effects are at the same places.
+fn is_same_span(head: &Head, other: &Head) -> bool
+    ensures { IsTrue result → (head.now.start ≡ other.now.start) × (head.now.first_effect ≡ other.now.first_effect) × (head.now.size ≡ other.now.size) × (head.now.effects ≡ other.now.effects) }
+{
+    if head.start != other.start || head.first_effect != other.first_effect {
+        return false;
+    }
+    head.size == other.size && head.effects == other.effects
+}
+
+fn is_same_turn(head: &Head, other: &Head) -> bool
+    ensures { IsTrue result → (head.now.task ≡ other.now.task) × (head.now.number ≡ other.now.number) × (head.now.worker ≡ other.now.worker) × (head.now.outer ≡ other.now.outer) }
+{
+    if head.task != other.task || head.number != other.number {
+        return false;
+    }
+    head.worker == other.worker && head.outer == other.outer
+}
+
+fn is_same_env(head: &Head, other: &Head) -> bool
+    ensures { IsTrue result → (head.now.room ≡ other.now.room) × (head.now.priority ≡ other.now.priority) × (head.now.cancelled ≡ other.now.cancelled) }
+{
+    if head.room != other.room {
+        return false;
+    }
+    head.priority == other.priority && head.cancelled == other.cancelled
+}
+
+fn is_same_end(head: &Head, other: &Head) -> bool
+    ensures { IsTrue result → (head.now.exit ≡ other.now.exit) × (head.now.resume ≡ other.now.resume) }
+{
+    head.exit == other.exit && head.resume == other.resume
+}
+
+fn is_same_frame(frame: &FrameHead, other: &FrameHead) -> bool
+    ensures { IsTrue result → frame.now ≡ other.now }
+{
+    frame == other
+}
+
+fn are_same_words(words: &[i64], others: &[i64]) -> bool
+    ensures { IsTrue result → words.now ≡ others.now }
+{
+    words == others
+}
+
+// Whether effects are these.
+fn are_same(effects: &[StoredEffect], others: &[StoredEffect]) -> bool
+    ensures { IsTrue result → effects.now ≡ others.now }
+{
+    if effects.len() != others.len() {
+        return false;
+    }
+    for place in 0..effects.len() {
+        if !is_same_effect(&effects[place], &others[place]) {
+            return false;
+        }
+    }
+    true
+}
+
+fn is_same_effect(effect: &StoredEffect, other: &StoredEffect) -> bool
+    ensures { IsTrue result → effect.now ≡ other.now }
+{
+    effect == other
 }
 
 // What a journal has of a turn from its exit on: the words of the exit, of the frame after the turn and of the effects.

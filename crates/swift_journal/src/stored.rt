@@ -5,7 +5,7 @@ use swift_interpreter::TaskName;
 use swift_types::{ActorId, MethodId, Priority, TaskId};
 
 /// Which fault. The value of a throw stands among the numbers.
-#[derive(Clone, Copy)]
+#[derive(Clone, Copy, PartialEq, Eq)]
 pub enum StoredFault {
     Thrown,
     Cancelled,
@@ -20,7 +20,7 @@ pub enum StoredFault {
 }
 
 /// What a turn begins with. A value stands among the numbers.
-#[derive(Clone, Copy)]
+#[derive(Clone, Copy, PartialEq, Eq)]
 pub enum StoredResume {
     Start,
     Go,
@@ -29,7 +29,7 @@ pub enum StoredResume {
 }
 
 /// How a turn ends. Arguments, as many as are told, and values stand among the numbers.
-#[derive(Clone, Copy)]
+#[derive(Clone, Copy, PartialEq, Eq)]
 pub enum StoredExit {
     Call(ActorId, MethodId, u32),
     Wait(TaskName),
@@ -41,7 +41,7 @@ pub enum StoredExit {
 }
 
 /// A method that is to run, and how many arguments it has, which stand among the numbers.
-#[derive(Clone, Copy)]
+#[derive(Clone, Copy, PartialEq, Eq)]
 pub struct StoredInvocation {
     pub actor: ActorId,
     pub method: MethodId,
@@ -49,7 +49,7 @@ pub struct StoredInvocation {
 }
 
 /// An effect. Arguments and bindings, as many as are told, stand among the numbers.
-#[derive(Clone, Copy)]
+#[derive(Clone, Copy, PartialEq, Eq)]
 pub enum StoredEffect {
     Spawn(StoredInvocation, Option<Priority>, usize),
     Detach(StoredInvocation, Priority),
@@ -71,7 +71,7 @@ pub struct Counts {
 }
 
 /// A frame. Its lists stand among the numbers, and its counts too where one of them is not 0.
-#[derive(Clone, Copy)]
+#[derive(Clone, Copy, PartialEq, Eq)]
 pub struct FrameHead {
     pub method: MethodId,
     pub line: u32,

@@ -1,18 +1,21 @@
 //! The book.
 
-ghost use Rattle.std.specs.Prelude.{◌≡◌, ℕ, ◌+◌, ◌≤◌, [], ◌∷◌, ◌++◌, None, IfOk, IfErr, replicate};
+ghost use Rattle.std.specs.Prelude.{◌≡◌, ℕ, ◌+◌, ◌≤◌, [], ◌∷◌, ◌++◌, None, Some, IfOk, IfErr, IfSome, replicate};
 ghost use Rattle.std.specs.Arc.{arc_value};
 ghost use Rattle.swift_script.specs.Scripts.{root_count};
+ghost use Rattle.swift_events.specs.declared.life.Stage.TheVariants.{Begun};
+ghost use Rattle.swift_events.specs.Events.{tasks_of};
 ghost use Rattle.swift_events.specs.Lives.{life_of};
 ghost use Rattle.swift_events.specs.Room.{open_of};
 ghost use Rattle.swift_tasks.specs.Books.{HoldsWaiting, empty_book};
 
 use crate::fault::BookFault;
 use crate::held::Held;
+use script_code::Env;
 use std::alloc::Global;
 use std::marker::Model;
 use std::sync::Arc;
-use swift_events::{Event, Origin};
+use swift_events::{Event, Origin, Stage};
 use swift_ledger::Ledger;
 use swift_queue::Job;
 use swift_script::Script;
@@ -87,6 +90,13 @@ impl Book {
         self.ledger.log()
     }
 
+    /// How many numbers of tasks are taken, those of all roots included.
+    pub fn tasks(&self) -> usize
+        ensures { result ≡ tasks_of (root_count self.now.script) self.now.log }
+    {
+        self.ledger.tasks()
+    }
+
     /// How many tasks were made and have not ended.
     pub fn open_tasks(&self) -> usize
         ensures { result ≡ open_of (root_count self.now.script) self.now.log }
@@ -99,6 +109,16 @@ impl Book {
         ensures { result ≡ (life_of task.0 self.now.log).ending }
     {
         self.ledger.life(task).ending
+    }
+
+    /// The environment of the turn that a task has begun last; nothing where that turn was applied, or none was begun.
+    pub fn begun(&self, task: TaskId) -> Option<Env>
+        ensures { IfSome result (λ env. (life_of task.0 self.now.log).stage ≡ Some (Begun env)) }
+    {
+        match self.ledger.life(task).stage {
+            Some(Stage::Begun(env)) => Some(env),
+            _ => None,
+        }
     }
 
     /// Where a task comes from; nothing where it was not made (SE-0304).

@@ -378,7 +378,7 @@ impl Body {
     }
 
     // Plays the turn that was entered.
-    fn play_turn(&mut self)
+    pub(crate) fn play_turn(&mut self)
         requires { IsRunning self.old }
         ensures turned { Polls self.old.script self.old.task.outer self.old.task.frames self.old.phase self.new.task.frames self.new.phase }
         ensures rest { self.new ≡ record self.old { task = record self.old.task { frames = self.new.task.frames }; phase = self.new.phase } }

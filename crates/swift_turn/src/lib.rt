@@ -15,9 +15,9 @@ mod phase;
 mod stack;
 // What comes after a turn.
 mod step;
-// One turn: entered, polled and left.
+// One turn: entered, played and left.
 mod whole;
 
 pub use body::Body;
 pub use step::Step;
-pub use whole::run_turn;
+pub use whole::{replay_turn, run_turn};

@@ -1,4 +1,4 @@
-//! One turn: entered, polled and left.
+//! One turn: entered, played and left.
 
 ghost use Rattle.std.specs.Prelude.{◌≡◌, ◌⊎◌, IfErr, IfOk, OnErr, OnOk};
 ghost use Rattle.futures.specs.Task.{Keeps};
@@ -38,5 +38,25 @@ pub fn run_turn(
 {
     body.enter(fields, resume, env)?;
     let _ = body.poll(cx);
+    body.leave()
+}
+
+/// The same turn without a poll, for whoever replays a turn and waits for nothing: no waker is made, and one that lies in
+/// the slot of the body's source stays there. Its cost is that of `run_turn`.
+pub fn replay_turn(
+    body: &mut Body,
+    fields: Vec<Vec<i64>>,
+    resume: Resume,
+    env: Env,
+) -> Result<(Vec<Vec<i64>>, Vec<Effect>, Exit), (Vec<Vec<i64>>, AllocError)>
+    requires { IsRunning body.old }
+    ensures turn { IfOk result (λ r. Polls body.old.script body.old.task.outer body.old.task.frames (entered (rows_of fields.items) resume env)
+        body.new.task.frames (left (rows_of r.0.items) (effect_views r.1.items) (exit_view r.2))) }
+    ensures rest { OnOk result (body.new ≡ record body.old { task = record body.old.task { frames = body.new.task.frames }; phase = idle }) }
+    ensures back { IfErr result (λ e. rows_of e.0.items ≡ rows_of fields.items) }
+    ensures err { OnErr result ((body.new ≡ body.old) ⊎ (body.new ≡ at_rest body.old)) }
+{
+    body.enter(fields, resume, env)?;
+    body.play_turn();
     body.leave()
 }
