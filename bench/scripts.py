@@ -210,9 +210,9 @@ def many(front, part, end, longest=LONGEST):
     return "".join(parts) + end
 
 
-def statements(part, before="", declared=""):
+def statements(part, before="", declared="", fields=""):
     """One method with as many statements as fit."""
-    return filled(many(declared + "actor A { func f() { let x = 0;\n" + before, part, "\n} }\n"))
+    return filled(many(declared + "actor A { " + fields + "func f() { let x = 0;\n" + before, part, "\n} }\n"))
 
 
 def names(form, longest):
@@ -280,8 +280,11 @@ READ = {
     "long name": long_name(),
     # What costs most for its bytes, of each kind of part.
     "sums of names": statements(lambda k: "x=" + "+".join("x" * 32) + ";"),
+    "sums of fields": filled(many("actor A { var x = 0; func f() {\n", lambda k: "x=" + "+".join("x" * 32) + ";", "\n} }\n")),
+    "sums beside a field": statements(lambda k: "x=" + "+".join("x" * 32) + ";", "", "", "var y = 0; "),
     "sums": statements(lambda k: "x=" + "+".join("1" * 32) + ";"),
     "products": statements(lambda k: "x=" + "*".join("1" * 32) + ";"),
+    "signs of a name": statements(lambda k: "x=" + "-" * 31 + "x;"),
     "signs": statements(lambda k: "x=" + "-" * 31 + "1;"),
     "parentheses": statements(lambda k: "x=" + "(" * 32 + "1" + ")" * 32 + ";"),
     "assignments": statements(lambda k: "x=x;"),

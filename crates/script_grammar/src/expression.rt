@@ -1,12 +1,13 @@
 //! Expressions, calls, and what is waited for.
 
+use script_tokens::NameText;
 use swift_types::Operator;
 
 /// A name, as the text has it.
 #[derive(Drop)]
 pub struct Name {
     /// Its bytes.
-    pub text: Vec<u8>,
+    pub text: NameText,
 }
 
 /// An expression, of height 32 at most: an atom has height 1, and an operator one more than its highest operand.

@@ -44,7 +44,11 @@ impl Names {
     pub fn contains(&self, name: &[u8]) -> bool
         ensures { result ≡ is_among self.now name.now }
     {
-        self.set.contains(name)
+        match self.set.as_slice() {
+            // Where there are no names, none is hashed.
+            [] => false,
+            _ => self.set.contains(name),
+        }
     }
 
     /// The place of a name, which counts from 0.
@@ -53,7 +57,10 @@ impl Names {
         ensures place { IfSome result (λ n. n ≡ place_of self.now name.now) }
         ensures within { IfSome result (λ n. n < length self.now) }
     {
-        self.set.get_index_of(name)
+        match self.set.as_slice() {
+            [] => None,
+            _ => self.set.get_index_of(name),
+        }
     }
 
     /// The place of a name, or how many names there are.

@@ -72,6 +72,7 @@ fn next_operator(level: u32, tokens: Tokens<'_>) -> Option<(Operator, Tokens<'_>
     }
 }
 
+#[inline(always)]
 #[tactic(auto, unfolding(crate::specs::Model::Expressions::checked))]
 fn negated(alloc: Global, operand: Measured, prefix: Tokens<'_>) -> Result<Measured, ReadError>
     ensures { Gives (λ m. view m.expr) result (checked NESTING (map piece prefix.now) (Negated (view operand.expr))) }
@@ -85,6 +86,7 @@ fn negated(alloc: Global, operand: Measured, prefix: Tokens<'_>) -> Result<Measu
     Ok(Measured { expr, height })
 }
 
+#[inline(always)]
 #[tactic(auto, unfolding(crate::specs::Model::Expressions::checked))]
 fn inverted(alloc: Global, operand: Measured, prefix: Tokens<'_>) -> Result<Measured, ReadError>
     ensures { Gives (λ m. view m.expr) result (checked NESTING (map piece prefix.now) (Inverted (view operand.expr))) }

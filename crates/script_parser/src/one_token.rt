@@ -10,7 +10,7 @@ ghost use Rattle.script_parser.specs.Model.Parts.{code_of, name_at, sign_at, bra
 
 use crate::fault::{Fault, Kind, ReadError};
 use script_grammar::Name;
-use script_tokens::{Mark, Token};
+use script_tokens::{Mark, NameText, Token};
 use std::alloc::Global;
 
 /// The tokens that are still to be read.
@@ -45,7 +45,7 @@ fn code(mark: Mark) -> u8
 pub(crate) fn name_of(alloc: Global, text: &[u8]) -> Result<Name, ReadError>
     ensures { Gives text_of result (Ok text.now) }
 {
-    let text = Vec::from_slice(alloc, text)?;
+    let text = NameText::from_slice(alloc, text)?;
     Ok(Name { text })
 }
 

@@ -7,7 +7,7 @@ ghost use Rattle.script_printing.specs.Pieces.{pieces_of, pieces_of_else};
 ghost use Rattle.script_printing.specs.Printed.{after};
 
 use crate::part::{Write, write_with_keyword};
-use crate::token::{write_keyword, write_name, write_number, write_sign};
+use crate::token::{write_bang, write_keyword, write_minus, write_name, write_number, write_sign};
 use script_grammar::{Expr, Name};
 use script_tokens::{Keyword, Mark};
 use std::alloc::AllocError;
@@ -76,14 +76,12 @@ pub(crate) fn write_expr(out: &mut Vec<u8>, expr: &Expr) -> Result<(), AllocErro
         Expr::Priority => write_keyword(out, Keyword::Priority),
         Expr::Cancelled => write_keyword(out, Keyword::Cancelled),
         Expr::Negate(operand) => {
-            write_sign(out, Mark::Open)?;
-            write_sign(out, Mark::Minus)?;
+            write_minus(out)?;
             write_expr(out, operand)?;
             write_sign(out, Mark::Close)
         }
         Expr::Not(operand) => {
-            write_sign(out, Mark::Open)?;
-            write_sign(out, Mark::Bang)?;
+            write_bang(out)?;
             write_expr(out, operand)?;
             write_sign(out, Mark::Close)
         }

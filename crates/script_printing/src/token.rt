@@ -2,6 +2,7 @@
 
 ghost use Rattle.std.specs.Prelude.{◌≡◌, ◌++◌, ◌∷◌, [], OnOk, pos};
 ghost use Rattle.std.specs.Fmt.{decimal};
+ghost use Rattle.script_tokens.specs.declared.mark.Mark.TheVariants.{Open, Minus, Bang};
 ghost use Rattle.script_tokens.specs.Pieces.{Num, Name, Key, Sign};
 ghost use Rattle.script_printing.specs.Printed.{after};
 
@@ -28,6 +29,22 @@ pub(crate) fn write_sign(out: &mut Vec<u8>, mark: Mark) -> Result<(), AllocError
 {
     out.push(b' ')?;
     out.extend_from_slice(mark.spelling())
+}
+
+/// The parenthesis and the sign that a `-` begins with, in one go.
+#[tactic(auto, unfolding(crate::specs::Printed::after))]
+pub(crate) fn write_minus(out: &mut Vec<u8>) -> Result<(), AllocError>
+    ensures { OnOk result (out.new.items ≡ after out.old.items (Sign Open ∷ Sign Minus ∷ [])) }
+{
+    out.extend_from_slice(b" ( -")
+}
+
+/// The parenthesis and the sign that a `!` begins with, in one go.
+#[tactic(auto, unfolding(crate::specs::Printed::after))]
+pub(crate) fn write_bang(out: &mut Vec<u8>) -> Result<(), AllocError>
+    ensures { OnOk result (out.new.items ≡ after out.old.items (Sign Open ∷ Sign Bang ∷ [])) }
+{
+    out.extend_from_slice(b" ( !")
 }
 
 #[tactic(auto, unfolding(crate::specs::Printed::after))]

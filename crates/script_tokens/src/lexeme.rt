@@ -5,7 +5,7 @@ ghost use Rattle.script_tokens.specs.Pieces.{piece, lexeme_piece};
 
 use crate::keyword::Keyword;
 use crate::mark::Mark;
-use crate::token::Token;
+use crate::token::{NameText, Token};
 use std::alloc::{AllocError, Global};
 
 /// A token as it is found. A name lies in the text that it is read from, so finding one needs no memory.
@@ -33,7 +33,7 @@ pub(crate) fn owned(alloc: Global, lexeme: Lexeme<'_>) -> Result<Token, AllocErr
     match lexeme {
         Lexeme::Num(number) => Ok(Token::Num(number)),
         Lexeme::Huge => Ok(Token::Huge),
-        Lexeme::Name(name) => Ok(Token::Name(Vec::from_slice(alloc, name)?)),
+        Lexeme::Name(name) => Ok(Token::Name(NameText::from_slice(alloc, name)?)),
         Lexeme::Key(keyword) => Ok(Token::Key(keyword)),
         Lexeme::Sign(mark) => Ok(Token::Sign(mark)),
         Lexeme::Stray => Ok(Token::Stray),

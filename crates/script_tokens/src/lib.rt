@@ -34,4 +34,4 @@ pub use list::Tokens;
 pub use mark::Mark;
 pub use read::tokens;
 pub use stray::stray_line;
-pub use token::Token;
+pub use token::{NameText, Token};

@@ -2,6 +2,10 @@
 
 use crate::keyword::Keyword;
 use crate::mark::Mark;
+use smallvec::SmallVec;
+
+/// The bytes of a name. Up to 16 of them lie in the value itself, so that a short name takes no memory of its own.
+pub type NameText = SmallVec<u8, 16>;
 
 /// What stands between white space and comments. A name has a copy of its bytes, so a token outlives the text that it
 /// was read from.
@@ -12,7 +16,7 @@ pub enum Token {
     /// A number that no `i64` holds.
     Huge,
     /// A name: a word that is no keyword.
-    Name(Vec<u8>),
+    Name(NameText),
     /// A word that is a keyword.
     Key(Keyword),
     /// A sign of one or two bytes.

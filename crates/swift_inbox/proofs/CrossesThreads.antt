@@ -16,6 +16,7 @@ use Rattle.script_compiler.specs.contracts.compiled.CompiledExecutor as compiled
 use Rattle.script_compiler.specs.contracts.compiled.Compiled as compiled
 use Rattle.script_grammar.specs.contracts.declaration.Method as method
 use Rattle.script_grammar.specs.contracts.declaration.Actor as actor
+use Rattle.script_grammar.proofs.expression.Name.TheSendSync as Name
 use Rattle.script_grammar.proofs.expression.Expr.TheLaws.TheKnot as ExprKnot
 use Rattle.script_grammar.proofs.statement.Stmt.TheLaws.TheKnot as StmtKnot
 use Rattle.swift_script.specs.contracts.script.Script as script
@@ -38,7 +39,7 @@ use Rattle.swift_inbox.specs.contracts.site.ExecutorSite as site
 ruleset known = (Crossing.crosses, FormulaKnot.crosses, sendable)
 
 -- what the text of a script is made of
-ruleset spelled = (Crossing.crosses, ExprKnot.crosses, StmtKnot.crosses, sendable)
+ruleset spelled = (Crossing.crosses, ExprKnot.crosses, StmtKnot.crosses, Name.the_field_send, Name.the_field_sync, sendable)
 
 -- what is made of types that were shown before
 ruleset plain = (Crossing.crosses, sendable)
@@ -142,7 +143,16 @@ compiled_send : IsSend (compiled.the_field).row
 compiled_send = search (plain, compiled_method_row_send, compiled_actor_row_send, compiled_executor_row_send) depth 60 fits 20000
 
 method_send : IsSend (method.the_field).row
-method_send = search spelled depth 60 fits 20000
+method_send = struct_send (S.shape method.the_type) (
+  search (plain, Name.the_field_send) depth 60 fits 20000,
+  (
+    search (plain, Name.the_field_send) depth 60 fits 20000,
+    (
+      search spelled depth 60 fits 20000,
+      tt,
+    ),
+  ),
+)
 
 method_row_send : IsSend method.the_row
 method_row_send = recorded_send (method.the_field).row _ _ (method.the_type).to_one method_send
@@ -270,7 +280,16 @@ compiled_sync : IsSync (compiled.the_field).row
 compiled_sync = search (plain, compiled_method_row_sync, compiled_actor_row_sync, compiled_executor_row_sync) depth 60 fits 20000
 
 method_sync : IsSync (method.the_field).row
-method_sync = search spelled depth 60 fits 20000
+method_sync = struct_sync (S.shape method.the_type) (
+  search (plain, Name.the_field_sync) depth 60 fits 20000,
+  (
+    search (plain, Name.the_field_sync) depth 60 fits 20000,
+    (
+      search spelled depth 60 fits 20000,
+      tt,
+    ),
+  ),
+)
 
 method_row_sync : IsSync method.the_row
 method_row_sync = recorded_sync (method.the_field).row _ _ (method.the_type).to_one method_sync

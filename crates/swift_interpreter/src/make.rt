@@ -1,35 +1,47 @@
 //! Tasks and children that a turn makes.
 
 ghost use Rattle.std.specs.Prelude.{◌≡◌, ◌++◌, IfOk};
-ghost use Rattle.swift_interpreter.specs.Frames.{effect_view, invocation_if};
-ghost use Rattle.swift_interpreter.specs.Turn.{add_child, adding, detaching, handle_at as handle_of, keep as kept_in, make as made_by, spawning, with_invocation};
-ghost use Rattle.swift_interpreter.specs.TurnStates.{next_of, state_of};
+ghost use Rattle.swift_interpreter.specs.Frames.{effect_view};
+ghost use Rattle.swift_interpreter.specs.Turn.{add_child, adding, detaching, handle_at as handle_of, invoked, keep as kept_in, make as made_by, scene, spawning, with_invocation};
+ghost use Rattle.swift_interpreter.specs.TurnStates.{lent, next_of, state_of};
+ghost use Rattle.script_code.specs.Tree.{target_of};
+ghost use Rattle.script_code.specs.Value.{evs};
 
-use crate::effect::{Effect, Invocation};
+use crate::effect::Effect;
 use crate::exit::Exit;
 use crate::place::put;
 use crate::turn_state::{LAST_NUMBER, TurnState};
-use crate::values::{handle_at, standing};
+use crate::values::{handle_at, invoke, standing};
+use script_code::{Call, Env, Sight};
 use std::alloc::{AllocError, Global};
 use swift_locals::Bindings;
 use swift_types::{Fault, Priority};
 
-// A task is spawned, with the bindings that stand. Nothing to run means that an argument has overflowed.
+// A task is spawned, with the bindings that stand. Where an argument has no value the turn overflows.
 #[inline(never)]
-pub fn spawn(
-    invocation: Option<Invocation>,
-    outer: &Bindings,
+pub fn spawn<'a>(
+    alloc: Global,
+    call: &Call,
+    outer: &'a Bindings,
+    env: &'a Env,
     turn: &mut TurnState,
     priority: Option<Priority>,
     handle: Option<u32>,
     next: u32,
 ) -> Result<Option<Exit>, AllocError>
-    ensures next { IfOk result (λ exit. (at : _) → let s = state_of at turn.old in next_of (state_of at turn.new) exit
-        ≡ with_invocation (invocation_if invocation) s (λ i. made_by (spawning i priority (s.own ++ outer.now)) handle (at next) s)) }
+    ensures next { IfOk result (λ exit. (at : _) → let s = state_of at turn.old in let c = target_of call.now in next_of (state_of at turn.new) exit
+        ≡ with_invocation (invoked c (evs c.args (scene (lent outer.now env.now) s))) s (λ i. made_by (spawning i priority (s.own ++ outer.now)) handle (at next) s)) }
     ensures fields { turn.new.fields.items ≡ turn.old.fields.items }
     ensures method { turn.new.frame.method ≡ turn.old.frame.method }
 {
-    let Some(invocation) = invocation else {
+    let sight = Sight {
+        variables: &turn.frame.variables,
+        fields: &turn.fields,
+        own: &turn.frame.own,
+        outer,
+        env,
+    };
+    let Some(invocation) = invoke(alloc, call, sight)? else {
         return Ok(Some(Exit::Fault(Fault::Overflow)));
     };
     let bindings = standing(outer, &turn.frame.own)?;
@@ -43,19 +55,29 @@ pub fn spawn(
 
 // A detached task is made, which has no bindings.
 #[inline(never)]
-pub fn detach(
-    invocation: Option<Invocation>,
+pub fn detach<'a>(
+    alloc: Global,
+    call: &Call,
+    outer: &'a Bindings,
+    env: &'a Env,
     turn: &mut TurnState,
     priority: Priority,
     handle: Option<u32>,
     next: u32,
 ) -> Result<Option<Exit>, AllocError>
-    ensures next { IfOk result (λ exit. (at : _) → let s = state_of at turn.old in next_of (state_of at turn.new) exit
-        ≡ with_invocation (invocation_if invocation) s (λ i. made_by (detaching i priority) handle (at next) s)) }
+    ensures next { IfOk result (λ exit. (at : _) → let s = state_of at turn.old in let c = target_of call.now in next_of (state_of at turn.new) exit
+        ≡ with_invocation (invoked c (evs c.args (scene (lent outer.now env.now) s))) s (λ i. made_by (detaching i priority) handle (at next) s)) }
     ensures fields { turn.new.fields.items ≡ turn.old.fields.items }
     ensures method { turn.new.frame.method ≡ turn.old.frame.method }
 {
-    let Some(invocation) = invocation else {
+    let sight = Sight {
+        variables: &turn.frame.variables,
+        fields: &turn.fields,
+        own: &turn.frame.own,
+        outer,
+        env,
+    };
+    let Some(invocation) = invoke(alloc, call, sight)? else {
         return Ok(Some(Exit::Fault(Fault::Overflow)));
     };
     make(turn, Effect::Detach(invocation, priority), handle, next)
@@ -63,21 +85,30 @@ pub fn detach(
 
 // A child is added to the group of a handle, with the bindings that stand.
 #[inline(never)]
-pub fn add(
-    invocation: Option<Invocation>,
-    outer: &Bindings,
+pub fn add<'a>(
+    alloc: Global,
+    call: &Call,
+    outer: &'a Bindings,
+    env: &'a Env,
     turn: &mut TurnState,
     handle: u32,
     unless: bool,
     priority: Option<Priority>,
     next: u32,
 ) -> Result<Option<Exit>, AllocError>
-    ensures next { IfOk result (λ exit. (at : _) → let s = state_of at turn.old in next_of (state_of at turn.new) exit
-        ≡ with_invocation (invocation_if invocation) s (λ i. add_child (adding (handle_of s.handles handle) unless i priority (s.own ++ outer.now)) (at next) s)) }
+    ensures next { IfOk result (λ exit. (at : _) → let s = state_of at turn.old in let c = target_of call.now in next_of (state_of at turn.new) exit
+        ≡ with_invocation (invoked c (evs c.args (scene (lent outer.now env.now) s))) s (λ i. add_child (adding (handle_of s.handles handle) unless i priority (s.own ++ outer.now)) (at next) s)) }
     ensures fields { turn.new.fields.items ≡ turn.old.fields.items }
     ensures method { turn.new.frame.method ≡ turn.old.frame.method }
 {
-    let Some(invocation) = invocation else {
+    let sight = Sight {
+        variables: &turn.frame.variables,
+        fields: &turn.fields,
+        own: &turn.frame.own,
+        outer,
+        env,
+    };
+    let Some(invocation) = invoke(alloc, call, sight)? else {
         return Ok(Some(Exit::Fault(Fault::Overflow)));
     };
     let bindings = standing(outer, &turn.frame.own)?;

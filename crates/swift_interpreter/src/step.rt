@@ -63,11 +63,10 @@ pub fn step<'a>(
         }
         Act::Wait(awaited) => wait(alloc, outer, env, turn, awaited, next),
         Act::Receive(place, _) => give(alloc, turn, saved, *place, next, 0),
-        Act::Spawn(call, p, h) => spawn(invoke(alloc, call, sight)?, outer, turn, *p, *h, next),
-        Act::Detach(call, p, h) => detach(invoke(alloc, call, sight)?, turn, *p, *h, next),
+        Act::Spawn(call, p, h) => spawn(alloc, call, outer, env, turn, *p, *h, next),
+        Act::Detach(call, p, h) => detach(alloc, call, outer, env, turn, *p, *h, next),
         Act::Add(group, unless, call, p) => {
-            let invocation = invoke(alloc, call, sight)?;
-            add(invocation, outer, turn, *group, *unless, *p, next)
+            add(alloc, call, outer, env, turn, *group, *unless, *p, next)
         }
         Act::Cancel(cancelled) => cancel(turn, *cancelled, next),
         Act::Open(handle) => open(turn, *handle, next),
