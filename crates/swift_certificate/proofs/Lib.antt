@@ -4,4 +4,5 @@ pub mod First
 pub mod Given
 pub mod Places
 pub mod Played
+pub mod Replays
 pub mod Steps

@@ -3,6 +3,8 @@
 
 // What a report says at its end.
 mod ends;
+// What holds of each legal report.
+pub mod laws;
 // One turn, played again or taken from a checkpoint.
 mod playing;
 // A run that is followed along its log.

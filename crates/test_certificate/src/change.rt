@@ -1,0 +1,111 @@
+//! Changes of reports.
+
+use crate::fault::CaseFault;
+use crate::turns::{journal_on_worker, journal_with_flag, start_at, without_last};
+use std::alloc::Global;
+use swift_events::{Event, Origin};
+use swift_journal::Journal;
+use swift_report::Report;
+use swift_types::{Ending, TaskId};
+
+/// Makes the change that these words tell.
+pub fn make(alloc: Global, report: &mut Report, words: &str) -> Result<(), CaseFault> {
+    let (change, number) = words.split_once(' ').unwrap_or((words, "0"));
+    let Ok(value) = number.parse::<i64>() else {
+        return Err(CaseFault::Change);
+    };
+    match change {
+        "nothing" => {}
+        "field" => set_field(report, value),
+        "records" => set_journal(report, Journal::new(alloc)),
+        "end" => set_ends(report, value),
+        "ending" => set_ending(report, Ending::Value(value)),
+        "origin" => set_origin(report, Origin::Detached(TaskId(0))),
+        "cancel" => cancel(alloc, report)?,
+        "worker" => move_turns(alloc, report)?,
+        "checkpoint" => change_start(alloc, report, value)?,
+        "folded" => leave_out_folded(alloc, report)?,
+        _ => return Err(CaseFault::Change),
+    }
+    Ok(())
+}
+
+fn set_field(report: &mut Report, value: i64) {
+    if report.fields.is_empty() || report.fields[0].is_empty() || report.fields[0][0].is_empty() {
+        return;
+    }
+    report.fields[0][0][0] = value;
+}
+
+fn set_journal(report: &mut Report, journal: Journal) {
+    if !report.journals.is_empty() {
+        report.journals[0] = journal;
+    }
+}
+
+// Each task that ends by the log ends with this value.
+fn set_ends(report: &mut Report, value: i64) {
+    for place in 0..report.log.len() {
+        if let Event::End(task, _) = report.log[place] {
+            report.log[place] = Event::End(task, Ending::Value(value));
+        }
+    }
+}
+
+fn set_ending(report: &mut Report, ending: Ending) {
+    if !report.endings.is_empty() {
+        report.endings[0].1 = ending;
+    }
+}
+
+fn set_origin(report: &mut Report, origin: Origin) {
+    if !report.endings.is_empty() {
+        report.endings[0].0 = origin;
+    }
+}
+
+// The first task is cancelled before its first turn, which has seen it.
+fn cancel(alloc: Global, report: &mut Report) -> Result<(), CaseFault> {
+    let mut log = Vec::new(alloc);
+    for place in 0..report.log.len() {
+        let event = report.log[place];
+        if let Event::Begin(task, number, mut env) = event {
+            if place < 4 {
+                log.push(Event::CancelTask(TaskId(0)))?;
+                env.cancelled = true;
+            }
+            log.push(Event::Begin(task, number, env))?;
+        } else {
+            log.push(event)?;
+        }
+    }
+    report.log = log;
+    if !report.journals.is_empty() {
+        let journal = journal_with_flag(alloc, &report.journals[0])?;
+        report.journals[0] = journal;
+    }
+    Ok(())
+}
+
+fn move_turns(alloc: Global, report: &mut Report) -> Result<(), CaseFault> {
+    if !report.journals.is_empty() {
+        let journal = journal_on_worker(alloc, &report.journals[0], 7)?;
+        report.journals[0] = journal;
+    }
+    Ok(())
+}
+
+fn change_start(alloc: Global, report: &mut Report, value: i64) -> Result<(), CaseFault> {
+    if !report.checkpoints.is_empty() {
+        start_at(alloc, &mut report.checkpoints[0], value)?;
+    }
+    Ok(())
+}
+
+fn leave_out_folded(alloc: Global, report: &mut Report) -> Result<(), CaseFault> {
+    if !report.checkpoints.is_empty() {
+        let checkpoint = without_last(alloc, &report.checkpoints[0])?;
+        report.checkpoints[0] = checkpoint;
+    }
+    Ok(())
+}

@@ -1,0 +1,112 @@
+//! Changes of journals and of checkpoints.
+
+use crate::fault::CaseFault;
+use script_code::Env;
+use std::alloc::Global;
+use swift_interpreter::Frame;
+use swift_journal::{Checkpoint, Folded, Journal, OwnedRecord, Record};
+use swift_locals::Bindings;
+use swift_types::{Priority, Resume};
+
+// Puts a turn to a journal, with another worker and another environment.
+fn push(journal: &mut Journal, turn: &OwnedRecord, worker: u32, env: Env) -> Result<(), CaseFault> {
+    journal.push(&Record {
+        task: turn.task,
+        number: turn.number,
+        worker,
+        frame: &turn.frame,
+        outer: &turn.outer,
+        resume: turn.resume,
+        env,
+        exit: &turn.exit,
+        effects: &turn.effects,
+        after: turn.after.as_ref(),
+    })?;
+    Ok(())
+}
+
+/// The same turns, on this worker.
+pub fn journal_on_worker(
+    alloc: Global,
+    journal: &Journal,
+    worker: u32,
+) -> Result<Journal, CaseFault> {
+    let mut moved = Journal::new(alloc);
+    for place in 0..journal.len() {
+        let turn = journal.read(alloc, place)?;
+        push(&mut moved, &turn, worker, turn.env)?;
+    }
+    Ok(moved)
+}
+
+/// The same turns, each of a task that was cancelled.
+pub fn journal_with_flag(alloc: Global, journal: &Journal) -> Result<Journal, CaseFault> {
+    let mut seen = Journal::new(alloc);
+    for place in 0..journal.len() {
+        let turn = journal.read(alloc, place)?;
+        let env = Env {
+            priority: turn.env.priority,
+            cancelled: true,
+            room: turn.env.room,
+        };
+        push(&mut seen, &turn, turn.worker, env)?;
+    }
+    Ok(seen)
+}
+
+// Fields of one actor that has one.
+fn one_field(alloc: Global, value: i64) -> Result<Vec<Vec<i64>>, CaseFault> {
+    let mut row = Vec::new(alloc);
+    row.push(value)?;
+    let mut rows = Vec::new(alloc);
+    rows.push(row)?;
+    Ok(rows)
+}
+
+/// Sets the fields of a checkpoint of one actor that has one field.
+pub fn start_at(alloc: Global, checkpoint: &mut Checkpoint, value: i64) -> Result<(), CaseFault> {
+    let mut none = Journal::new(alloc);
+    let fields = one_field(alloc, value)?;
+    checkpoint.make_room(&none)?;
+    checkpoint.fold(&mut none, fields);
+    Ok(())
+}
+
+/// The same checkpoint without its last turn.
+pub fn without_last(alloc: Global, checkpoint: &Checkpoint) -> Result<Checkpoint, CaseFault> {
+    let mut journal = Journal::new(alloc);
+    let left = checkpoint.len().saturating_sub(1);
+    for place in 0..left {
+        let turn = checkpoint.read(alloc, place)?;
+        push_folded(alloc, &mut journal, &turn)?;
+    }
+    let mut fields = Vec::new(alloc);
+    for row in checkpoint.fields() {
+        fields.push(Vec::from_slice(alloc, row)?)?;
+    }
+    let mut shorter = Checkpoint::new(alloc, Vec::new(alloc));
+    shorter.make_room(&journal)?;
+    shorter.fold(&mut journal, fields);
+    Ok(shorter)
+}
+
+// Puts a turn to a journal of which a checkpoint has what is left. The rest of it is made up.
+fn push_folded(alloc: Global, journal: &mut Journal, turn: &Folded) -> Result<(), CaseFault> {
+    journal.push(&Record {
+        task: turn.task,
+        number: turn.number,
+        worker: 0,
+        frame: &Frame::new(alloc),
+        outer: &Bindings::new(alloc),
+        resume: Resume::Go,
+        env: Env {
+            priority: Priority::Low,
+            cancelled: false,
+            room: 0,
+        },
+        exit: &turn.exit,
+        effects: &turn.effects,
+        after: turn.after.as_ref(),
+    })?;
+    Ok(())
+}
