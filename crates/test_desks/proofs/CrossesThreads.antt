@@ -1,6 +1,6 @@
 -- What a thread works with on an executor may go to another thread. Who starts a thread with it lists the lemma that is meant beside
 -- `sendable`.
-use denote.Param.Send.{IsSend, sendable}
+use denote.Param.Send.{IsSend, recorded_send, sendable}
 use Rattle.std.proofs.Crossing as Crossing
 use Rattle.swift_inbox.proofs.CrossesThreads.{body_send, inbox_send, pass_send, script_send, script_sync}
 use Rattle.swift_journal.proofs.journal.Journal.TheSendSync as Journal
@@ -41,5 +41,8 @@ exec_send = search (plain, resting_send, inbox_send, spare_send, Word.the_send) 
 pub door_send : IsSend door.the_row
 door_send = search (plain, exec_send, exec_sync, desk_send) depth 60 fits 20000
 
-pub jobs_send : IsSend (jobs.the_field).row
-jobs_send = search (plain, body_send) depth 60 fits 20000
+jobs_field_send : IsSend (jobs.the_field).row
+jobs_field_send = search (plain, body_send) depth 60 fits 20000
+
+pub jobs_send : IsSend jobs.the_row
+jobs_send = recorded_send (jobs.the_field).row _ _ (jobs.the_type).to_one jobs_field_send
