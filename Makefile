@@ -56,7 +56,7 @@ refused:
 	rm -r $$cases $$cases.out; \
 	exit $$status
 
-# Runs both programs for each of their allocations. With a step of 1 it takes a quarter of an hour.
+# Runs both programs for each of their allocations. With steps of 1 it takes half an hour.
 STEP = 1
 EXECUTOR_STEP = 1
 refusals:
@@ -66,7 +66,7 @@ refusals:
 
 # A sample of them.
 refusals-sample:
-	@$(MAKE) --no-print-directory refusals STEP=60 EXECUTOR_STEP=15
+	@$(MAKE) --no-print-directory refusals STEP=60 EXECUTOR_STEP=40
 
 # Whether what the documents link to is there.
 links:

@@ -1,6 +1,6 @@
 //! Calls that are made again where they are refused.
 
-use test_desks::{Door, Leavings, Poller, Setting, Tasks};
+use test_desks::{Door, Jobs, Leavings, Poller, Setting, Tasks};
 
 /// How often a call is made: in a run at most one growth is refused.
 pub const TRIES: u32 = 2;
@@ -55,6 +55,14 @@ pub fn tasks_again(rt: &HostRuntime, setting: &Setting) -> Option<Tasks> {
 pub fn door_again(rt: &HostRuntime, setting: &Setting, room: usize) -> Option<Door> {
     again(rt, "Exec::new", || {
         setting.open(rt.alloc(), 0, 1, room).ok()
+    })
+}
+
+/// No job, with room for one.
+pub fn jobs_again(rt: &HostRuntime) -> Option<Jobs> {
+    again(rt, "Vec::with_capacity", || {
+        let list = Vec::with_capacity(rt.alloc(), 1).ok()?;
+        Some(Jobs { list })
     })
 }
 

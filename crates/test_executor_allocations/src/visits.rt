@@ -1,8 +1,8 @@
 //! Visits of a worker.
 
 use crate::again::{
-    TRIES, door_again, leavings_again, poller_again, refused, setting_again, tasks_again,
-    text_again, wrong,
+    TRIES, door_again, jobs_again, leavings_again, poller_again, refused, setting_again,
+    tasks_again, text_again, wrong,
 };
 use std::sync::Wait;
 use swift_executor::{ExecFault, Open, Ran};
@@ -59,8 +59,14 @@ fn send<W: Wait>(rt: &HostRuntime, wait: &W, door: &mut Door, jobs: &mut Jobs, t
 }
 
 // Adds a root, again where that is refused, and sends its job.
-fn send_root<W: Wait>(rt: &HostRuntime, wait: &W, door: &mut Door, tasks: &Tasks, root: u32) {
-    let mut jobs = Jobs::new(rt.alloc());
+fn send_root<W: Wait>(
+    rt: &HostRuntime,
+    wait: &W,
+    door: &mut Door,
+    tasks: &Tasks,
+    root: u32,
+) -> Option<()> {
+    let mut jobs = jobs_again(rt)?;
     for _ in 0..TRIES {
         match tasks.add_root(wait, root, &mut jobs) {
             Ok(()) => break,
@@ -68,6 +74,7 @@ fn send_root<W: Wait>(rt: &HostRuntime, wait: &W, door: &mut Door, tasks: &Tasks
         }
     }
     send(rt, wait, door, &mut jobs, root);
+    Some(())
 }
 
 // A visit, made so many times where it is refused. The jobs that it makes come behind these.
@@ -157,8 +164,8 @@ fn first_visit<W: Wait>(
 ) -> Option<()> {
     let tasks = tasks_again(rt, setting)?;
     let mut door = door_again(rt, setting, 2)?;
-    send_root(rt, wait, &mut door, &tasks, 0);
-    send_root(rt, wait, &mut door, &tasks, 1);
+    send_root(rt, wait, &mut door, &tasks, 0)?;
+    send_root(rt, wait, &mut door, &tasks, 1)?;
     let mut jobs = Jobs::new(rt.alloc());
     let ran = visit(rt, wait, &mut door, &tasks, poller, &mut jobs, 1);
     let (left, text) = close(rt, wait, door, setting)?;
@@ -182,8 +189,8 @@ fn all_visits<W: Wait>(
 ) -> Option<()> {
     let tasks = tasks_again(rt, setting)?;
     let mut door = door_again(rt, setting, 2)?;
-    send_root(rt, wait, &mut door, &tasks, 0);
-    send_root(rt, wait, &mut door, &tasks, 1);
+    send_root(rt, wait, &mut door, &tasks, 0)?;
+    send_root(rt, wait, &mut door, &tasks, 1)?;
     let mut jobs = Jobs::new(rt.alloc());
     for _ in 0..5 {
         tell_turn(rt, wait, &mut door, &tasks, poller, &mut jobs);
@@ -209,7 +216,7 @@ pub fn fold_journal<W: Wait>(rt: &HostRuntime, wait: &W) -> Option<()> {
     let tasks = tasks_again(rt, &setting)?;
     let mut door = door_again(rt, &setting, 5)?;
     for root in 0..5 {
-        send_root(rt, wait, &mut door, &tasks, root);
+        send_root(rt, wait, &mut door, &tasks, root)?;
     }
     let mut jobs = Jobs::new(rt.alloc());
     for _ in 1..FOLD {
