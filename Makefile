@@ -36,29 +36,37 @@ examples: $(PROGRAM)
 		echo "$$script prints what it has to"; \
 	done
 
-# More allocations than a run of test_allocations makes.
+# More allocations than a run of test_allocations makes, and than one of test_executor_allocations.
 ALLOCATIONS = 5000
+EXECUTOR_ALLOCATIONS = 800
 
-# Runs test_allocations once for each STEP-th of its allocations, with that one refused, and compares what it writes with
+# Runs the program CRATE once for each STEP-th of its allocations, with that one refused, and compares what it writes with
 # its file stdout. A run's file has the number of allocations that are made and given back first; the run of the file 0
-# has to be refused none. With STEP=1 it takes a quarter of an hour.
-STEP = 1
-refusals:
+# has to be refused none.
+refused:
 	@cases=$$(mktemp -d); \
 	for n in 0 $$(seq 1 $(STEP) $$(($(ALLOCATIONS) - 1))); do \
-		echo $$n > $$cases/$$n; cp crates/test_allocations/stdout $$cases/$$n.stdout; \
+		echo $$n > $$cases/$$n; cp crates/$(CRATE)/stdout $$cases/$$n.stdout; \
 	done; \
 	rm $$cases/0.stdout; \
-	(cd crates/test_allocations && rt try --steps 1 --fail-alloc $(ALLOCATIONS) --cases $$cases) > $$cases.out 2>&1; \
+	(cd crates/$(CRATE) && rt try --steps 1 --fail-alloc $(ALLOCATIONS) --cases $$cases) > $$cases.out 2>&1; \
 	status=$$?; \
 	if grep -q '^refused: ' $$cases.out; then echo 'ALLOCATIONS is too small'; status=1; fi; \
 	sed '/^== 0$$/,/^case=0 /d; /^allocations/d; / output=expected /d' $$cases.out; \
 	rm -r $$cases $$cases.out; \
 	exit $$status
 
+# Runs both programs for each of their allocations. With steps of 1 it takes half an hour.
+STEP = 1
+EXECUTOR_STEP = 1
+refusals:
+	@$(MAKE) --no-print-directory refused CRATE=test_allocations
+	@$(MAKE) --no-print-directory refused CRATE=test_executor_allocations \
+		ALLOCATIONS=$(EXECUTOR_ALLOCATIONS) STEP=$(EXECUTOR_STEP)
+
 # A sample of them.
 refusals-sample:
-	@$(MAKE) --no-print-directory refusals STEP=60
+	@$(MAKE) --no-print-directory refusals STEP=60 EXECUTOR_STEP=40
 
 # Whether what the documents link to is there.
 links:
@@ -75,4 +83,4 @@ $(MEASURE): crates.txt $(SOURCES)
 bench: $(PROGRAM) $(MEASURE)
 	@python3 bench/run.py
 
-.PHONY: try run test prove mutants examples refusals refusals-sample links bench
+.PHONY: try run test prove mutants examples refused refusals refusals-sample links bench

@@ -1,0 +1,41 @@
+//! Calls that a gate makes.
+
+use crate::stage::Stage;
+use std::alloc::AllocGlobal;
+use std::random::RandomSource;
+use std::sync::{Mutex, Wait};
+use swift_executor::{Gate, Moment};
+
+/// A gate that makes calls at the first moment of this name, and writes what they answer.
+#[derive(Drop)]
+pub struct Acting<'a, R: Wait + RandomSource + AllocGlobal> {
+    pub rt: &'a R,
+    pub stage: &'a Stage,
+    pub moment: &'a str,
+    pub calls: &'a str,
+    pub lines: Mutex<String>,
+}
+
+// The name of a moment, whatever executor, worker and task it is of.
+fn name_of(moment: Moment) -> &'static str {
+    match moment {
+        Moment::Took(_, _) => "Took",
+        Moment::Began(_, _) => "Began",
+        Moment::Accepted(_, _) => "Accepted",
+        Moment::Chose(_, _, _) => "Chose",
+        Moment::Turned(_, _, _) => "Turned",
+        Moment::Ended(_, _) => "Ended",
+        Moment::Pushed(_, _) => "Pushed",
+        Moment::Counted(_, _) => "Counted",
+    }
+}
+
+impl<'a, R: Wait + RandomSource + AllocGlobal> Gate for Acting<'a, R> {
+    fn at(&self, moment: Moment) {
+        let mut lines = self.lines.lock(self.rt);
+        if lines.is_empty() && name_of(moment) == self.moment {
+            self.stage
+                .play(self.rt, "  at that moment: ", self.calls, 0, &mut lines);
+        }
+    }
+}

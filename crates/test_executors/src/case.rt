@@ -1,0 +1,95 @@
+//! A case.
+
+use crate::acting::Acting;
+use crate::call::number;
+use crate::end::close_all;
+use crate::stage::Stage;
+use std::alloc::AllocGlobal;
+use std::fmt::Write;
+use std::random::RandomSource;
+use std::sync::{Mutex, Wait};
+use test_desks::Setting;
+
+/// Writes the title of a case, each call with its answer, and what closing its executors gives.
+pub fn play<R>(rt: &R, case: &str, out: &mut String) -> Option<()>
+where
+    R: Wait + RandomSource + AllocGlobal,
+{
+    let (title, rest) = case.split_once('\n')?;
+    let (text, lines) = rest.split_once("\n--\n")?;
+    let (head, calls) = lines.split_once('\n')?;
+    writeln!(out, "== {title}").ok()?;
+    play_script(rt, text, head, calls, out)
+}
+
+// Makes the executors of a case and its calls, and gives the executors up.
+fn play_script<R>(rt: &R, text: &str, head: &str, lines: &str, out: &mut String) -> Option<()>
+where
+    R: Wait + RandomSource + AllocGlobal,
+{
+    let (workers, room) = head.split_once(' ')?;
+    let (workers, room) = (number(workers, 0)?, number(room, 0)?);
+    let mut stage = Stage::new(rt.alloc(), Setting::read(rt.alloc(), text)?)?;
+    stage.open_all(rt.alloc(), workers, room)?;
+    let calls = lines.strip_suffix("\ndrop");
+    for line in calls.unwrap_or(lines).split('\n') {
+        play_line(rt, &mut stage, line, out);
+    }
+    if calls.is_none() {
+        return close_all(rt, stage, out);
+    }
+    drop(stage);
+    out.push_str("dropped\n").ok()
+}
+
+// Makes the calls of a line.
+fn play_line<R>(rt: &R, stage: &mut Stage, line: &str, out: &mut String)
+where
+    R: Wait + RandomSource + AllocGlobal,
+{
+    if let Some(rest) = line.strip_prefix("at ") {
+        let _ = play_at(rt, stage, line, rest, out);
+    } else if let Some(desk) = line.strip_prefix("split ") {
+        let split = number(desk, 0).and_then(|desk| stage.split(rt, desk));
+        let answer = if split.is_some() { "ok" } else { "no" };
+        let _ = writeln!(out, "{line}: {answer}");
+    } else if let Some((range, calls)) = line.split_once(": ") {
+        let _ = play_range(rt, stage, range, calls, out);
+    } else {
+        stage.play(rt, "", line, 0, out);
+    }
+}
+
+// A call with a gate that makes others at a moment: `MOMENT { CALLS } CALL`.
+fn play_at<R>(rt: &R, stage: &Stage, line: &str, rest: &str, out: &mut String) -> Option<()>
+where
+    R: Wait + RandomSource + AllocGlobal,
+{
+    let (moment, rest) = rest.split_once(" { ")?;
+    let (calls, call) = rest.split_once(" } ")?;
+    let gate = Acting {
+        rt,
+        stage,
+        moment,
+        calls,
+        lines: Mutex::new(String::new(rt.alloc())),
+    };
+    let mut answer = String::new(rt.alloc());
+    stage.make(rt, call, 0, &gate, &mut answer);
+    let lines = gate.lines.into_inner();
+    writeln!(out, "{lines}{line}: {answer}").ok()
+}
+
+// Makes calls for each number of a range, `FIRST to LAST`, and writes what they answer for the last.
+fn play_range<R>(rt: &R, stage: &Stage, range: &str, calls: &str, out: &mut String) -> Option<()>
+where
+    R: Wait + RandomSource + AllocGlobal,
+{
+    let (first, last) = range.split_once(" to ")?;
+    let mut lines = String::new(rt.alloc());
+    for count in number(first, 0)?..=number(last, 0)? {
+        lines.clear();
+        stage.play(rt, "  ", calls, count, &mut lines);
+    }
+    write!(out, "{range}:\n{lines}").ok()
+}

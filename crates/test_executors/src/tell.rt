@@ -1,0 +1,59 @@
+//! What calls answered.
+
+use std::alloc::{AllocError, Global};
+use std::fmt::Write;
+use swift_executor::{ExecFault, Ran};
+use swift_queue::Job;
+use swift_turn::Body;
+use swift_types::TaskId;
+
+/// Why the job of this number of a task came back.
+pub fn tell_back(
+    task: u32,
+    number: u32,
+    fault: Option<ExecFault>,
+    out: &mut String,
+) -> Result<(), AllocError> {
+    match fault {
+        None => out.push_str("can't run there")?,
+        Some(fault) => write!(out, "{fault}")?,
+    }
+    write!(out, ", t{task}.{number} came back")
+}
+
+/// What came of a visit.
+pub fn tell_ran(ran: Result<Ran, ExecFault>, out: &mut String) -> Result<(), AllocError> {
+    match ran {
+        Ok(Ran::Turn(TaskId(task), left)) => write!(out, "turn of t{task}, left {left:?}"),
+        Ok(Ran::Busy) => out.push_str("busy"),
+        Ok(Ran::Nothing(left)) => write!(out, "nothing, left {left:?}"),
+        Err(fault) => write!(out, "{fault}"),
+    }
+}
+
+/// Jobs, in order, and what each begins with.
+pub fn tell_jobs(jobs: &[Job<Body>], out: &mut String) -> Result<(), AllocError> {
+    for job in jobs {
+        let (task, number, resume) = (job.task().0, job.number(), job.resume());
+        write!(out, ", job t{task}.{number} {resume:?}")?;
+    }
+    Ok(())
+}
+
+/// Which jobs are somewhere, by the number of their task.
+pub fn tell_place(
+    alloc: Global,
+    jobs: &[Job<Body>],
+    place: &str,
+    out: &mut String,
+) -> Result<(), AllocError> {
+    let mut seen = Vec::new(alloc);
+    for job in jobs {
+        seen.push((job.task().0, job.number()))?;
+    }
+    seen.sort()?;
+    for (task, number) in &seen {
+        write!(out, ", t{task}.{number} {place}")?;
+    }
+    Ok(())
+}
