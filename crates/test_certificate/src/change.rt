@@ -18,7 +18,7 @@ pub fn make(alloc: Global, report: &mut Report, words: &str) -> Result<(), CaseF
         "nothing" => {}
         "field" => set_field(report, value),
         "records" => set_journal(report, Journal::new(alloc)),
-        "end" => set_ends(report, value),
+        "end" => set_ends(alloc, report, value)?,
         "ending" => set_ending(report, Ending::Value(value)),
         "origin" => set_origin(report, Origin::Detached(TaskId(0))),
         "cancel" => cancel(alloc, report)?,
@@ -44,12 +44,17 @@ fn set_journal(report: &mut Report, journal: Journal) {
 }
 
 // Each task that ends by the log ends with this value.
-fn set_ends(report: &mut Report, value: i64) {
+fn set_ends(alloc: Global, report: &mut Report, value: i64) -> Result<(), CaseFault> {
+    let mut log = Vec::new(alloc);
     for place in 0..report.log.len() {
-        if let Event::End(task, _) = report.log[place] {
-            report.log[place] = Event::End(task, Ending::Value(value));
-        }
+        let event = match report.log[place] {
+            Event::End(task, _) => Event::End(task, Ending::Value(value)),
+            other => other,
+        };
+        log.push(event)?;
     }
+    report.log = log;
+    Ok(())
 }
 
 fn set_ending(report: &mut Report, ending: Ending) {

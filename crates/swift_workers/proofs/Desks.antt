@@ -1,0 +1,105 @@
+-- Executors and their desks, by place.
+use Rattle.std.proofs.Common.{◌≡◌, ℕ, zero, suc, ◌+◌, ◌<◌, Some, List, [], ◌∷◌, ◌++◌, length, get_or, refl, sym, subst, ap, ◌∙◌, arith, length-append}
+use Rattle.std.specs.Prelude.{Option, slice_get, slice_set, take, unwrap_or}
+use Rattle.std.proofs.lemmas.Option.{none-some, same_Some, slice_get_read}
+use Rattle.swift_script.specs.Scripts.{ScriptView}
+use Rattle.swift_inbox.specs.Site.{Site}
+use Rattle.swift_executor.specs.Exec.{ExecIs, DeskIs, IsDeskOf, after_run}
+use Rattle.swift_executor.specs.declared.ran.Ran.{Ran}
+use Rattle.swift_executor.specs.declared.ran.Ran.TheVariants.{Turn, Busy, Nothing}
+use Rattle.swift_workers.specs.declared.crew.Hand.{Hand}
+use Rattle.swift_workers.specs.Crew.{AreAtSites, AreDesksOf, AreHandsOf}
+
+abbrev Each : List ExecIs → List DeskIs → Type 0
+Each execs desks = (k : ℕ) (e : ExecIs) (d : DeskIs) → slice_get execs k ≡ Some e → slice_get desks k ≡ Some d → IsDeskOf e d
+
+each_set : (execs : List ExecIs) (desks : List DeskIs) (k : ℕ) (e : ExecIs) (d : DeskIs) → Each execs desks → slice_get execs k ≡ Some e → IsDeskOf e d → Each execs (slice_set desks k d)
+each_set [] desks k e d each at is j f g exec desk = absurd (cc exec)
+each_set (x ∷ xs) [] k e d each at is j f g exec desk = absurd (cc desk)
+each_set (x ∷ xs) (y ∷ ys) zero e d each at is zero f g exec desk =
+    let same : e ≡ f = sym (same_Some x e at) ∙ same_Some x f exec in
+    subst (λ (z : ExecIs). IsDeskOf z g) same (subst (λ (z : DeskIs). IsDeskOf e z) (same_Some d g desk) is)
+each_set (x ∷ xs) (y ∷ ys) zero e d each at is (suc j) f g exec desk = each (suc j) f g exec desk
+each_set (x ∷ xs) (y ∷ ys) (suc k) e d each at is zero f g exec desk = each zero f g exec desk
+each_set (x ∷ xs) (y ∷ ys) (suc k) e d each at is (suc j) f g exec desk = each_set xs ys k e d (λ i a b. each (suc i) a b) at is j f g exec desk
+
+same_length : (desks : List DeskIs) (k : ℕ) (d : DeskIs) → length (slice_set desks k d) ≡ length desks
+same_length [] k d = refl
+same_length (y ∷ ys) zero d = refl
+same_length (y ∷ ys) (suc k) d = ap suc (same_length ys k d)
+
+-- the desk at a place is of the executor there
+pub desk_at : (execs : List ExecIs) (desks : List DeskIs) (k : ℕ) (e : ExecIs) (d : DeskIs) → AreDesksOf execs desks → k < length execs → e ≡ get_or execs k e → d ≡ get_or desks k d → IsDeskOf e d
+desk_at execs desks k e d are lt at desk = are.each k e d (slice_get_read execs (length execs) k e refl lt at) (slice_get_read desks (length desks) k d refl (omega (arith, lt, are.as_many)) desk)
+
+-- a desk of an executor in place of another one
+pub desk_set : (execs : List ExecIs) (desks : List DeskIs) (k : ℕ) (e : ExecIs) (d : DeskIs) → AreDesksOf execs desks → k < length execs → e ≡ get_or execs k e → IsDeskOf e d → AreDesksOf execs (slice_set desks k d)
+desk_set execs desks k e d are lt at is = record {
+  as_many = same_length desks k d ∙ are.as_many;
+  each = each_set execs desks k e d are.each (slice_get_read execs (length execs) k e refl lt at) is;
+}
+
+-- a desk after a visit is of the same executor
+pub desk_ran : (e : ExecIs) (old new : DeskIs) (ran : Ran) → IsDeskOf e old → new ≡ after_run ran old → IsDeskOf e new
+desk_ran e old new (Turn task left) is same = subst (λ (d : DeskIs). IsDeskOf e d) (sym same) is
+desk_ran e old new Busy is same = subst (λ (d : DeskIs). IsDeskOf e d) (sym same) is
+desk_ran e old new (Nothing left) is same = subst (λ (d : DeskIs). IsDeskOf e d) (sym same) is
+
+each_push : (execs : List ExecIs) (desks : List DeskIs) (e : ExecIs) (d : DeskIs) → length desks ≡ length execs → Each execs desks → IsDeskOf e d → Each (execs ++ e ∷ []) (desks ++ d ∷ [])
+each_push [] [] e d many each is zero f g exec desk = subst (λ (z : ExecIs). IsDeskOf z g) (same_Some e f exec) (subst (λ (z : DeskIs). IsDeskOf e z) (same_Some d g desk) is)
+each_push [] [] e d many each is (suc j) f g exec desk = absurd (cc exec)
+each_push [] (y ∷ ys) e d many each is j f g exec desk = absurd (omega (arith, many))
+each_push (x ∷ xs) [] e d many each is j f g exec desk = absurd (omega (arith, many))
+each_push (x ∷ xs) (y ∷ ys) e d many each is zero f g exec desk = each zero f g exec desk
+each_push (x ∷ xs) (y ∷ ys) e d many each is (suc j) f g exec desk = each_push xs ys e d (omega (arith, many)) (λ i a b. each (suc i) a b) is j f g exec desk
+
+-- one executor more, with its desk
+pub desk_push : (execs : List ExecIs) (desks : List DeskIs) (e : ExecIs) (d : DeskIs) → AreDesksOf execs desks → IsDeskOf e d → AreDesksOf (execs ++ e ∷ []) (desks ++ d ∷ [])
+desk_push execs desks e d are is = record {
+  as_many = omega (arith, are.as_many, length-append desks (d ∷ []), length-append execs (e ∷ []));
+  each = each_push execs desks e d are.as_many are.each is;
+}
+
+sites_from : (p : ScriptView) (n : ℕ) (execs : List ExecIs) (e : ExecIs) → ((k : ℕ) (f : ExecIs) → slice_get execs k ≡ Some f → f.inbox.site ≡ record { script = p; executor = n + k })
+    → e.inbox.site ≡ record { script = p; executor = n + length execs } → (k : ℕ) (f : ExecIs) → slice_get (execs ++ e ∷ []) k ≡ Some f → f.inbox.site ≡ record { script = p; executor = n + k }
+sites_from p n [] e are is zero f at = subst (λ (z : ExecIs). z.inbox.site ≡ record { script = p; executor = n + 0 }) (same_Some e f at) is
+sites_from p n [] e are is (suc k) f at = absurd (cc at)
+sites_from p n (x ∷ xs) e are is zero f at = are zero f at
+sites_from p n (x ∷ xs) e are is (suc k) f at =
+    let move : (m : ℕ) → suc n + m ≡ n + suc m = λ m. omega arith in
+    subst (λ m. f.inbox.site ≡ record { script = p; executor = m }) (move k)
+    (sites_from p (suc n) xs e (λ i g there. subst (λ m. g.inbox.site ≡ record { script = p; executor = m }) (sym (move i)) (are (suc i) g there)) (subst (λ m. e.inbox.site ≡ record { script = p; executor = m }) (sym (move (length xs))) is) k f at)
+
+-- one executor more, at its place
+pub site_push : (p : ScriptView) (execs : List ExecIs) (e : ExecIs) → AreAtSites p execs → e.inbox.site ≡ record { script = p; executor = length execs } → AreAtSites p (execs ++ e ∷ [])
+site_push p execs e are is =
+    let to : (n : ℕ) → 0 + n ≡ n = λ n. omega arith in
+    λ k f at. subst (λ n. f.inbox.site ≡ record { script = p; executor = n }) (to k)
+    (sites_from p 0 execs e (λ i g there. subst (λ n. g.inbox.site ≡ record { script = p; executor = n }) (sym (to i)) (are i g there)) (subst (λ n. e.inbox.site ≡ record { script = p; executor = n }) (sym (to (length execs))) is) k f at)
+
+at_end : (xs rest : List ExecIs) (e : ExecIs) → slice_get (xs ++ e ∷ rest) (length xs) ≡ Some e
+at_end [] rest e = refl
+at_end (x ∷ xs) rest e = at_end xs rest e
+
+-- the script of the executor at a place
+pub site_script : (p : ScriptView) (execs : List ExecIs) (k : ℕ) (e : ExecIs) → AreAtSites p execs → k < length execs → e ≡ get_or execs k e → e.inbox.site.script ≡ p
+site_script p execs k e are lt at = ap (λ (x : Site). x.script) (are k e (slice_get_read execs (length execs) k e refl lt at))
+
+-- the executor after those of a prefix
+pub site_after : (p : ScriptView) (before rest execs : List ExecIs) (e : ExecIs) → AreAtSites p execs → before ++ e ∷ rest ≡ execs → e.inbox.site ≡ record { script = p; executor = length before }
+site_after p before rest execs e are is = are (length before) e (subst (λ (xs : List ExecIs). slice_get xs (length before) ≡ Some e) is (at_end before rest e))
+
+take_suc : (xs : List ExecIs) (n : ℕ) (x : ExecIs) → slice_get xs n ≡ Some x → take (suc n) xs ≡ take n xs ++ x ∷ []
+take_suc [] n x is = absurd (none-some x is)
+take_suc (y ∷ ys) zero x is = ap (λ (o : Option ExecIs). unwrap_or o y ∷ []) is
+take_suc (y ∷ ys) (suc n) x is = ap (λ (zs : List ExecIs). y ∷ zs) (take_suc ys n x is)
+
+one_more : (n : ℕ) → n + 1 ≡ suc n
+one_more n = omega arith
+
+pub take_next : (xs : List ExecIs) (n : ℕ) (x : ExecIs) → slice_get xs n ≡ Some x → take (n + 1) xs ≡ take n xs ++ x ∷ []
+take_next xs n x is = ap (λ k. take k xs) (one_more n) ∙ take_suc xs n x is
+
+pub last_hand : (execs : List ExecIs) (hands : List Hand) (h : Hand) → AreHandsOf execs (hands ++ h ∷ []) → AreDesksOf execs h.desks.items
+last_hand execs [] h are = are.0
+last_hand execs (x ∷ xs) h are = last_hand execs xs h are.1

@@ -1,0 +1,3 @@
+pub mod CrossesThreads
+pub mod Desks
+pub mod Left

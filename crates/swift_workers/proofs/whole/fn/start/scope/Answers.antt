@@ -1,0 +1,15 @@
+use Rattle.std.proofs.Common.{◌≡◌, subst, List}
+use Rattle.std.specs.List.{AllByRecursion}
+use denote.Param.Send.{sendable}
+use Rattle.swift_workers.specs.declared.crew.Hand.{Hand}
+use Rattle.swift_workers.specs.Crew.{AreDesksOf, AreHandsOf}
+use Rattle.swift_workers.proofs.CrossesThreads.{crew_send, hand_send}
+use Rattle.swift_workers.proofs.Desks.{last_hand}
+use Rattle.swift_workers.proofs.whole.fn.start.scope.Goals as goal
+
+pub spawn-spawned-requires-send-F : goal.spawn-spawned-requires-send-F
+spawn-spawned-requires-send-F g c κs within = search (sendable, crew_send, hand_send) depth 20
+
+pub spawn-spawned-requires-after_bounds : goal.spawn-spawned-requires-after_bounds
+spawn-spawned-requires-after_bounds g c κs within =
+    (c.requires.sites, last_hand c.captures.crew.execs.now c.pop.new.self.items c.in-Some.hand (subst (λ (hs : List Hand). AreHandsOf c.captures.crew.execs.now hs) c.in-Some.ensures.items c.loop-hand.invariant))

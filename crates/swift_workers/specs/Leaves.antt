@@ -1,0 +1,48 @@
+-- What a run leaves of its executors and of its tasks (SE-0392 for executors that run one job at a time, SE-0304 for tasks; the
+-- rest is our own).
+use Rattle.std.specs.Prelude.{◌≡◌, ◌↔◌, ℕ, ◌+◌, ◌<◌, ℤ, Some, List, [], ◌∷◌, length}
+use Rattle.std.specs.declared.vec.Vec.{Vec}
+use Rattle.std.specs.declared.alloc.Global.{Global}
+use Rattle.script_code.specs.Seen.{rows_of}
+use Rattle.swift_types.specs.declared.outcome.Ending.{Ending}
+use Rattle.swift_script.specs.Scripts.{ScriptView}
+use Rattle.swift_journal.specs.Checkpoints.{CheckpointRoom, CheckpointView}
+use Rattle.swift_journal.specs.Records.{RecordView}
+use Rattle.swift_journal.specs.Replay.{AreLawful, RunOn, replay}
+use Rattle.swift_events.specs.declared.event.Event.{Event}
+use Rattle.swift_events.specs.declared.life.Origin.{Origin}
+use Rattle.swift_events.specs.declared.life.Origin.TheVariants.{Root}
+use Rattle.swift_events.specs.Events.{tasks_of}
+use Rattle.swift_events.specs.Lives.{life_of}
+use Rattle.swift_executor.specs.State.{HasPast}
+
+-- The turns of an executor's checkpoint were lawful from the start values on (`HasPast`), its journal is lawful from the checkpoint
+-- on, its turns are of the executor's actors, and replaying them gives these fields.
+pub record IsReplayed (p : ScriptView) (e : ℕ) (c : CheckpointView) (journal : List RecordView) (fields : List (List ℤ)) : Type 0 where
+  pub past : HasPast p e c
+  pub lawful : AreLawful p c.fields journal
+  pub runs : RunOn p e journal
+  pub replayed : fields ≡ replay p c.fields journal
+
+-- The same of each executor from a number on.
+abbrev pub AreReplayed : ScriptView → ℕ → List CheckpointRoom → List (List RecordView) → List (Vec (Vec ℤ Global) Global) → Type 0
+AreReplayed p e [] [] [] = Unit {0}
+AreReplayed p e (c ∷ checkpoints) (journal ∷ journals) (fields ∷ others) =
+    IsReplayed p e c.view journal (rows_of fields.items) × AreReplayed p (e + 1) checkpoints journals others
+AreReplayed p e _ _ _ = ⊥
+
+-- A task comes from there and has ended so, as the log says. It is a root's where its number is below that of roots.
+pub record IsEnding (roots : ℕ) (log : List Event) (task : ℕ) (e : Origin × Ending) : Type 0 where
+  pub origin : (life_of task log).origin ≡ Some e.0
+  pub ending : (life_of task log).ending ≡ Some e.1
+  pub root : (e.0 ≡ Root) ↔ (task < roots)
+
+-- the same of each task from a number on
+abbrev pub AreEndingsFrom : ℕ → List Event → ℕ → List (Origin × Ending) → Type 0
+AreEndingsFrom roots log task [] = Unit {0}
+AreEndingsFrom roots log task (e ∷ es) = IsEnding roots log task e × AreEndingsFrom roots log (task + 1) es
+
+-- There is one ending for each task that the log made, in their order, and the first ones are those of the roots.
+pub record AreEndings (roots : ℕ) (log : List Event) (endings : List (Origin × Ending)) : Type 0 where
+  pub many : length endings ≡ tasks_of roots log
+  pub each : AreEndingsFrom roots log 0 endings

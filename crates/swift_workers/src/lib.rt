@@ -1,0 +1,27 @@
+//! Runs a script to its end on one to eight threads, over the executors and the book of tasks.
+#![tactic(auto)]
+
+// The executors of a script, and the desks of each worker.
+mod crew;
+
+// Why a run was given up.
+mod fault;
+
+// What a run leaves.
+mod leave;
+
+// The tokens of executors that have jobs.
+mod pool;
+
+// Jobs on their way to executors.
+mod sending;
+
+// The turns of one worker.
+mod turns;
+
+// Whole runs.
+mod whole;
+
+pub use fault::RunFault;
+pub use swift_executor::{Gate, Moment, Open};
+pub use whole::run;

@@ -1,0 +1,75 @@
+//! Runs the scripts of its standard input on one, two, four and eight workers, and on none and nine, and writes what it gets:
+//! the report of the run on one worker without its journals, and whether the others are the same. What it has to write stands in
+//! the file stdout. A case begins with a line `== TITLE`, and has a script up to the next such line; what stands before the
+//! first case is a comment. No script here says more than its tasks and fields, in which all runs have to agree.
+#![tactic(auto)]
+
+// Why a case has no answer.
+mod fault;
+
+use crate::fault::CaseFault;
+use std::alloc::{AllocGlobal, Global};
+use std::io;
+use std::io::Write;
+use std::random::RandomSource;
+use std::sync::{Arc, Wait};
+use std::thread::Threads;
+use swift_report::report_text;
+use swift_script::{Script, read};
+use swift_workers::{Open, run};
+
+fn main(rt: HostRuntime) -> Result<(), CaseFault> {
+    let input = io::read_to_string(rt.alloc(), rt.stdin())?;
+    let mut cases = input.as_str().split("\n== ");
+    let _comment = cases.next();
+    for case in cases {
+        let (title, text) = case.split_once('\n').unwrap_or((case, ""));
+        let answer = answer(&rt, text)?;
+        writeln!(rt.stdout(), "== {title}")?;
+        rt.stdout().write_all(&answer)?;
+    }
+    Ok(())
+}
+
+fn script_of(alloc: Global, text: &str) -> Result<Arc<Script>, CaseFault> {
+    let Ok(script) = read(alloc, text.as_bytes()) else {
+        return Err(CaseFault::Script);
+    };
+    Ok(Arc::new(alloc, script)?)
+}
+
+// The report of a run on so many workers, without its journals, or why there is none.
+fn report_on<R>(rt: &R, script: &Arc<Script>, workers: u32) -> Result<Vec<u8>, CaseFault>
+where
+    R: RandomSource + AllocGlobal + Threads + Wait + Sync,
+{
+    let alloc = rt.alloc();
+    match run(rt, Arc::clone(script)?, workers, &Open) {
+        Ok(report) => Ok(report_text(alloc, script, &report, true)?),
+        Err(fault) => {
+            let mut out = Vec::new(alloc);
+            writeln!(out, "{fault}")?;
+            Ok(out)
+        }
+    }
+}
+
+// What is written for a script.
+fn answer<R>(rt: &R, text: &str) -> Result<Vec<u8>, CaseFault>
+where
+    R: RandomSource + AllocGlobal + Threads + Wait + Sync,
+{
+    let script = script_of(rt.alloc(), text)?;
+    let mut out = report_on(rt, &script, 1)?;
+    let alone = report_on(rt, &script, 1)?;
+    for workers in [2, 4, 8] {
+        let others = report_on(rt, &script, workers)?;
+        let is_same = others.as_slice() == alone.as_slice();
+        writeln!(out, "{workers} workers, the same: {is_same}")?;
+    }
+    for workers in [0, 9] {
+        let refused = report_on(rt, &script, workers)?;
+        out.extend_from_slice(&refused)?;
+    }
+    Ok(out)
+}
