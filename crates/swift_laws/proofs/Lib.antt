@@ -1,0 +1,5 @@
+pub mod HistoriesWritten
+pub mod HistoriesCounted
+pub mod HistoriesTurns
+pub mod HistoriesGrow
+pub mod HistoriesOnce

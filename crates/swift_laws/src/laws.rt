@@ -1,0 +1,20 @@
+//! What holds of each legal report. A call costs nothing; its contract is the law.
+
+ghost use Rattle.swift_laws.specs.Laws.{EachTurnStandsOnce, TurnsAreNumbered, TurnsHaveTheirPriority};
+
+/// In a legal report no turn stands twice, in journals and checkpoints together (our own).
+pub fn each_turn_stands_once()
+    ensures { EachTurnStandsOnce }
+{}
+
+/// In a legal report the turns of a task are numbered 0, 1, 2 and so on, in the order of the log (our own).
+pub fn turns_are_numbered()
+    ensures { TurnsAreNumbered }
+{}
+
+/// In a legal report each turn has begun at a point of the log with the priority that its task had there: the greatest of
+/// those given to tasks from which it is reached along children and waits (SE-0304). It was told there whether its task
+/// was cancelled.
+pub fn turns_have_their_priority()
+    ensures { TurnsHaveTheirPriority }
+{}
