@@ -3,3 +3,5 @@ pub mod HistoriesCounted
 pub mod HistoriesTurns
 pub mod HistoriesGrow
 pub mod HistoriesOnce
+pub mod HistoriesSplit
+pub mod HistoriesBegun
