@@ -53,7 +53,7 @@ pub both : (a b : Bool) → (a && b) ≡ true → (a ≡ true) × (b ≡ true)
 both true b h = (refl, h)
 both false b h = absurd (false≢true h)
 
-none_in : (k u : ℕ) → held_at (replicate k None) u ≡ None
+pub none_in : (k u : ℕ) → held_at (replicate k None) u ≡ None
 none_in zero u = refl
 none_in (suc k) zero = refl
 none_in (suc k) (suc u) = none_in k u
@@ -73,7 +73,7 @@ some_set [] u h = inr refl
 some_set (x ∷ xs) zero h = inl refl
 some_set (x ∷ xs) (suc u) h = some_set xs u h
 
-other_set : (held : List (Option HeldView)) (u t : ℕ) (o : Option HeldView) → t ≢ u → held_at (slice_set held u o) t ≡ held_at held t
+pub other_set : (held : List (Option HeldView)) (u t : ℕ) (o : Option HeldView) → t ≢ u → held_at (slice_set held u o) t ≡ held_at held t
 other_set held u t o ne = get_or-set_other held u t o None ne
 
 -- what is held changes

@@ -5,3 +5,5 @@ pub mod HistoriesGrow
 pub mod HistoriesOnce
 pub mod HistoriesSplit
 pub mod HistoriesBegun
+pub mod HistoriesFrames
+pub mod HistoriesLocals

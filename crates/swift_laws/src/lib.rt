@@ -3,3 +3,5 @@
 
 /// What holds of each legal report.
 pub mod laws;
+/// What holds of its task locals.
+pub mod locals;

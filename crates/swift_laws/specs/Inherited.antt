@@ -1,0 +1,90 @@
+-- Laws of task locals in legal reports (SE-0311): which bindings a turn finds.
+use Rattle.std.specs.Prelude.{◌≡◌, ◌⊎◌, ℕ, ℤ, false, Some, List, [], ◌∷◌, ◌++◌, unwrap_or}
+use Rattle.std.specs.List.{AllByRecursion}
+use Rattle.swift_types.specs.declared.priority.Priority.{Priority}
+use Rattle.swift_locals.specs.Bindings.{value_of}
+use Rattle.script_code.specs.Tree.{local}
+use Rattle.script_code.specs.Value.{ev}
+use Rattle.swift_script.specs.Scripts.{ScriptView, root_count}
+use Rattle.swift_interpreter.specs.Frames.{FrameView}
+use Rattle.swift_interpreter.specs.Turn.{EffectView, spawning, detaching, adding, State, scene}
+use Rattle.swift_journal.specs.Records.{RecordView}
+use Rattle.swift_events.specs.declared.event.Event.{Event}
+use Rattle.swift_events.specs.declared.event.Event.TheVariants.{Apply}
+use Rattle.swift_events.specs.Events.{tasks_of}
+use Rattle.swift_events.specs.Lives.{life_of}
+use Rattle.swift_history.specs.TurnEnds.{task, is_left_out, effect_events, JobView}
+use Rattle.swift_history.specs.Histories.{Block, added, begun, ran, folded, Standing, after_blocks, at_first, begun_priority, IsLegal, ReportView}
+use Rattle.swift_laws.specs.Laws.{IsRecord}
+
+-- An effect of a task, at its place in the log, makes this task with these bindings: with those that stood at the statement where
+-- the task is spawned or is a child, and with none where it is detached.
+abbrev pub Makes : ScriptView → ℕ → List Event → EffectView → ℕ → List (ℕ × ℤ) → Type 0
+Makes script by log (spawning i p bindings) t with_these = (t ≡ tasks_of (root_count script) log) × (with_these ≡ bindings)
+Makes script by log (detaching i p) t with_these = (t ≡ tasks_of (root_count script) log) × (with_these ≡ [])
+Makes script by log (adding g unless i p bindings) t with_these =
+    (is_left_out by g unless log ≡ false) × (t ≡ tasks_of (root_count script) log) × (with_these ≡ bindings)
+Makes script by log _ t with_these = ⊥
+
+-- one of the effects of a turn does, each at its place in the log
+abbrev pub OneMakes : ScriptView → ℕ → Priority → List Event → List EffectView → ℕ → List (ℕ × ℤ) → Type 0
+OneMakes script by own log [] t with_these = ⊥
+OneMakes script by own log (e ∷ es) t with_these =
+    Makes script by log e t with_these ⊎ OneMakes script by own (log ++ effect_events (root_count script) by own log e) es t with_these
+
+-- a block does: a root is added with none, and other tasks are made by effects of turns
+abbrev pub BlockMakes : ScriptView → Standing → Block → ℕ → List (ℕ × ℤ) → Type 0
+BlockMakes script s (added r) t with_these = (t ≡ r) × (with_these ≡ [])
+BlockMakes script s (begun u n env) t with_these = ⊥
+BlockMakes script s (ran e r) t with_these =
+    OneMakes script r.task (begun_priority (life_of r.task s.log).stage) (s.log ++ Apply (task r.task) r.number ∷ []) r.effects t with_these
+BlockMakes script s (folded e f) t with_these =
+    OneMakes script f.task (begun_priority (life_of f.task s.log).stage) (s.log ++ Apply (task f.task) f.number ∷ []) f.effects t with_these
+
+-- one of these blocks has made the task with these bindings
+pub record IsMadeWith (script : ScriptView) (blocks : List Block) (t : ℕ) (bindings : List (ℕ × ℤ)) : Type 0 where
+  pub before : List Block
+  pub block : Block
+  pub after : List Block
+  pub parts : blocks ≡ before ++ block ∷ after
+  pub makes : BlockMakes script (after_blocks script (at_first script) before) block t bindings
+
+-- the bindings that frames have made, those of the nearest frame first, and then these
+abbrev pub bindings_over : List FrameView → List (ℕ × ℤ) → List (ℕ × ℤ)
+bindings_over [] made_with = made_with
+bindings_over (p ∷ callers) made_with = p.own ++ bindings_over callers made_with
+
+-- A turn finds the bindings of the frames that have called its own, the nearest first, and then those that its task was made
+-- with. Whatever the turn does, a read of a task local gives the first binding of it among those of its own frame, and then
+-- those; where there is none, its default.
+pub record FindsInherited (script : ScriptView) (blocks : List Block) (r : RecordView) : Type 0 where
+  pub before : List Block
+  pub executor : ℕ
+  pub after : List Block
+  pub parts : blocks ≡ before ++ ran executor r ∷ after
+  pub job : JobView
+  pub is_job : (after_blocks script (at_first script) before).jobs r.task ≡ Some job
+  pub callers : List FrameView
+  pub frames : job.frames.frames ≡ r.frame ∷ callers
+  pub made_with : List (ℕ × ℤ)
+  pub is_made : IsMadeWith script before r.task made_with
+  pub outer : r.outer ≡ bindings_over callers made_with
+  pub reads : (s : State) (l : ℕ) (default : ℤ) →
+      ev (local l default) (scene (record { outer = r.outer; env = r.env }) s) ≡ Some (unwrap_or (value_of (s.own ++ bindings_over callers made_with) l) default)
+
+-- each turn of a legal report does, in each history that made the report
+abbrev pub LocalsAreInherited : Type 0
+LocalsAreInherited = (script : ScriptView) (report : ReportView) (e i : ℕ) (r : RecordView) (legal : IsLegal script report)
+    → IsRecord report e i r → FindsInherited script legal.blocks r
+
+-- an effect hands on bindings of its frame's own, and then those that stood when the frame began
+abbrev pub HandsOn : List (ℕ × ℤ) → EffectView → Type 0
+HandsOn outer (spawning i p bindings) = (own : List (ℕ × ℤ)) × (bindings ≡ own ++ outer)
+HandsOn outer (adding g unless i p bindings) = (own : List (ℕ × ℤ)) × (bindings ≡ own ++ outer)
+HandsOn outer _ = Unit {0}
+
+-- In a legal report each task that is spawned, and each child, gets the bindings that its maker's frame has then, and then those
+-- that stood when that frame began.
+abbrev pub BindingsAreHandedOn : Type 0
+BindingsAreHandedOn = (script : ScriptView) (report : ReportView) (e i : ℕ) (r : RecordView) → IsLegal script report
+    → IsRecord report e i r → AllByRecursion (HandsOn r.outer) r.effects

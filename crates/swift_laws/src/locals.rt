@@ -1,0 +1,16 @@
+//! What holds of the task locals of each legal report (SE-0311). A call costs nothing; its contract is the law.
+
+ghost use Rattle.swift_laws.specs.Inherited.{LocalsAreInherited, BindingsAreHandedOn};
+
+/// In a legal report each turn finds the bindings of the frames that have called its own, the nearest first, and then those
+/// that its task was made with: none for a root and a detached task, and for a task that is spawned or added to a group those
+/// that stood at that statement (SE-0311).
+pub fn locals_are_inherited()
+    ensures { LocalsAreInherited }
+{}
+
+/// In a legal report a task that is spawned or added to a group is made with bindings of its maker's frame, and then those that
+/// stood when that frame began (SE-0311).
+pub fn bindings_are_handed_on()
+    ensures { BindingsAreHandedOn }
+{}
