@@ -7,3 +7,4 @@ pub mod HistoriesSplit
 pub mod HistoriesBegun
 pub mod HistoriesFrames
 pub mod HistoriesLocals
+pub mod HistoriesHandedOn
