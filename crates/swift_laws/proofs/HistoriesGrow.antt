@@ -48,15 +48,24 @@ module _ (P : List Event → Type 0) (keeps : (log : List Event) (e : Event) →
       let e : Event = Give (task j.task) j.number j.resume in
       subst P (append_assoc log (e ∷ []) (gives js)) (keeps_gives (log ++ e ∷ []) js (keeps log e refl is))
 
+  -- from the effects on, from the turn's being applied on, and as a whole
+  pub keeps_rest : (script : ScriptView) (log : List Event) (held : List (Option HeldView)) (t n : ℕ) (own : Priority) (effects : List EffectView) (exit : ExitView) (after : Advanced)
+      → P (log_after (root_count script) t own (log ++ Apply (task t) n ∷ []) effects) → P (turn_end script log held t n own effects exit after).log
+  keeps_rest script log held t n own effects exit after is =
+      let roots = root_count script in
+      let done = log_after roots t own (log ++ Apply (task t) n ∷ []) effects in
+      keeps_gives (done ++ exit_events t done exit after.step) _ (keeps_exit P roots t own (λ l e w p. keeps l e (written_after roots t l e w) p) done exit after.step is)
+
+  pub keeps_applied : (script : ScriptView) (log : List Event) (held : List (Option HeldView)) (t n : ℕ) (own : Priority) (effects : List EffectView) (exit : ExitView) (after : Advanced)
+      → P (log ++ Apply (task t) n ∷ []) → P (turn_end script log held t n own effects exit after).log
+  keeps_applied script log held t n own effects exit after is =
+      let roots = root_count script in
+      keeps_rest script log held t n own effects exit after
+      (keeps_effects P roots t own (λ l e w p. keeps l e (written_after roots t l e w) p) (log ++ Apply (task t) n ∷ []) effects is)
+
   pub keeps_turn : (script : ScriptView) (log : List Event) (held : List (Option HeldView)) (t n : ℕ) (own : Priority) (effects : List EffectView) (exit : ExitView) (after : Advanced)
       → P log → P (turn_end script log held t n own effects exit after).log
-  keeps_turn script log held t n own effects exit after is =
-      let roots = root_count script in
-      let begun = log ++ Apply (task t) n ∷ [] in
-      let done = log_after roots t own begun effects in
-      let on : (l : List Event) (e : Event) → IsWritten roots t l e → P l → P (l ++ e ∷ []) = λ l e w p. keeps l e (written_after roots t l e w) p in
-      keeps_gives (done ++ exit_events t done exit after.step) _
-      (keeps_exit P roots t own on done exit after.step (keeps_effects P roots t own on begun effects (keeps log (Apply (task t) n) refl is)))
+  keeps_turn script log held t n own effects exit after is = keeps_applied script log held t n own effects exit after (keeps log (Apply (task t) n) refl is)
 
   keeps_stand : (script : ScriptView) (s : Standing) (e t n : ℕ) (effects : List EffectView) (exit : ExitView) (after : Option FrameView) (job : JobView) (env : Env) (frame : FrameView)
       → TurnStands script s e t n effects exit job env frame → P s.log → P (turn_applied script s t n effects exit after).log
@@ -111,3 +120,11 @@ pub log_grows : (script : ScriptView) (cps : List CheckpointView) (before bs : L
 log_grows script cps before bs all =
     let front = (after_blocks script (at_first script) before).log in
     keeps_blocks (Extends front) (λ l e _ x. extends_push front l e x) script cps (λ b t n env _ x. extends_push front (after_blocks script (at_first script) b).log (Begin (task t) n env) x) before bs all ([], sym (append-nil front))
+
+-- and a turn writes first that it is applied
+pub turn_extends : (script : ScriptView) (s : Standing) (e t n : ℕ) (effects : List EffectView) (exit : ExitView) (after : Option FrameView) (job : JobView) (env : Env) (frame : FrameView)
+    → TurnStands script s e t n effects exit job env frame → Extends (s.log ++ Apply (task t) n ∷ []) (turn_applied script s t n effects exit after).log
+turn_extends script s e t n effects exit after job env frame stands =
+    let front = s.log ++ Apply (task t) n ∷ [] in
+    subst (λ (z : Standing). Extends front z.log) (sym (applied_is script s t n job frame stands.runs.0 effects exit after stands.given stands.runs.1))
+    (keeps_applied (Extends front) (λ l e _ x. extends_push front l e x) script s.log s.held t n (begun_priority (life_of t s.log).stage) effects exit (advanced script (left_as frame effects after) stands.runs.0 job.frames.outer exit) ([], sym (append-nil front)))

@@ -1,6 +1,6 @@
 -- Laws of legal reports (SE-0304 for priorities, SE-0311 for bindings; the rest is our own).
-use Rattle.std.specs.Prelude.{◌≡◌, ℕ, ◌==◌, if◌then◌else◌, Option, Some, None, List, ◌∷◌, ◌++◌, length, slice_get}
-use Rattle.std.specs.List.{filter_map, range_with_len}
+use Rattle.std.specs.Prelude.{◌≡◌, ℕ, ◌==◌, Bool, false, if◌then◌else◌, Option, Some, None, List, ◌∷◌, ◌++◌, length, slice_get}
+use Rattle.std.specs.List.{filter_map, list_any, range_with_len}
 use Rattle.script_code.specs.declared.env.Env.{Env}
 use Rattle.swift_script.specs.Scripts.{ScriptView, root_count}
 use Rattle.swift_journal.specs.Records.{RecordView}
@@ -51,15 +51,23 @@ abbrev pub TurnsAreNumbered : Type 0
 TurnsAreNumbered = (script : ScriptView) (report : ReportView) (t : ℕ)
     → IsLegal script report → turns_of t report.log ≡ range_with_len 0 (length (turns_of t report.log))
 
--- The log has this turn begin in this environment, which is that of the log before: its priority is the greatest of those
--- given to tasks from which it is reached along children and waits, and it says whether the task was cancelled.
+-- whether a turn of the task begins
+abbrev pub begins_turn : ℕ → Event → Bool
+begins_turn t (Begin task n env) = task.0 == t
+begins_turn t _ = false
+
+-- The log has this turn begin in this environment, and then has it applied; in between no turn of the task begins. The environment
+-- is that of the log before the begin: its priority is the greatest of those given to tasks from which it is reached along
+-- children and waits, it says whether the task was cancelled, and how many tasks the turn may make.
 pub record BeginsIn (script : ScriptView) (log : List Event) (t n : ℕ) (env : Env) : Type 0 where
   pub before : List Event
+  pub between : List Event
   pub after : List Event
-  pub begins : log ≡ before ++ Begin (task t) n env ∷ after
+  pub parts : log ≡ before ++ Begin (task t) n env ∷ (between ++ Apply (task t) n ∷ after)
+  pub once : list_any (begins_turn t) between ≡ false
   pub is_env : IsEnv (root_count script) (task t) before env
 
--- each turn of a legal report did, by the environment that its record has
+-- each turn of a legal report does, in the environment that its record has
 abbrev pub TurnsHaveTheirPriority : Type 0
 TurnsHaveTheirPriority = (script : ScriptView) (report : ReportView) (e i : ℕ) (r : RecordView)
     → IsLegal script report → IsRecord report e i r → BeginsIn script report.log r.task r.number r.env
