@@ -8,3 +8,4 @@ pub mod HistoriesBegun
 pub mod HistoriesFrames
 pub mod HistoriesLocals
 pub mod HistoriesHandedOn
+pub mod HistoriesMade

@@ -49,6 +49,12 @@ pub record IsMadeWith (script : ScriptView) (blocks : List Block) (t : ℕ) (bin
   pub parts : blocks ≡ before ++ block ∷ after
   pub makes : BlockMakes script (after_blocks script (at_first script) before) block t bindings
 
+-- in a history that made a legal report, one block has made a task, and with the same bindings
+abbrev pub EachTaskIsMadeOnce : Type 0
+EachTaskIsMadeOnce = (script : ScriptView) (report : ReportView) (t : ℕ) (bindings bindings' : List (ℕ × ℤ)) (legal : IsLegal script report)
+    (m : IsMadeWith script legal.blocks t bindings) (m' : IsMadeWith script legal.blocks t bindings')
+    → (m.before ≡ m'.before) × (m.block ≡ m'.block) × (bindings ≡ bindings')
+
 -- the bindings that frames have made, those of the nearest frame first, and then these
 abbrev pub bindings_over : List FrameView → List (ℕ × ℤ) → List (ℕ × ℤ)
 bindings_over [] made_with = made_with
