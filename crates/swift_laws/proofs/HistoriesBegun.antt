@@ -1,5 +1,5 @@
 -- In each history, where a task is in a turn that has begun, the log has that begin.
-use Rattle.std.proofs.Common.{◌≡◌, ◌≢◌, ℕ, List, [], ◌∷◌, ◌++◌, refl, sym, ◌∙◌, ap, Bool, true, false, inl, inr, subst, append_assoc}
+use Rattle.std.proofs.Common.{◌≡◌, ℕ, List, [], ◌∷◌, ◌++◌, refl, sym, ◌∙◌, ap, false, inl, inr, subst, append_assoc}
 use Rattle.std.specs.Prelude.{Option, Some, None, IfSome}
 use Rattle.std.specs.List.{list_any}
 use Rattle.std.proofs.lemmas.Bool.{cases_eq, ne_eqb, false≢true, true≢false}
@@ -19,7 +19,7 @@ use Rattle.swift_events.specs.Room.{IsEnv}
 use Rattle.swift_events.proofs.LogLemmas.{list_any-push_no, life_of-push_same, life_of-push_other, unborn_without}
 use Rattle.swift_history.specs.Checks.{is_begun}
 use Rattle.swift_history.specs.TurnEnds.{task}
-use Rattle.swift_history.specs.Histories.{Block, begun, ran, Standing, Stands, AllStand, IsLegal, ReportView, after_blocks, at_first}
+use Rattle.swift_history.specs.Histories.{Block, ran, Standing, AllStand, IsLegal, ReportView, after_blocks, at_first}
 use Rattle.swift_laws.specs.Laws.{IsRecord, begins_turn, BeginsIn}
 use Rattle.swift_laws.proofs.HistoriesCounted.{HasNumber}
 use Rattle.swift_laws.proofs.HistoriesTurns.{current_is, after_push}

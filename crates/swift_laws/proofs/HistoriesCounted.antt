@@ -1,10 +1,10 @@
 -- In each history the turns of a task are counted: its next turn, whether its job was made or it waits, has for its number how
 -- many turns of it were applied.
-use Rattle.std.proofs.Common.{◌≡◌, ◌≢◌, ℕ, ◌+◌, ◌-◌, ◌<◌, ◌≤◌, List, [], ◌∷◌, ◌++◌, length, zero, suc, refl, sym, ◌∙◌, ap, arith, Bool, true, false, inl, inr, subst, append_assoc, replicate, get_or-set_same, get_or-set_other}
-use Rattle.std.specs.Prelude.{◌⊎◌, ◌==◌, ◌&&◌, Option, Some, None, IfSome, if◌then◌else◌, slice_index_or, slice_set}
-use Rattle.std.specs.List.{filter_map, cons_option, range_with_len, AllByRecursion}
-use Rattle.std.proofs.lemmas.Bool.{cases_eq, cases_lt, false≢true, true≢false, eq-eqb, ne_eqb}
-use Rattle.std.proofs.lemmas.List.{append-nil, length-append}
+use Rattle.std.proofs.Common.{◌≡◌, ◌≢◌, ℕ, ◌+◌, ◌<◌, ◌≤◌, List, [], ◌∷◌, ◌++◌, length, zero, suc, refl, sym, ◌∙◌, ap, arith, Bool, true, false, inl, inr, subst}
+use Rattle.std.specs.Prelude.{◌⊎◌, Option, Some, None, IfSome, if◌then◌else◌, slice_index_or}
+use Rattle.std.specs.List.{cons_option, range_with_len}
+use Rattle.std.proofs.lemmas.Bool.{cases_eq, false≢true, true≢false, eq-eqb, ne_eqb}
+use Rattle.std.proofs.lemmas.List.{length-append}
 use Rattle.std.proofs.lemmas.List.Elements.{filter_map-append}
 use Rattle.script_code.specs.declared.env.Env.{Env}
 use Rattle.swift_events.specs.declared.event.Event.{Event}
@@ -246,25 +246,26 @@ apply_push roots log held t n has is are =
     let made = has_origin n has (are.each t) in
     let free : held_at held t ≡ None = ((are.each t).current is).1 in
     let after : Life = lived (life_of t log) e in
-    let life : life_of t (log ++ e ∷ []) ≡ after = life_of-push_same t log e refl in
-    (record {
-      each = λ u. counts_push log held e u
-          (λ same. subst (λ (k : ℕ). IsCounted (life_of k log).origin (life_of k log).given (Some stage.Applied) (applied k (log ++ e ∷ [])) (held_at held k)) same
-          (applied_now (applied t (log ++ e ∷ [])) made free))
-          (λ other. applied_other u t n log other) (are.each u);
-      beyond = beyond_push roots log e (inl refl) are.beyond;
-      numbered = λ u. elim (cases_eq t u) [
-        | inl same ↦ subst (λ (k : ℕ). turns_of k (log ++ e ∷ []) ≡ range_with_len 0 (applied k (log ++ e ∷ []))) same
-            (turns_push t n log ∙ ap (λ (xs : List ℕ). xs ++ n ∷ []) (are.numbered t) ∙ ap (λ (k : ℕ). range_with_len 0 (applied t log) ++ k ∷ []) number ∙ range_next (applied t log) (applied t (log ++ e ∷ [])) (applied_push t n log))
-        | inr other ↦ numbered_idle u log e (turn_elsewhere u t n other) (are.numbered u)
-      ];
-    },
-    record {
-      made = λ none. made (sym (ap (λ (l : Life). l.origin) life) ∙ none);
-      rest = ap (λ (l : Life). is_under_way l.stage) life;
-      turns = applied_push t n log ∙ ap (λ (k : ℕ). k + 1) (sym number);
-      free = free;
-    })
+    let life : life_of t (log ++ e ∷ []) ≡ after = life_of-push_same t log e refl in (
+      record {
+        each = λ u. counts_push log held e u
+            (λ same. subst (λ (k : ℕ). IsCounted (life_of k log).origin (life_of k log).given (Some stage.Applied) (applied k (log ++ e ∷ [])) (held_at held k)) same
+            (applied_now (applied t (log ++ e ∷ [])) made free))
+            (λ other. applied_other u t n log other) (are.each u);
+        beyond = beyond_push roots log e (inl refl) are.beyond;
+        numbered = λ u. elim (cases_eq t u) [
+          | inl same ↦ subst (λ (k : ℕ). turns_of k (log ++ e ∷ []) ≡ range_with_len 0 (applied k (log ++ e ∷ []))) same
+              (turns_push t n log ∙ ap (λ (xs : List ℕ). xs ++ n ∷ []) (are.numbered t) ∙ ap (λ (k : ℕ). range_with_len 0 (applied t log) ++ k ∷ []) number ∙ range_next (applied t log) (applied t (log ++ e ∷ [])) (applied_push t n log))
+          | inr other ↦ numbered_idle u log e (turn_elsewhere u t n other) (are.numbered u)
+        ];
+      },
+      record {
+        made = λ none. made (sym (ap (λ (l : Life). l.origin) life) ∙ none);
+        rest = ap (λ (l : Life). is_under_way l.stage) life;
+        turns = applied_push t n log ∙ ap (λ (k : ℕ). k + 1) (sym number);
+        free = free;
+      },
+    )
 
 -- the task rests as more is written
 

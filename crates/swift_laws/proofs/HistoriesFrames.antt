@@ -1,8 +1,8 @@
 -- Frames of jobs and of tasks that wait: what the end of a turn keeps of them.
-use Rattle.std.proofs.Common.{◌≡◌, ◌≢◌, ℕ, ◌+◌, List, [], ◌∷◌, ◌++◌, length, refl, sym, ◌∙◌, ap, Bool, true, false, inl, inr, subst, replicate}
-use Rattle.std.specs.Prelude.{◌⊎◌, ◌==◌, Option, Some, None, if◌then◌else◌, slice_set}
+use Rattle.std.proofs.Common.{◌≡◌, ℕ, ◌+◌, List, [], ◌∷◌, ◌++◌, length, refl, sym, ◌∙◌, ap, Bool, true, false, inl, inr, subst, replicate}
+use Rattle.std.specs.Prelude.{◌==◌, Option, Some, None, if◌then◌else◌, slice_set}
 use Rattle.std.specs.List.{AllByRecursion}
-use Rattle.std.proofs.lemmas.Bool.{cases_eq, eq-eqb, ne_eqb, eqb-true, cases_Bool}
+use Rattle.std.proofs.lemmas.Bool.{cases_eq, eqb-true, cases_Bool}
 use Rattle.std.proofs.lemmas.Option.{none-some, same_Some}
 use Rattle.swift_types.specs.declared.id.TaskId.{TaskId}
 use Rattle.swift_types.specs.declared.outcome.Ending.{Ending}
@@ -81,13 +81,16 @@ module _ (Q : ℕ → TaskView → Type 0) where
   wake_all_has t e log f has = wake_parent_has (parent_of t log) e log (wake_each (waiters_of t log) (resume_of e) f) (wake_each_has (waiters_of t log) (resume_of e) f has)
 
   waits_has : (t : ℕ) (x : HeldView) (f : Follows) → Q t x.frames → FollowHas f → FollowHas (record f { held = slice_set f.held t (Some x) })
-  waits_has t x f own has = (λ u h at. elim (cases_eq t u) [
-    | inl same ↦ subst (λ (k : ℕ). Q k h.frames) same (elim (some_set f.held t x) [
-      | inl is ↦ subst (λ (y : HeldView). Q t y.frames) (same_Some x h (sym is ∙ ap (held_at (slice_set f.held t (Some x))) same ∙ at)) own
-      | inr is ↦ has.0 t h (sym is ∙ ap (held_at (slice_set f.held t (Some x))) same ∙ at)
-    ])
-    | inr other ↦ has.0 u h (sym (other_set f.held t u (Some x) (λ q. other (sym q))) ∙ at)
-  ], has.1)
+  waits_has t x f own has = (
+    λ u h at. elim (cases_eq t u) [
+      | inl same ↦ subst (λ (k : ℕ). Q k h.frames) same (elim (some_set f.held t x) [
+        | inl is ↦ subst (λ (y : HeldView). Q t y.frames) (same_Some x h (sym is ∙ ap (held_at (slice_set f.held t (Some x))) same ∙ at)) own
+        | inr is ↦ has.0 t h (sym is ∙ ap (held_at (slice_set f.held t (Some x))) same ∙ at)
+      ])
+      | inr other ↦ has.0 u h (sym (other_set f.held t u (Some x) (λ q. other (sym q))) ∙ at)
+    ],
+    has.1,
+  )
 
   followed_has : (t n : ℕ) (frames : TaskView) (o : Option Resume) (step : Step) (log : List Event) (f : Follows) → Q t frames → FollowHas f → FollowHas (followed t n frames o step log f)
   followed_has t n frames (Some resume) step log f own has = (has.0, all_append JobHas f.jobs _ has.1 (own, tt))

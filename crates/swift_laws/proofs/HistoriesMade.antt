@@ -1,9 +1,9 @@
 -- In each history a task is made once.
-use Rattle.std.proofs.Common.{◌≡◌, ◌≢◌, ℕ, ℤ, ◌+◌, ◌≤◌, List, [], ◌∷◌, ◌++◌, refl, sym, ◌∙◌, ap, arith, Bool, true, false, inl, inr, subst, append_assoc}
+use Rattle.std.proofs.Common.{◌≡◌, ◌≢◌, ℕ, ℤ, List, [], ◌∷◌, ◌++◌, refl, sym, ◌∙◌, ap, arith, Bool, true, false, inl, inr, subst, append_assoc}
 use Rattle.std.specs.Prelude.{◌⊎◌, Option, Some, None, if◌then◌else◌, slice_get, unwrap_or}
 use Rattle.std.proofs.lemmas.Bool.{false≢true}
 use Rattle.std.proofs.lemmas.List.{append-nil}
-use Rattle.std.proofs.lemmas.Option.{same_Some, none-some}
+use Rattle.std.proofs.lemmas.Option.{none-some}
 use Rattle.swift_types.specs.declared.priority.Priority.{Priority}
 use Rattle.swift_types.specs.declared.priority.Priority.TheVariants.{Background}
 use Rattle.script_code.specs.declared.env.Env.{Env}
@@ -11,7 +11,6 @@ use Rattle.swift_script.specs.Scripts.{ScriptView, root_count, root_priority}
 use Rattle.swift_interpreter.specs.Frames.{FrameView}
 use Rattle.swift_interpreter.specs.Turn.{EffectView, spawning, detaching, opening, adding, cancelling_task, cancelling_group, ExitView}
 use Rattle.swift_turn.specs.Body.{advanced}
-use Rattle.swift_journal.specs.Records.{RecordView}
 use Rattle.swift_journal.specs.Checkpoints.{CheckpointView}
 use Rattle.swift_events.specs.declared.event.Event.{Event}
 use Rattle.swift_events.specs.declared.event.Event.TheVariants.{Root, Apply, Free, Child, Skip, Give}
@@ -20,13 +19,13 @@ use Rattle.swift_events.specs.declared.life.Origin.{Origin}
 use Rattle.swift_events.specs.Events.{task_of, tasks_of, later}
 use Rattle.swift_events.specs.Lives.{life_of, origin_in}
 use Rattle.swift_events.proofs.LogLemmas.{life_of-push_same}
-use Rattle.swift_history.specs.TurnEnds.{task, JobView, effect_events, is_left_out, log_after, root_job, root_events}
+use Rattle.swift_history.specs.TurnEnds.{task, JobView, effect_events, is_left_out, log_after, root_job}
 use Rattle.swift_history.specs.Histories.{Block, added, begun, ran, folded, Standing, Stands, AllStand, TurnStands, IsLegal, ReportView, after_block, after_blocks, at_first, left_as, begun_priority, turn_applied}
 use Rattle.swift_laws.specs.Inherited.{Makes, OneMakes, BlockMakes, IsMadeWith}
-use Rattle.swift_laws.proofs.HistoriesWritten.{IsWritten, keeps_effect, keeps_effects}
+use Rattle.swift_laws.proofs.HistoriesWritten.{keeps_effect, keeps_effects}
 use Rattle.swift_laws.proofs.HistoriesCounted.{AreCounted, Beyond, beyond_push, written_within, made_push}
 use Rattle.swift_laws.proofs.HistoriesTurns.{applied_is, all_keep, first_counted, after_push}
-use Rattle.swift_laws.proofs.HistoriesGrow.{Extends, keeps_rest, log_grows}
+use Rattle.swift_laws.proofs.HistoriesGrow.{keeps_rest, log_grows}
 
 abbrev IsBorn : ℕ → List Event → Type 0
 IsBorn t log = (life_of t log).origin ≢ None
@@ -179,7 +178,7 @@ same_rest : {A : Type 0} (x y : A) (xs ys : List A) → x ∷ xs ≡ y ∷ ys �
 same_rest x y xs ys is = ap rest_of is
 
 -- one of them is in front of the other, or they are the same
-abbrev InOrder : {A : Type 0} → List A → A → List A → A → Type 0
+abbrev pub InOrder : {A : Type 0} → List A → A → List A → A → Type 0
 InOrder {A} front x front' y = ((front ≡ front') × (x ≡ y)) ⊎ ((mid : List A) × (front' ≡ front ++ x ∷ mid)) ⊎ ((mid : List A) × (front ≡ front' ++ y ∷ mid))
 
 in_order_more : {A : Type 0} (a b : A) (front : List A) (x : A) (front' : List A) (y : A) → a ≡ b → InOrder front x front' y → InOrder (a ∷ front) x (b ∷ front') y
@@ -187,7 +186,7 @@ in_order_more a b front x front' y same (inl is) = inl (ap (λ z. z ∷ front) s
 in_order_more a b front x front' y same (inr (inl is)) = inr (inl (is.0, ap (λ z. z ∷ front') (sym same) ∙ ap (λ zs. a ∷ zs) is.1))
 in_order_more a b front x front' y same (inr (inr is)) = inr (inr (is.0, ap (λ z. z ∷ front) same ∙ ap (λ zs. b ∷ zs) is.1))
 
-in_order : {A : Type 0} (front : List A) (x : A) (back : List A) (front' : List A) (y : A) (back' : List A) → front ++ x ∷ back ≡ front' ++ y ∷ back' → InOrder front x front' y
+pub in_order : {A : Type 0} (front : List A) (x : A) (back : List A) (front' : List A) (y : A) (back' : List A) → front ++ x ∷ back ≡ front' ++ y ∷ back' → InOrder front x front' y
 in_order [] x back [] y back' is = inl (refl, same_head x y back back' is)
 in_order [] x back (b ∷ front') y back' is = inr (inl (front', ap (λ z. z ∷ front') (sym (same_head x b back _ is))))
 in_order (a ∷ front) x back [] y back' is = inr (inr (front, ap (λ z. z ∷ front) (same_head a y _ back' is)))
@@ -217,11 +216,14 @@ pub made_once : (script : ScriptView) (report : ReportView) (t : ℕ) (x y : Lis
 made_once script report t x y legal m n =
     let cps = report.checkpoints in
     elim (in_order m.before m.block m.after n.before n.block n.after (sym m.parts ∙ n.parts)) [
-      | inl same ↦ (same.0, same.1,
-          block_twice script cps n.before n.block t x y
-          (all_keep script cps [] n.before (stand_parts script cps [] n.before (n.block ∷ n.after) (subst (AllStand script cps []) n.parts legal.stand)).0 (first_counted script))
-          (subst (λ (b : Block). BlockMakes script (after_blocks script (at_first script) n.before) b t x) same.1 (subst (λ (bs : List Block). BlockMakes script (after_blocks script (at_first script) bs) m.block t x) same.0 m.makes))
-          n.makes)
+      | inl same ↦ (
+        same.0,
+        same.1,
+        block_twice script cps n.before n.block t x y
+            (all_keep script cps [] n.before (stand_parts script cps [] n.before (n.block ∷ n.after) (subst (AllStand script cps []) n.parts legal.stand)).0 (first_counted script))
+            (subst (λ (b : Block). BlockMakes script (after_blocks script (at_first script) n.before) b t x) same.1 (subst (λ (bs : List Block). BlockMakes script (after_blocks script (at_first script) bs) m.block t x) same.0 m.makes))
+            n.makes,
+      )
       | inr (inl is) ↦ absurd (not_later script cps m.before m.block is.0 n.block n.after t x y
           (subst (λ (bs : List Block). AllStand script cps [] (bs ++ n.block ∷ n.after)) is.1 (subst (AllStand script cps []) n.parts legal.stand))
           m.makes (subst (λ (bs : List Block). BlockMakes script (after_blocks script (at_first script) bs) n.block t y) is.1 n.makes))

@@ -1,8 +1,8 @@
 -- The end of a turn, and each block of a history, keeps the turns of each task counted.
-use Rattle.std.proofs.Common.{◌≡◌, ◌≢◌, ℕ, ◌+◌, ◌<◌, ◌≤◌, List, [], ◌∷◌, ◌++◌, length, zero, suc, refl, sym, ◌∙◌, ap, arith, Bool, true, false, inl, inr, subst, append_assoc, replicate, get_or-set_other}
-use Rattle.std.specs.Prelude.{◌⊎◌, ◌==◌, ◌&&◌, ℤ, nat_lt, Option, Some, None, IfSome, if◌then◌else◌, slice_index_or, slice_set, unwrap_or}
+use Rattle.std.proofs.Common.{◌≡◌, ◌≢◌, ℕ, ◌+◌, ◌<◌, List, [], ◌∷◌, ◌++◌, length, zero, suc, refl, sym, ◌∙◌, ap, arith, Bool, true, false, inl, inr, subst, append_assoc, replicate, get_or-set_other}
+use Rattle.std.specs.Prelude.{◌⊎◌, ◌==◌, ◌&&◌, nat_lt, Option, Some, None, IfSome, if◌then◌else◌, slice_set, unwrap_or}
 use Rattle.std.specs.List.{AllByRecursion}
-use Rattle.std.proofs.lemmas.Bool.{cases_eq, false≢true, true≢false, eqb-true, ltb-true}
+use Rattle.std.proofs.lemmas.Bool.{cases_eq, false≢true, eqb-true, ltb-true}
 use Rattle.std.proofs.lemmas.List.{append-nil}
 use Rattle.swift_types.specs.declared.id.TaskId.{TaskId}
 use Rattle.swift_types.specs.declared.outcome.Ending.{Ending}
@@ -19,25 +19,23 @@ use Rattle.swift_interpreter.specs.Turn.{EffectView, spawning, detaching, openin
 use Rattle.swift_turn.specs.declared.step.Step.{Step}
 use Rattle.swift_turn.specs.declared.step.Step.TheVariants.{Run, Ended, Await}
 use Rattle.swift_turn.specs.Body.{TaskView, Advanced, advanced}
-use Rattle.swift_journal.specs.Records.{RecordView}
 use Rattle.swift_journal.specs.Checkpoints.{CheckpointView}
 use Rattle.swift_events.specs.declared.event.Event.{Event}
-use Rattle.swift_events.specs.declared.event.Event.TheVariants.{Root, Begin, Apply, Free, Child, Skip, Give}
+use Rattle.swift_events.specs.declared.event.Event.TheVariants.{Root, Apply, Child, Skip, Give}
 use Rattle.swift_events.specs.declared.life.Life.{Life}
 use Rattle.swift_events.specs.declared.life.Origin.{Origin}
 use Rattle.swift_events.specs.declared.life.Given.{Given}
 use Rattle.swift_events.specs.declared.life.Stage.{Stage}
 use Rattle.swift_events.specs.declared.life.Stage.TheVariants as stage
 use Rattle.swift_events.specs.Events.{task_of, tasks_of, later}
-use Rattle.swift_events.specs.Lives.{life_of, origin_in, unborn}
+use Rattle.swift_events.specs.Lives.{life_of, origin_in}
 use Rattle.swift_events.specs.Relations.{group_of, parent_of, waiters_of}
 use Rattle.swift_events.proofs.LogLemmas.{life_of-push_same, unborn_without}
 use Rattle.swift_history.specs.Checks.{is_current, was_given, same_resume, is_under_way}
-use Rattle.swift_history.specs.TurnEnds.{task, JobView, HeldView, Follows, woken, wake, wake_each, wake_closing, wake_owner, wake_parent, wake_all, followed, resume_of, resume_at, first_job, effect_events, effect_jobs, exit_events, exit_resume, is_left_out, log_after, jobs_made, gives, turn_end, TurnEnd, root_job, root_events}
-use Rattle.swift_history.specs.Histories.{Block, added, begun, ran, folded, Standing, Stands, AllStand, TurnStands, after_block, after_blocks, at_first, with_jobs, taken, left_as, begun_priority, frames_applied, job_applied, turn_applied}
-use Rattle.swift_laws.specs.Laws.{turn_in}
+use Rattle.swift_history.specs.TurnEnds.{task, JobView, HeldView, Follows, woken, wake, wake_each, wake_closing, wake_owner, wake_parent, wake_all, followed, resume_of, first_job, effect_events, effect_jobs, exit_events, exit_resume, is_left_out, log_after, jobs_made, gives, turn_end, root_job, root_events}
+use Rattle.swift_history.specs.Histories.{Block, added, begun, ran, folded, Standing, Stands, AllStand, TurnStands, after_block, after_blocks, at_first, left_as, begun_priority, frames_applied, job_applied, turn_applied}
 use Rattle.swift_laws.proofs.HistoriesWritten.{IsWritten, keeps_effect, keeps_effects, keeps_exit}
-use Rattle.swift_laws.proofs.HistoriesCounted.{applied, held_at, IsCounted, Counts, AreCounted, HasNumber, Rests, JobFits, starts, idle_turn, idle_applied, idle_push, written_idle, written_within, counted_number, apply_push, rests_push, fits_push, give_push, made_push, begin_push, none_held, some_held}
+use Rattle.swift_laws.proofs.HistoriesCounted.{applied, held_at, IsCounted, Counts, AreCounted, HasNumber, Rests, JobFits, starts, idle_turn, idle_applied, idle_push, written_idle, written_within, counted_number, apply_push, rests_push, fits_push, give_push, begin_push, none_held, some_held}
 
 -- lists
 
@@ -115,12 +113,14 @@ woken_fits : (roots : ℕ) (log : List Event) (u : ℕ) (resume : Resume) (f : F
 woken_fits roots log u resume f None is fits = fits
 woken_fits roots log u resume f (Some h) is fits = record {
   counted = counted_taken roots log f.held u fits.counted;
-  jobs = all_append (JobFits log (slice_set f.held u None)) f.jobs _ (all_map (fits_taken log f.held u) f.jobs fits.jobs)
-      (record {
-        made = λ none. (let e : Some h ≡ None = sym is ∙ ((fits.counted.each u).unmade none).2 in cc);
-        number = subst (λ (x : Option HeldView). IfSome x (λ y. y.number ≡ applied u log)) is (fits.counted.each u).waits;
-        free = none_set f.held u;
-      }, tt);
+  jobs = all_append (JobFits log (slice_set f.held u None)) f.jobs _ (all_map (fits_taken log f.held u) f.jobs fits.jobs) (
+    record {
+      made = λ none. (let e : Some h ≡ None = sym is ∙ ((fits.counted.each u).unmade none).2 in cc);
+      number = subst (λ (x : Option HeldView). IfSome x (λ y. y.number ≡ applied u log)) is (fits.counted.each u).waits;
+      free = none_set f.held u;
+    },
+    tt,
+  );
 }
 
 wake_fits : (roots : ℕ) (log : List Event) (u : ℕ) (resume : Resume) (f : Follows) → FollowFits roots log f → FollowFits roots log (wake u resume f)
@@ -304,10 +304,11 @@ pub turn_keeps : (script : ScriptView) (s : Standing) (e t n : ℕ) (effects : L
 turn_keeps script s e t n effects exit after job env frame stands are =
     let is = current_is (life_of t s.log) n job.resume stands.current in
     let end = turn_counted script s.held t n (begun_priority (life_of t s.log).stage) s.log effects exit (advanced script (left_as frame effects after) stands.runs.0 job.frames.outer exit) is.0 is.1 are in
-    let z = applied_is script s t n job frame stands.runs.0 effects exit after stands.given stands.runs.1 in
-    (subst (λ (x : Standing). AreCounted (root_count script) x.log x.held) (sym z) end.0,
-    subst (λ (x : Standing). applied t x.log ≡ n + 1) (sym z) end.1,
-    sym (counted_number (root_count script) s.log s.held t n are is.0 is.1))
+    let z = applied_is script s t n job frame stands.runs.0 effects exit after stands.given stands.runs.1 in (
+      subst (λ (x : Standing). AreCounted (root_count script) x.log x.held) (sym z) end.0,
+      subst (λ (x : Standing). applied t x.log ≡ n + 1) (sym z) end.1,
+      sym (counted_number (root_count script) s.log s.held t n are is.0 is.1),
+    )
 
 root_keeps : (script : ScriptView) (s : Standing) (r : ℕ) → nat_lt r (root_count script) ≡ true → (life_of r s.log).origin ≡ None → AreCounted (root_count script) s.log s.held → AreCounted (root_count script) (s.log ++ root_events script r) s.held
 root_keeps script s r less none are =

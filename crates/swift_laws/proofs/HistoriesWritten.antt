@@ -1,7 +1,6 @@
 -- Which events the end of a turn writes, and what they keep.
-use Rattle.std.proofs.Common.{◌≡◌, ◌≢◌, ℕ, ◌+◌, ◌<◌, ◌≤◌, List, [], ◌∷◌, ◌++◌, refl, sym, ◌∙◌, ap, arith, Bool, true, false, inl, inr, subst, append_assoc}
-use Rattle.std.specs.Prelude.{◌⊎◌, Option, Some, None, is_some, if◌then◌else◌, unwrap_or}
-use Rattle.std.proofs.lemmas.Bool.{cases_eq}
+use Rattle.std.proofs.Common.{◌≡◌, ℕ, List, [], ◌∷◌, ◌++◌, refl, sym, Bool, true, false, subst, append_assoc}
+use Rattle.std.specs.Prelude.{Option, Some, None, is_some, if◌then◌else◌, unwrap_or}
 use Rattle.std.proofs.lemmas.List.{append-nil}
 use Rattle.swift_types.specs.declared.id.TaskId.{TaskId}
 use Rattle.swift_types.specs.declared.outcome.Ending.{Ending}
@@ -15,13 +14,11 @@ use Rattle.swift_interpreter.specs.Turn.{EffectView, spawning, detaching, openin
 use Rattle.swift_turn.specs.declared.step.Step.{Step}
 use Rattle.swift_turn.specs.declared.step.Step.TheVariants.{Run, Ended, Await}
 use Rattle.swift_events.specs.declared.event.Event.{Event}
-use Rattle.swift_events.specs.declared.event.Event.TheVariants.{Root, Begin, Apply, Free, Open, Child, Skip, CancelTask, CancelGroup, Wait, Next, Close, End, Give}
-use Rattle.swift_events.specs.declared.life.Life.{Life}
-use Rattle.swift_events.specs.Events.{task_of, is_made, tasks_of, later}
-use Rattle.swift_events.specs.Lives.{life_of, origin_in}
+use Rattle.swift_events.specs.declared.event.Event.TheVariants.{Free, Open, Child, Skip, CancelTask, CancelGroup, Wait, Next, Close, End}
+use Rattle.swift_events.specs.Events.{tasks_of}
+use Rattle.swift_events.specs.Lives.{life_of}
 use Rattle.swift_events.specs.Relations.{opened_by, group_of}
-use Rattle.swift_events.proofs.LogLemmas.{life_of-push_same, life_of-push_other, tasks_of-push_made, tasks_of-push_other}
-use Rattle.swift_history.specs.TurnEnds.{task, named_task, cancel_events, effect_events, is_left_out, log_after, next_events, close_events, wait_events, end_events, exit_events}
+use Rattle.swift_history.specs.TurnEnds.{task, named_task, effect_events, is_left_out, log_after, next_events, close_events, wait_events, end_events, exit_events}
 
 -- what the turn of a task writes between its being applied and the jobs that it makes, by the log before the event: a task that
 -- is made has the next number, and each other event but a cancel is of the task itself
@@ -93,4 +90,3 @@ module _ (P : List Event → Type 0) (roots t : ℕ) (own : Priority) (keeps : (
   keeps_exit log yielding step is = keeps_end log step is
   keeps_exit log (returning v) step is = keeps_end log step is
   keeps_exit log (failing f) step is = keeps_end log step is
-

@@ -7,5 +7,5 @@ pub mod HistoriesSplit
 pub mod HistoriesBegun
 pub mod HistoriesFrames
 pub mod HistoriesLocals
-pub mod HistoriesHandedOn
 pub mod HistoriesMade
+pub mod HistoriesHandedOn

@@ -1,14 +1,17 @@
 -- Laws of task locals in legal reports (SE-0311): which bindings a turn finds.
-use Rattle.std.specs.Prelude.{◌≡◌, ◌⊎◌, ℕ, ℤ, false, Some, List, [], ◌∷◌, ◌++◌, unwrap_or}
-use Rattle.std.specs.List.{AllByRecursion}
+use Rattle.std.specs.Prelude.{◌≡◌, ◌⊎◌, ℕ, zero, suc, ℤ, false, Some, List, [], ◌∷◌, ◌++◌, unwrap_or}
+use Rattle.swift_types.specs.declared.limits.TheConstants.{STEPS}
 use Rattle.swift_types.specs.declared.priority.Priority.{Priority}
 use Rattle.swift_locals.specs.Bindings.{value_of}
 use Rattle.script_code.specs.Tree.{local}
 use Rattle.script_code.specs.Value.{ev}
+use Rattle.script_code.specs.Instructions.{first}
 use Rattle.swift_script.specs.Scripts.{ScriptView, root_count}
 use Rattle.swift_interpreter.specs.Frames.{FrameView}
-use Rattle.swift_interpreter.specs.Turn.{EffectView, spawning, detaching, adding, State, scene}
+use Rattle.swift_interpreter.specs.Turn.{EffectView, spawning, detaching, adding, State, Given, Next, goes, leaves, scene, act, settled, taken}
+use Rattle.swift_turn.specs.Body.{state_at}
 use Rattle.swift_journal.specs.Records.{RecordView}
+use Rattle.swift_journal.specs.Replay.{IsLawfulRecord}
 use Rattle.swift_events.specs.declared.event.Event.{Event}
 use Rattle.swift_events.specs.declared.event.Event.TheVariants.{Apply}
 use Rattle.swift_events.specs.Events.{tasks_of}
@@ -83,14 +86,40 @@ abbrev pub LocalsAreInherited : Type 0
 LocalsAreInherited = (script : ScriptView) (report : ReportView) (e i : ℕ) (r : RecordView) (legal : IsLegal script report)
     → IsRecord report e i r → FindsInherited script legal.blocks r
 
--- an effect hands on bindings of its frame's own, and then those that stood when the frame began
-abbrev pub HandsOn : List (ℕ × ℤ) → EffectView → Type 0
-HandsOn outer (spawning i p bindings) = (own : List (ℕ × ℤ)) × (bindings ≡ own ++ outer)
-HandsOn outer (adding g unless i p bindings) = (own : List (ℕ × ℤ)) × (bindings ≡ own ++ outer)
-HandsOn outer _ = Unit {0}
+-- what holds of the state in which a turn goes on, if it does
+abbrev pub GoesOn : Next → (State → Type 0) → Type 0
+GoesOn (goes s) P = P s
+GoesOn (leaves s e) P = ⊥
 
--- In a legal report each task that is spawned, and each child, gets the bindings that its maker's frame has then, and then those
--- that stood when that frame began.
+-- a turn of at most n steps does a statement at this state, once the blocks of `bind` that ended there have ended
+abbrev pub Passes : Given → ℕ → State → State → Type 0
+Passes g zero s at = ⊥
+Passes g (suc n) s at = (at ≡ settled s.todo s) ⊎ GoesOn (act g (first (settled s.todo s).todo) (settled s.todo s)) (λ s'. Passes g n s' at)
+
+-- the turn of a record does, on these fields
+abbrev pub RecordPasses : ScriptView → List (List ℤ) → RecordView → State → Type 0
+RecordPasses script fields r at =
+    let g : Given = record { outer = r.outer; env = r.env } in
+    let s : State = state_at script r.frame fields [] r.env.room in
+    GoesOn (taken g s.pending (first s.todo) r.resume s) (λ s'. Passes g STEPS s' at)
+
+-- an effect hands on these bindings, if it hands on any
+abbrev pub HandsOn : List (ℕ × ℤ) → EffectView → Type 0
+HandsOn standing (spawning i p bindings) = bindings ≡ standing
+HandsOn standing (adding g unless i p bindings) = bindings ≡ standing
+HandsOn standing _ = Unit {0}
+
+-- An effect of a record's turn is that of a statement which the turn does after the effects before it. It hands on the bindings that
+-- the frame has made and that stand at the statement, the innermost first, and then those that the turn found.
+pub record IsHandedOn (script : ScriptView) (r : RecordView) (before : List EffectView) (e : EffectView) : Type 0 where
+  pub fields : List (List ℤ)
+  pub lawful : IsLawfulRecord script fields r
+  pub at : State
+  pub passes : RecordPasses script fields r at
+  pub is_next : at.effects ≡ before
+  pub hands_on : HandsOn (at.own ++ r.outer) e
+
+-- each effect of each turn of a legal report
 abbrev pub BindingsAreHandedOn : Type 0
-BindingsAreHandedOn = (script : ScriptView) (report : ReportView) (e i : ℕ) (r : RecordView) → IsLegal script report
-    → IsRecord report e i r → AllByRecursion (HandsOn r.outer) r.effects
+BindingsAreHandedOn = (script : ScriptView) (report : ReportView) (e i : ℕ) (r : RecordView) (before : List EffectView) (x : EffectView) (after : List EffectView)
+    → IsLegal script report → IsRecord report e i r → r.effects ≡ before ++ x ∷ after → IsHandedOn script r before x

@@ -14,8 +14,8 @@ pub fn locals_are_inherited()
     ensures { LocalsAreInherited }
 {}
 
-/// In a legal report a task that is spawned or added to a group is made with bindings of its maker's frame, and then those that
-/// stood when that frame began (SE-0311).
+/// In a legal report a task that is spawned or added to a group is made with the bindings that stand at that statement: those
+/// of its maker's frame, the innermost first, and then those that its maker found (SE-0311).
 pub fn bindings_are_handed_on()
     ensures { BindingsAreHandedOn }
 {}

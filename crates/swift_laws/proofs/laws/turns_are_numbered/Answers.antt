@@ -1,4 +1,4 @@
-use Rattle.std.proofs.Common.{ap, sym, subst, ◌∙◌, ◌≡◌, length, List, []}
+use Rattle.std.proofs.Common.{sym, subst, ◌≡◌, length, List, []}
 use Rattle.std.specs.List.{range_with_len}
 use Rattle.swift_events.specs.declared.event.Event.{Event}
 use Rattle.swift_laws.specs.Laws.{turns_of}
