@@ -120,7 +120,8 @@ limit_effects here s = refl
 record DoneAt (g : Given) (P : State → Type 0) (before : List EffectView) (x : EffectView) : Type 0 where
   at : State
   passes : P at
-  is_next : at.effects ≡ before
+  has : at.effects ≡ before
+  adds : GoesOn (act g (first at.todo) at) (λ s. s.effects ≡ before ++ x ∷ [])
   hands_on : HandsOn (at.own ++ g.outer) x
 
 -- an effect of a longer list is one of the first part, or the last one
@@ -143,19 +144,26 @@ HasEffect effects before x = (after : List EffectView) × (effects ≡ before ++
 abbrev Done : Given → (State → Type 0) → List EffectView → List EffectView → Type 0
 Done g P first_effects effects = (before : List EffectView) (x : EffectView) (after : List EffectView) → effects ≡ before ++ x ∷ after → HasEffect first_effects before x ⊎ DoneAt g P before x
 
-step_done : (g : Given) (n : ℕ) (at : State) (first_effects : List EffectView) (next : Next) (P : State → Type 0) → at.effects ≡ first_effects → P at → ((y : State) → GoesOn next (λ m. Passes g n m y) → P y)
+step_done : (g : Given) (n : ℕ) (at : State) (first_effects : List EffectView) (next : Next) (P : State → Type 0) → act g (first at.todo) at ≡ next → at.effects ≡ first_effects → P at → ((y : State) → GoesOn next (λ m. Passes g n m y) → P y)
     → ((m : State) → Done g (Passes g n m) m.effects (turn g n m).state.effects) → Step (standing g at) at.effects next → Done g P first_effects (on next (turn g n)).state.effects
-step_done g n at es (leaves s e) P same here later rest steps before x after is = inl (after, sym same ∙ sym steps ∙ is)
-step_done g n at es (goes m) P same here later rest (inl none) before x after is = elim (rest m before x after is) [
+step_done g n at es (leaves s e) P acts same here later rest steps before x after is = inl (after, sym same ∙ sym steps ∙ is)
+step_done g n at es (goes m) P acts same here later rest (inl none) before x after is = elim (rest m before x after is) [
   | inl has ↦ inl (has.0, sym same ∙ sym none ∙ has.1)
-  | inr done ↦ inr (record { at = done.at; passes = later done.at done.passes; is_next = done.is_next; hands_on = done.hands_on })
+  | inr done ↦ inr (record { at = done.at; passes = later done.at done.passes; has = done.has; adds = done.adds; hands_on = done.hands_on })
 ]
-step_done g n at es (goes m) P same here later rest (inr adds) before x after is = elim (rest m before x after is) [
+step_done g n at es (goes m) P acts same here later rest (inr adds) before x after is = elim (rest m before x after is) [
   | inl has ↦ (elim (last_or_before before x has.0 at.effects adds.effect (sym adds.more ∙ has.1)) [
-    | inl last ↦ inr (record { at = at; passes = here; is_next = sym last.0; hands_on = subst (HandsOn (standing g at)) (sym last.1) adds.hands_on })
+    | inl last ↦ inr (record {
+      at = at;
+      passes = here;
+      has = sym last.0;
+      adds = subst (λ next. GoesOn next (λ s. s.effects ≡ before ++ x ∷ [])) (sym acts)
+          (adds.more ∙ ap (λ es. es ++ adds.effect ∷ []) (sym last.0) ∙ ap (λ e. before ++ e ∷ []) (sym last.1));
+      hands_on = subst (HandsOn (standing g at)) (sym last.1) adds.hands_on;
+    })
     | inr more ↦ inl (more.0, sym same ∙ more.1)
   ])
-  | inr done ↦ inr (record { at = done.at; passes = later done.at done.passes; is_next = done.is_next; hands_on = done.hands_on })
+  | inr done ↦ inr (record { at = done.at; passes = later done.at done.passes; has = done.has; adds = done.adds; hands_on = done.hands_on })
 ]
 
 turn_done : (g : Given) (n : ℕ) (s : State) → Done g (Passes g n s) s.effects (turn g n s).state.effects
@@ -163,7 +171,7 @@ unfolding turn
 turn_done g zero s = λ before x after is. inl (after, sym (settled_effects s.todo s) ∙ sym (limit_effects (first (settled s.todo s).todo) (settled s.todo s)) ∙ is)
 turn_done g (suc n) s =
     let at = settled s.todo s in
-    step_done g n at s.effects (act g (first at.todo) at) (Passes g (suc n) s) (settled_effects s.todo s) (inl refl) (λ y goes_on. inr goes_on) (turn_done g n) (act_steps g (first at.todo) at)
+    step_done g n at s.effects (act g (first at.todo) at) (Passes g (suc n) s) refl (settled_effects s.todo s) (inl refl) (λ y goes_on. inr goes_on) (turn_done g n) (act_steps g (first at.todo) at)
 
 -- the resume adds none
 
@@ -251,4 +259,4 @@ handed_on script report e i r before x after legal is parts =
     let lawful = s.stands.lawful in
     let done = kept_done (record { outer = r.outer; env = r.env }) STEPS (executor_invariants script (actor_executor script (method_actor script r.frame.method))) (state_at script r.frame fields [] r.env.room) r.resume
     before x after refl (sym lawful.effects ∙ parts) in
-    record { fields = fields; lawful = lawful; at = done.at; passes = done.passes; is_next = done.is_next; hands_on = done.hands_on }
+    record { fields = fields; lawful = lawful; at = done.at; passes = done.passes; has = done.has; adds = done.adds; hands_on = done.hands_on }

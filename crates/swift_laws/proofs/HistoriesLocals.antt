@@ -162,7 +162,7 @@ inherit_on script cps before (b ∷ bs) all is =
     (inherit_on script cps (before ++ b ∷ []) bs all.1
     (subst (AllInherit script (before ++ b ∷ [])) (sym (after_push script (at_first script) before b)) (block_inherits script cps before b all.0 is)))
 
-pub finds_inherited : (script : ScriptView) (report : ReportView) (e i : ℕ) (r : RecordView) (legal : IsLegal script report) → IsRecord report e i r → FindsInherited script legal.blocks r
+pub finds_inherited : (script : ScriptView) (report : ReportView) (e i : ℕ) (r : RecordView) (legal : IsLegal script report) → IsRecord report e i r → FindsInherited script legal.blocks e r
 finds_inherited script report e i r legal is =
     let s = at_record script report legal e i r is in
     let turn = s.stands.stands in
@@ -170,7 +170,6 @@ finds_inherited script report e i r legal is =
     let outer : r.outer ≡ bindings_over turn.runs.0 h.made_with = s.stands.outer ∙ h.outer ∙ ap (λ (fs : List FrameView). bindings_over (callers_of fs) h.made_with) turn.runs.1 in
     record {
       before = s.front;
-      executor = e;
       after = s.back;
       parts = s.parts;
       job = s.stands.job;

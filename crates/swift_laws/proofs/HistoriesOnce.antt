@@ -29,7 +29,7 @@ same_next x y t n u m same is =
     let parts = some_pair_parts t u n m same in
     subst (λ (k : ℕ). IsNext x y u k) parts.1 (subst (λ (k : ℕ). IsNext x y k n) parts.0 is)
 
-block_next : (script : ScriptView) (cps : List CheckpointView) (before : List Block) (b : Block) (t n : ℕ) → Stands script cps before b → turn_of b ≡ Some (t, n)
+pub block_next : (script : ScriptView) (cps : List CheckpointView) (before : List Block) (b : Block) (t n : ℕ) → Stands script cps before b → turn_of b ≡ Some (t, n)
     → AreCounted (root_count script) (after_blocks script (at_first script) before).log (after_blocks script (at_first script) before).held
     → IsNext (after_blocks script (at_first script) before) (after_block script (after_blocks script (at_first script) before) b) t n
 block_next script cps before (added r) t n stands of are = absurd (none-some _ of)
@@ -104,7 +104,7 @@ picked f (x ∷ xs) i y at = picked_by f x xs y (f x) i refl (λ j. picked f xs 
 
 -- the block of a record, and of a folded turn
 
-some_if : {A : Type 0} (b : Bool) (x y : A) → (if b then Some x else None) ≡ Some y → (b ≡ true) × (x ≡ y)
+pub some_if : {A : Type 0} (b : Bool) (x y : A) → (if b then Some x else None) ≡ Some y → (b ≡ true) × (x ≡ y)
 some_if true x y is = (refl, same_Some x y is)
 some_if false x y is = absurd (none-some y is)
 
@@ -127,23 +127,23 @@ folded_picked : (script : ScriptView) (report : ReportView) (legal : IsLegal scr
 folded_picked script report legal e i f is = picked (folded_in e) legal.blocks i f (subst (λ (fs : List FoldedView). slice_get fs i ≡ Some f) (legal.folded e is.checkpoint is.is_checkpoint) is.stands)
 
 -- where the turn of a block stands in the report
-abbrev place_of : List Block → ℕ → Block → Option TurnPlace
+abbrev pub place_of : List Block → ℕ → Block → Option TurnPlace
 place_of blocks p (ran e r) = Some (in_journal e (length (records_of e (take p blocks))))
 place_of blocks p (folded e f) = Some (in_checkpoint e (length (folded_of e (take p blocks))))
 place_of blocks p (added r) = None
 place_of blocks p (begun t n env) = None
 
-record HasBlock (blocks : List Block) (place : TurnPlace) (t n : ℕ) : Type 0 where
-  at : ℕ
-  block : Block
-  is_block : slice_get blocks at ≡ Some block
-  is_turn : turn_of block ≡ Some (t, n)
-  is_place : place_of blocks at block ≡ Some place
+pub record HasBlock (blocks : List Block) (place : TurnPlace) (t n : ℕ) : Type 0 where
+  pub at : ℕ
+  pub block : Block
+  pub is_block : slice_get blocks at ≡ Some block
+  pub is_turn : turn_of block ≡ Some (t, n)
+  pub is_place : place_of blocks at block ≡ Some place
 
-pair_is : (a b t n : ℕ) → a ≡ t → b ≡ n → ◌≡◌ {A = Option (ℕ × ℕ)} (Some (a, b)) (Some (t, n))
+pub pair_is : (a b t n : ℕ) → a ≡ t → b ≡ n → ◌≡◌ {A = Option (ℕ × ℕ)} (Some (a, b)) (Some (t, n))
 pair_is a b t n p q = ap (λ (k : ℕ). Some (k, b)) p ∙ ap (λ (k : ℕ). Some (t, k)) q
 
-has_block : (script : ScriptView) (report : ReportView) (legal : IsLegal script report) (place : TurnPlace) (t n : ℕ) → HasTurn report place t n → HasBlock legal.blocks place t n
+pub has_block : (script : ScriptView) (report : ReportView) (legal : IsLegal script report) (place : TurnPlace) (t n : ℕ) → HasTurn report place t n → HasBlock legal.blocks place t n
 has_block script report legal (in_journal e i) t n has =
     let p = record_picked script report legal e i has.0 has.1 in
     let is = ran_is e p.item has.0 p.gives in

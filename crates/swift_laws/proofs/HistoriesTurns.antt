@@ -198,7 +198,7 @@ gives_counted roots log held (j ∷ js) are all =
     subst (λ (l : List Event). AreCounted roots l held) (append_assoc log (e ∷ []) (gives js))
     (gives_counted roots (log ++ e ∷ []) held js (give_push roots log held j all.0 are) (all_map (λ i f. fits_push log held i e refl f) js all.1))
 
-gives_applied : (t : ℕ) (log : List Event) (jobs : List JobView) → applied t (log ++ gives jobs) ≡ applied t log
+pub gives_applied : (t : ℕ) (log : List Event) (jobs : List JobView) → applied t (log ++ gives jobs) ≡ applied t log
 gives_applied t log [] = ap (applied t) (append-nil log)
 gives_applied t log (j ∷ js) =
     let e : Event = Give (task j.task) j.number j.resume in

@@ -9,3 +9,4 @@ pub mod HistoriesFrames
 pub mod HistoriesLocals
 pub mod HistoriesMade
 pub mod HistoriesHandedOn
+pub mod HistoriesApplied

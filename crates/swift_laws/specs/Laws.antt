@@ -1,8 +1,8 @@
 -- Laws of legal reports (SE-0304 for priorities, SE-0311 for bindings; the rest is our own).
-use Rattle.std.specs.Prelude.{◌≡◌, ℕ, ◌==◌, Bool, false, if◌then◌else◌, Option, Some, None, List, ◌∷◌, ◌++◌, length, slice_get}
+use Rattle.std.specs.Prelude.{◌≡◌, ℕ, ◌<◌, ◌==◌, Bool, false, if◌then◌else◌, Option, Some, None, List, ◌∷◌, ◌++◌, length, slice_get}
 use Rattle.std.specs.List.{filter_map, list_any, range_with_len}
 use Rattle.script_code.specs.declared.env.Env.{Env}
-use Rattle.swift_script.specs.Scripts.{ScriptView, root_count}
+use Rattle.swift_script.specs.Scripts.{ScriptView, root_count, executor_count, actor_executor}
 use Rattle.swift_journal.specs.Records.{RecordView}
 use Rattle.swift_journal.specs.Checkpoints.{FoldedView, CheckpointView}
 use Rattle.swift_events.specs.declared.event.Event.{Event}
@@ -46,19 +46,29 @@ turn_in t _ = None
 abbrev pub turns_of : ℕ → List Event → List ℕ
 turns_of t log = filter_map (turn_in t) log
 
--- in a legal report they are 0, 1, 2 and so on
+-- in a legal report they are 0, 1, 2 and so on, and each turn of the task that stands in the report is one of them
 abbrev pub TurnsAreNumbered : Type 0
-TurnsAreNumbered = (script : ScriptView) (report : ReportView) (t : ℕ)
-    → IsLegal script report → turns_of t report.log ≡ range_with_len 0 (length (turns_of t report.log))
+TurnsAreNumbered = (script : ScriptView) (report : ReportView) (t : ℕ) → IsLegal script report
+    → (turns_of t report.log ≡ range_with_len 0 (length (turns_of t report.log)))
+    × ((p : TurnPlace) (n : ℕ) → HasTurn report p t n → n < length (turns_of t report.log))
+
+-- each actor runs on an executor of the script
+abbrev pub ActorsHaveExecutors : ScriptView → Type 0
+ActorsHaveExecutors script = (actor : ℕ) → actor_executor script actor < executor_count script
+
+-- where they do, each turn that the log of a legal report applies stands in the report
+abbrev pub AppliedTurnsStand : Type 0
+AppliedTurnsStand = (script : ScriptView) (report : ReportView) (t n : ℕ) → IsLegal script report → ActorsHaveExecutors script
+    → n < length (turns_of t report.log) → (p : TurnPlace) × HasTurn report p t n
 
 -- whether a turn of the task begins
 abbrev pub begins_turn : ℕ → Event → Bool
 begins_turn t (Begin task n env) = task.0 == t
 begins_turn t _ = false
 
--- The log has this turn begin in this environment, and then has it applied; in between no turn of the task begins. The environment
--- is that of the log before the begin: its priority is the greatest of those given to tasks from which it is reached along
--- children and waits, it says whether the task was cancelled, and how many tasks the turn may make.
+-- The log has this turn begin in this environment, and then has it applied; in between no turn of the task begins. The
+-- environment is that of the log before the begin: its priority is the greatest of those given to tasks from which it is
+-- reached along children and waits, it says whether the task was cancelled, and how many tasks the turn may make.
 pub record BeginsIn (script : ScriptView) (log : List Event) (t n : ℕ) (env : Env) : Type 0 where
   pub before : List Event
   pub between : List Event
