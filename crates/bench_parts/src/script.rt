@@ -8,11 +8,12 @@ use std::alloc::AllocGlobal;
 use std::io;
 use std::random::RandomSource;
 use std::sync::{Arc, Wait};
+use std::thread::Threads;
 use std::time::Instant;
 use swift_journal::{Checkpoint, Journal};
-use swift_one_thread::{Open, run};
 use swift_report::{Report, report_text};
 use swift_script::read;
+use swift_workers::{Open, run};
 
 /// How far a script is taken.
 #[derive(Clone, Copy, Debug, PartialEq, Eq)]
@@ -28,7 +29,7 @@ pub enum Stage {
 // Takes the script on standard input as far as a stage, and says how long each one took.
 pub fn measure<W>(rt: &HostRuntime, wait: &W, stage: Stage) -> Result<(), BenchFault>
 where
-    W: RandomSource + AllocGlobal + Wait,
+    W: RandomSource + AllocGlobal + Threads + Wait + Sync,
 {
     let alloc = rt.alloc();
     let text = io::read_to_string(alloc, rt.stdin())?;
