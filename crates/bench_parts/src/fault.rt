@@ -4,9 +4,9 @@ use std::alloc::{AllocError, AllocFailed};
 use std::io;
 use swift_escalation::WaitsFault;
 use swift_groups::GroupFault;
-use swift_one_thread::RunFault;
 use swift_script::ScriptFault;
 use swift_tasks::BookFault;
+use swift_workers::RunFault;
 use thiserror::Error;
 
 /// Why a measure was given up.

@@ -42,4 +42,5 @@ pub use exec::{Closed, Exec};
 pub use fault::ExecFault;
 pub use gate::{Gate, Moment, Open};
 pub use ran::Ran;
+pub use run::may_run;
 pub use state::ExecState;

@@ -27,8 +27,9 @@ use swift_turn::Body;
 use swift_types::{ExecId, TaskId};
 use swift_word::{Begun, Left, Seat};
 
-// Whether a worker may run an executor of this kind.
-fn may_run(kind: ExecutorKind, workers: u32, worker: u32) -> bool
+/// Whether a worker may run an executor of this kind: a pinned one of place k belongs to worker k modulo their number alone, one
+/// of a negative place to none, and any other to all (our own).
+pub fn may_run(kind: ExecutorKind, workers: u32, worker: u32) -> bool
     requires { 0 < workers }
     ensures { result ≡ may_run kind workers worker }
 {

@@ -1,7 +1,7 @@
 -- What a read of a script takes of its reader.
 use Rattle.std.specs.Prelude.{◌≡◌, ℕ, Option, List, ◌++◌, length}
 use Rattle.std.specs.Io.KnownBytes.{Consumes}
-use Rattle.swift_one_thread.specs.declared.fault.RunFault.TheVariants as run
+use Rattle.swift_workers.specs.declared.fault.RunFault.TheVariants as run
 use Rattle.swift_tool.specs.declared.fault.ToolFault.{ToolFault}
 use Rattle.swift_tool.specs.declared.fault.ToolFault.TheVariants.{Script, Run, Device}
 

@@ -1,7 +1,8 @@
 -- What the program writes of a run.
-use Rattle.std.specs.Prelude.{◌≡◌, ◌≢◌, ℕ, ℤ, ◌+◌, Bool, true, false, IsTrue, Option, List, [], ◌∷◌, length}
+use Rattle.std.specs.Prelude.{◌≡◌, ◌⊎◌, ◌<◌, ◌≤◌, ℕ, ℤ, ◌+◌, Bool, true, false, IsTrue, Option, List, [], ◌∷◌, length}
 use Rattle.std.specs.declared.vec.Vec.{Vec}
 use Rattle.std.specs.declared.alloc.Global.{Global}
+use Rattle.swift_types.specs.declared.limits.TheConstants.{WORKERS}
 use Rattle.swift_types.specs.declared.outcome.Ending.{Ending}
 use Rattle.swift_types.specs.declared.outcome.Ending.TheVariants.{Value, Fault}
 use Rattle.swift_events.specs.declared.life.Origin.{Origin}
@@ -11,9 +12,9 @@ use Rattle.swift_script.specs.Refuses.{Refuses}
 use Rattle.swift_history.specs.Histories.{IsLegal}
 use Rattle.swift_certificate.specs.Reports.{report_view}
 use Rattle.swift_output.specs.Part.{WritesPart}
-use Rattle.swift_one_thread.specs.Leaves.{AreEndings, AreReplayed}
-use Rattle.swift_one_thread.specs.declared.fault.RunFault.{RunFault}
-use Rattle.swift_one_thread.specs.declared.fault.RunFault.TheVariants.{Workers, Memory, Unfinished, Illegal, Executor}
+use Rattle.swift_workers.specs.Leaves.{AreEndings, AreReplayed}
+use Rattle.swift_workers.specs.declared.fault.RunFault.{RunFault}
+use Rattle.swift_workers.specs.declared.fault.RunFault.TheVariants.{Workers, Memory, Unfinished, Illegal, Executor}
 use Rattle.swift_tool.specs.declared.fault.ToolFault.{ToolFault}
 use Rattle.swift_tool.specs.declared.fault.ToolFault.TheVariants as tool
 use Rattle.script_code.specs.Seen.{rows_of}
@@ -67,18 +68,26 @@ pub record WritesPrefix (bytes : List ℕ) (quiet : Bool) (old new : Option (Lis
   pub is : IsRunOf bytes quiet text well
   pub part : WritesPart old new text
 
--- Why a run of these bytes was refused: a number of workers other than 1, which is looked at first, or else, of a
+-- from 1 to 8 workers
+abbrev pub IsCrew : ℕ → Type 0
+IsCrew workers = (0 < workers) × (workers ≤ WORKERS)
+
+-- A run of these bytes has so many workers, and of a script that is accepted.
+abbrev pub IsRunning : List ℕ → ℕ → Type 0
+IsRunning bytes workers = IsCrew workers × ((script : ScriptView) × IsAccepted bytes script)
+
+-- Why a run of these bytes was refused: a number of workers other than 1 to 8, which is looked at first, or else, of a
 -- script that is accepted, memory ran out, a task was left, the report was not legal, or an executor refused.
 abbrev pub IsRunRefusal : List ℕ → ℕ → RunFault → Type 0
-IsRunRefusal bytes workers Workers = workers ≢ 1
-IsRunRefusal bytes workers Memory = (workers ≡ 1) × ((script : ScriptView) × IsAccepted bytes script)
-IsRunRefusal bytes workers Unfinished = (workers ≡ 1) × ((script : ScriptView) × IsAccepted bytes script)
-IsRunRefusal bytes workers Illegal = (workers ≡ 1) × ((script : ScriptView) × IsAccepted bytes script)
-IsRunRefusal bytes workers Executor = (workers ≡ 1) × ((script : ScriptView) × IsAccepted bytes script)
+IsRunRefusal bytes workers Workers = (workers ≡ 0) ⊎ (WORKERS < workers)
+IsRunRefusal bytes workers Memory = IsRunning bytes workers
+IsRunRefusal bytes workers Unfinished = IsRunning bytes workers
+IsRunRefusal bytes workers Illegal = IsRunning bytes workers
+IsRunRefusal bytes workers Executor = IsRunning bytes workers
 
 -- Why no run of these bytes gave a text: the script was refused, for the stated cause, or the run was.
 abbrev pub IsRefusal : List ℕ → ℕ → ToolFault → Type 0
-IsRefusal bytes workers (tool.Script f) = (workers ≡ 1) × Refuses f.kind bytes
+IsRefusal bytes workers (tool.Script f) = IsCrew workers × Refuses f.kind bytes
 IsRefusal bytes workers (tool.Run f) = IsRunRefusal bytes workers f
 IsRefusal bytes workers tool.Device = ⊥
 

@@ -1,14 +1,14 @@
 //! Why nothing, or not all, was printed.
 
 ghost use Rattle.std.specs.Prelude.{◌≡◌};
-ghost use Rattle.swift_one_thread.specs.declared.fault.RunFault.TheVariants.{Memory};
+ghost use Rattle.swift_workers.specs.declared.fault.RunFault.TheVariants.{Memory};
 ghost use Rattle.swift_tool.specs.Ended.{status_of_fault};
 ghost use Rattle.swift_tool.specs.declared.fault.ToolFault.TheVariants.{Device, Run, Script};
 
 use std::alloc::{AllocError, AllocFailed};
-use swift_one_thread::RunFault;
 use swift_output::Device;
 use swift_script::ScriptFault;
+use swift_workers::RunFault;
 use thiserror::Error;
 
 /// Why a text was not run to its end and printed (our own). Nothing was written, unless a device failed: then a front

@@ -1,9 +1,9 @@
 //! The tokens of executors that have jobs.
 
 use crate::fault::Halt;
-use script_grammar::ExecutorKind;
 use std::alloc::{AllocError, Global};
 use std::collections::VecDeque;
+use swift_executor::may_run;
 use swift_script::Script;
 use swift_types::ExecId;
 
@@ -29,13 +29,8 @@ pub enum Next {
 }
 
 // Whether an executor is one that this worker may run.
-fn may_run(script: &Script, workers: u32, worker: u32, executor: ExecId) -> bool {
-    match script.executor_kind(executor) {
-        ExecutorKind::Pinned(number) => {
-            number >= 0 && workers > 0 && number as u64 % u64::from(workers) == u64::from(worker)
-        }
-        ExecutorKind::Priority | ExecutorKind::Fifo => true,
-    }
+fn is_for(script: &Script, workers: u32, worker: u32, on: ExecId) -> bool {
+    workers > 0 && may_run(script.executor_kind(on), workers, worker)
 }
 
 impl Pool {
@@ -53,7 +48,7 @@ impl Pool {
             return Next::Stop;
         }
         for place in 0..self.tokens.len() {
-            if place < self.tokens.len() && may_run(script, workers, worker, self.tokens[place]) {
+            if place < self.tokens.len() && is_for(script, workers, worker, self.tokens[place]) {
                 if let Some(on) = self.tokens.remove(place) {
                     self.under_way = self.under_way.saturating_add(1);
                     return Next::Visit(on);

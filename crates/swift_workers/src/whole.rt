@@ -1,13 +1,17 @@
 //! Whole runs.
 
-ghost use Rattle.std.specs.Prelude.{◌≡◌, ◌⊎◌, ◌↔◌, ◌<◌, Err, IfOk};
+ghost use Rattle.std.specs.Prelude.{◌≡◌, ◌⊎◌, ◌↔◌, ◌<◌, Err, length, IfOk};
 ghost use Rattle.std.specs.Arc.{arc_value};
 ghost use Rattle.std.specs.List.{AllByRecursion};
+ghost use Rattle.swift_types.specs.declared.limits.TheConstants.{WORKERS};
+ghost use Rattle.swift_script.specs.Scripts.{executor_count, root_count};
 ghost use Rattle.swift_tasks.specs.Books.{IsJobOf};
+ghost use Rattle.swift_report.specs.Lawful.{KeepInvariants};
 ghost use Rattle.swift_history.specs.Histories.{IsLegal};
 ghost use Rattle.swift_certificate.specs.Reports.{report_view};
 ghost use Rattle.swift_workers.specs.declared.fault.RunFault.TheVariants.{Workers};
 ghost use Rattle.swift_workers.specs.Crew.{AreAtSites, AreDesksOf, AreHandsOf};
+ghost use Rattle.swift_workers.specs.Leaves.{AreEndings, AreReplayed};
 
 use crate::crew::{Crew, Hand, open_all, others_of};
 use crate::fault::{Halt, RunFault};
@@ -27,9 +31,7 @@ use swift_report::Report;
 use swift_script::Script;
 use swift_tasks::Book;
 use swift_turn::Body;
-
-/// The greatest number of workers.
-const WORKERS: u32 = 8;
+use swift_types::limits::WORKERS;
 
 /// Runs a script to its end on one to eight threads, and leaves the report of the run (SE-0304 for tasks, SE-0392 for executors
 /// that run one job at a time; the pool of tokens is our own). Before it is handed out, the report is followed again by a second
@@ -50,11 +52,21 @@ pub fn run<R, G>(rt: &R, script: Arc<Script>, workers: u32, gate: &G) -> Result<
 where
     R: RandomSource + AllocGlobal + Threads + Wait + Sync,
     G: Gate + Sync,
-    ensures workers { (result ≡ Err Workers) ↔ ((workers ≡ 0) ⊎ (8 < workers)) }
+    ensures workers { (result ≡ Err Workers) ↔ ((workers ≡ 0) ⊎ (WORKERS < workers)) }
     // The report is one that a history of blocks has made, each of which may stand after those before it.
     ensures legal { IfOk result (λ r. IsLegal (arc_value script) (report_view r)) }
+    // The turns of each executor are lawful from the start values on, those that were folded too; those of its journal are of its
+    // actors, and replaying them gives the fields.
+    ensures lawful { IfOk result (λ r. AreReplayed (arc_value script) 0 r.checkpoints.items r.journals.items r.fields.items) }
+    // The fields meet each invariant that holds at the start.
+    ensures invariants { IfOk result (λ r. KeepInvariants (arc_value script) 0 r.fields.items) }
+    ensures journals { IfOk result (λ r. length r.journals.items ≡ executor_count (arc_value script)) }
+    ensures checkpoints { IfOk result (λ r. length r.checkpoints.items ≡ executor_count (arc_value script)) }
+    ensures fields { IfOk result (λ r. length r.fields.items ≡ executor_count (arc_value script)) }
+    // The log says of each task where it comes from and how it has ended. The first tasks are the roots, in order of declaration.
+    ensures endings { IfOk result (λ r. AreEndings (root_count (arc_value script)) r.log.items r.endings.items) }
 {
-    if workers == 0 || workers > WORKERS {
+    if workers == 0 || workers as usize > WORKERS {
         return Err(RunFault::Workers);
     }
     let report = run_all(rt, &script, workers, gate)?;
@@ -70,6 +82,12 @@ where
     R: RandomSource + AllocGlobal + Threads + Wait + Sync,
     G: Gate + Sync,
     requires { 0 < workers }
+    ensures lawful { IfOk result (λ r. AreReplayed (arc_value script.now) 0 r.checkpoints.items r.journals.items r.fields.items) }
+    ensures invariants { IfOk result (λ r. KeepInvariants (arc_value script.now) 0 r.fields.items) }
+    ensures journals { IfOk result (λ r. length r.journals.items ≡ executor_count (arc_value script.now)) }
+    ensures checkpoints { IfOk result (λ r. length r.checkpoints.items ≡ executor_count (arc_value script.now)) }
+    ensures fields { IfOk result (λ r. length r.fields.items ≡ executor_count (arc_value script.now)) }
+    ensures endings { IfOk result (λ r. AreEndings (root_count (arc_value script.now)) r.log.items r.endings.items) }
 {
     let alloc = rt.alloc();
     let (execs, mut desks) = open_all(alloc, script, workers)?;

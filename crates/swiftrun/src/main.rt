@@ -1,36 +1,62 @@
 //! Runs a script that it reads from standard input, and prints the journal of each executor, how each task ended, and
 //! the fields.
 //!
-//! It takes no words yet. Status 0 stands for a run whose tasks all ended with a value, 1 for one with a task that ended
-//! with a fault, 2 for words that were refused, 3 for a script that was refused, 4 for a run that was refused or a
-//! device that failed.
+//! It takes the words `--workers N`, from 1 to 8, `--quiet` and `--help`. Status 0 stands for a run whose tasks all ended with a
+//! value, and for help; 1 for a run with a task that ended with a fault, 2 for words that were refused, 3 for a script that was
+//! refused, 4 for a run that was refused or a device that failed.
 #![tactic(auto)]
 
-use std::alloc::AllocGlobal;
+use std::alloc::{AllocError, AllocGlobal};
 use std::env;
 use std::process::ExitCode;
 use std::random::RandomSource;
 use std::sync::Wait;
-use swift_one_thread::Open;
-use swift_tool::{ProgramFault, read_input, run_text, status, take_words};
+use std::thread::Threads;
+use swift_tool::{Options, ToolFault, options, read_input, run_text, status};
+use swift_workers::Open;
 
 fn main(rt: HostRuntime) -> ExitCode {
-    let ended = whole(&rt, &rt);
-    if let Err(fault) = ended {
-        let _ = eprintln!(rt; "{fault}");
+    let alloc = rt.alloc();
+    let Ok(found) = env::args(&rt) else {
+        return no_words(&rt);
+    };
+    let collected: Result<Vec<String>, AllocError> = found.collect(alloc);
+    let Ok(words) = collected else {
+        return no_words(&rt);
+    };
+    match options(alloc, &words) {
+        Ok(options) => {
+            let ended = whole(&rt, &rt, options);
+            if let Err(fault) = ended {
+                let _ = eprintln!(rt; "swiftrun: {fault}");
+            }
+            ExitCode::from(status(&ended))
+        }
+        Err(refused) => {
+            let _ = refused.print(&rt);
+            ExitCode::from(refused.exit_code() as u8)
+        }
     }
-    ExitCode::from(status(&ended))
+}
+
+// The words could not be read.
+fn no_words(rt: &HostRuntime) -> ExitCode {
+    let _ = eprintln!(rt; "swiftrun: no memory for the words");
+    ExitCode::from(2)
 }
 
 // Whether each task ended with a value. The runtime comes twice, since it waits in `main` alone.
-fn whole<R>(host: &HostRuntime, rt: &R) -> Result<bool, ProgramFault>
+fn whole<R>(host: &HostRuntime, rt: &R, options: Options) -> Result<bool, ToolFault>
 where
-    R: RandomSource + AllocGlobal + Wait,
+    R: RandomSource + AllocGlobal + Threads + Wait + Sync,
 {
-    let Ok(words) = env::args(host) else {
-        return Err(ProgramFault::Words);
-    };
-    take_words(words.len())?;
     let text = read_input(rt.alloc(), &mut host.stdin())?;
-    Ok(run_text(rt, &text, 1, false, &Open, &mut host.stdout())?)
+    run_text(
+        rt,
+        &text,
+        options.workers,
+        options.quiet,
+        &Open,
+        &mut host.stdout(),
+    )
 }

@@ -1,7 +1,7 @@
 -- Which faults say that a growth was refused, and nothing else.
 use Rattle.std.specs.Prelude.{◌≡◌}
 use Rattle.swift_script.specs.declared.fault.ScriptFaultKind.TheVariants as kind
-use Rattle.swift_one_thread.specs.declared.fault.RunFault.TheVariants as run
+use Rattle.swift_workers.specs.declared.fault.RunFault.TheVariants as run
 use Rattle.swift_tool.specs.declared.fault.ToolFault.{ToolFault}
 use Rattle.swift_tool.specs.declared.fault.ToolFault.TheVariants.{Script, Run, Device}
 

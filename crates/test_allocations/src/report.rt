@@ -1,7 +1,7 @@
 //! Whole runs, and their reports. Their calls want a handle of their own, which the runtime is in `main` alone.
 
 ghost use Rattle.std.specs.Prelude.{◌≡◌, ◌↔◌, IsTrue};
-ghost use Rattle.swift_one_thread.specs.declared.fault.RunFault.TheVariants.{Memory};
+ghost use Rattle.swift_workers.specs.declared.fault.RunFault.TheVariants.{Memory};
 ghost use Rattle.test_allocations.specs.Want.{IsWantOfMemory};
 
 use crate::again::{Refusal, TRIES, again, refused, wrong};
@@ -9,11 +9,13 @@ use crate::script::TEXT;
 use std::alloc::AllocGlobal;
 use std::random::RandomSource;
 use std::sync::{Arc, Wait};
-use swift_one_thread::{Open, RunFault, run};
+use std::thread::Threads;
+use swift_certificate::legal;
 use swift_output::write_all;
 use swift_report::{Report, report_text};
 use swift_script::Script;
 use swift_tool::{ToolFault, run_text};
+use swift_workers::{Open, RunFault, run};
 
 impl Refusal for RunFault {
     fn is_want_of_memory(&self) -> bool
@@ -35,23 +37,28 @@ impl Refusal for ToolFault {
     }
 }
 
-fn run_shared<W>(wait: &W, script: &Arc<Script>) -> Result<Report, RunFault>
+fn run_shared<W>(wait: &W, script: &Arc<Script>, workers: u32) -> Result<Report, RunFault>
 where
-    W: RandomSource + AllocGlobal + Wait,
+    W: RandomSource + AllocGlobal + Threads + Wait + Sync,
 {
     let Ok(shared) = Arc::clone(script) else {
         return Err(RunFault::Memory);
     };
-    run(wait, shared, 1, &Open)
+    run(wait, shared, workers, &Open)
 }
 
 // A run, made again where it is refused.
-fn report_again<W>(rt: &HostRuntime, wait: &W, script: &Arc<Script>) -> Option<Report>
+fn report_again<W>(
+    rt: &HostRuntime,
+    wait: &W,
+    script: &Arc<Script>,
+    workers: u32,
+) -> Option<Report>
 where
-    W: RandomSource + AllocGlobal + Wait,
+    W: RandomSource + AllocGlobal + Threads + Wait + Sync,
 {
     for _ in 0..TRIES {
-        match run_shared(wait, script) {
+        match run_shared(wait, script, workers) {
             Ok(report) => return Some(report),
             Err(fault) => refused(rt, "run", fault.is_want_of_memory()),
         }
@@ -60,12 +67,23 @@ where
     None
 }
 
-/// Runs a script, makes the text of its report in two ways, and writes it.
+// Asks whether a report is legal, as it has to be.
+fn legal_again(rt: &HostRuntime, script: &Arc<Script>, report: &Report) -> Option<()> {
+    let is_legal = again(rt, "legal", || legal(rt.alloc(), script, report))?;
+    if !is_legal {
+        wrong(rt, "legal");
+    }
+    Some(())
+}
+
+/// Runs a script on one worker and on two, makes the text of the first report in two ways, and writes it.
 pub fn run_again<W>(rt: &HostRuntime, wait: &W, script: &Arc<Script>) -> Option<()>
 where
-    W: RandomSource + AllocGlobal + Wait,
+    W: RandomSource + AllocGlobal + Threads + Wait + Sync,
 {
-    let report = report_again(rt, wait, script)?;
+    let crew = report_again(rt, wait, script, 2)?;
+    legal_again(rt, script, &crew)?;
+    let report = report_again(rt, wait, script, 1)?;
     let text = again(rt, "report_text", || {
         report_text(rt.alloc(), script, &report, false)
     })?;
@@ -77,7 +95,7 @@ where
 // There is room for it, so that no write is refused.
 fn text_again<W>(rt: &HostRuntime, wait: &W, text: &[u8]) -> Option<()>
 where
-    W: RandomSource + AllocGlobal + Wait,
+    W: RandomSource + AllocGlobal + Threads + Wait + Sync,
 {
     let alloc = rt.alloc();
     let mut out = again(rt, "room for a text", || {
@@ -93,7 +111,7 @@ where
 // Runs the script's text, again where that is refused; a refusal has to leave the text that was written as it was.
 fn run_text_again<W>(rt: &HostRuntime, wait: &W, out: &mut Vec<u8>) -> Option<bool>
 where
-    W: RandomSource + AllocGlobal + Wait,
+    W: RandomSource + AllocGlobal + Threads + Wait + Sync,
 {
     for _ in 0..TRIES {
         let before = out.len();

@@ -32,9 +32,10 @@ use std::io;
 use std::io::Write;
 use std::random::RandomSource;
 use std::sync::{Arc, Wait};
+use std::thread::Threads;
 use swift_certificate::legal;
-use swift_one_thread::{Open, run};
 use swift_script::{Script, read};
+use swift_workers::{Open, run};
 
 fn main(rt: HostRuntime) -> Result<(), CaseFault> {
     let input = io::read_to_string(rt.alloc(), rt.stdin())?;
@@ -51,7 +52,7 @@ fn main(rt: HostRuntime) -> Result<(), CaseFault> {
 // Whether the report of the first of these scripts is legal for the second, once it is changed.
 fn answer<R>(rt: &R, change: &str, scripts: &str) -> Result<bool, CaseFault>
 where
-    R: RandomSource + AllocGlobal + Wait,
+    R: RandomSource + AllocGlobal + Threads + Wait + Sync,
 {
     let alloc = rt.alloc();
     let (first, second) = scripts.split_once("\n--\n").unwrap_or((scripts, scripts));

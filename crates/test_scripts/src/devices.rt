@@ -7,9 +7,10 @@ use std::io;
 use std::io::{Error, ErrorKind, Read, Write};
 use std::random::RandomSource;
 use std::sync::Wait;
-use swift_one_thread::Open;
+use std::thread::Threads;
 use swift_output::write_all;
 use swift_tool::{ToolFault, read_input, run_text};
+use swift_workers::Open;
 
 // Takes at most `step` bytes a call. After `room` bytes it fails, or takes none.
 #[derive(Drop)]
@@ -76,7 +77,7 @@ fn wrote(device: &mut SlowDevice, text: &[u8]) -> Result<bool, ToolFault> {
 /// The text of the first line on each of the devices of the other lines: written, or run where it is a script's.
 pub fn slow<R>(rt: &R, table: &str, is_run: bool, out: &mut Vec<u8>) -> Result<(), CaseFault>
 where
-    R: RandomSource + AllocGlobal + Wait,
+    R: RandomSource + AllocGlobal + Threads + Wait + Sync,
 {
     let Some((text, rows)) = table.split_once('\n') else {
         return Err(CaseFault::Form);

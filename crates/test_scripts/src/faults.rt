@@ -2,9 +2,9 @@
 
 use crate::fault::CaseFault;
 use std::io::Write;
-use swift_one_thread::RunFault;
 use swift_script::{ScriptFault, ScriptFaultKind};
-use swift_tool::{ProgramFault, ToolFault};
+use swift_tool::ToolFault;
+use swift_workers::RunFault;
 
 // No memory for a script.
 const NO_MEMORY: ScriptFault = ScriptFault {
@@ -15,16 +15,15 @@ const NO_MEMORY: ScriptFault = ScriptFault {
 /// What the program says of each fault of its own.
 pub fn program_faults(out: &mut Vec<u8>) -> Result<(), CaseFault> {
     for fault in [
-        ProgramFault::Words,
-        ProgramFault::Tool(ToolFault::Script(NO_MEMORY)),
-        ProgramFault::Tool(ToolFault::Run(RunFault::Workers)),
-        ProgramFault::Tool(ToolFault::Run(RunFault::Memory)),
-        ProgramFault::Tool(ToolFault::Run(RunFault::Unfinished)),
-        ProgramFault::Tool(ToolFault::Run(RunFault::Illegal)),
-        ProgramFault::Tool(ToolFault::Run(RunFault::Executor)),
-        ProgramFault::Tool(ToolFault::Device),
+        ToolFault::Script(NO_MEMORY),
+        ToolFault::Run(RunFault::Workers),
+        ToolFault::Run(RunFault::Memory),
+        ToolFault::Run(RunFault::Unfinished),
+        ToolFault::Run(RunFault::Illegal),
+        ToolFault::Run(RunFault::Executor),
+        ToolFault::Device,
     ] {
-        writeln!(out, "{fault}")?;
+        writeln!(out, "swiftrun: {fault}")?;
     }
     Ok(())
 }

@@ -25,6 +25,7 @@
 //!   then fails.
 //! - `moments`: how often a gate is told of a token, and of a turn of task 1 on executor 0.
 //! - `faults`: what the program says of each fault of its own.
+//! - `words`: what the words of each line ask the program for, or what is said of them, with the status.
 //!
 //! What is accepted is printed, and has to be read again.
 //!
@@ -51,6 +52,8 @@ mod reading;
 mod running;
 // How often each answer was given.
 mod tally;
+// Words of a command line.
+mod words;
 
 use crate::escapes::expand;
 use crate::fault::CaseFault;
@@ -59,6 +62,7 @@ use std::io;
 use std::io::Write;
 use std::random::RandomSource;
 use std::sync::Wait;
+use std::thread::Threads;
 use swift_output::write_all;
 
 fn main(rt: HostRuntime) -> Result<(), CaseFault> {
@@ -76,7 +80,7 @@ fn main(rt: HostRuntime) -> Result<(), CaseFault> {
 // What is written for a case.
 fn answered<R>(rt: &R, case: &str) -> Result<Vec<u8>, CaseFault>
 where
-    R: RandomSource + AllocGlobal + Wait,
+    R: RandomSource + AllocGlobal + Threads + Wait + Sync,
 {
     let (head, text) = case.split_once('\n').unwrap_or((case, ""));
     let Some((kind, title)) = head.split_once(' ') else {
@@ -91,7 +95,7 @@ where
 // What is said of a text in a case of this kind.
 fn answer<R>(rt: &R, kind: &str, text: &str, out: &mut Vec<u8>) -> Result<(), CaseFault>
 where
-    R: RandomSource + AllocGlobal + Wait,
+    R: RandomSource + AllocGlobal + Threads + Wait + Sync,
 {
     let alloc = rt.alloc();
     match kind {
@@ -102,6 +106,7 @@ where
         "write" => devices::slow(rt, text, false, out),
         "failing" => devices::failing_input(alloc, out),
         "faults" => faults::program_faults(out),
+        "words" => words::words(alloc, text, out),
         _ => answer_whole(rt, kind, &expand(alloc, text)?, out),
     }
 }
@@ -109,7 +114,7 @@ where
 // What is said of one text.
 fn answer_whole<R>(rt: &R, kind: &str, text: &[u8], out: &mut Vec<u8>) -> Result<(), CaseFault>
 where
-    R: RandomSource + AllocGlobal + Wait,
+    R: RandomSource + AllocGlobal + Threads + Wait + Sync,
 {
     let alloc = rt.alloc();
     match kind {

@@ -6,9 +6,10 @@ use std::io::Write;
 use std::random::RandomSource;
 use std::sync::Wait;
 use std::sync::atomic::{AtomicU32, Ordering};
-use swift_one_thread::{Gate, Moment};
+use std::thread::Threads;
 use swift_tool::run_text;
 use swift_types::{ExecId, TaskId};
+use swift_workers::{Gate, Moment};
 
 // Counts the tokens that were taken, and the turns of task 1 on executor 0.
 #[derive(Drop)]
@@ -30,7 +31,7 @@ impl Gate for Counting {
 /// How often a gate was told of a token, and of a turn of task 1 on executor 0.
 pub fn moments<R>(rt: &R, text: &[u8], out: &mut Vec<u8>) -> Result<(), CaseFault>
 where
-    R: RandomSource + AllocGlobal + Wait,
+    R: RandomSource + AllocGlobal + Threads + Wait + Sync,
 {
     let gate = Counting {
         taken: AtomicU32::new(0),

@@ -6,6 +6,8 @@ use std::io;
 /// Why the program stops before its last case.
 #[derive(Clone, Copy, Debug, PartialEq, Eq)]
 pub enum CaseFault {
+    /// No case has this kind.
+    Kind,
     /// A script is refused.
     Script,
     Memory,

@@ -1,13 +1,18 @@
-//! Runs the scripts of its standard input on one, two, four and eight workers, and on none and nine, and writes what it gets:
-//! the report of the run on one worker without its journals, and whether the others are the same. What it has to write stands in
-//! the file stdout. A case begins with a line `== TITLE`, and has a script up to the next such line; what stands before the
-//! first case is a comment. No script here says more than its tasks and fields, in which all runs have to agree.
+//! Runs the scripts of its standard input on several workers, and writes what it gets. What it has to write stands in the file
+//! stdout. A case begins with a line `== KIND TITLE`, and has a script up to the next such line; what stands before the first case
+//! is a comment. The kinds are
+//! - `same`: the report of the run on one worker without its journals, whether those on two, four and eight workers are the same,
+//!   and what is said of none and of nine. No script here says more than its tasks and fields, in which all runs have to agree.
+//! - `meet`: of two executors that are run by two workers, how many wait, once they are begun, until the other is begun too.
 #![tactic(auto)]
 
 // Why a case has no answer.
 mod fault;
+// Two executors that wait for each other.
+mod meeting;
 
 use crate::fault::CaseFault;
+use crate::meeting::meet;
 use std::alloc::{AllocGlobal, Global};
 use std::io;
 use std::io::Write;
@@ -23,8 +28,9 @@ fn main(rt: HostRuntime) -> Result<(), CaseFault> {
     let mut cases = input.as_str().split("\n== ");
     let _comment = cases.next();
     for case in cases {
-        let (title, text) = case.split_once('\n').unwrap_or((case, ""));
-        let answer = answer(&rt, text)?;
+        let (head, text) = case.split_once('\n').unwrap_or((case, ""));
+        let (kind, title) = head.split_once(' ').unwrap_or((head, ""));
+        let answer = answer(&rt, kind, text)?;
         writeln!(rt.stdout(), "== {title}")?;
         rt.stdout().write_all(&answer)?;
     }
@@ -54,21 +60,33 @@ where
     }
 }
 
-// What is written for a script.
-fn answer<R>(rt: &R, text: &str) -> Result<Vec<u8>, CaseFault>
+// What is written for a script in a case of this kind.
+fn answer<R>(rt: &R, kind: &str, text: &str) -> Result<Vec<u8>, CaseFault>
 where
     R: RandomSource + AllocGlobal + Threads + Wait + Sync,
 {
     let script = script_of(rt.alloc(), text)?;
-    let mut out = report_on(rt, &script, 1)?;
-    let alone = report_on(rt, &script, 1)?;
+    match kind {
+        "same" => same(rt, &script),
+        "meet" => meet(rt, &script),
+        _ => Err(CaseFault::Kind),
+    }
+}
+
+// The report of a run on one worker, and whether those on more are the same.
+fn same<R>(rt: &R, script: &Arc<Script>) -> Result<Vec<u8>, CaseFault>
+where
+    R: RandomSource + AllocGlobal + Threads + Wait + Sync,
+{
+    let mut out = report_on(rt, script, 1)?;
+    let alone = report_on(rt, script, 1)?;
     for workers in [2, 4, 8] {
-        let others = report_on(rt, &script, workers)?;
+        let others = report_on(rt, script, workers)?;
         let is_same = others.as_slice() == alone.as_slice();
         writeln!(out, "{workers} workers, the same: {is_same}")?;
     }
     for workers in [0, 9] {
-        let refused = report_on(rt, &script, workers)?;
+        let refused = report_on(rt, script, workers)?;
         out.extend_from_slice(&refused)?;
     }
     Ok(out)

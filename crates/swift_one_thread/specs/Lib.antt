@@ -1,3 +1,0 @@
-pub mod Crew
-pub mod Leaves
-pub mod PartsInside

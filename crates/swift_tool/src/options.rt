@@ -1,0 +1,10 @@
+//! How a script is run.
+
+/// How a script is run (our own).
+#[derive(Clone, Copy, Debug, PartialEq, Eq)]
+pub struct Options {
+    /// On how many threads.
+    pub workers: u32,
+    /// Whether the journals are left out of the report.
+    pub quiet: bool,
+}
