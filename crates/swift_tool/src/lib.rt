@@ -7,16 +7,16 @@ mod ended;
 mod fault;
 // A script from a device.
 mod input;
-// How a script is run.
-mod options;
 // From a script's text to a report's.
 mod run;
+// How a script is run.
+mod settings;
 // What the words of a command line ask for.
 mod words;
 
 pub use ended::status;
 pub use fault::ToolFault;
 pub use input::read_input;
-pub use options::Options;
 pub use run::run_text;
+pub use settings::Options;
 pub use words::options;

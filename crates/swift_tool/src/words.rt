@@ -3,7 +3,7 @@
 ghost use Rattle.std.specs.Prelude.{◌≤◌, IfOk};
 ghost use Rattle.swift_types.specs.declared.limits.TheConstants.{WORKERS};
 
-use crate::options::Options;
+use crate::settings::Options;
 use clap::{Arg, ArgAction, Command, Error, value_parser};
 use std::alloc::Global;
 use swift_types::limits::WORKERS;
