@@ -1,0 +1,14 @@
+//! Structured concurrency (SE-0304): an ended task leaves no task behind. A call costs nothing; its contract is the law.
+
+ghost use Rattle.swift_laws.specs.Ended.{EndedWaitForNone, EndedLeaveNoChildren};
+
+/// In a legal report, at each point of the log, each task that an ended task has waited for has ended (SE-0304).
+pub fn ended_tasks_wait_for_none()
+    ensures { EndedWaitForNone }
+{}
+
+/// In a legal report, at each point of the log, each child that was added to a group of an ended task has ended, where no
+/// turn of the task was folded (SE-0304).
+pub fn ended_tasks_leave_no_children()
+    ensures { EndedLeaveNoChildren }
+{}
