@@ -6,3 +6,4 @@ pub mod OpenGroups
 pub mod OpenEnds
 pub mod OpenHistories
 pub mod OpenStarts
+pub mod OpenScripts

@@ -4,6 +4,7 @@ use Rattle.swift_types.specs.declared.id.TaskId.{TaskId}
 use Rattle.swift_types.specs.declared.priority.Priority.{Priority}
 use Rattle.script_code.specs.Tree.{Deed, return, open_group, close_group, Code, end, act, choice, loop}
 use Rattle.swift_script.specs.Scripts.{ScriptView, method_code}
+use Rattle.swift_script.specs.Accepted.{WasAccepted}
 use Rattle.swift_events.specs.declared.event.Event.{Event}
 use Rattle.swift_events.specs.declared.event.Event.TheVariants.{Child, Wait}
 use Rattle.swift_events.specs.Lives.{life_of}
@@ -48,3 +49,7 @@ IsNotFolded blocks t = (e : ℕ) (f : FoldedView) → Contains blocks (folded e 
 abbrev pub EndedLeaveNoChildren : Type 0
 EndedLeaveNoChildren = (script : ScriptView) (report : ReportView) (legal : IsLegal script report) (front back : List Event) (t u : TaskId) (g : ℕ) (p : Priority)
     → ClosesGroups script → IsNotFolded legal.blocks t.0 → report.log ≡ front ++ back → HasEnded t.0 front → Contains front (Child u t g p) → HasEnded u.0 front
+
+-- Each accepted script is such.
+abbrev pub AcceptedCloseGroups : Type 0
+AcceptedCloseGroups = (script : ScriptView) → WasAccepted script → ClosesGroups script

@@ -1,6 +1,6 @@
 //! Structured concurrency (SE-0304): an ended task leaves no task behind. A call costs nothing; its contract is the law.
 
-ghost use Rattle.swift_laws.specs.Ended.{EndedWaitForNone, EndedLeaveNoChildren};
+ghost use Rattle.swift_laws.specs.Ended.{EndedWaitForNone, EndedLeaveNoChildren, AcceptedCloseGroups};
 
 /// In a legal report, at each point of the log, each task that an ended task has waited for has ended (SE-0304).
 pub fn ended_tasks_wait_for_none()
@@ -11,4 +11,9 @@ pub fn ended_tasks_wait_for_none()
 /// turn of the task was folded (SE-0304).
 pub fn ended_tasks_leave_no_children()
     ensures { EndedLeaveNoChildren }
+{}
+
+/// Each method of an accepted script closes each group that it opens, and returns in none (our own).
+pub fn accepted_scripts_close_groups()
+    ensures { AcceptedCloseGroups }
 {}
