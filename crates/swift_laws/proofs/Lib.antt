@@ -7,3 +7,5 @@ pub mod OpenEnds
 pub mod OpenHistories
 pub mod OpenStarts
 pub mod OpenScripts
+pub mod OpenExecutors
+pub mod OpenReports

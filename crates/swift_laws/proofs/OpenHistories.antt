@@ -28,7 +28,7 @@ use Rattle.swift_events.proofs.LogLemmas.{opened_by-push_no, is_closed-push_no}
 use Rattle.swift_history.specs.Checks.{was_given as given_so, is_under_way, is_current, counters, fits_turn}
 use Rattle.swift_history.specs.Histories.{Block, added, begun, ran, folded, Standing, at_first, with_jobs, taken, begun_priority, left_as, frames_applied, job_applied, turn_applied, after_block, after_blocks, TurnStands, RecordStands, FoldedStands, Stands, AllStand, opens_group, fields_of, IsLegal, ReportView}
 use Rattle.swift_history.specs.TurnEnds.{JobView, HeldView, task, root_job, root_events, log_after, jobs_made, exit_events, exit_resume}
-use Rattle.swift_laws.specs.Ended.{HasEnded, ClosesGroups, IsNotFolded}
+use Rattle.swift_laws.specs.Ended.{HasEnded, ClosesGroups}
 use Rattle.swift_laws.proofs.OpenLogs.{In, in_contains, cases_of, not_both, none_some, has_origin, was_given, stage_at, origin_now, given_same, given_stays, stage_now, ending_same, Sound, May, Leads, stays, leads_by, leads_on, sound_from, sound_leads, sound_front, free_at, free_ended, children_ended, holds_at}
 use Rattle.swift_laws.proofs.OpenSteps.{Each, each_map, no_child, may_move, Active, Beside, beside_on, beside_by, Fresh, effects, goes_new, Gave, gave_on, gave_by, gave_one}
 use Rattle.swift_laws.proofs.OpenFrames.{Frames, FramesOk, frames_stay, Begins, first_ok, Own, lawful_own}
@@ -223,23 +223,3 @@ module _ (script : ScriptView) (N : ℕ → Type 0) (begins : Begins) (tidy : (u
   pub legal_sound : (report : ReportView) (legal : IsLegal script report) → ((b : Block) → In legal.blocks b → NotFoldedBy b) → (front back : List Event) → report.log ≡ front ++ back → Sound (root_count script) N front
   legal_sound report legal never front back is =
       sound_front (root_count script) N (after_blocks script (at_first script) legal.blocks).log front back (blocks_kept report.checkpoints [] legal.blocks never first_kept legal.stand).leads (sym legal.log ∙ is)
-
--- the two laws
-
-pub waits_for_none : Begins → (script : ScriptView) (report : ReportView) (front back : List Event) (t u : TaskId) → IsLegal script report → report.log ≡ front ++ back → HasEnded t.0 front → Contains front (Wait t u) → HasEnded u.0 front
-waits_for_none begins script report front back t u legal is ended has =
-    let N : ℕ → Type 0 = λ k. ⊥ in
-    let sound = legal_sound script N begins (λ k n. absurd n) report legal (λ b i e f q n. n) front back is in
-    (free_ended (root_count script) N t.0 front sound ended).waits t u refl (in_contains front (Wait t u) has)
-
-contains_in : {A : Type 0} (xs : List A) (x : A) → In xs x → Contains xs x
-contains_in [] x i = absurd i
-contains_in (y ∷ ys) x (inl q) = (zero, omega arith, q)
-contains_in (y ∷ ys) x (inr i) = let c = contains_in ys x i in (suc c.0, (let lt = c.1 in omega (arith, lt)), c.2)
-
-pub leaves_no_children : Begins → (script : ScriptView) (report : ReportView) (legal : IsLegal script report) (front back : List Event) (t u : TaskId) (g : ℕ) (p : Priority)
-    → ClosesGroups script → IsNotFolded legal.blocks t.0 → report.log ≡ front ++ back → HasEnded t.0 front → Contains front (Child u t g p) → HasEnded u.0 front
-leaves_no_children begins script report legal front back t u g p tidy never is ended has =
-    let N : ℕ → Type 0 = λ k. IsNotFolded legal.blocks k in
-    let sound = legal_sound script N begins (λ k n. tidy) report legal (λ b i e f q n. n e f (contains_in legal.blocks (folded e f) (subst (In legal.blocks) q i)) refl) front back is in
-    children_ended (root_count script) N front u t g p sound never ended (in_contains front (Child u t g p) has)

@@ -1,6 +1,16 @@
 //! Structured concurrency (SE-0304): an ended task leaves no task behind. A call costs nothing; its contract is the law.
 
-ghost use Rattle.swift_laws.specs.Ended.{EndedWaitForNone, EndedLeaveNoChildren, AcceptedCloseGroups};
+ghost use Rattle.swift_laws.specs.Ended.{WaitersGoOnAfter, OwnersGoOnAfter, EndedWaitForNone, EndedLeaveNoChildren, AcceptedCloseGroups};
+
+/// In a legal report a task that waits for another goes on only when that has ended (SE-0304).
+pub fn waiting_tasks_go_on_after_the_awaited()
+    ensures { WaitersGoOnAfter }
+{}
+
+/// In a legal report a task that closes a group goes on only when each child of it has ended (SE-0304).
+pub fn owners_go_on_after_their_children()
+    ensures { OwnersGoOnAfter }
+{}
 
 /// In a legal report, at each point of the log, each task that an ended task has waited for has ended (SE-0304).
 pub fn ended_tasks_wait_for_none()
@@ -8,7 +18,7 @@ pub fn ended_tasks_wait_for_none()
 {}
 
 /// In a legal report, at each point of the log, each child that was added to a group of an ended task has ended, where no
-/// turn of the task was folded (SE-0304).
+/// turn of that task was folded (SE-0304).
 pub fn ended_tasks_leave_no_children()
     ensures { EndedLeaveNoChildren }
 {}

@@ -1,0 +1,92 @@
+-- The laws of legal reports.
+use Rattle.std.proofs.Common.{◌≡◌, ◌≢◌, ◌⊎◌, inl, inr, ℕ, zero, suc, ◌<◌, true, List, [], ◌∷◌, ◌++◌, length, refl, sym, subst, ap, ◌∙◌, arith}
+use Rattle.std.specs.Prelude.{Option, Some, None, IsTrue, ◌==◌, if◌then◌else◌, nat_lt, Contains, slice_get}
+use Rattle.std.proofs.lemmas.Bool.Decides.{nat_tests}
+use Rattle.std.proofs.lemmas.Option.{none-some}
+use Rattle.swift_types.specs.declared.id.TaskId.{TaskId}
+use Rattle.swift_types.specs.declared.priority.Priority.{Priority}
+use Rattle.swift_script.specs.Accepted.{WasAccepted}
+use Rattle.swift_script.specs.Scripts.{ScriptView, root_count, executor_count, actor_executor, method_actor}
+use Rattle.swift_journal.specs.Checkpoints.{FoldedView, CheckpointView}
+use Rattle.swift_events.specs.declared.event.Event.{Event}
+use Rattle.swift_events.specs.declared.event.Event.TheVariants.{Child, Wait}
+use Rattle.swift_events.specs.declared.life.Stage.TheVariants.{Waits, Closes}
+use Rattle.swift_events.specs.Lives.{life_of}
+use Rattle.swift_events.specs.Relations.{is_closed}
+use Rattle.swift_history.specs.Histories.{Block, added, begun, ran, folded, folded_in, folded_of, Stands, AllStand, IsLegal, ReportView}
+use Rattle.swift_laws.specs.Ended.{HasEnded, IsFront, IsNotFolded}
+use Rattle.swift_laws.proofs.OpenLogs.{In, in_contains, Sound, free_ended, children_ended}
+use Rattle.swift_laws.proofs.OpenGroups.{in_filter_map}
+use Rattle.swift_laws.proofs.OpenHistories.{legal_sound}
+use Rattle.swift_laws.proofs.OpenStarts.{begins}
+use Rattle.swift_laws.proofs.OpenScripts.{accepted_closes}
+use Rattle.swift_laws.proofs.OpenExecutors.{runs_on_executor}
+
+-- what holds of each legal report, folded turns or not
+
+abbrev Nobody : ℕ → Type 0
+Nobody t = ⊥
+
+any_sound : (script : ScriptView) (report : ReportView) (front : List Event) → IsLegal script report → IsFront report front → Sound (root_count script) Nobody front
+any_sound script report front legal is = legal_sound script Nobody begins (λ t n. absurd n) report legal (λ b i e f q n. n) front is.0 is.1
+
+pub waiters_go_on : (script : ScriptView) (report : ReportView) (front : List Event) (t u : TaskId)
+    → IsLegal script report → IsFront report front → Contains front (Wait t u) → (life_of t.0 front).stage ≢ Some (Waits u) → HasEnded u.0 front
+waiters_go_on script report front t u legal is has other =
+    elim ((any_sound script report front legal is).waits t u (in_contains front (Wait t u) has)).1 [ inl ended ↦ ended | inr at ↦ absurd (other at) ]
+
+pub owners_go_on : (script : ScriptView) (report : ReportView) (front : List Event) (t u : TaskId) (g : ℕ) (p : Priority)
+    → IsLegal script report → IsFront report front → Contains front (Child u t g p) → IsTrue (is_closed t.0 g front) → (life_of t.0 front).stage ≢ Some (Closes g) → HasEnded u.0 front
+owners_go_on script report front t u g p legal is has closed other =
+    elim (((any_sound script report front legal is).children u t g p (in_contains front (Child u t g p) has)).2 closed) [ inl ended ↦ ended | inr at ↦ absurd (other at) ]
+
+pub waits_for_none : (script : ScriptView) (report : ReportView) (front : List Event) (t u : TaskId) → IsLegal script report → IsFront report front → HasEnded t.0 front → Contains front (Wait t u) → HasEnded u.0 front
+waits_for_none script report front t u legal is ended has =
+    (free_ended (root_count script) Nobody t.0 front (any_sound script report front legal is) ended).waits t u refl (in_contains front (Wait t u) has)
+
+-- a folded turn stands in a checkpoint
+
+contains_in : {A : Type 0} (xs : List A) (x : A) → In xs x → Contains xs x
+contains_in [] x i = absurd i
+contains_in (y ∷ ys) x (inl q) = (zero, omega arith, q)
+contains_in (y ∷ ys) x (inr i) = let c = contains_in ys x i in (suc c.0, (let lt = c.1 in omega (arith, lt)), c.2)
+
+-- the first block adds a root
+some_root : (script : ScriptView) (cps : List CheckpointView) (b : Block) → Stands script cps [] b → 0 < root_count script
+some_root script cps (added r) stands = let lt : r < root_count script = (let so = stands.0 in grind (arith, nat_tests)) in omega (arith, lt)
+some_root script cps (begun t n env) stands = absurd (none-some stands.0 stands.1)
+some_root script cps (ran e r) stands = absurd (none-some stands.job stands.stands.given)
+some_root script cps (folded e f) stands = absurd (none-some stands.0.job stands.0.stands.given)
+
+has_root : (script : ScriptView) (cps : List CheckpointView) (bs : List Block) (b : Block) → AllStand script cps [] bs → In bs b → 0 < root_count script
+has_root script cps [] b stand i = absurd i
+has_root script cps (c ∷ bs) b stand i = some_root script cps c stand.0
+
+stands_in : (script : ScriptView) (cps : List CheckpointView) (before bs : List Block) (b : Block) → AllStand script cps before bs → In bs b → (front : List Block) × Stands script cps front b
+stands_in script cps before [] b stand i = absurd i
+stands_in script cps before (c ∷ bs) b stand (inl q) = (before, subst (Stands script cps before) q stand.0)
+stands_in script cps before (c ∷ bs) b stand (inr i) = stands_in script cps (before ++ c ∷ []) bs b stand.1 i
+
+there : {A : Type 0} (xs : List A) (k : ℕ) → k < length xs → (x : A) × (slice_get xs k ≡ Some x)
+there [] k lt = absurd (omega (arith, lt))
+there (x ∷ xs) zero lt = (x, refl)
+there (x ∷ xs) (suc k) lt = there xs k (omega (arith, lt))
+
+folded_there : (script : ScriptView) (report : ReportView) (legal : IsLegal script report) → WasAccepted script → (t : ℕ) → IsNotFolded report t → (e : ℕ) (f : FoldedView) → In legal.blocks (folded e f) → f.task ≢ t
+folded_there script report legal accepted t never e f i =
+    let s = stands_in script report.checkpoints [] legal.blocks (folded e f) legal.stand i in
+    let on = s.1.0.stands.on in
+    let some : 0 < root_count script = has_root script report.checkpoints legal.blocks (folded e f) legal.stand i in
+    let lt = runs_on_executor script accepted some (method_actor script s.1.0.frame.method) in
+    let many = legal.executors.1 in
+    let c = there report.checkpoints e (omega (arith, lt, on, many)) in
+    let own : folded_in e (folded e f) ≡ Some f = (let so : (e == e) ≡ true = grind (arith, nat_tests) in rw so refl) in
+    let among : In (folded_of e legal.blocks) f = in_filter_map (folded_in e) legal.blocks (folded e f) f i own in
+    never e c.0 f c.1 (contains_in c.0.folded f (subst (λ (fs : List FoldedView). In fs f) (sym (legal.folded e c.0 c.1)) among))
+
+pub leaves_no_children : (script : ScriptView) (report : ReportView) (front : List Event) (t u : TaskId) (g : ℕ) (p : Priority)
+    → WasAccepted script → IsLegal script report → IsNotFolded report t.0 → IsFront report front → HasEnded t.0 front → Contains front (Child u t g p) → HasEnded u.0 front
+leaves_no_children script report front t u g p accepted legal never is ended has =
+    let N : ℕ → Type 0 = λ k. IsNotFolded report k in
+    let sound = legal_sound script N begins (λ k n. accepted_closes script accepted) report legal (λ b i e f q n. folded_there script report legal accepted f.task n e f (subst (In legal.blocks) q i) refl) front is.0 is.1 in
+    children_ended (root_count script) N front u t g p sound never ended (in_contains front (Child u t g p) has)
