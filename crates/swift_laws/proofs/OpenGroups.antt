@@ -33,6 +33,15 @@ in_filter_map h [] x y i is = absurd i
 in_filter_map h (z ∷ zs) x y (inl q) is = in_here (h z) (filter_map h zs) y (ap h q ∙ is)
 in_filter_map h (z ∷ zs) x y (inr i) is = in_cons (h z) (filter_map h zs) y (in_filter_map h zs x y i is)
 
+out_cons : {A B : Type 0} (h : A → Option B) (z : A) (zs : List A) (y : B) (o : Option B) → h z ≡ o → (In (filter_map h zs) y → (x : A) × In zs x × (h x ≡ Some y)) → In (cons_option o (filter_map h zs)) y → (x : A) × In (z ∷ zs) x × (h x ≡ Some y)
+out_cons h z zs y None is rest i = let f = rest i in (f.0, inr f.1, f.2)
+out_cons h z zs y (Some w) is rest (inl q) = (z, inl refl, is ∙ ap Some q)
+out_cons h z zs y (Some w) is rest (inr i) = let f = rest i in (f.0, inr f.1, f.2)
+
+pub from_filter_map : {A B : Type 0} (h : A → Option B) (xs : List A) (y : B) → In (filter_map h xs) y → (x : A) × In xs x × (h x ≡ Some y)
+from_filter_map h [] y i = absurd i
+from_filter_map h (z ∷ zs) y i = out_cons h z zs y (h z) refl (from_filter_map h zs y) i
+
 same_some : {A : Type 0} (x y : A) → Some x ≡ Some y → x ≡ y
 same_some x y is = ap (λ o. unwrap_or o x) is
 

@@ -8,15 +8,18 @@ use Rattle.swift_types.specs.declared.priority.Priority.{Priority}
 use Rattle.swift_script.specs.Accepted.{WasAccepted}
 use Rattle.swift_script.specs.Scripts.{ScriptView, root_count, executor_count, actor_executor, method_actor}
 use Rattle.swift_journal.specs.Checkpoints.{FoldedView, CheckpointView}
+use Rattle.swift_escalation.specs.declared.waits.Event.{Event as Link}
+use Rattle.swift_escalation.specs.declared.waits.Event.TheVariants as link
+use Rattle.swift_escalation.specs.Waits.{Leads, Reaches}
 use Rattle.swift_events.specs.declared.event.Event.{Event}
-use Rattle.swift_events.specs.declared.event.Event.TheVariants.{Child, Wait}
+use Rattle.swift_events.specs.declared.event.Event.TheVariants.{Root, Free, Child, Wait}
 use Rattle.swift_events.specs.declared.life.Stage.TheVariants.{Waits, Closes}
 use Rattle.swift_events.specs.Lives.{life_of}
-use Rattle.swift_events.specs.Relations.{is_closed}
+use Rattle.swift_events.specs.Relations.{is_closed, link_in, links_of}
 use Rattle.swift_history.specs.Histories.{Block, added, begun, ran, folded, folded_in, folded_of, Stands, AllStand, IsLegal, ReportView}
-use Rattle.swift_laws.specs.Ended.{HasEnded, IsFront, IsNotFolded}
+use Rattle.swift_laws.specs.Ended.{HasEnded, IsFront, IsNotFolded, HasNoFolded}
 use Rattle.swift_laws.proofs.OpenLogs.{In, in_contains, Sound, free_ended, children_ended}
-use Rattle.swift_laws.proofs.OpenGroups.{in_filter_map}
+use Rattle.swift_laws.proofs.OpenGroups.{in_filter_map, from_filter_map}
 use Rattle.swift_laws.proofs.OpenHistories.{legal_sound}
 use Rattle.swift_laws.proofs.OpenStarts.{begins}
 use Rattle.swift_laws.proofs.OpenScripts.{accepted_closes}
@@ -90,3 +93,44 @@ leaves_no_children script report front t u g p accepted legal never is ended has
     let N : ℕ → Type 0 = λ k. IsNotFolded report k in
     let sound = legal_sound script N begins (λ k n. accepted_closes script accepted) report legal (λ b i e f q n. folded_there script report legal accepted f.task n e f (subst (In legal.blocks) q i) refl) front is.0 is.1 in
     children_ended (root_count script) N front u t g p sound never ended (in_contains front (Child u t g p) has)
+
+-- where no turn was folded, an ended task reaches only ended ones
+
+none_folded : (report : ReportView) (t : ℕ) → HasNoFolded report → IsNotFolded report t
+none_folded report t none e c f is has q = subst (λ (fs : List FoldedView). In fs f) (none e c is) (in_contains c.folded f has)
+
+child_link : (e : Event) (b a : TaskId) (p : Priority) → link_in e ≡ Some (link.Child b a p) → (g : ℕ) × (e ≡ Child b a g p)
+child_link (Child t o g q) b a p is = (g, cc)
+child_link (Root t q) b a p is = absurd cc
+child_link (Free t by q d) b a p is = absurd cc
+child_link (Wait t x) b a p is = absurd cc
+child_link e b a p is = absurd (none-some (link.Child b a p) is)
+
+wait_link : (e : Event) (a b : TaskId) → link_in e ≡ Some (link.Wait a b) → e ≡ Wait a b
+wait_link (Wait t x) a b is = cc
+wait_link (Child t o g q) a b is = absurd cc
+wait_link (Root t q) a b is = absurd cc
+wait_link (Free t by q d) a b is = absurd cc
+wait_link e a b is = absurd (none-some (link.Wait a b) is)
+
+child_of_link : (log : List Event) (b a : TaskId) (p : Priority) → Contains (links_of log) (link.Child b a p) → (g : ℕ) × Contains log (Child b a g p)
+child_of_link log b a p has =
+    let f = from_filter_map link_in log (link.Child b a p) (in_contains (links_of log) (link.Child b a p) has) in
+    let is = child_link f.0 b a p f.2 in
+    (is.0, contains_in log (Child b a is.0 p) (subst (In log) is.1 f.1))
+
+wait_of_link : (log : List Event) (a b : TaskId) → Contains (links_of log) (link.Wait a b) → Contains log (Wait a b)
+wait_of_link log a b has =
+    let f = from_filter_map link_in log (link.Wait a b) (in_contains (links_of log) (link.Wait a b) has) in
+    contains_in log (Wait a b) (subst (In log) (wait_link f.0 a b f.2) f.1)
+
+pub reach_ended : (script : ScriptView) (report : ReportView) (front : List Event) (n : ℕ) (t u : TaskId)
+    → WasAccepted script → IsLegal script report → HasNoFolded report → IsFront report front → HasEnded t.0 front → Reaches (links_of front) n t u → HasEnded u.0 front
+reach_ended script report front zero t u accepted legal none is ended reach = subst (λ (x : TaskId). HasEnded x.0 front) reach ended
+reach_ended script report front (suc n) t u accepted legal none is ended reach =
+    let m : TaskId = reach.0 in
+    let mid : HasEnded m.0 front = reach_ended script report front n t m accepted legal none is ended reach.1 in
+    elim reach.2 [
+      | inl child ↦ (let c = child_of_link front u m child.0 child.1 in leaves_no_children script report front m u c.0 child.0 accepted legal (none_folded report m.0 none) is mid c.1)
+      | inr wait ↦ waits_for_none script report front m u legal is mid (wait_of_link front m u wait)
+    ]

@@ -1,5 +1,5 @@
 -- Structured concurrency (SE-0304): an ended task leaves no task behind.
-use Rattle.std.specs.Prelude.{◌≡◌, ◌≢◌, ℕ, zero, suc, IsTrue, is_some, Some, List, ◌++◌, Contains, slice_get}
+use Rattle.std.specs.Prelude.{◌≡◌, ◌≢◌, ℕ, zero, suc, IsTrue, is_some, Some, List, [], ◌++◌, Contains, slice_get}
 use Rattle.swift_types.specs.declared.id.TaskId.{TaskId}
 use Rattle.swift_types.specs.declared.priority.Priority.{Priority}
 use Rattle.script_code.specs.Tree.{Deed, return, open_group, close_group, Code, end, act, choice, loop}
@@ -9,7 +9,8 @@ use Rattle.swift_events.specs.declared.event.Event.{Event}
 use Rattle.swift_events.specs.declared.event.Event.TheVariants.{Child, Wait}
 use Rattle.swift_events.specs.declared.life.Stage.TheVariants.{Waits, Closes}
 use Rattle.swift_events.specs.Lives.{life_of}
-use Rattle.swift_events.specs.Relations.{is_closed}
+use Rattle.swift_escalation.specs.Waits.{Reaches}
+use Rattle.swift_events.specs.Relations.{is_closed, links_of}
 use Rattle.swift_journal.specs.Checkpoints.{FoldedView, CheckpointView}
 use Rattle.swift_history.specs.Histories.{IsLegal, ReportView}
 
@@ -46,6 +47,16 @@ IsNotFolded report t = (e : ℕ) (c : CheckpointView) (f : FoldedView) → slice
 abbrev pub EndedLeaveNoChildren : Type 0
 EndedLeaveNoChildren = (script : ScriptView) (report : ReportView) (front : List Event) (t u : TaskId) (g : ℕ) (p : Priority)
     → WasAccepted script → IsLegal script report → IsNotFolded report t.0 → IsFront report front → HasEnded t.0 front → Contains front (Child u t g p) → HasEnded u.0 front
+
+-- no checkpoint has a turn
+abbrev pub HasNoFolded : ReportView → Type 0
+HasNoFolded report = (e : ℕ) (c : CheckpointView) → slice_get report.checkpoints e ≡ Some c → c.folded ≡ []
+
+-- At each point of the log, each task that is reached from an ended task along children and waits has ended, where no turn was
+-- folded.
+abbrev pub EndedReachEnded : Type 0
+EndedReachEnded = (script : ScriptView) (report : ReportView) (front : List Event) (n : ℕ) (t u : TaskId)
+    → WasAccepted script → IsLegal script report → HasNoFolded report → IsFront report front → HasEnded t.0 front → Reaches (links_of front) n t u → HasEnded u.0 front
 
 -- What a statement asks for, with so many groups open: a `return` stands where none is, and the end of a group's block where one
 -- is. `rest` says what is asked of what follows, by how many are open there.

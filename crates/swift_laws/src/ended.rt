@@ -1,6 +1,6 @@
 //! Structured concurrency (SE-0304): an ended task leaves no task behind. A call costs nothing; its contract is the law.
 
-ghost use Rattle.swift_laws.specs.Ended.{WaitersGoOnAfter, OwnersGoOnAfter, EndedWaitForNone, EndedLeaveNoChildren, AcceptedCloseGroups};
+ghost use Rattle.swift_laws.specs.Ended.{WaitersGoOnAfter, OwnersGoOnAfter, EndedWaitForNone, EndedLeaveNoChildren, EndedReachEnded, AcceptedCloseGroups};
 
 /// In a legal report a task that waits for another goes on only when that has ended (SE-0304).
 pub fn waiting_tasks_go_on_after_the_awaited()
@@ -21,6 +21,12 @@ pub fn ended_tasks_wait_for_none()
 /// turn of that task was folded (SE-0304).
 pub fn ended_tasks_leave_no_children()
     ensures { EndedLeaveNoChildren }
+{}
+
+/// In a legal report of which no turn was folded, at each point of the log, each task that is reached from an ended task
+/// along children and waits has ended (SE-0304).
+pub fn ended_tasks_reach_only_ended_ones()
+    ensures { EndedReachEnded }
 {}
 
 /// Each method of an accepted script closes each group that it opens, and returns in none (our own).
