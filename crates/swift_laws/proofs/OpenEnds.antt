@@ -1,5 +1,5 @@
 -- What the end of a turn keeps: which tasks are held, and which jobs are made.
-use Rattle.std.proofs.Common.{◌≡◌, ◌≢◌, ◌⊎◌, inl, inr, ℕ, ℤ, ◌+◌, ◌<◌, ◌≤◌, Bool, true, false, if◌then◌else◌, List, [], ◌∷◌, ◌++◌, map, refl, sym, subst, ap, ◌∙◌, arith, append_assoc, replicate, length}
+use Rattle.std.proofs.Common.{◌≡◌, ◌≢◌, ◌⊎◌, inl, inr, ℕ, ℤ, ◌<◌, Bool, true, false, if◌then◌else◌, List, [], ◌∷◌, ◌++◌, refl, sym, subst, ap, ◌∙◌, arith, append_assoc, replicate, length}
 use Rattle.std.specs.Prelude.{Option, Some, None, is_some, ◌==◌, ◌||◌, nat_lt, slice_set, slice_index_or}
 use Rattle.std.proofs.lemmas.Bool.{cases_eq, false≢true}
 use Rattle.std.proofs.lemmas.Bool.Decides.{nat_tests}
@@ -25,12 +25,11 @@ use Rattle.swift_interpreter.specs.Frames.{FrameView}
 use Rattle.swift_interpreter.specs.Turn.{ExitView, calling, waiting, asking_next, closing as closing_group, yielding, returning, failing}
 use Rattle.swift_turn.specs.declared.step.Step.{Step}
 use Rattle.swift_turn.specs.declared.step.Step.TheVariants.{Run, Ended, Await}
-use Rattle.swift_turn.specs.Body.{TaskView, Advanced, advanced, opening, resumed, called, runs, awaits}
+use Rattle.swift_turn.specs.Body.{TaskView, Advanced, advanced, opening, resumed, called}
 use Rattle.swift_events.specs.declared.event.Event.{Event}
-use Rattle.swift_events.specs.declared.event.Event.TheVariants.{CancelGroup, Child, Wait, Next, Close, End, Give}
+use Rattle.swift_events.specs.declared.event.Event.TheVariants.{CancelGroup, Child, Wait, Next, Close, End}
 use Rattle.swift_events.specs.declared.life.Stage.{Stage}
 use Rattle.swift_events.specs.declared.life.Stage.TheVariants as stage
-use Rattle.swift_events.specs.declared.life.Life.{Life}
 use Rattle.swift_events.specs.Events.{task_of}
 use Rattle.swift_events.specs.Lives.{life_of, origin_in, given_in, stage_in, ending_in, waits_at}
 use Rattle.swift_events.specs.Relations.{opens, opened_by, closes, is_closed, group_of, parent_of, waiters_of}
@@ -38,10 +37,10 @@ use Rattle.swift_events.proofs.LogLemmas.{opened_by-push_no, is_closed-push}
 use Rattle.swift_history.specs.Histories.{Standing, with_jobs, taken}
 use Rattle.swift_history.specs.TurnEnds.{JobView, HeldView, Follows, task, gives, named_task, wait_events, wait_resume, next_events, next_resume, close_events, close_resume, end_events, step_resume, exit_events, exit_resume, resume_at, resume_of, woken, wake, wake_each, wake_closing, wake_owner, wake_parent, wake_all, followed}
 use Rattle.swift_laws.specs.Ended.{HasEnded, ClosesGroups}
-use Rattle.swift_laws.proofs.OpenLogs.{In, in_push, cases_of, not_both, has_origin, was_given, stage_at, origin_stays, given_same, given_stays, stage_same, stage_now, ended_stays, ended_came, ended_now, closed_stays, equal_of, IsFree, Sound, MayEnd, May, Leads, stays, leads_by, leads_on, sound_push, sound_leads, holds_at, free_at}
+use Rattle.swift_laws.proofs.OpenLogs.{In, in_push, not_both, was_given, stage_at, origin_stays, given_same, given_stays, stage_same, stage_now, ended_stays, ended_came, ended_now, closed_stays, equal_of, IsFree, Sound, May, Leads, stays, leads_by, leads_on, sound_push, holds_at}
 use Rattle.swift_laws.proofs.OpenTurns.{ClosedBy, StaysIn, Keeps}
-use Rattle.swift_laws.proofs.OpenSteps.{Each, each_append, each_map, is_child, is_wait, no_child, no_wait, Calm, may_calm, may_move, Active, active_push, Beside, beside_same, beside_on, beside_by, Fresh, Goes, goes_free, goes_new, give_of, Gave, gave_all}
-use Rattle.swift_laws.proofs.OpenFrames.{FrameOk, AllOk, InGroups, Frames, FramesOk, frames_stay, Begins, opening_ok, first_ok, Own}
+use Rattle.swift_laws.proofs.OpenSteps.{Each, each_append, each_map, is_child, no_child, no_wait, Calm, may_calm, may_move, Active, active_push, Beside, beside_same, beside_on, beside_by, Fresh, Goes, goes_free, goes_new, give_of, gave_all}
+use Rattle.swift_laws.proofs.OpenFrames.{Frames, FramesOk, frames_stay, Begins, opening_ok, first_ok, Own}
 use Rattle.swift_laws.proofs.OpenGroups.{closed_done, EachTask, each_waiter, unset, set_cases, extended}
 
 -- the frames of each task that waits, where no turn of it was folded
@@ -223,7 +222,7 @@ module _ (script : ScriptView) (N : ℕ → Type 0) (begins : Begins) (tidy : (u
         leads = leads_on (root_count script) N [] log last leads gave.leads;
         held = λ u h n is waits. on u h.frames.frames (held_ok u h n is waits);
         jobs = jobs_with script N last js (taken t s.jobs) (each_map (JobOk script N log) (λ j. N j.task → FramesOk script j.task last j.frames.frames) (λ j x n. on j.task j.frames.frames (x.frames n)) js ok)
-          (λ u j n is. on u j.frames.frames (jobs_before u j n is));
+            (λ u j n is. on u j.frames.frames (jobs_before u j n is));
       }
 
   -- who waits after the jobs were written has waited before
@@ -398,16 +397,17 @@ module _ (script : ScriptView) (N : ℕ → Type 0) (begins : Begins) (tidy : (u
       let may = may_now e refl refl refl refl (λ u. refl) refl in
       event_wrote e (p ∷ callers) (close_resume c) Await may refl refl (λ u. refl) (closes_others g)
       (by_close c done may (λ n. own_frames (log ++ e ∷ []) p callers (closing_group g f) tt (own n) (opened_same e refl) (λ k x. closed_stays t k log e x)
-        (λ k x. subst (λ (m : ℕ). is_closed t m (log ++ e ∷ []) ≡ true) x (closes_now g)) (λ k x. x)))
+      (λ k x. subst (λ (m : ℕ). is_closed t m (log ++ e ∷ []) ≡ true) x (closes_now g)) (λ k x. x)))
     where
       by_close : (c : Closing) → (c ≡ closing.Done → (u owner : TaskId) (q : Priority) → owner.0 ≡ t → In log (Child u owner g q) → HasEnded u.0 log) → May (root_count script) N log (Close (task t) g)
           → (N t → Frames script t (log ++ Close (task t) g ∷ []) p callers) → Requires script N t (log ++ Close (task t) g ∷ []) (p ∷ callers) (close_resume c) Await
       by_close closing.Wait done may ok = ok
       by_close closing.Done done may ok =
-          let e : Event = Close (task t) g in
-          (goes_closing script N (log ++ e ∷ []) (sound_now e may) t g (stage_now t log e refl refl)
-            (λ u owner q of i. elim (in_push log e (Child u owner g q) i) [ inl old ↦ ended_stays u.0 log e (done refl u owner q of old) | inr q2 ↦ no_child e u owner g q refl q2 ]),
-          ok)
+          let e : Event = Close (task t) g in (
+            goes_closing script N (log ++ e ∷ []) (sound_now e may) t g (stage_now t log e refl refl)
+                (λ u owner q of i. elim (in_push log e (Child u owner g q) i) [ inl old ↦ ended_stays u.0 log e (done refl u owner q of old) | inr q2 ↦ no_child e u owner g q refl q2 ]),
+            ok,
+          )
 
   -- the task ends
   end_wrote : (ending : Ending) (frames : List FrameView) → (N t → (g : ℕ) → g < opened_by t log → is_closed t g log ≡ true) → Wrote script N t log (log ++ End (task t) ending ∷ []) frames None (Ended ending)
@@ -442,23 +442,25 @@ module _ (script : ScriptView) (N : ℕ → Type 0) (begins : Begins) (tidy : (u
           let was = sound.waits w a old in
           let before : stage_at w.0 log ≡ Some (stage.Waits a) = elim was.1 [ inl ended ↦ absurd (active.alive (subst (λ (k : ℕ). HasEnded k log) of ended)) | inr at ↦ at ] in
           let now : stage_at w.0 last ≡ Some (stage.Waits a) = stage_same w.0 log e refl ∙ before in
-          let gone : HasEnded a.0 last = subst (λ (k : ℕ). HasEnded k last) (sym of) (ended_now t log e refl refl) in
-          (record {
-            origin = after.born w.0 (given_stays w.0 log e was.0);
-            alive = λ ended. not_both (waits_at (stage_at w.0 last)) (ap waits_at now) (ap waits_at (after.rests w.0 ended).1);
-            free = record {
-              waits = λ v u same h. elim (after.waits v u h).1 [
-                | inl ended ↦ ended
-                | inr at ↦
-                    let other : a.0 ≡ u.0 = ap awaited_of (sym now ∙ subst (λ (k : ℕ). stage_at k last ≡ Some (stage.Waits u)) same at) in
-                    subst (λ (k : ℕ). HasEnded k last) other gone
-              ];
-              children = λ u o g p same h closed. elim ((after.children u o g p h).2 closed) [
-                | inl ended ↦ ended
-                | inr at ↦ absurd (false≢true (ap is_closes (sym now ∙ subst (λ (k : ℕ). stage_at k last ≡ Some (stage.Closes g)) same at)))
-              ];
-            };
-          }, ap waits_at now)
+          let gone : HasEnded a.0 last = subst (λ (k : ℕ). HasEnded k last) (sym of) (ended_now t log e refl refl) in (
+            record {
+              origin = after.born w.0 (given_stays w.0 log e was.0);
+              alive = λ ended. not_both (waits_at (stage_at w.0 last)) (ap waits_at now) (ap waits_at (after.rests w.0 ended).1);
+              free = record {
+                waits = λ v u same h. elim (after.waits v u h).1 [
+                  | inl ended ↦ ended
+                  | inr at ↦
+                      let other : a.0 ≡ u.0 = ap awaited_of (sym now ∙ subst (λ (k : ℕ). stage_at k last ≡ Some (stage.Waits u)) same at) in
+                      subst (λ (k : ℕ). HasEnded k last) other gone
+                ];
+                children = λ u o g p same h closed. elim ((after.children u o g p h).2 closed) [
+                  | inl ended ↦ ended
+                  | inr at ↦ absurd (false≢true (ap is_closes (sym now ∙ subst (λ (k : ℕ). stage_at k last ≡ Some (stage.Closes g)) same at)))
+                ];
+              };
+            },
+            ap waits_at now,
+          )
         where
           is_closes : Option Stage → Bool
           is_closes (Some (stage.Closes g)) = true

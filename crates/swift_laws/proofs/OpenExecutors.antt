@@ -1,20 +1,20 @@
 -- The actors of accepted scripts run on executors of the script.
-use Rattle.std.proofs.Common.{◌≡◌, ◌⊎◌, inl, inr, ℕ, zero, suc, ◌+◌, ◌<◌, ◌≤◌, Bool, true, false, if◌then◌else◌, cond, List, [], ◌∷◌, ◌++◌, length, map, refl, sym, subst, ap, ◌∙◌, arith, length-append}
+use Rattle.std.proofs.Common.{◌≡◌, ℕ, zero, suc, ◌+◌, ◌<◌, ◌≤◌, Bool, true, false, if◌then◌else◌, cond, List, [], ◌∷◌, ◌++◌, length, refl, sym, subst, ap, ◌∙◌, arith, length-append}
 use Rattle.std.specs.Prelude.{Option, Some, None, ◌||◌, not, unwrap_or, slice_get}
 use Rattle.std.proofs.lemmas.Bool.{false≢true}
 use Rattle.std.specs.Str.{bytes_eq}
 use Rattle.script_grammar.specs.Tree.{ExecutorTree, ActorTree, DeclTree, Executes, Binds, Acts, Roots}
 use Rattle.script_names.specs.Texts.{is_among, place_of}
-use Rattle.script_names.specs.Directory.{Directory, directory_of, executors_in, declared_in}
+use Rattle.script_names.specs.Directory.{Directory, directory_of, executors_in}
 use Rattle.script_names.specs.declared.error.NameErrorKind.TheVariants.{Unknown}
-use Rattle.script_names.specs.Rules.{Seen, at_name, declared_fault, on_error, repeat_error, decl_error, declarations_error, names_error, seen_after, past_decl}
+use Rattle.script_names.specs.Rules.{Seen, at_name, on_error, repeat_error, decl_error, declarations_error, names_error, seen_after, past_decl}
 use Rattle.script_names.proofs.LeftOut.{nothing_left_out}
-use Rattle.script_lowering.specs.Plan.{Plan, on_executor, executors_from, plan_of, executor_at}
+use Rattle.script_lowering.specs.Plan.{Plan, on_executor, executors_from}
 use Rattle.script_printing.specs.Script.{ScriptTree, script_in}
-use Rattle.script_compiler.specs.Compiled.{plan_in, own_executor, own_executors, executors_from as views_from, actors_from, actor_of, methods_from}
+use Rattle.script_compiler.specs.Compiled.{plan_in, own_executor, own_executors, executors_from as views_from, actors_from, methods_from}
 use Rattle.script_compiler.proofs.ByKinds.{same_plan}
 use Rattle.swift_script.specs.Accepted.{WasAccepted}
-use Rattle.swift_script.specs.Scripts.{ScriptView, parts_of, no_actor, executor_count, actor_count, method_count, root_count, root_method, actor_executor}
+use Rattle.swift_script.specs.Scripts.{ScriptView, parts_of, no_actor, executor_count, method_count, root_count, actor_executor}
 use Rattle.swift_script.proofs.NamesAnywhere.{earlier_parts}
 use Rattle.swift_script.proofs.Facts.{root_method_there}
 

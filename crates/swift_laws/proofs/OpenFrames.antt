@@ -1,5 +1,5 @@
 -- Each group that a task has open is one of its frames' groups.
-use Rattle.std.proofs.Common.{◌≡◌, ◌⊎◌, inl, inr, ℕ, ℤ, ◌+◌, ◌<◌, Bool, true, false, List, [], ◌∷◌, refl, sym, subst, ap, ◌∙◌, arith, length}
+use Rattle.std.proofs.Common.{◌≡◌, ◌⊎◌, inl, inr, ℕ, ℤ, ◌+◌, ◌<◌, true, List, [], ◌∷◌, sym, subst, ap, ◌∙◌, arith, length}
 use Rattle.std.specs.Prelude.{Option, Some, None, count_by}
 use Rattle.swift_types.specs.declared.limits.TheConstants.{STEPS}
 use Rattle.script_code.specs.Tree.{Code}
@@ -7,7 +7,7 @@ use Rattle.script_code.specs.Layout.{code_at}
 use Rattle.swift_script.specs.Scripts.{ScriptView, actor_executor, executor_invariants, method_actor, method_code}
 use Rattle.swift_interpreter.specs.Frames.{FrameView}
 use Rattle.swift_interpreter.specs.Turn.{State, EffectView, ExitView, calling, waiting, asking_next, yielding, closing, returning, failing}
-use Rattle.swift_turn.specs.Body.{TaskView, opening, state_at}
+use Rattle.swift_turn.specs.Body.{opening, state_at}
 use Rattle.swift_events.specs.declared.event.Event.{Event}
 use Rattle.swift_events.specs.Relations.{opened_by, is_closed}
 use Rattle.swift_journal.specs.Records.{RecordView}

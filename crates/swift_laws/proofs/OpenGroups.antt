@@ -1,6 +1,6 @@
 -- What a log says of the children of a group and of those who wait, by its events.
 use Rattle.std.proofs.Common.{◌≡◌, ◌≢◌, ◌⊎◌, inl, inr, ℕ, zero, suc, Bool, true, false, if◌then◌else◌, List, [], ◌∷◌, ◌++◌, refl, sym, subst, ap, ◌∙◌, arith, replicate}
-use Rattle.std.specs.Prelude.{Option, Some, None, is_some, ◌==◌, ◌&&◌, ◌||◌, not, unwrap_or, slice_set, slice_index_or}
+use Rattle.std.specs.Prelude.{Option, Some, None, is_some, ◌==◌, ◌||◌, not, unwrap_or, slice_set, slice_index_or}
 use Rattle.std.specs.List.{filter, filter_map, list_any, cons_option}
 use Rattle.std.proofs.lemmas.Bool.{false≢true}
 use Rattle.std.proofs.lemmas.Bool.Decides.{nat_tests}
@@ -12,12 +12,12 @@ use Rattle.swift_groups.specs.declared.answer.Close.TheVariants as closing
 use Rattle.swift_groups.specs.Groups.{has_ended, is_among, unfinished_of}
 use Rattle.swift_groups.specs.Close.{close_among, close_of}
 use Rattle.swift_events.specs.declared.event.Event.{Event}
-use Rattle.swift_events.specs.declared.event.Event.TheVariants.{Root, Begin, Apply, Free, Open, Child, Skip, CancelTask, CancelGroup, Wait, Next, Close, End, Give}
+use Rattle.swift_events.specs.declared.event.Event.TheVariants.{Child, Wait, End}
 use Rattle.swift_events.specs.Events.{task_of, events_of, later, last_of}
-use Rattle.swift_events.specs.Lives.{life, life_of, ending_in}
+use Rattle.swift_events.specs.Lives.{life, ending_in}
 use Rattle.swift_events.specs.Relations.{child_in, children_of, ending_among, endings_of, group_of, waiters_of}
 use Rattle.swift_laws.specs.Ended.{HasEnded}
-use Rattle.swift_laws.proofs.OpenLogs.{In, cases_of, not_both, equal_of}
+use Rattle.swift_laws.proofs.OpenLogs.{In, cases_of, equal_of}
 
 -- lists
 

@@ -1,11 +1,10 @@
 -- What each standing of a history keeps.
-use Rattle.std.proofs.Common.{◌≡◌, ◌≢◌, ◌⊎◌, inl, inr, ℕ, ℤ, zero, suc, ◌+◌, ◌<◌, Bool, true, false, List, [], ◌∷◌, ◌++◌, refl, sym, subst, ap, ◌∙◌, arith, append_assoc, length}
-use Rattle.std.specs.Prelude.{Option, Some, None, is_some, ◌==◌, ◌&&◌, nat_lt, ◌-◌, ◌^◌, Contains, count_by, slice_get}
+use Rattle.std.proofs.Common.{◌≡◌, inl, inr, ℕ, ℤ, zero, suc, ◌+◌, ◌<◌, Bool, true, false, List, [], ◌∷◌, ◌++◌, refl, sym, subst, ap, ◌∙◌, arith, append_assoc}
+use Rattle.std.specs.Prelude.{Option, Some, None, is_some, ◌&&◌, nat_lt, ◌-◌, ◌^◌, count_by}
 use Rattle.std.proofs.lemmas.Bool.{false≢true}
 use Rattle.std.proofs.lemmas.Bool.Decides.{nat_tests}
 use Rattle.std.proofs.lemmas.List.{append-nil}
 use Rattle.std.proofs.lemmas.Option.{none-some}
-use Rattle.swift_types.specs.declared.id.TaskId.{TaskId}
 use Rattle.swift_types.specs.declared.outcome.Resume.{Resume}
 use Rattle.swift_types.specs.declared.priority.Priority.{Priority}
 use Rattle.script_code.specs.declared.env.Env.{Env}
@@ -16,21 +15,19 @@ use Rattle.swift_turn.specs.Body.{advanced}
 use Rattle.swift_journal.specs.Records.{RecordView}
 use Rattle.swift_journal.specs.Checkpoints.{FoldedView, CheckpointView}
 use Rattle.swift_events.specs.declared.event.Event.{Event}
-use Rattle.swift_events.specs.declared.event.Event.TheVariants.{Root, Begin, Apply, Child, Wait}
+use Rattle.swift_events.specs.declared.event.Event.TheVariants.{Root, Begin, Apply}
 use Rattle.swift_events.specs.declared.life.Given.{Given}
 use Rattle.swift_events.specs.declared.life.Stage.{Stage}
 use Rattle.swift_events.specs.declared.life.Stage.TheVariants as stage
-use Rattle.swift_events.specs.declared.life.Life.{Life}
-use Rattle.swift_events.specs.Events.{tasks_of}
 use Rattle.swift_events.specs.Lives.{life_of, waits_at}
 use Rattle.swift_events.specs.Relations.{opened_by, is_closed}
 use Rattle.swift_events.proofs.LogLemmas.{opened_by-push_no, is_closed-push_no}
-use Rattle.swift_history.specs.Checks.{was_given as given_so, is_under_way, is_current, counters, fits_turn}
-use Rattle.swift_history.specs.Histories.{Block, added, begun, ran, folded, Standing, at_first, with_jobs, taken, begun_priority, left_as, frames_applied, job_applied, turn_applied, after_block, after_blocks, TurnStands, RecordStands, FoldedStands, Stands, AllStand, opens_group, fields_of, IsLegal, ReportView}
+use Rattle.swift_history.specs.Checks.{was_given as given_so, is_under_way, is_current, counters}
+use Rattle.swift_history.specs.Histories.{Block, added, begun, ran, folded, Standing, at_first, begun_priority, left_as, frames_applied, job_applied, turn_applied, after_block, after_blocks, TurnStands, RecordStands, FoldedStands, Stands, AllStand, opens_group, fields_of, IsLegal, ReportView}
 use Rattle.swift_history.specs.TurnEnds.{JobView, HeldView, task, root_job, root_events, log_after, jobs_made, exit_events, exit_resume}
 use Rattle.swift_laws.specs.Ended.{HasEnded, ClosesGroups}
-use Rattle.swift_laws.proofs.OpenLogs.{In, in_contains, cases_of, not_both, none_some, has_origin, was_given, stage_at, origin_now, given_same, given_stays, stage_now, ending_same, Sound, May, Leads, stays, leads_by, leads_on, sound_from, sound_leads, sound_front, free_at, free_ended, children_ended, holds_at}
-use Rattle.swift_laws.proofs.OpenSteps.{Each, each_map, no_child, may_move, Active, Beside, beside_on, beside_by, Fresh, effects, goes_new, Gave, gave_on, gave_by, gave_one}
+use Rattle.swift_laws.proofs.OpenLogs.{In, cases_of, not_both, none_some, was_given, stage_at, origin_now, given_same, given_stays, stage_now, ending_same, Sound, May, Leads, stays, leads_by, leads_on, sound_from, sound_leads, sound_front, free_at, holds_at}
+use Rattle.swift_laws.proofs.OpenSteps.{each_map, no_child, may_move, Active, Beside, beside_on, beside_by, Fresh, effects, goes_new, Gave, gave_on, gave_by, gave_one}
 use Rattle.swift_laws.proofs.OpenFrames.{Frames, FramesOk, frames_stay, Begins, first_ok, Own, lawful_own}
 use Rattle.swift_laws.proofs.OpenGroups.{extended}
 use Rattle.swift_laws.proofs.OpenEnds.{HeldOk, JobsOk, Kept, jobs_with, followed_kept, exit_wrote}
@@ -116,8 +113,8 @@ module _ (script : ScriptView) (N : ℕ → Type 0) (begins : Begins) (tidy : (u
         leads = leads_on (root_count script) N [] s.log last kept.leads gave.leads;
         held = held_on s.log last s.held gave kept.held;
         jobs = jobs_with script N last (j ∷ []) s.jobs
-          (λ n. first_ok begins script (tidy r n) r last (root_method script r) (root_args script r) [] (gave.opened r ∙ unopened sound new), tt)
-          (jobs_on s.log last s.jobs gave kept.jobs);
+            (λ n. first_ok begins script (tidy r n) r last (root_method script r) (root_args script r) [] (gave.opened r ∙ unopened sound new), tt)
+            (jobs_on s.log last s.jobs gave kept.jobs);
       }
     where
       unopened : Sound (root_count script) N s.log → was_given r s.log ≡ false → opened_by r s.log ≡ 0

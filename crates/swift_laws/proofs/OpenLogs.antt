@@ -1,16 +1,13 @@
 -- What each point of a legal log keeps: who has ended, who waits for whom, and which groups are closed.
-use Rattle.std.proofs.Common.{◌≡◌, ◌≢◌, ◌⊎◌, inl, inr, ℕ, ◌+◌, ◌<◌, ◌≤◌, zero, suc, Bool, true, false, List, [], ◌∷◌, ◌++◌, refl, sym, subst, ap, ◌∙◌, arith, append_assoc, cond, length}
-use Rattle.std.specs.Prelude.{Option, Some, None, IsTrue, is_some, Contains, ◌==◌, ◌||◌, ◌&&◌}
+use Rattle.std.proofs.Common.{◌≡◌, ◌⊎◌, inl, inr, ℕ, ◌<◌, ◌≤◌, zero, suc, Bool, true, false, List, [], ◌∷◌, ◌++◌, refl, sym, subst, ap, ◌∙◌, arith, append_assoc}
+use Rattle.std.specs.Prelude.{Option, Some, None, is_some, Contains, ◌==◌, ◌||◌, ◌&&◌}
 use Rattle.std.proofs.lemmas.Bool.{cases_eq, false≢true}
 use Rattle.std.proofs.lemmas.Bool.Decides.{nat_tests}
 use Rattle.std.proofs.lemmas.List.{append-nil}
 use Rattle.swift_types.specs.declared.id.TaskId.{TaskId}
-use Rattle.swift_types.specs.declared.outcome.Ending.{Ending}
 use Rattle.swift_types.specs.declared.priority.Priority.{Priority}
 use Rattle.swift_events.specs.declared.event.Event.{Event}
-use Rattle.swift_events.specs.declared.event.Event.TheVariants.{Root, Begin, Apply, Free, Open, Child, Skip, CancelTask, CancelGroup, Wait, Next, Close, End, Give}
-use Rattle.swift_events.specs.declared.life.Given.{Given}
-use Rattle.swift_events.specs.declared.life.Origin.{Origin}
+use Rattle.swift_events.specs.declared.event.Event.TheVariants.{Child, Wait, Close}
 use Rattle.swift_events.specs.declared.life.Stage.{Stage}
 use Rattle.swift_events.specs.declared.life.Stage.TheVariants as stage
 use Rattle.swift_events.specs.declared.life.Life.{Life}
@@ -252,24 +249,31 @@ module _ (roots : ℕ) (N : ℕ → Type 0) (log : List Event) (e : Event) (s : 
 
   next_rests : (t : ℕ) → HasEnded t (log ++ e ∷ []) → (was_given t (log ++ e ∷ []) ≡ true) × (stage_at t (log ++ e ∷ []) ≡ Some stage.Applied)
   next_rests t h = elim (ended_came t log e h) [
-    | inl old ↦ (given_stays t log e (s.rests t old).0, elim (stage_cases t log e) [
+    | inl old ↦ (
+      given_stays t log e (s.rests t old).0,
+      elim (stage_cases t log e) [
         | inl same ↦ same ∙ (s.rests t old).1
         | inr moved ↦ absurd (m.alive moved.2 (subst (λ (k : ℕ). HasEnded k log) (sym moved.0) old))
-      ])
-    | inr new ↦ (let may = m.ends new.1 in
-        (given_stays t log e (subst (λ (k : ℕ). was_given k log ≡ true) new.0 may.given),
-        stage_same t log e may.still ∙ subst (λ (k : ℕ). stage_at k log ≡ Some stage.Applied) new.0 may.applied))
+      ],
+    )
+    | inr new ↦ (let may = m.ends new.1 in (
+      given_stays t log e (subst (λ (k : ℕ). was_given k log ≡ true) new.0 may.given),
+      stage_same t log e may.still ∙ subst (λ (k : ℕ). stage_at k log ≡ Some stage.Applied) new.0 may.applied,
+    ))
   ]
 
   next_waits : (t u : TaskId) → In (log ++ e ∷ []) (Wait t u) → (was_given t.0 (log ++ e ∷ []) ≡ true) × (HasEnded u.0 (log ++ e ∷ []) ⊎ (stage_at t.0 (log ++ e ∷ []) ≡ Some (stage.Waits u)))
   next_waits t u h = elim (in_push log e (Wait t u) h) [
-    | inl old ↦ (given_stays t.0 log e (s.waits t u old).0, elim (s.waits t u old).1 [
+    | inl old ↦ (
+      given_stays t.0 log e (s.waits t u old).0,
+      elim (s.waits t u old).1 [
         | inl ended ↦ inl (ended_stays u.0 log e ended)
         | inr at ↦ elim (stage_cases t.0 log e) [
-            | inl same ↦ inr (same ∙ at)
-            | inr moved ↦ inl (ended_stays u.0 log e ((m.moves moved.2).waits t u (sym moved.0) old))
-          ]
-      ])
+          | inl same ↦ inr (same ∙ at)
+          | inr moved ↦ inl (ended_stays u.0 log e ((m.moves moved.2).waits t u (sym moved.0) old))
+        ]
+      ],
+    )
     | inr q ↦ (let some : is_some (stage_in e) ≡ true = ap (λ (x : Event). is_some (stage_in x)) q in
         let of : task_of e ≡ t.0 = ap task_of q in
         (subst (λ (k : ℕ). was_given k (log ++ e ∷ []) ≡ true) of (m.given some), inr (stage_now t.0 log e of some ∙ ap stage_in q)))
@@ -278,12 +282,12 @@ module _ (roots : ℕ) (N : ℕ → Type 0) (log : List Event) (e : Event) (s : 
   next_child : (u o : TaskId) (g : ℕ) (p : Priority) → In log (Child u o g p) → is_closed o.0 g (log ++ e ∷ []) ≡ true → HasEnded u.0 (log ++ e ∷ []) ⊎ (stage_at o.0 (log ++ e ∷ []) ≡ Some (stage.Closes g))
   next_child u o g p old closed = elim (closed_cases o.0 g log e closed) [
     | inl was ↦ elim ((s.children u o g p old).2 was) [
-        | inl ended ↦ inl (ended_stays u.0 log e ended)
-        | inr at ↦ elim (stage_cases o.0 log e) [
-            | inl same ↦ inr (same ∙ at)
-            | inr moved ↦ inl (ended_stays u.0 log e ((m.moves moved.2).children u o g p (sym moved.0) old was))
-          ]
+      | inl ended ↦ inl (ended_stays u.0 log e ended)
+      | inr at ↦ elim (stage_cases o.0 log e) [
+        | inl same ↦ inr (same ∙ at)
+        | inr moved ↦ inl (ended_stays u.0 log e ((m.moves moved.2).children u o g p (sym moved.0) old was))
       ]
+    ]
     | inr now ↦ (let says = closes_says o.0 g e now in inr (stage_now o.0 log e says.0 (ap is_some says.1) ∙ says.1))
   ]
 
@@ -292,19 +296,22 @@ module _ (roots : ℕ) (N : ℕ → Type 0) (log : List Event) (e : Event) (s : 
   next_children u o g p h = elim (in_push log e (Child u o g p) h) [
     | inl old ↦ (let c = s.children u o g p old in let grow = opened_grow o.0 log e in
         (given_stays o.0 log e c.0, (let lt = c.1 in omega (arith, lt, grow)), next_child u o g p old))
-    | inr q ↦ (let c = m.child u o g p q in let grow = opened_grow o.0 log e in
-        (given_stays o.0 log e c.0, (let lt = c.1 in omega (arith, lt, grow)), λ closed. elim (closed_cases o.0 g log e closed) [
-          | inl was ↦ not_both (is_closed o.0 g log) was c.2
-          | inr now ↦ not_both (closes o.0 g e) now (ap (closes o.0 g) q)
-        ]))
+    | inr q ↦ (let c = m.child u o g p q in let grow = opened_grow o.0 log e in (
+      given_stays o.0 log e c.0,
+      (let lt = c.1 in omega (arith, lt, grow)),
+      λ closed. elim (closed_cases o.0 g log e closed) [
+        | inl was ↦ not_both (is_closed o.0 g log) was c.2
+        | inr now ↦ not_both (closes o.0 g e) now (ap (closes o.0 g) q)
+      ],
+    ))
   ]
 
   next_closed : (t : ℕ) → N t → HasEnded t (log ++ e ∷ []) → (g : ℕ) → g < opened_by t (log ++ e ∷ []) → is_closed t g (log ++ e ∷ []) ≡ true
   next_closed t n h g lt = elim (ended_came t log e h) [
     | inl old ↦ elim (cases_of (opens t e)) [
-        | inl so ↦ absurd ((m.opens_one t so).1 old)
-        | inr not_so ↦ closed_stays t g log e (s.closed t n old g (let same = opened_by-push_no t log e not_so in omega (arith, same, lt)))
-      ]
+      | inl so ↦ absurd ((m.opens_one t so).1 old)
+      | inr not_so ↦ closed_stays t g log e (s.closed t n old g (let same = opened_by-push_no t log e not_so in omega (arith, same, lt)))
+    ]
     | inr new ↦ (let may = m.ends new.1 in
         let less : g < opened_by t log = (let same = opened_by-push_no t log e (may.unopened t) in omega (arith, same, lt)) in
         closed_stays t g log e (subst (λ (k : ℕ). N k → g < opened_by k log → is_closed k g log ≡ true) new.0 (λ k l. may.closed k g l) n less))

@@ -1,16 +1,15 @@
 -- The laws of legal reports.
-use Rattle.std.proofs.Common.{◌≡◌, ◌≢◌, ◌⊎◌, inl, inr, ℕ, zero, suc, ◌<◌, true, List, [], ◌∷◌, ◌++◌, length, refl, sym, subst, ap, ◌∙◌, arith}
-use Rattle.std.specs.Prelude.{Option, Some, None, IsTrue, ◌==◌, if◌then◌else◌, nat_lt, Contains, slice_get}
+use Rattle.std.proofs.Common.{◌≡◌, ◌≢◌, inl, inr, ℕ, zero, suc, ◌<◌, true, List, [], ◌∷◌, ◌++◌, length, refl, sym, subst, arith}
+use Rattle.std.specs.Prelude.{Some, IsTrue, ◌==◌, Contains, slice_get}
 use Rattle.std.proofs.lemmas.Bool.Decides.{nat_tests}
 use Rattle.std.proofs.lemmas.Option.{none-some}
 use Rattle.swift_types.specs.declared.id.TaskId.{TaskId}
 use Rattle.swift_types.specs.declared.priority.Priority.{Priority}
 use Rattle.swift_script.specs.Accepted.{WasAccepted}
-use Rattle.swift_script.specs.Scripts.{ScriptView, root_count, executor_count, actor_executor, method_actor}
+use Rattle.swift_script.specs.Scripts.{ScriptView, root_count, method_actor}
 use Rattle.swift_journal.specs.Checkpoints.{FoldedView, CheckpointView}
-use Rattle.swift_escalation.specs.declared.waits.Event.{Event as Link}
 use Rattle.swift_escalation.specs.declared.waits.Event.TheVariants as link
-use Rattle.swift_escalation.specs.Waits.{Leads, Reaches}
+use Rattle.swift_escalation.specs.Waits.{Reaches}
 use Rattle.swift_events.specs.declared.event.Event.{Event}
 use Rattle.swift_events.specs.declared.event.Event.TheVariants.{Root, Free, Child, Wait}
 use Rattle.swift_events.specs.declared.life.Stage.TheVariants.{Waits, Closes}

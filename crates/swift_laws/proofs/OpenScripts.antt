@@ -1,5 +1,5 @@
 -- The methods of accepted scripts close the groups that they open, since a group's block does not return.
-use Rattle.std.proofs.Common.{◌≡◌, ℕ, zero, suc, ◌-◌, Bool, true, false, if◌then◌else◌, ◌==◌, List, [], ◌∷◌, ◌++◌, map, refl, sym, subst}
+use Rattle.std.proofs.Common.{◌≡◌, ℕ, zero, suc, ◌-◌, Bool, true, false, if◌then◌else◌, List, [], ◌∷◌, ◌++◌, map, refl, sym, subst}
 use Rattle.std.specs.Prelude.{Option, Some, None, unwrap_or, slice_get}
 use Rattle.std.specs.List.{All, AllByRecursion}
 use Rattle.std.proofs.lemmas.Bool.{false≢true}
@@ -12,7 +12,7 @@ use Rattle.script_names.specs.Scope.{Scope}
 use Rattle.script_names.specs.Rules.{scope_after, scope_within}
 use Rattle.script_printing.specs.Limits.{ActionFits, region_in, StmtFits, BlockFits, MethodFits, ActorFits}
 use Rattle.script_printing.proofs.Read.{actors_fit}
-use Rattle.script_printing.specs.Script.{ScriptTree, script_in}
+use Rattle.script_printing.specs.Script.{ScriptTree}
 use Rattle.script_parser.specs.declared.limits.TheConstants.{NESTING}
 use Rattle.script_code.specs.declared.instruction.Place.{Place}
 use Rattle.script_code.specs.declared.instruction.Place.TheVariants.{Variable, Field}

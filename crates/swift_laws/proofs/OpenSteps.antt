@@ -1,31 +1,27 @@
 -- Which events may stand after a log: those of effects, and those by which jobs are made.
-use Rattle.std.proofs.Common.{◌≡◌, ◌≢◌, ◌⊎◌, inl, inr, ℕ, ℤ, ◌+◌, ◌<◌, ◌≤◌, Bool, true, false, if◌then◌else◌, List, [], ◌∷◌, ◌++◌, refl, sym, subst, ap, ◌∙◌, arith, append_assoc, cond}
-use Rattle.std.specs.Prelude.{Option, Some, None, is_some, ◌==◌, ◌&&◌, not, nat_lt, unwrap_or, count_by}
-use Rattle.std.proofs.lemmas.Bool.{cases_eq, false≢true}
+use Rattle.std.proofs.Common.{◌≡◌, ◌≢◌, ◌⊎◌, inl, inr, ℕ, ℤ, ◌+◌, ◌<◌, Bool, true, false, if◌then◌else◌, List, [], ◌∷◌, ◌++◌, refl, sym, subst, ap, ◌∙◌, arith, append_assoc, cond}
+use Rattle.std.specs.Prelude.{Some, None, is_some, ◌==◌, ◌&&◌, not, nat_lt, unwrap_or, count_by}
+use Rattle.std.proofs.lemmas.Bool.{false≢true}
 use Rattle.std.proofs.lemmas.Bool.Decides.{nat_tests}
 use Rattle.std.proofs.lemmas.List.{append-nil}
 use Rattle.std.proofs.lemmas.List.Sums.{sum_by-cons}
 use Rattle.swift_types.specs.declared.id.TaskId.{TaskId}
-use Rattle.swift_types.specs.declared.outcome.Resume.{Resume}
 use Rattle.swift_types.specs.declared.priority.Priority.{Priority}
 use Rattle.swift_types.specs.declared.priority.Priority.TheVariants.{Background}
 use Rattle.swift_script.specs.Scripts.{ScriptView, root_count}
-use Rattle.swift_interpreter.specs.Turn.{InvocationView, EffectView, spawning, detaching, opening, adding, cancelling_task, cancelling_group, ExitView}
-use Rattle.swift_turn.specs.Body.{TaskView}
+use Rattle.swift_interpreter.specs.Turn.{EffectView, spawning, detaching, opening, adding, cancelling_task, cancelling_group, ExitView}
 use Rattle.swift_events.specs.declared.event.Event.{Event}
-use Rattle.swift_events.specs.declared.event.Event.TheVariants.{Root, Begin, Apply, Free, Open, Child, Skip, CancelTask, CancelGroup, Wait, Next, Close, End, Give}
-use Rattle.swift_events.specs.declared.life.Stage.{Stage}
+use Rattle.swift_events.specs.declared.event.Event.TheVariants.{Free, Open, Child, Skip, CancelTask, CancelGroup, Wait, Give}
 use Rattle.swift_events.specs.declared.life.Stage.TheVariants as stage
-use Rattle.swift_events.specs.declared.life.Life.{Life}
 use Rattle.swift_events.specs.Events.{task_of, is_made, tasks_of}
 use Rattle.swift_events.specs.Lives.{life_of, origin_in, given_in, stage_in, ending_in, waits_at}
 use Rattle.swift_events.specs.Relations.{opens, opened_by, closes, is_closed}
 use Rattle.swift_events.proofs.LogLemmas.{tasks_of-push_made, opened_by-push_yes, opened_by-push_no, is_closed-push_no}
 use Rattle.swift_history.specs.Checks.{Counters, can_use, fits_effect, counted, fits_turn}
 use Rattle.swift_history.specs.Histories.{opens_group}
-use Rattle.swift_history.specs.TurnEnds.{JobView, task, first_job, beginning, gives, named_task, is_left_out, cancel_events, effect_events, effect_jobs, log_after, jobs_made}
+use Rattle.swift_history.specs.TurnEnds.{JobView, task, first_job, beginning, gives, named_task, is_left_out, effect_events, effect_jobs, log_after, jobs_made}
 use Rattle.swift_laws.specs.Ended.{HasEnded}
-use Rattle.swift_laws.proofs.OpenLogs.{In, in_push, cases_of, not_both, none_some, has_origin, was_given, stage_at, origin_stays, origin_now, given_same, given_now, given_stays, stage_same, stage_cases, stage_now, ended_stays, ended_came, ending_same, closed_cases, closed_stays, IsFree, Sound, MayEnd, May, sound_push, sound_leads, Leads, stays, leads_by, leads_on, holds_at, free_at}
+use Rattle.swift_laws.proofs.OpenLogs.{in_push, cases_of, not_both, none_some, has_origin, was_given, stage_at, origin_stays, origin_now, given_same, given_now, given_stays, stage_same, stage_cases, ended_stays, ending_same, closed_cases, IsFree, Sound, May, sound_leads, Leads, stays, leads_by, leads_on, holds_at, free_at}
 
 -- of each of some jobs
 abbrev pub Each : (JobView → Type 0) → List JobView → Type 0
@@ -305,8 +301,8 @@ module _ (script : ScriptView) (N : ℕ → Type 0) (t : ℕ) where
       either (is_left_out t g unless log) log (skip ∷ []) (add ∷ []) [] (first_job script (tasks_of (root_count script) log) i.method i.args bindings ∷ [])
       (λ x. plain log skip [] (may_calm (root_count script) N log skip (calm refl refl refl) refl (λ o. refl) refl) (calm refl refl refl) a (λ u. refl) (λ u k. refl) tt)
       (λ x. plain log add _
-        (may_make (root_count script) N log add (calm refl refl refl) refl refl (λ o. refl) (child_fits add (task (tasks_of (root_count script) log)) (task t) g (unwrap_or p Background) log refl refl a lt unclosed))
-        (calm refl refl refl) a (λ u. refl) (λ u k. refl) (new_one log add i.method i.args bindings s (calm refl refl refl) refl refl, tt))
+      (may_make (root_count script) N log add (calm refl refl refl) refl refl (λ o. refl) (child_fits add (task (tasks_of (root_count script) log)) (task t) g (unwrap_or p Background) log refl refl a lt unclosed))
+      (calm refl refl refl) a (λ u. refl) (λ u k. refl) (new_one log add i.method i.args bindings s (calm refl refl refl) refl refl, tt))
   effect own log first c (cancelling_task name) s a count same fits =
       let e : Event = CancelTask (named_task t name log) in
       either_none (is_some (life_of (named_task t name log).0 log).ending) log [] (e ∷ [])
@@ -387,9 +383,9 @@ goes_on t log j h =
         waits = λ w u of i. elim (in_push log e (Wait w u) i) [ inl old ↦ ended_stays u.0 log e (h.free.waits w u of old) | inr q ↦ no_wait e w u refl q ];
         children = λ u o g p of i closed. elim (in_push log e (Child u o g p) i) [
           | inl old ↦ elim (closed_cases o.0 g log e closed) [
-              | inl was ↦ ended_stays u.0 log e (h.free.children u o g p of old was)
-              | inr now ↦ absurd (false≢true now)
-            ]
+            | inl was ↦ ended_stays u.0 log e (h.free.children u o g p of old was)
+            | inr now ↦ absurd (false≢true now)
+          ]
           | inr q ↦ no_child e u o g p refl q
         ];
       };

@@ -1,10 +1,10 @@
 -- What a turn leaves of the groups that its frame has open.
-use Rattle.std.proofs.Common.{◌≡◌, ◌⊎◌, inl, inr, ℕ, ℤ, ◌+◌, ◌<◌, zero, suc, Bool, true, false, if◌then◌else◌, List, [], ◌∷◌, ◌++◌, refl, sym, subst, ap, ◌∙◌, arith, cond, length}
-use Rattle.std.specs.Prelude.{Option, Some, None, nat_lt, ◌^◌, count_by, sum_by}
+use Rattle.std.proofs.Common.{◌≡◌, ◌⊎◌, inl, inr, ℕ, ℤ, ◌+◌, ◌<◌, zero, suc, Bool, true, false, if◌then◌else◌, List, [], ◌∷◌, ◌++◌, refl, sym, subst, ap, arith, cond, length}
+use Rattle.std.specs.Prelude.{Option, Some, None, nat_lt, ◌^◌, count_by}
 use Rattle.std.proofs.lemmas.Bool.{cases_eq, false≢true}
 use Rattle.std.proofs.lemmas.List.Sums.{sum_by_push}
 use Rattle.swift_types.specs.declared.outcome.Fault.{Fault}
-use Rattle.swift_types.specs.declared.outcome.Fault.TheVariants.{Thrown, Cancelled, Invariant, Overflow, Steps, Turns, Depth, Tasks, Empty, Isolation}
+use Rattle.swift_types.specs.declared.outcome.Fault.TheVariants.{Thrown, Cancelled, Invariant, Overflow, Steps, Turns, Tasks, Isolation}
 use Rattle.swift_types.specs.declared.outcome.Resume.{Resume}
 use Rattle.swift_types.specs.declared.outcome.Resume.TheVariants.{Start, Go, Value, Fault as Raise}
 use Rattle.script_code.specs.Tree.{Term, Deed, Wanted, Code, followed}
@@ -19,7 +19,7 @@ use Rattle.swift_interpreter.specs.Turn
 use Rattle.swift_interpreter.specs.Turn.{State, Given, InvocationView, EffectView, ExitView, calling, waiting, asking_next, yielding, closing, returning, failing, Next, goes, leaves, Played, scene, standing, with_value, with_invocation, given, put, perform, act, settled, at_limit, on, end_of, turn, caught, received, raised_by, taken_by, taken, whole_turn, left_by, exits, undoes, all_hold, kept_of, kept, tail}
 use Rattle.swift_history.specs.Histories.{opens_group}
 use Rattle.swift_laws.specs.Ended.{after_deed, LeadsTo}
-use Rattle.swift_laws.proofs.OpenLogs.{In, cases_of}
+use Rattle.swift_laws.proofs.OpenLogs.{In}
 
 -- statements one after the other
 
