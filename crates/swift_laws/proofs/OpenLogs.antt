@@ -403,7 +403,7 @@ free_at roots N t log s loose = record {
 pub free_ended : (roots : ℕ) (N : ℕ → Type 0) (t : ℕ) (log : List Event) → Sound roots N log → HasEnded t log → IsFree t log
 free_ended roots N t log s ended = free_at roots N t log s (ap holds_at (s.rests t ended).1)
 
--- and where not_so turn of it was folded, each child of its groups has ended
+-- and where no turn of it was folded, each child of its groups has ended
 pub children_ended : (roots : ℕ) (N : ℕ → Type 0) (log : List Event) (u o : TaskId) (g : ℕ) (p : Priority) → Sound roots N log → N o.0 → HasEnded o.0 log → In log (Child u o g p) → HasEnded u.0 log
 children_ended roots N log u o g p s n ended h =
     (free_ended roots N o.0 log s ended).children u o g p refl h (s.closed o.0 n ended g (s.children u o g p h).1)
