@@ -1,3 +1,15 @@
+pub mod HistoriesWritten
+pub mod HistoriesCounted
+pub mod HistoriesTurns
+pub mod HistoriesGrow
+pub mod HistoriesOnce
+pub mod HistoriesSplit
+pub mod HistoriesBegun
+pub mod HistoriesFrames
+pub mod HistoriesLocals
+pub mod HistoriesMade
+pub mod HistoriesHandedOn
+pub mod HistoriesApplied
 pub mod OpenLogs
 pub mod OpenTurns
 pub mod OpenSteps

@@ -36,7 +36,8 @@ use Rattle.swift_events.specs.Relations.{opens, opened_by, closes, is_closed, gr
 use Rattle.swift_events.proofs.LogLemmas.{opened_by-push_no, is_closed-push}
 use Rattle.swift_history.specs.Histories.{Standing, with_jobs, taken}
 use Rattle.swift_history.specs.TurnEnds.{JobView, HeldView, Follows, task, gives, named_task, wait_events, wait_resume, next_events, next_resume, close_events, close_resume, end_events, step_resume, exit_events, exit_resume, resume_at, resume_of, woken, wake, wake_each, wake_closing, wake_owner, wake_parent, wake_all, followed}
-use Rattle.swift_laws.specs.Ended.{HasEnded, ClosesGroups}
+use Rattle.swift_laws.specs.Accepted.{ClosesGroups}
+use Rattle.swift_laws.specs.Ended.{HasEnded}
 use Rattle.swift_laws.proofs.OpenLogs.{In, in_push, not_both, was_given, stage_at, origin_stays, given_same, given_stays, stage_same, stage_now, ended_stays, ended_came, ended_now, closed_stays, equal_of, IsFree, Sound, May, Leads, stays, leads_by, leads_on, sound_push, holds_at}
 use Rattle.swift_laws.proofs.OpenTurns.{ClosedBy, StaysIn, Keeps}
 use Rattle.swift_laws.proofs.OpenSteps.{Each, each_append, each_map, is_child, no_child, no_wait, Calm, may_calm, may_move, Active, active_push, Beside, beside_same, beside_on, beside_by, Fresh, Goes, goes_free, goes_new, give_of, gave_all}

@@ -14,7 +14,7 @@ use Rattle.swift_journal.specs.Records.{RecordView}
 use Rattle.swift_journal.specs.Replay.{StandsFor, IsAfter, IsLawfulRecord, turn_of}
 use Rattle.swift_history.specs.Histories.{opens_group, left_as}
 use Rattle.swift_history.specs.TurnEnds.{beginning}
-use Rattle.swift_laws.specs.Ended.{LeadsTo, ClosesGroups}
+use Rattle.swift_laws.specs.Accepted.{LeadsTo, ClosesGroups}
 use Rattle.swift_laws.proofs.OpenLogs.{In}
 use Rattle.swift_laws.proofs.OpenTurns.{ClosedBy, StaysIn, Keeps, KeptEnd, kept_ends}
 

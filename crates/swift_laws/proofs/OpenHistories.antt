@@ -25,7 +25,8 @@ use Rattle.swift_events.proofs.LogLemmas.{opened_by-push_no, is_closed-push_no}
 use Rattle.swift_history.specs.Checks.{was_given as given_so, is_under_way, is_current, counters}
 use Rattle.swift_history.specs.Histories.{Block, added, begun, ran, folded, Standing, at_first, begun_priority, left_as, frames_applied, job_applied, turn_applied, after_block, after_blocks, TurnStands, RecordStands, FoldedStands, Stands, AllStand, opens_group, fields_of, IsLegal, ReportView}
 use Rattle.swift_history.specs.TurnEnds.{JobView, HeldView, task, root_job, root_events, log_after, jobs_made, exit_events, exit_resume}
-use Rattle.swift_laws.specs.Ended.{HasEnded, ClosesGroups}
+use Rattle.swift_laws.specs.Accepted.{ClosesGroups}
+use Rattle.swift_laws.specs.Ended.{HasEnded}
 use Rattle.swift_laws.proofs.OpenLogs.{In, cases_of, not_both, none_some, was_given, stage_at, origin_now, given_same, given_stays, stage_now, ending_same, Sound, May, Leads, stays, leads_by, leads_on, sound_from, sound_leads, sound_front, free_at, holds_at}
 use Rattle.swift_laws.proofs.OpenSteps.{each_map, no_child, may_move, Active, Beside, beside_on, beside_by, Fresh, effects, goes_new, Gave, gave_on, gave_by, gave_one}
 use Rattle.swift_laws.proofs.OpenFrames.{Frames, FramesOk, frames_stay, Begins, first_ok, Own, lawful_own}

@@ -1,5 +1,5 @@
 -- The laws of legal reports.
-use Rattle.std.proofs.Common.{◌≡◌, ◌≢◌, inl, inr, ℕ, zero, suc, ◌<◌, true, List, [], ◌∷◌, ◌++◌, length, refl, sym, subst, arith}
+use Rattle.std.proofs.Common.{◌≡◌, ◌≢◌, inl, inr, ℕ, zero, suc, ◌<◌, true, List, [], ◌∷◌, ◌++◌, length, refl, sym, subst, ap, ◌∙◌, arith}
 use Rattle.std.specs.Prelude.{Some, IsTrue, ◌==◌, Contains, slice_get}
 use Rattle.std.proofs.lemmas.Bool.Decides.{nat_tests}
 use Rattle.std.proofs.lemmas.Option.{none-some}
@@ -15,7 +15,8 @@ use Rattle.swift_events.specs.declared.event.Event.TheVariants.{Root, Free, Chil
 use Rattle.swift_events.specs.declared.life.Stage.TheVariants.{Waits, Closes}
 use Rattle.swift_events.specs.Lives.{life_of}
 use Rattle.swift_events.specs.Relations.{is_closed, link_in, links_of}
-use Rattle.swift_history.specs.Histories.{Block, added, begun, ran, folded, folded_in, folded_of, Stands, AllStand, IsLegal, ReportView}
+use Rattle.swift_history.specs.Histories.{Block, added, begun, ran, folded, folded_in, folded_of, at_first, after_blocks, Stands, AllStand, IsLegal, ReportView}
+use Rattle.swift_laws.specs.Laws.{TurnPlace, HasTurn, turns_of, AppliedTurnsStand}
 use Rattle.swift_laws.specs.Ended.{HasEnded, IsFront, IsNotFolded, HasNoFolded}
 use Rattle.swift_laws.proofs.OpenLogs.{In, in_contains, Sound, free_ended, children_ended}
 use Rattle.swift_laws.proofs.OpenGroups.{in_filter_map, from_filter_map}
@@ -45,6 +46,11 @@ owners_go_on script report front t u g p legal is has closed other =
 pub waits_for_none : (script : ScriptView) (report : ReportView) (front : List Event) (t u : TaskId) → IsLegal script report → IsFront report front → HasEnded t.0 front → Contains front (Wait t u) → HasEnded u.0 front
 waits_for_none script report front t u legal is ended has =
     (free_ended (root_count script) Nobody t.0 front (any_sound script report front legal is) ended).waits t u refl (in_contains front (Wait t u) has)
+
+pub leaves_none_closed : (script : ScriptView) (report : ReportView) (front : List Event) (t u : TaskId) (g : ℕ) (p : Priority)
+    → IsLegal script report → IsFront report front → HasEnded t.0 front → IsTrue (is_closed t.0 g front) → Contains front (Child u t g p) → HasEnded u.0 front
+leaves_none_closed script report front t u g p legal is ended closed has =
+    (free_ended (root_count script) Nobody t.0 front (any_sound script report front legal is) ended).children u t g p refl (in_contains front (Child u t g p) has) closed
 
 -- a folded turn stands in a checkpoint
 
@@ -133,3 +139,17 @@ reach_ended script report front (suc n) t u accepted legal none is ended reach =
       | inl child ↦ (let c = child_of_link front u m child.0 child.1 in leaves_no_children script report front m u c.0 child.0 accepted legal (none_folded report m.0 none) is mid c.1)
       | inr wait ↦ waits_for_none script report front m u legal is mid (wait_of_link front m u wait)
     ]
+
+-- where a turn was applied there is a root
+root_of_turn : (script : ScriptView) (report : ReportView) (legal : IsLegal script report) (t n : ℕ) → n < length (turns_of t report.log) → 0 < root_count script
+root_of_turn script report legal t n lt = go legal.blocks refl
+  where
+    go : (bs : List Block) → legal.blocks ≡ bs → 0 < root_count script
+    go [] is =
+        let none : report.log ≡ [] = legal.log ∙ ap (λ (bs : List Block). (after_blocks script (at_first script) bs).log) is in
+        let many : length (turns_of t report.log) ≡ 0 = ap (λ (l : List Event). length (turns_of t l)) none in
+        absurd (omega (arith, lt, many))
+    go (b ∷ bs) is = has_root script report.checkpoints legal.blocks b legal.stand (subst (λ (xs : List Block). In xs b) (sym is) (inl refl))
+
+pub turns_stand : AppliedTurnsStand → (script : ScriptView) (report : ReportView) (t n : ℕ) → WasAccepted script → IsLegal script report → n < length (turns_of t report.log) → (p : TurnPlace) × HasTurn report p t n
+turns_stand stand script report t n accepted legal lt = stand script report t n legal (runs_on_executor script accepted (root_of_turn script report legal t n lt)) lt

@@ -23,7 +23,7 @@ use Rattle.script_lowering.specs.Lowered.{numbers_in, handles_in, place_named, s
 use Rattle.script_compiler.specs.Compiled.{MethodView, plan_in, method_of, method_scope, methods_from}
 use Rattle.swift_script.specs.Scripts.{ScriptView, parts_of, no_method}
 use Rattle.swift_script.specs.Accepted.{WasAccepted}
-use Rattle.swift_laws.specs.Ended.{LeadsTo, ClosesGroups}
+use Rattle.swift_laws.specs.Accepted.{LeadsTo, ClosesGroups}
 use Rattle.swift_laws.proofs.OpenTurns.{leads_followed}
 
 -- no group is open where a `return` may stand

@@ -18,7 +18,7 @@ use Rattle.script_code.specs.declared.instruction.Cancelled.TheVariants as subje
 use Rattle.swift_interpreter.specs.Turn
 use Rattle.swift_interpreter.specs.Turn.{State, Given, InvocationView, EffectView, ExitView, calling, waiting, asking_next, yielding, closing, returning, failing, Next, goes, leaves, Played, scene, standing, with_value, with_invocation, given, put, perform, act, settled, at_limit, on, end_of, turn, caught, received, raised_by, taken_by, taken, whole_turn, left_by, exits, undoes, all_hold, kept_of, kept, tail}
 use Rattle.swift_history.specs.Histories.{opens_group}
-use Rattle.swift_laws.specs.Ended.{after_deed, LeadsTo}
+use Rattle.swift_laws.specs.Accepted.{after_deed, LeadsTo}
 use Rattle.swift_laws.proofs.OpenLogs.{In}
 
 -- statements one after the other

@@ -1,9 +1,8 @@
 -- Structured concurrency (SE-0304): an ended task leaves no task behind.
-use Rattle.std.specs.Prelude.{◌≡◌, ◌≢◌, ℕ, zero, suc, IsTrue, is_some, Some, List, [], ◌++◌, Contains, slice_get}
+use Rattle.std.specs.Prelude.{◌≡◌, ◌≢◌, ℕ, IsTrue, is_some, Some, List, [], ◌++◌, Contains, slice_get}
 use Rattle.swift_types.specs.declared.id.TaskId.{TaskId}
 use Rattle.swift_types.specs.declared.priority.Priority.{Priority}
-use Rattle.script_code.specs.Tree.{Deed, return, open_group, close_group, Code, end, act, choice, loop}
-use Rattle.swift_script.specs.Scripts.{ScriptView, method_code}
+use Rattle.swift_script.specs.Scripts.{ScriptView}
 use Rattle.swift_script.specs.Accepted.{WasAccepted}
 use Rattle.swift_events.specs.declared.event.Event.{Event}
 use Rattle.swift_events.specs.declared.event.Event.TheVariants.{Child, Wait}
@@ -37,6 +36,11 @@ abbrev pub EndedWaitForNone : Type 0
 EndedWaitForNone = (script : ScriptView) (report : ReportView) (front : List Event) (t u : TaskId)
     → IsLegal script report → IsFront report front → HasEnded t.0 front → Contains front (Wait t u) → HasEnded u.0 front
 
+-- At each point of the log, each child of a group that an ended task has closed has ended.
+abbrev pub EndedLeaveNoneClosed : Type 0
+EndedLeaveNoneClosed = (script : ScriptView) (report : ReportView) (front : List Event) (t u : TaskId) (g : ℕ) (p : Priority)
+    → IsLegal script report → IsFront report front → HasEnded t.0 front → IsTrue (is_closed t.0 g front) → Contains front (Child u t g p) → HasEnded u.0 front
+
 -- no checkpoint has a turn of the task
 abbrev pub IsNotFolded : ReportView → ℕ → Type 0
 IsNotFolded report t = (e : ℕ) (c : CheckpointView) (f : FoldedView) → slice_get report.checkpoints e ≡ Some c → Contains c.folded f → f.task ≢ t
@@ -57,27 +61,3 @@ HasNoFolded report = (e : ℕ) (c : CheckpointView) → slice_get report.checkpo
 abbrev pub EndedReachEnded : Type 0
 EndedReachEnded = (script : ScriptView) (report : ReportView) (front : List Event) (n : ℕ) (t u : TaskId)
     → WasAccepted script → IsLegal script report → HasNoFolded report → IsFront report front → HasEnded t.0 front → Reaches (links_of front) n t u → HasEnded u.0 front
-
--- What a statement asks for, with so many groups open: a `return` stands where none is, and the end of a group's block where one
--- is. `rest` says what is asked of what follows, by how many are open there.
-abbrev pub after_deed : Deed → (ℕ → Type 0) → ℕ → Type 0
-after_deed (return t) rest n = n ≡ 0
-after_deed (open_group h) rest n = rest (suc n)
-after_deed close_group rest zero = ⊥
-after_deed close_group rest (suc n) = rest n
-after_deed d rest n = rest n
-
--- Statements lead from so many open groups to so many, whichever way they are gone through.
-abbrev pub LeadsTo : Code → ℕ → ℕ → Type 0
-LeadsTo end n m = n ≡ m
-LeadsTo (act d rest) n m = after_deed d (λ k. LeadsTo rest k m) n
-LeadsTo (choice t a b rest) n m = LeadsTo a n n × LeadsTo b n n × LeadsTo rest n m
-LeadsTo (loop t a rest) n m = LeadsTo a n n × LeadsTo rest n m
-
--- Each method closes each group that it opens, and returns in none.
-abbrev pub ClosesGroups : ScriptView → Type 0
-ClosesGroups script = (m : ℕ) → LeadsTo (method_code script m) 0 0
-
--- Each accepted script is such.
-abbrev pub AcceptedCloseGroups : Type 0
-AcceptedCloseGroups = (script : ScriptView) → WasAccepted script → ClosesGroups script

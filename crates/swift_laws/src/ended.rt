@@ -1,6 +1,6 @@
 //! Structured concurrency (SE-0304): an ended task leaves no task behind. A call costs nothing; its contract is the law.
 
-ghost use Rattle.swift_laws.specs.Ended.{WaitersGoOnAfter, OwnersGoOnAfter, EndedWaitForNone, EndedLeaveNoChildren, EndedReachEnded, AcceptedCloseGroups};
+ghost use Rattle.swift_laws.specs.Ended.{WaitersGoOnAfter, OwnersGoOnAfter, EndedWaitForNone, EndedLeaveNoneClosed, EndedLeaveNoChildren, EndedReachEnded};
 
 /// In a legal report a task that waits for another goes on only when that has ended (SE-0304).
 pub fn waiting_tasks_go_on_after_the_awaited()
@@ -17,6 +17,11 @@ pub fn ended_tasks_wait_for_none()
     ensures { EndedWaitForNone }
 {}
 
+/// In a legal report, at each point of the log, each child of a group that an ended task has closed has ended (SE-0304).
+pub fn ended_tasks_leave_no_children_of_closed_groups()
+    ensures { EndedLeaveNoneClosed }
+{}
+
 /// In a legal report, at each point of the log, each child that was added to a group of an ended task has ended, where no
 /// turn of that task was folded (SE-0304).
 pub fn ended_tasks_leave_no_children()
@@ -27,9 +32,4 @@ pub fn ended_tasks_leave_no_children()
 /// along children and waits has ended (SE-0304).
 pub fn ended_tasks_reach_only_ended_ones()
     ensures { EndedReachEnded }
-{}
-
-/// Each method of an accepted script closes each group that it opens, and returns in none (our own).
-pub fn accepted_scripts_close_groups()
-    ensures { AcceptedCloseGroups }
 {}

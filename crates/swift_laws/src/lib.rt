@@ -1,5 +1,11 @@
-//! What holds of each legal report. There is no code here: a call costs nothing, and its contract is the law.
+//! What holds of each legal report, as laws (specs/Laws.antt says each). There is no code here.
 #![tactic(auto)]
 
-// Ended tasks leave no task behind.
+/// What holds of each accepted script.
+pub mod accepted;
+/// Ended tasks leave no task behind.
 pub mod ended;
+/// What holds of each legal report.
+pub mod laws;
+/// What holds of its task locals.
+pub mod locals;
