@@ -1,2 +1,4 @@
 pub mod Laws
 pub mod Inherited
+pub mod Accepted
+pub mod Ended

@@ -1,6 +1,10 @@
 //! What holds of each legal report, as laws (specs/Laws.antt says each). There is no code here.
 #![tactic(auto)]
 
+/// What holds of each accepted script.
+pub mod accepted;
+/// Ended tasks leave no task behind.
+pub mod ended;
 /// What holds of each legal report.
 pub mod laws;
 /// What holds of its task locals.

@@ -1,0 +1,409 @@
+-- What each point of a legal log keeps: who has ended, who waits for whom, and which groups are closed.
+use Rattle.std.proofs.Common.{◌≡◌, ◌⊎◌, inl, inr, ℕ, ◌<◌, ◌≤◌, zero, suc, Bool, true, false, List, [], ◌∷◌, ◌++◌, refl, sym, subst, ap, ◌∙◌, arith, append_assoc}
+use Rattle.std.specs.Prelude.{Option, Some, None, is_some, Contains, ◌==◌, ◌||◌, ◌&&◌}
+use Rattle.std.proofs.lemmas.Bool.{cases_eq, false≢true}
+use Rattle.std.proofs.lemmas.Bool.Decides.{nat_tests}
+use Rattle.std.proofs.lemmas.List.{append-nil}
+use Rattle.swift_types.specs.declared.id.TaskId.{TaskId}
+use Rattle.swift_types.specs.declared.priority.Priority.{Priority}
+use Rattle.swift_events.specs.declared.event.Event.{Event}
+use Rattle.swift_events.specs.declared.event.Event.TheVariants.{Child, Wait, Close}
+use Rattle.swift_events.specs.declared.life.Stage.{Stage}
+use Rattle.swift_events.specs.declared.life.Stage.TheVariants as stage
+use Rattle.swift_events.specs.declared.life.Life.{Life}
+use Rattle.swift_events.specs.Events.{task_of, is_made, tasks_of, later}
+use Rattle.swift_events.specs.Lives.{life_of, lived, unborn, origin_in, given_in, stage_in, ending_in}
+use Rattle.swift_events.specs.Relations.{opens, opened_by, closes, is_closed}
+use Rattle.swift_events.proofs.LogLemmas.{life_of-push_same, life_of-push_other, unborn_without, tasks_of-push_made, tasks_of-push_other, opened_by-push_yes, opened_by-push_no, is_closed-push}
+use Rattle.swift_laws.specs.Ended.{HasEnded}
+
+-- an element of a list
+abbrev pub In : {A : Type 0} → List A → A → Type 0
+In [] x = ⊥
+In (y ∷ ys) x = (y ≡ x) ⊎ In ys x
+
+pub in_push : {A : Type 0} (xs : List A) (y x : A) → In (xs ++ y ∷ []) x → In xs x ⊎ (y ≡ x)
+in_push [] y x (inl e) = inr e
+in_push [] y x (inr h) = absurd h
+in_push (z ∷ zs) y x (inl e) = inl (inl e)
+in_push (z ∷ zs) y x (inr h) = elim (in_push zs y x h) [ inl a ↦ inl (inr a) | inr e ↦ inr e ]
+
+pub in_left : {A : Type 0} (xs ys : List A) (x : A) → In xs x → In (xs ++ ys) x
+in_left [] ys x h = absurd h
+in_left (z ∷ zs) ys x (inl e) = inl e
+in_left (z ∷ zs) ys x (inr h) = inr (in_left zs ys x h)
+
+pub in_contains : {A : Type 0} (xs : List A) (x : A) → Contains xs x → In xs x
+in_contains [] x is = absurd (omega (arith, is.1))
+in_contains (y ∷ ys) x (zero, below, same) = inl same
+in_contains (y ∷ ys) x (suc k, below, same) = inr (in_contains ys x (k, omega arith, same))
+
+-- tests
+
+pub not_both : {X : Type 0} (b : Bool) → b ≡ true → b ≡ false → X
+not_both b so not_so = absurd (false≢true (sym not_so ∙ so))
+
+pub cases_of : (b : Bool) → (b ≡ true) ⊎ (b ≡ false)
+cases_of true = inl refl
+cases_of false = inr refl
+
+pub none_some : {A X : Type 0} (o : Option A) → o ≡ None → is_some o ≡ true → X
+none_some o none some = not_both (is_some o) some (ap is_some none)
+
+or_cases : (a b : Bool) → (a || b) ≡ true → (a ≡ true) ⊎ (b ≡ true)
+or_cases true b h = inl refl
+or_cases false b h = inr h
+
+or_left : (a b : Bool) → a ≡ true → (a || b) ≡ true
+or_left true b h = refl
+or_left false b h = absurd (false≢true h)
+
+-- what one more event changes of a task's life
+
+later_cases : {A : Type 0} (x y : Option A) → (later x y ≡ y) ⊎ ((later x y ≡ x) × (is_some x ≡ true))
+later_cases (Some a) y = inr (refl, refl)
+later_cases None y = inl refl
+
+later_now : {A : Type 0} (x y : Option A) → is_some x ≡ true → later x y ≡ x
+later_now (Some a) y h = refl
+later_now None y h = absurd (false≢true h)
+
+-- one of the things that are known of a life, and what an event says of it
+abbrev Says : {A : Type 0} → (Life → Option A) → (Event → Option A) → Type 0
+Says f says = (l : Life) (e : Event) → f (lived l e) ≡ later (says e) (f l)
+
+pub field_cases : {A : Type 0} (f : Life → Option A) (says : Event → Option A) → Says f says → (t : ℕ) (log : List Event) (e : Event)
+    → (f (life_of t (log ++ e ∷ [])) ≡ f (life_of t log)) ⊎ ((task_of e ≡ t) × (f (life_of t (log ++ e ∷ [])) ≡ says e) × (is_some (says e) ≡ true))
+field_cases f says law t log e = elim (cases_eq (task_of e) t) [
+  | inl same ↦
+      let now : f (life_of t (log ++ e ∷ [])) ≡ later (says e) (f (life_of t log)) = ap f (life_of-push_same t log e same) ∙ law (life_of t log) e in
+      elim (later_cases (says e) (f (life_of t log))) [ inl old ↦ inl (now ∙ old) | inr new ↦ inr (same, now ∙ new.0, new.1) ]
+  | inr other ↦ inl (ap f (life_of-push_other t log e other))
+]
+
+field_now : {A : Type 0} (f : Life → Option A) (says : Event → Option A) → Says f says → (t : ℕ) (log : List Event) (e : Event) → task_of e ≡ t → is_some (says e) ≡ true → f (life_of t (log ++ e ∷ [])) ≡ says e
+field_now f says law t log e same some = ap f (life_of-push_same t log e same) ∙ law (life_of t log) e ∙ later_now (says e) (f (life_of t log)) some
+
+field_stays : {A : Type 0} (f : Life → Option A) (says : Event → Option A) → Says f says → (t : ℕ) (log : List Event) (e : Event) → is_some (f (life_of t log)) ≡ true → is_some (f (life_of t (log ++ e ∷ []))) ≡ true
+field_stays f says law t log e h = elim (field_cases f says law t log e) [ inl same ↦ ap is_some same ∙ h | inr new ↦ ap is_some new.1 ∙ new.2 ]
+
+field_came : {A : Type 0} (f : Life → Option A) (says : Event → Option A) → Says f says → (t : ℕ) (log : List Event) (e : Event) → is_some (f (life_of t (log ++ e ∷ []))) ≡ true
+    → (is_some (f (life_of t log)) ≡ true) ⊎ ((task_of e ≡ t) × (is_some (says e) ≡ true))
+field_came f says law t log e h = elim (field_cases f says law t log e) [ inl same ↦ inl (sym (ap is_some same) ∙ h) | inr new ↦ inr (new.0, new.2) ]
+
+field_same : {A : Type 0} (f : Life → Option A) (says : Event → Option A) → Says f says → (t : ℕ) (log : List Event) (e : Event) → says e ≡ None → f (life_of t (log ++ e ∷ [])) ≡ f (life_of t log)
+field_same f says law t log e none = elim (field_cases f says law t log e) [ inl same ↦ same | inr new ↦ none_some (says e) none new.2 ]
+
+abbrev pub has_origin : ℕ → List Event → Bool
+has_origin t log = is_some (life_of t log).origin
+
+abbrev pub was_given : ℕ → List Event → Bool
+was_given t log = is_some (life_of t log).given
+
+abbrev pub stage_at : ℕ → List Event → Option Stage
+stage_at t log = (life_of t log).stage
+
+pub origin_stays : (t : ℕ) (log : List Event) (e : Event) → has_origin t log ≡ true → has_origin t (log ++ e ∷ []) ≡ true
+origin_stays = field_stays (λ (l : Life). l.origin) origin_in (λ l e. refl)
+
+origin_came : (t : ℕ) (log : List Event) (e : Event) → has_origin t (log ++ e ∷ []) ≡ true → (has_origin t log ≡ true) ⊎ ((task_of e ≡ t) × (is_some (origin_in e) ≡ true))
+origin_came = field_came (λ (l : Life). l.origin) origin_in (λ l e. refl)
+
+pub origin_same : (t : ℕ) (log : List Event) (e : Event) → origin_in e ≡ None → (life_of t (log ++ e ∷ [])).origin ≡ (life_of t log).origin
+origin_same = field_same (λ (l : Life). l.origin) origin_in (λ l e. refl)
+
+pub origin_now : (t : ℕ) (log : List Event) (e : Event) → task_of e ≡ t → is_some (origin_in e) ≡ true → (life_of t (log ++ e ∷ [])).origin ≡ origin_in e
+origin_now = field_now (λ (l : Life). l.origin) origin_in (λ l e. refl)
+
+pub given_stays : (t : ℕ) (log : List Event) (e : Event) → was_given t log ≡ true → was_given t (log ++ e ∷ []) ≡ true
+given_stays = field_stays (λ (l : Life). l.given) given_in (λ l e. refl)
+
+given_came : (t : ℕ) (log : List Event) (e : Event) → was_given t (log ++ e ∷ []) ≡ true → (was_given t log ≡ true) ⊎ ((task_of e ≡ t) × (is_some (given_in e) ≡ true))
+given_came = field_came (λ (l : Life). l.given) given_in (λ l e. refl)
+
+pub given_same : (t : ℕ) (log : List Event) (e : Event) → given_in e ≡ None → (life_of t (log ++ e ∷ [])).given ≡ (life_of t log).given
+given_same = field_same (λ (l : Life). l.given) given_in (λ l e. refl)
+
+pub given_now : (t : ℕ) (log : List Event) (e : Event) → task_of e ≡ t → is_some (given_in e) ≡ true → (life_of t (log ++ e ∷ [])).given ≡ given_in e
+given_now = field_now (λ (l : Life). l.given) given_in (λ l e. refl)
+
+pub stage_cases : (t : ℕ) (log : List Event) (e : Event) → (stage_at t (log ++ e ∷ []) ≡ stage_at t log) ⊎ ((task_of e ≡ t) × (stage_at t (log ++ e ∷ []) ≡ stage_in e) × (is_some (stage_in e) ≡ true))
+stage_cases = field_cases (λ (l : Life). l.stage) stage_in (λ l e. refl)
+
+stage_came : (t : ℕ) (log : List Event) (e : Event) → is_some (stage_at t (log ++ e ∷ [])) ≡ true → (is_some (stage_at t log) ≡ true) ⊎ ((task_of e ≡ t) × (is_some (stage_in e) ≡ true))
+stage_came = field_came (λ (l : Life). l.stage) stage_in (λ l e. refl)
+
+pub stage_same : (t : ℕ) (log : List Event) (e : Event) → stage_in e ≡ None → stage_at t (log ++ e ∷ []) ≡ stage_at t log
+stage_same = field_same (λ (l : Life). l.stage) stage_in (λ l e. refl)
+
+pub stage_now : (t : ℕ) (log : List Event) (e : Event) → task_of e ≡ t → is_some (stage_in e) ≡ true → stage_at t (log ++ e ∷ []) ≡ stage_in e
+stage_now = field_now (λ (l : Life). l.stage) stage_in (λ l e. refl)
+
+pub ended_stays : (t : ℕ) (log : List Event) (e : Event) → HasEnded t log → HasEnded t (log ++ e ∷ [])
+ended_stays = field_stays (λ (l : Life). l.ending) ending_in (λ l e. refl)
+
+pub ended_came : (t : ℕ) (log : List Event) (e : Event) → HasEnded t (log ++ e ∷ []) → HasEnded t log ⊎ ((task_of e ≡ t) × (is_some (ending_in e) ≡ true))
+ended_came = field_came (λ (l : Life). l.ending) ending_in (λ l e. refl)
+
+pub ending_same : (t : ℕ) (log : List Event) (e : Event) → ending_in e ≡ None → (life_of t (log ++ e ∷ [])).ending ≡ (life_of t log).ending
+ending_same = field_same (λ (l : Life). l.ending) ending_in (λ l e. refl)
+
+pub ended_now : (t : ℕ) (log : List Event) (e : Event) → task_of e ≡ t → is_some (ending_in e) ≡ true → HasEnded t (log ++ e ∷ [])
+ended_now t log e same some = ap is_some (field_now (λ (l : Life). l.ending) ending_in (λ l x. refl) t log e same some) ∙ some
+
+-- numbers and groups
+
+tasks_grow : (roots : ℕ) (log : List Event) (e : Event) → tasks_of roots log ≤ tasks_of roots (log ++ e ∷ [])
+tasks_grow roots log e = elim (cases_of (is_made e)) [
+  | inl so ↦ (let more = tasks_of-push_made roots log e so in omega (arith, more))
+  | inr not_so ↦ (let same = tasks_of-push_other roots log e not_so in omega (arith, same))
+]
+
+opened_grow : (t : ℕ) (log : List Event) (e : Event) → opened_by t log ≤ opened_by t (log ++ e ∷ [])
+opened_grow t log e = elim (cases_of (opens t e)) [
+  | inl so ↦ (let more = opened_by-push_yes t log e so in omega (arith, more))
+  | inr not_so ↦ (let same = opened_by-push_no t log e not_so in omega (arith, same))
+]
+
+pub closed_stays : (t g : ℕ) (log : List Event) (e : Event) → is_closed t g log ≡ true → is_closed t g (log ++ e ∷ []) ≡ true
+closed_stays t g log e h = is_closed-push t g log e ∙ or_left (is_closed t g log) (closes t g e) h
+
+pub closed_cases : (t g : ℕ) (log : List Event) (e : Event) → is_closed t g (log ++ e ∷ []) ≡ true → (is_closed t g log ≡ true) ⊎ (closes t g e ≡ true)
+closed_cases t g log e h = or_cases (is_closed t g log) (closes t g e) (sym (is_closed-push t g log e) ∙ h)
+
+and_both : (a b : Bool) → (a && b) ≡ true → (a ≡ true) × (b ≡ true)
+and_both true true h = (refl, refl)
+and_both true false h = absurd (false≢true h)
+and_both false b h = absurd (false≢true h)
+
+pub equal_of : (a b : ℕ) → (a == b) ≡ true → a ≡ b
+equal_of a b h = grind (arith, nat_tests)
+
+-- an event that closes a group is one of its owner, and says so
+pub closes_says : (o g : ℕ) (e : Event) → closes o g e ≡ true → (task_of e ≡ o) × (stage_in e ≡ Some (stage.Closes g))
+closes_says o g (Close owner group) h =
+    let both = and_both (owner.0 == o) (group == g) h in
+    (equal_of owner.0 o both.0, ap (λ (k : ℕ). Some (stage.Closes k)) (equal_of group g both.1))
+closes_says o g e h = absurd (false≢true h)
+
+-- Nothing holds the task: what it has waited for has ended, and so has each child of a group that it has closed.
+pub record IsFree (t : ℕ) (log : List Event) : Type 0 where
+  pub waits : (w u : TaskId) → w.0 ≡ t → In log (Wait w u) → HasEnded u.0 log
+  pub children : (u o : TaskId) (g : ℕ) (p : Priority) → o.0 ≡ t → In log (Child u o g p) → is_closed o.0 g log ≡ true → HasEnded u.0 log
+
+-- What a log keeps, where `N` tells of which tasks no turn was folded.
+pub record Sound (roots : ℕ) (N : ℕ → Type 0) (log : List Event) : Type 0 where
+  pub born : (t : ℕ) → was_given t log ≡ true → has_origin t log ≡ true
+  pub low : (t : ℕ) → has_origin t log ≡ true → t < tasks_of roots log
+  pub staged : (t : ℕ) → is_some (stage_at t log) ≡ true → was_given t log ≡ true
+  pub opened : (t : ℕ) → 0 < opened_by t log → was_given t log ≡ true
+  pub rests : (t : ℕ) → HasEnded t log → (was_given t log ≡ true) × (stage_at t log ≡ Some stage.Applied)
+  pub waits : (t u : TaskId) → In log (Wait t u) → (was_given t.0 log ≡ true) × (HasEnded u.0 log ⊎ (stage_at t.0 log ≡ Some (stage.Waits u)))
+  pub children : (u o : TaskId) (g : ℕ) (p : Priority) → In log (Child u o g p)
+      → (was_given o.0 log ≡ true) × (g < opened_by o.0 log) × (is_closed o.0 g log ≡ true → HasEnded u.0 log ⊎ (stage_at o.0 log ≡ Some (stage.Closes g)))
+  pub closed : (t : ℕ) → N t → HasEnded t log → (g : ℕ) → g < opened_by t log → is_closed t g log ≡ true
+
+-- an event by which a task may end
+pub record MayEnd (N : ℕ → Type 0) (log : List Event) (e : Event) : Type 0 where
+  pub still : stage_in e ≡ None
+  pub unopened : (o : ℕ) → opens o e ≡ false
+  pub given : was_given (task_of e) log ≡ true
+  pub applied : stage_at (task_of e) log ≡ Some stage.Applied
+  pub closed : N (task_of e) → (g : ℕ) → g < opened_by (task_of e) log → is_closed (task_of e) g log ≡ true
+
+-- an event that may stand after a log
+pub record May (roots : ℕ) (N : ℕ → Type 0) (log : List Event) (e : Event) : Type 0 where
+  pub low : is_some (origin_in e) ≡ true → task_of e < tasks_of roots (log ++ e ∷ [])
+  pub born : is_some (given_in e) ≡ true → has_origin (task_of e) log ≡ true
+  pub given : is_some (stage_in e) ≡ true → was_given (task_of e) (log ++ e ∷ []) ≡ true
+  pub opens_one : (o : ℕ) → opens o e ≡ true → (was_given o log ≡ true) × (HasEnded o log → ⊥)
+  pub moves : is_some (stage_in e) ≡ true → IsFree (task_of e) log
+  pub alive : is_some (stage_in e) ≡ true → HasEnded (task_of e) log → ⊥
+  pub ends : is_some (ending_in e) ≡ true → MayEnd N log e
+  pub child : (u o : TaskId) (g : ℕ) (p : Priority) → e ≡ Child u o g p → (was_given o.0 log ≡ true) × (g < opened_by o.0 log) × (is_closed o.0 g log ≡ false)
+
+module _ (roots : ℕ) (N : ℕ → Type 0) (log : List Event) (e : Event) (s : Sound roots N log) (m : May roots N log e) where
+  next_born : (t : ℕ) → was_given t (log ++ e ∷ []) ≡ true → has_origin t (log ++ e ∷ []) ≡ true
+  next_born t h = elim (given_came t log e h) [
+    | inl old ↦ origin_stays t log e (s.born t old)
+    | inr new ↦ origin_stays t log e (subst (λ (k : ℕ). has_origin k log ≡ true) new.0 (m.born new.1))
+  ]
+
+  next_low : (t : ℕ) → has_origin t (log ++ e ∷ []) ≡ true → t < tasks_of roots (log ++ e ∷ [])
+  next_low t h = elim (origin_came t log e h) [
+    | inl old ↦ (let lt = s.low t old in let grow = tasks_grow roots log e in omega (arith, lt, grow))
+    | inr new ↦ subst (λ (k : ℕ). k < tasks_of roots (log ++ e ∷ [])) new.0 (m.low new.1)
+  ]
+
+  next_staged : (t : ℕ) → is_some (stage_at t (log ++ e ∷ [])) ≡ true → was_given t (log ++ e ∷ []) ≡ true
+  next_staged t h = elim (stage_came t log e h) [
+    | inl old ↦ given_stays t log e (s.staged t old)
+    | inr new ↦ subst (λ (k : ℕ). was_given k (log ++ e ∷ []) ≡ true) new.0 (m.given new.1)
+  ]
+
+  next_opened : (t : ℕ) → 0 < opened_by t (log ++ e ∷ []) → was_given t (log ++ e ∷ []) ≡ true
+  next_opened t h = elim (cases_of (opens t e)) [
+    | inl so ↦ given_stays t log e (m.opens_one t so).0
+    | inr not_so ↦ given_stays t log e (s.opened t (let same = opened_by-push_no t log e not_so in omega (arith, same, h)))
+  ]
+
+  next_rests : (t : ℕ) → HasEnded t (log ++ e ∷ []) → (was_given t (log ++ e ∷ []) ≡ true) × (stage_at t (log ++ e ∷ []) ≡ Some stage.Applied)
+  next_rests t h = elim (ended_came t log e h) [
+    | inl old ↦ (
+      given_stays t log e (s.rests t old).0,
+      elim (stage_cases t log e) [
+        | inl same ↦ same ∙ (s.rests t old).1
+        | inr moved ↦ absurd (m.alive moved.2 (subst (λ (k : ℕ). HasEnded k log) (sym moved.0) old))
+      ],
+    )
+    | inr new ↦ (let may = m.ends new.1 in (
+      given_stays t log e (subst (λ (k : ℕ). was_given k log ≡ true) new.0 may.given),
+      stage_same t log e may.still ∙ subst (λ (k : ℕ). stage_at k log ≡ Some stage.Applied) new.0 may.applied,
+    ))
+  ]
+
+  next_waits : (t u : TaskId) → In (log ++ e ∷ []) (Wait t u) → (was_given t.0 (log ++ e ∷ []) ≡ true) × (HasEnded u.0 (log ++ e ∷ []) ⊎ (stage_at t.0 (log ++ e ∷ []) ≡ Some (stage.Waits u)))
+  next_waits t u h = elim (in_push log e (Wait t u) h) [
+    | inl old ↦ (
+      given_stays t.0 log e (s.waits t u old).0,
+      elim (s.waits t u old).1 [
+        | inl ended ↦ inl (ended_stays u.0 log e ended)
+        | inr at ↦ elim (stage_cases t.0 log e) [
+          | inl same ↦ inr (same ∙ at)
+          | inr moved ↦ inl (ended_stays u.0 log e ((m.moves moved.2).waits t u (sym moved.0) old))
+        ]
+      ],
+    )
+    | inr q ↦ (let some : is_some (stage_in e) ≡ true = ap (λ (x : Event). is_some (stage_in x)) q in
+        let of : task_of e ≡ t.0 = ap task_of q in
+        (subst (λ (k : ℕ). was_given k (log ++ e ∷ []) ≡ true) of (m.given some), inr (stage_now t.0 log e of some ∙ ap stage_in q)))
+  ]
+
+  next_child : (u o : TaskId) (g : ℕ) (p : Priority) → In log (Child u o g p) → is_closed o.0 g (log ++ e ∷ []) ≡ true → HasEnded u.0 (log ++ e ∷ []) ⊎ (stage_at o.0 (log ++ e ∷ []) ≡ Some (stage.Closes g))
+  next_child u o g p old closed = elim (closed_cases o.0 g log e closed) [
+    | inl was ↦ elim ((s.children u o g p old).2 was) [
+      | inl ended ↦ inl (ended_stays u.0 log e ended)
+      | inr at ↦ elim (stage_cases o.0 log e) [
+        | inl same ↦ inr (same ∙ at)
+        | inr moved ↦ inl (ended_stays u.0 log e ((m.moves moved.2).children u o g p (sym moved.0) old was))
+      ]
+    ]
+    | inr now ↦ (let says = closes_says o.0 g e now in inr (stage_now o.0 log e says.0 (ap is_some says.1) ∙ says.1))
+  ]
+
+  next_children : (u o : TaskId) (g : ℕ) (p : Priority) → In (log ++ e ∷ []) (Child u o g p)
+      → (was_given o.0 (log ++ e ∷ []) ≡ true) × (g < opened_by o.0 (log ++ e ∷ [])) × (is_closed o.0 g (log ++ e ∷ []) ≡ true → HasEnded u.0 (log ++ e ∷ []) ⊎ (stage_at o.0 (log ++ e ∷ []) ≡ Some (stage.Closes g)))
+  next_children u o g p h = elim (in_push log e (Child u o g p) h) [
+    | inl old ↦ (let c = s.children u o g p old in let grow = opened_grow o.0 log e in
+        (given_stays o.0 log e c.0, (let lt = c.1 in omega (arith, lt, grow)), next_child u o g p old))
+    | inr q ↦ (let c = m.child u o g p q in let grow = opened_grow o.0 log e in (
+      given_stays o.0 log e c.0,
+      (let lt = c.1 in omega (arith, lt, grow)),
+      λ closed. elim (closed_cases o.0 g log e closed) [
+        | inl was ↦ not_both (is_closed o.0 g log) was c.2
+        | inr now ↦ not_both (closes o.0 g e) now (ap (closes o.0 g) q)
+      ],
+    ))
+  ]
+
+  next_closed : (t : ℕ) → N t → HasEnded t (log ++ e ∷ []) → (g : ℕ) → g < opened_by t (log ++ e ∷ []) → is_closed t g (log ++ e ∷ []) ≡ true
+  next_closed t n h g lt = elim (ended_came t log e h) [
+    | inl old ↦ elim (cases_of (opens t e)) [
+      | inl so ↦ absurd ((m.opens_one t so).1 old)
+      | inr not_so ↦ closed_stays t g log e (s.closed t n old g (let same = opened_by-push_no t log e not_so in omega (arith, same, lt)))
+    ]
+    | inr new ↦ (let may = m.ends new.1 in
+        let less : g < opened_by t log = (let same = opened_by-push_no t log e (may.unopened t) in omega (arith, same, lt)) in
+        closed_stays t g log e (subst (λ (k : ℕ). N k → g < opened_by k log → is_closed k g log ≡ true) new.0 (λ k l. may.closed k g l) n less))
+  ]
+
+  pub sound_push : Sound roots N (log ++ e ∷ [])
+  sound_push = record { born = next_born; low = next_low; staged = next_staged; opened = next_opened; rests = next_rests; waits = next_waits; children = next_children; closed = next_closed }
+
+-- events that may stand after a log, one after the other
+abbrev pub AllMay : ℕ → (ℕ → Type 0) → List Event → List Event → Type 0
+AllMay roots N log [] = Unit {0}
+AllMay roots N log (e ∷ es) = May roots N log e × AllMay roots N (log ++ e ∷ []) es
+
+pub sound_all : (roots : ℕ) (N : ℕ → Type 0) (log es : List Event) → Sound roots N log → AllMay roots N log es → Sound roots N (log ++ es)
+sound_all roots N log [] s all = subst (Sound roots N) (sym (append-nil log)) s
+sound_all roots N log (e ∷ es) s all = subst (Sound roots N) (append_assoc log (e ∷ []) es) (sound_all roots N (log ++ e ∷ []) es (sound_push roots N log e s all.0) all.1)
+
+all_append : (roots : ℕ) (N : ℕ → Type 0) (log es fs : List Event) → AllMay roots N log es → AllMay roots N (log ++ es) fs → AllMay roots N log (es ++ fs)
+all_append roots N log [] fs a b = subst (λ (l : List Event). AllMay roots N l fs) (append-nil log) b
+all_append roots N log (e ∷ es) fs a b = (a.0, all_append roots N (log ++ e ∷ []) es fs a.1 (subst (λ (l : List Event). AllMay roots N l fs) (sym (append_assoc log (e ∷ []) es)) b))
+
+all_front : (roots : ℕ) (N : ℕ → Type 0) (log es fs : List Event) → AllMay roots N log (es ++ fs) → AllMay roots N log es
+all_front roots N log [] fs all = tt
+all_front roots N log (e ∷ es) fs all = (all.0, all_front roots N (log ++ e ∷ []) es fs all.1)
+
+-- the empty log
+
+known_none : (t : ℕ) {X : Type 0} (f : Life → Bool) → f unborn ≡ false → f (life_of t []) ≡ true → X
+known_none t f none some = not_both (f (life_of t [])) some (ap f (unborn_without t [] refl) ∙ none)
+
+sound_nil : (roots : ℕ) (N : ℕ → Type 0) → Sound roots N []
+sound_nil roots N = record {
+  born = λ t h. known_none t (λ (l : Life). is_some l.given) refl h;
+  low = λ t h. known_none t (λ (l : Life). is_some l.origin) refl h;
+  staged = λ t h. known_none t (λ (l : Life). is_some l.stage) refl h;
+  opened = λ t h. absurd (omega (arith, h));
+  rests = λ t h. known_none t (λ (l : Life). is_some l.ending) refl h;
+  waits = λ t u h. absurd h;
+  children = λ u o g p h. absurd h;
+  closed = λ t n h. known_none t (λ (l : Life). is_some l.ending) refl h;
+}
+
+-- one log leads to another by events each of which may stand where it stands
+abbrev pub Leads : ℕ → (ℕ → Type 0) → List Event → List Event → Type 0
+Leads roots N log log' = (es : List Event) × (log' ≡ log ++ es) × AllMay roots N log es
+
+pub stays : (roots : ℕ) (N : ℕ → Type 0) (log : List Event) → Leads roots N log log
+stays roots N log = ([], sym (append-nil log), tt)
+
+pub leads_by : (roots : ℕ) (N : ℕ → Type 0) (log : List Event) (e : Event) → May roots N log e → Leads roots N log (log ++ e ∷ [])
+leads_by roots N log e m = (e ∷ [], refl, (m, tt))
+
+pub leads_on : (roots : ℕ) (N : ℕ → Type 0) (a b c : List Event) → Leads roots N a b → Leads roots N b c → Leads roots N a c
+leads_on roots N a b c p q =
+    (p.0 ++ q.0, q.1 ∙ ap (λ (l : List Event). l ++ q.0) p.1 ∙ append_assoc a p.0 q.0, all_append roots N a p.0 q.0 p.2 (subst (λ (l : List Event). AllMay roots N l q.0) p.1 q.2))
+
+pub sound_leads : (roots : ℕ) (N : ℕ → Type 0) (a b : List Event) → Sound roots N a → Leads roots N a b → Sound roots N b
+sound_leads roots N a b s p = subst (Sound roots N) (sym p.1) (sound_all roots N a p.0 s p.2)
+
+pub sound_from : (roots : ℕ) (N : ℕ → Type 0) (log : List Event) → Leads roots N [] log → Sound roots N log
+sound_from roots N log p = sound_leads roots N [] log (sound_nil roots N) p
+
+-- each front of such a log is sound
+pub sound_front : (roots : ℕ) (N : ℕ → Type 0) (log front back : List Event) → Leads roots N [] log → log ≡ front ++ back → Sound roots N front
+sound_front roots N log front back p is =
+    let whole : AllMay roots N [] (front ++ back) = subst (AllMay roots N []) (sym p.1 ∙ is) p.2 in
+    sound_all roots N [] front (sound_nil roots N) (all_front roots N [] front back whole)
+
+-- the stages in which a task is held by a wait, or by a group that it closes
+abbrev pub holds_at : Option Stage → Bool
+holds_at (Some (stage.Waits awaited)) = true
+holds_at (Some (stage.Closes g)) = true
+holds_at _ = false
+
+-- in any other stage it is free
+pub free_at : (roots : ℕ) (N : ℕ → Type 0) (t : ℕ) (log : List Event) → Sound roots N log → holds_at (stage_at t log) ≡ false → IsFree t log
+free_at roots N t log s loose = record {
+  waits = λ w u of h. elim (s.waits w u h).1 [
+    | inl ended ↦ ended
+    | inr at ↦ not_both (holds_at (stage_at w.0 log)) (ap holds_at at) (ap (λ (k : ℕ). holds_at (stage_at k log)) of ∙ loose)
+  ];
+  children = λ u o g p of h closed. elim ((s.children u o g p h).2 closed) [
+    | inl ended ↦ ended
+    | inr at ↦ not_both (holds_at (stage_at o.0 log)) (ap holds_at at) (ap (λ (k : ℕ). holds_at (stage_at k log)) of ∙ loose)
+  ];
+}
+
+-- a task that has ended is free
+pub free_ended : (roots : ℕ) (N : ℕ → Type 0) (t : ℕ) (log : List Event) → Sound roots N log → HasEnded t log → IsFree t log
+free_ended roots N t log s ended = free_at roots N t log s (ap holds_at (s.rests t ended).1)
+
+-- and where no turn of it was folded, each child of its groups has ended
+pub children_ended : (roots : ℕ) (N : ℕ → Type 0) (log : List Event) (u o : TaskId) (g : ℕ) (p : Priority) → Sound roots N log → N o.0 → HasEnded o.0 log → In log (Child u o g p) → HasEnded u.0 log
+children_ended roots N log u o g p s n ended h =
+    (free_ended roots N o.0 log s ended).children u o g p refl h (s.closed o.0 n ended g (s.children u o g p h).1)

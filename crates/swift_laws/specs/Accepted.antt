@@ -1,0 +1,40 @@
+-- What holds of each accepted script.
+use Rattle.std.specs.Prelude.{◌≡◌, ℕ, ◌<◌, zero, suc, length}
+use Rattle.script_code.specs.Tree.{Deed, return, open_group, close_group, Code, end, act, choice, loop}
+use Rattle.swift_script.specs.Scripts.{ScriptView, method_code, root_count}
+use Rattle.swift_script.specs.Accepted.{WasAccepted}
+use Rattle.swift_history.specs.Histories.{IsLegal, ReportView}
+use Rattle.swift_laws.specs.Laws.{TurnPlace, HasTurn, turns_of, ActorsHaveExecutors}
+
+-- What a statement asks for, with so many groups open: a `return` stands where none is, and the end of a group's block where one
+-- is. `rest` says what is asked of what follows, by how many are open there.
+abbrev pub after_deed : Deed → (ℕ → Type 0) → ℕ → Type 0
+after_deed (return t) rest n = n ≡ 0
+after_deed (open_group h) rest n = rest (suc n)
+after_deed close_group rest zero = ⊥
+after_deed close_group rest (suc n) = rest n
+after_deed d rest n = rest n
+
+-- Statements lead from so many open groups to so many, whichever way they are gone through.
+abbrev pub LeadsTo : Code → ℕ → ℕ → Type 0
+LeadsTo end n m = n ≡ m
+LeadsTo (act d rest) n m = after_deed d (λ k. LeadsTo rest k m) n
+LeadsTo (choice t a b rest) n m = LeadsTo a n n × LeadsTo b n n × LeadsTo rest n m
+LeadsTo (loop t a rest) n m = LeadsTo a n n × LeadsTo rest n m
+
+-- Each method closes each group that it opens, and returns in none.
+abbrev pub ClosesGroups : ScriptView → Type 0
+ClosesGroups script = (m : ℕ) → LeadsTo (method_code script m) 0 0
+
+-- An accepted script is such.
+abbrev pub AcceptedCloseGroups : Type 0
+AcceptedCloseGroups = (script : ScriptView) → WasAccepted script → ClosesGroups script
+
+-- Where there is a root, each actor of an accepted script runs on an executor of the script.
+abbrev pub AcceptedHaveExecutors : Type 0
+AcceptedHaveExecutors = (script : ScriptView) → WasAccepted script → 0 < root_count script → ActorsHaveExecutors script
+
+-- So each turn that the log of its legal report applies stands in the report.
+abbrev pub AcceptedTurnsStand : Type 0
+AcceptedTurnsStand = (script : ScriptView) (report : ReportView) (t n : ℕ) → WasAccepted script → IsLegal script report
+    → n < length (turns_of t report.log) → (p : TurnPlace) × HasTurn report p t n

@@ -1,0 +1,35 @@
+//! Structured concurrency (SE-0304): an ended task leaves no task behind. A call costs nothing; its contract is the law.
+
+ghost use Rattle.swift_laws.specs.Ended.{WaitersGoOnAfter, OwnersGoOnAfter, EndedWaitForNone, EndedLeaveNoneClosed, EndedLeaveNoChildren, EndedReachEnded};
+
+/// In a legal report a task that waits for another goes on only when that has ended (SE-0304).
+pub fn waiting_tasks_go_on_after_the_awaited()
+    ensures { WaitersGoOnAfter }
+{}
+
+/// In a legal report a task that closes a group goes on only when each child of it has ended (SE-0304).
+pub fn owners_go_on_after_their_children()
+    ensures { OwnersGoOnAfter }
+{}
+
+/// In a legal report, at each point of the log, each task that an ended task has waited for has ended (SE-0304).
+pub fn ended_tasks_wait_for_none()
+    ensures { EndedWaitForNone }
+{}
+
+/// In a legal report, at each point of the log, each child of a group that an ended task has closed has ended (SE-0304).
+pub fn ended_tasks_leave_no_children_of_closed_groups()
+    ensures { EndedLeaveNoneClosed }
+{}
+
+/// In a legal report, at each point of the log, each child that was added to a group of an ended task has ended, where no
+/// turn of that task was folded (SE-0304).
+pub fn ended_tasks_leave_no_children()
+    ensures { EndedLeaveNoChildren }
+{}
+
+/// In a legal report of which no turn was folded, at each point of the log, each task that is reached from an ended task
+/// along children and waits has ended (SE-0304).
+pub fn ended_tasks_reach_only_ended_ones()
+    ensures { EndedReachEnded }
+{}
