@@ -2,10 +2,11 @@ SCRIPT = examples/account.actors
 PROGRAM = crates/swiftrun/out/swiftrun
 SOURCES = $(shell find crates -name out -prune -o \( -name '*.rt' -o -name '*.antt' \) -print)
 
-# Runs a script without a proof: make try SCRIPT=examples/account.actors. Status 0 also where a task ended with a fault.
+# Runs a script without a proof: make try SCRIPT=examples/account.actors ARGS="--workers 4". Status 0 also where a task ended with a
+# fault.
 try:
 	@echo 'make try: nothing is proved by this; make run proves first' >&2
-	@said=$$(mktemp); (cd crates/swiftrun && rt try --steps 1) < $(SCRIPT) 2> $$said; status=$$?; \
+	@said=$$(mktemp); (cd crates/swiftrun && rt try --steps 1 -- $(ARGS)) < $(SCRIPT) 2> $$said; status=$$?; \
 	if [ $$status -gt 1 ]; then cat $$said >&2; fi; rm $$said; [ $$status -le 1 ]
 
 # Proves the program, and what it stands on where that has changed, and builds it.

@@ -128,6 +128,31 @@ def whole_runs(times):
         print("No Erlang on this machine: no ratios.\n")
 
 
+def crews(times):
+    """Each case on one, two, four and eight workers."""
+    rows = []
+    for case in scripts.CREWS:
+        script = scripts.path(case)
+        outcomes = {workers: [] for workers in (1, 2, 4, 8)}
+        for _ in range(times):
+            for workers, found in outcomes.items():
+                found.append(Outcome([MEASURE, "run", str(workers)], script))
+        seconds = {workers: least(found, "run") for workers, found in outcomes.items()}
+        rows.append([case, *(f"{seconds[w]:.4f}" for w in seconds), *(f"{seconds[1] / seconds[w]:.2f}" for w in (2, 4, 8))])
+    table(["case", "1 worker s", "2", "4", "8", "times as fast with 2", "with 4", "with 8"], rows)
+
+
+def growth(times):
+    """A run, and its certificate by itself, with ten times the turns."""
+    rows = []
+    for case in scripts.GROWTH:
+        outcomes = best(times, [MEASURE, "run"], scripts.path(case))
+        run, certificate = least(outcomes, "run"), least(outcomes, "certificate")
+        turns = outcomes[0].told[("run", "turns")]
+        rows.append([case, f"{turns:,}", f"{run:.4f}", f"{run / turns * 1e6:.2f}", f"{certificate:.4f}", f"{certificate / run:.2f}"])
+    table(["case", "turns", "run s", "us/turn", "certificate s", "of the run"], rows)
+
+
 def reading(times):
     rows = []
     # Status 1 stands for a script that is refused.
@@ -166,8 +191,11 @@ def main():
     scripts.write()
     print(f"Best of {times}, of reading the best of {2 * times + 1}. `run s` and `text s` are those stages alone, `swiftrun s` is")
     print("the whole process with its text to /dev/null. `B/turn` is the peak of reading and running, above that of reading alone. `Erlang s` is one scheduler,")
-    print("which keeps no journal and undoes nothing.\n")
+    print("which keeps no journal and undoes nothing. A run is certified before it ends; `certificate s` is the certificate alone, with each")
+    print("turn played again.\n")
     whole_runs(times)
+    growth(times)
+    crews(times)
     reading(times)
     parts(times)
 

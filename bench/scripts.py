@@ -53,6 +53,24 @@ actor Worker {
 }
 """
 
+# What eight actors do, each on an executor of its own: turns of some 900 steps.
+HEAVY = """\
+actor Heavy {
+    var sum = 0;
+    invariant sum >= 0;
+    func work(left) {
+        let i = 0;
+        while left > 0 {
+            left = left - 1;
+            i = 0;
+            while i < 300 { i = i + 1; sum = (sum + i * 7) - (i * 7 - 1); }
+            yield;
+        }
+        return sum;
+    }
+}
+"""
+
 LOOPER = """\
 actor Looper {
     var sum = 0;
@@ -116,6 +134,12 @@ def sixteen():
     """64 executors with 16 jobs each."""
     actors = "".join(COUNTER.replace("Counter", f"Counter{k}") for k in range(64))
     return actors + "".join(f"root task{k} = Counter{k % 64}.spin(990);\n" for k in range(1024))
+
+
+def eight(text, call):
+    """The same on eight executors."""
+    actors = "".join(text.replace("Heavy", f"Heavy{k}").replace("Counter", f"Counter{k}") for k in range(8))
+    return actors + "".join(f"root task{k} = {call.format(k)};\n" for k in range(8))
 
 
 def executors():
@@ -186,6 +210,18 @@ SCRIPTS = {
     # statements, a test and two statements.
     "loop": (LOOPER + roots(1, "Looper.loop(250000)"), 250_000 * 4 + (250_000 // 2400) * 2 + 5),
     "roots": (COUNTER + roots(1024, "Counter.once(7)"), None),
+}
+
+# What is run on some workers: eight executors with turns of some 900 steps, and of 4.
+CREWS = {
+    "heavy": eight(HEAVY, "Heavy{}.work(990)"),
+    "light": eight(COUNTER, "Counter{}.spin(990)"),
+}
+
+# The same script with ten times the turns.
+GROWTH = {
+    "spin 99": COUNTER + roots(1000, "Counter.spin(99)"),
+    "spin 990": COUNTER + roots(1000, "Counter.spin(990)"),
 }
 
 FIRST = "abcdefghijklmnopqrstuvwxyzABCDEFGHIJKLMNOPQRSTUVWXYZ"
@@ -327,6 +363,7 @@ def write():
     texts = {name: text for name, (text, _) in SCRIPTS.items()}
     texts |= {"read " + name: text for name, text in READ.items()}
     texts |= {"refuse " + name: text for name, text in REFUSED.items()}
+    texts |= CREWS | GROWTH
     for name, text in texts.items():
         with open(path(name), "w", encoding="ascii", newline="\n") as file:
             file.write(text)

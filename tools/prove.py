@@ -41,13 +41,13 @@ def needed(stands_on, wanted):
     return found
 
 
-def prove(name, logs):
-    """Proves one crate. Its status, and the seconds that it took."""
+def prove(name, logs, share):
+    """Proves one crate on so many cores. Its status, and the seconds that it took."""
     folder = os.path.join(TOP, "crates", name)
     library = os.path.exists(os.path.join(folder, "src", "lib.rt"))
     began = time.monotonic()
     with open(os.path.join(logs, name + ".log"), "wb") as log:
-        done = subprocess.run(["rt", "lib" if library else "check"], cwd=folder, stdout=log, stderr=log, check=False)
+        done = subprocess.run(["rt", "lib" if library else "check", "--jobs", str(share)], cwd=folder, stdout=log, stderr=log, check=False)
     return done.returncode, time.monotonic() - began
 
 
@@ -66,10 +66,12 @@ def main():
     left, proved, failed, running = set(names), set(), set(), {}
     with ThreadPoolExecutor(words.jobs) as pool:
         while True:
-            for name in sorted(left):
-                if len(running) < words.jobs and all(b in proved for b in stands_on[name]):
-                    running[pool.submit(prove, name, logs)] = name
-                    left.discard(name)
+            ready = [name for name in sorted(left) if all(b in proved for b in stands_on[name])][: words.jobs - len(running)]
+            # A crate that runs alone gets all cores.
+            share = max(1, words.jobs // max(1, len(running) + len(ready)))
+            for name in ready:
+                running[pool.submit(prove, name, logs, share)] = name
+                left.discard(name)
             if not running:
                 break
             for done in wait(running, return_when=FIRST_COMPLETED).done:

@@ -1,8 +1,8 @@
 //! Makes a million operations on one value of a part of the runtime, and says how long they took; or takes a script
 //! from standard input as far as a stage of a run. It measures, and asserts nothing about time.
 //!
-//! Two words name a part and how many entries are inside, as `queue 1024`; one word names a stage, as `run`. What was
-//! done goes to standard output, and the microseconds that it took to standard error, so that the output is always the
+//! Two words name a part and how many entries are inside, as `queue 1024`; one word names a stage, as `run`, and `run 4` is
+//! a run on four workers. What was done goes to standard output, and the microseconds that it took to standard error, so that the output is always the
 //! same. Status 2 stands for words that were refused, 1 for a measure that was given up.
 #![tactic(auto)]
 
@@ -33,6 +33,7 @@ use std::env;
 use std::process::ExitCode;
 use std::random::RandomSource;
 use std::sync::Wait;
+use std::thread::Threads;
 use std::time::Duration;
 
 fn main(rt: HostRuntime) -> ExitCode {
@@ -48,7 +49,7 @@ fn main(rt: HostRuntime) -> ExitCode {
 // What the words ask for. The runtime comes twice, since it waits in `main` alone.
 fn whole<W>(rt: &HostRuntime, wait: &W) -> Result<(), BenchFault>
 where
-    W: RandomSource + AllocGlobal + Wait,
+    W: RandomSource + AllocGlobal + Threads + Wait + Sync,
 {
     let mut words = env::args(rt)?;
     let _program = words.next();
@@ -61,6 +62,7 @@ where
     match count {
         None => stage(rt, wait, name.as_str()),
         Some(word) => match word.parse::<u32>() {
+            Ok(workers) if name == "run" => script::measure(rt, wait, Stage::Run, workers),
             Ok(entries) => measure_part(rt, name.as_str(), entries),
             Err(_) => Err(BenchFault::Words),
         },
@@ -70,12 +72,12 @@ where
 // Takes the script as far as the stage of this name.
 fn stage<W>(rt: &HostRuntime, wait: &W, name: &str) -> Result<(), BenchFault>
 where
-    W: RandomSource + AllocGlobal + Wait,
+    W: RandomSource + AllocGlobal + Threads + Wait + Sync,
 {
     match name {
-        "read" => script::measure(rt, wait, Stage::Read),
-        "run" => script::measure(rt, wait, Stage::Run),
-        "text" => script::measure(rt, wait, Stage::Text),
+        "read" => script::measure(rt, wait, Stage::Read, 1),
+        "run" => script::measure(rt, wait, Stage::Run, 1),
+        "text" => script::measure(rt, wait, Stage::Text, 1),
         _ => Err(BenchFault::Words),
     }
 }

@@ -10,6 +10,7 @@ use std::random::RandomSource;
 use std::sync::{Arc, Wait};
 use std::thread::Threads;
 use std::time::Instant;
+use swift_certificate::legal;
 use swift_journal::{Checkpoint, Journal};
 use swift_report::{Report, report_text};
 use swift_script::read;
@@ -20,14 +21,19 @@ use swift_workers::{Open, run};
 pub enum Stage {
     /// It is read.
     Read,
-    /// It is run too, by one worker.
+    /// It is run too, and its report is certified once more.
     Run,
     /// The text of its report is made too.
     Text,
 }
 
 // Takes the script on standard input as far as a stage, and says how long each one took.
-pub fn measure<W>(rt: &HostRuntime, wait: &W, stage: Stage) -> Result<(), BenchFault>
+pub fn measure<W>(
+    rt: &HostRuntime,
+    wait: &W,
+    stage: Stage,
+    workers: u32,
+) -> Result<(), BenchFault>
 where
     W: RandomSource + AllocGlobal + Threads + Wait + Sync,
 {
@@ -43,11 +49,15 @@ where
         return Ok(());
     }
     let start = Instant::now(rt)?;
-    let report = run(wait, Arc::clone(&script)?, 1, &Open)?;
+    let report = run(wait, Arc::clone(&script)?, workers, &Open)?;
     told(rt, "run", start.elapsed(rt)?)?;
     let turns = turns_of(&report)?;
     println!(rt; "run {turns} turns")?;
     if stage == Stage::Run {
+        let start = Instant::now(rt)?;
+        let is_legal = legal(alloc, &script, &report)?;
+        told(rt, "certificate", start.elapsed(rt)?)?;
+        println!(rt; "legal {is_legal}")?;
         return Ok(());
     }
     let start = Instant::now(rt)?;

@@ -10,6 +10,7 @@ use std::alloc::AllocGlobal;
 use std::random::RandomSource;
 use std::sync::{Arc, Wait};
 use std::thread::Threads;
+use swift_certificate::legal;
 use swift_output::write_all;
 use swift_report::{Report, report_text};
 use swift_script::Script;
@@ -36,23 +37,28 @@ impl Refusal for ToolFault {
     }
 }
 
-fn run_shared<W>(wait: &W, script: &Arc<Script>) -> Result<Report, RunFault>
+fn run_shared<W>(wait: &W, script: &Arc<Script>, workers: u32) -> Result<Report, RunFault>
 where
     W: RandomSource + AllocGlobal + Threads + Wait + Sync,
 {
     let Ok(shared) = Arc::clone(script) else {
         return Err(RunFault::Memory);
     };
-    run(wait, shared, 1, &Open)
+    run(wait, shared, workers, &Open)
 }
 
 // A run, made again where it is refused.
-fn report_again<W>(rt: &HostRuntime, wait: &W, script: &Arc<Script>) -> Option<Report>
+fn report_again<W>(
+    rt: &HostRuntime,
+    wait: &W,
+    script: &Arc<Script>,
+    workers: u32,
+) -> Option<Report>
 where
     W: RandomSource + AllocGlobal + Threads + Wait + Sync,
 {
     for _ in 0..TRIES {
-        match run_shared(wait, script) {
+        match run_shared(wait, script, workers) {
             Ok(report) => return Some(report),
             Err(fault) => refused(rt, "run", fault.is_want_of_memory()),
         }
@@ -61,12 +67,23 @@ where
     None
 }
 
-/// Runs a script, makes the text of its report in two ways, and writes it.
+// Asks whether a report is legal, as it has to be.
+fn legal_again(rt: &HostRuntime, script: &Arc<Script>, report: &Report) -> Option<()> {
+    let is_legal = again(rt, "legal", || legal(rt.alloc(), script, report))?;
+    if !is_legal {
+        wrong(rt, "legal");
+    }
+    Some(())
+}
+
+/// Runs a script on one worker and on two, makes the text of the first report in two ways, and writes it.
 pub fn run_again<W>(rt: &HostRuntime, wait: &W, script: &Arc<Script>) -> Option<()>
 where
     W: RandomSource + AllocGlobal + Threads + Wait + Sync,
 {
-    let report = report_again(rt, wait, script)?;
+    let crew = report_again(rt, wait, script, 2)?;
+    legal_again(rt, script, &crew)?;
+    let report = report_again(rt, wait, script, 1)?;
     let text = again(rt, "report_text", || {
         report_text(rt.alloc(), script, &report, false)
     })?;

@@ -1,0 +1,262 @@
+-- The bindings in the effects of a turn.
+use Rattle.std.proofs.Common.{◌≡◌, ℕ, zero, suc, ℤ, Bool, true, false, if◌then◌else◌, Option, Some, None, List, [], ◌∷◌, ◌++◌, length, inl, inr, refl, sym, subst, ap, arith, ◌∙◌}
+use Rattle.std.specs.Prelude.{◌⊎◌, nat_lt, ◌^◌}
+use Rattle.std.proofs.lemmas.List.{length-append}
+use Rattle.swift_types.specs.declared.limits.TheConstants.{STEPS}
+use Rattle.swift_types.specs.declared.outcome.Fault.{Fault}
+use Rattle.swift_types.specs.declared.outcome.Fault.TheVariants.{Invariant, Turns}
+use Rattle.swift_types.specs.declared.outcome.Resume.{Resume}
+use Rattle.swift_types.specs.declared.outcome.Resume.TheVariants.{Start, Go, Value, Fault as Raise}
+use Rattle.script_code.specs.Tree.{Term, Deed, Wanted, Code}
+use Rattle.script_code.specs.Tree as code
+use Rattle.script_code.specs.Value.{ev, evs}
+use Rattle.script_code.specs.Instructions.{NextAction, first, ends, does, tests}
+use Rattle.script_code.specs.declared.instruction.Place.{Place}
+use Rattle.script_code.specs.declared.instruction.Place.TheVariants.{Variable, Field}
+use Rattle.script_code.specs.declared.instruction.Cancelled.{Cancelled as Subject}
+use Rattle.script_code.specs.declared.instruction.Cancelled.TheVariants as subject
+use Rattle.swift_script.specs.Scripts.{ScriptView, executor_invariants, actor_executor, method_actor}
+use Rattle.swift_interpreter.specs.Turn
+use Rattle.swift_interpreter.specs.Turn.{State, Given, InvocationView, EffectView, ExitView, failing, Next, goes, leaves, Played, scene, standing, with_value, with_invocation, given, perform, act, settled, at_limit, on, end_of, turn, caught, received, raised_by, taken_by, taken, whole_turn, left_by, exits, undoes, all_hold, kept_of, kept}
+use Rattle.swift_journal.specs.Records.{RecordView}
+use Rattle.swift_turn.specs.Body.{state_at}
+use Rattle.swift_history.specs.Histories.{IsLegal, ReportView, fields_of}
+use Rattle.swift_laws.specs.Laws.{IsRecord}
+use Rattle.swift_laws.specs.Inherited.{GoesOn, Passes, HandsOn, IsHandedOn}
+use Rattle.swift_laws.proofs.HistoriesMade.{in_order}
+use Rattle.swift_laws.proofs.HistoriesSplit.{at_record}
+
+-- a statement leaves the effects, or has one of its own, which hands on what stands there
+record Adds (standing : List (ℕ × ℤ)) (before after : List EffectView) : Type 0 where
+  effect : EffectView
+  more : after ≡ before ++ effect ∷ []
+  hands_on : HandsOn standing effect
+
+abbrev Step : List (ℕ × ℤ) → List EffectView → Next → Type 0
+Step standing before (goes s) = (s.effects ≡ before) ⊎ Adds standing before s.effects
+Step standing before (leaves s e) = s.effects ≡ before
+
+value_steps : (x : List (ℕ × ℤ)) (v : Option ℤ) (s : State) (go : ℤ → Next) → ((y : ℤ) → Step x s.effects (go y)) → Step x s.effects (with_value v s go)
+value_steps x None s go k = refl
+value_steps x (Some y) s go k = k y
+
+invocation_steps : (x : List (ℕ × ℤ)) (i : Option InvocationView) (s : State) (go : InvocationView → Next) → ((y : InvocationView) → Step x s.effects (go y)) → Step x s.effects (with_invocation i s go)
+invocation_steps x None s go k = refl
+invocation_steps x (Some y) s go k = k y
+
+if_steps : (x : List (ℕ × ℤ)) (before : List EffectView) (b : Bool) (n m : Next) → Step x before n → Step x before m → Step x before (if b then n else m)
+if_steps x before true n m p q = p
+if_steps x before false n m p q = q
+
+given_steps : (x : List (ℕ × ℤ)) (place : Option Place) (rest : Code) (s : State) (v : ℤ) → Step x s.effects (given place rest s v)
+given_steps x None rest s v = inl refl
+given_steps x (Some (Variable y)) rest s v = inl refl
+given_steps x (Some (Field p)) rest s v = inl refl
+
+make_steps : (x : List (ℕ × ℤ)) (e : EffectView) (handle : Option ℕ) (rest : Code) (s : State) → HandsOn x e → Step x s.effects (Turn.make e handle rest s)
+make_steps x e handle rest s on = if_steps x s.effects (nat_lt 0 s.room) _ _ (if_steps x s.effects (nat_lt s.made (2 ^ 32)) _ _ (inr (record { effect = e; more = refl; hands_on = on })) refl) refl
+
+add_steps : (x : List (ℕ × ℤ)) (e : EffectView) (rest : Code) (s : State) → HandsOn x e → Step x s.effects (Turn.add_child e rest s)
+add_steps x e rest s on = if_steps x s.effects (nat_lt 0 s.room) _ _ (inr (record { effect = e; more = refl; hands_on = on })) refl
+
+close_steps : (x : List (ℕ × ℤ)) (gs : List ℕ) (rest : Code) (s : State) → Step x s.effects (Turn.close_group gs rest s)
+close_steps x [] rest s = inl refl
+close_steps x (g ∷ gs) rest s = refl
+
+wait_steps : (g : Given) (w : Wanted) (rest : Code) (s : State) → Step (standing g s) s.effects (Turn.wait_for g w rest s)
+wait_steps g (code.call c) rest s = invocation_steps (standing g s) (Turn.invoked c (evs c.args (scene g s))) s _ (λ i. refl)
+wait_steps g (code.root r) rest s = refl
+wait_steps g (code.task x) rest s = refl
+wait_steps g (code.next x) rest s = refl
+
+cancel_on : (x : List (ℕ × ℤ)) (handles : List ℕ) (c : Subject) → HandsOn x (Turn.cancel_of handles c)
+cancel_on x handles (subject.Root r) = tt
+cancel_on x handles (subject.Task y) = tt
+cancel_on x handles (subject.Group y) = tt
+
+perform_steps : (g : Given) (d : Deed) (rest : Code) (s : State) → Step (standing g s) s.effects (perform g d rest s)
+perform_steps g (code.set_variable x t) rest s = value_steps (standing g s) (ev t (scene g s)) s _ (λ v. inl refl)
+perform_steps g (code.set_field p t) rest s = value_steps (standing g s) (ev t (scene g s)) s _ (λ v. inl refl)
+perform_steps g (code.return t) rest s = value_steps (standing g s) (ev t (scene g s)) s _ (λ v. refl)
+perform_steps g (code.throw t) rest s = value_steps (standing g s) (ev t (scene g s)) s _ (λ v. refl)
+perform_steps g code.check rest s = if_steps (standing g s) s.effects g.env.cancelled _ _ refl (inl refl)
+perform_steps g code.yield rest s = refl
+perform_steps g (code.wait w) rest s = wait_steps g w rest s
+perform_steps g (code.receive place other) rest s = given_steps (standing g s) place rest s _
+perform_steps g (code.spawn c p handle) rest s = invocation_steps (standing g s) (Turn.invoked c (evs c.args (scene g s))) s _ (λ i. make_steps (standing g s) (Turn.spawning i p (standing g s)) handle rest s refl)
+perform_steps g (code.detach c p handle) rest s = invocation_steps (standing g s) (Turn.invoked c (evs c.args (scene g s))) s _ (λ i. make_steps (standing g s) (Turn.detaching i p) handle rest s tt)
+perform_steps g (code.add x unless c p) rest s =
+    invocation_steps (standing g s) (Turn.invoked c (evs c.args (scene g s))) s _ (λ i. add_steps (standing g s) (Turn.adding (Turn.handle_at s.handles x) unless i p (standing g s)) rest s refl)
+perform_steps g (code.cancel c) rest s = inr (record { effect = Turn.cancel_of s.handles c; more = refl; hands_on = cancel_on (standing g s) s.handles c })
+perform_steps g (code.open_group x) rest s = if_steps (standing g s) s.effects (nat_lt s.opened (2 ^ 32)) _ _ (inr (record { effect = Turn.opening; more = refl; hands_on = tt })) refl
+perform_steps g code.close_group rest s = close_steps (standing g s) s.groups rest s
+perform_steps g (code.bind l t) rest s = value_steps (standing g s) (ev t (scene g s)) s _ (λ v. inl refl)
+perform_steps g code.unbind rest s = inl refl
+perform_steps g code.assume rest s = inl refl
+perform_steps g code.isolated rest s = refl
+
+act_steps : (g : Given) (here : NextAction) (s : State) → Step (standing g s) s.effects (act g here s)
+act_steps g ends s = refl
+act_steps g (does d rest) s = perform_steps g d rest s
+act_steps g (tests t held failed) s = value_steps (standing g s) (ev t (scene g s)) s _ (λ v. inl refl)
+
+settled_effects : (c : Code) (s : State) → (settled c s).effects ≡ s.effects
+settled_effects (code.act code.unbind rest) s = settled_effects rest _
+settled_effects c s = refl
+
+-- the end of the steps adds none
+
+close_limit : (gs : List ℕ) (rest : Code) (s : State) → (end_of (Turn.close_group gs rest s)).state.effects ≡ s.effects
+close_limit [] rest s = refl
+close_limit (g ∷ gs) rest s = refl
+
+limit_effects : (here : NextAction) (s : State) → (end_of (at_limit here s)).state.effects ≡ s.effects
+limit_effects ends s = refl
+limit_effects (does code.close_group rest) s = close_limit s.groups rest s
+limit_effects here s = refl
+
+-- an effect of a turn is that of a statement at which the turn has the effects before it
+
+record DoneAt (g : Given) (P : State → Type 0) (before : List EffectView) (x : EffectView) : Type 0 where
+  at : State
+  passes : P at
+  has : at.effects ≡ before
+  adds : GoesOn (act g (first at.todo) at) (λ s. s.effects ≡ before ++ x ∷ [])
+  hands_on : HandsOn (at.own ++ g.outer) x
+
+-- an effect of a longer list is one of the first part, or the last one
+last_or_before : (before : List EffectView) (x : EffectView) (after : List EffectView) (xs : List EffectView) (y : EffectView) → xs ++ y ∷ [] ≡ before ++ x ∷ after
+    → ((before ≡ xs) × (x ≡ y)) ⊎ ((rest : List EffectView) × (xs ≡ before ++ x ∷ rest))
+last_or_before before x after xs y is = elim (in_order before x after xs y [] (sym is)) [
+  | inl same ↦ inl same
+  | inr (inl more) ↦ inr more
+  | inr (inr less) ↦ absurd
+      (let long = ap length is in
+      let a = length-append xs (y ∷ []) in
+      let b = length-append before (x ∷ after) in
+      let c = ap length less.1 ∙ length-append xs (y ∷ less.0) in
+      omega (arith, long, a, b, c))
+]
+
+abbrev HasEffect : List EffectView → List EffectView → EffectView → Type 0
+HasEffect effects before x = (after : List EffectView) × (effects ≡ before ++ x ∷ after)
+
+abbrev Done : Given → (State → Type 0) → List EffectView → List EffectView → Type 0
+Done g P first_effects effects = (before : List EffectView) (x : EffectView) (after : List EffectView) → effects ≡ before ++ x ∷ after → HasEffect first_effects before x ⊎ DoneAt g P before x
+
+step_done : (g : Given) (n : ℕ) (at : State) (first_effects : List EffectView) (next : Next) (P : State → Type 0) → act g (first at.todo) at ≡ next → at.effects ≡ first_effects → P at → ((y : State) → GoesOn next (λ m. Passes g n m y) → P y)
+    → ((m : State) → Done g (Passes g n m) m.effects (turn g n m).state.effects) → Step (standing g at) at.effects next → Done g P first_effects (on next (turn g n)).state.effects
+step_done g n at es (leaves s e) P acts same here later rest steps before x after is = inl (after, sym same ∙ sym steps ∙ is)
+step_done g n at es (goes m) P acts same here later rest (inl none) before x after is = elim (rest m before x after is) [
+  | inl has ↦ inl (has.0, sym same ∙ sym none ∙ has.1)
+  | inr done ↦ inr (record { at = done.at; passes = later done.at done.passes; has = done.has; adds = done.adds; hands_on = done.hands_on })
+]
+step_done g n at es (goes m) P acts same here later rest (inr adds) before x after is = elim (rest m before x after is) [
+  | inl has ↦ (elim (last_or_before before x has.0 at.effects adds.effect (sym adds.more ∙ has.1)) [
+    | inl last ↦ inr (record {
+      at = at;
+      passes = here;
+      has = sym last.0;
+      adds = subst (λ next. GoesOn next (λ s. s.effects ≡ before ++ x ∷ [])) (sym acts)
+          (adds.more ∙ ap (λ es. es ++ adds.effect ∷ []) (sym last.0) ∙ ap (λ e. before ++ e ∷ []) (sym last.1));
+      hands_on = subst (HandsOn (standing g at)) (sym last.1) adds.hands_on;
+    })
+    | inr more ↦ inl (more.0, sym same ∙ more.1)
+  ])
+  | inr done ↦ inr (record { at = done.at; passes = later done.at done.passes; has = done.has; adds = done.adds; hands_on = done.hands_on })
+]
+
+turn_done : (g : Given) (n : ℕ) (s : State) → Done g (Passes g n s) s.effects (turn g n s).state.effects
+unfolding turn
+turn_done g zero s = λ before x after is. inl (after, sym (settled_effects s.todo s) ∙ sym (limit_effects (first (settled s.todo s).todo) (settled s.todo s)) ∙ is)
+turn_done g (suc n) s =
+    let at = settled s.todo s in
+    step_done g n at s.effects (act g (first at.todo) at) (Passes g (suc n) s) refl (settled_effects s.todo s) (inl refl) (λ y goes_on. inr goes_on) (turn_done g n) (act_steps g (first at.todo) at)
+
+-- the resume adds none
+
+abbrev SameEffects : List EffectView → Next → Type 0
+SameEffects es (goes s) = s.effects ≡ es
+SameEffects es (leaves s e) = s.effects ≡ es
+
+given_same : (place : Option Place) (rest : Code) (s : State) (v : ℤ) → SameEffects s.effects (given place rest s v)
+given_same None rest s v = refl
+given_same (Some (Variable y)) rest s v = refl
+given_same (Some (Field p)) rest s v = refl
+
+value_same : (v : Option ℤ) (s : State) (go : ℤ → Next) → ((y : ℤ) → SameEffects s.effects (go y)) → SameEffects s.effects (with_value v s go)
+value_same None s go k = refl
+value_same (Some y) s go k = k y
+
+caught_same : (g : Given) (f : Fault) (other : Option Term) (s : State) (go : ℤ → Next) → ((y : ℤ) → SameEffects s.effects (go y)) → SameEffects s.effects (caught g f other s go)
+caught_same g Turns other s go k = refl
+caught_same g f None s go k = refl
+caught_same g f (Some t) s go k = value_same (ev t (scene g s)) s go k
+
+raised_same : (resume : Resume) (s : State) → SameEffects s.effects (raised_by resume s)
+raised_same (Raise f) s = refl
+raised_same resume s = refl
+
+by_same : (g : Given) (here : NextAction) (resume : Resume) (s : State) → SameEffects s.effects (taken_by g here resume s)
+by_same g (does (code.receive place other) rest) Start s = given_same place rest s _
+by_same g (does (code.receive place other) rest) Go s = given_same place rest s _
+by_same g (does (code.receive place other) rest) (Value v) s = given_same place rest s v
+by_same g (does (code.receive place other) rest) (Raise f) s = caught_same g f other s (given place rest s) (λ y. given_same place rest s y)
+by_same g here resume s = raised_same resume s
+
+taken_same : (g : Given) (pending : Option Fault) (here : NextAction) (resume : Resume) (s : State) → SameEffects s.effects (taken g pending here resume s)
+taken_same g None here resume s = by_same g here resume s
+taken_same g (Some f) here resume s = refl
+
+on_done : (g : Given) (n : ℕ) (es : List EffectView) (next : Next) → SameEffects es next → Done g (λ at. GoesOn next (λ m. Passes g n m at)) es (on next (turn g n)).state.effects
+on_done g n es (leaves s e) same before x after is = inl (after, sym same ∙ is)
+on_done g n es (goes m) same before x after is = elim (turn_done g n m before x after is) [
+  | inl has ↦ inl (has.0, sym same ∙ has.1)
+  | inr done ↦ inr done
+]
+
+-- what is kept of a turn
+
+left_effects : (f : Fault) (gs : List ℕ) (s : State) → (left_by f gs s).state.effects ≡ s.effects
+left_effects f [] s = refl
+left_effects f (g ∷ gs) s = refl
+
+exits_effects : (s : State) (e : ExitView) → (exits s e).state.effects ≡ s.effects
+exits_effects s (failing f) = left_effects f s.groups s
+exits_effects s e = refl
+
+abbrev OneOf : List EffectView → List EffectView → List EffectView → Type 0
+OneOf xs ys zs = (zs ≡ xs) ⊎ (zs ≡ ys)
+
+if_one : (xs ys : List EffectView) (b : Bool) (p q : Played) → OneOf xs ys p.state.effects → OneOf xs ys q.state.effects → OneOf xs ys (if b then p else q).state.effects
+if_one xs ys true p q h k = h
+if_one xs ys false p q h k = k
+
+kept_one : (g : Given) (n : ℕ) (invariants : List Term) (s : State) (resume : Resume) → OneOf s.effects (whole_turn g n s resume).state.effects (kept g n invariants s resume).state.effects
+kept_one g n invariants s resume =
+    let p = whole_turn g n s resume in
+    if_one s.effects p.state.effects (undoes p.exit) _ _ (inl (exits_effects s p.exit))
+    (if_one s.effects p.state.effects (all_hold invariants p.state.fields) _ _ (inr (exits_effects p.state p.exit)) (inl (exits_effects s (failing Invariant))))
+
+no_effect : (before : List EffectView) (x : EffectView) (after : List EffectView) → ◌≡◌ {A = List EffectView} [] (before ++ x ∷ after) → ⊥
+no_effect before x after is = let a = ap length is in let b = length-append before (x ∷ after) in omega (arith, a, b)
+
+kept_done : (g : Given) (n : ℕ) (invariants : List Term) (s : State) (resume : Resume) (before : List EffectView) (x : EffectView) (after : List EffectView) → s.effects ≡ [] → (kept g n invariants s resume).state.effects ≡ before ++ x ∷ after
+    → DoneAt g (λ at. GoesOn (taken g s.pending (first s.todo) resume s) (λ m. Passes g n m at)) before x
+kept_done g n invariants s resume before x after none is = elim (kept_one g n invariants s resume) [
+  | inl undone ↦ absurd (no_effect before x after (sym none ∙ sym undone ∙ is))
+  | inr whole ↦ (elim (on_done g n s.effects (taken g s.pending (first s.todo) resume s) (taken_same g s.pending (first s.todo) resume s) before x after (sym whole ∙ is)) [
+    | inl has ↦ absurd (no_effect before x has.0 (sym none ∙ has.1))
+    | inr done ↦ done
+  ])
+]
+
+pub handed_on : (script : ScriptView) (report : ReportView) (e i : ℕ) (r : RecordView) (before : List EffectView) (x : EffectView) (after : List EffectView)
+    → IsLegal script report → IsRecord report e i r → r.effects ≡ before ++ x ∷ after → IsHandedOn script r before x
+handed_on script report e i r before x after legal is parts =
+    let s = at_record script report legal e i r is in
+    let fields = fields_of script report.checkpoints e s.front in
+    let lawful = s.stands.lawful in
+    let done = kept_done (record { outer = r.outer; env = r.env }) STEPS (executor_invariants script (actor_executor script (method_actor script r.frame.method))) (state_at script r.frame fields [] r.env.room) r.resume
+    before x after refl (sym lawful.effects ∙ parts) in
+    record { fields = fields; lawful = lawful; at = done.at; passes = done.passes; has = done.has; adds = done.adds; hands_on = done.hands_on }

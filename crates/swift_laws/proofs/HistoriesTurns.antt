@@ -1,0 +1,357 @@
+-- The end of a turn, and each block of a history, keeps the turns of each task counted.
+use Rattle.std.proofs.Common.{◌≡◌, ◌≢◌, ℕ, ◌+◌, ◌<◌, List, [], ◌∷◌, ◌++◌, length, zero, suc, refl, sym, ◌∙◌, ap, arith, Bool, true, false, inl, inr, subst, append_assoc, replicate, get_or-set_other}
+use Rattle.std.specs.Prelude.{◌⊎◌, ◌==◌, ◌&&◌, nat_lt, Option, Some, None, IfSome, if◌then◌else◌, slice_set, unwrap_or}
+use Rattle.std.specs.List.{AllByRecursion}
+use Rattle.std.proofs.lemmas.Bool.{cases_eq, false≢true, eqb-true, ltb-true}
+use Rattle.std.proofs.lemmas.List.{append-nil}
+use Rattle.swift_types.specs.declared.id.TaskId.{TaskId}
+use Rattle.swift_types.specs.declared.outcome.Ending.{Ending}
+use Rattle.swift_types.specs.declared.outcome.Resume.{Resume}
+use Rattle.swift_types.specs.declared.priority.Priority.{Priority}
+use Rattle.swift_types.specs.declared.priority.Priority.TheVariants.{Background}
+use Rattle.swift_groups.specs.declared.answer.Close.{Close as Closing}
+use Rattle.swift_groups.specs.declared.answer.Close.TheVariants as closing
+use Rattle.swift_groups.specs.Close.{close_of}
+use Rattle.script_code.specs.declared.env.Env.{Env}
+use Rattle.swift_script.specs.Scripts.{ScriptView, root_count, root_priority}
+use Rattle.swift_interpreter.specs.Frames.{FrameView}
+use Rattle.swift_interpreter.specs.Turn.{EffectView, spawning, detaching, opening, adding, cancelling_task, cancelling_group, ExitView}
+use Rattle.swift_turn.specs.declared.step.Step.{Step}
+use Rattle.swift_turn.specs.declared.step.Step.TheVariants.{Run, Ended, Await}
+use Rattle.swift_turn.specs.Body.{TaskView, Advanced, advanced}
+use Rattle.swift_journal.specs.Checkpoints.{CheckpointView}
+use Rattle.swift_events.specs.declared.event.Event.{Event}
+use Rattle.swift_events.specs.declared.event.Event.TheVariants.{Root, Apply, Child, Skip, Give}
+use Rattle.swift_events.specs.declared.life.Life.{Life}
+use Rattle.swift_events.specs.declared.life.Origin.{Origin}
+use Rattle.swift_events.specs.declared.life.Given.{Given}
+use Rattle.swift_events.specs.declared.life.Stage.{Stage}
+use Rattle.swift_events.specs.declared.life.Stage.TheVariants as stage
+use Rattle.swift_events.specs.Events.{task_of, tasks_of, later}
+use Rattle.swift_events.specs.Lives.{life_of, origin_in}
+use Rattle.swift_events.specs.Relations.{group_of, parent_of, waiters_of}
+use Rattle.swift_events.proofs.LogLemmas.{life_of-push_same, unborn_without}
+use Rattle.swift_history.specs.Checks.{is_current, was_given, same_resume, is_under_way}
+use Rattle.swift_history.specs.TurnEnds.{task, JobView, HeldView, Follows, woken, wake, wake_each, wake_closing, wake_owner, wake_parent, wake_all, followed, resume_of, first_job, effect_events, effect_jobs, exit_events, exit_resume, is_left_out, log_after, jobs_made, gives, turn_end, root_job, root_events}
+use Rattle.swift_history.specs.Histories.{Block, added, begun, ran, folded, Standing, Stands, AllStand, TurnStands, after_block, after_blocks, at_first, left_as, begun_priority, frames_applied, job_applied, turn_applied}
+use Rattle.swift_laws.proofs.HistoriesWritten.{IsWritten, keeps_effect, keeps_effects, keeps_exit}
+use Rattle.swift_laws.proofs.HistoriesCounted.{applied, held_at, IsCounted, Counts, AreCounted, HasNumber, Rests, JobFits, starts, idle_turn, idle_applied, idle_push, written_idle, written_within, counted_number, apply_push, rests_push, fits_push, give_push, begin_push, none_held, some_held}
+
+-- lists
+
+pub all_map : {X : Type 0} {P Q : X → Type 0} → ((x : X) → P x → Q x) → (xs : List X) → AllByRecursion P xs → AllByRecursion Q xs
+all_map f [] all = tt
+all_map f (x ∷ xs) all = (f x all.0, all_map f xs all.1)
+
+pub all_append : {X : Type 0} (P : X → Type 0) (xs ys : List X) → AllByRecursion P xs → AllByRecursion P ys → AllByRecursion P (xs ++ ys)
+all_append P [] ys p q = q
+all_append P (x ∷ xs) ys p q = (p.0, all_append P xs ys p.1 q)
+
+pub both : (a b : Bool) → (a && b) ≡ true → (a ≡ true) × (b ≡ true)
+both true b h = (refl, h)
+both false b h = absurd (false≢true h)
+
+pub none_in : (k u : ℕ) → held_at (replicate k None) u ≡ None
+none_in zero u = refl
+none_in (suc k) zero = refl
+none_in (suc k) (suc u) = none_in k u
+
+pub held_more : (held : List (Option HeldView)) (k u : ℕ) → held_at (held ++ replicate k None) u ≡ held_at held u
+held_more [] k u = none_in k u
+held_more (x ∷ xs) k zero = refl
+held_more (x ∷ xs) k (suc u) = held_more xs k u
+
+pub none_set : (held : List (Option HeldView)) (u : ℕ) → held_at (slice_set held u None) u ≡ None
+none_set [] u = refl
+none_set (x ∷ xs) zero = refl
+none_set (x ∷ xs) (suc u) = none_set xs u
+
+pub some_set : (held : List (Option HeldView)) (u : ℕ) (h : HeldView) → (held_at (slice_set held u (Some h)) u ≡ Some h) ⊎ (held_at (slice_set held u (Some h)) u ≡ held_at held u)
+some_set [] u h = inr refl
+some_set (x ∷ xs) zero h = inl refl
+some_set (x ∷ xs) (suc u) h = some_set xs u h
+
+pub other_set : (held : List (Option HeldView)) (u t : ℕ) (o : Option HeldView) → t ≢ u → held_at (slice_set held u o) t ≡ held_at held t
+other_set held u t o ne = get_or-set_other held u t o None ne
+
+-- what is held changes
+
+counts_held : (log : List Event) (held held' : List (Option HeldView)) (t : ℕ) → held_at held' t ≡ held_at held t → Counts log held t → Counts log held' t
+counts_held log held held' t same c = subst (λ (h : Option HeldView). IsCounted (life_of t log).origin (life_of t log).given (life_of t log).stage (applied t log) h) (sym same) c
+
+pub counted_more : (roots : ℕ) (log : List Event) (held : List (Option HeldView)) (k : ℕ) → AreCounted roots log held → AreCounted roots log (held ++ replicate k None)
+counted_more roots log held k are = record { each = λ t. counts_held log held (held ++ replicate k None) t (held_more held k t) (are.each t); beyond = are.beyond; numbered = are.numbered }
+
+pub counted_taken : (roots : ℕ) (log : List Event) (held : List (Option HeldView)) (u : ℕ) → AreCounted roots log held → AreCounted roots log (slice_set held u None)
+counted_taken roots log held u are = record {
+  each = λ t. elim (cases_eq u t) [
+    | inl same ↦ subst (λ (k : ℕ). Counts log (slice_set held u None) k) same
+        (subst (λ (h : Option HeldView). IsCounted (life_of u log).origin (life_of u log).given (life_of u log).stage (applied u log) h) (sym (none_set held u)) (none_held (are.each u)))
+    | inr other ↦ counts_held log held (slice_set held u None) t (other_set held u t None (λ q. other (sym q))) (are.each t)
+  ];
+  beyond = are.beyond;
+  numbered = are.numbered;
+}
+
+pub fits_taken : (log : List Event) (held : List (Option HeldView)) (u : ℕ) (j : JobView) → JobFits log held j → JobFits log (slice_set held u None) j
+fits_taken log held u j f = record {
+  made = f.made;
+  number = f.number;
+  free = elim (cases_eq u j.task) [
+    | inl same ↦ subst (λ (k : ℕ). held_at (slice_set held u None) k ≡ None) same (none_set held u)
+    | inr other ↦ other_set held u j.task None (λ q. other (sym q)) ∙ f.free
+  ];
+}
+
+-- what follows from a turn
+
+pub record FollowFits (roots : ℕ) (log : List Event) (f : Follows) : Type 0 where
+  pub counted : AreCounted roots log f.held
+  pub jobs : AllByRecursion (JobFits log f.held) f.jobs
+
+woken_fits : (roots : ℕ) (log : List Event) (u : ℕ) (resume : Resume) (f : Follows) (o : Option HeldView) → held_at f.held u ≡ o → FollowFits roots log f → FollowFits roots log (woken u resume f o)
+woken_fits roots log u resume f None is fits = fits
+woken_fits roots log u resume f (Some h) is fits = record {
+  counted = counted_taken roots log f.held u fits.counted;
+  jobs = all_append (JobFits log (slice_set f.held u None)) f.jobs _ (all_map (fits_taken log f.held u) f.jobs fits.jobs) (
+    record {
+      made = λ none. (let e : Some h ≡ None = sym is ∙ ((fits.counted.each u).unmade none).2 in cc);
+      number = subst (λ (x : Option HeldView). IfSome x (λ y. y.number ≡ applied u log)) is (fits.counted.each u).waits;
+      free = none_set f.held u;
+    },
+    tt,
+  );
+}
+
+wake_fits : (roots : ℕ) (log : List Event) (u : ℕ) (resume : Resume) (f : Follows) → FollowFits roots log f → FollowFits roots log (wake u resume f)
+wake_fits roots log u resume f fits = woken_fits roots log u resume f (held_at f.held u) refl fits
+
+wake_each_fits : (roots : ℕ) (log : List Event) (us : List TaskId) (resume : Resume) (f : Follows) → FollowFits roots log f → FollowFits roots log (wake_each us resume f)
+wake_each_fits roots log [] resume f fits = fits
+wake_each_fits roots log (u ∷ us) resume f fits = wake_each_fits roots log us resume (wake u.0 resume f) (wake_fits roots log u.0 resume f fits)
+
+wake_closing_fits : (roots : ℕ) (log : List Event) (o : ℕ) (c : Closing) (f : Follows) → FollowFits roots log f → FollowFits roots log (wake_closing o c f)
+wake_closing_fits roots log o closing.Done f fits = wake_fits roots log o _ f fits
+wake_closing_fits roots log o closing.Wait f fits = fits
+
+either_fits : (roots : ℕ) (log : List Event) (b : Bool) (f g : Follows) → FollowFits roots log f → FollowFits roots log g → FollowFits roots log (if b then f else g)
+either_fits roots log true f g p q = p
+either_fits roots log false f g p q = q
+
+wake_owner_fits : (roots : ℕ) (log : List Event) (o g : ℕ) (e : Ending) (s : Option Stage) (f : Follows) → FollowFits roots log f → FollowFits roots log (wake_owner o g e s log f)
+wake_owner_fits roots log o g e (Some (stage.Asks asked)) f fits = either_fits roots log (asked == g) (wake o (resume_of e) f) f (wake_fits roots log o (resume_of e) f fits) fits
+wake_owner_fits roots log o g e (Some (stage.Closes closed)) f fits =
+    either_fits roots log (closed == g) (wake_closing o (close_of (group_of o g log)) f) f (wake_closing_fits roots log o (close_of (group_of o g log)) f fits) fits
+wake_owner_fits roots log o g e (Some stage.Given) f fits = fits
+wake_owner_fits roots log o g e (Some (stage.Begun env)) f fits = fits
+wake_owner_fits roots log o g e (Some stage.Applied) f fits = fits
+wake_owner_fits roots log o g e (Some (stage.Waits awaited)) f fits = fits
+wake_owner_fits roots log o g e None f fits = fits
+
+wake_parent_fits : (roots : ℕ) (log : List Event) (p : Option (ℕ × ℕ)) (e : Ending) (f : Follows) → FollowFits roots log f → FollowFits roots log (wake_parent p e log f)
+wake_parent_fits roots log None e f fits = fits
+wake_parent_fits roots log (Some x) e f fits = wake_owner_fits roots log x.0 x.1 e (life_of x.0 log).stage f fits
+
+wake_all_fits : (roots : ℕ) (log : List Event) (t : ℕ) (e : Ending) (f : Follows) → FollowFits roots log f → FollowFits roots log (wake_all t e log f)
+wake_all_fits roots log t e f fits = wake_parent_fits roots log (parent_of t log) e (wake_each (waiters_of t log) (resume_of e) f) (wake_each_fits roots log (waiters_of t log) (resume_of e) f fits)
+
+-- a job of another task than the one whose turn it is
+pub record MadeFits (log : List Event) (held : List (Option HeldView)) (t : ℕ) (j : JobView) : Type 0 where
+  pub fits : JobFits log held j
+  pub other : j.task ≢ t
+
+waits_fits : (roots : ℕ) (log : List Event) (held : List (Option HeldView)) (jobs : List JobView) (t n : ℕ) (frames : TaskView) → AreCounted roots log held → Rests log held t n → AllByRecursion (MadeFits log held t) jobs
+    → FollowFits roots log (record { held = slice_set held t (Some (record { number = n + 1; frames = frames })); jobs = jobs })
+waits_fits roots log held jobs t n frames are rests all =
+    let h : HeldView = record { number = n + 1; frames = frames } in
+    let held' = slice_set held t (Some h) in
+    record {
+      counted = record {
+        each = λ u. elim (cases_eq t u) [
+          | inl same ↦ subst (λ (k : ℕ). Counts log held' k) same
+              (elim (some_set held t h) [
+                | inl is ↦ subst (λ (x : Option HeldView). IsCounted (life_of t log).origin (life_of t log).given (life_of t log).stage (applied t log) x) (sym is) (some_held h rests.made rests.rest (sym rests.turns) (are.each t))
+                | inr is ↦ counts_held log held held' t is (are.each t)
+              ])
+          | inr other ↦ counts_held log held held' u (other_set held t u (Some h) (λ q. other (sym q))) (are.each u)
+        ];
+        beyond = are.beyond;
+        numbered = are.numbered;
+      };
+      jobs = all_map (λ j m. record { made = m.fits.made; number = m.fits.number; free = other_set held t j.task (Some h) m.other ∙ m.fits.free }) jobs all;
+    }
+
+followed_fits : (roots : ℕ) (log : List Event) (held : List (Option HeldView)) (jobs : List JobView) (t n : ℕ) (frames : TaskView) (o : Option Resume) (step : Step)
+    → AreCounted roots log held → Rests log held t n → AllByRecursion (MadeFits log held t) jobs → FollowFits roots log (followed t (n + 1) frames o step log (record { held = held; jobs = jobs }))
+followed_fits roots log held jobs t n frames (Some resume) step are rests all = record {
+  counted = are;
+  jobs = all_append (JobFits log held) jobs _ (all_map (λ j m. m.fits) jobs all) (record { made = rests.made; number = sym rests.turns; free = rests.free }, tt);
+}
+followed_fits roots log held jobs t n frames None (Ended e) are rests all = wake_all_fits roots log t e _ (record { counted = are; jobs = all_map (λ j m. m.fits) jobs all })
+followed_fits roots log held jobs t n frames None (Run actor resume) are rests all = waits_fits roots log held jobs t n frames are rests all
+followed_fits roots log held jobs t n frames None Await are rests all = waits_fits roots log held jobs t n frames are rests all
+
+gives_counted : (roots : ℕ) (log : List Event) (held : List (Option HeldView)) (jobs : List JobView) → AreCounted roots log held → AllByRecursion (JobFits log held) jobs → AreCounted roots (log ++ gives jobs) held
+gives_counted roots log held [] are all = subst (λ (l : List Event). AreCounted roots l held) (sym (append-nil log)) are
+gives_counted roots log held (j ∷ js) are all =
+    let e : Event = Give (task j.task) j.number j.resume in
+    subst (λ (l : List Event). AreCounted roots l held) (append_assoc log (e ∷ []) (gives js))
+    (gives_counted roots (log ++ e ∷ []) held js (give_push roots log held j all.0 are) (all_map (λ i f. fits_push log held i e refl f) js all.1))
+
+pub gives_applied : (t : ℕ) (log : List Event) (jobs : List JobView) → applied t (log ++ gives jobs) ≡ applied t log
+gives_applied t log [] = ap (applied t) (append-nil log)
+gives_applied t log (j ∷ js) =
+    let e : Event = Give (task j.task) j.number j.resume in
+    ap (applied t) (sym (append_assoc log (e ∷ []) (gives js))) ∙ gives_applied t (log ++ e ∷ []) js ∙ idle_applied t log e refl
+
+-- the jobs of the tasks that effects make
+
+module _ (script : ScriptView) (held : List (Option HeldView)) (t n : ℕ) (own : Priority) where
+  abbrev Here : List Event → Type 0
+  Here log = AreCounted (root_count script) log held × Rests log held t n
+
+  here_push : (log : List Event) (e : Event) → IsWritten (root_count script) t log e → Here log → Here (log ++ e ∷ [])
+  here_push log e w h =
+      let idle = written_idle (root_count script) t log e w in
+      (idle_push (root_count script) log held e idle (written_within (root_count script) t log e w) h.0, rests_push log held t n e idle h.1)
+
+  fits_on : (log : List Event) (j : JobView) (e : Event) → IsWritten (root_count script) t log e → MadeFits log held t j → MadeFits (log ++ e ∷ []) held t j
+  fits_on log j e w m = record { fits = fits_push log held j e (idle_turn j.task e (written_idle (root_count script) t log e w)) m.fits; other = m.other }
+
+  made_one : (log : List Event) (e : Event) (j : JobView) (x : Origin) → origin_in e ≡ Some x → starts e ≡ false → task_of e ≡ j.task → j.task ≡ tasks_of (root_count script) log → j.number ≡ 0 → Here log → MadeFits (log ++ e ∷ []) held t j
+  made_one log e j x made idle of at first h =
+      let none : (life_of j.task log).origin ≡ None = h.0.beyond j.task (omega (arith, at)) in
+      let before = (h.0.each j.task).unmade none in
+      record {
+        fits = record {
+          made = subst (λ (l : Life). l.origin ≢ None) (sym (life_of-push_same j.task log e of))
+              (subst (λ (o : Option Origin). later o (life_of j.task log).origin ≢ None) (sym made) (λ (q : Some x ≡ None). cc));
+          number = first ∙ sym before.0 ∙ sym (idle_applied j.task log e (idle_turn j.task e idle));
+          free = before.2;
+        };
+        other = λ same. h.1.made (subst (λ (k : ℕ). (life_of k log).origin ≡ None) same none);
+      }
+
+  lift : (log : List Event) (es : List EffectView) (js : List JobView) → AllByRecursion (MadeFits log held t) js → AllByRecursion (MadeFits (log_after (root_count script) t own log es) held t) js
+  lift log es js all = all_map (λ j m. keeps_effects (λ (l : List Event). MadeFits l held t j) (root_count script) t own (λ l e w p. fits_on l j e w p) log es m) js all
+
+  added_first : (log : List Event) (skip child : Event) (j : JobView) (b : Bool) → MadeFits (log ++ child ∷ []) held t j → AllByRecursion (MadeFits (log ++ (if b then skip ∷ [] else child ∷ [])) held t) (if b then [] else j ∷ [])
+  added_first log skip child j true m = tt
+  added_first log skip child j false m = (m, tt)
+
+  first_fits : (log : List Event) (e : EffectView) → Here log → AllByRecursion (MadeFits (log ++ effect_events (root_count script) t own log e) held t) (effect_jobs script t log e)
+  first_fits log (spawning i p bindings) h = (made_one log _ _ _ refl refl refl refl refl h, tt)
+  first_fits log (detaching i p) h = (made_one log _ _ _ refl refl refl refl refl h, tt)
+  first_fits log opening h = tt
+  first_fits log (adding g unless i p bindings) h =
+      added_first log (Skip (task t) g) (Child (task (tasks_of (root_count script) log)) (task t) g (unwrap_or p Background))
+      (first_job script (tasks_of (root_count script) log) i.method i.args bindings) (is_left_out t g unless log) (made_one log _ _ _ refl refl refl refl refl h)
+  first_fits log (cancelling_task name) h = tt
+  first_fits log (cancelling_group g) h = tt
+
+  made_fit : (log : List Event) (es : List EffectView) → Here log → AllByRecursion (MadeFits (log_after (root_count script) t own log es) held t) (jobs_made script t own log es)
+  made_fit log [] h = tt
+  made_fit log (e ∷ es) h =
+      let log' = log ++ effect_events (root_count script) t own log e in
+      all_append (MadeFits (log_after (root_count script) t own log' es) held t) (effect_jobs script t log e) (jobs_made script t own log' es)
+      (lift log' es (effect_jobs script t log e) (first_fits log e h))
+      (made_fit log' es (keeps_effect Here (root_count script) t own here_push log e h))
+
+  -- the whole end of a turn
+  pub turn_counted : (log : List Event) (effects : List EffectView) (exit : ExitView) (after : Advanced) → HasNumber (life_of t log).given n → is_under_way (life_of t log).stage ≡ true → AreCounted (root_count script) log held
+      → (let e = turn_end script log held t n own effects exit after in AreCounted (root_count script) e.log e.held × (applied t e.log ≡ n + 1))
+  turn_counted log effects exit after has under are =
+      let roots = root_count script in
+      let begun = log ++ Apply (task t) n ∷ [] in
+      let done = log_after roots t own begun effects in
+      let written = done ++ exit_events t done exit after.step in
+      let made = jobs_made script t own begun effects in
+      let more = held ++ replicate (length made) None in
+      let h0 : Here begun = apply_push roots log held t n has under are in
+      let h1 : Here done = keeps_effects Here roots t own here_push begun effects h0 in
+      let h2 : Here written = keeps_exit Here roots t own here_push done exit after.step h1 in
+      let jobs : AllByRecursion (MadeFits written held t) made =
+      all_map (λ j m. keeps_exit (λ (l : List Event). MadeFits l held t j) roots t own (λ l e w p. fits_on l j e w p) done exit after.step m) made (made_fit begun effects h0) in
+      let jobs' : AllByRecursion (MadeFits written more t) made =
+      all_map (λ j m. record { fits = record { made = m.fits.made; number = m.fits.number; free = held_more held (length made) j.task ∙ m.fits.free }; other = m.other }) made jobs in
+      let rests : Rests written more t n = record { made = h2.1.made; rest = h2.1.rest; turns = h2.1.turns; free = held_more held (length made) t ∙ h2.1.free } in
+      let fits = followed_fits roots written more made t n after.task (exit_resume t done exit after.step) after.step (counted_more roots written held (length made) h2.0) rests jobs' in
+      (gives_counted roots written _ _ fits.counted fits.jobs, gives_applied t written _ ∙ h2.1.turns)
+
+-- blocks
+
+number_in : (g : Option Given) (n : ℕ) (resume : Resume) → was_given g n resume ≡ true → HasNumber g n
+number_in None n resume is = absurd (false≢true is)
+number_in (Some g) n resume is = eqb-true g.number n (both (g.number == n) (same_resume g.resume resume) is).0
+
+-- the turn that is current is that of the last job, and under way
+pub current_is : (l : Life) (n : ℕ) (resume : Resume) → is_current l n resume ≡ true → HasNumber l.given n × (is_under_way l.stage ≡ true)
+current_is l n resume is =
+    let p = both (was_given l.given n resume) _ is in
+    (number_in l.given n resume p.0, (both (nat_lt n _) (is_under_way l.stage) p.1).1)
+
+-- what a turn of a job leaves
+pub applied_is : (script : ScriptView) (s : Standing) (t n : ℕ) (j : JobView) (p : FrameView) (callers : List FrameView) (effects : List EffectView) (exit : ExitView) (after : Option FrameView)
+    → s.jobs t ≡ Some j → j.frames.frames ≡ p ∷ callers
+    → turn_applied script s t n effects exit after ≡ frames_applied script s t n (p ∷ callers) j.frames.outer effects exit after
+applied_is script s t n j p callers effects exit after given is =
+    ap (λ (o : Option JobView). job_applied script s t n o effects exit after) given
+    ∙ ap (λ (fs : List FrameView). frames_applied script s t n fs j.frames.outer effects exit after) is
+
+pub turn_keeps : (script : ScriptView) (s : Standing) (e t n : ℕ) (effects : List EffectView) (exit : ExitView) (after : Option FrameView) (job : JobView) (env : Env) (frame : FrameView)
+    → TurnStands script s e t n effects exit job env frame → AreCounted (root_count script) s.log s.held
+    → (let z = turn_applied script s t n effects exit after in AreCounted (root_count script) z.log z.held × (applied t z.log ≡ n + 1) × (applied t s.log ≡ n))
+turn_keeps script s e t n effects exit after job env frame stands are =
+    let is = current_is (life_of t s.log) n job.resume stands.current in
+    let end = turn_counted script s.held t n (begun_priority (life_of t s.log).stage) s.log effects exit (advanced script (left_as frame effects after) stands.runs.0 job.frames.outer exit) is.0 is.1 are in
+    let z = applied_is script s t n job frame stands.runs.0 effects exit after stands.given stands.runs.1 in (
+      subst (λ (x : Standing). AreCounted (root_count script) x.log x.held) (sym z) end.0,
+      subst (λ (x : Standing). applied t x.log ≡ n + 1) (sym z) end.1,
+      sym (counted_number (root_count script) s.log s.held t n are is.0 is.1),
+    )
+
+root_keeps : (script : ScriptView) (s : Standing) (r : ℕ) → nat_lt r (root_count script) ≡ true → (life_of r s.log).origin ≡ None → AreCounted (root_count script) s.log s.held → AreCounted (root_count script) (s.log ++ root_events script r) s.held
+root_keeps script s r less none are =
+    let roots = root_count script in
+    let e : Event = Root (task r) (root_priority script r) in
+    let lt : r < roots = ltb-true r roots less in
+    let before = (are.each r).unmade none in
+    let first = idle_push roots s.log s.held e refl (inr (omega (arith, lt))) are in
+    subst (λ (l : List Event). AreCounted roots l s.held) (append_assoc s.log (e ∷ []) _)
+    (give_push roots (s.log ++ e ∷ []) s.held (root_job script r)
+    (record {
+      made = subst (λ (l : Life). l.origin ≢ None) (sym (life_of-push_same r s.log e refl)) (λ q. cc);
+      number = sym before.0 ∙ sym (idle_applied r s.log e refl);
+      free = before.2;
+    }) first)
+
+pub block_keeps : (script : ScriptView) (cps : List CheckpointView) (before : List Block) (b : Block) → Stands script cps before b
+    → (let s = after_blocks script (at_first script) before in AreCounted (root_count script) s.log s.held → AreCounted (root_count script) (after_block script s b).log (after_block script s b).held)
+block_keeps script cps before (added r) stands are = root_keeps script (after_blocks script (at_first script) before) r stands.0 stands.1 are
+block_keeps script cps before (begun t n env) stands are =
+    let s = after_blocks script (at_first script) before in
+    begin_push (root_count script) s.log s.held t n env (current_is (life_of t s.log) n stands.0.resume stands.2).1 are
+block_keeps script cps before (ran e r) stands are = (turn_keeps script (after_blocks script (at_first script) before) e r.task r.number r.effects r.exit r.after stands.job r.env r.frame stands.stands are).0
+block_keeps script cps before (folded e f) stands are = (turn_keeps script (after_blocks script (at_first script) before) e f.task f.number f.effects f.exit f.after stands.0.job stands.0.env stands.0.frame stands.0.stands are).0
+
+pub first_counted : (script : ScriptView) → AreCounted (root_count script) (at_first script).log (at_first script).held
+first_counted script = record {
+  each = λ t. subst (λ (l : Life). IsCounted l.origin l.given l.stage 0 (held_at (replicate (root_count script) None) t)) (sym (unborn_without t [] refl))
+      (subst (λ (h : Option HeldView). IsCounted None None None 0 h) (sym (none_in (root_count script) t))
+      (record { unmade = λ none. (refl, refl, refl); current = λ is. absurd (false≢true is); waits = tt }));
+  beyond = λ t le. ap (λ (l : Life). l.origin) (unborn_without t [] refl);
+  numbered = λ t. refl;
+}
+
+pub after_push : (script : ScriptView) (s : Standing) (bs : List Block) (b : Block) → after_blocks script s (bs ++ b ∷ []) ≡ after_block script (after_blocks script s bs) b
+after_push script s [] b = refl
+after_push script s (c ∷ bs) b = after_push script (after_block script s c) bs b
+
+-- as blocks are added, the turns stay counted
+pub all_keep : (script : ScriptView) (cps : List CheckpointView) (before bs : List Block) → AllStand script cps before bs → AreCounted (root_count script) (after_blocks script (at_first script) before).log (after_blocks script (at_first script) before).held
+    → AreCounted (root_count script) (after_blocks script (at_first script) (before ++ bs)).log (after_blocks script (at_first script) (before ++ bs)).held
+all_keep script cps before [] all are = subst (λ (xs : List Block). AreCounted (root_count script) (after_blocks script (at_first script) xs).log (after_blocks script (at_first script) xs).held) (sym (append-nil before)) are
+all_keep script cps before (b ∷ bs) all are =
+    subst (λ (xs : List Block). AreCounted (root_count script) (after_blocks script (at_first script) xs).log (after_blocks script (at_first script) xs).held) (append_assoc before (b ∷ []) bs)
+    (all_keep script cps (before ++ b ∷ []) bs all.1
+    (subst (λ (z : Standing). AreCounted (root_count script) z.log z.held) (sym (after_push script (at_first script) before b)) (block_keeps script cps before b all.0 are)))

@@ -1,0 +1,12 @@
+pub mod HistoriesWritten
+pub mod HistoriesCounted
+pub mod HistoriesTurns
+pub mod HistoriesGrow
+pub mod HistoriesOnce
+pub mod HistoriesSplit
+pub mod HistoriesBegun
+pub mod HistoriesFrames
+pub mod HistoriesLocals
+pub mod HistoriesMade
+pub mod HistoriesHandedOn
+pub mod HistoriesApplied

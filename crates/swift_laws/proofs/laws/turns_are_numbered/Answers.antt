@@ -1,0 +1,14 @@
+use Rattle.std.proofs.Common.{sym, subst, ◌≡◌, length, List, []}
+use Rattle.std.specs.List.{range_with_len}
+use Rattle.swift_events.specs.declared.event.Event.{Event}
+use Rattle.swift_laws.specs.Laws.{turns_of}
+use Rattle.swift_laws.proofs.HistoriesApplied.{standing_applied}
+use Rattle.swift_laws.proofs.HistoriesTurns.{all_keep, first_counted}
+use Rattle.swift_laws.proofs.laws.turns_are_numbered.Goals as goal
+
+pub returns : goal.returns
+returns c = λ script report t legal. (
+  subst (λ (l : List Event). turns_of t l ≡ range_with_len 0 (length (turns_of t l))) (sym legal.log)
+      ((all_keep script report.checkpoints [] legal.blocks legal.stand (first_counted script)).numbered t),
+  standing_applied script report t legal,
+)
