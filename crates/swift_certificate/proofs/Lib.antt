@@ -2,6 +2,7 @@ pub mod Blocks
 pub mod Ended
 pub mod First
 pub mod Given
+pub mod Known
 pub mod Places
 pub mod Played
 pub mod Replays

@@ -1,6 +1,6 @@
 -- A turn that is played again is the one that the journal has.
 use Rattle.std.proofs.Common.{◌≡◌, ℕ, ℤ, ◌+◌, ◌<◌, List, [], ◌∷◌, length, refl, sym, subst, ap, ◌∙◌}
-use Rattle.std.specs.Prelude.{Option, Some, None, slice_get, slice_index_or}
+use Rattle.std.specs.Prelude.{Option, Some, None, Result, Ok, Err, IfOk, IfSome, slice_get, slice_index_or}
 use Rattle.std.proofs.lemmas.Option.{slice_get-get_or}
 use Rattle.script_code.specs.Seen.{rows_of}
 use Rattle.script_code.specs.declared.env.Env.{Env}
@@ -17,7 +17,8 @@ use Rattle.swift_history.specs.Histories.{left_as}
 use Rattle.swift_certificate.specs.declared.waiting.Ready.{Ready}
 use Rattle.swift_certificate.specs.declared.playing.Done.{Done}
 use Rattle.swift_certificate.specs.declared.playing.Place.{Place}
-use Rattle.swift_certificate.specs.ReplayInside.{Folds, IsAfterFrame, IsLeft, Plays, folded_turn, turn_of}
+use Rattle.swift_certificate.specs.declared.playing.Turns.TheVariants.{Play, Read}
+use Rattle.swift_certificate.specs.ReplayInside.{Folds, Follows, GoesOn, IsAfterFrame, IsLeft, Takes, folded_turn, turn_of}
 
 -- the frame that a turn leaves stands for what is still to do
 stands : (script : ScriptView) (g : FrameView) (rows : List (List ℤ)) (effects : List EffectView) (s : State) → state_at script g rows effects s.room ≡ s → state_at script g s.fields s.effects s.room ≡ s
@@ -79,7 +80,7 @@ plays_at : (journal : List RecordView) (old new : Place) (task : TaskId) (ready 
     → (IsLeft (exit_view done.exit) → done.ready.body.task.frames ≡ left_as p (effect_views done.effects.items) None ∷ callers_of frames)
     → ((IsLeft (exit_view done.exit) → ⊥) → done.ready.body.task.frames ≡ frames)
     → done.ready.number ≡ ready.number → done.ready.resume ≡ ready.resume → done.ready.body.script ≡ ready.body.script → done.ready.body.task.outer ≡ ready.body.task.outer
-    → new.played ≡ old.played + 1 → new.folded ≡ old.folded → Plays journal old new task ready env done
+    → new.played ≡ old.played + 1 → new.folded ≡ old.folded → Follows Play journal old new task ready env done
 plays_at journal old new task ready env done worker p q callers after frames was top there turns at left_is stays number resume script outer played folded =
     let effects = effect_views done.effects.items in
     let exit = exit_view done.exit in
@@ -99,8 +100,8 @@ plays_at journal old new task ready env done worker p q callers after frames was
         is = ap (λ (fs : List FrameView). record { frames = fs; outer = done.ready.body.task.outer }) is.frames_are
             ∙ ap (λ (bs : List (ℕ × ℤ)). record { frames = left_as p effects after ∷ callers; outer = bs }) outer;
       };
-      lawful = is.lawful;
-      fields = is.fields_are;
+      lawful = λ are. is.lawful;
+      fields = λ are. is.fields_are;
       played = played;
       folded = folded;
     }
@@ -114,7 +115,7 @@ plays_from : (journal : List RecordView) (old new : Place) (task : TaskId) (read
     → (IsLeft (exit_view done.exit) → done.ready.body.task.frames ≡ left_as p (effect_views done.effects.items) None ∷ callers_of frames)
     → ((IsLeft (exit_view done.exit) → ⊥) → done.ready.body.task.frames ≡ frames)
     → done.ready.number ≡ ready.number → done.ready.resume ≡ ready.resume → done.ready.body.script ≡ ready.body.script → done.ready.body.task.outer ≡ ready.body.task.outer
-    → new.played ≡ old.played + 1 → new.folded ≡ old.folded → Plays journal old new task ready env done
+    → new.played ≡ old.played + 1 → new.folded ≡ old.folded → Follows Play journal old new task ready env done
 plays_from journal old new task ready env done worker p [] after frames was has top there turns at left_is stays number resume script outer played folded = absurd has
 plays_from journal old new task ready env done worker p (q ∷ callers) after frames was has top there turns at left_is stays number resume script outer played folded =
     plays_at journal old new task ready env done worker p q callers after frames was top there turns at left_is stays number resume script outer played folded
@@ -127,21 +128,20 @@ pub plays : (journal : List RecordView) (old new : Place) (task : TaskId) (ready
     → (IsLeft (exit_view done.exit) → done.ready.body.task.frames ≡ left_as p (effect_views done.effects.items) None ∷ callers_of frames)
     → ((IsLeft (exit_view done.exit) → ⊥) → done.ready.body.task.frames ≡ frames)
     → done.ready.number ≡ ready.number → done.ready.resume ≡ ready.resume → done.ready.body.script ≡ ready.body.script → done.ready.body.task.outer ≡ ready.body.task.outer
-    → new.played ≡ old.played + 1 → new.folded ≡ old.folded → Plays journal old new task ready env done
+    → new.played ≡ old.played + 1 → new.folded ≡ old.folded → Follows Play journal old new task ready env done
 plays journal old new task ready env done worker p after frames has top there turns at left_is stays number resume script outer played folded =
     plays_from journal old new task ready env done worker p ready.body.task.frames after frames refl has top there turns at left_is stays number resume script outer played folded
 
-folds_from : (checkpoint : CheckpointView) (old new : Place) (task : TaskId) (ready : Ready) (done : Done) (frame : FrameView) (fs : List FrameView) (after : Option FrameView)
-    → ready.body.task.frames ≡ fs → HasFrames fs → HasFirst fs (λ p. frame ≡ left_as p (effect_views done.effects.items) after)
-    → slice_get checkpoint.folded old.folded ≡ Some (folded_turn task ready (effect_views done.effects.items) (exit_view done.exit) after)
+takes_from : (ready : Ready) (done : Done) (frame : FrameView) (fs : List FrameView) (effects : List EffectView) (exit : ExitView) (after : Option FrameView)
+    → ready.body.task.frames ≡ fs → HasFrames fs → HasFirst fs (λ p. frame ≡ left_as p effects after)
     → done.ready.body.task ≡ record { frames = frame ∷ callers_of fs; outer = ready.body.task.outer }
     → done.ready.number ≡ ready.number → done.ready.resume ≡ ready.resume → done.ready.body.script ≡ ready.body.script
-    → rows_of new.fields.items ≡ rows_of old.fields.items → new.played ≡ old.played → new.folded ≡ old.folded + 1 → Folds checkpoint old new task ready done
-folds_from checkpoint old new task ready done frame [] after was has top there is number resume script fields played folded = absurd has
-folds_from checkpoint old new task ready done frame (p ∷ callers) after was has top there is number resume script fields played folded = record {
+    → effect_views done.effects.items ≡ effects → exit_view done.exit ≡ exit → Takes ready effects exit after done
+takes_from ready done frame [] effects exit after was has top is number resume script effects_are exit_is = absurd has
+takes_from ready done frame (p ∷ callers) effects exit after was has top is number resume script effects_are exit_is = record {
+  effects_are = effects_are;
+  exit_is = exit_is;
   frame = p;
-  after = after;
-  there = there;
   goes_on = record {
     number = number;
     resume = resume;
@@ -150,19 +150,61 @@ folds_from checkpoint old new task ready done frame (p ∷ callers) after was ha
     was = was;
     is = is ∙ ap (λ (f : FrameView). record { frames = f ∷ callers; outer = ready.body.task.outer }) top;
   };
+}
+
+-- a job after a turn that was not played
+pub takes : (ready : Ready) (done : Done) (frame : FrameView) (effects : List EffectView) (exit : ExitView) (after : Option FrameView)
+    → HasFrames ready.body.task.frames → HasFirst ready.body.task.frames (λ p. frame ≡ left_as p effects after)
+    → done.ready.body.task ≡ record { frames = frame ∷ callers_of ready.body.task.frames; outer = ready.body.task.outer }
+    → done.ready.number ≡ ready.number → done.ready.resume ≡ ready.resume → done.ready.body.script ≡ ready.body.script
+    → effect_views done.effects.items ≡ effects → exit_view done.exit ≡ exit → Takes ready effects exit after done
+takes ready done frame effects exit after has top is number resume script effects_are exit_is =
+    takes_from ready done frame ready.body.task.frames effects exit after refl has top is number resume script effects_are exit_is
+
+goes_on_as : (ready : Ready) (effects : List EffectView) (exit : ExitView) (after : Option FrameView) (done : Done) (t : Takes ready effects exit after done) → GoesOn ready done.ready t.frame (effect_views done.effects.items) after
+goes_on_as ready effects exit after done t = subst (λ (es : List EffectView). GoesOn ready done.ready t.frame es after) (sym t.effects_are) t.goes_on
+
+-- a turn of the journal that is not played
+pub reads : (journal : List RecordView) (old new : Place) (task : TaskId) (ready : Ready) (env : Env) (worker : ℕ) (p : FrameView) (effects : List EffectView) (exit : ExitView) (after : Option FrameView) (done : Done)
+    → Takes ready effects exit after done → IfRunning ready.body.task.frames (λ q. q ≡ p)
+    → slice_get journal old.played ≡ Some (turn_of task ready worker p env effects exit after)
+    → new.played ≡ old.played + 1 → new.folded ≡ old.folded → Follows Read journal old new task ready env done
+reads journal old new task ready env worker p effects exit after done t runs there played folded =
+    let top : t.frame ≡ p = subst (λ (fs : List FrameView). IfRunning fs (λ q. q ≡ p)) t.goes_on.was runs in
+    record {
+      worker = worker;
+      frame = t.frame;
+      after = after;
+      there = there ∙ ap (λ (q : FrameView). Some (turn_of task ready worker q env effects exit after)) (sym top)
+          ∙ ap (λ (es : List EffectView). Some (turn_of task ready worker t.frame env es exit after)) (sym t.effects_are)
+          ∙ ap (λ (e : ExitView). Some (turn_of task ready worker t.frame env (effect_views done.effects.items) e after)) (sym t.exit_is);
+      goes_on = goes_on_as ready effects exit after done t;
+      lawful = λ are. absurd are;
+      fields = λ are. absurd are;
+      played = played;
+      folded = folded;
+    }
+
+pub folds : (checkpoint : CheckpointView) (old new : Place) (task : TaskId) (ready : Ready) (effects : List EffectView) (exit : ExitView) (after : Option FrameView) (done : Done)
+    → Takes ready effects exit after done
+    → slice_get checkpoint.folded old.folded ≡ Some (folded_turn task ready effects exit after)
+    → rows_of new.fields.items ≡ rows_of old.fields.items → new.played ≡ old.played → new.folded ≡ old.folded + 1 → Folds checkpoint old new task ready done
+folds checkpoint old new task ready effects exit after done t there fields played folded = record {
+  frame = t.frame;
+  after = after;
+  there = there ∙ ap (λ (es : List EffectView). Some (folded_turn task ready es exit after)) (sym t.effects_are)
+      ∙ ap (λ (e : ExitView). Some (folded_turn task ready (effect_views done.effects.items) e after)) (sym t.exit_is);
+  goes_on = goes_on_as ready effects exit after done t;
   fields = fields;
   played = played;
   folded = folded;
 }
 
-pub folds : (checkpoint : CheckpointView) (old new : Place) (task : TaskId) (ready : Ready) (done : Done) (frame : FrameView) (after : Option FrameView)
-    → HasFrames ready.body.task.frames → HasFirst ready.body.task.frames (λ p. frame ≡ left_as p (effect_views done.effects.items) after)
-    → slice_get checkpoint.folded old.folded ≡ Some (folded_turn task ready (effect_views done.effects.items) (exit_view done.exit) after)
-    → done.ready.body.task ≡ record { frames = frame ∷ callers_of ready.body.task.frames; outer = ready.body.task.outer }
-    → done.ready.number ≡ ready.number → done.ready.resume ≡ ready.resume → done.ready.body.script ≡ ready.body.script
-    → rows_of new.fields.items ≡ rows_of old.fields.items → new.played ≡ old.played → new.folded ≡ old.folded + 1 → Folds checkpoint old new task ready done
-folds checkpoint old new task ready done frame after has top there is number resume script fields played folded =
-    folds_from checkpoint old new task ready done frame ready.body.task.frames after refl has top there is number resume script fields played folded
+-- an answer of which that holds, if there is one
+pub map_answer : {A E : Type 0} (r : Result (Option A) E) (P Q : A → Type 0) → ((x : A) → P x → Q x) → IfOk r (λ o. IfSome o P) → IfOk r (λ o. IfSome o Q)
+map_answer (Ok (Some x)) P Q f is = f x is
+map_answer (Ok None) P Q f is = tt
+map_answer (Err e) P Q f is = tt
 
 pub found_folded : (fs : List FoldedView) (n : ℕ) (x : FoldedView) → n < length fs → ((d : FoldedView) → x ≡ slice_index_or fs n d) → slice_get fs n ≡ Some x
 found_folded fs n x lt is = slice_get-get_or fs n x lt ∙ ap (λ (y : FoldedView). Some y) (sym (is x))

@@ -34,11 +34,13 @@ use Rattle.swift_tasks.specs.Refusals.{fits_begun, refusal_of_apply, refusal_of_
 use Rattle.swift_certificate.specs.declared.waiting.Ready.{Ready}
 use Rattle.swift_certificate.specs.declared.playing.Done.{Done}
 use Rattle.swift_certificate.specs.declared.playing.Place.{Place}
+use Rattle.swift_certificate.specs.declared.playing.Turns.{Turns}
 use Rattle.swift_certificate.specs.declared.replay.Replay.{Replay}
-use Rattle.swift_certificate.specs.ReplayInside.{AreGiven, Applies, Folds, GoesOn, IsFollowed, IsPlace, IsReplay, Plays, folded_turn, given_at, given_view, job_of, journal_at, turn_of, with_given}
+use Rattle.swift_certificate.specs.ReplayInside.{AreGiven, ArePlayed, Applies, Folds, Follows, GoesOn, IsFollowed, IsKnown, IsPlace, IsReplay, folded_turn, given_at, given_view, job_of, journal_at, turn_of, with_given}
 use Rattle.swift_certificate.proofs.Blocks.{range_next, after_push, filter_none, filter_some, stand_push}
 use Rattle.swift_certificate.proofs.First.{checkpoint_view}
 use Rattle.swift_certificate.proofs.Given.{given_back, given_put, given_taken}
+use Rattle.swift_certificate.proofs.Known.{Found, lawful_next}
 use Rattle.swift_certificate.proofs.Places.{others_folded, others_played, place_folded, place_played, place_stays, places_set}
 
 -- what stands where there is no refusal
@@ -70,11 +72,11 @@ holds_then (Some x) b is = absurd (none-some x (sym is))
 
 -- a root more
 
-pub followed_root : (script : ScriptView) (report : ReportView) (log : List Event) (held : List (Option HeldView)) (tasks tasks' : List (Option Ready)) (rows : List Place) (r : ℕ) (t : TaskId) (g : Ready)
-    → IsFollowed script report log held tasks rows r → refusal_of_root script log r ≡ None → given_view t.0 g ≡ root_job script r → t.0 ≡ (root_job script r).task
+pub followed_root : (turns : Turns) (script : ScriptView) (report : ReportView) (log : List Event) (held : List (Option HeldView)) (tasks tasks' : List (Option Ready)) (rows : List Place) (r : ℕ) (t : TaskId) (g : Ready)
+    → IsFollowed turns script report log held tasks rows r → refusal_of_root script log r ≡ None → given_view t.0 g ≡ root_job script r → t.0 ≡ (root_job script r).task
     → ((u : ℕ) → given_at tasks' u ≡ with_given t.0 (Some g) (given_at tasks) u)
-    → IsFollowed script report (log ++ root_events script r) held tasks' rows (r + 1)
-followed_root script report log held tasks tasks' rows r t g f may is at put =
+    → IsFollowed turns script report (log ++ root_events script r) held tasks' rows (r + 1)
+followed_root turns script report log held tasks tasks' rows r t g f may is at put =
     let bs = f.blocks in
     let s = after_blocks script (at_first script) bs in
     let after = after_push script (at_first script) bs (added r) in
@@ -87,17 +89,17 @@ followed_root script report log held tasks tasks' rows r t g f may is at put =
       held_is = f.held_is ∙ ap (λ (x : Standing). x.held) (sym after);
       given = subst (λ (x : Standing). AreGiven x.jobs tasks') (sym after)
           (subst (λ (j : JobView). AreGiven (with_jobs (j ∷ []) s.jobs) tasks') is (given_put s.jobs tasks tasks' t.0 g f.given put));
-      places = λ e row here. place_stays script report bs (added r) e row refl refl (f.places e row here);
+      places = λ e row here. place_stays turns script report bs (added r) e row refl refl (f.places e row here);
       roots_are = filter_some root_in bs (added r) r refl ∙ ap (λ (xs : List ℕ). xs ++ r ∷ []) f.roots_are ∙ range_next r;
     }
 
 -- a turn begins
 
-pub followed_begin : (script : ScriptView) (report : ReportView) (log : List Event) (held : List (Option HeldView)) (tasks between tasks' : List (Option Ready)) (rows : List Place) (r : ℕ) (t : TaskId) (g : Ready) (env : Env)
-    → IsFollowed script report log held tasks rows r → given_at tasks t.0 ≡ Some g → refusal_of_begin script log (job_of t g) ≡ None → IsEnv (root_count script) t log env
+pub followed_begin : (turns : Turns) (script : ScriptView) (report : ReportView) (log : List Event) (held : List (Option HeldView)) (tasks between tasks' : List (Option Ready)) (rows : List Place) (r : ℕ) (t : TaskId) (g : Ready) (env : Env)
+    → IsFollowed turns script report log held tasks rows r → given_at tasks t.0 ≡ Some g → refusal_of_begin script log (job_of t g) ≡ None → IsEnv (root_count script) t log env
     → ((u : ℕ) → given_at between u ≡ with_given t.0 None (given_at tasks) u) → ((u : ℕ) → given_at tasks' u ≡ with_given t.0 (Some g) (given_at between) u)
-    → IsFollowed script report (log ++ Begin t g.number env ∷ []) held tasks' rows r
-followed_begin script report log held tasks between tasks' rows r t g env f was may is took put =
+    → IsFollowed turns script report (log ++ Begin t g.number env ∷ []) held tasks' rows r
+followed_begin turns script report log held tasks between tasks' rows r t g env f was may is took put =
     let bs = f.blocks in
     let s = after_blocks script (at_first script) bs in
     let b = begun t.0 g.number env in
@@ -110,7 +112,7 @@ followed_begin script report log held tasks between tasks' rows r t g env f was 
       log_is = ap (λ (l : List Event). l ++ Begin t g.number env ∷ []) f.log_is ∙ ap (λ (x : Standing). x.log) (sym after);
       held_is = f.held_is ∙ ap (λ (x : Standing). x.held) (sym after);
       given = subst (λ (x : Standing). AreGiven x.jobs tasks') (sym after) (given_back s.jobs tasks between tasks' t.0 g f.given was took put);
-      places = λ e row here. place_stays script report bs b e row refl refl (f.places e row here);
+      places = λ e row here. place_stays turns script report bs b e row refl refl (f.places e row here);
       roots_are = filter_none root_in bs b refl ∙ f.roots_are;
     }
 
@@ -141,6 +143,7 @@ record Taken (script : ScriptView) (s : Standing) (k : ℕ) (t : TaskId) (g : Re
 -- A replay between the turn and its end: the task's job is taken, and one place has changed.
 pub record Between (x m : Replay) (t : TaskId) (g : Ready) (k : ℕ) (row row' : Place) : Type 0 where
   pub script_is : m.script ≡ x.script
+  pub turns_are : m.turns ≡ x.turns
   pub book_is : m.book ≡ x.book
   pub roots_are : m.roots ≡ x.roots
   pub rows_are : m.rows.items ≡ slice_set x.rows.items k row'
@@ -159,7 +162,7 @@ same_ends b b' script log held t n n' q callers outer effects exit book is_scrip
     ∙ ap (λ (h : List (Option HeldView)). turn_end script log h t n (begun_priority (life_of t log).stage) effects exit (advanced script q callers outer exit)) is_held
     ∙ ap (λ (i : ℕ). turn_end script log held t i (begun_priority (life_of t log).stage) effects exit (advanced script q callers outer exit)) is_number
 
-took : (script : ScriptView) (report : ReportView) (x m y : Replay) (k : ℕ) (t : TaskId) (g : Ready) (env : Env) (p : FrameView) (after : Option FrameView) (row row' : Place) (done : Done) (f : IsFollowed script report x.book.log x.book.held x.tasks.items x.rows.items x.roots)
+took : (script : ScriptView) (report : ReportView) (x m y : Replay) (k : ℕ) (t : TaskId) (g : Ready) (env : Env) (p : FrameView) (after : Option FrameView) (row row' : Place) (done : Done) (f : IsFollowed x.turns script report x.book.log x.book.held x.tasks.items x.rows.items x.roots)
     → x.book.script ≡ script → Between x m t g k row row'
     → (life_of t.0 x.book.log).stage ≡ Some (Begun env) → IfRunning g.body.task.frames (λ q. actor_executor script (method_actor g.body.script q.method) ≡ k)
     → GoesOn g done.ready p (effect_views done.effects.items) after → Applies m y t done
@@ -201,25 +204,27 @@ took script report x m y k t g env p after row row' done f book_is between begun
     }
 
 -- a replay whose history has one block more
-replay_more : (script : ScriptView) (report : ReportView) (x m y : Replay) (t : TaskId) (g : Ready) (k : ℕ) (row row' : Place) (done : Done) (f : IsFollowed script report x.book.log x.book.held x.tasks.items x.rows.items x.roots) (b : Block) (z : Standing)
+replay_more : (script : ScriptView) (report : ReportView) (x m y : Replay) (t : TaskId) (g : Ready) (k : ℕ) (row row' : Place) (done : Done) (f : IsFollowed x.turns script report x.book.log x.book.held x.tasks.items x.rows.items x.roots) (b : Block) (z : Standing)
     → IsReplay script report x → Between x m t g k row row' → Applies m y t done → after_block script (after_blocks script (at_first script) f.blocks) b ≡ z
     → AllStand script report.checkpoints [] (f.blocks ++ b ∷ []) → root_in b ≡ None → y.book.log ≡ z.log → y.book.held ≡ z.held → AreGiven z.jobs y.tasks.items
-    → ((e : ℕ) (q : Place) → slice_get (slice_set x.rows.items k row') e ≡ Some q → IsPlace script report (f.blocks ++ b ∷ []) e q)
+    → ((e : ℕ) (q : Place) → slice_get (slice_set x.rows.items k row') e ≡ Some q → IsPlace x.turns script report (f.blocks ++ b ∷ []) e q)
     → IsReplay script report y
 replay_more script report x m y t g k row row' done f b z is between a here stand no_root log held given places =
     let after = after_push script (at_first script) f.blocks b ∙ here in
     let rows = a.rows_are ∙ between.rows_are in
+    let turns = sym (a.turns_are ∙ between.turns_are) in
     record {
       script_is = ap arc_value (a.script_is ∙ between.script_is) ∙ is.script_is;
       book_is = a.book_is ∙ ap (λ (c : BookView). c.script) between.book_is ∙ is.book_is;
       none = a.none;
+      known = subst (λ (ts : Turns). IsKnown ts script report) turns is.known;
       followed = record {
         blocks = f.blocks ++ b ∷ [];
         stand = stand;
         log_is = log ∙ ap (λ (c : Standing). c.log) (sym after);
         held_is = held ∙ ap (λ (c : Standing). c.held) (sym after);
         given = subst (λ (c : Standing). AreGiven c.jobs y.tasks.items) (sym after) given;
-        places = λ e q at. places e q (ap (λ (qs : List Place). slice_get qs e) (sym rows) ∙ at);
+        places = λ e q at. subst (λ (ts : Turns). IsPlace ts script report (f.blocks ++ b ∷ []) e q) turns (places e q (ap (λ (qs : List Place). slice_get qs e) (sym rows) ∙ at));
         roots_are = filter_none root_in f.blocks b no_root ∙ f.roots_are ∙ ap (range_with_len 0) (sym (a.roots_are ∙ between.roots_are));
       };
     }
@@ -227,20 +232,22 @@ replay_more script report x m y t g k row row' done f b z is between a here stan
 pub followed_ran : (script : ScriptView) (report : ReportView) (x m y : Replay) (k : ℕ) (t : TaskId) (g : Ready) (env : Env) (row row' : Place) (done : Done)
     → IsReplay script report x → Between x m t g k row row'
     → (life_of t.0 x.book.log).stage ≡ Some (Begun env) → IfRunning g.body.task.frames (λ q. actor_executor script (method_actor g.body.script q.method) ≡ k)
-    → Plays (journal_at report.journals k) row row' t g env done → Applies m y t done → IsReplay script report y
-followed_ran script report x m y k t g env row row' done is between begun_is on plays a =
+    → Follows x.turns (journal_at report.journals k) row row' t g env done → Found report k → Applies m y t done → IsReplay script report y
+followed_ran script report x m y k t g env row row' done is between begun_is on follows has a =
     let f = is.followed in
     let bs = f.blocks in
-    let r = turn_of t g plays.worker plays.frame env (effect_views done.effects.items) (exit_view done.exit) plays.after in
-    let turn = took script report x m y k t g env plays.frame plays.after row row' done f is.book_is between begun_is on plays.goes_on a in
+    let r = turn_of t g follows.worker follows.frame env (effect_views done.effects.items) (exit_view done.exit) follows.after in
+    let turn = took script report x m y k t g env follows.frame follows.after row row' done f is.book_is between begun_is on follows.goes_on a in
     let place = f.places k row between.at in
-    let fields = subst (λ (sc : ScriptView). rows_of row'.fields.items ≡ fields_after sc (rows_of row.fields.items) r) turn.same plays.fields in
-    let lawful = subst (λ (rows : List (List ℤ)). IsLawfulRecord script rows r) place.fields (subst (λ (sc : ScriptView). IsLawfulRecord sc (rows_of row.fields.items) r) turn.same plays.lawful) in
-    let own = place_played script report bs k row row' r place plays.there fields plays.played plays.folded in
+    let fields : ArePlayed x.turns → rows_of row'.fields.items ≡ fields_after script (rows_of row.fields.items) r =
+    λ are. subst (λ (sc : ScriptView). rows_of row'.fields.items ≡ fields_after sc (rows_of row.fields.items) r) turn.same (follows.fields are) in
+    let lawful = lawful_next x.turns script report bs k row.played r is.known has follows.there place.played
+    (λ are. subst (λ (rows : List (List ℤ)). IsLawfulRecord script rows r) (place.fields are) (subst (λ (sc : ScriptView). IsLawfulRecord sc (rows_of row.fields.items) r) turn.same (follows.lawful are))) in
+    let own = place_played x.turns script report bs k row row' r place follows.there fields follows.played follows.folded in
     replay_more script report x m y t g k row row' done f (ran k r) _ is between a refl
     (stand_push script report.checkpoints bs (ran k r) f.stand (record { job = given_view t.0 g; stands = turn.stands; resume = refl; outer = refl; lawful = lawful }))
     refl turn.log_is turn.held_is turn.given
-    (places_set (IsPlace script report bs) (IsPlace script report (bs ++ ran k r ∷ [])) x.rows.items k row row' between.at own (others_played script report bs k r) f.places)
+    (places_set (IsPlace x.turns script report bs) (IsPlace x.turns script report (bs ++ ran k r ∷ [])) x.rows.items k row row' between.at own (others_played x.turns script report bs k r) f.places)
 
 pub followed_folded : (script : ScriptView) (report : ReportView) (x m y : Replay) (k : ℕ) (t : TaskId) (g : Ready) (env : Env) (row row' : Place) (done : Done)
     → IsReplay script report x → Between x m t g k row row' → row.played ≡ 0
@@ -252,12 +259,12 @@ followed_folded script report x m y k t g env row row' done is between none begu
     let turn = folded_turn t g (effect_views done.effects.items) (exit_view done.exit) folds.after in
     let taken = took script report x m y k t g env folds.frame folds.after row row' done f is.book_is between begun_is on folds.goes_on a in
     let place = f.places k row between.at in
-    let own = place_folded script report bs k row row' turn place folds.there folds.fields folds.played folds.folded in
+    let own = place_folded x.turns script report bs k row row' turn place folds.there folds.fields folds.played folds.folded in
     let before = place.played ∙ ap (λ n. take n (journal_at report.journals k)) none in
     replay_more script report x m y t g k row row' done f (folded k turn) _ is between a refl
     (stand_push script report.checkpoints bs (folded k turn) f.stand (record { job = given_view t.0 g; env = env; frame = folds.frame; stands = taken.stands }, before))
     refl taken.log_is taken.held_is taken.given
-    (places_set (IsPlace script report bs) (IsPlace script report (bs ++ folded k turn ∷ [])) x.rows.items k row row' between.at own (others_folded script report bs k turn) f.places)
+    (places_set (IsPlace x.turns script report bs) (IsPlace x.turns script report (bs ++ folded k turn ∷ [])) x.rows.items k row row' between.at own (others_folded x.turns script report bs k turn) f.places)
 
 -- a job whose task and rest stand apart
 view_is : (j : JobIs BodyView) (t : TaskId) (g : Ready) → t ≡ j.task → g ≡ record { number = j.number; resume = j.resume; body = j.body } → given_view t.0 g ≡ job_view j
@@ -266,7 +273,7 @@ view_is j t g at is = ap (λ (x : TaskId). given_view x.0 g) at ∙ ap (λ (h : 
 -- what a step that runs no turn leaves
 pub record Leaves (script : ScriptView) (report : ReportView) (x : Replay) (b : BookView) (tasks : List (Option Ready)) (roots : ℕ) : Type 0 where
   pub book_is : b.script ≡ script
-  pub followed : IsFollowed script report b.log b.held tasks x.rows.items roots
+  pub followed : IsFollowed x.turns script report b.log b.held tasks x.rows.items roots
 
 -- a root is added to the second book
 pub root_step : (script : ScriptView) (report : ReportView) (x : Replay) (b : BookView) (tasks : List (Option Ready)) (j : JobIs BodyView) (t : TaskId) (g : Ready)
@@ -275,14 +282,14 @@ pub root_step : (script : ScriptView) (report : ReportView) (x : Replay) (b : Bo
     → Leaves script report x b tasks (x.roots + 1)
 root_step script report x b tasks j t g is ok may job at made put =
     let own = x.book.script in
-    let before : IsFollowed own report x.book.log x.book.held x.tasks.items x.rows.items x.roots =
-    subst (λ (sc : ScriptView). IsFollowed sc report x.book.log x.book.held x.tasks.items x.rows.items x.roots) (sym is.book_is) is.followed in
+    let before : IsFollowed x.turns own report x.book.log x.book.held x.tasks.items x.rows.items x.roots =
+    subst (λ (sc : ScriptView). IsFollowed x.turns sc report x.book.log x.book.held x.tasks.items x.rows.items x.roots) (sym is.book_is) is.followed in
     let view = view_is j t g at made ∙ job in
-    let more = followed_root own report x.book.log x.book.held x.tasks.items tasks x.rows.items x.roots t g before may view (ap (λ (v : JobView). v.task) view) put in
+    let more = followed_root x.turns own report x.book.log x.book.held x.tasks.items tasks x.rows.items x.roots t g before may view (ap (λ (v : JobView). v.task) view) put in
     record {
       book_is = ap (λ (c : BookView). c.script) ok ∙ is.book_is;
-      followed = subst (λ (c : BookView). IsFollowed script report c.log c.held tasks x.rows.items (x.roots + 1)) (sym ok)
-          (subst (λ (sc : ScriptView). IsFollowed sc report (x.book.log ++ root_events own x.roots) x.book.held tasks x.rows.items (x.roots + 1)) is.book_is more);
+      followed = subst (λ (c : BookView). IsFollowed x.turns script report c.log c.held tasks x.rows.items (x.roots + 1)) (sym ok)
+          (subst (λ (sc : ScriptView). IsFollowed x.turns sc report (x.book.log ++ root_events own x.roots) x.book.held tasks x.rows.items (x.roots + 1)) is.book_is more);
     }
 
 -- a turn begins in the second book
@@ -294,20 +301,20 @@ pub begin_step : (script : ScriptView) (report : ReportView) (x : Replay) (b : B
     → Leaves script report x b tasks x.roots
 begin_step script report x b between tasks j t t' g h env is was job ok may given at made took put =
     let own = x.book.script in
-    let before : IsFollowed own report x.book.log x.book.held x.tasks.items x.rows.items x.roots =
-    subst (λ (sc : ScriptView). IsFollowed sc report x.book.log x.book.held x.tasks.items x.rows.items x.roots) (sym is.book_is) is.followed in
+    let before : IsFollowed x.turns own report x.book.log x.book.held x.tasks.items x.rows.items x.roots =
+    subst (λ (sc : ScriptView). IsFollowed x.turns sc report x.book.log x.book.held x.tasks.items x.rows.items x.roots) (sym is.book_is) is.followed in
     let task = at ∙ ap (λ (k : JobIs BodyView). k.task) job in
     let same : h ≡ g = made ∙ ap (λ (k : JobIs BodyView). record { number = k.number; resume = k.resume; body = k.body }) job in
     let back : (u : ℕ) → given_at tasks u ≡ with_given t.0 (Some g) (given_at between) u =
     λ u. put u ∙ ap (λ (v : TaskId). with_given v.0 (Some h) (given_at between) u) task ∙ ap (λ (v : Ready). with_given t.0 (Some v) (given_at between) u) same in
     let may' = subst (λ (k : JobIs BodyView). refusal_of_begin own x.book.log k ≡ None) job may in
     let given' = subst (λ (k : JobIs BodyView). IsEnv (root_count own) k.task x.book.log env) job given in
-    let more = followed_begin own report x.book.log x.book.held x.tasks.items between tasks x.rows.items x.roots t g env before was may' given' took back in
+    let more = followed_begin x.turns own report x.book.log x.book.held x.tasks.items between tasks x.rows.items x.roots t g env before was may' given' took back in
     let ok' = ok ∙ ap (λ (k : JobIs BodyView). record x.book { log = x.book.log ++ Begin k.task k.number env ∷ [] }) job in
     record {
       book_is = ap (λ (c : BookView). c.script) ok ∙ is.book_is;
-      followed = subst (λ (c : BookView). IsFollowed script report c.log c.held tasks x.rows.items x.roots) (sym ok')
-          (subst (λ (sc : ScriptView). IsFollowed sc report (x.book.log ++ Begin t g.number env ∷ []) x.book.held tasks x.rows.items x.roots) is.book_is more);
+      followed = subst (λ (c : BookView). IsFollowed x.turns script report c.log c.held tasks x.rows.items x.roots) (sym ok')
+          (subst (λ (sc : ScriptView). IsFollowed x.turns sc report (x.book.log ++ Begin t g.number env ∷ []) x.book.held tasks x.rows.items x.roots) is.book_is more);
     }
 
 -- an answer that holds so holds otherwise too

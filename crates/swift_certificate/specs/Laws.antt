@@ -2,7 +2,7 @@
 use Rattle.std.specs.Prelude.{◌≡◌, ℕ, ℤ, IsTrue, Some, List, Contains, slice_get}
 use Rattle.script_code.specs.Tree.{Term}
 use Rattle.script_code.specs.Value.{holds}
-use Rattle.swift_script.specs.Scripts.{ScriptView, executor_invariants, executor_start}
+use Rattle.swift_script.specs.Scripts.{ScriptView, executor_invariants}
 use Rattle.swift_journal.specs.Records.{RecordView}
 use Rattle.swift_journal.specs.Checkpoints.{CheckpointView}
 use Rattle.swift_journal.specs.Replay.{AreLawful, RunOn, replay}
@@ -20,6 +20,10 @@ pub record IsReplayed (script : ScriptView) (e : ℕ) (journal : List RecordView
   pub lawful : AreLawful script checkpoint.fields journal
   pub runs : RunOn script e journal
   pub replayed : fields ≡ replay script checkpoint.fields journal
+
+-- each executor of a report is
+abbrev pub EachIsReplayed : ScriptView → ReportView → Type 0
+EachIsReplayed script report = (e : ℕ) (journal : List RecordView) (checkpoint : CheckpointView) (fields : List (List ℤ)) → HasExecutor report e journal checkpoint fields → IsReplayed script e journal checkpoint fields
 
 -- each executor of a legal report is
 abbrev pub LegalIsReplayed : Type 0

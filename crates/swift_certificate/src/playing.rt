@@ -1,4 +1,4 @@
-//! One turn, played again or taken from a checkpoint.
+//! One turn, played again or taken from a journal or a checkpoint.
 
 ghost use Rattle.std.specs.Prelude.{◌≡◌, ◌<◌, ◌↔◌, ◌+◌, IfOk, IfSome, IsTrue, None, ◌∷◌};
 ghost use Rattle.swift_interpreter.specs.Frames.{effect_view, effect_views, frame_view};
@@ -7,19 +7,29 @@ ghost use Rattle.swift_journal.specs.Records.{frame_if, frame_if_lent};
 ghost use Rattle.swift_history.specs.Histories.{left_as, makes_own, opens_group};
 ghost use Rattle.swift_script.specs.Scripts.{method_count};
 ghost use Rattle.swift_turn.specs.Body.{HasFirst, IsRunning, callers_of};
-ghost use Rattle.swift_certificate.specs.ReplayInside.{Folds, IsAfterFrame, IsLeft, Plays};
+ghost use Rattle.swift_certificate.specs.declared.playing.Turns.TheVariants.{Play, Read};
+ghost use Rattle.swift_certificate.specs.ReplayInside.{Folds, Follows, IsAfterFrame, IsLeft, Takes};
 
 use crate::waiting::Ready;
 use script_code::Env;
 use std::alloc::{AllocError, Global};
 use std::mem;
 use swift_interpreter::{Effect, Exit, Frame};
-use swift_journal::{Checkpoint, Folded, Journal, Record};
+use swift_journal::{Checkpoint, Folded, Journal, OwnedRecord, Record};
 use swift_turn::{Body, replay_turn};
 use swift_types::TaskId;
 
-/// How far an executor was followed: the fields of its actors, a list for each, and how many of its checkpoint's turns and of
-/// its journal's there were.
+/// What is done with the turns of journals.
+#[derive(Clone, Copy)]
+pub enum Turns {
+    /// Each is played again.
+    Play,
+    /// They are known to be lawful. None is played, and fields are not followed.
+    Read,
+}
+
+/// How far an executor was followed: the fields of its actors, a list for each, where turns are played; and how many of its
+/// checkpoint's turns and of its journal's there were.
 #[derive(Drop)]
 pub struct Place {
     pub fields: Vec<Vec<i64>>,
@@ -101,9 +111,9 @@ fn settle(body: &mut Body, before: Frame, exit: &Exit, effects: &[Effect]) -> bo
     true
 }
 
-/// Plays the next turn of an executor's journal again, from what its task's job gives. Nothing where the journal has another
-/// turn there, or none.
-pub fn play(
+// Plays the next turn of an executor's journal again, from what its task's job gives. Nothing where the journal has another
+// turn there, or none.
+fn play(
     alloc: Global,
     row: &mut Place,
     journal: &Journal,
@@ -113,7 +123,7 @@ pub fn play(
     env: Env,
 ) -> Result<Option<Done>, AllocError>
     requires running { IsRunning ready.body }
-    ensures { IfOk result (λ answer. IfSome answer (λ done. Plays journal.now row.old row.new task ready env done)) }
+    ensures { IfOk result (λ answer. IfSome answer (λ done. Follows Play journal.now row.old row.new task ready env done)) }
 {
     let place = row.played;
     if place >= journal.len() {
@@ -160,7 +170,7 @@ pub fn play(
     }))
 }
 
-// The frame with which a task goes on after a folded turn.
+// The frame with which a task goes on after a turn that is not played.
 fn frame_after(
     body: &Body,
     effects: &[Effect],
@@ -174,6 +184,99 @@ fn frame_after(
         Some(frame) if body.can_put_back(&frame) => Ok(Some(frame)),
         Some(_) => Ok(None),
         None => Ok(counted(body.frame()?, effects)),
+    }
+}
+
+// A task's job after a turn that was not played, which has ended so. Nothing where the frame after it cannot stand there.
+fn taken(
+    ready: Ready,
+    exit: Exit,
+    effects: Vec<Effect>,
+    after: Option<Frame>,
+) -> Result<Option<Done>, AllocError>
+    requires running { IsRunning ready.body }
+    ensures { IfOk result (λ answer. IfSome answer (λ done. Takes ready (effect_views effects.items) (exit_view exit) (frame_if after) done)) }
+{
+    let Some(frame) = frame_after(&ready.body, &effects, after)? else {
+        return Ok(None);
+    };
+    let mut ready = ready;
+    ready.body.put_back(frame);
+    Ok(Some(Done {
+        ready,
+        exit,
+        effects,
+    }))
+}
+
+// Takes the next turn of an executor's journal as it stands there. Nothing where the journal has a turn there that does not begin
+// with what its task's job gives, or none.
+fn read(
+    alloc: Global,
+    row: &mut Place,
+    journal: &Journal,
+    scratch: &mut Journal,
+    task: TaskId,
+    ready: Ready,
+    env: Env,
+) -> Result<Option<Done>, AllocError>
+    requires running { IsRunning ready.body }
+    ensures { IfOk result (λ answer. IfSome answer (λ done. Follows Read journal.now row.old row.new task ready env done)) }
+{
+    let place = row.played;
+    if place >= journal.len() {
+        return Ok(None);
+    }
+    let OwnedRecord {
+        task: _,
+        number: _,
+        worker,
+        frame: _,
+        outer: _,
+        resume: _,
+        env: _,
+        exit,
+        effects,
+        after,
+    } = journal.read(alloc, place)?;
+    let lent = after.as_ref();
+    let turn = Record {
+        task,
+        number: ready.number,
+        worker,
+        frame: ready.body.top(),
+        outer: ready.body.outer(),
+        resume: ready.resume,
+        env,
+        exit: &exit,
+        effects: &effects,
+        after: lent,
+    };
+    if !journal.has(place, &turn, scratch)? {
+        return Ok(None);
+    }
+    row.played += 1;
+    taken(ready, exit, effects, after)
+}
+
+/// Takes the next turn of an executor's journal, and compares it with what its task's job gives: the whole turn, played again,
+/// or what it begins with. Nothing where the journal has another turn there, or none.
+pub fn next(
+    alloc: Global,
+    turns: Turns,
+    row: &mut Place,
+    journal: &Journal,
+    scratch: &mut Journal,
+    task: TaskId,
+    ready: Ready,
+    env: Env,
+) -> Result<Option<Done>, AllocError>
+    requires running { IsRunning ready.body }
+    ensures { IfOk result (λ answer. IfSome answer (λ done. Follows turns journal.now row.old row.new task ready env done)) }
+{
+    match turns {
+        Turns::Play => play(alloc, row, journal, scratch, task, ready, env),
+        Turns::Read => read(alloc, row, journal, scratch, task, ready, env),
     }
 }
 
@@ -202,15 +305,6 @@ pub fn fold(
     if of != task || number != ready.number {
         return Ok(None);
     }
-    let Some(frame) = frame_after(&ready.body, &effects, after)? else {
-        return Ok(None);
-    };
     row.folded += 1;
-    let mut ready = ready;
-    ready.body.put_back(frame);
-    Ok(Some(Done {
-        ready,
-        exit,
-        effects,
-    }))
+    taken(ready, exit, effects, after)
 }

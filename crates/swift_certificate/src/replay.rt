@@ -7,9 +7,9 @@ ghost use Rattle.swift_events.specs.declared.life.Stage.TheVariants.{Begun};
 ghost use Rattle.swift_events.specs.Lives.{life_of};
 ghost use Rattle.swift_turn.specs.Body.{IsRunning};
 ghost use Rattle.swift_certificate.specs.Reports.{report_view};
-ghost use Rattle.swift_certificate.specs.ReplayInside.{Applies, ArePlaces, IsReplay, RunsAt};
+ghost use Rattle.swift_certificate.specs.ReplayInside.{Applies, ArePlaces, ArePlayed, IsKnown, IsReplay, RunsAt};
 
-use crate::playing::{Done, Place, fold, play};
+use crate::playing::{Done, Place, Turns, fold, next};
 use crate::waiting::{Ready, give_all_up, put, put_all, take};
 use script_code::Env;
 use std::alloc::{AllocError, Global};
@@ -29,6 +29,7 @@ use swift_types::{RootId, TaskId};
 pub struct Replay {
     pub alloc: Global,
     pub script: Arc<Script>,
+    pub turns: Turns,
     pub book: Book,
     // By the number of the task. A task that waits or has ended has none.
     pub tasks: Vec<Option<Ready>>,
@@ -53,14 +54,32 @@ fn copy_of(alloc: Global, rows: &[Vec<i64>]) -> Result<Vec<Vec<i64>>, AllocError
     Ok(copy)
 }
 
-// No turn of any executor was followed: their fields are those of their checkpoints.
-fn first_places(alloc: Global, checkpoints: &[Checkpoint]) -> Result<Vec<Place>, AllocError>
-    ensures { IfOk result (λ rows. ArePlaces checkpoints.now rows.items) }
+// The fields that the turns of a journal are played on, where they are played: those of its checkpoint.
+fn first_fields(
+    alloc: Global,
+    turns: Turns,
+    checkpoint: &Checkpoint,
+) -> Result<Vec<Vec<i64>>, AllocError>
+    ensures { IfOk result (λ fields. ArePlayed turns → rows_of fields.items ≡ checkpoint.now.view.fields) }
+{
+    match turns {
+        Turns::Play => copy_of(alloc, checkpoint.fields()),
+        Turns::Read => Ok(Vec::new(alloc)),
+    }
+}
+
+// No turn of any executor was followed.
+fn first_places(
+    alloc: Global,
+    turns: Turns,
+    checkpoints: &[Checkpoint],
+) -> Result<Vec<Place>, AllocError>
+    ensures { IfOk result (λ rows. ArePlaces turns checkpoints.now rows.items) }
 {
     let mut rows = Vec::with_capacity(alloc, checkpoints.len())?;
     for checkpoint in checkpoints {
         rows.push(Place {
-            fields: copy_of(alloc, checkpoint.fields())?,
+            fields: first_fields(alloc, turns, checkpoint)?,
             folded: 0,
             played: 0,
         })?;
@@ -80,10 +99,16 @@ fn refused(fault: BookFault) -> Result<bool, AllocError>
 
 impl Replay {
     /// Nothing of a report was followed.
-    pub fn new(alloc: Global, script: &Arc<Script>, report: &Report) -> Result<Replay, AllocError>
+    pub fn new(
+        alloc: Global,
+        turns: Turns,
+        script: &Arc<Script>,
+        report: &Report,
+    ) -> Result<Replay, AllocError>
+        requires { IsKnown turns (arc_value script.now) (report_view report.now) }
         ensures { IfOk result (λ replay. IsReplay (arc_value script.now) (report_view report.now) replay) }
     {
-        let rows = first_places(alloc, &report.checkpoints)?;
+        let rows = first_places(alloc, turns, &report.checkpoints)?;
         let own = Arc::clone(script)?;
         let Ok(book) = Book::new(alloc, Arc::clone(script)?) else {
             return Err(AllocError);
@@ -91,6 +116,7 @@ impl Replay {
         Ok(Replay {
             alloc,
             script: own,
+            turns,
             book,
             tasks: Vec::new(alloc),
             rows,
@@ -216,8 +242,8 @@ impl Replay {
         }
     }
 
-    // A turn is played again, and compared with the next one of the journal.
-    fn play_turn(
+    // A turn is compared with the next one of the journal.
+    fn journal_turn(
         &mut self,
         report: &Report,
         place: usize,
@@ -228,7 +254,9 @@ impl Replay {
         requires runs { RunsAt (arc_value self.old.script) self.old.tasks.items task place }
         requires begun { (life_of task.0 self.old.book.log).stage ≡ Some (Begun env) }
         requires place { place < length self.old.rows.items }
-        requires there { place < length report.now.journals.items }
+        requires journal { place < length report.now.journals.items }
+        requires checkpoint { place < length report.now.checkpoints.items }
+        requires fields { place < length report.now.fields.items }
         ensures script { self.new.script ≡ self.old.script }
         ensures follows { IfOk result (λ goes_on. IsTrue goes_on → IsReplay (arc_value self.old.script) (report_view report.now) self.new) }
     {
@@ -237,8 +265,9 @@ impl Replay {
         };
         let row = &mut self.rows[place];
         let journal = &report.journals[place];
-        let played = play(
+        let followed = next(
             self.alloc,
+            self.turns,
             row,
             journal,
             &mut self.scratch,
@@ -246,7 +275,7 @@ impl Replay {
             ready,
             env,
         )?;
-        match played {
+        match followed {
             Some(done) => self.apply(task, done),
             None => Ok(false),
         }
@@ -267,13 +296,14 @@ impl Replay {
         if place >= self.rows.len()
             || place >= report.checkpoints.len()
             || place >= report.journals.len()
+            || place >= report.fields.len()
         {
             return Ok(false);
         }
         if self.rows[place].folded < report.checkpoints[place].len() {
             self.fold_turn(report, place, task, env)
         } else {
-            self.play_turn(report, place, task, env)
+            self.journal_turn(report, place, task, env)
         }
     }
 
@@ -296,6 +326,7 @@ impl Replay {
         let Replay {
             alloc: _,
             script: _,
+            turns: _,
             book,
             tasks: _,
             rows: _,

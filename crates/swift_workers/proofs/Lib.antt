@@ -1,3 +1,4 @@
+pub mod Certified
 pub mod CrossesThreads
 pub mod Desks
 pub mod Left

@@ -24,7 +24,7 @@ use std::random::RandomSource;
 use std::sync::{Arc, Mutex, Wait};
 use std::thread;
 use std::thread::Threads;
-use swift_certificate::legal;
+use swift_certificate::legal_if_replayed;
 use swift_executor::{Exec, Gate};
 use swift_queue::Job;
 use swift_report::Report;
@@ -35,7 +35,8 @@ use swift_types::limits::WORKERS;
 
 /// Runs a script to its end on one to eight threads, and leaves the report of the run (SE-0304 for tasks, SE-0392 for executors
 /// that run one job at a time; the pool of tokens is our own). Before it is handed out, the report is followed again by a second
-/// book (`swift_certificate::legal`).
+/// book (`swift_certificate::legal_if_replayed`). No turn is played again there: the executors keep their journals lawful, and
+/// their fields are what these give. This takes one thread, time and memory linear in the log, the journals and the endings.
 ///
 /// An executor with jobs has a token, until a worker takes it. A worker takes the oldest token of an executor that it may run,
 /// runs one turn there, puts the token behind the others where more is pending, and then sends the jobs that the turn made; an
@@ -70,7 +71,7 @@ where
         return Err(RunFault::Workers);
     }
     let report = run_all(rt, &script, workers, gate)?;
-    match legal(rt.alloc(), &script, &report) {
+    match legal_if_replayed(rt.alloc(), &script, &report) {
         Ok(true) => Ok(report),
         Ok(false) => Err(RunFault::Illegal),
         Err(_) => Err(RunFault::Memory),
