@@ -62,7 +62,7 @@ where
     match count {
         None => stage(rt, wait, name.as_str()),
         Some(word) => match word.parse::<u32>() {
-            Ok(workers) if name == "run" => script::measure(rt, wait, Stage::Run, workers),
+            Ok(workers) if name.as_str() == "run" => script::measure(rt, wait, Stage::Run, workers),
             Ok(entries) => measure_part(rt, name.as_str(), entries),
             Err(_) => Err(BenchFault::Words),
         },
