@@ -28,12 +28,7 @@ pub enum Stage {
 }
 
 // Takes the script on standard input as far as a stage, and says how long each one took.
-pub fn measure<W>(
-    rt: &HostRuntime,
-    wait: &W,
-    stage: Stage,
-    workers: u32,
-) -> Result<(), BenchFault>
+pub fn measure<W>(rt: &HostRuntime, wait: &W, stage: Stage, workers: u32) -> Result<(), BenchFault>
 where
     W: RandomSource + AllocGlobal + Threads + Wait + Sync,
 {

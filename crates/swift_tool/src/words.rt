@@ -22,7 +22,9 @@ fn command<'a>(alloc: Global) -> Result<Command<'a>, Error> {
         .help("Leaves the journals out of the report")
         .action(ArgAction::SetTrue);
     let command = Command::new(alloc, "swiftrun")
-        .about("Runs a script of actors from standard input, and prints the journal of each executor, how each task ended, and the fields")
+        .about(
+            "Runs a script of actors from standard input, and prints the journal of each executor, how each task ended, and the fields",
+        )
         .arg(workers)?
         .arg(quiet)?;
     Ok(command)

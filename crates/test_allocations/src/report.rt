@@ -48,12 +48,7 @@ where
 }
 
 // A run, made again where it is refused.
-fn report_again<W>(
-    rt: &HostRuntime,
-    wait: &W,
-    script: &Arc<Script>,
-    workers: u32,
-) -> Option<Report>
+fn report_again<W>(rt: &HostRuntime, wait: &W, script: &Arc<Script>, workers: u32) -> Option<Report>
 where
     W: RandomSource + AllocGlobal + Threads + Wait + Sync,
 {
