@@ -1,5 +1,5 @@
 -- A report that was followed to its end.
-use Rattle.std.proofs.Common.{◌≡◌, ◌≢◌, ◌<◌, ◌≤◌, ℕ, get_or, ◌+◌, ℤ, List, [], length, map, refl, sym, subst, ap, ◌∙◌, arith, inl, inr}
+use Rattle.std.proofs.Common.{◌≡◌, ◌≢◌, ◌<◌, ◌≤◌, ℕ, get_or, ◌+◌, ℤ, List, [], length, map, true, refl, sym, subst, ap, ◌∙◌, arith, inl, inr}
 use Rattle.std.specs.Prelude.{Option, Some, option_map, slice_get, take, unwrap_or}
 use Rattle.std.specs.List.{range_with_len}
 use Rattle.std.proofs.lemmas.Bool.{cases_eq}
@@ -11,6 +11,7 @@ use Rattle.swift_events.specs.declared.event.Event.{Event}
 use Rattle.swift_events.specs.declared.life.Origin.{Origin}
 use Rattle.swift_events.specs.Events.{tasks_of}
 use Rattle.swift_events.specs.Lives.{life_of}
+use Rattle.swift_events.specs.Relations.{opened_by, is_closed}
 use Rattle.swift_journal.specs.Records.{RecordView}
 use Rattle.swift_journal.specs.Checkpoints.{CheckpointView}
 use Rattle.swift_history.specs.Histories.{IsLegal, ReportView, no_checkpoint, records_of}
@@ -53,8 +54,9 @@ all_taken xs n is = ap (λ k. take k xs) is ∙ take-length xs
 pub legal_is : (script : ScriptView) (report : ReportView) (x : Replay) → IsReplay script report x → report.log ≡ x.book.log → x.roots ≡ root_count script
     → length report.endings ≡ tasks_of (root_count x.book.script) x.book.log
     → ((t : ℕ) (e : Origin × Ending) → slice_get report.endings t ≡ Some e → ((life_of t x.book.log).origin ≡ Some e.0) × ((life_of t x.book.log).ending ≡ Some e.1))
+    → ((t g : ℕ) → t < length report.endings → g < opened_by t x.book.log → is_closed t g x.book.log ≡ true)
     → AreEndedAt x.turns script x.rows.items report → IsLegal script report
-legal_is script report x is log roots many each ended =
+legal_is script report x is log roots many each closed ended =
     let f = is.followed in
     let row_at : (e : ℕ) → e < executor_count script → (row : Place) × (slice_get x.rows.items e ≡ Some row) = λ e lt. there x.rows.items e (subst (λ (n : ℕ). e < n) (sym ended.rows_many) lt) in
     let journal_of : (e : ℕ) → e < executor_count script → (j : List RecordView) × (slice_get report.journals e ≡ Some j) = λ e lt. there report.journals e (subst (λ (n : ℕ). e < n) (sym ended.many.0) lt) in
@@ -94,6 +96,7 @@ legal_is script report x is log roots many each ended =
           (λ are. sym (ends.fields_are are) ∙ (f.places e row.0 row.1).fields are));
       tasks = many ∙ ap (λ (p : ScriptView). tasks_of (root_count p) x.book.log) is.book_is ∙ ap (tasks_of (root_count script)) (sym log);
       endings = λ t e at. subst (λ (l : List Event). ((life_of t l).origin ≡ Some e.0) × ((life_of t l).ending ≡ Some e.1)) (sym log) (each t e at);
+      groups = subst (λ (l : List Event). (t g : ℕ) → t < length report.endings → g < opened_by t l → is_closed t g l ≡ true) (sym log) closed;
     }
 
 pub at_place : {A : Type 0} (xs : List A) (i : ℕ) (x : A) → i < length xs → x ≡ get_or xs i x → slice_get xs i ≡ Some x

@@ -1,5 +1,5 @@
 -- What the next turn of each task begins with, when a job comes or goes.
-use Rattle.std.proofs.Common.{◌≡◌, ◌≢◌, ℕ, List, [], ◌∷◌, ◌++◌, map, reverse, refl, sym, ap, ◌∙◌, true, false, arith, inl, inr}
+use Rattle.std.proofs.Common.{◌≡◌, ◌≢◌, ℕ, List, [], ◌∷◌, ◌++◌, map, reverse, refl, sym, subst, ap, ◌∙◌, true, false, arith, inl, inr}
 use Rattle.std.specs.Prelude.{Option, Some, None, if◌then◌else◌, ◌==◌}
 use Rattle.std.proofs.lemmas.Bool.{cases_eq}
 use Rattle.std.proofs.lemmas.Bool.Decides.{nat_tests}
@@ -8,12 +8,14 @@ use Rattle.std.proofs.lemmas.List.{reverse-append}
 use Rattle.swift_types.specs.declared.id.TaskId.{TaskId}
 use Rattle.swift_queue.specs.Job.{JobIs}
 use Rattle.swift_turn.specs.Body.{BodyView}
-use Rattle.swift_tasks.specs.Books.{job_view}
+use Rattle.std.specs.List.{AllByRecursion}
+use Rattle.swift_script.specs.Scripts.{ScriptView}
+use Rattle.swift_tasks.specs.Books.{IsJobOf, job_view}
 use Rattle.swift_history.specs.Histories.{taken, with_jobs}
 use Rattle.swift_history.specs.TurnEnds.{JobView}
 use Rattle.swift_certificate.specs.declared.waiting.Ready.{Ready}
 use Rattle.swift_certificate.proofs.Blocks.{same_one}
-use Rattle.swift_certificate.specs.ReplayInside.{AreGiven, given_at, given_view, with_given}
+use Rattle.swift_certificate.specs.ReplayInside.{AreGiven, AreOf, given_at, given_view, with_given}
 
 pub equal : (a b : ℕ) → a ≡ b → (a == b) ≡ true
 equal a b is = grind (arith, nat_tests)
@@ -82,3 +84,42 @@ given_step now tasks tasks' js j t g at is given put = (
       ∙ ap (λ (h : Ready). with_jobs (map job_view (reverse js)) (λ u. if u == j.task.0 then Some (given_view j.task.0 h) else now u)) is
       ∙ sym (ap (λ (xs : List (JobIs BodyView)). with_jobs (map job_view xs) now) (last_first js j))),
 )
+
+-- the bodies of jobs
+
+pub of_put : (script : ScriptView) (tasks tasks' : List (Option Ready)) (t : ℕ) (g : Ready)
+    → AreOf script tasks → ((u : ℕ) → given_at tasks' u ≡ with_given t (Some g) (given_at tasks) u) → g.body.script ≡ script → AreOf script tasks'
+of_put script tasks tasks' t g all put own u h is = elim (cases_eq u t) [
+  | inl e ↦
+      let here : with_given t (Some g) (given_at tasks) u ≡ Some g = ap (λ b. if b then Some g else given_at tasks u) (equal u t e) in
+      let same : g ≡ h = same_one g h (sym here ∙ sym (put u) ∙ is) in
+      ap (λ (x : Ready). x.body.script) (sym same) ∙ own
+  | inr ne ↦
+      let here = ap (λ b. if b then Some g else given_at tasks u) (unequal u t ne) in
+      all u h (sym here ∙ sym (put u) ∙ is)
+]
+
+pub of_taken : (script : ScriptView) (tasks tasks' : List (Option Ready)) (t : ℕ) → AreOf script tasks → ((u : ℕ) → given_at tasks' u ≡ with_given t None (given_at tasks) u) → AreOf script tasks'
+of_taken script tasks tasks' t all took u h is = elim (cases_eq u t) [
+  | inl e ↦
+      let here = ap (λ b. if b then None else given_at tasks u) (equal u t e) in
+      absurd (none-some h (sym here ∙ sym (took u) ∙ is))
+  | inr ne ↦
+      let here = ap (λ b. if b then None else given_at tasks u) (unequal u t ne) in
+      all u h (sym here ∙ sym (took u) ∙ is)
+]
+
+all_push : (script : ScriptView) (js : List (JobIs BodyView)) (j : JobIs BodyView) → AllByRecursion (IsJobOf script) js → IsJobOf script j → AllByRecursion (IsJobOf script) (js ++ j ∷ [])
+all_push script [] j all is = (is, tt)
+all_push script (k ∷ js) j all is = (all.0, all_push script js j all.1 is)
+
+pub all_turned : (script : ScriptView) (js : List (JobIs BodyView)) → AllByRecursion (IsJobOf script) js → AllByRecursion (IsJobOf script) (reverse js)
+all_turned script [] all = tt
+all_turned script (j ∷ js) all = subst (AllByRecursion (IsJobOf script)) (sym (reverse-append (j ∷ []) js)) (all_push script (reverse js) j (all_turned script js all.1) all.0)
+
+-- the last of such jobs is put to the others
+pub of_step : (script : ScriptView) (tasks tasks' : List (Option Ready)) (js : List (JobIs BodyView)) (j : JobIs BodyView) (t : TaskId) (g : Ready)
+    → g ≡ record { number = j.number; resume = j.resume; body = j.body } → ((u : ℕ) → given_at tasks' u ≡ with_given t.0 (Some g) (given_at tasks) u)
+    → AllByRecursion (IsJobOf script) (js ++ j ∷ []) × AreOf script tasks → AllByRecursion (IsJobOf script) js × AreOf script tasks'
+of_step script tasks tasks' [] j t g is put (all, of) = (tt, of_put script tasks tasks' t.0 g of put (ap (λ (x : Ready). x.body.script) is ∙ all.0.script_is))
+of_step script tasks tasks' (k ∷ js) j t g is put (all, of) = (let rest = of_step script tasks tasks' js j t g is put (all.1, of) in ((all.0, rest.0), rest.1))

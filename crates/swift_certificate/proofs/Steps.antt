@@ -29,17 +29,17 @@ use Rattle.swift_history.specs.Checks.{counters, fits_turn, is_current}
 use Rattle.swift_history.specs.Histories.{AllStand, Block, added, begun, ran, folded, ReportView, Standing, TurnStands, after_block, after_blocks, at_first, begun_priority, checkpoint_at, frames_applied, job_applied, left_as, root_in, taken, turn_applied, with_jobs}
 use Rattle.swift_history.specs.TurnEnds.{HeldView, JobView, TurnEnd, root_events, root_job, turn_end}
 use Rattle.swift_tasks.specs.declared.fault.BookFault.{BookFault}
-use Rattle.swift_tasks.specs.Books.{BookView, end_of_frames, end_of_turn, job_view}
+use Rattle.swift_tasks.specs.Books.{BookView, IsJobOf, end_of_frames, end_of_turn, job_view}
 use Rattle.swift_tasks.specs.Refusals.{fits_begun, refusal_of_apply, refusal_of_begin, refusal_of_root, refused_unless}
 use Rattle.swift_certificate.specs.declared.waiting.Ready.{Ready}
 use Rattle.swift_certificate.specs.declared.playing.Done.{Done}
 use Rattle.swift_certificate.specs.declared.playing.Place.{Place}
 use Rattle.swift_certificate.specs.declared.playing.Turns.{Turns}
 use Rattle.swift_certificate.specs.declared.replay.Replay.{Replay}
-use Rattle.swift_certificate.specs.ReplayInside.{AreGiven, ArePlayed, Applies, Folds, Follows, GoesOn, IsFollowed, IsKnown, IsPlace, IsReplay, folded_turn, given_at, given_view, job_of, journal_at, turn_of, with_given}
+use Rattle.swift_certificate.specs.ReplayInside.{AreGiven, AreOf, ArePlayed, Applies, Folds, Follows, GoesOn, IsFollowed, IsKnown, IsPlace, IsReplay, folded_turn, given_at, given_view, job_of, journal_at, turn_of, with_given}
 use Rattle.swift_certificate.proofs.Blocks.{range_next, after_push, filter_none, filter_some, stand_push}
 use Rattle.swift_certificate.proofs.First.{checkpoint_view}
-use Rattle.swift_certificate.proofs.Given.{given_back, given_put, given_taken}
+use Rattle.swift_certificate.proofs.Given.{given_back, given_put, given_taken, of_put, of_taken}
 use Rattle.swift_certificate.proofs.Known.{Found, lawful_next}
 use Rattle.swift_certificate.proofs.Places.{others_folded, others_played, place_folded, place_played, place_stays, places_set}
 
@@ -213,11 +213,13 @@ replay_more script report x m y t g k row row' done f b z is between a here stan
     let after = after_push script (at_first script) f.blocks b ∙ here in
     let rows = a.rows_are ∙ between.rows_are in
     let turns = sym (a.turns_are ∙ between.turns_are) in
+    let own : m.book.script ≡ script = ap (λ (c : BookView). c.script) between.book_is ∙ is.book_is in
     record {
       script_is = ap arc_value (a.script_is ∙ between.script_is) ∙ is.script_is;
       book_is = a.book_is ∙ ap (λ (c : BookView). c.script) between.book_is ∙ is.book_is;
       none = a.none;
       known = subst (λ (ts : Turns). IsKnown ts script report) turns is.known;
+      scripts = subst (λ (sc : ScriptView). AreOf sc y.tasks.items) own (a.scripts (subst (λ (sc : ScriptView). AreOf sc m.tasks.items) (sym own) (of_taken script x.tasks.items m.tasks.items t.0 is.scripts between.taken_out)));
       followed = record {
         blocks = f.blocks ++ b ∷ [];
         stand = stand;
@@ -273,14 +275,15 @@ view_is j t g at is = ap (λ (x : TaskId). given_view x.0 g) at ∙ ap (λ (h : 
 -- what a step that runs no turn leaves
 pub record Leaves (script : ScriptView) (report : ReportView) (x : Replay) (b : BookView) (tasks : List (Option Ready)) (roots : ℕ) : Type 0 where
   pub book_is : b.script ≡ script
+  pub scripts : AreOf script tasks
   pub followed : IsFollowed x.turns script report b.log b.held tasks x.rows.items roots
 
 -- a root is added to the second book
 pub root_step : (script : ScriptView) (report : ReportView) (x : Replay) (b : BookView) (tasks : List (Option Ready)) (j : JobIs BodyView) (t : TaskId) (g : Ready)
     → IsReplay script report x → b ≡ record x.book { log = x.book.log ++ root_events x.book.script x.roots } → refusal_of_root x.book.script x.book.log x.roots ≡ None → job_view j ≡ root_job x.book.script x.roots
-    → t ≡ j.task → g ≡ record { number = j.number; resume = j.resume; body = j.body } → ((u : ℕ) → given_at tasks u ≡ with_given t.0 (Some g) (given_at x.tasks.items) u)
+    → IsJobOf x.book.script j → t ≡ j.task → g ≡ record { number = j.number; resume = j.resume; body = j.body } → ((u : ℕ) → given_at tasks u ≡ with_given t.0 (Some g) (given_at x.tasks.items) u)
     → Leaves script report x b tasks (x.roots + 1)
-root_step script report x b tasks j t g is ok may job at made put =
+root_step script report x b tasks j t g is ok may job of at made put =
     let own = x.book.script in
     let before : IsFollowed x.turns own report x.book.log x.book.held x.tasks.items x.rows.items x.roots =
     subst (λ (sc : ScriptView). IsFollowed x.turns sc report x.book.log x.book.held x.tasks.items x.rows.items x.roots) (sym is.book_is) is.followed in
@@ -288,6 +291,7 @@ root_step script report x b tasks j t g is ok may job at made put =
     let more = followed_root x.turns own report x.book.log x.book.held x.tasks.items tasks x.rows.items x.roots t g before may view (ap (λ (v : JobView). v.task) view) put in
     record {
       book_is = ap (λ (c : BookView). c.script) ok ∙ is.book_is;
+      scripts = of_put script x.tasks.items tasks t.0 g is.scripts put (ap (λ (h : Ready). h.body.script) made ∙ of.script_is ∙ is.book_is);
       followed = subst (λ (c : BookView). IsFollowed x.turns script report c.log c.held tasks x.rows.items (x.roots + 1)) (sym ok)
           (subst (λ (sc : ScriptView). IsFollowed x.turns sc report (x.book.log ++ root_events own x.roots) x.book.held tasks x.rows.items (x.roots + 1)) is.book_is more);
     }
@@ -313,6 +317,7 @@ begin_step script report x b between tasks j t t' g h env is was job ok may give
     let ok' = ok ∙ ap (λ (k : JobIs BodyView). record x.book { log = x.book.log ++ Begin k.task k.number env ∷ [] }) job in
     record {
       book_is = ap (λ (c : BookView). c.script) ok ∙ is.book_is;
+      scripts = of_put script between tasks t.0 g (of_taken script x.tasks.items between t.0 is.scripts took) back (is.scripts t.0 g was);
       followed = subst (λ (c : BookView). IsFollowed x.turns script report c.log c.held tasks x.rows.items x.roots) (sym ok')
           (subst (λ (sc : ScriptView). IsFollowed x.turns sc report (x.book.log ++ Begin t g.number env ∷ []) x.book.held tasks x.rows.items x.roots) is.book_is more);
     }

@@ -52,6 +52,10 @@ given_view t g = record { task = t; number = g.number; resume = g.resume; frames
 abbrev pub AreGiven : (ℕ → Option JobView) → List (Option Ready) → Type 0
 AreGiven seen tasks = (t : ℕ) (g : Ready) → given_at tasks t ≡ Some g → seen t ≡ Some (given_view t g)
 
+-- the body of each is of the script
+abbrev pub AreOf : ScriptView → List (Option Ready) → Type 0
+AreOf script tasks = (t : ℕ) (g : Ready) → given_at tasks t ≡ Some g → g.body.script ≡ script
+
 -- such an exit leaves its frame
 abbrev pub IsLeft : ExitView → Type 0
 IsLeft (returning v) = Unit {0}
@@ -156,6 +160,7 @@ pub record IsReplay (script : ScriptView) (report : ReportView) (x : Replay) : T
   pub book_is : x.book.script ≡ script
   pub none : x.jobs.items ≡ []
   pub known : IsKnown x.turns script report
+  pub scripts : AreOf script x.tasks.items
   pub followed : IsFollowed x.turns script report x.book.log x.book.held x.tasks.items x.rows.items x.roots
 
 -- the job of a task, where it has one, is of an actor of this executor
@@ -180,6 +185,7 @@ pub record Applies (old new : Replay) (task : TaskId) (done : Done) : Type 0 whe
   pub jobs : List JobView
   pub ends : IsEndOf old.book [] (job_of task done.ready) (effect_views done.effects.items) (exit_view done.exit) new.book.log new.book.held jobs
   pub given : (seen : ℕ → Option JobView) → AreGiven seen old.tasks.items → AreGiven (with_jobs jobs seen) new.tasks.items
+  pub scripts : AreOf old.book.script old.tasks.items → AreOf old.book.script new.tasks.items
 
 -- An executor was followed to its end, and has these fields there, where turns are played.
 pub record EndsAt (turns : Turns) (script : ScriptView) (e : ℕ) (row : Place) (journal : List RecordView) (checkpoint : CheckpointView) (fields : List (List ℤ)) : Type 0 where

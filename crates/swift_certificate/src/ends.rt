@@ -1,6 +1,6 @@
 //! What a report says at its end.
 
-ghost use Rattle.std.specs.Prelude.{◌≡◌, ◌<◌, ℕ, IfOk, IsTrue, Some, length, slice_get};
+ghost use Rattle.std.specs.Prelude.{◌≡◌, ◌<◌, ℕ, IfOk, IsTrue, Some, true, length, slice_get};
 ghost use Rattle.std.specs.Arc.{arc_value};
 ghost use Rattle.script_code.specs.Seen.{rows_of};
 ghost use Rattle.swift_types.specs.declared.outcome.Ending.{Ending as Ends};
@@ -8,6 +8,7 @@ ghost use Rattle.swift_script.specs.Scripts.{executor_count, executor_start, roo
 ghost use Rattle.swift_events.specs.declared.life.Origin.{Origin as From};
 ghost use Rattle.swift_events.specs.Events.{tasks_of};
 ghost use Rattle.swift_events.specs.Lives.{life_of};
+ghost use Rattle.swift_events.specs.Relations.{opened_by, is_closed};
 ghost use Rattle.swift_history.specs.Histories.{IsLegal};
 ghost use Rattle.swift_certificate.specs.Reports.{report_view};
 ghost use Rattle.swift_certificate.specs.ReplayInside.{AreEndedAt, EndsAt, IsReplay};
@@ -170,6 +171,21 @@ fn have_ended(book: &Book, endings: &[(Origin, Ending)]) -> bool
     true
 }
 
+// Whether each of so many tasks of a book has closed the groups that it has opened.
+fn have_closed(book: &Book, tasks: usize) -> bool
+    ensures { IsTrue result → (t g : ℕ) → t < tasks → g < opened_by t book.now.log → is_closed t g book.now.log ≡ true }
+{
+    for place in 0..tasks {
+        let Ok(task) = u32::try_from(place) else {
+            return false;
+        };
+        if !book.has_closed_all(TaskId(task)) {
+            return false;
+        }
+    }
+    true
+}
+
 impl Replay {
     /// Whether a report ends where its history does.
     pub fn agrees(&self, report: &Report) -> Result<bool, AllocError>
@@ -179,6 +195,7 @@ impl Replay {
         if self.roots as usize != self.script.root_count()
             || !is_same_log(&report.log, self.book.log())
             || !have_ended(&self.book, &report.endings)
+            || !have_closed(&self.book, report.endings.len())
         {
             return Ok(false);
         }

@@ -15,7 +15,7 @@ use script_code::Env;
 use std::alloc::{AllocError, Global};
 use std::mem;
 use swift_interpreter::{Effect, Exit, Frame};
-use swift_journal::{Checkpoint, Folded, Journal, OwnedRecord, Record};
+use swift_journal::{Checkpoint, Folded, Journal, Record};
 use swift_turn::{Body, replay_turn};
 use swift_types::TaskId;
 
@@ -227,23 +227,18 @@ fn read(
     if place >= journal.len() {
         return Ok(None);
     }
-    let OwnedRecord {
+    let Folded {
         task: _,
         number: _,
-        worker,
-        frame: _,
-        outer: _,
-        resume: _,
-        env: _,
         exit,
         effects,
         after,
-    } = journal.read(alloc, place)?;
+    } = journal.read_folded(alloc, place)?;
     let lent = after.as_ref();
     let turn = Record {
         task,
         number: ready.number,
-        worker,
+        worker: journal.worker(place),
         frame: ready.body.top(),
         outer: ready.body.outer(),
         resume: ready.resume,

@@ -158,7 +158,7 @@ impl Replay {
             return Ok(false);
         };
         let job = ready.into_job(task);
-        let begun = self.book.begin(&job);
+        let begun = self.book.begin_known(&job);
         let (task, ready) = Ready::from_job(job);
         match begun {
             Ok(_) => {
@@ -173,6 +173,7 @@ impl Replay {
     fn apply(&mut self, task: TaskId, done: Done) -> Result<bool, AllocError>
         requires running { IsRunning done.ready.body }
         requires none { self.old.jobs.items ≡ [] }
+        requires same { done.ready.body.script ≡ self.old.book.script }
         ensures script { self.new.script ≡ self.old.script }
         ensures applies { IfOk result (λ goes_on. IsTrue goes_on → Applies self.old self.new task done) }
     {
@@ -182,7 +183,7 @@ impl Replay {
             effects,
         } = done;
         let job = ready.into_job(task);
-        match self.book.apply(job, &exit, effects, &mut self.jobs) {
+        match self.book.apply_known(job, &exit, effects, &mut self.jobs) {
             Ok(()) => {
                 put_all(&mut self.tasks, &mut self.jobs)?;
                 Ok(true)

@@ -4,8 +4,9 @@ ghost use Rattle.std.specs.Prelude.{◌≡◌, ℕ, [], None, Option, OnOk, map,
 ghost use Rattle.std.specs.List.{AllByRecursion};
 ghost use Rattle.swift_history.specs.Histories.{with_jobs};
 ghost use Rattle.swift_history.specs.TurnEnds.{JobView};
-ghost use Rattle.swift_tasks.specs.Books.{job_view};
-ghost use Rattle.swift_certificate.specs.ReplayInside.{AreGiven, given_at, with_given};
+ghost use Rattle.swift_script.specs.Scripts.{ScriptView};
+ghost use Rattle.swift_tasks.specs.Books.{IsJobOf, job_view};
+ghost use Rattle.swift_certificate.specs.ReplayInside.{AreGiven, AreOf, given_at, with_given};
 
 use std::alloc::AllocError;
 use std::mem;
@@ -78,6 +79,7 @@ pub fn put(tasks: &mut Vec<Option<Ready>>, task: TaskId, ready: Ready) -> Result
 
 /// Puts these jobs to the others, in order. Out of memory, some of them are left.
 pub fn put_all(tasks: &mut Vec<Option<Ready>>, jobs: &mut Vec<Job<Body>>) -> Result<(), AllocError>
+    ensures scripts { OnOk result ((script : ScriptView) → AllByRecursion (IsJobOf script) jobs.old.items → AreOf script tasks.old.items → AreOf script tasks.new.items) }
     ensures given { OnOk result ((seen : ℕ → Option JobView) → AreGiven seen tasks.old.items → AreGiven (with_jobs (map job_view jobs.old.items) seen) tasks.new.items) }
     ensures none { OnOk result (jobs.new.items ≡ []) }
 {

@@ -1,6 +1,6 @@
 -- Histories of a run: what its blocks are, and where they lead. A report is legal where some history made it. Nothing here
 -- speaks of a book, of indexes, or of threads.
-use Rattle.std.specs.Prelude.{◌≡◌, ℕ, ℤ, ◌+◌, ◌==◌, nat_lt, if◌then◌else◌, Bool, true, false, Option, Some, None, List, [], ◌∷◌, ◌++◌, replicate, count_by, length, unwrap_or, slice_get}
+use Rattle.std.specs.Prelude.{◌≡◌, ℕ, ℤ, ◌+◌, ◌<◌, ◌==◌, nat_lt, if◌then◌else◌, Bool, true, false, Option, Some, None, List, [], ◌∷◌, ◌++◌, replicate, count_by, length, unwrap_or, slice_get}
 use Rattle.std.specs.List.{filter_map, range_with_len}
 use Rattle.swift_types.specs.declared.priority.Priority.{Priority}
 use Rattle.swift_types.specs.declared.priority.Priority.TheVariants.{Background}
@@ -20,6 +20,7 @@ use Rattle.swift_events.specs.declared.life.Stage.{Stage}
 use Rattle.swift_events.specs.declared.life.Stage.TheVariants.{Begun}
 use Rattle.swift_events.specs.Events.{tasks_of}
 use Rattle.swift_events.specs.Lives.{life_of}
+use Rattle.swift_events.specs.Relations.{opened_by, is_closed}
 use Rattle.swift_events.specs.Room.{IsEnv}
 use Rattle.swift_history.specs.Checks.{is_current, counters, fits_turn}
 use Rattle.swift_history.specs.TurnEnds.{JobView, HeldView, TurnEnd, task, root_job, root_events, turn_end}
@@ -186,7 +187,8 @@ pub record ReportView : Type 0 where
   pub endings : List (Origin × Ending)
 
 -- Some history, each block of which may stand where it stands, wrote the log, left the journals and the checkpoints, and leads
--- to the fields; every root was added, in text order; and every task has ended as the report says.
+-- to the fields; every root was added, in text order; every task has ended as the report says, and has closed each group
+-- that it has opened.
 pub record IsLegal (script : ScriptView) (report : ReportView) : Type 0 where
   pub blocks : List Block
   pub stand : AllStand script report.checkpoints [] blocks
@@ -199,3 +201,4 @@ pub record IsLegal (script : ScriptView) (report : ReportView) : Type 0 where
   pub fields : (e : ℕ) (f : List (List ℤ)) → slice_get report.fields e ≡ Some f → f ≡ fields_of script report.checkpoints e blocks
   pub tasks : length report.endings ≡ tasks_of (root_count script) report.log
   pub endings : (t : ℕ) (x : Origin × Ending) → slice_get report.endings t ≡ Some x → ((life_of t report.log).origin ≡ Some x.0) × ((life_of t report.log).ending ≡ Some x.1)
+  pub groups : (t g : ℕ) → t < length report.endings → g < opened_by t report.log → is_closed t g report.log ≡ true

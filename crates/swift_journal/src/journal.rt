@@ -6,7 +6,8 @@ ghost use Rattle.swift_journal.specs.JournalInside.{record_of};
 use crate::brief::BriefExit;
 use crate::draft::Draft;
 use crate::ends::{brief, resume};
-use crate::parts::{effects_of, env_of, exit_part, read_record, words_of};
+use crate::folded::Folded;
+use crate::parts::{effects_of, env_of, exit_part, read_ended, read_record, words_of};
 use crate::record::{OwnedRecord, Record};
 use crate::stored::{FrameHead, Head, StoredEffect, StoredExit};
 use script_code::Env;
@@ -44,7 +45,7 @@ impl Model for Journal {
 
 impl Journal {
     ghost use Rattle.swift_journal.specs.CheckpointInside.{ended_view};
-    ghost use Rattle.swift_journal.specs.Checkpoints.{folded_of};
+    ghost use Rattle.swift_journal.specs.Checkpoints.{folded_of, folded_view};
     ghost use Rattle.swift_journal.specs.Records.{RecordView, brief_of, owned_view, record_view};
 
     /// An empty journal. It takes no memory.
@@ -188,6 +189,15 @@ impl Journal {
         let head = &self.heads[place];
         let words = words_of(&self.words, head);
         read_record(alloc, head, words, effects_of(&self.effects, head))
+    }
+
+    /// What is left of the turn at a place when it is folded, in time and memory by the size of that. An `Err` says that a growth was
+    /// refused.
+    pub fn read_folded(&self, alloc: Global, place: usize) -> Result<Folded, AllocError>
+        requires { place < length self.now }
+        ensures { IfOk result (λ turn. (d : RecordView) → folded_view turn ≡ folded_of (slice_index_or self.now place d)) }
+    {
+        read_ended(alloc, self.ended(place))
     }
 
     /// Whether the turn at a place is this one, in time by its size. It is written in the room of another journal first,

@@ -3,7 +3,7 @@
 ghost use Rattle.std.specs.Prelude.{◌≡◌, drop, take, IfOk};
 ghost use Rattle.swift_journal.specs.FrameWords.{frame_if_of};
 ghost use Rattle.swift_journal.specs.JournalInside.{effect_part as effect_of, effects_at, exit_part as exit_of, frame_part as frame_of, outer_part as outer_of, record_of, words_at};
-ghost use Rattle.swift_journal.specs.CheckpointInside.{folded_from};
+ghost use Rattle.swift_journal.specs.CheckpointInside.{ended_view};
 ghost use Rattle.swift_journal.specs.Checkpoints.{folded_view};
 ghost use Rattle.swift_journal.specs.Records.{frame_if, owned_view};
 
@@ -11,8 +11,9 @@ use crate::effects::read_effects;
 use crate::ends::{read_exit, resume, skip_exit, skip_resume};
 use crate::folded::Folded;
 use crate::frames::{read_frame, skip_frame};
+use crate::journal::Ended;
 use crate::record::OwnedRecord;
-use crate::stored::{FoldedHead, FrameHead, Head, StoredEffect, StoredExit};
+use crate::stored::{FrameHead, Head, StoredEffect, StoredExit};
 use crate::words::{read_bindings, skip_bindings, split};
 use script_code::Env;
 use std::alloc::{AllocError, Global};
@@ -126,20 +127,23 @@ pub fn read_record(
     })
 }
 
-// What is left of a turn that was folded.
-pub fn read_folded(
-    alloc: Global,
-    head: &FoldedHead,
-    words: &[i64],
-    effects: &[StoredEffect],
-) -> Result<Folded, AllocError>
-    ensures { IfOk result (λ turn. folded_view turn ≡ folded_from head.now words.now effects.now) }
+// What is left of a turn when it is folded.
+pub fn read_ended(alloc: Global, turn: Ended<'_>) -> Result<Folded, AllocError>
+    ensures { IfOk result (λ folded. folded_view folded ≡ ended_view turn.entry) }
 {
+    let Ended {
+        task,
+        number,
+        exit,
+        after,
+        words,
+        effects,
+    } = turn;
     Ok(Folded {
-        task: head.task,
-        number: head.number,
-        exit: read_exit(alloc, head.exit, words)?,
-        effects: read_effects(alloc, effects, effect_part(head.exit, &head.after, words))?,
-        after: read_after(alloc, &head.after, skip_exit(head.exit, words))?,
+        task,
+        number,
+        exit: read_exit(alloc, exit, words)?,
+        effects: read_effects(alloc, effects, effect_part(exit, &after, words))?,
+        after: read_after(alloc, &after, skip_exit(exit, words))?,
     })
 }

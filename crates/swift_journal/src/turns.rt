@@ -6,7 +6,7 @@ use crate::brief::BriefExit;
 use crate::ends::brief;
 use crate::folded::Folded;
 use crate::journal::Ended;
-use crate::parts::{part, part_of_effects, read_folded};
+use crate::parts::{part, part_of_effects, read_ended};
 use crate::stored::{FoldedHead, StoredEffect};
 use crate::words::short;
 use std::alloc::{AllocError, Global};
@@ -125,13 +125,20 @@ impl Turns {
         ensures { IfOk result (λ turn. (d : FoldedView) → folded_view turn ≡ slice_index_or self.now place d) }
     {
         let head = &self.heads[place];
-        let words = part(&self.words, head.start as usize, head.size as usize);
         let effects = part_of_effects(
             &self.effects,
             head.first_effect as usize,
             head.effects as usize,
         );
-        read_folded(alloc, head, words, effects)
+        let turn = Ended {
+            task: head.task,
+            number: head.number,
+            exit: head.exit,
+            after: head.after,
+            words: part(&self.words, head.start as usize, head.size as usize),
+            effects,
+        };
+        read_ended(alloc, turn)
     }
 }
 

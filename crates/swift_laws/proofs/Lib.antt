@@ -11,13 +11,10 @@ pub mod HistoriesMade
 pub mod HistoriesHandedOn
 pub mod HistoriesApplied
 pub mod OpenLogs
-pub mod OpenTurns
 pub mod OpenSteps
-pub mod OpenFrames
 pub mod OpenGroups
 pub mod OpenEnds
 pub mod OpenHistories
-pub mod OpenStarts
 pub mod OpenScripts
 pub mod OpenExecutors
 pub mod OpenReports

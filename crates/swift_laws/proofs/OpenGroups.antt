@@ -1,6 +1,6 @@
 -- What a log says of the children of a group and of those who wait, by its events.
-use Rattle.std.proofs.Common.{◌≡◌, ◌≢◌, ◌⊎◌, inl, inr, ℕ, zero, suc, Bool, true, false, if◌then◌else◌, List, [], ◌∷◌, ◌++◌, refl, sym, subst, ap, ◌∙◌, arith, replicate}
-use Rattle.std.specs.Prelude.{Option, Some, None, is_some, ◌==◌, ◌||◌, not, unwrap_or, slice_set, slice_index_or}
+use Rattle.std.proofs.Common.{◌≡◌, ◌⊎◌, inl, inr, ℕ, Bool, true, false, if◌then◌else◌, List, [], ◌∷◌, refl, sym, subst, ap, ◌∙◌, arith}
+use Rattle.std.specs.Prelude.{Option, Some, None, is_some, ◌==◌, ◌||◌, not, unwrap_or}
 use Rattle.std.specs.List.{filter, filter_map, list_any, cons_option}
 use Rattle.std.proofs.lemmas.Bool.{false≢true}
 use Rattle.std.proofs.lemmas.Bool.Decides.{nat_tests}
@@ -28,7 +28,7 @@ in_cons (Some x) xs y h = inr h
 in_here : {A : Type 0} (o : Option A) (xs : List A) (y : A) → o ≡ Some y → In (cons_option o xs) y
 in_here o xs y is = subst (λ p. In (cons_option p xs) y) (sym is) (inl refl)
 
-pub in_filter_map : {A B : Type 0} (h : A → Option B) (xs : List A) (x : A) (y : B) → In xs x → h x ≡ Some y → In (filter_map h xs) y
+in_filter_map : {A B : Type 0} (h : A → Option B) (xs : List A) (x : A) (y : B) → In xs x → h x ≡ Some y → In (filter_map h xs) y
 in_filter_map h [] x y i is = absurd i
 in_filter_map h (z ∷ zs) x y (inl q) is = in_here (h z) (filter_map h zs) y (ap h q ∙ is)
 in_filter_map h (z ∷ zs) x y (inr i) is = in_cons (h z) (filter_map h zs) y (in_filter_map h zs x y i is)
@@ -151,32 +151,3 @@ pub each_waiter : (P : ℕ → Type 0) (t : ℕ) (log : List Event) → ((w a : 
 each_waiter P t [] f = tt
 each_waiter P t (Wait w a ∷ es) f = waiter_if P w (waiters_of t es) (a.0 == t) (λ so. f w a (inl refl) (equal_of a.0 t so)) (each_waiter P t es (λ v b i. f v b (inr i)))
 each_waiter P t (e ∷ es) f = each_waiter P t es (λ v b i. f v b (inr i))
-
--- places of a list of what may be there
-
-pub unset : {A : Type 0} (xs : List (Option A)) (u v : ℕ) (h : A) → slice_index_or (slice_set xs u None) v None ≡ Some h → slice_index_or xs v None ≡ Some h
-unset [] u v h is = is
-unset (x ∷ xs) zero zero h is = absurd (none-some h is)
-unset (x ∷ xs) zero (suc v) h is = is
-unset (x ∷ xs) (suc u) zero h is = is
-unset (x ∷ xs) (suc u) (suc v) h is = unset xs u v h is
-
-pub set_cases : {A : Type 0} (xs : List (Option A)) (u v : ℕ) (n h : A) → slice_index_or (slice_set xs u (Some n)) v None ≡ Some h → ((v ≡ u) × (n ≡ h)) ⊎ ((v ≢ u) × (slice_index_or xs v None ≡ Some h))
-set_cases [] u v n h is = absurd (none-some h is)
-set_cases (x ∷ xs) zero zero n h is = inl (refl, same_some n h is)
-set_cases (x ∷ xs) zero (suc v) n h is = inr (λ q. omega (arith, q), is)
-set_cases (x ∷ xs) (suc u) zero n h is = inr (λ q. omega (arith, q), is)
-set_cases (x ∷ xs) (suc u) (suc v) n h is = elim (set_cases xs u v n h is) [
-  | inl a ↦ inl (ap suc a.0, a.1)
-  | inr b ↦ inr (λ q. b.0 (omega (arith, q)), b.1)
-]
-
-blank : {A : Type 0} (n v : ℕ) (h : A) → slice_index_or (replicate n None) v None ≡ Some h → ⊥
-blank zero v h is = none-some h is
-blank (suc n) zero h is = none-some h is
-blank (suc n) (suc v) h is = blank n v h is
-
-pub extended : {A : Type 0} (xs : List (Option A)) (n v : ℕ) (h : A) → slice_index_or (xs ++ replicate n None) v None ≡ Some h → slice_index_or xs v None ≡ Some h
-extended [] n v h is = absurd (blank n v h is)
-extended (x ∷ xs) n zero h is = is
-extended (x ∷ xs) n (suc v) h is = extended xs n v h is

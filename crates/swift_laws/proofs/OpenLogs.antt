@@ -1,9 +1,10 @@
 -- What each point of a legal log keeps: who has ended, who waits for whom, and which groups are closed.
-use Rattle.std.proofs.Common.{◌≡◌, ◌⊎◌, inl, inr, ℕ, ◌<◌, ◌≤◌, zero, suc, Bool, true, false, List, [], ◌∷◌, ◌++◌, refl, sym, subst, ap, ◌∙◌, arith, append_assoc}
-use Rattle.std.specs.Prelude.{Option, Some, None, is_some, Contains, ◌==◌, ◌||◌, ◌&&◌}
+use Rattle.std.proofs.Common.{◌≡◌, ◌⊎◌, inl, inr, ℕ, ◌+◌, ◌<◌, ◌≤◌, zero, suc, Bool, true, false, List, [], ◌∷◌, ◌++◌, refl, sym, subst, ap, ◌∙◌, arith, append_assoc, cond}
+use Rattle.std.specs.Prelude.{Option, Some, None, is_some, Contains, ◌==◌, ◌||◌, ◌&&◌, count_by}
 use Rattle.std.proofs.lemmas.Bool.{cases_eq, false≢true}
 use Rattle.std.proofs.lemmas.Bool.Decides.{nat_tests}
 use Rattle.std.proofs.lemmas.List.{append-nil}
+use Rattle.std.proofs.lemmas.List.Sums.{sum_by-append}
 use Rattle.swift_types.specs.declared.id.TaskId.{TaskId}
 use Rattle.swift_types.specs.declared.priority.Priority.{Priority}
 use Rattle.swift_events.specs.declared.event.Event.{Event}
@@ -14,7 +15,7 @@ use Rattle.swift_events.specs.declared.life.Life.{Life}
 use Rattle.swift_events.specs.Events.{task_of, is_made, tasks_of, later}
 use Rattle.swift_events.specs.Lives.{life_of, lived, unborn, origin_in, given_in, stage_in, ending_in}
 use Rattle.swift_events.specs.Relations.{opens, opened_by, closes, is_closed}
-use Rattle.swift_events.proofs.LogLemmas.{life_of-push_same, life_of-push_other, unborn_without, tasks_of-push_made, tasks_of-push_other, opened_by-push_yes, opened_by-push_no, is_closed-push}
+use Rattle.swift_events.proofs.LogLemmas.{life_of-push_same, life_of-push_other, unborn_without, is_closed-push}
 use Rattle.swift_laws.specs.Ended.{HasEnded}
 
 -- an element of a list
@@ -27,11 +28,6 @@ in_push [] y x (inl e) = inr e
 in_push [] y x (inr h) = absurd h
 in_push (z ∷ zs) y x (inl e) = inl (inl e)
 in_push (z ∷ zs) y x (inr h) = elim (in_push zs y x h) [ inl a ↦ inl (inr a) | inr e ↦ inr e ]
-
-pub in_left : {A : Type 0} (xs ys : List A) (x : A) → In xs x → In (xs ++ ys) x
-in_left [] ys x h = absurd h
-in_left (z ∷ zs) ys x (inl e) = inl e
-in_left (z ∷ zs) ys x (inr h) = inr (in_left zs ys x h)
 
 pub in_contains : {A : Type 0} (xs : List A) (x : A) → Contains xs x → In xs x
 in_contains [] x is = absurd (omega (arith, is.1))
@@ -53,10 +49,6 @@ none_some o none some = not_both (is_some o) some (ap is_some none)
 or_cases : (a b : Bool) → (a || b) ≡ true → (a ≡ true) ⊎ (b ≡ true)
 or_cases true b h = inl refl
 or_cases false b h = inr h
-
-or_left : (a b : Bool) → a ≡ true → (a || b) ≡ true
-or_left true b h = refl
-or_left false b h = absurd (false≢true h)
 
 -- what one more event changes of a task's life
 
@@ -109,9 +101,6 @@ origin_stays = field_stays (λ (l : Life). l.origin) origin_in (λ l e. refl)
 origin_came : (t : ℕ) (log : List Event) (e : Event) → has_origin t (log ++ e ∷ []) ≡ true → (has_origin t log ≡ true) ⊎ ((task_of e ≡ t) × (is_some (origin_in e) ≡ true))
 origin_came = field_came (λ (l : Life). l.origin) origin_in (λ l e. refl)
 
-pub origin_same : (t : ℕ) (log : List Event) (e : Event) → origin_in e ≡ None → (life_of t (log ++ e ∷ [])).origin ≡ (life_of t log).origin
-origin_same = field_same (λ (l : Life). l.origin) origin_in (λ l e. refl)
-
 pub origin_now : (t : ℕ) (log : List Event) (e : Event) → task_of e ≡ t → is_some (origin_in e) ≡ true → (life_of t (log ++ e ∷ [])).origin ≡ origin_in e
 origin_now = field_now (λ (l : Life). l.origin) origin_in (λ l e. refl)
 
@@ -127,7 +116,7 @@ given_same = field_same (λ (l : Life). l.given) given_in (λ l e. refl)
 pub given_now : (t : ℕ) (log : List Event) (e : Event) → task_of e ≡ t → is_some (given_in e) ≡ true → (life_of t (log ++ e ∷ [])).given ≡ given_in e
 given_now = field_now (λ (l : Life). l.given) given_in (λ l e. refl)
 
-pub stage_cases : (t : ℕ) (log : List Event) (e : Event) → (stage_at t (log ++ e ∷ []) ≡ stage_at t log) ⊎ ((task_of e ≡ t) × (stage_at t (log ++ e ∷ []) ≡ stage_in e) × (is_some (stage_in e) ≡ true))
+stage_cases : (t : ℕ) (log : List Event) (e : Event) → (stage_at t (log ++ e ∷ []) ≡ stage_at t log) ⊎ ((task_of e ≡ t) × (stage_at t (log ++ e ∷ []) ≡ stage_in e) × (is_some (stage_in e) ≡ true))
 stage_cases = field_cases (λ (l : Life). l.stage) stage_in (λ l e. refl)
 
 stage_came : (t : ℕ) (log : List Event) (e : Event) → is_some (stage_at t (log ++ e ∷ [])) ≡ true → (is_some (stage_at t log) ≡ true) ⊎ ((task_of e ≡ t) × (is_some (stage_in e) ≡ true))
@@ -153,20 +142,14 @@ ended_now t log e same some = ap is_some (field_now (λ (l : Life). l.ending) en
 
 -- numbers and groups
 
-tasks_grow : (roots : ℕ) (log : List Event) (e : Event) → tasks_of roots log ≤ tasks_of roots (log ++ e ∷ [])
-tasks_grow roots log e = elim (cases_of (is_made e)) [
-  | inl so ↦ (let more = tasks_of-push_made roots log e so in omega (arith, more))
-  | inr not_so ↦ (let same = tasks_of-push_other roots log e not_so in omega (arith, same))
-]
+count_grows : (p : Event → Bool) (log es : List Event) → count_by p log ≤ count_by p (log ++ es)
+count_grows p log es = let sum : count_by p (log ++ es) ≡ count_by p log + count_by p es = sum_by-append (λ (x : Event). cond (p x) 1 0) log es in omega (arith, sum)
 
-opened_grow : (t : ℕ) (log : List Event) (e : Event) → opened_by t log ≤ opened_by t (log ++ e ∷ [])
-opened_grow t log e = elim (cases_of (opens t e)) [
-  | inl so ↦ (let more = opened_by-push_yes t log e so in omega (arith, more))
-  | inr not_so ↦ (let same = opened_by-push_no t log e not_so in omega (arith, same))
-]
+pub tasks_grow : (roots : ℕ) (log es : List Event) → tasks_of roots log ≤ tasks_of roots (log ++ es)
+tasks_grow roots log es = let more = count_grows is_made log es in omega (arith, more)
 
-pub closed_stays : (t g : ℕ) (log : List Event) (e : Event) → is_closed t g log ≡ true → is_closed t g (log ++ e ∷ []) ≡ true
-closed_stays t g log e h = is_closed-push t g log e ∙ or_left (is_closed t g log) (closes t g e) h
+pub opened_grow : (t : ℕ) (log es : List Event) → opened_by t log ≤ opened_by t (log ++ es)
+opened_grow t log es = count_grows (opens t) log es
 
 pub closed_cases : (t g : ℕ) (log : List Event) (e : Event) → is_closed t g (log ++ e ∷ []) ≡ true → (is_closed t g log ≡ true) ⊎ (closes t g e ≡ true)
 closed_cases t g log e h = or_cases (is_closed t g log) (closes t g e) (sym (is_closed-push t g log e) ∙ h)
@@ -191,38 +174,33 @@ pub record IsFree (t : ℕ) (log : List Event) : Type 0 where
   pub waits : (w u : TaskId) → w.0 ≡ t → In log (Wait w u) → HasEnded u.0 log
   pub children : (u o : TaskId) (g : ℕ) (p : Priority) → o.0 ≡ t → In log (Child u o g p) → is_closed o.0 g log ≡ true → HasEnded u.0 log
 
--- What a log keeps, where `N` tells of which tasks no turn was folded.
-pub record Sound (roots : ℕ) (N : ℕ → Type 0) (log : List Event) : Type 0 where
+-- What a log keeps.
+pub record Sound (roots : ℕ) (log : List Event) : Type 0 where
   pub born : (t : ℕ) → was_given t log ≡ true → has_origin t log ≡ true
   pub low : (t : ℕ) → has_origin t log ≡ true → t < tasks_of roots log
   pub staged : (t : ℕ) → is_some (stage_at t log) ≡ true → was_given t log ≡ true
-  pub opened : (t : ℕ) → 0 < opened_by t log → was_given t log ≡ true
   pub rests : (t : ℕ) → HasEnded t log → (was_given t log ≡ true) × (stage_at t log ≡ Some stage.Applied)
   pub waits : (t u : TaskId) → In log (Wait t u) → (was_given t.0 log ≡ true) × (HasEnded u.0 log ⊎ (stage_at t.0 log ≡ Some (stage.Waits u)))
   pub children : (u o : TaskId) (g : ℕ) (p : Priority) → In log (Child u o g p)
       → (was_given o.0 log ≡ true) × (g < opened_by o.0 log) × (is_closed o.0 g log ≡ true → HasEnded u.0 log ⊎ (stage_at o.0 log ≡ Some (stage.Closes g)))
-  pub closed : (t : ℕ) → N t → HasEnded t log → (g : ℕ) → g < opened_by t log → is_closed t g log ≡ true
 
 -- an event by which a task may end
-pub record MayEnd (N : ℕ → Type 0) (log : List Event) (e : Event) : Type 0 where
+pub record MayEnd (log : List Event) (e : Event) : Type 0 where
   pub still : stage_in e ≡ None
-  pub unopened : (o : ℕ) → opens o e ≡ false
   pub given : was_given (task_of e) log ≡ true
   pub applied : stage_at (task_of e) log ≡ Some stage.Applied
-  pub closed : N (task_of e) → (g : ℕ) → g < opened_by (task_of e) log → is_closed (task_of e) g log ≡ true
 
 -- an event that may stand after a log
-pub record May (roots : ℕ) (N : ℕ → Type 0) (log : List Event) (e : Event) : Type 0 where
+pub record May (roots : ℕ) (log : List Event) (e : Event) : Type 0 where
   pub low : is_some (origin_in e) ≡ true → task_of e < tasks_of roots (log ++ e ∷ [])
   pub born : is_some (given_in e) ≡ true → has_origin (task_of e) log ≡ true
   pub given : is_some (stage_in e) ≡ true → was_given (task_of e) (log ++ e ∷ []) ≡ true
-  pub opens_one : (o : ℕ) → opens o e ≡ true → (was_given o log ≡ true) × (HasEnded o log → ⊥)
   pub moves : is_some (stage_in e) ≡ true → IsFree (task_of e) log
   pub alive : is_some (stage_in e) ≡ true → HasEnded (task_of e) log → ⊥
-  pub ends : is_some (ending_in e) ≡ true → MayEnd N log e
+  pub ends : is_some (ending_in e) ≡ true → MayEnd log e
   pub child : (u o : TaskId) (g : ℕ) (p : Priority) → e ≡ Child u o g p → (was_given o.0 log ≡ true) × (g < opened_by o.0 log) × (is_closed o.0 g log ≡ false)
 
-module _ (roots : ℕ) (N : ℕ → Type 0) (log : List Event) (e : Event) (s : Sound roots N log) (m : May roots N log e) where
+module _ (roots : ℕ) (log : List Event) (e : Event) (s : Sound roots log) (m : May roots log e) where
   next_born : (t : ℕ) → was_given t (log ++ e ∷ []) ≡ true → has_origin t (log ++ e ∷ []) ≡ true
   next_born t h = elim (given_came t log e h) [
     | inl old ↦ origin_stays t log e (s.born t old)
@@ -231,7 +209,7 @@ module _ (roots : ℕ) (N : ℕ → Type 0) (log : List Event) (e : Event) (s : 
 
   next_low : (t : ℕ) → has_origin t (log ++ e ∷ []) ≡ true → t < tasks_of roots (log ++ e ∷ [])
   next_low t h = elim (origin_came t log e h) [
-    | inl old ↦ (let lt = s.low t old in let grow = tasks_grow roots log e in omega (arith, lt, grow))
+    | inl old ↦ (let lt = s.low t old in let grow = tasks_grow roots log (e ∷ []) in omega (arith, lt, grow))
     | inr new ↦ subst (λ (k : ℕ). k < tasks_of roots (log ++ e ∷ [])) new.0 (m.low new.1)
   ]
 
@@ -239,12 +217,6 @@ module _ (roots : ℕ) (N : ℕ → Type 0) (log : List Event) (e : Event) (s : 
   next_staged t h = elim (stage_came t log e h) [
     | inl old ↦ given_stays t log e (s.staged t old)
     | inr new ↦ subst (λ (k : ℕ). was_given k (log ++ e ∷ []) ≡ true) new.0 (m.given new.1)
-  ]
-
-  next_opened : (t : ℕ) → 0 < opened_by t (log ++ e ∷ []) → was_given t (log ++ e ∷ []) ≡ true
-  next_opened t h = elim (cases_of (opens t e)) [
-    | inl so ↦ given_stays t log e (m.opens_one t so).0
-    | inr not_so ↦ given_stays t log e (s.opened t (let same = opened_by-push_no t log e not_so in omega (arith, same, h)))
   ]
 
   next_rests : (t : ℕ) → HasEnded t (log ++ e ∷ []) → (was_given t (log ++ e ∷ []) ≡ true) × (stage_at t (log ++ e ∷ []) ≡ Some stage.Applied)
@@ -294,9 +266,9 @@ module _ (roots : ℕ) (N : ℕ → Type 0) (log : List Event) (e : Event) (s : 
   next_children : (u o : TaskId) (g : ℕ) (p : Priority) → In (log ++ e ∷ []) (Child u o g p)
       → (was_given o.0 (log ++ e ∷ []) ≡ true) × (g < opened_by o.0 (log ++ e ∷ [])) × (is_closed o.0 g (log ++ e ∷ []) ≡ true → HasEnded u.0 (log ++ e ∷ []) ⊎ (stage_at o.0 (log ++ e ∷ []) ≡ Some (stage.Closes g)))
   next_children u o g p h = elim (in_push log e (Child u o g p) h) [
-    | inl old ↦ (let c = s.children u o g p old in let grow = opened_grow o.0 log e in
+    | inl old ↦ (let c = s.children u o g p old in let grow = opened_grow o.0 log (e ∷ []) in
         (given_stays o.0 log e c.0, (let lt = c.1 in omega (arith, lt, grow)), next_child u o g p old))
-    | inr q ↦ (let c = m.child u o g p q in let grow = opened_grow o.0 log e in (
+    | inr q ↦ (let c = m.child u o g p q in let grow = opened_grow o.0 log (e ∷ []) in (
       given_stays o.0 log e c.0,
       (let lt = c.1 in omega (arith, lt, grow)),
       λ closed. elim (closed_cases o.0 g log e closed) [
@@ -306,79 +278,86 @@ module _ (roots : ℕ) (N : ℕ → Type 0) (log : List Event) (e : Event) (s : 
     ))
   ]
 
-  next_closed : (t : ℕ) → N t → HasEnded t (log ++ e ∷ []) → (g : ℕ) → g < opened_by t (log ++ e ∷ []) → is_closed t g (log ++ e ∷ []) ≡ true
-  next_closed t n h g lt = elim (ended_came t log e h) [
-    | inl old ↦ elim (cases_of (opens t e)) [
-      | inl so ↦ absurd ((m.opens_one t so).1 old)
-      | inr not_so ↦ closed_stays t g log e (s.closed t n old g (let same = opened_by-push_no t log e not_so in omega (arith, same, lt)))
-    ]
-    | inr new ↦ (let may = m.ends new.1 in
-        let less : g < opened_by t log = (let same = opened_by-push_no t log e (may.unopened t) in omega (arith, same, lt)) in
-        closed_stays t g log e (subst (λ (k : ℕ). N k → g < opened_by k log → is_closed k g log ≡ true) new.0 (λ k l. may.closed k g l) n less))
-  ]
-
-  pub sound_push : Sound roots N (log ++ e ∷ [])
-  sound_push = record { born = next_born; low = next_low; staged = next_staged; opened = next_opened; rests = next_rests; waits = next_waits; children = next_children; closed = next_closed }
+  pub sound_push : Sound roots (log ++ e ∷ [])
+  sound_push = record { born = next_born; low = next_low; staged = next_staged; rests = next_rests; waits = next_waits; children = next_children }
 
 -- events that may stand after a log, one after the other
-abbrev pub AllMay : ℕ → (ℕ → Type 0) → List Event → List Event → Type 0
-AllMay roots N log [] = Unit {0}
-AllMay roots N log (e ∷ es) = May roots N log e × AllMay roots N (log ++ e ∷ []) es
+abbrev pub AllMay : ℕ → List Event → List Event → Type 0
+AllMay roots log [] = Unit {0}
+AllMay roots log (e ∷ es) = May roots log e × AllMay roots (log ++ e ∷ []) es
 
-pub sound_all : (roots : ℕ) (N : ℕ → Type 0) (log es : List Event) → Sound roots N log → AllMay roots N log es → Sound roots N (log ++ es)
-sound_all roots N log [] s all = subst (Sound roots N) (sym (append-nil log)) s
-sound_all roots N log (e ∷ es) s all = subst (Sound roots N) (append_assoc log (e ∷ []) es) (sound_all roots N (log ++ e ∷ []) es (sound_push roots N log e s all.0) all.1)
+pub sound_all : (roots : ℕ) (log es : List Event) → Sound roots log → AllMay roots log es → Sound roots (log ++ es)
+sound_all roots log [] s all = subst (Sound roots) (sym (append-nil log)) s
+sound_all roots log (e ∷ es) s all = subst (Sound roots) (append_assoc log (e ∷ []) es) (sound_all roots (log ++ e ∷ []) es (sound_push roots log e s all.0) all.1)
 
-all_append : (roots : ℕ) (N : ℕ → Type 0) (log es fs : List Event) → AllMay roots N log es → AllMay roots N (log ++ es) fs → AllMay roots N log (es ++ fs)
-all_append roots N log [] fs a b = subst (λ (l : List Event). AllMay roots N l fs) (append-nil log) b
-all_append roots N log (e ∷ es) fs a b = (a.0, all_append roots N (log ++ e ∷ []) es fs a.1 (subst (λ (l : List Event). AllMay roots N l fs) (sym (append_assoc log (e ∷ []) es)) b))
+all_append : (roots : ℕ) (log es fs : List Event) → AllMay roots log es → AllMay roots (log ++ es) fs → AllMay roots log (es ++ fs)
+all_append roots log [] fs a b = subst (λ (l : List Event). AllMay roots l fs) (append-nil log) b
+all_append roots log (e ∷ es) fs a b = (a.0, all_append roots (log ++ e ∷ []) es fs a.1 (subst (λ (l : List Event). AllMay roots l fs) (sym (append_assoc log (e ∷ []) es)) b))
 
-all_front : (roots : ℕ) (N : ℕ → Type 0) (log es fs : List Event) → AllMay roots N log (es ++ fs) → AllMay roots N log es
-all_front roots N log [] fs all = tt
-all_front roots N log (e ∷ es) fs all = (all.0, all_front roots N (log ++ e ∷ []) es fs all.1)
+all_front : (roots : ℕ) (log es fs : List Event) → AllMay roots log (es ++ fs) → AllMay roots log es
+all_front roots log [] fs all = tt
+all_front roots log (e ∷ es) fs all = (all.0, all_front roots (log ++ e ∷ []) es fs all.1)
+
+all_back : (roots : ℕ) (log es fs : List Event) → AllMay roots log (es ++ fs) → AllMay roots (log ++ es) fs
+all_back roots log [] fs all = subst (λ (l : List Event). AllMay roots l fs) (sym (append-nil log)) all
+all_back roots log (e ∷ es) fs all = subst (λ (l : List Event). AllMay roots l fs) (append_assoc log (e ∷ []) es) (all_back roots (log ++ e ∷ []) es fs all.1)
+
+-- a task that has ended closes no group
+closed_before : (roots : ℕ) (t g : ℕ) (log es : List Event) → AllMay roots log es → HasEnded t log → is_closed t g (log ++ es) ≡ true → is_closed t g log ≡ true
+closed_before roots t g log [] all ended closed = subst (λ (l : List Event). is_closed t g l ≡ true) (append-nil log) closed
+closed_before roots t g log (e ∷ es) all ended closed =
+    let next : is_closed t g ((log ++ e ∷ []) ++ es) ≡ true = subst (λ (l : List Event). is_closed t g l ≡ true) (sym (append_assoc log (e ∷ []) es)) closed in
+    elim (closed_cases t g log e (closed_before roots t g (log ++ e ∷ []) es all.1 (ended_stays t log e ended) next)) [
+      | inl was ↦ was
+      | inr now ↦ (let says = closes_says t g e now in absurd (all.0.alive (ap is_some says.1) (subst (λ (k : ℕ). HasEnded k log) (sym says.0) ended)))
+    ]
 
 -- the empty log
 
 known_none : (t : ℕ) {X : Type 0} (f : Life → Bool) → f unborn ≡ false → f (life_of t []) ≡ true → X
 known_none t f none some = not_both (f (life_of t [])) some (ap f (unborn_without t [] refl) ∙ none)
 
-sound_nil : (roots : ℕ) (N : ℕ → Type 0) → Sound roots N []
-sound_nil roots N = record {
+sound_nil : (roots : ℕ) → Sound roots []
+sound_nil roots = record {
   born = λ t h. known_none t (λ (l : Life). is_some l.given) refl h;
   low = λ t h. known_none t (λ (l : Life). is_some l.origin) refl h;
   staged = λ t h. known_none t (λ (l : Life). is_some l.stage) refl h;
-  opened = λ t h. absurd (omega (arith, h));
   rests = λ t h. known_none t (λ (l : Life). is_some l.ending) refl h;
   waits = λ t u h. absurd h;
   children = λ u o g p h. absurd h;
-  closed = λ t n h. known_none t (λ (l : Life). is_some l.ending) refl h;
 }
 
 -- one log leads to another by events each of which may stand where it stands
-abbrev pub Leads : ℕ → (ℕ → Type 0) → List Event → List Event → Type 0
-Leads roots N log log' = (es : List Event) × (log' ≡ log ++ es) × AllMay roots N log es
+abbrev pub Leads : ℕ → List Event → List Event → Type 0
+Leads roots log log' = (es : List Event) × (log' ≡ log ++ es) × AllMay roots log es
 
-pub stays : (roots : ℕ) (N : ℕ → Type 0) (log : List Event) → Leads roots N log log
-stays roots N log = ([], sym (append-nil log), tt)
+pub stays : (roots : ℕ) (log : List Event) → Leads roots log log
+stays roots log = ([], sym (append-nil log), tt)
 
-pub leads_by : (roots : ℕ) (N : ℕ → Type 0) (log : List Event) (e : Event) → May roots N log e → Leads roots N log (log ++ e ∷ [])
-leads_by roots N log e m = (e ∷ [], refl, (m, tt))
+pub leads_by : (roots : ℕ) (log : List Event) (e : Event) → May roots log e → Leads roots log (log ++ e ∷ [])
+leads_by roots log e m = (e ∷ [], refl, (m, tt))
 
-pub leads_on : (roots : ℕ) (N : ℕ → Type 0) (a b c : List Event) → Leads roots N a b → Leads roots N b c → Leads roots N a c
-leads_on roots N a b c p q =
-    (p.0 ++ q.0, q.1 ∙ ap (λ (l : List Event). l ++ q.0) p.1 ∙ append_assoc a p.0 q.0, all_append roots N a p.0 q.0 p.2 (subst (λ (l : List Event). AllMay roots N l q.0) p.1 q.2))
+pub leads_on : (roots : ℕ) (a b c : List Event) → Leads roots a b → Leads roots b c → Leads roots a c
+leads_on roots a b c p q =
+    (p.0 ++ q.0, q.1 ∙ ap (λ (l : List Event). l ++ q.0) p.1 ∙ append_assoc a p.0 q.0, all_append roots a p.0 q.0 p.2 (subst (λ (l : List Event). AllMay roots l q.0) p.1 q.2))
 
-pub sound_leads : (roots : ℕ) (N : ℕ → Type 0) (a b : List Event) → Sound roots N a → Leads roots N a b → Sound roots N b
-sound_leads roots N a b s p = subst (Sound roots N) (sym p.1) (sound_all roots N a p.0 s p.2)
+pub sound_leads : (roots : ℕ) (a b : List Event) → Sound roots a → Leads roots a b → Sound roots b
+sound_leads roots a b s p = subst (Sound roots) (sym p.1) (sound_all roots a p.0 s p.2)
 
-pub sound_from : (roots : ℕ) (N : ℕ → Type 0) (log : List Event) → Leads roots N [] log → Sound roots N log
-sound_from roots N log p = sound_leads roots N [] log (sound_nil roots N) p
+pub sound_from : (roots : ℕ) (log : List Event) → Leads roots [] log → Sound roots log
+sound_from roots log p = sound_leads roots [] log (sound_nil roots) p
 
 -- each front of such a log is sound
-pub sound_front : (roots : ℕ) (N : ℕ → Type 0) (log front back : List Event) → Leads roots N [] log → log ≡ front ++ back → Sound roots N front
-sound_front roots N log front back p is =
-    let whole : AllMay roots N [] (front ++ back) = subst (AllMay roots N []) (sym p.1 ∙ is) p.2 in
-    sound_all roots N [] front (sound_nil roots N) (all_front roots N [] front back whole)
+pub sound_front : (roots : ℕ) (log front back : List Event) → Leads roots [] log → log ≡ front ++ back → Sound roots front
+sound_front roots log front back p is =
+    let whole : AllMay roots [] (front ++ back) = subst (AllMay roots []) (sym p.1 ∙ is) p.2 in
+    sound_all roots [] front (sound_nil roots) (all_front roots [] front back whole)
+
+-- a group that is closed at last was closed wherever its owner had ended
+pub closed_front : (roots : ℕ) (t g : ℕ) (log front back : List Event) → Leads roots [] log → log ≡ front ++ back → HasEnded t front → is_closed t g log ≡ true → is_closed t g front ≡ true
+closed_front roots t g log front back p is ended closed =
+    let whole : AllMay roots [] (front ++ back) = subst (AllMay roots []) (sym p.1 ∙ is) p.2 in
+    closed_before roots t g front back (all_back roots [] front back whole) ended (subst (λ (l : List Event). is_closed t g l ≡ true) is closed)
 
 -- the stages in which a task is held by a wait, or by a group that it closes
 abbrev pub holds_at : Option Stage → Bool
@@ -387,8 +366,8 @@ holds_at (Some (stage.Closes g)) = true
 holds_at _ = false
 
 -- in any other stage it is free
-pub free_at : (roots : ℕ) (N : ℕ → Type 0) (t : ℕ) (log : List Event) → Sound roots N log → holds_at (stage_at t log) ≡ false → IsFree t log
-free_at roots N t log s loose = record {
+pub free_at : (roots : ℕ) (t : ℕ) (log : List Event) → Sound roots log → holds_at (stage_at t log) ≡ false → IsFree t log
+free_at roots t log s loose = record {
   waits = λ w u of h. elim (s.waits w u h).1 [
     | inl ended ↦ ended
     | inr at ↦ not_both (holds_at (stage_at w.0 log)) (ap holds_at at) (ap (λ (k : ℕ). holds_at (stage_at k log)) of ∙ loose)
@@ -400,10 +379,5 @@ free_at roots N t log s loose = record {
 }
 
 -- a task that has ended is free
-pub free_ended : (roots : ℕ) (N : ℕ → Type 0) (t : ℕ) (log : List Event) → Sound roots N log → HasEnded t log → IsFree t log
-free_ended roots N t log s ended = free_at roots N t log s (ap holds_at (s.rests t ended).1)
-
--- and where no turn of it was folded, each child of its groups has ended
-pub children_ended : (roots : ℕ) (N : ℕ → Type 0) (log : List Event) (u o : TaskId) (g : ℕ) (p : Priority) → Sound roots N log → N o.0 → HasEnded o.0 log → In log (Child u o g p) → HasEnded u.0 log
-children_ended roots N log u o g p s n ended h =
-    (free_ended roots N o.0 log s ended).children u o g p refl h (s.closed o.0 n ended g (s.children u o g p h).1)
+pub free_ended : (roots : ℕ) (t : ℕ) (log : List Event) → Sound roots log → HasEnded t log → IsFree t log
+free_ended roots t log s ended = free_at roots t log s (ap holds_at (s.rests t ended).1)

@@ -1,5 +1,5 @@
 -- Which events may stand after a log: those of effects, and those by which jobs are made.
-use Rattle.std.proofs.Common.{◌≡◌, ◌≢◌, ◌⊎◌, inl, inr, ℕ, ℤ, ◌+◌, ◌<◌, Bool, true, false, if◌then◌else◌, List, [], ◌∷◌, ◌++◌, refl, sym, subst, ap, ◌∙◌, arith, append_assoc, cond}
+use Rattle.std.proofs.Common.{◌≡◌, inl, inr, ℕ, ◌+◌, ◌<◌, Bool, true, false, if◌then◌else◌, List, [], ◌∷◌, ◌++◌, refl, sym, subst, ap, ◌∙◌, arith, append_assoc, cond}
 use Rattle.std.specs.Prelude.{Some, None, is_some, ◌==◌, ◌&&◌, not, nat_lt, unwrap_or, count_by}
 use Rattle.std.proofs.lemmas.Bool.{false≢true}
 use Rattle.std.proofs.lemmas.Bool.Decides.{nat_tests}
@@ -14,14 +14,14 @@ use Rattle.swift_events.specs.declared.event.Event.{Event}
 use Rattle.swift_events.specs.declared.event.Event.TheVariants.{Free, Open, Child, Skip, CancelTask, CancelGroup, Wait, Give}
 use Rattle.swift_events.specs.declared.life.Stage.TheVariants as stage
 use Rattle.swift_events.specs.Events.{task_of, is_made, tasks_of}
-use Rattle.swift_events.specs.Lives.{life_of, origin_in, given_in, stage_in, ending_in, waits_at}
+use Rattle.swift_events.specs.Lives.{life_of, origin_in, given_in, stage_in, ending_in}
 use Rattle.swift_events.specs.Relations.{opens, opened_by, closes, is_closed}
 use Rattle.swift_events.proofs.LogLemmas.{tasks_of-push_made, opened_by-push_yes, opened_by-push_no, is_closed-push_no}
 use Rattle.swift_history.specs.Checks.{Counters, can_use, fits_effect, counted, fits_turn}
 use Rattle.swift_history.specs.Histories.{opens_group}
-use Rattle.swift_history.specs.TurnEnds.{JobView, task, first_job, beginning, gives, named_task, is_left_out, effect_events, effect_jobs, log_after, jobs_made}
+use Rattle.swift_history.specs.TurnEnds.{JobView, task, first_job, gives, named_task, is_left_out, effect_events, effect_jobs, log_after, jobs_made}
 use Rattle.swift_laws.specs.Ended.{HasEnded}
-use Rattle.swift_laws.proofs.OpenLogs.{in_push, cases_of, not_both, none_some, has_origin, was_given, stage_at, origin_stays, origin_now, given_same, given_now, given_stays, stage_same, stage_cases, ended_stays, ending_same, closed_cases, IsFree, Sound, May, sound_leads, Leads, stays, leads_by, leads_on, holds_at, free_at}
+use Rattle.swift_laws.proofs.OpenLogs.{in_push, cases_of, not_both, none_some, has_origin, was_given, stage_at, origin_stays, origin_now, given_same, given_now, given_stays, stage_same, ended_stays, ending_same, closed_cases, IsFree, Sound, May, sound_leads, Leads, stays, leads_by, leads_on, holds_at, free_at}
 
 -- of each of some jobs
 abbrev pub Each : (JobView → Type 0) → List JobView → Type 0
@@ -55,14 +55,13 @@ pub record Calm (e : Event) : Type 0 where
 pub no_child : (e : Event) (u o : TaskId) (g : ℕ) (p : Priority) {X : Type 0} → is_child e ≡ false → e ≡ Child u o g p → X
 no_child e u o g p none q = not_both (is_child e) (ap is_child q) none
 
-module _ (roots : ℕ) (N : ℕ → Type 0) where
+module _ (roots : ℕ) where
   -- an event that says nothing of a life
-  pub may_calm : (log : List Event) (e : Event) → Calm e → origin_in e ≡ None → ((o : ℕ) → opens o e ≡ false) → is_child e ≡ false → May roots N log e
-  may_calm log e calm origin unopened other = record {
+  pub may_calm : (log : List Event) (e : Event) → Calm e → origin_in e ≡ None → is_child e ≡ false → May roots log e
+  may_calm log e calm origin other = record {
     low = none_some (origin_in e) origin;
     born = none_some (given_in e) calm.given;
     given = none_some (stage_in e) calm.stage;
-    opens_one = λ o q. not_both (opens o e) q (unopened o);
     moves = none_some (stage_in e) calm.stage;
     alive = none_some (stage_in e) calm.stage;
     ends = none_some (ending_in e) calm.ending;
@@ -70,13 +69,12 @@ module _ (roots : ℕ) (N : ℕ → Type 0) where
   }
 
   -- an event that makes a task
-  pub may_make : (log : List Event) (e : Event) → Calm e → is_made e ≡ true → task_of e ≡ tasks_of roots log → ((o : ℕ) → opens o e ≡ false)
-      → ((u o : TaskId) (g : ℕ) (p : Priority) → e ≡ Child u o g p → (was_given o.0 log ≡ true) × (g < opened_by o.0 log) × (is_closed o.0 g log ≡ false)) → May roots N log e
-  may_make log e calm made at unopened child = record {
+  pub may_make : (log : List Event) (e : Event) → Calm e → is_made e ≡ true → task_of e ≡ tasks_of roots log
+      → ((u o : TaskId) (g : ℕ) (p : Priority) → e ≡ Child u o g p → (was_given o.0 log ≡ true) × (g < opened_by o.0 log) × (is_closed o.0 g log ≡ false)) → May roots log e
+  may_make log e calm made at child = record {
     low = λ q. (let more = tasks_of-push_made roots log e made in omega (arith, at, more));
     born = none_some (given_in e) calm.given;
     given = none_some (stage_in e) calm.stage;
-    opens_one = λ o q. not_both (opens o e) q (unopened o);
     moves = none_some (stage_in e) calm.stage;
     alive = none_some (stage_in e) calm.stage;
     ends = none_some (ending_in e) calm.ending;
@@ -84,13 +82,12 @@ module _ (roots : ℕ) (N : ℕ → Type 0) where
   }
 
   -- an event by which a task moves on to another stage
-  pub may_move : (log : List Event) (e : Event) → origin_in e ≡ None → ending_in e ≡ None → ((o : ℕ) → opens o e ≡ false) → is_child e ≡ false
-      → (is_some (given_in e) ≡ true → has_origin (task_of e) log ≡ true) → was_given (task_of e) (log ++ e ∷ []) ≡ true → IsFree (task_of e) log → (HasEnded (task_of e) log → ⊥) → May roots N log e
-  may_move log e origin ending unopened other born given free alive = record {
+  pub may_move : (log : List Event) (e : Event) → origin_in e ≡ None → ending_in e ≡ None → is_child e ≡ false
+      → (is_some (given_in e) ≡ true → has_origin (task_of e) log ≡ true) → was_given (task_of e) (log ++ e ∷ []) ≡ true → IsFree (task_of e) log → (HasEnded (task_of e) log → ⊥) → May roots log e
+  may_move log e origin ending other born given free alive = record {
     low = none_some (origin_in e) origin;
     born = born;
     given = λ q. given;
-    opens_one = λ o q. not_both (opens o e) q (unopened o);
     moves = λ q. free;
     alive = λ q. alive;
     ends = none_some (ending_in e) ending;
@@ -110,61 +107,28 @@ active_push t log e calm a = record {
   alive = λ ended. a.alive (sym (ap is_some (ending_same t log e calm.ending)) ∙ ended);
 }
 
--- What the blocks of a task's turn leave of other tasks: no group is opened or closed, and who waits has waited before.
-pub record Beside (t : ℕ) (a b : List Event) : Type 0 where
-  pub opened : (u : ℕ) → u ≢ t → opened_by u b ≡ opened_by u a
-  pub closed : (u g : ℕ) → u ≢ t → is_closed u g b ≡ is_closed u g a
-  pub stage : (u : ℕ) → u ≢ t → (stage_at u b ≡ stage_at u a) ⊎ (waits_at (stage_at u b) ≡ false)
-
-pub beside_same : (t : ℕ) (a : List Event) → Beside t a a
-beside_same t a = record { opened = λ u ne. refl; closed = λ u g ne. refl; stage = λ u ne. inl refl }
-
-pub beside_on : (t : ℕ) (a b c : List Event) → Beside t a b → Beside t b c → Beside t a c
-beside_on t a b c p q = record {
-  opened = λ u ne. q.opened u ne ∙ p.opened u ne;
-  closed = λ u g ne. q.closed u g ne ∙ p.closed u g ne;
-  stage = λ u ne. elim (q.stage u ne) [
-    | inl same ↦ elim (p.stage u ne) [ inl old ↦ inl (same ∙ old) | inr none ↦ inr (ap waits_at same ∙ none) ]
-    | inr none ↦ inr none
-  ];
-}
-
--- an event of a task, or one by which no task begins to wait
-pub beside_by : (t : ℕ) (log : List Event) (e : Event) → ((u : ℕ) → u ≢ t → opens u e ≡ false) → ((u g : ℕ) → u ≢ t → closes u g e ≡ false) → (task_of e ≡ t) ⊎ (waits_at (stage_in e) ≡ false) → Beside t log (log ++ e ∷ [])
-beside_by t log e unopened unclosed of = record {
-  opened = λ u ne. opened_by-push_no u log e (unopened u ne);
-  closed = λ u g ne. is_closed-push_no u g log e (unclosed u g ne);
-  stage = λ u ne. elim (stage_cases u log e) [
-    | inl same ↦ inl same
-    | inr moved ↦ elim of [ inl mine ↦ absurd (ne (sym moved.0 ∙ mine)) | inr none ↦ inr (ap waits_at moved.1 ∙ none) ]
-  ];
-}
-
--- a task that was made and has had no job, and its first job
-pub record Fresh (script : ScriptView) (log : List Event) (j : JobView) : Type 0 where
+-- a task that was made and has had no job
+pub record Fresh (log : List Event) (j : JobView) : Type 0 where
   pub made : has_origin j.task log ≡ true
   pub new : was_given j.task log ≡ false
-  pub method : ℕ
-  pub args : List ℤ
-  pub bindings : List (ℕ × ℤ)
-  pub frames : j.frames ≡ beginning script method args bindings
+
+pub fresh_push : (log : List Event) (e : Event) → given_in e ≡ None → (j : JobView) → Fresh log j → Fresh (log ++ e ∷ []) j
+fresh_push log e none j f = record { made = origin_stays j.task log e f.made; new = ap is_some (given_same j.task log e none) ∙ f.new }
 
 -- what effects leave
-pub record Effects (script : ScriptView) (N : ℕ → Type 0) (t : ℕ) (log log' : List Event) (n : ℕ) (js : List JobView) : Type 0 where
-  pub leads : Leads (root_count script) N log log'
-  pub beside : Beside t log log'
+pub record Effects (script : ScriptView) (t : ℕ) (log log' : List Event) (n : ℕ) (js : List JobView) : Type 0 where
+  pub leads : Leads (root_count script) log log'
   pub active : Active t log'
   pub opened : opened_by t log' ≡ opened_by t log + n
   pub closed : (g : ℕ) → is_closed t g log' ≡ is_closed t g log
   pub givens : (u : ℕ) → was_given u log' ≡ was_given u log
   pub origins : (u : ℕ) → has_origin u log ≡ true → has_origin u log' ≡ true
-  pub fresh : Each (Fresh script log') js
+  pub fresh : Each (Fresh log') js
 
-module _ (script : ScriptView) (N : ℕ → Type 0) (t : ℕ) where
-  nothing : (log : List Event) → Active t log → Effects script N t log log 0 []
+module _ (script : ScriptView) (t : ℕ) where
+  nothing : (log : List Event) → Active t log → Effects script t log log 0 []
   nothing log a = record {
-    leads = stays (root_count script) N log;
-    beside = beside_same t log;
+    leads = stays (root_count script) log;
     active = a;
     opened = omega arith;
     closed = λ g. refl;
@@ -173,84 +137,59 @@ module _ (script : ScriptView) (N : ℕ → Type 0) (t : ℕ) where
     fresh = tt;
   }
 
-  one : (log : List Event) (e : Event) (n : ℕ) (js : List JobView) → May (root_count script) N log e → Calm e → Active t log → ((u : ℕ) → u ≢ t → opens u e ≡ false) → ((u g : ℕ) → closes u g e ≡ false)
-      → opened_by t (log ++ e ∷ []) ≡ opened_by t log + n → Each (Fresh script (log ++ e ∷ [])) js → Effects script N t log (log ++ e ∷ []) n js
-  one log e n js may calm a unopened unclosed opened fresh = record {
-    leads = leads_by (root_count script) N log e may;
-    beside = beside_by t log e unopened (λ u g ne. unclosed u g) (inr (ap waits_at calm.stage));
+  one : (log : List Event) (e : Event) (n : ℕ) (js : List JobView) → May (root_count script) log e → Calm e → Active t log → ((g : ℕ) → closes t g e ≡ false)
+      → opened_by t (log ++ e ∷ []) ≡ opened_by t log + n → Each (Fresh (log ++ e ∷ [])) js → Effects script t log (log ++ e ∷ []) n js
+  one log e n js may calm a unclosed opened fresh = record {
+    leads = leads_by (root_count script) log e may;
     active = active_push t log e calm a;
     opened = opened;
-    closed = λ g. is_closed-push_no t g log e (unclosed t g);
+    closed = λ g. is_closed-push_no t g log e (unclosed g);
     givens = λ u. ap is_some (given_same u log e calm.given);
     origins = λ u h. origin_stays u log e h;
     fresh = fresh;
   }
 
   -- an event that opens no group
-  plain : (log : List Event) (e : Event) (js : List JobView) → May (root_count script) N log e → Calm e → Active t log → ((u : ℕ) → opens u e ≡ false) → ((u g : ℕ) → closes u g e ≡ false)
-      → Each (Fresh script (log ++ e ∷ [])) js → Effects script N t log (log ++ e ∷ []) 0 js
-  plain log e js may calm a unopened unclosed fresh =
-      one log e 0 js may calm a (λ u ne. unopened u) unclosed (let same = opened_by-push_no t log e (unopened t) in omega (arith, same)) fresh
+  plain : (log : List Event) (e : Event) (js : List JobView) → May (root_count script) log e → Calm e → Active t log → opens t e ≡ false → ((g : ℕ) → closes t g e ≡ false)
+      → Each (Fresh (log ++ e ∷ [])) js → Effects script t log (log ++ e ∷ []) 0 js
+  plain log e js may calm a unopened unclosed fresh = one log e 0 js may calm a unclosed (let same = opened_by-push_no t log e unopened in omega (arith, same)) fresh
 
   -- the task that an event makes has had no job
-  new_one : (log : List Event) (e : Event) (m : ℕ) (args : List ℤ) (bindings : List (ℕ × ℤ)) → Sound (root_count script) N log → Calm e → is_some (origin_in e) ≡ true → task_of e ≡ tasks_of (root_count script) log
-      → Fresh script (log ++ e ∷ []) (first_job script (tasks_of (root_count script) log) m args bindings)
-  new_one log e m args bindings s calm born at =
-      let k : ℕ = tasks_of (root_count script) log in
-      record {
-        made = ap is_some (origin_now k log e at born) ∙ born;
-        new = ap is_some (given_same k log e calm.given) ∙ none k refl;
-        method = m;
-        args = args;
-        bindings = bindings;
-        frames = refl;
-      }
+  new_one : (log : List Event) (e : Event) (j : JobView) → Sound (root_count script) log → Calm e → is_some (origin_in e) ≡ true → task_of e ≡ tasks_of (root_count script) log → j.task ≡ tasks_of (root_count script) log
+      → Fresh (log ++ e ∷ []) j
+  new_one log e j s calm born at is = record {
+    made = ap is_some (origin_now j.task log e (at ∙ sym is) born) ∙ born;
+    new = ap is_some (given_same j.task log e calm.given) ∙ none;
+  }
     where
-      none : (k : ℕ) → k ≡ tasks_of (root_count script) log → was_given k log ≡ false
-      none k is = elim (cases_of (was_given k log)) [
-        | inl so ↦ (let lt = s.low k (s.born k so) in absurd (omega (arith, lt, is)))
+      none : was_given j.task log ≡ false
+      none = elim (cases_of (was_given j.task log)) [
+        | inl so ↦ (let lt = s.low j.task (s.born j.task so) in absurd (omega (arith, lt, is)))
         | inr not_so ↦ not_so
       ]
 
-  either : (b : Bool) (log es fs : List Event) (js ks : List JobView) → (b ≡ true → Effects script N t log (log ++ es) 0 js) → (b ≡ false → Effects script N t log (log ++ fs) 0 ks)
-      → Effects script N t log (log ++ (if b then es else fs)) 0 (if b then js else ks)
+  either : (b : Bool) (log es fs : List Event) (js ks : List JobView) → (b ≡ true → Effects script t log (log ++ es) 0 js) → (b ≡ false → Effects script t log (log ++ fs) 0 ks)
+      → Effects script t log (log ++ (if b then es else fs)) 0 (if b then js else ks)
   either true log es fs js ks p q = p refl
   either false log es fs js ks p q = q refl
 
-  either_none : (b : Bool) (log es fs : List Event) → (b ≡ true → Effects script N t log (log ++ es) 0 []) → (b ≡ false → Effects script N t log (log ++ fs) 0 []) → Effects script N t log (log ++ (if b then es else fs)) 0 []
+  either_none : (b : Bool) (log es fs : List Event) → (b ≡ true → Effects script t log (log ++ es) 0 []) → (b ≡ false → Effects script t log (log ++ fs) 0 []) → Effects script t log (log ++ (if b then es else fs)) 0 []
   either_none true log es fs p q = p refl
   either_none false log es fs p q = q refl
 
-  written_none : (log : List Event) → Active t log → Effects script N t log (log ++ []) 0 []
-  written_none log a = subst (λ (l : List Event). Effects script N t log l 0 []) (sym (append-nil log)) (nothing log a)
+  written_none : (log : List Event) → Active t log → Effects script t log (log ++ []) 0 []
+  written_none log a = subst (λ (l : List Event). Effects script t log l 0 []) (sym (append-nil log)) (nothing log a)
 
   calm : {e : Event} → given_in e ≡ None → stage_in e ≡ None → ending_in e ≡ None → Calm e
   calm a b c = record { given = a; stage = b; ending = c }
 
-  opens_other : (u : ℕ) → u ≢ t → (t == u) ≡ false
-  opens_other u ne = let other : t ≢ u = λ q. ne (sym q) in grind (arith, nat_tests)
-
   opens_own : (t == t) ≡ true
   opens_own = grind (arith, nat_tests)
 
-  is_own : (o : ℕ) → (t == o) ≡ true → t ≡ o
-  is_own o h = grind (arith, nat_tests)
-
-  open_one : (log : List Event) → Active t log → Effects script N t log (log ++ Open (task t) (opened_by t log) ∷ []) 1 []
+  open_one : (log : List Event) → Active t log → Effects script t log (log ++ Open (task t) (opened_by t log) ∷ []) 1 []
   open_one log a =
       let e : Event = Open (task t) (opened_by t log) in
-      one log e 1 []
-      (record {
-        low = λ q. absurd (false≢true q);
-        born = λ q. absurd (false≢true q);
-        given = λ q. absurd (false≢true q);
-        opens_one = λ o q. subst (λ (k : ℕ). (was_given k log ≡ true) × (HasEnded k log → ⊥)) (is_own o q) (a.given, a.alive);
-        moves = λ q. absurd (false≢true q);
-        alive = λ q. absurd (false≢true q);
-        ends = λ q. absurd (false≢true q);
-        child = λ u o g p q. no_child e u o g p refl q;
-      })
-      (calm refl refl refl) a opens_other (λ u g. refl) (opened_by-push_yes t log e opens_own) tt
+      one log e 1 [] (may_calm (root_count script) log e (calm refl refl refl) refl refl) (calm refl refl refl) a (λ g. refl) (opened_by-push_yes t log e opens_own) tt
 
   both : (a b : Bool) → (a && b) ≡ true → (a ≡ true) × (b ≡ true)
   both true true h = (refl, refl)
@@ -280,16 +219,18 @@ module _ (script : ScriptView) (N : ℕ → Type 0) (t : ℕ) where
       number_of (Child u o g p) = g
       number_of _ = 0
 
-  effect : (own : Priority) (log first : List Event) (c : Counters) (e : EffectView) → Sound (root_count script) N log → Active t log → c.opened ≡ opened_by t log → ((g : ℕ) → is_closed t g log ≡ is_closed t g first) → fits_effect script t first c e ≡ true
-      → Effects script N t log (log ++ effect_events (root_count script) t own log e) (cond (opens_group e) 1 0) (effect_jobs script t log e)
+  effect : (own : Priority) (log first : List Event) (c : Counters) (e : EffectView) → Sound (root_count script) log → Active t log → c.opened ≡ opened_by t log → ((g : ℕ) → is_closed t g log ≡ is_closed t g first) → fits_effect script t first c e ≡ true
+      → Effects script t log (log ++ effect_events (root_count script) t own log e) (cond (opens_group e) 1 0) (effect_jobs script t log e)
   effect own log first c (spawning i p bindings) s a count same fits =
       let e : Event = Free (task (tasks_of (root_count script) log)) (task t) (unwrap_or p own) false in
-      plain log e _ (may_make (root_count script) N log e (calm refl refl refl) refl refl (λ o. refl) (λ u o g q x. no_child e u o g q refl x)) (calm refl refl refl) a (λ u. refl) (λ u g. refl)
-      (new_one log e i.method i.args bindings s (calm refl refl refl) refl refl, tt)
+      let j : JobView = first_job script (tasks_of (root_count script) log) i.method i.args bindings in
+      plain log e (j ∷ []) (may_make (root_count script) log e (calm refl refl refl) refl refl (λ u o g q x. no_child e u o g q refl x)) (calm refl refl refl) a refl (λ g. refl)
+      (new_one log e j s (calm refl refl refl) refl refl refl, tt)
   effect own log first c (detaching i p) s a count same fits =
       let e : Event = Free (task (tasks_of (root_count script) log)) (task t) p true in
-      plain log e _ (may_make (root_count script) N log e (calm refl refl refl) refl refl (λ o. refl) (λ u o g q x. no_child e u o g q refl x)) (calm refl refl refl) a (λ u. refl) (λ u g. refl)
-      (new_one log e i.method i.args [] s (calm refl refl refl) refl refl, tt)
+      let j : JobView = first_job script (tasks_of (root_count script) log) i.method i.args [] in
+      plain log e (j ∷ []) (may_make (root_count script) log e (calm refl refl refl) refl refl (λ u o g q x. no_child e u o g q refl x)) (calm refl refl refl) a refl (λ g. refl)
+      (new_one log e j s (calm refl refl refl) refl refl refl, tt)
   effect own log first c opening s a count same fits = open_one log a
   effect own log first c (adding g unless i p bindings) s a count same fits =
       let usable : can_use t first c g ≡ true = (both (can_use t first c g) _ (both (nat_lt 0 c.room) _ fits).1).0 in
@@ -298,19 +239,20 @@ module _ (script : ScriptView) (N : ℕ → Type 0) (t : ℕ) where
       let unclosed : is_closed t g log ≡ false = same g ∙ not_of (is_closed t g first) parts.1 in
       let skip : Event = Skip (task t) g in
       let add : Event = Child (task (tasks_of (root_count script) log)) (task t) g (unwrap_or p Background) in
-      either (is_left_out t g unless log) log (skip ∷ []) (add ∷ []) [] (first_job script (tasks_of (root_count script) log) i.method i.args bindings ∷ [])
-      (λ x. plain log skip [] (may_calm (root_count script) N log skip (calm refl refl refl) refl (λ o. refl) refl) (calm refl refl refl) a (λ u. refl) (λ u k. refl) tt)
-      (λ x. plain log add _
-      (may_make (root_count script) N log add (calm refl refl refl) refl refl (λ o. refl) (child_fits add (task (tasks_of (root_count script) log)) (task t) g (unwrap_or p Background) log refl refl a lt unclosed))
-      (calm refl refl refl) a (λ u. refl) (λ u k. refl) (new_one log add i.method i.args bindings s (calm refl refl refl) refl refl, tt))
+      let j : JobView = first_job script (tasks_of (root_count script) log) i.method i.args bindings in
+      either (is_left_out t g unless log) log (skip ∷ []) (add ∷ []) [] (j ∷ [])
+      (λ x. plain log skip [] (may_calm (root_count script) log skip (calm refl refl refl) refl refl) (calm refl refl refl) a refl (λ k. refl) tt)
+      (λ x. plain log add (j ∷ [])
+      (may_make (root_count script) log add (calm refl refl refl) refl refl (child_fits add (task (tasks_of (root_count script) log)) (task t) g (unwrap_or p Background) log refl refl a lt unclosed))
+      (calm refl refl refl) a refl (λ k. refl) (new_one log add j s (calm refl refl refl) refl refl refl, tt))
   effect own log first c (cancelling_task name) s a count same fits =
       let e : Event = CancelTask (named_task t name log) in
       either_none (is_some (life_of (named_task t name log).0 log).ending) log [] (e ∷ [])
       (λ x. written_none log a)
-      (λ x. plain log e [] (may_calm (root_count script) N log e (calm refl refl refl) refl (λ o. refl) refl) (calm refl refl refl) a (λ u. refl) (λ u g. refl) tt)
+      (λ x. plain log e [] (may_calm (root_count script) log e (calm refl refl refl) refl refl) (calm refl refl refl) a refl (λ g. refl) tt)
   effect own log first c (cancelling_group g) s a count same fits =
       let e : Event = CancelGroup (task t) g in
-      plain log e [] (may_calm (root_count script) N log e (calm refl refl refl) refl (λ o. refl) refl) (calm refl refl refl) a (λ u. refl) (λ u k. refl) tt
+      plain log e [] (may_calm (root_count script) log e (calm refl refl refl) refl refl) (calm refl refl refl) a refl (λ k. refl) tt
 
   counted_opened : (c : Counters) (e : EffectView) → (counted c e).opened ≡ c.opened + cond (opens_group e) 1 0
   counted_opened c (spawning i p bindings) = omega arith
@@ -320,30 +262,29 @@ module _ (script : ScriptView) (N : ℕ → Type 0) (t : ℕ) where
   counted_opened c (cancelling_task name) = omega arith
   counted_opened c (cancelling_group g) = omega arith
 
-  fresh_on : (a b : List Event) (n : ℕ) (js : List JobView) → Effects script N t a b n js → (j : JobView) → Fresh script a j → Fresh script b j
-  fresh_on a b n js f j h = record { made = f.origins j.task h.made; new = f.givens j.task ∙ h.new; method = h.method; args = h.args; bindings = h.bindings; frames = h.frames }
+  fresh_on : (a b : List Event) (n : ℕ) (js : List JobView) → Effects script t a b n js → (j : JobView) → Fresh a j → Fresh b j
+  fresh_on a b n js f j h = record { made = f.origins j.task h.made; new = f.givens j.task ∙ h.new }
 
   count_cons : (e : EffectView) (es : List EffectView) → count_by opens_group (e ∷ es) ≡ cond (opens_group e) 1 0 + count_by opens_group es
   count_cons e es = sum_by-cons (λ (x : EffectView). cond (opens_group x) 1 0) e es
 
-  pub effects : (own : Priority) (log first : List Event) (c : Counters) (es : List EffectView) (exit : ExitView) → Sound (root_count script) N log → Active t log → c.opened ≡ opened_by t log → ((g : ℕ) → is_closed t g log ≡ is_closed t g first)
-      → fits_turn script t first c es exit ≡ true → Effects script N t log (log_after (root_count script) t own log es) (count_by opens_group es) (jobs_made script t own log es)
+  pub effects : (own : Priority) (log first : List Event) (c : Counters) (es : List EffectView) (exit : ExitView) → Sound (root_count script) log → Active t log → c.opened ≡ opened_by t log → ((g : ℕ) → is_closed t g log ≡ is_closed t g first)
+      → fits_turn script t first c es exit ≡ true → Effects script t log (log_after (root_count script) t own log es) (count_by opens_group es) (jobs_made script t own log es)
   effects own log first c [] exit s a count same fits = nothing log a
   effects own log first c (e ∷ es) exit s a count same fits =
       let mid : List Event = log ++ effect_events (root_count script) t own log e in
       let ok = both (fits_effect script t first c e) _ fits in
       let now = effect own log first c e s a count same ok.0 in
       let last : List Event = log_after (root_count script) t own mid es in
-      let rest = effects own mid first (counted c e) es exit (sound_leads (root_count script) N log mid s now.leads) now.active (let n = counted_opened c e in let o = now.opened in omega (arith, n, o, count)) (λ g. now.closed g ∙ same g) ok.1 in
+      let rest = effects own mid first (counted c e) es exit (sound_leads (root_count script) log mid s now.leads) now.active (let n = counted_opened c e in let o = now.opened in omega (arith, n, o, count)) (λ g. now.closed g ∙ same g) ok.1 in
       record {
-        leads = leads_on (root_count script) N log mid last now.leads rest.leads;
-        beside = beside_on t log mid last now.beside rest.beside;
+        leads = leads_on (root_count script) log mid last now.leads rest.leads;
         active = rest.active;
         opened = (let x = now.opened in let y = rest.opened in let z = count_cons e es in omega (arith, x, y, z));
         closed = λ g. rest.closed g ∙ now.closed g;
         givens = λ u. rest.givens u ∙ now.givens u;
         origins = λ u h. rest.origins u (now.origins u h);
-        fresh = each_append (Fresh script last) (effect_jobs script t log e) (jobs_made script t own mid es) (each_map (Fresh script mid) (Fresh script last) (fresh_on mid last _ _ rest) (effect_jobs script t log e) now.fresh) rest.fresh;
+        fresh = each_append (Fresh last) (effect_jobs script t log e) (jobs_made script t own mid es) (each_map (Fresh mid) (Fresh last) (fresh_on mid last _ _ rest) (effect_jobs script t log e) now.fresh) rest.fresh;
       }
 
 -- A task of which a job may be made.
@@ -352,11 +293,11 @@ pub record Goes (t : ℕ) (log : List Event) : Type 0 where
   pub alive : HasEnded t log → ⊥
   pub free : IsFree t log
 
-pub goes_free : (roots : ℕ) (N : ℕ → Type 0) (t : ℕ) (log : List Event) → Sound roots N log → was_given t log ≡ true → (HasEnded t log → ⊥) → holds_at (stage_at t log) ≡ false → Goes t log
-goes_free roots N t log s given alive loose = record { origin = s.born t given; alive = alive; free = free_at roots N t log s loose }
+pub goes_free : (roots : ℕ) (t : ℕ) (log : List Event) → Sound roots log → was_given t log ≡ true → (HasEnded t log → ⊥) → holds_at (stage_at t log) ≡ false → Goes t log
+goes_free roots t log s given alive loose = record { origin = s.born t given; alive = alive; free = free_at roots t log s loose }
 
-pub goes_new : (roots : ℕ) (N : ℕ → Type 0) (t : ℕ) (log : List Event) → Sound roots N log → has_origin t log ≡ true → was_given t log ≡ false → Goes t log
-goes_new roots N t log s origin new = record {
+pub goes_new : (roots : ℕ) (t : ℕ) (log : List Event) → Sound roots log → has_origin t log ≡ true → was_given t log ≡ false → Goes t log
+goes_new roots t log s origin new = record {
   origin = origin;
   alive = λ ended. not_both (was_given t log) (s.rests t ended).0 new;
   free = record {
@@ -391,47 +332,20 @@ goes_on t log j h =
       };
     }
 
--- what is left where jobs were made
-pub record Gave (roots : ℕ) (N : ℕ → Type 0) (a b : List Event) : Type 0 where
-  pub leads : Leads roots N a b
-  pub opened : (u : ℕ) → opened_by u b ≡ opened_by u a
-  pub closed : (u g : ℕ) → is_closed u g b ≡ is_closed u g a
-  pub stage : (u : ℕ) → (stage_at u b ≡ stage_at u a) ⊎ (waits_at (stage_at u b) ≡ false)
+-- each of some jobs may be made
+abbrev pub AllGo : List Event → List JobView → Type 0
+AllGo log js = Each (λ j. Goes j.task log) js
 
-module _ (roots : ℕ) (N : ℕ → Type 0) where
-  pub gave_none : (a : List Event) → Gave roots N a a
-  gave_none a = record { leads = stays roots N a; opened = λ u. refl; closed = λ u g. refl; stage = λ u. inl refl }
-
-  pub gave_on : (a b c : List Event) → Gave roots N a b → Gave roots N b c → Gave roots N a c
-  gave_on a b c p q = record {
-    leads = leads_on roots N a b c p.leads q.leads;
-    opened = λ u. q.opened u ∙ p.opened u;
-    closed = λ u g. q.closed u g ∙ p.closed u g;
-    stage = λ u. elim (q.stage u) [
-      | inl same ↦ elim (p.stage u) [ inl old ↦ inl (same ∙ old) | inr none ↦ inr (ap waits_at same ∙ none) ]
-      | inr none ↦ inr none
-    ];
-  }
-
-  pub gave_by : (log : List Event) (e : Event) → May roots N log e → ((u : ℕ) → opens u e ≡ false) → ((u g : ℕ) → closes u g e ≡ false) → waits_at (stage_in e) ≡ false → Gave roots N log (log ++ e ∷ [])
-  gave_by log e may unopened unclosed none = record {
-    leads = leads_by roots N log e may;
-    opened = λ u. opened_by-push_no u log e (unopened u);
-    closed = λ u g. is_closed-push_no u g log e (unclosed u g);
-    stage = λ u. elim (stage_cases u log e) [ inl same ↦ inl same | inr moved ↦ inr (ap waits_at moved.1 ∙ none) ];
-  }
-
-  pub gave_one : (log : List Event) (j : JobView) → Goes j.task log → Gave roots N log (log ++ give_of j ∷ [])
-  gave_one log j h =
-      let e : Event = give_of j in
-      gave_by log e (may_move roots N log e refl refl (λ o. refl) refl (λ q. h.origin) (given_after log j) h.free h.alive) (λ u. refl) (λ u g. refl) refl
+module _ (roots : ℕ) where
+  pub leads_give : (log : List Event) (j : JobView) → Goes j.task log → Leads roots log (log ++ give_of j ∷ [])
+  leads_give log j h = leads_by roots log (give_of j) (may_move roots log (give_of j) refl refl refl (λ q. h.origin) given_after h.free h.alive)
     where
-      given_after : (log : List Event) (j : JobView) → was_given j.task (log ++ give_of j ∷ []) ≡ true
-      given_after log j = ap is_some (given_now j.task log (give_of j) refl refl)
+      given_after : was_given j.task (log ++ give_of j ∷ []) ≡ true
+      given_after = ap is_some (given_now j.task log (give_of j) refl refl)
 
-  pub gave_all : (log : List Event) (js : List JobView) → Each (λ j. Goes j.task log) js → Gave roots N log (log ++ gives js)
-  gave_all log [] h = subst (λ (l : List Event). Gave roots N log l) (sym (append-nil log)) (gave_none log)
-  gave_all log (j ∷ js) h =
+  pub leads_gives : (log : List Event) (js : List JobView) → AllGo log js → Leads roots log (log ++ gives js)
+  leads_gives log [] h = subst (λ (l : List Event). Leads roots log l) (sym (append-nil log)) (stays roots log)
+  leads_gives log (j ∷ js) h =
       let mid : List Event = log ++ give_of j ∷ [] in
-      let rest = gave_all mid js (each_map (λ k. Goes k.task log) (λ k. Goes k.task mid) (λ k x. goes_on k.task log j x) js h.1) in
-      subst (λ (l : List Event). Gave roots N log l) (append_assoc log (give_of j ∷ []) (gives js)) (gave_on log mid (mid ++ gives js) (gave_one log j h.0) rest)
+      let rest = leads_gives mid js (each_map (λ k. Goes k.task log) (λ k. Goes k.task mid) (λ k x. goes_on k.task log j x) js h.1) in
+      subst (λ (l : List Event). Leads roots log l) (append_assoc log (give_of j ∷ []) (gives js)) (leads_on roots log mid (mid ++ gives js) (leads_give log j h.0) rest)

@@ -1,16 +1,14 @@
 -- Structured concurrency (SE-0304): an ended task leaves no task behind.
-use Rattle.std.specs.Prelude.{◌≡◌, ◌≢◌, ℕ, IsTrue, is_some, Some, List, [], ◌++◌, Contains, slice_get}
+use Rattle.std.specs.Prelude.{◌≡◌, ◌≢◌, ℕ, IsTrue, is_some, Some, List, ◌++◌, Contains}
 use Rattle.swift_types.specs.declared.id.TaskId.{TaskId}
 use Rattle.swift_types.specs.declared.priority.Priority.{Priority}
 use Rattle.swift_script.specs.Scripts.{ScriptView}
-use Rattle.swift_script.specs.Accepted.{WasAccepted}
 use Rattle.swift_events.specs.declared.event.Event.{Event}
 use Rattle.swift_events.specs.declared.event.Event.TheVariants.{Child, Wait}
 use Rattle.swift_events.specs.declared.life.Stage.TheVariants.{Waits, Closes}
 use Rattle.swift_events.specs.Lives.{life_of}
 use Rattle.swift_escalation.specs.Waits.{Reaches}
 use Rattle.swift_events.specs.Relations.{is_closed, links_of}
-use Rattle.swift_journal.specs.Checkpoints.{FoldedView, CheckpointView}
 use Rattle.swift_history.specs.Histories.{IsLegal, ReportView}
 
 -- a task has ended by then
@@ -41,23 +39,12 @@ abbrev pub EndedLeaveNoneClosed : Type 0
 EndedLeaveNoneClosed = (script : ScriptView) (report : ReportView) (front : List Event) (t u : TaskId) (g : ℕ) (p : Priority)
     → IsLegal script report → IsFront report front → HasEnded t.0 front → IsTrue (is_closed t.0 g front) → Contains front (Child u t g p) → HasEnded u.0 front
 
--- no checkpoint has a turn of the task
-abbrev pub IsNotFolded : ReportView → ℕ → Type 0
-IsNotFolded report t = (e : ℕ) (c : CheckpointView) (f : FoldedView) → slice_get report.checkpoints e ≡ Some c → Contains c.folded f → f.task ≢ t
-
--- At each point of the log, each child that was added to a group of an ended task has ended, where no turn of the task was
--- folded. A folded turn is not played again, so it might have left its method while a group was open: one that opens a group,
--- adds a child and returns may stand in a history.
+-- At each point of the log, each child that was added to a group of an ended task has ended.
 abbrev pub EndedLeaveNoChildren : Type 0
 EndedLeaveNoChildren = (script : ScriptView) (report : ReportView) (front : List Event) (t u : TaskId) (g : ℕ) (p : Priority)
-    → WasAccepted script → IsLegal script report → IsNotFolded report t.0 → IsFront report front → HasEnded t.0 front → Contains front (Child u t g p) → HasEnded u.0 front
+    → IsLegal script report → IsFront report front → HasEnded t.0 front → Contains front (Child u t g p) → HasEnded u.0 front
 
--- no checkpoint has a turn
-abbrev pub HasNoFolded : ReportView → Type 0
-HasNoFolded report = (e : ℕ) (c : CheckpointView) → slice_get report.checkpoints e ≡ Some c → c.folded ≡ []
-
--- At each point of the log, each task that is reached from an ended task along children and waits has ended, where no turn was
--- folded.
+-- At each point of the log, each task that is reached from an ended task along children and waits has ended.
 abbrev pub EndedReachEnded : Type 0
 EndedReachEnded = (script : ScriptView) (report : ReportView) (front : List Event) (n : ℕ) (t u : TaskId)
-    → WasAccepted script → IsLegal script report → HasNoFolded report → IsFront report front → HasEnded t.0 front → Reaches (links_of front) n t u → HasEnded u.0 front
+    → IsLegal script report → IsFront report front → HasEnded t.0 front → Reaches (links_of front) n t u → HasEnded u.0 front

@@ -22,14 +22,13 @@ pub fn ended_tasks_leave_no_children_of_closed_groups()
     ensures { EndedLeaveNoneClosed }
 {}
 
-/// In a legal report, at each point of the log, each child that was added to a group of an ended task has ended, where no
-/// turn of that task was folded (SE-0304).
+/// In a legal report, at each point of the log, each child that was added to a group of an ended task has ended (SE-0304).
 pub fn ended_tasks_leave_no_children()
     ensures { EndedLeaveNoChildren }
 {}
 
-/// In a legal report of which no turn was folded, at each point of the log, each task that is reached from an ended task
-/// along children and waits has ended (SE-0304).
+/// In a legal report, at each point of the log, each task that is reached from an ended task along children and waits has
+/// ended (SE-0304).
 pub fn ended_tasks_reach_only_ended_ones()
     ensures { EndedReachEnded }
 {}

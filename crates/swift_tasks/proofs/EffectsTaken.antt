@@ -1,17 +1,12 @@
 -- The effects of a turn, taken one by one.
-use Rattle.std.proofs.Common.{◌≡◌, ℕ, zero, suc, ◌+◌, ◌<◌, ◌≤◌, List, [], ◌∷◌, ◌++◌, length, get_or, drop, refl, sym, ◌∙◌, ap, arith, Bool, true, false, subst}
-use Rattle.std.specs.Prelude.{Option, Some, None, reverse, map}
-use Rattle.std.specs.List.{AllByRecursion}
+use Rattle.std.proofs.Common.{◌≡◌, ℕ, zero, suc, ◌<◌, List, [], ◌∷◌, ◌++◌, length, get_or, drop, refl, sym, ◌∙◌, ap, arith}
+use Rattle.std.specs.Prelude.{Option, reverse}
 use Rattle.std.proofs.lemmas.List.{reverse-append}
-use Rattle.swift_types.specs.declared.limits.TheConstants.{TASKS}
 use Rattle.swift_types.specs.declared.priority.Priority.{Priority}
 use Rattle.swift_script.specs.Scripts.{ScriptView}
 use Rattle.swift_interpreter.specs.Turn.{EffectView, ExitView}
-use Rattle.swift_interpreter.specs.declared.effect.Effect.{Effect}
-use Rattle.swift_interpreter.specs.Frames.{effect_view, effect_views}
 use Rattle.swift_turn.specs.Body.{BodyView}
 use Rattle.swift_events.specs.declared.event.Event.{Event}
-use Rattle.swift_events.specs.Events.{tasks_of}
 use Rattle.swift_events.specs.Room.{reserved_of}
 use Rattle.swift_history.specs.Checks.{Counters, counters, fits_effect, fits_turn, counted}
 use Rattle.swift_history.specs.TurnEnds.{effect_events}

@@ -1,14 +1,13 @@
 -- A book in which no task waits, and tasks that wait as callers see them.
-use Rattle.std.proofs.Common.{get_or, ◌≡◌, ℕ, ◌+◌, List, [], ◌∷◌, length, refl, sym, ◌∙◌, ap, subst, arith, zero, suc, replicate, Bool, true, false}
-use Rattle.std.specs.Prelude.{Option, Some, None, is_some, map, slice_index_or}
+use Rattle.std.proofs.Common.{get_or, ◌≡◌, ℕ, List, [], ◌∷◌, refl, sym, ◌∙◌, ap, subst, arith, zero, suc, replicate, false}
+use Rattle.std.specs.Prelude.{Option, Some, None, is_some, slice_index_or}
 use Rattle.std.specs.List.{AllByRecursion}
 use Rattle.std.proofs.lemmas.Bool.{false≢true}
 use Rattle.std.proofs.lemmas.List.{length-replicate, length-map}
 use Rattle.swift_script.specs.Scripts.{ScriptView, root_count}
 use Rattle.swift_ledger.specs.Ledgers.{LedgerView}
 use Rattle.swift_events.specs.declared.event.Event.{Event}
-use Rattle.swift_events.specs.declared.life.Life.{Life}
-use Rattle.swift_events.specs.Lives.{life_of, unborn, is_open, is_waiting}
+use Rattle.swift_events.specs.Lives.{is_waiting}
 use Rattle.swift_events.proofs.LogLemmas.{unborn_without}
 use Rattle.swift_history.specs.TurnEnds.{HeldView}
 use Rattle.swift_tasks.specs.declared.held.Held.{Held}

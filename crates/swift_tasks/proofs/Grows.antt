@@ -1,28 +1,23 @@
 -- What the effects of a turn leave of a log.
-use Rattle.std.proofs.Common.{◌≡◌, ◌≢◌, ℕ, ◌+◌, ◌-◌, ◌<◌, ◌≤◌, List, [], ◌∷◌, ◌++◌, length, refl, sym, ◌∙◌, ap, arith, cond, Bool, true, false, inl, inr, subst, append_assoc}
+use Rattle.std.proofs.Common.{◌≡◌, ℕ, ◌<◌, ◌≤◌, List, [], ◌∷◌, ◌++◌, refl, sym, ◌∙◌, ap, arith, Bool, true, false, inl, inr, subst}
 use Rattle.std.specs.Prelude.{Option, Some, None, is_some, if◌then◌else◌, ◌&&◌, not, nat_lt, unwrap_or, IsTrue}
-use Rattle.std.proofs.lemmas.Bool.{cases_eq, false≢true}
+use Rattle.std.proofs.lemmas.Bool.{cases_eq}
 use Rattle.std.proofs.lemmas.Bool.Decides.{nat_tests}
 use Rattle.std.proofs.lemmas.List.{append-nil}
 use Rattle.swift_types.specs.declared.id.TaskId.{TaskId}
 use Rattle.swift_types.specs.declared.outcome.Ending.{Ending}
 use Rattle.swift_types.specs.declared.priority.Priority.{Priority}
 use Rattle.swift_types.specs.declared.priority.Priority.TheVariants.{Background}
-use Rattle.swift_script.specs.Scripts.{ScriptView, root_count}
-use Rattle.swift_interpreter.specs.declared.effect.TaskName.{TaskName}
-use Rattle.swift_interpreter.specs.declared.effect.TaskName.TheVariants.{Root as RootName, Own}
-use Rattle.swift_interpreter.specs.Turn.{InvocationView, EffectView, spawning, detaching, opening, adding, cancelling_task, cancelling_group, ExitView, calling, waiting, asking_next, closing, yielding, returning, failing}
+use Rattle.swift_interpreter.specs.Turn.{EffectView, spawning, detaching, opening, adding, cancelling_task, cancelling_group}
 use Rattle.swift_events.specs.declared.event.Event.{Event}
-use Rattle.swift_events.specs.declared.event.Event.TheVariants.{Root, Begin, Apply, Free, Open, Child, Skip, CancelTask, CancelGroup, Wait, Next, Close, End, Give}
+use Rattle.swift_events.specs.declared.event.Event.TheVariants.{Free, Open, Child, Skip, CancelTask, CancelGroup}
 use Rattle.swift_events.specs.declared.life.Life.{Life}
-use Rattle.swift_events.specs.declared.life.Origin.{Origin}
 use Rattle.swift_events.specs.declared.life.Stage.{Stage}
 use Rattle.swift_events.specs.Events.{task_of, is_made, tasks_of, later}
-use Rattle.swift_events.specs.Lives.{life_of, lived, stage_in, ending_in, origin_in}
-use Rattle.swift_events.specs.Relations.{own_in, own_tasks, waiter_in, waiters_of, opens, opened_by, closes, is_closed, is_open_group}
-use Rattle.swift_events.proofs.LogLemmas.{life_of-push_same, life_of-push_other, tasks_of-push_made, tasks_of-push_other, own_tasks-push, own_tasks-push_none, own_tasks-push_same, opened_by-push, opened_by-push_yes, opened_by-push_no, is_closed-push_no, waiters_of-push_none}
-use Rattle.swift_history.specs.Checks.{Counters, counters, can_run, can_name, can_use, fits_effect, fits_exit, fits_turn, counted}
-use Rattle.swift_history.specs.TurnEnds.{task, named_task, cancel_events, effect_events, is_left_out, log_after}
+use Rattle.swift_events.specs.Lives.{life_of, stage_in, ending_in, origin_in}
+use Rattle.swift_events.specs.Relations.{waiter_in, waiters_of, opened_by, closes, is_closed, is_open_group}
+use Rattle.swift_events.proofs.LogLemmas.{life_of-push_same, life_of-push_other, tasks_of-push_made, tasks_of-push_other, opened_by-push, is_closed-push_no, waiters_of-push_none}
+use Rattle.swift_history.specs.TurnEnds.{task, named_task, effect_events, is_left_out, log_after}
 use Rattle.swift_tasks.proofs.Fitting.{left, right, less}
 
 -- an event that changes no stage and no ending, closes no group and waits for no task

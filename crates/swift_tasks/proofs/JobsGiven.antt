@@ -1,11 +1,9 @@
 -- The jobs that a turn makes, and what remains of waits when they are written.
-use Rattle.std.proofs.Common.{◌≡◌, ◌≢◌, ℕ, ◌+◌, ◌<◌, ◌≤◌, List, [], ◌∷◌, ◌++◌, length, refl, sym, ◌∙◌, ap, arith, Bool, true, false, inl, inr, subst, append_assoc, length-append}
-use Rattle.std.specs.Prelude.{Option, Some, None, is_some, is_none, if◌then◌else◌, ◌&&◌, ◌||◌, ◌==◌, not, nat_lt, unwrap_or, map}
-use Rattle.std.proofs.lemmas.Bool.{cases_eq, false≢true}
+use Rattle.std.proofs.Common.{◌≡◌, ◌≢◌, ℕ, ◌+◌, ◌<◌, List, [], ◌∷◌, ◌++◌, length, refl, sym, ◌∙◌, ap, arith, Bool, true, false, inl, inr, subst, append_assoc, length-append}
+use Rattle.std.specs.Prelude.{Option, is_some, is_none, if◌then◌else◌, ◌&&◌, ◌||◌, ◌==◌, not, unwrap_or}
+use Rattle.std.proofs.lemmas.Bool.{cases_eq}
 use Rattle.std.proofs.lemmas.Bool.Decides.{nat_tests}
 use Rattle.std.proofs.lemmas.List.{append-nil}
-use Rattle.swift_types.specs.declared.id.TaskId.{TaskId}
-use Rattle.swift_types.specs.declared.outcome.Resume.{Resume}
 use Rattle.swift_types.specs.declared.outcome.Ending.{Ending}
 use Rattle.swift_types.specs.declared.priority.Priority.{Priority}
 use Rattle.swift_types.specs.declared.priority.Priority.TheVariants.{Background}
@@ -22,7 +20,7 @@ use Rattle.swift_events.proofs.LogLemmas.{life_of-push_same, life_of-push_other,
 use Rattle.swift_history.specs.TurnEnds.{JobView, task, named_task, effect_events, effect_jobs, is_left_out, log_after, jobs_made, first_job, gives}
 use Rattle.swift_tasks.specs.Applying.{AreMade}
 use Rattle.swift_tasks.specs.Counted.{UnopenedAreNotClosed}
-use Rattle.swift_tasks.proofs.Grows.{ending-push, made-push, effect_grows, effects_grow}
+use Rattle.swift_tasks.proofs.Grows.{ending-push, effect_grows, effects_grow}
 use Rattle.swift_tasks.proofs.Pushes.{closed_push}
 
 -- whether one of some jobs is of a task

@@ -1,5 +1,5 @@
 -- The jobs of tasks that effects make.
-use Rattle.std.proofs.Common.{◌≡◌, ℕ, List, [], ◌∷◌, ◌++◌, refl, sym, ◌∙◌, ap, Bool, true, false, ℤ}
+use Rattle.std.proofs.Common.{◌≡◌, ℕ, List, [], ◌∷◌, ◌++◌, sym, ◌∙◌, ap, Bool, true, false, ℤ}
 use Rattle.std.specs.Prelude.{Option, Some, map, if◌then◌else◌}
 use Rattle.std.proofs.lemmas.List.{map-append}
 use Rattle.swift_types.specs.declared.priority.Priority.{Priority}

@@ -1,9 +1,9 @@
 -- What one more event leaves of what a book keeps.
-use Rattle.std.proofs.Common.{◌≡◌, ◌≢◌, ◌⊎◌, ℕ, ◌+◌, ◌<◌, ◌≤◌, List, [], ◌∷◌, ◌++◌, length, refl, sym, ◌∙◌, ap, arith, Bool, true, false, inl, inr, subst, zero, suc, append_assoc}
-use Rattle.std.specs.Prelude.{Option, Some, None, is_some, is_none, ◌&&◌, slice_index_or, IsSome}
+use Rattle.std.proofs.Common.{◌≡◌, ℕ, ◌<◌, List, [], ◌∷◌, ◌++◌, length, refl, sym, ◌∙◌, ap, arith, Bool, true, false, inl, inr, subst, zero, suc, append_assoc}
+use Rattle.std.specs.Prelude.{Option, None, is_some, is_none, ◌&&◌, slice_index_or, IsSome}
 use Rattle.std.specs.List.{list_all}
 use Rattle.swift_ledger.specs.Ledgers.{IsMade}
-use Rattle.std.proofs.lemmas.Bool.{cases_eq, true≢false, false≢true}
+use Rattle.std.proofs.lemmas.Bool.{cases_eq, false≢true}
 use Rattle.swift_types.specs.declared.id.TaskId.{TaskId}
 use Rattle.swift_types.specs.declared.outcome.Resume.{Resume}
 use Rattle.swift_types.specs.declared.priority.Priority.{Priority}
@@ -12,9 +12,9 @@ use Rattle.swift_events.specs.declared.event.Event.{Event}
 use Rattle.swift_events.specs.declared.event.Event.TheVariants.{Root, Begin, CancelTask, Give}
 use Rattle.swift_events.specs.declared.life.Life.{Life}
 use Rattle.swift_events.specs.declared.life.Origin.{Origin}
-use Rattle.swift_events.specs.Events.{task_of, is_made, tasks_of}
+use Rattle.swift_events.specs.Events.{task_of, is_made}
 use Rattle.swift_events.specs.Lives.{life_of, lived, is_open, is_waiting}
-use Rattle.swift_events.specs.Relations.{opens, opened_by, closes, is_closed}
+use Rattle.swift_events.specs.Relations.{closes}
 use Rattle.swift_events.proofs.LogLemmas.{life_of-push_same, life_of-push_other, tasks_of-push_other, opened_by-push, is_closed-push_no}
 use Rattle.swift_tasks.specs.Books.{HoldsWaiting}
 use Rattle.swift_types.specs.declared.outcome.Resume.TheVariants.{Start}

@@ -1,9 +1,8 @@
 -- What the end of a turn keeps.
-use Rattle.std.proofs.Common.{◌≡◌, ◌≢◌, ℕ, ◌+◌, ◌<◌, ◌≤◌, List, [], ◌∷◌, ◌++◌, length, get_or, set, replicate, refl, sym, ◌∙◌, ap, arith, Bool, true, false, inl, inr, subst, append_assoc, length-append, get_or-set_same, get_or-set_other, length-set, zero, suc}
-use Rattle.std.specs.Prelude.{Option, Some, None, is_some, is_none, if◌then◌else◌, ◌&&◌, ◌||◌, ◌==◌, not, nat_lt, slice_index_or, slice_set, IsTrue}
+use Rattle.std.proofs.Common.{◌≡◌, ◌≢◌, ℕ, ◌+◌, ◌<◌, ◌≤◌, List, [], ◌∷◌, ◌++◌, length, get_or, replicate, refl, sym, ◌∙◌, ap, arith, Bool, true, false, inl, inr, subst, append_assoc, length-append, get_or-set_same, get_or-set_other, length-set, zero, suc}
+use Rattle.std.specs.Prelude.{Option, Some, None, is_some, is_none, ◌&&◌, ◌||◌, ◌==◌, not, nat_lt, slice_index_or, slice_set, IsTrue}
 use Rattle.std.specs.List.{cons_option}
 use Rattle.std.proofs.lemmas.Bool.{cases_eq, cases_lt, false≢true}
-use Rattle.std.proofs.lemmas.Bool.Decides.{nat_tests}
 use Rattle.std.proofs.lemmas.List.{append-nil, length-replicate}
 use Rattle.swift_types.specs.declared.id.TaskId.{TaskId}
 use Rattle.swift_types.specs.declared.outcome.Resume.{Resume}
@@ -27,22 +26,21 @@ use Rattle.swift_turn.specs.Body.{BodyView, TaskView}
 use Rattle.swift_events.specs.declared.event.Event.{Event}
 use Rattle.swift_events.specs.declared.event.Event.TheVariants.{Apply, CancelGroup, Wait, Next, Close, End}
 use Rattle.swift_events.specs.declared.life.Life.{Life}
-use Rattle.swift_events.specs.declared.life.Origin.{Origin}
 use Rattle.swift_events.specs.declared.life.Stage.{Stage}
-use Rattle.swift_events.specs.declared.life.Stage.TheVariants.{Applied, Begun, Waits, Asks, Closes}
+use Rattle.swift_events.specs.declared.life.Stage.TheVariants.{Begun, Waits, Asks, Closes}
 use Rattle.swift_events.specs.Events.{task_of, is_made, tasks_of, later}
-use Rattle.swift_events.specs.Lives.{life_of, lived, is_open, is_waiting, waits_at, stage_in, ending_in}
+use Rattle.swift_events.specs.Lives.{life_of, lived, is_open, is_waiting, waits_at, stage_in}
 use Rattle.swift_events.specs.Relations.{opened_by, closes, is_closed, is_open_group, group_of, waiter_in, waiters_of}
-use Rattle.swift_events.proofs.LogLemmas.{life_of-push_same, life_of-push_other, tasks_of-push_other, is_closed-push, is_closed-push_no, opened_by-push, waiters_of-push, waiters_of-push_none}
+use Rattle.swift_events.proofs.LogLemmas.{life_of-push_same, life_of-push_other, tasks_of-push_other, is_closed-push, opened_by-push, waiters_of-push}
 use Rattle.swift_history.specs.Histories.{begun_priority}
 use Rattle.swift_history.specs.TurnEnds.{JobView, HeldView, Follows, task, named_task, wait_events, wait_resume, next_events, next_resume, close_events, close_resume, end_events, step_resume, exit_events, exit_resume, wake_all, followed, gives, jobs_made, log_after, resume_at, resume_of}
-use Rattle.swift_tasks.specs.Applying.{AreMade, CanLeave, StepFits, TurnLeaves, done_log, written_log, end_at}
+use Rattle.swift_tasks.specs.Applying.{AreMade, CanLeave, StepFits, TurnLeaves, done_log}
 use Rattle.swift_tasks.specs.Books.{HoldsWaiting}
 use Rattle.swift_tasks.specs.Counted.{UnopenedAreNotClosed}
 use Rattle.swift_tasks.proofs.Fitting.{left, right, less}
-use Rattle.swift_tasks.proofs.Grows.{Grows, open_stays, stage-push, ending-push, made-push, grows_cancel_group, effects_grow, stays_push}
+use Rattle.swift_tasks.proofs.Grows.{Grows, open_stays, stage-push, ending-push, made-push, grows_cancel_group, effects_grow}
 use Rattle.swift_tasks.proofs.Pushes.{LeavesWaits, holds_push, closed_push}
-use Rattle.swift_tasks.proofs.JobsGiven.{among, AreFrom, AreNew, among-append, equal, unequal, made-append, made_on, effects_new, gives_wait, gives_open, gives_tasks, gives_closed, and_false}
+use Rattle.swift_tasks.proofs.JobsGiven.{among, AreNew, among-append, equal, unequal, made-append, made_on, effects_new, gives_wait, gives_open, gives_tasks, gives_closed, and_false}
 use Rattle.swift_tasks.proofs.WakesKept.{IsKept, WaitersAreMade, wake_all_kept}
 
 -- How an exit leaves its task: it goes on, or has ended, or waits.

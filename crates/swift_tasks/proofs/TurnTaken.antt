@@ -1,5 +1,5 @@
 -- What follows from a turn that is not refused, and from the step that its body takes.
-use Rattle.std.proofs.Common.{◌≡◌, ℕ, ◌+◌, ◌<◌, List, [], ◌∷◌, ◌++◌, length, refl, sym, ◌∙◌, ap, subst, arith, Bool, true, false, ℤ}
+use Rattle.std.proofs.Common.{◌≡◌, ℕ, List, [], ◌∷◌, ◌++◌, length, refl, sym, ◌∙◌, ap, Bool, true, false, ℤ}
 use Rattle.std.specs.Prelude.{Option, Some, None, is_some, is_none, if◌then◌else◌, ◌&&◌, nat_lt}
 use Rattle.std.proofs.lemmas.Bool.{false≢true}
 use Rattle.swift_types.specs.declared.limits.TheConstants.{FRAMES}
@@ -16,17 +16,15 @@ use Rattle.swift_turn.specs.declared.step.Step.{Step}
 use Rattle.swift_turn.specs.declared.step.Step.TheVariants.{Run, Ended, Await}
 use Rattle.swift_turn.specs.Body.{BodyView, TaskView, Advanced, HasFrames, IsRunning, GoesOn, AdvancesTo, advanced, called, resumed, runs, opening}
 use Rattle.swift_events.specs.declared.event.Event.{Event}
-use Rattle.swift_events.specs.declared.life.Life.{Life}
 use Rattle.swift_events.specs.declared.life.Origin.{Origin}
 use Rattle.swift_events.specs.Lives.{life_of, is_open}
-use Rattle.swift_history.specs.Checks.{is_current}
 use Rattle.swift_history.specs.Histories.{begun_priority}
 use Rattle.swift_history.specs.TurnEnds.{JobView, HeldView, TurnEnd, turn_end}
 use Rattle.swift_tasks.specs.declared.fault.BookFault.{BookFault}
-use Rattle.swift_tasks.specs.declared.fault.BookFault.TheVariants.{Unknown, Completed, Refused}
+use Rattle.swift_tasks.specs.declared.fault.BookFault.TheVariants.{Unknown, Completed}
 use Rattle.swift_tasks.specs.Applying.{StepFits, JobFits, TurnLeaves, Ends}
 use Rattle.swift_tasks.specs.Books.{BookView, IsEndOf, end_of_frames}
-use Rattle.swift_tasks.specs.Refusals.{refused_unless, refusal_unless_open, refusal_of_turn, refusal_of_job, refusal_of_apply, fits_begun}
+use Rattle.swift_tasks.specs.Refusals.{refused_unless, refusal_unless_open, refusal_of_job, refusal_of_apply}
 use Rattle.swift_tasks.proofs.Fitting.{FitsTurn, begun_fits}
 
 some_none : {A B : Type 0} (o : Option A) → is_some o ≡ true → o ≡ None → B

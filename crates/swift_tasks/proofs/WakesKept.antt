@@ -1,5 +1,5 @@
 -- What is held while tasks go on: a task is held exactly where it waits and no job of it was made.
-use Rattle.std.proofs.Common.{◌≡◌, ◌≢◌, ℕ, zero, suc, ◌+◌, ◌<◌, ◌≤◌, List, [], ◌∷◌, ◌++◌, length, get_or, set, refl, sym, ◌∙◌, ap, arith, Bool, true, false, inl, inr, subst, append_assoc, get_or-set_same, get_or-set_other, length-set}
+use Rattle.std.proofs.Common.{◌≡◌, ℕ, zero, suc, ◌<◌, List, [], ◌∷◌, ◌++◌, length, get_or, refl, sym, ◌∙◌, ap, arith, Bool, true, false, inl, inr, append_assoc, get_or-set_same, get_or-set_other, length-set}
 use Rattle.std.specs.Prelude.{Option, Some, None, is_some, if◌then◌else◌, ◌&&◌, ◌||◌, ◌==◌, not, slice_index_or, slice_set}
 use Rattle.std.proofs.lemmas.Bool.{cases_eq, false≢true}
 use Rattle.swift_types.specs.declared.id.TaskId.{TaskId}
@@ -17,7 +17,7 @@ use Rattle.swift_events.specs.declared.life.Stage.{Stage}
 use Rattle.swift_events.specs.declared.life.Stage.TheVariants as stage
 use Rattle.swift_events.specs.Lives.{life_of, is_waiting}
 use Rattle.swift_events.specs.Relations.{waiters_of, group_of, parent_of}
-use Rattle.swift_history.specs.TurnEnds.{JobView, HeldView, Follows, resume_at, resume_of, woken, wake, wake_each, wake_closing, wake_owner, wake_parent, wake_all, followed, task}
+use Rattle.swift_history.specs.TurnEnds.{JobView, HeldView, Follows, resume_at, resume_of, woken, wake, wake_each, wake_closing, wake_owner, wake_parent, wake_all, followed}
 use Rattle.swift_tasks.specs.Applying.{AreMade}
 use Rattle.swift_tasks.proofs.JobsGiven.{among, among-append, equal, unequal, made-append}
 

@@ -1,7 +1,7 @@
 -- The bodies of the tasks that a turn makes. No public clause names these.
-use Rattle.std.specs.Prelude.{◌≡◌, ℕ, ◌<◌, Option, Some, None, List, [], ◌∷◌}
+use Rattle.std.specs.Prelude.{◌≡◌, ◌<◌, Option, Some, None, List, [], ◌∷◌}
 use Rattle.swift_script.specs.Scripts.{ScriptView, method_count}
-use Rattle.swift_interpreter.specs.Turn.{EffectView, spawning, detaching, adding, InvocationView}
+use Rattle.swift_interpreter.specs.Turn.{EffectView, spawning, detaching, adding}
 use Rattle.swift_turn.specs.Body.{BodyView, TaskView}
 use Rattle.swift_history.specs.TurnEnds.{beginning}
 

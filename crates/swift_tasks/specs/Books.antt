@@ -1,5 +1,5 @@
 -- A book of tasks, as callers see it.
-use Rattle.std.specs.Prelude.{◌≡◌, ℕ, ◌+◌, Bool, true, is_some, Option, Some, None, List, [], ◌∷◌, ◌++◌, length, replicate, slice_index_or}
+use Rattle.std.specs.Prelude.{◌≡◌, ℕ, ◌+◌, true, is_some, Option, Some, None, List, [], ◌∷◌, ◌++◌, length, replicate, slice_index_or}
 use Rattle.swift_types.specs.declared.outcome.Resume.TheVariants.{Go}
 use Rattle.swift_script.specs.Scripts.{ScriptView, root_count}
 use Rattle.swift_queue.specs.Job.{JobIs}

@@ -1,6 +1,6 @@
 -- Laws of logs (SE-0304; that a run has 1,024 tasks at most, and that priorities never fall, is our own). Each stands on the
 -- contract of a function of `laws`.
-use Rattle.std.specs.Prelude.{◌≡◌, ℕ, ◌+◌, ◌≤◌, Option, Some, None, List, [], ◌∷◌, ◌++◌}
+use Rattle.std.specs.Prelude.{◌≡◌, ℕ, ◌+◌, ◌≤◌, Some, List, [], ◌∷◌, ◌++◌}
 use Rattle.swift_types.specs.declared.limits.TheConstants.{TASKS}
 use Rattle.swift_types.specs.declared.id.TaskId.{TaskId}
 use Rattle.swift_types.specs.declared.outcome.Ending.{Ending}

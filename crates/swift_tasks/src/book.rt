@@ -1,12 +1,14 @@
 //! The book.
 
-ghost use Rattle.std.specs.Prelude.{◌≡◌, ℕ, ◌+◌, ◌≤◌, [], ◌∷◌, ◌++◌, None, Some, IfOk, IfErr, IfSome, replicate};
+ghost use Rattle.std.specs.Prelude.{◌≡◌, ◌≢◌, ℕ, ◌+◌, ◌<◌, ◌≤◌, [], ◌∷◌, ◌++◌, None, Some, true, IfOk, IfErr, IfNone, IfSome, IsTrue, replicate};
 ghost use Rattle.std.specs.Arc.{arc_value};
 ghost use Rattle.swift_script.specs.Scripts.{root_count};
 ghost use Rattle.swift_events.specs.declared.life.Stage.TheVariants.{Begun};
 ghost use Rattle.swift_events.specs.Events.{tasks_of};
 ghost use Rattle.swift_events.specs.Lives.{life_of};
+ghost use Rattle.swift_events.specs.Relations.{is_closed, opened_by};
 ghost use Rattle.swift_events.specs.Room.{open_of};
+ghost use Rattle.script_code.specs.declared.env.Env.{Env};
 ghost use Rattle.swift_tasks.specs.Books.{HoldsWaiting, empty_book};
 
 use crate::fault::BookFault;
@@ -113,7 +115,8 @@ impl Book {
 
     /// The environment of the turn that a task has begun last; nothing where that turn was applied, or none was begun.
     pub fn begun(&self, task: TaskId) -> Option<Env>
-        ensures { IfSome result (λ env. (life_of task.0 self.now.log).stage ≡ Some (Begun env)) }
+        ensures some { IfSome result (λ env. (life_of task.0 self.now.log).stage ≡ Some (Begun env)) }
+        ensures none { IfNone result ((env : Env) → (life_of task.0 self.now.log).stage ≢ Some (Begun env)) }
     {
         match self.ledger.life(task).stage {
             Some(Stage::Begun(env)) => Some(env),
@@ -126,6 +129,21 @@ impl Book {
         ensures { result ≡ (life_of task.0 self.now.log).origin }
     {
         self.ledger.life(task).origin
+    }
+
+    /// Whether a task has closed each group that it has opened (SE-0304). Time linear in these groups.
+    pub fn has_closed_all(&self, task: TaskId) -> bool
+        ensures { IsTrue result → (g : ℕ) → g < opened_by task.0 self.now.log → is_closed task.0 g self.now.log ≡ true }
+    {
+        for group in 0..self.ledger.opened(task) {
+            let Ok(group) = u32::try_from(group) else {
+                return false;
+            };
+            if self.ledger.is_open_group(task, group) {
+                return false;
+            }
+        }
+        true
     }
 }
 

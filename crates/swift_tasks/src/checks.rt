@@ -1,6 +1,8 @@
 //! Whether the effects and the exit of a turn fit it.
 
-ghost use Rattle.std.specs.Prelude.{◌≡◌, ◌+◌, ◌<◌, ◌≤◌, ◌^◌, true, false, IsTrue, IfSome, IfNone};
+ghost use Rattle.std.specs.Prelude.{◌≡◌, ◌+◌, ◌<◌, ◌≤◌, ◌^◌, ◌&&◌, true, false, IfSome, IfNone};
+ghost use Rattle.swift_script.specs.SameScripts.{same_scripts};
+ghost use Rattle.swift_script.specs.Scripts.{ScriptView};
 ghost use Rattle.swift_interpreter.specs.Frames.{invocation_view, effect_view, effect_views};
 ghost use Rattle.swift_interpreter.specs.TurnStates.{exit_view};
 ghost use Rattle.swift_history.specs.Checks.{can_run, can_name, can_use, fits_effect, counted, fits_exit, fits_turn, counters};
@@ -11,9 +13,7 @@ ghost use Rattle.swift_tasks.specs.Counted.{counters_of, UnopenedAreNotClosed};
 use swift_events::Stage;
 use swift_interpreter::{Effect, Exit, Invocation, TaskName};
 use swift_ledger::Ledger;
-use swift_queue::Job;
 use swift_script::Script;
-use swift_turn::Body;
 use swift_types::TaskId;
 
 /// What a task has made by a place among the effects of its turn, and how many tasks the turn may still make.
@@ -147,22 +147,19 @@ pub fn turn_fits(
     leaves(script, ledger, task, counts, exit)
 }
 
-/// Whether the turn of a job has begun, its effects and its exit fit, and its body is of this script. Where they fit, it
-/// compares the printed forms of two scripts.
+/// Whether the turn of a task has begun, and its effects and its exit fit.
 pub fn begun_fits(
     script: &Script,
     ledger: &Ledger,
-    job: &Job<Body>,
+    task: TaskId,
     effects: &[Effect],
     exit: &Exit,
 ) -> bool
     requires { UnopenedAreNotClosed ledger.now.log }
-    ensures fits { result ≡ fits_begun script.now ledger.now.log job.now.task.0 job.now.body.script (effect_views effects.now) (exit_view exit.now) (life_of job.now.task.0 ledger.now.log).stage }
-    ensures same { IsTrue result → job.now.body.script ≡ script.now }
+    ensures { (other : ScriptView) → fits_begun script.now ledger.now.log task.0 other (effect_views effects.now) (exit_view exit.now) (life_of task.0 ledger.now.log).stage ≡ (result && same_scripts script.now other) }
 {
-    let task = job.task();
     let stage = ledger.life(task).stage;
-    stage_fits(script, ledger, task, stage, effects, exit, job.body())
+    stage_fits(script, ledger, task, stage, effects, exit)
 }
 
 // The same of a task at this stage.
@@ -173,17 +170,14 @@ fn stage_fits(
     stage: Option<Stage>,
     effects: &[Effect],
     exit: &Exit,
-    body: &Body,
 ) -> bool
     requires { UnopenedAreNotClosed ledger.now.log }
-    ensures fits { result ≡ fits_begun script.now ledger.now.log task.0 body.now.script (effect_views effects.now) (exit_view exit.now) stage }
-    ensures same { IsTrue result → body.now.script ≡ script.now }
+    ensures { (other : ScriptView) → fits_begun script.now ledger.now.log task.0 other (effect_views effects.now) (exit_view exit.now) stage ≡ (result && same_scripts script.now other) }
 {
     match stage {
         Some(Stage::Begun(env)) => {
             let counts = counts_of(ledger, task, env.room);
             turn_fits(script, ledger, task, counts, effects, exit)
-                && script.says_the_same(body.script())
         }
         _ => false,
     }

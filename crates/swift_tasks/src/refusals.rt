@@ -1,12 +1,13 @@
 //! Which turns may begin and be applied.
 
-ghost use Rattle.std.specs.Prelude.{◌≡◌, ◌+◌, ◌<◌, ◌^◌, [], ◌∷◌, ◌++◌, None, false, IfOk, OnErr, MatchResult, IsTrue};
+ghost use Rattle.std.specs.Prelude.{◌≡◌, ◌+◌, ◌<◌, ◌^◌, [], ◌∷◌, ◌++◌, None, false, IfOk, IfErr, OnErr, MatchResult, IsTrue};
 ghost use Rattle.swift_script.specs.Scripts.{root_count};
 ghost use Rattle.swift_ledger.specs.Ledgers.{IsMade};
 ghost use Rattle.swift_events.specs.Events.{tasks_of};
 ghost use Rattle.swift_events.specs.Lives.{life_of, is_waiting};
 ghost use Rattle.swift_events.specs.Room.{IsEnv};
 ghost use Rattle.swift_history.specs.Checks.{same_fault, same_resume, was_given, is_under_way, is_current};
+ghost use Rattle.swift_script.specs.SameScripts.{same_scripts};
 ghost use Rattle.swift_tasks.specs.Refusals.{IsRefusal, refusal_unless_open, refusal_of_turn, refusal_of_begin, refusal_of_apply};
 ghost use Rattle.swift_interpreter.specs.Frames.{effect_views};
 ghost use Rattle.swift_interpreter.specs.TurnStates.{exit_view};
@@ -109,8 +110,18 @@ impl Book {
         }
     }
 
-    // Why a job's turn may not begin. Where it may, it compares the printed forms of two scripts.
-    fn refusal_to_begin(&self, job: &Job<Body>) -> Option<BookFault>
+    // Whether a job is of the book's script. Where that is not known, it compares the printed forms of two scripts.
+    fn is_of_script(&self, job: &Job<Body>, known: bool) -> bool
+        requires { IsTrue known → job.now.body.script ≡ self.now.script }
+        ensures same { IsTrue result → job.now.body.script ≡ self.now.script }
+        ensures printed { result ≡ same_scripts self.now.script job.now.body.script }
+    {
+        known || self.script.says_the_same(job.body().script())
+    }
+
+    // Why a job's turn may not begin.
+    fn refusal_to_begin(&self, job: &Job<Body>, known: bool) -> Option<BookFault>
+        requires { IsTrue known → job.now.body.script ≡ self.now.script }
         ensures cause { result ≡ refusal_of_begin self.now.script self.now.log job.now }
         ensures made { result ≡ None → IsMade self.now.log job.now.task }
         ensures goes { result ≡ None → is_waiting (life_of job.now.task.0 self.now.log) ≡ false }
@@ -118,7 +129,7 @@ impl Book {
         match self.refusal_of_turn(job.task(), job.number(), job.resume()) {
             Some(fault) => Some(fault),
             None => {
-                if self.script.says_the_same(job.body().script()) {
+                if self.is_of_script(job, known) {
                     None
                 } else {
                     Some(BookFault::Refused)
@@ -127,20 +138,14 @@ impl Book {
         }
     }
 
-    /// Begins a turn, and says in which environment: the one that the log gives (SE-0304). The turn must be the one of the
-    /// task's last job, of an equal script; one that has begun may begin again, until it is applied. A refusal is `Unknown`, `Completed`,
-    /// `Refused` or `Memory`, the first of these that stands.
-    pub fn begin(&mut self, job: &Job<Body>) -> Result<Env, BookFault>
-        ensures env { IfOk result (λ env. IsEnv (root_count self.old.script) job.now.task self.old.log env) }
-        ensures ok { IfOk result (λ env. self.new ≡ record self.old { log = self.old.log ++ Event.Begin job.now.task job.now.number env ∷ [] }) }
-        ensures err { OnErr result (self.new ≡ self.old) }
-        ensures refused { MatchResult result (λ _. refusal_of_begin self.old.script self.old.log job.now ≡ None) (IsRefusal (refusal_of_begin self.old.script self.old.log job.now)) }
+    // Begins a turn that may begin.
+    fn begin_fitting(&mut self, task: TaskId, number: u32) -> Result<Env, BookFault>
+        requires made { IsMade self.old.log task }
+        requires goes { is_waiting (life_of task.0 self.old.log) ≡ false }
+        ensures env { IfOk result (λ env. IsEnv (root_count self.old.script) task self.old.log env) }
+        ensures ok { IfOk result (λ env. self.new ≡ record self.old { log = self.old.log ++ Event.Begin task number env ∷ [] }) }
+        ensures err { IfErr result (λ fault. (self.new ≡ self.old) × (fault ≡ BookFault.Memory)) }
     {
-        if let Some(fault) = self.refusal_to_begin(job) {
-            return Err(fault);
-        }
-        let task = job.task();
-        let number = job.number();
         let Ok(_) = self.ledger.reserve(1) else {
             return Err(BookFault::Memory);
         };
@@ -149,13 +154,45 @@ impl Book {
         Ok(env)
     }
 
+    /// Begins a turn, and says in which environment: the one that the log gives (SE-0304). The turn must be the one of the
+    /// task's last job, of an equal script; one that has begun may begin again, until it is applied. A refusal is `Unknown`, `Completed`,
+    /// `Refused` or `Memory`, the first of these that stands. Where nothing else is refused, it compares the printed forms of two
+    /// scripts; `begin_known` does not.
+    pub fn begin(&mut self, job: &Job<Body>) -> Result<Env, BookFault>
+        ensures env { IfOk result (λ env. IsEnv (root_count self.old.script) job.now.task self.old.log env) }
+        ensures ok { IfOk result (λ env. self.new ≡ record self.old { log = self.old.log ++ Event.Begin job.now.task job.now.number env ∷ [] }) }
+        ensures err { OnErr result (self.new ≡ self.old) }
+        ensures refused { MatchResult result (λ _. refusal_of_begin self.old.script self.old.log job.now ≡ None) (IsRefusal (refusal_of_begin self.old.script self.old.log job.now)) }
+    {
+        if let Some(fault) = self.refusal_to_begin(job, false) {
+            return Err(fault);
+        }
+        self.begin_fitting(job.task(), job.number())
+    }
+
+    /// `begin` for a job that is known to be of an equal script, in constant time.
+    pub fn begin_known(&mut self, job: &Job<Body>) -> Result<Env, BookFault>
+        requires { job.now.body.script ≡ self.old.script }
+        ensures env { IfOk result (λ env. IsEnv (root_count self.old.script) job.now.task self.old.log env) }
+        ensures ok { IfOk result (λ env. self.new ≡ record self.old { log = self.old.log ++ Event.Begin job.now.task job.now.number env ∷ [] }) }
+        ensures err { OnErr result (self.new ≡ self.old) }
+        ensures refused { MatchResult result (λ _. refusal_of_begin self.old.script self.old.log job.now ≡ None) (IsRefusal (refusal_of_begin self.old.script self.old.log job.now)) }
+    {
+        if let Some(fault) = self.refusal_to_begin(job, true) {
+            return Err(fault);
+        }
+        self.begin_fitting(job.task(), job.number())
+    }
+
     // Why what a turn did is not taken.
     pub(crate) fn refusal_to_apply(
         &self,
         job: &Job<Body>,
         exit: &Exit,
         effects: &[Effect],
+        known: bool,
     ) -> Option<BookFault>
+        requires { IsTrue known → job.now.body.script ≡ self.now.script }
         ensures cause { result ≡ refusal_of_apply self.now.script self.now.log job.now (effect_views effects.now) (exit_view exit.now) }
         ensures made { result ≡ None → IsMade self.now.log job.now.task }
         ensures small { result ≡ None → job.now.number + 1 < 2 ^ 32 }
@@ -165,7 +202,9 @@ impl Book {
         match self.refusal_of_turn(job.task(), job.number(), job.resume()) {
             Some(fault) => Some(fault),
             None => {
-                if begun_fits(&self.script, &self.ledger, job, effects, exit) {
+                if begun_fits(&self.script, &self.ledger, job.task(), effects, exit)
+                    && self.is_of_script(job, known)
+                {
                     None
                 } else {
                     Some(BookFault::Refused)

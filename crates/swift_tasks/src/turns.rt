@@ -382,7 +382,8 @@ impl Book {
     /// the effects and in the jobs, and what `Ledger::note` says of a wait and of a cancel.
     ///
     /// A refusal is `Unknown`, `Completed`, `Refused` or `Memory`, the first of these that stands: nothing has changed, and the
-    /// job and the effects come back.
+    /// job and the effects come back. Where nothing else is refused, it compares the printed forms of two scripts; `apply_known`
+    /// does not.
     pub fn apply(
         &mut self,
         job: Job<Body>,
@@ -399,7 +400,30 @@ impl Book {
         ensures refused { MatchResult result (λ _. refusal_of_apply self.old.script self.old.log job (effect_views effects.items) (exit_view exit.now) ≡ None)
             (λ e. IsRefusal (refusal_of_apply self.old.script self.old.log job (effect_views effects.items) (exit_view exit.now)) e.2) }
     {
-        if let Some(fault) = self.refusal_to_apply(&job, exit, &effects) {
+        if let Some(fault) = self.refusal_to_apply(&job, exit, &effects, false) {
+            return Err((job, effects, fault));
+        }
+        self.apply_fitting(job, exit, effects, jobs)
+    }
+
+    /// `apply` for a job that is known to be of an equal script.
+    pub fn apply_known(
+        &mut self,
+        job: Job<Body>,
+        exit: &Exit,
+        effects: Vec<Effect>,
+        jobs: &mut Vec<Job<Body>>,
+    ) -> Result<(), (Job<Body>, Vec<Effect>, BookFault)>
+        requires running { IsRunning job.body }
+        requires known { job.body.script ≡ self.old.script }
+        ensures ok { OnOk result (IsEndOf self.old (map job_view jobs.old.items) job (effect_views effects.items) (exit_view exit.now) self.new.log self.new.held (map job_view jobs.new.items)) }
+        ensures script { self.new.script ≡ self.old.script }
+        ensures bodies { AllByRecursion (IsJobOf self.old.script) jobs.old.items → AllByRecursion (IsJobOf self.old.script) jobs.new.items }
+        ensures err { IfErr result (λ e. (self.new ≡ self.old) × (jobs.new.items ≡ jobs.old.items) × (e.0 ≡ job) × (effect_views e.1.items ≡ effect_views effects.items)) }
+        ensures refused { MatchResult result (λ _. refusal_of_apply self.old.script self.old.log job (effect_views effects.items) (exit_view exit.now) ≡ None)
+            (λ e. IsRefusal (refusal_of_apply self.old.script self.old.log job (effect_views effects.items) (exit_view exit.now)) e.2) }
+    {
+        if let Some(fault) = self.refusal_to_apply(&job, exit, &effects, true) {
             return Err((job, effects, fault));
         }
         self.apply_fitting(job, exit, effects, jobs)

@@ -7,8 +7,8 @@ use Rattle.swift_certificate.proofs.playing.read.Goals as goal
 
 pub returns : goal.returns
 returns c =
-    let turn = c.in_ok-worker.field-0 in
+    let turn = c.in_ok-exit.field-0 in
     let lt : c.args.row.now.played < length c.args.journal.now = omega (arith, c.if-place-len.false) in
     let there = found_record c.args.journal.now c.args.row.now.played _ lt (search rules) in
-    map_answer c.taken.result _ _ (λ done taken. reads c.args.journal.now c.args.row.now _ c.args.task c.args.ready c.args.env turn.worker (frame_view c.top.result.now) (effect_views turn.effects.items) (exit_view turn.exit) (frame_if turn.after) done
+    map_answer c.taken.result _ _ (λ done taken. reads c.args.journal.now c.args.row.now _ c.args.task c.args.ready c.args.env c.worker.result (frame_view c.top.result.now) (effect_views turn.effects.items) (exit_view turn.exit) (frame_if turn.after) done
     taken c.top.ensures there refl refl) c.taken.ensures

@@ -1,4 +1,4 @@
-use Rattle.std.proofs.Common.{◌≡◌, ℕ, ap, sym, subst, suc, add-one, take, List, [], ◌∷◌, ◌++◌, arith, length}
+use Rattle.std.proofs.Common.{ℕ, sym, subst, suc, add-one, take, List, [], ◌∷◌, ◌++◌}
 use Rattle.std.specs.Prelude.{Option}
 use Rattle.std.specs.Arc.{arc_value}
 use Rattle.swift_interpreter.specs.Frames.{effect_views}

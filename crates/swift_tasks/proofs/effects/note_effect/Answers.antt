@@ -1,6 +1,5 @@
-use Rattle.std.proofs.Common.{◌≡◌, ◌∙◌, ap, false, List, [], ◌∷◌, ◌++◌}
+use Rattle.std.proofs.Common.{◌∙◌, ap, false, [], ◌∷◌, ◌++◌}
 use Rattle.swift_types.specs.declared.priority.Priority.{Priority}
-use Rattle.swift_events.specs.declared.event.Event.{Event}
 use Rattle.swift_events.specs.declared.event.Event.TheVariants.{Free}
 use Rattle.swift_events.specs.Events.{tasks_of}
 use Rattle.swift_interpreter.specs.Frames.{invocation_view}

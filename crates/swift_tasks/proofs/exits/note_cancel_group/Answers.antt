@@ -1,4 +1,4 @@
-use Rattle.std.proofs.Common.{◌≡◌, ap, sym, subst, ◌++◌, ◌∷◌, [], List, ℕ}
+use Rattle.std.proofs.Common.{ap, sym, subst, ◌++◌, ◌∷◌, [], List}
 use Rattle.std.specs.Prelude.{IsTrue}
 use Rattle.swift_events.specs.declared.event.Event.{Event}
 use Rattle.swift_events.specs.declared.event.Event.TheVariants.{CancelGroup}

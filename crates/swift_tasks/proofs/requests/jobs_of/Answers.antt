@@ -1,14 +1,12 @@
-use Rattle.std.proofs.Common.{arith, ◌≡◌, ◌∙◌, ap, List, [], ◌∷◌, ◌++◌, length, vec_len, sym, subst}
+use Rattle.std.proofs.Common.{arith, ◌≡◌, ◌∙◌, ap, [], ◌∷◌, ◌++◌, length, sym, subst}
 use Rattle.std.specs.Prelude.{Option, Some, None, map, reverse}
 use Rattle.std.specs.List.{AllByRecursion}
 use Rattle.swift_types.specs.declared.outcome.Resume.TheVariants.{Go}
 use Rattle.swift_queue.specs.Job.{JobIs}
 use Rattle.swift_turn.specs.Body.{BodyView, IsRunning}
-use Rattle.swift_history.specs.TurnEnds.{JobView}
-use Rattle.swift_script.specs.Scripts.{ScriptView}
 use Rattle.swift_tasks.specs.declared.held.Held.{Held}
-use Rattle.swift_tasks.specs.BookInvariant.{FitsScript, held_views}
-use Rattle.swift_tasks.specs.Books.{IsJobOf, job_view, jobs_held}
+use Rattle.swift_tasks.specs.BookInvariant.{FitsScript}
+use Rattle.swift_tasks.specs.Books.{IsJobOf, job_view}
 use Rattle.swift_tasks.proofs.HeldJobs.{job_step, none_step, job_end, all-front, all-back, all-append, all-reverse}
 use Rattle.swift_tasks.proofs.requests.jobs_of.Goals as goal
 

@@ -1,4 +1,4 @@
-use Rattle.std.proofs.Common.{◌≡◌, ap, sym, subst, List}
+use Rattle.std.proofs.Common.{ap, sym, subst, List}
 use Rattle.swift_events.specs.declared.event.Event.{Event}
 use Rattle.swift_ledger.specs.Ledgers.{LedgerView, IsMade}
 use Rattle.swift_tasks.proofs.Pushes.{root_made}

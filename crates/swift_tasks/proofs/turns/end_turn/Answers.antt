@@ -1,7 +1,6 @@
-use Rattle.std.proofs.Common.{◌≡◌, ℕ, ◌+◌, ◌∙◌, refl, ap, sym, subst, arith, List, ◌++◌, length, take}
+use Rattle.std.proofs.Common.{◌≡◌, ℕ, ◌∙◌, refl, ap, sym, subst, arith, List, ◌++◌, length, take}
 use Rattle.std.specs.Prelude.{Option, map}
 use Rattle.std.proofs.lemmas.List.{length-map}
-use Rattle.std.specs.List.{AllByRecursion}
 use Rattle.swift_script.specs.Scripts.{ScriptView, root_count}
 use Rattle.swift_interpreter.specs.Turn.{EffectView, ExitView}
 use Rattle.swift_interpreter.specs.Frames.{effect_views}
@@ -10,7 +9,7 @@ use Rattle.swift_events.specs.declared.event.Event.{Event}
 use Rattle.swift_events.specs.Relations.{waiters_of}
 use Rattle.swift_history.specs.TurnEnds.{JobView, HeldView, Follows, gives}
 use Rattle.swift_tasks.specs.Applying.{AreMade, CanLeave, TurnLeaves, done_log, written_log}
-use Rattle.swift_tasks.specs.BookInvariant.{FitsScript, held_views}
+use Rattle.swift_tasks.specs.BookInvariant.{held_views}
 use Rattle.swift_tasks.specs.Books.{job_view, HoldsWaiting}
 use Rattle.swift_tasks.specs.Counted.{UnopenedAreNotClosed}
 use Rattle.swift_tasks.proofs.TurnIs.{made_by, follows_turn, few_since, stood_before, turn_is, written_waiters}

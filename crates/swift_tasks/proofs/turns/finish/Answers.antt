@@ -1,10 +1,7 @@
-use Rattle.std.proofs.Common.{◌≡◌, ℕ, ◌-◌, ◌≤◌, ◌∙◌, ap, sym, subst, arith, List, ◌++◌, length, take, drop, replicate}
-use Rattle.std.specs.Prelude.{Option, None, map}
+use Rattle.std.proofs.Common.{◌≡◌, ℕ, ◌-◌, ◌≤◌, ◌∙◌, ap, sym, subst, arith, List, ◌++◌, length, take, replicate}
+use Rattle.std.specs.Prelude.{None, map}
 use Rattle.std.specs.List.{AllByRecursion}
-use Rattle.swift_queue.specs.Job.{JobIs}
-use Rattle.swift_turn.specs.Body.{BodyView}
 use Rattle.swift_history.specs.TurnEnds.{JobView, Follows, gives}
-use Rattle.swift_tasks.specs.declared.held.Held.{Held}
 use Rattle.swift_tasks.specs.Applying.{AreMade, follows_of, followed_from}
 use Rattle.swift_tasks.specs.BookInvariant.{FitsScript}
 use Rattle.swift_tasks.specs.Books.{job_view}

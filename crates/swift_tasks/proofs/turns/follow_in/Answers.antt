@@ -1,4 +1,4 @@
-use Rattle.std.proofs.Common.{◌≡◌, sym, subst, List, ◌++◌, length, drop}
+use Rattle.std.proofs.Common.{sym, subst, List, ◌++◌, length, drop}
 use Rattle.std.specs.Prelude.{Option}
 use Rattle.std.specs.List.{AllByRecursion}
 use Rattle.swift_tasks.specs.declared.held.Held.{Held}

@@ -1,12 +1,8 @@
 use Rattle.std.proofs.Common.{◌≡◌, ℕ, true, ◌∙◌, ap, sym, refl, subst, arith, List, [], ◌∷◌, ◌++◌}
-use Rattle.std.specs.Prelude.{Option}
 use Rattle.swift_events.specs.declared.event.Event.{Event}
 use Rattle.swift_events.specs.declared.event.Event.TheVariants.{Apply}
-use Rattle.swift_events.specs.declared.life.Life.{Life}
-use Rattle.swift_events.specs.declared.life.Stage.{Stage}
 use Rattle.swift_events.specs.Events.{tasks_of}
 use Rattle.swift_events.specs.Lives.{life_of, room_in, room_held}
-use Rattle.swift_events.specs.Room.{reserved_of}
 use Rattle.swift_events.proofs.LogLemmas.{life_of-push_same, tasks_of-push_other}
 use Rattle.swift_ledger.specs.Ledgers.{LedgerView, IsMade}
 use Rattle.swift_history.specs.Checks.{counters, fits_turn}

@@ -1,19 +1,15 @@
 use Rattle.std.proofs.Common.{◌≡◌, ℕ, ◌+◌, ◌∙◌, ap, sym, subst, suc, add-one, drop, arith, List, [], ◌∷◌, ◌++◌, append_assoc, length}
 use Rattle.std.specs.Prelude.{Option, map, reverse}
-use Rattle.std.specs.List.{AllByRecursion}
-use Rattle.swift_script.specs.Scripts.{ScriptView, root_count}
 use Rattle.swift_interpreter.specs.Turn.{EffectView, ExitView}
-use Rattle.swift_interpreter.specs.declared.effect.Effect.{Effect}
 use Rattle.swift_interpreter.specs.Frames.{effect_view, effect_views}
 use Rattle.swift_turn.specs.Body.{BodyView}
 use Rattle.swift_events.specs.declared.event.Event.{Event}
-use Rattle.swift_events.specs.Lives.{life_of}
 use Rattle.swift_events.specs.Room.{reserved_of}
 use Rattle.swift_ledger.specs.Ledgers.{IsMade}
 use Rattle.swift_history.specs.TurnEnds.{JobView, effect_events, effect_jobs, log_after, jobs_made}
-use Rattle.swift_tasks.specs.Applying.{CanTake, CanTakeAll, CanLeave}
-use Rattle.swift_tasks.specs.Bodies.{AreBodiesOf, IsBodyOf}
-use Rattle.swift_tasks.specs.Books.{job_view, IsJobOf}
+use Rattle.swift_tasks.specs.Applying.{CanTake, CanTakeAll}
+use Rattle.swift_tasks.specs.Bodies.{AreBodiesOf}
+use Rattle.swift_tasks.specs.Books.{job_view}
 use Rattle.swift_tasks.proofs.Grows.{effect_grows}
 use Rattle.swift_tasks.proofs.EffectsTaken.{drop_at, drop_all, take_first, take_rest, take_none, last_first, first_body, rest_bodies}
 use Rattle.swift_tasks.proofs.turns.note_effects.Goals as goal

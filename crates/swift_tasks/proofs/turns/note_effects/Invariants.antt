@@ -1,5 +1,5 @@
 use Rattle.std.proofs.Common.{◌≡◌, ◌+◌, ◌≤◌, ◌++◌, vec_len, drop}
-use Rattle.std.specs.Prelude.{map, reverse, length, vec_capacity}
+use Rattle.std.specs.Prelude.{map, reverse, vec_capacity}
 use Rattle.std.specs.List.{AllByRecursion}
 use Rattle.swift_script.specs.Scripts.{ScriptView, root_count}
 use Rattle.swift_interpreter.specs.Turn.{ExitView}

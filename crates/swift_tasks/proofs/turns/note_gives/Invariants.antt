@@ -1,5 +1,5 @@
 use Rattle.std.proofs.Common.{◌≡◌, ◌+◌, ◌≤◌, ◌++◌, drop}
-use Rattle.std.specs.Prelude.{map, length}
+use Rattle.std.specs.Prelude.{map}
 use Rattle.swift_history.specs.TurnEnds.{gives}
 use Rattle.swift_tasks.specs.Applying.{AreMade}
 use Rattle.swift_tasks.specs.Books.{job_view}

@@ -1,12 +1,10 @@
-use Rattle.std.proofs.Common.{◌≡◌, ℕ, ◌∙◌, ap, sym, subst, List, ◌++◌}
-use Rattle.std.specs.Prelude.{Option, None}
-use Rattle.swift_interpreter.specs.Turn.{EffectView, ExitView}
+use Rattle.std.proofs.Common.{◌∙◌, ap, subst, List, ◌++◌}
 use Rattle.swift_interpreter.specs.Frames.{effect_views}
 use Rattle.swift_interpreter.specs.TurnStates.{exit_view}
 use Rattle.swift_events.specs.declared.event.Event.{Event}
 use Rattle.swift_events.specs.Lives.{life_of}
 use Rattle.swift_history.specs.TurnEnds.{exit_events, exit_resume}
-use Rattle.swift_tasks.specs.Applying.{CanLeave, done_log}
+use Rattle.swift_tasks.specs.Applying.{CanLeave}
 use Rattle.swift_tasks.proofs.TurnEndKept.{done_is, done_unended}
 use Rattle.swift_tasks.proofs.turns.note_turn.Goals as goal
 

@@ -1,4 +1,4 @@
-use Rattle.std.proofs.Common.{◌≡◌, ℕ, ◌+◌, ◌∙◌, refl, ap, sym, subst, arith, List, ◌++◌, length}
+use Rattle.std.proofs.Common.{ℕ, ◌∙◌, ap, sym, subst, arith, List, length}
 use Rattle.std.specs.Prelude.{Option, map}
 use Rattle.swift_types.specs.declared.id.TaskId.{TaskId}
 use Rattle.swift_types.specs.declared.outcome.Resume.{Resume}
@@ -6,15 +6,14 @@ use Rattle.swift_script.specs.Scripts.{ScriptView}
 use Rattle.swift_interpreter.specs.Turn.{EffectView, ExitView}
 use Rattle.swift_interpreter.specs.Frames.{effect_views}
 use Rattle.swift_interpreter.specs.TurnStates.{exit_view}
-use Rattle.swift_turn.specs.declared.step.Step.{Step}
-use Rattle.swift_turn.specs.Body.{BodyView, Advanced, CanAdvance, AdvancesTo}
+use Rattle.swift_turn.specs.Body.{BodyView, CanAdvance, AdvancesTo}
 use Rattle.swift_events.specs.declared.event.Event.{Event}
 use Rattle.swift_events.specs.Relations.{waiters_of}
 use Rattle.swift_history.specs.Checks.{counters}
-use Rattle.swift_history.specs.TurnEnds.{JobView, HeldView, TurnEnd}
+use Rattle.swift_history.specs.TurnEnds.{JobView, HeldView}
 use Rattle.swift_tasks.specs.Applying.{TurnLeaves, Ends}
 use Rattle.swift_tasks.specs.BookInvariant.{held_views}
-use Rattle.swift_tasks.specs.Books.{BookView, job_view, IsEndOf}
+use Rattle.swift_tasks.specs.Books.{job_view}
 use Rattle.swift_tasks.proofs.Fitting.{advances}
 use Rattle.swift_tasks.proofs.TurnTaken.{leaves_of, ends_of}
 use Rattle.swift_tasks.proofs.turns.take_turn.Goals as goal

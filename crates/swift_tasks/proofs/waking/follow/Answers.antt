@@ -1,7 +1,6 @@
-use Rattle.std.proofs.Common.{◌≡◌, ◌∙◌, ap, sym, refl, subst, arith, List, [], ◌∷◌}
-use Rattle.std.specs.Prelude.{Option, Some}
+use Rattle.std.proofs.Common.{sym, refl, subst, arith, [], ◌∷◌}
+use Rattle.std.specs.Prelude.{Some}
 use Rattle.std.specs.List.{AllByRecursion}
-use Rattle.swift_script.specs.Scripts.{ScriptView}
 use Rattle.swift_turn.specs.Body.{GoesOn}
 use Rattle.swift_queue.specs.Job.{JobIs}
 use Rattle.swift_turn.specs.Body.{BodyView}

@@ -1,9 +1,7 @@
-use Rattle.std.proofs.Common.{◌≡◌, ◌∙◌, ap, sym}
-use Rattle.std.specs.Prelude.{Option, Some, None, slice_set}
+use Rattle.std.proofs.Common.{◌∙◌, ap, sym}
+use Rattle.std.specs.Prelude.{slice_set}
 use Rattle.swift_types.specs.declared.outcome.Resume.{Resume}
 use Rattle.swift_tasks.specs.declared.held.Held.{Held}
-use Rattle.swift_queue.specs.Job.{JobIs}
-use Rattle.swift_turn.specs.Body.{BodyView}
 use Rattle.swift_tasks.specs.Books.{job_view}
 use Rattle.swift_tasks.proofs.HeldTaken.{job_at, wake_taken}
 use Rattle.swift_tasks.proofs.waking.wake.Goals as goal

@@ -1,4 +1,4 @@
-use Rattle.std.proofs.Common.{◌≡◌, ℕ, ◌+◌, ◌∙◌, ap, sym, suc, add-one, drop, arith, List, length}
+use Rattle.std.proofs.Common.{ℕ, ◌+◌, ◌∙◌, ap, sym, add-one, drop, arith, List}
 use Rattle.swift_types.specs.declared.id.TaskId.{TaskId}
 use Rattle.swift_events.specs.Relations.{waiters_of}
 use Rattle.swift_history.specs.TurnEnds.{Follows, wake, wake_each}

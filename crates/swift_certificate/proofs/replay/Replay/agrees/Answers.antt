@@ -1,4 +1,4 @@
-use Rattle.std.proofs.Common.{rules, ◌≡◌, subst}
+use Rattle.std.proofs.Common.{rules, ◌≡◌, ◌<◌, ℕ, length, refl, subst}
 use Rattle.std.specs.Arc.{arc_value}
 use Rattle.swift_script.specs.Scripts.{root_count}
 use Rattle.swift_certificate.specs.Reports.{report_view}
@@ -12,4 +12,5 @@ returns c =
     let x = c.args.self.now in
     let roots : x.roots ≡ root_count (arc_value x.script) = search rules in
     let script = c.deref-2.ensures in
-    map_ok c.are_ended.result _ _ (λ yes ended is. legal_is (arc_value x.script) (report_view c.args.report.now) x c.requires (search rules) roots (search rules) (search rules) (subst (λ p. AreEndedAt x.turns p x.rows.items (report_view c.args.report.now)) script (subst (λ rows. AreEndedAt x.turns c.deref-2.result.now rows (report_view c.args.report.now)) c.deref-3.ensures.value (ended is)))) c.are_ended.ensures
+    let many : length (report_view c.args.report.now).endings ≡ c.len.result = search rules in
+    map_ok c.are_ended.result _ _ (λ yes ended is. legal_is (arc_value x.script) (report_view c.args.report.now) x c.requires (search rules) roots (search rules) (search rules) (λ t g lt below. c.if-not-have_closed.ensures refl t g (subst (λ (n : ℕ). t < n) many lt) below) (subst (λ p. AreEndedAt x.turns p x.rows.items (report_view c.args.report.now)) script (subst (λ rows. AreEndedAt x.turns c.deref-2.result.now rows (report_view c.args.report.now)) c.deref-3.ensures.value (ended is)))) c.are_ended.ensures

@@ -11,11 +11,12 @@ returns-in_ok-put-in-Ok-clause-follows c = λ yes.
     let made = c.from_job-ready.ensures in
     let next : c.in-Some.next ≡ x.roots + 1 = search rules in
     let is = root_step (arc_value x.script) (report_view c.args.report.now) x c.add_root.new.self c.put.new.tasks.items c.in-Ok.job c.from_job-ready.result.0 c.from_job-ready.result.1
-    c.requires (search rules) (search rules) (search rules) made.task made.ready c.in_ok-put-in-Ok.ensures in
+    c.requires (search rules) (search rules) (search rules) c.in-Ok.ensures.body made.task made.ready c.in_ok-put-in-Ok.ensures in
     record {
       script_is = c.requires.script_is;
       book_is = is.book_is;
       none = c.requires.none;
       known = c.requires.known;
+      scripts = is.scripts;
       followed = subst (λ (n : ℕ). IsFollowed x.turns (arc_value x.script) (report_view c.args.report.now) c.add_root.new.self.log c.add_root.new.self.held c.put.new.tasks.items x.rows.items n) (sym next) is.followed;
     })

@@ -1,15 +1,13 @@
-use Rattle.std.proofs.Common.{◌≡◌, ℕ, ◌+◌, ◌∙◌, refl, ap, sym, subst, arith, List, length}
-use Rattle.std.specs.Prelude.{Option, None, map}
+use Rattle.std.proofs.Common.{◌≡◌, ◌∙◌, ap, sym, subst, arith, List, length}
+use Rattle.std.specs.Prelude.{None, map}
 use Rattle.std.specs.Arc.{arc_value}
 use Rattle.std.specs.List.{AllByRecursion}
 use Rattle.swift_types.specs.declared.id.TaskId.{TaskId}
-use Rattle.swift_script.specs.Scripts.{ScriptView, root_count}
+use Rattle.swift_script.specs.Scripts.{ScriptView}
 use Rattle.swift_interpreter.specs.Turn.{EffectView, ExitView}
 use Rattle.swift_interpreter.specs.declared.effect.Effect.{Effect}
 use Rattle.swift_interpreter.specs.Frames.{effect_views}
 use Rattle.swift_interpreter.specs.TurnStates.{exit_view}
-use Rattle.swift_queue.specs.Job.{JobIs}
-use Rattle.swift_turn.specs.Body.{BodyView}
 use Rattle.swift_events.specs.declared.event.Event.{Event}
 use Rattle.swift_events.specs.Relations.{waiters_of}
 use Rattle.swift_history.specs.Checks.{counters}

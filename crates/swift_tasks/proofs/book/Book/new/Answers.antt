@@ -1,4 +1,4 @@
-use Rattle.std.proofs.Common.{arith, ◌≡◌, ◌∙◌, ap, List, replicate, length}
+use Rattle.std.proofs.Common.{arith, ◌≡◌, ◌∙◌, ap, replicate, length}
 use Rattle.std.specs.Prelude.{None, Option}
 use Rattle.std.specs.Arc.{arc_value}
 use Rattle.std.proofs.lemmas.List.{length-replicate}

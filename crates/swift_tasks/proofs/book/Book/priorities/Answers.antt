@@ -1,4 +1,4 @@
-use Rattle.std.proofs.Common.{arith, ◌≡◌, ℕ, ◌+◌, ◌<◌, ap, sym, subst, inl, inr, length, get_or-set_same, get_or-set_other, List}
+use Rattle.std.proofs.Common.{arith, ℕ, ◌<◌, sym, subst, inl, inr, length, get_or-set_same, get_or-set_other}
 use Rattle.std.specs.Prelude.{slice_index_or, slice_set}
 use Rattle.std.proofs.lemmas.Bool.{cases_eq}
 use Rattle.swift_types.specs.declared.id.TaskId.{TaskId}
