@@ -18,7 +18,10 @@ failed=$(sed -nE 's/^([0-9]+) passed, ([0-9]+) failed.*/\2/p' <<<"$last")
 rm -f "$log"
 if [ -z "$passed" ]; then exit 1; fi
 [ "$status" -eq 0 ] || [ "$failed" -gt 0 ] || failed=1
-for step in links examples refusals-sample; do
+# These run what was just proved. Where it was not, they would prove it once more before they fail.
+steps="links examples refusals-sample"
+if [ "$failed" -gt 0 ]; then steps=links; echo "not tried, since rt ci failed: examples, refusals-sample"; fi
+for step in $steps; do
     if make --no-print-directory "$step"; then passed=$((passed + 1)); else failed=$((failed + 1)); fi
 done
 echo "$passed passed, $failed failed"

@@ -12,7 +12,7 @@ fault_of book.Unknown = Refused book.Unknown
 fault_of book.Completed = Refused book.Completed
 fault_of book.Refused = Refused book.Refused
 
--- a refusal is the one that stands in the book, else want of memory
+-- a refusal is the one that stands in the book, else out of memory
 abbrev pub IsRefusal : Option BookFault → ExecFault → Type 0
 IsRefusal (Some cause) fault = fault ≡ fault_of cause
 IsRefusal None fault = fault ≡ Memory

@@ -18,7 +18,7 @@ use Rattle.swift_events.specs.Lives.{life_of}
 use Rattle.swift_events.specs.Relations.{opened_by, is_closed, link_in, links_of}
 use Rattle.swift_history.specs.Histories.{Block, added, begun, ran, folded, at_first, after_blocks, Stands, AllStand, IsLegal, ReportView}
 use Rattle.swift_laws.specs.Laws.{TurnPlace, HasTurn, turns_of, AppliedTurnsStand}
-use Rattle.swift_laws.specs.Ended.{HasEnded, IsFront}
+use Rattle.swift_laws.specs.Ended.{HasEnded, IsPrefix}
 use Rattle.swift_laws.proofs.OpenLogs.{In, in_contains, tasks_grow, opened_grow, Sound, sound_front, closed_front, free_ended}
 use Rattle.swift_laws.proofs.OpenGroups.{from_filter_map}
 use Rattle.swift_laws.proofs.OpenHistories.{legal_leads}
@@ -26,30 +26,30 @@ use Rattle.swift_laws.proofs.OpenExecutors.{runs_on_executor}
 
 -- what holds of each legal report
 
-any_sound : (script : ScriptView) (report : ReportView) (front : List Event) → IsLegal script report → IsFront report front → Sound (root_count script) front
+any_sound : (script : ScriptView) (report : ReportView) (front : List Event) → IsLegal script report → IsPrefix report front → Sound (root_count script) front
 any_sound script report front legal is = sound_front (root_count script) report.log front is.0 (legal_leads script report legal) is.1
 
 pub waiters_go_on : (script : ScriptView) (report : ReportView) (front : List Event) (t u : TaskId)
-    → IsLegal script report → IsFront report front → Contains front (Wait t u) → (life_of t.0 front).stage ≢ Some (Waits u) → HasEnded u.0 front
+    → IsLegal script report → IsPrefix report front → Contains front (Wait t u) → (life_of t.0 front).stage ≢ Some (Waits u) → HasEnded u.0 front
 waiters_go_on script report front t u legal is has other =
     elim ((any_sound script report front legal is).waits t u (in_contains front (Wait t u) has)).1 [ inl ended ↦ ended | inr at ↦ absurd (other at) ]
 
 pub owners_go_on : (script : ScriptView) (report : ReportView) (front : List Event) (t u : TaskId) (g : ℕ) (p : Priority)
-    → IsLegal script report → IsFront report front → Contains front (Child u t g p) → IsTrue (is_closed t.0 g front) → (life_of t.0 front).stage ≢ Some (Closes g) → HasEnded u.0 front
+    → IsLegal script report → IsPrefix report front → Contains front (Child u t g p) → IsTrue (is_closed t.0 g front) → (life_of t.0 front).stage ≢ Some (Closes g) → HasEnded u.0 front
 owners_go_on script report front t u g p legal is has closed other =
     elim (((any_sound script report front legal is).children u t g p (in_contains front (Child u t g p) has)).2 closed) [ inl ended ↦ ended | inr at ↦ absurd (other at) ]
 
-pub waits_for_none : (script : ScriptView) (report : ReportView) (front : List Event) (t u : TaskId) → IsLegal script report → IsFront report front → HasEnded t.0 front → Contains front (Wait t u) → HasEnded u.0 front
+pub waits_for_none : (script : ScriptView) (report : ReportView) (front : List Event) (t u : TaskId) → IsLegal script report → IsPrefix report front → HasEnded t.0 front → Contains front (Wait t u) → HasEnded u.0 front
 waits_for_none script report front t u legal is ended has =
     (free_ended (root_count script) t.0 front (any_sound script report front legal is) ended).waits t u refl (in_contains front (Wait t u) has)
 
 pub leaves_none_closed : (script : ScriptView) (report : ReportView) (front : List Event) (t u : TaskId) (g : ℕ) (p : Priority)
-    → IsLegal script report → IsFront report front → HasEnded t.0 front → IsTrue (is_closed t.0 g front) → Contains front (Child u t g p) → HasEnded u.0 front
+    → IsLegal script report → IsPrefix report front → HasEnded t.0 front → IsTrue (is_closed t.0 g front) → Contains front (Child u t g p) → HasEnded u.0 front
 leaves_none_closed script report front t u g p legal is ended closed has =
     (free_ended (root_count script) t.0 front (any_sound script report front legal is) ended).children u t g p refl (in_contains front (Child u t g p) has) closed
 
 -- each group that an ended task has opened is closed
-groups_closed : (script : ScriptView) (report : ReportView) (front : List Event) (t g : ℕ) → IsLegal script report → IsFront report front → HasEnded t front → g < opened_by t front → is_closed t g front ≡ true
+groups_closed : (script : ScriptView) (report : ReportView) (front : List Event) (t g : ℕ) → IsLegal script report → IsPrefix report front → HasEnded t front → g < opened_by t front → is_closed t g front ≡ true
 groups_closed script report front t g legal is ended opened =
     let roots : ℕ = root_count script in
     let sound = any_sound script report front legal is in
@@ -61,7 +61,7 @@ groups_closed script report front t g legal is ended opened =
     closed_front roots t g report.log front is.0 (legal_leads script report legal) is.1 ended (legal.groups t g (omega (arith, low, tasks, many)) (omega (arith, opened, groups, all)))
 
 pub leaves_no_children : (script : ScriptView) (report : ReportView) (front : List Event) (t u : TaskId) (g : ℕ) (p : Priority)
-    → IsLegal script report → IsFront report front → HasEnded t.0 front → Contains front (Child u t g p) → HasEnded u.0 front
+    → IsLegal script report → IsPrefix report front → HasEnded t.0 front → Contains front (Child u t g p) → HasEnded u.0 front
 leaves_no_children script report front t u g p legal is ended has =
     let child = (any_sound script report front legal is).children u t g p (in_contains front (Child u t g p) has) in
     leaves_none_closed script report front t u g p legal is ended (groups_closed script report front t.0 g legal is ended child.1) has
@@ -99,7 +99,7 @@ wait_of_link log a b has =
     contains_in log (Wait a b) (subst (In log) (wait_link f.0 a b f.2) f.1)
 
 pub reach_ended : (script : ScriptView) (report : ReportView) (front : List Event) (n : ℕ) (t u : TaskId)
-    → IsLegal script report → IsFront report front → HasEnded t.0 front → Reaches (links_of front) n t u → HasEnded u.0 front
+    → IsLegal script report → IsPrefix report front → HasEnded t.0 front → Reaches (links_of front) n t u → HasEnded u.0 front
 reach_ended script report front zero t u legal is ended reach = subst (λ (x : TaskId). HasEnded x.0 front) reach ended
 reach_ended script report front (suc n) t u legal is ended reach =
     let m : TaskId = reach.0 in

@@ -15,36 +15,36 @@ use Rattle.swift_history.specs.Histories.{IsLegal, ReportView}
 abbrev pub HasEnded : ℕ → List Event → Type 0
 HasEnded t log = IsTrue (is_some (life_of t log).ending)
 
--- a front of a report's log, as it stood at some point
-abbrev pub IsFront : ReportView → List Event → Type 0
-IsFront report front = (back : List Event) × (report.log ≡ front ++ back)
+-- a prefix of a report's log, as it stood at some point
+abbrev pub IsPrefix : ReportView → List Event → Type 0
+IsPrefix report front = (back : List Event) × (report.log ≡ front ++ back)
 
 -- A task that has waited for another, and waits for it no more, does so since that has ended.
 abbrev pub WaitersGoOnAfter : Type 0
 WaitersGoOnAfter = (script : ScriptView) (report : ReportView) (front : List Event) (t u : TaskId)
-    → IsLegal script report → IsFront report front → Contains front (Wait t u) → (life_of t.0 front).stage ≢ Some (Waits u) → HasEnded u.0 front
+    → IsLegal script report → IsPrefix report front → Contains front (Wait t u) → (life_of t.0 front).stage ≢ Some (Waits u) → HasEnded u.0 front
 
 -- A task that has closed a group, and waits for its children no more, does so since each of them has ended.
 abbrev pub OwnersGoOnAfter : Type 0
 OwnersGoOnAfter = (script : ScriptView) (report : ReportView) (front : List Event) (t u : TaskId) (g : ℕ) (p : Priority)
-    → IsLegal script report → IsFront report front → Contains front (Child u t g p) → IsTrue (is_closed t.0 g front) → (life_of t.0 front).stage ≢ Some (Closes g) → HasEnded u.0 front
+    → IsLegal script report → IsPrefix report front → Contains front (Child u t g p) → IsTrue (is_closed t.0 g front) → (life_of t.0 front).stage ≢ Some (Closes g) → HasEnded u.0 front
 
 -- At each point of the log, each task that an ended task has waited for has ended.
 abbrev pub EndedWaitForNone : Type 0
 EndedWaitForNone = (script : ScriptView) (report : ReportView) (front : List Event) (t u : TaskId)
-    → IsLegal script report → IsFront report front → HasEnded t.0 front → Contains front (Wait t u) → HasEnded u.0 front
+    → IsLegal script report → IsPrefix report front → HasEnded t.0 front → Contains front (Wait t u) → HasEnded u.0 front
 
 -- At each point of the log, each child of a group that an ended task has closed has ended.
 abbrev pub EndedLeaveNoneClosed : Type 0
 EndedLeaveNoneClosed = (script : ScriptView) (report : ReportView) (front : List Event) (t u : TaskId) (g : ℕ) (p : Priority)
-    → IsLegal script report → IsFront report front → HasEnded t.0 front → IsTrue (is_closed t.0 g front) → Contains front (Child u t g p) → HasEnded u.0 front
+    → IsLegal script report → IsPrefix report front → HasEnded t.0 front → IsTrue (is_closed t.0 g front) → Contains front (Child u t g p) → HasEnded u.0 front
 
 -- At each point of the log, each child that was added to a group of an ended task has ended.
 abbrev pub EndedLeaveNoChildren : Type 0
 EndedLeaveNoChildren = (script : ScriptView) (report : ReportView) (front : List Event) (t u : TaskId) (g : ℕ) (p : Priority)
-    → IsLegal script report → IsFront report front → HasEnded t.0 front → Contains front (Child u t g p) → HasEnded u.0 front
+    → IsLegal script report → IsPrefix report front → HasEnded t.0 front → Contains front (Child u t g p) → HasEnded u.0 front
 
 -- At each point of the log, each task that is reached from an ended task along children and waits has ended.
 abbrev pub EndedReachEnded : Type 0
 EndedReachEnded = (script : ScriptView) (report : ReportView) (front : List Event) (n : ℕ) (t u : TaskId)
-    → IsLegal script report → IsFront report front → HasEnded t.0 front → Reaches (links_of front) n t u → HasEnded u.0 front
+    → IsLegal script report → IsPrefix report front → HasEnded t.0 front → Reaches (links_of front) n t u → HasEnded u.0 front

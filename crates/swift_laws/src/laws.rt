@@ -19,9 +19,9 @@ pub fn applied_turns_stand()
     ensures { AppliedTurnsStand }
 {}
 
-/// In a legal report each turn has begun at a point of the log with the priority that its task had there: the greatest of
-/// those given to tasks from which it is reached along children and waits (SE-0304). It was told there whether its task
-/// was cancelled.
+/// Each turn in a journal of a legal report has begun at a point of the log with the priority that its task had there: the
+/// greatest of those given to tasks from which it is reached along children and waits (SE-0304). It was told there whether its
+/// task was cancelled.
 pub fn turns_have_their_priority()
     ensures { TurnsHaveTheirPriority }
 {}

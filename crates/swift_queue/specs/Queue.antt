@@ -1,4 +1,4 @@
--- A queue as callers see it: a list of jobs, each with its priority and its arrival number (own).
+-- A queue as callers see it: a list of jobs, each with its priority and its arrival number (our own).
 use Rattle.std.specs.Prelude.{◌≢◌, ℕ, ◌≤◌, ◌<◌, List, ◌∷◌, All, length}
 use Rattle.std.specs.List.{AllPairs}
 use Rattle.std.specs.List.Sorted.{IsPermutation}

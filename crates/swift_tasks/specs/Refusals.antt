@@ -17,7 +17,7 @@ use Rattle.swift_history.specs.Checks.{is_current, counters, fits_turn}
 use Rattle.swift_tasks.specs.declared.fault.BookFault.{BookFault}
 use Rattle.swift_tasks.specs.declared.fault.BookFault.TheVariants.{Unknown, Completed, Memory, Refused}
 
--- a refusal is the one that stands, else want of memory
+-- a refusal is the one that stands, else out of memory
 abbrev pub IsRefusal : Option BookFault → BookFault → Type 0
 IsRefusal (Some cause) fault = fault ≡ cause
 IsRefusal None fault = fault ≡ Memory

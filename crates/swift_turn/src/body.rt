@@ -367,8 +367,8 @@ impl Body {
         copy_of(self.inside.alloc, &self.inside.turn.frame)
     }
 
-    /// Sets the frame that runs to what `frame` gave before a turn. Its line may be any: one past the last line of its
-    /// method stands for the end of the method. It gives up no turn: what was played can still be left.
+    /// Sets the frame that runs to what `frame` gave before a turn. Its instruction may be any: one past the last of
+    /// its method stands for the end of the method. It gives up no turn: what was played can still be left.
     pub fn put_back(&mut self, frame: Frame)
         requires running { IsRunning self.old }
         requires method { frame.method.0 < method_count self.old.script }
