@@ -128,18 +128,32 @@ def whole_runs(times):
         print("No Erlang on this machine: no ratios.\n")
 
 
+def together(copies, script):
+    """So many processes at once, each a run on one worker. The seconds of the slowest run."""
+    words = [os.path.join(TOP, MEASURE), "run", "1"]
+    how = {"stdout": subprocess.PIPE, "stderr": subprocess.STDOUT, "text": True}
+    processes = []
+    for _ in range(copies):
+        with open(script, "rb") as given:
+            processes.append(subprocess.Popen(words, cwd=TOP, stdin=given, **how))
+    told = [process.communicate()[0] for process in processes]
+    return max(int(re.search(r"(?m)^run (\d+) us$", text)[1]) for text in told) / 1e6
+
+
 def crews(times):
-    """Each case on one, two, four and eight workers."""
+    """Each case on one, two, four and eight workers; and what the machine gives four processes that share nothing."""
     rows = []
     for case in scripts.CREWS:
         script = scripts.path(case)
-        outcomes = {workers: [] for workers in (1, 2, 4, 8)}
+        outcomes, apart = {workers: [] for workers in (1, 2, 4, 8)}, []
         for _ in range(times):
             for workers, found in outcomes.items():
                 found.append(Outcome([MEASURE, "run", str(workers)], script))
+            apart.append(together(4, script))
         seconds = {workers: least(found, "run") for workers, found in outcomes.items()}
-        rows.append([case, *(f"{seconds[w]:.4f}" for w in seconds), *(f"{seconds[1] / seconds[w]:.2f}" for w in (2, 4, 8))])
-    table(["case", "1 worker s", "2", "4", "8", "times as fast with 2", "with 4", "with 8"], rows)
+        ratios = [seconds[1] / seconds[w] for w in (2, 4, 8)] + [4 * seconds[1] / min(apart)]
+        rows.append([case, *(f"{seconds[w]:.4f}" for w in seconds), *(f"{ratio:.2f}" for ratio in ratios)])
+    table(["case", "1 worker s", "2", "4", "8", "times as fast with 2", "with 4", "with 8", "4 processes apart"], rows)
 
 
 def growth(times):
@@ -151,6 +165,31 @@ def growth(times):
         turns = outcomes[0].told[("run", "turns")]
         rows.append([case, f"{turns:,}", f"{run:.4f}", f"{run / turns * 1e6:.2f}", f"{certificate:.4f}", f"{certificate / run:.2f}"])
     table(["case", "turns", "run s", "us/turn", "certificate s", "of the run"], rows)
+
+
+def split():
+    """Where the instructions of a turn go: of the workers' loop, and of the certificate's walk, what each call takes with all
+    that it calls."""
+    if not shutil.which("valgrind"):
+        print("No valgrind on this machine: no split of a turn.\n")
+        return
+    script = scripts.path("ready")
+    turns = Outcome([MEASURE, "run"], script).told[("run", "turns")]
+    for whole in ("swift_workers::turns::work", "swift_certificate::whole::walk"):
+        kept = os.path.join(scripts.FOLDER, "callgrind.out")
+        words = ["valgrind", "--tool=callgrind", "--collect-atstart=no", f"--toggle-collect={whole}*", f"--callgrind-out-file={kept}", MEASURE, "text"]
+        with open(script, "rb") as given:
+            subprocess.run(words, cwd=TOP, stdin=given, check=True, capture_output=True)
+        words = ["callgrind_annotate", "--inclusive=yes", "--threshold=100", kept]
+        told = subprocess.run(words, check=True, capture_output=True, text=True).stdout
+        found = [(int(n.replace(",", "")), name) for n, name in re.findall(r"(?m)^ *([\d,]+) \([ \d.]+%\)  \S*?:(\w+::\S+)", told)]
+        all_of_it = max(n for n, _ in found)
+        # What calls the loop has all of it, too.
+        rows = [[whole, f"{all_of_it / turns:,.0f}", "100"]]
+        for n, name in found:
+            if all_of_it / 100 <= n < all_of_it * 0.99:
+                rows.append([name.split("::<")[0], f"{n / turns:,.0f}", f"{100 * n / all_of_it:.0f}"])
+        table(["call, with what it calls", "instructions a turn", "%"], rows)
 
 
 def reading(times):
@@ -192,10 +231,12 @@ def main():
     print(f"Best of {times}, of reading the best of {2 * times + 1}. `run s` and `text s` are those stages alone, `swiftrun s` is")
     print("the whole process with its text to /dev/null. `B/turn` is the peak of reading and running, above that of reading alone. `Erlang s` is one scheduler,")
     print("which keeps no journal and undoes nothing. A run is certified before it ends; `certificate s` is the certificate alone, with each")
-    print("turn played again.\n")
+    print("turn played again. `4 processes apart` is how many times as much four runs of one worker do at once as one does alone: what")
+    print("the machine gives to threads that share nothing.\n")
     whole_runs(times)
     growth(times)
     crews(times)
+    split()
     reading(times)
     parts(times)
 

@@ -224,6 +224,9 @@ GROWTH = {
     "spin 990": COUNTER + roots(1000, "Counter.spin(990)"),
 }
 
+# What is taken apart: 16 jobs are ready at a time.
+SPLIT = {"ready": COUNTER + roots(16, "Counter.spin(990)")}
+
 FIRST = "abcdefghijklmnopqrstuvwxyzABCDEFGHIJKLMNOPQRSTUVWXYZ"
 LATER = FIRST + "0123456789_"
 
@@ -363,7 +366,7 @@ def write():
     texts = {name: text for name, (text, _) in SCRIPTS.items()}
     texts |= {"read " + name: text for name, text in READ.items()}
     texts |= {"refuse " + name: text for name, text in REFUSED.items()}
-    texts |= CREWS | GROWTH
+    texts |= CREWS | GROWTH | SPLIT
     for name, text in texts.items():
         with open(path(name), "w", encoding="ascii", newline="\n") as file:
             file.write(text)
