@@ -8,3 +8,4 @@ pub mod ByKinds
 pub mod RootsMade
 pub mod CallsNamed
 pub mod CallsThere
+pub mod MethodsFit

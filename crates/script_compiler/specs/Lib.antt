@@ -5,4 +5,5 @@ pub mod Members
 pub mod Rows
 pub mod Waiting
 pub mod Calls
+pub mod Fits
 pub mod Acts

@@ -1,4 +1,3 @@
-pub mod Holding
 pub mod Joined
 pub mod Past
 pub mod Places

@@ -3,8 +3,6 @@
 
 // Numbers in decimal.
 mod append;
-// Laws of journals.
-pub mod laws;
 // What a line says of a turn.
 mod line;
 // Names by the places of journals and fields.

@@ -14,8 +14,12 @@ use Rattle.script_names.specs.Rules.{at_name, target_error, names_error}
 use Rattle.script_names.proofs.LeftOut.{nothing_left_out}
 use Rattle.script_lowering.specs.Plan.{Plan}
 use Rattle.script_printing.specs.Script.{ScriptTree, script_in}
-use Rattle.script_compiler.specs.Compiled.{MethodView, RootView, plan_in, own_executor, own_executors, executors_from, actors_from, method_of, methods_from, root_of}
+use Rattle.script_compiler.specs.Calls.{CallsAreThere}
+use Rattle.script_compiler.specs.Compiled.{MethodView, RootView, compiled_of, plan_in, own_executor, own_executors, executors_from, actors_from, method_of, methods_from, root_of}
+use Rattle.script_compiler.specs.Fits.{MethodsFit}
 use Rattle.script_compiler.proofs.ByKinds.{same_plan}
+use Rattle.script_compiler.proofs.CallsThere.{checked_calls}
+use Rattle.script_compiler.proofs.MethodsFit.{checked_methods}
 use Rattle.swift_script.specs.Accepted.{WasAccepted}
 use Rattle.swift_script.specs.Scripts.{parts_of, no_method, no_root, executor_count, actor_count, method_count, method_params, root_count, root_method, root_args}
 use Rattle.swift_script.proofs.NamesAgain.{ExecutorsOk, ActorsOk, RootsOk, AllOk, by_kinds}
@@ -202,3 +206,16 @@ root_method_there s k a lt = (root_is_fine s k a lt).method
 
 pub root_args_fit : (s : ScriptTree) (k : ℕ) → WasAccepted s → k < root_count s → length (root_args s k) ≡ method_params s (root_method s k)
 root_args_fit s k a lt = (root_is_fine s k a lt).args
+
+pub declared_are_few : (s : ScriptTree) → WasAccepted s → length s.executors ≤ EXECUTORS
+declared_are_few s a =
+    let few : 0 + length s.executors ≤ EXECUTORS = few_executors [] 0 s.executors (omega arith) (ok_of s a).executors in
+    omega (arith, few)
+
+pub calls_are_there : (s : ScriptTree) → WasAccepted s → CallsAreThere (parts_of s)
+unfolding parts_of
+calls_are_there s a = subst (λ (t : ScriptTree). CallsAreThere (compiled_of t)) (sym a.1.is) (checked_calls a.1.decls a.1.names)
+
+pub methods_fit : (s : ScriptTree) → WasAccepted s → MethodsFit (parts_of s)
+unfolding parts_of
+methods_fit s a = subst (λ (t : ScriptTree). MethodsFit (compiled_of t)) (sym a.1.is) (checked_methods a.1.decls a.1.names)

@@ -5,12 +5,14 @@ ghost use Rattle.script_printing.specs.Printed.{printed};
 ghost use Rattle.script_code.specs.Seen.{rows_of};
 ghost use Rattle.script_code.specs.Tree.{terms_of};
 ghost use Rattle.script_code.specs.Value.{holds};
+ghost use Rattle.script_compiler.specs.Calls.{CallsAreThere};
+ghost use Rattle.script_compiler.specs.Fits.{MethodsFit};
 ghost use Rattle.script_compiler.specs.IsCompiled.{IsMethod};
 ghost use Rattle.swift_script.specs.Lent.{executor_lent, local_lent, actor_lent, root_lent};
 ghost use Rattle.swift_script.specs.ScriptInvariant.{ScriptInvariant, tree_of};
 ghost use Rattle.swift_script.specs.Accepted.{WasAccepted, NoRootWaits};
 ghost use Rattle.swift_script.specs.SameScripts.{same_scripts};
-ghost use Rattle.swift_script.specs.Scripts.{executor_at, local_at, actor_at, method_at, root_at, executor_count, executor_invariants, executor_start, local_count, actor_count, actor_executor, actor_invariant, method_count, method_params, root_count, root_method, root_args};
+ghost use Rattle.swift_script.specs.Scripts.{executor_at, local_at, actor_at, method_at, root_at, executor_count, executor_invariants, executor_start, local_count, actor_count, actor_executor, actor_invariant, method_count, method_params, parts_of, root_count, root_method, root_args};
 
 use crate::split::Declarations;
 use script_code::Formula;
@@ -140,6 +142,7 @@ impl Script {
         ensures accepted { WasAccepted self.now }
         ensures actors { actor_count self.now ≤ ACTORS }
         ensures roots { root_count self.now ≤ TASKS }
+        ensures declared { length self.now.executors ≤ EXECUTORS }
         // As many as may be declared, and one for each actor.
         ensures executors { executor_count self.now ≤ EXECUTORS + ACTORS }
         // Each invariant holds at the start.
@@ -147,6 +150,10 @@ impl Script {
         // Each root runs a method that is there, with as many arguments as it has parameters.
         ensures methods { (root : ℕ) → root < root_count self.now → root_method self.now root < method_count self.now }
         ensures args { (root : ℕ) → root < root_count self.now → length (root_args self.now root) ≡ method_params self.now (root_method self.now root) }
+        // Each call, spawn, detach and add names a method that is there, of that actor, with as many parameters.
+        ensures calls { CallsAreThere (parts_of self.now) }
+        // Each method's code names places that it has, and uses handles as what was kept there.
+        ensures handles { MethodsFit (parts_of self.now) }
         // No root waits for itself or for a later one.
         ensures waits { NoRootWaits self.now }
     {

@@ -9,7 +9,7 @@ use Rattle.script_code.specs.Value.{holds}
 use Rattle.script_compiler.specs.Compiled.{ActorView, compiled_of, plan_in, invariant_if}
 use Rattle.swift_script.specs.Scripts.{ScriptView, parts_of, no_actor, actor_count, actor_executor, actor_invariant, executor_invariants, executor_start}
 use Rattle.swift_interpreter.specs.Turn.{all_hold}
-use Rattle.swift_report.specs.Lawful.{KeepInvariants}
+use Rattle.swift_workers.specs.Leaves.{KeepInvariants}
 use Rattle.swift_tool.specs.Run.{HoldInvariants}
 use Rattle.swift_tool.proofs.InvariantsOfActors.{of_actor}
 

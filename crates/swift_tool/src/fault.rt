@@ -11,12 +11,14 @@ use swift_script::ScriptFault;
 use swift_workers::RunFault;
 use thiserror::Error;
 
-/// Why a text was not run to its end and printed (our own). Nothing was written, unless a device failed: then a front
-/// of the report may have been.
+/// Why a text was not run to its end and printed (our own). Nothing was written, unless a device failed: then a prefix
+/// of the report's text may have been.
 #[derive(Clone, Copy, Debug, PartialEq, Eq, Error)]
 pub enum ToolFault {
+    /// The script was refused.
     #[error("{0}")]
     Script(ScriptFault),
+    /// The run was refused, or there was no memory for it or for its text.
     #[error("{0}")]
     Run(RunFault),
     /// A read or a write failed, or a write took no byte.

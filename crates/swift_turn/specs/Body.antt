@@ -38,7 +38,7 @@ pub record BodyView : Type 0 where
   pub phase : PhaseView
   -- the name of what it waits at
   pub source : ℕ
-  -- a waker lies in the slot of its source: that of the last turn that was played
+  -- a waker lies in the slot of its source: there is none where the last turn that was played does not wait
   pub armed : Bool
 
 -- the continuation that a frame of a script stands for

@@ -1,6 +1,6 @@
 //! A task's frames, as a future.
 
-ghost use Rattle.std.specs.Prelude.{◌≡◌, ◌+◌, ◌<◌, ◌⊎◌, ◌↔◌, ◌∷◌, true, [], IsTrue, IfOk, OnOk, IfErr, OnErr, Some, length};
+ghost use Rattle.std.specs.Prelude.{◌≡◌, ◌+◌, ◌<◌, ◌⊎◌, ◌↔◌, ◌∷◌, true, false, [], IsTrue, IfOk, OnOk, IfErr, OnErr, Some, length};
 ghost use Rattle.std.specs.Arc.{arc_value};
 ghost use Rattle.futures.specs.Poll.{IfReady, OnPending};
 ghost use Rattle.futures.specs.Task.{Covers, Keeps};
@@ -32,7 +32,7 @@ use swift_types::{ActorId, Ending, Fault, MethodId, Resume};
 /// A task: its script, its frames, the bindings that stand in it, and the turn that is under way (SE-0304). A turn is
 /// entered with the fields of the actors of its executor, polled once, and left; then `advance` says what comes next.
 /// `enter`, `poll` and `leave` speak of the turn; `advance`, `actor`, `frame` and `put_back` speak of the frames alone,
-/// and are called between turns. It is a future whose output is the task's ending, and which is polled by hand: an
+/// and leave a turn that is under way as it is. It is a future whose output is the task's ending, and which is polled by hand: an
 /// executor makes one `Solo` of the crate `futures`, which needs a runtime once, and one context of it serves any number
 /// of turns.
 ///
@@ -199,6 +199,7 @@ impl Body {
         ensures script { IfOk result (λ b. b.script ≡ arc_value script) }
         ensures task { IfOk result (λ b. b.task ≡ record { frames = opening (arc_value script) method.0 args.items 0 0 ∷ []; outer = bindings }) }
         ensures phase { IfOk result (λ b. b.phase ≡ idle) }
+        ensures slot { IfOk result (λ b. b.armed ≡ false) }
     {
         let frame = opening_of(alloc, &script, method, args, 0, 0)?;
         let inside = Inside {

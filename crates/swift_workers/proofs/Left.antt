@@ -15,9 +15,8 @@ use Rattle.swift_events.specs.declared.life.Origin.{Origin}
 use Rattle.swift_inbox.specs.Site.{Site}
 use Rattle.swift_executor.specs.Exec.{site_of}
 use Rattle.swift_executor.specs.State.{ExecView, IsExecutor}
-use Rattle.swift_report.specs.Lawful.{KeepInvariants}
 use Rattle.swift_workers.specs.declared.leave.Parts.{Parts}
-use Rattle.swift_workers.specs.Leaves.{AreEndingsFrom, AreReplayed, IsEnding, IsReplayed}
+use Rattle.swift_workers.specs.Leaves.{AreEndingsFrom, AreReplayed, IsEnding, IsReplayed, KeepInvariants}
 use Rattle.swift_workers.specs.PartsInside.{AreParts}
 
 abbrev Rows : Type 0

@@ -1,11 +1,13 @@
 -- What a run leaves of its executors and of its tasks (SE-0392 for executors that run one job at a time, SE-0304 for tasks; the
 -- rest is our own).
-use Rattle.std.specs.Prelude.{◌≡◌, ◌↔◌, ℕ, ◌+◌, ◌<◌, ℤ, Some, List, [], ◌∷◌, length}
+use Rattle.std.specs.Prelude.{◌≡◌, ◌↔◌, ℕ, ◌+◌, ◌<◌, ℤ, IsTrue, Some, List, [], ◌∷◌, Contains, length}
 use Rattle.std.specs.declared.vec.Vec.{Vec}
 use Rattle.std.specs.declared.alloc.Global.{Global}
 use Rattle.script_code.specs.Seen.{rows_of}
+use Rattle.script_code.specs.Tree.{Term}
+use Rattle.script_code.specs.Value.{holds}
 use Rattle.swift_types.specs.declared.outcome.Ending.{Ending}
-use Rattle.swift_script.specs.Scripts.{ScriptView}
+use Rattle.swift_script.specs.Scripts.{ScriptView, executor_invariants, executor_start}
 use Rattle.swift_journal.specs.Checkpoints.{CheckpointRoom, CheckpointView}
 use Rattle.swift_journal.specs.Records.{RecordView}
 use Rattle.swift_journal.specs.Replay.{AreLawful, RunOn, replay}
@@ -30,6 +32,13 @@ AreReplayed p e [] [] [] = Unit {0}
 AreReplayed p e (c ∷ checkpoints) (journal ∷ journals) (fields ∷ others) =
     IsReplayed p e c.view journal (rows_of fields.items) × AreReplayed p (e + 1) checkpoints journals others
 AreReplayed p e _ _ _ = ⊥
+
+-- Of each executor from a number on: each invariant of its actors that holds of what their fields start with holds of
+-- these.
+abbrev pub KeepInvariants : ScriptView → ℕ → List (Vec (Vec ℤ Global) Global) → Type 0
+KeepInvariants p e [] = Unit {0}
+KeepInvariants p e (rows ∷ others) =
+    ((t : Term) → Contains (executor_invariants p e) t → IsTrue (holds (Some t) (executor_start p e)) → IsTrue (holds (Some t) (rows_of rows.items))) × KeepInvariants p (e + 1) others
 
 -- A task comes from there and has ended so, as the log says. It is a root's where its number is below that of roots.
 pub record IsEnding (roots : ℕ) (log : List Event) (task : ℕ) (e : Origin × Ending) : Type 0 where

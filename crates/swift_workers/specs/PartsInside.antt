@@ -1,9 +1,8 @@
 -- What is kept of executors on the way to a report. No public clause names it.
 use Rattle.std.specs.Prelude.{◌≡◌, ℕ, length}
 use Rattle.swift_script.specs.Scripts.{ScriptView}
-use Rattle.swift_report.specs.Lawful.{KeepInvariants}
 use Rattle.swift_workers.specs.declared.leave.Parts.{Parts}
-use Rattle.swift_workers.specs.Leaves.{AreReplayed}
+use Rattle.swift_workers.specs.Leaves.{AreReplayed, KeepInvariants}
 
 -- the journals, checkpoints and fields of the first executors, so many
 pub record AreParts (p : ScriptView) (many : ℕ) (parts : Parts) : Type 0 where

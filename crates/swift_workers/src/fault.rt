@@ -14,7 +14,7 @@ pub enum RunFault {
     /// A growth was refused, or no thread could be made.
     #[error("N2 no memory")]
     Memory,
-    /// A task has not ended, and no executor has a job that could go on with it.
+    /// A task has not ended, and no executor has a job that could go on with it; or a job was sent and not run.
     #[error("N3 unfinished jobs")]
     Unfinished,
     /// What the run has left is not a legal report of the script.

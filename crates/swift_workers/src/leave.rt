@@ -4,9 +4,8 @@ ghost use Rattle.std.specs.Prelude.{◌≡◌, ◌↔◌, ℕ, ◌+◌, None, le
 ghost use Rattle.swift_script.specs.Scripts.{ScriptView, root_count};
 ghost use Rattle.swift_events.specs.Events.{tasks_of};
 ghost use Rattle.swift_executor.specs.Exec.{site_of};
-ghost use Rattle.swift_report.specs.Lawful.{KeepInvariants};
 ghost use Rattle.swift_workers.specs.Crew.{AreAtSites};
-ghost use Rattle.swift_workers.specs.Leaves.{AreEndings, AreReplayed, IsEnding};
+ghost use Rattle.swift_workers.specs.Leaves.{AreEndings, AreReplayed, IsEnding, KeepInvariants};
 ghost use Rattle.swift_workers.specs.PartsInside.{AreParts};
 
 use crate::fault::Halt;
@@ -83,20 +82,26 @@ struct Parts {
     fields: Vec<Vec<Vec<i64>>>,
 }
 
-// The state of an executor whose jobs have all been run.
+// The state of an executor whose jobs have all been run. A job that was counted and not run, or that still lies in the inbox, is left.
 fn close<R: Wait>(rt: &R, exec: Exec) -> Result<ExecState, Halt>
     ensures { IfOk result (λ s. (site_of s ≡ exec.inbox.site) × (s.chosen ≡ None)) }
 {
     let Closed {
-        pending: _,
+        pending,
         state,
         inbox,
     } = exec.close(rt);
+    let is_left = pending > 0 || !inbox.is_empty();
     give_all_up(inbox);
-    match state {
-        Some((state, _pass)) => Ok(state),
-        None => Err(Halt::Unfinished),
+    let Some((state, _pass)) = state else {
+        return Err(Halt::Unfinished);
+    };
+    if is_left {
+        let (jobs, _journal, _fields, _checkpoint) = state.into_parts();
+        give_all_up(jobs);
+        return Err(Halt::Unfinished);
     }
+    Ok(state)
 }
 
 // Notes what a state has, as that of the next executor.

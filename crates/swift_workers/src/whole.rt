@@ -6,12 +6,11 @@ ghost use Rattle.std.specs.List.{AllByRecursion};
 ghost use Rattle.swift_types.specs.declared.limits.TheConstants.{WORKERS};
 ghost use Rattle.swift_script.specs.Scripts.{executor_count, root_count};
 ghost use Rattle.swift_tasks.specs.Books.{IsJobOf};
-ghost use Rattle.swift_report.specs.Lawful.{KeepInvariants};
 ghost use Rattle.swift_history.specs.Histories.{IsLegal};
 ghost use Rattle.swift_certificate.specs.Reports.{report_view};
 ghost use Rattle.swift_workers.specs.declared.fault.RunFault.TheVariants.{Workers};
 ghost use Rattle.swift_workers.specs.Crew.{AreAtSites, AreDesksOf, AreHandsOf};
-ghost use Rattle.swift_workers.specs.Leaves.{AreEndings, AreReplayed};
+ghost use Rattle.swift_workers.specs.Leaves.{AreEndings, AreReplayed, KeepInvariants};
 
 use crate::crew::{Crew, Hand, open_all, others_of};
 use crate::fault::{Halt, RunFault};
@@ -47,8 +46,9 @@ use swift_types::limits::WORKERS;
 /// # Errors
 ///
 /// `Workers` stands for any number of workers but 1 to 8, `Memory` for a growth that was refused or a thread that could not be
-/// made, `Unfinished` for a task that has not ended though no executor has a token, `Illegal` for a report that is not legal, and
-/// `Executor` for an executor that had no room or a turn that the book refused. Nothing of a refused run remains.
+/// made, `Unfinished` for a task that has not ended or a job that was not run though no executor has a token, `Illegal` for a
+/// report that is not legal, and `Executor` for an executor that had no room or a turn that the book refused. Nothing of a
+/// refused run remains.
 pub fn run<R, G>(rt: &R, script: Arc<Script>, workers: u32, gate: &G) -> Result<Report, RunFault>
 where
     R: RandomSource + AllocGlobal + Threads + Wait + Sync,

@@ -3,8 +3,7 @@ use Rattle.std.specs.Arc.{arc_value}
 use Rattle.swift_script.specs.Scripts.{ScriptView, executor_count, root_count}
 use Rattle.swift_history.specs.Histories.{IsLegal}
 use Rattle.swift_certificate.specs.Reports.{report_view}
-use Rattle.swift_report.specs.Lawful.{KeepInvariants}
-use Rattle.swift_workers.specs.Leaves.{AreEndings, AreReplayed}
+use Rattle.swift_workers.specs.Leaves.{AreEndings, AreReplayed, KeepInvariants}
 use Rattle.swift_report.specs.Text.{report_text}
 use Rattle.swift_tool.specs.Run.{end_well}
 use Rattle.swift_tool.proofs.Invariants.{invariants_hold}

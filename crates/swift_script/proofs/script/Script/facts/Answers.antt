@@ -1,4 +1,4 @@
-use Rattle.swift_script.proofs.Facts.{actors_are_few, roots_are_few, executors_are_few, root_method_there, root_args_fit}
+use Rattle.swift_script.proofs.Facts.{actors_are_few, calls_are_there, declared_are_few, executors_are_few, methods_fit, root_args_fit, root_method_there, roots_are_few}
 use Rattle.swift_script.proofs.Starting.{start_well}
 use Rattle.swift_script.proofs.script.Script.facts.Goals as goal
 
@@ -22,3 +22,12 @@ returns-clause-args c = λ root lt. root_args_fit c.args.self.now root c.printed
 
 pub returns-clause-waits : goal.returns-clause-waits
 returns-clause-waits c = c.printed.ensures.accepted.1.waits
+
+pub returns-clause-declared : goal.returns-clause-declared
+returns-clause-declared c = declared_are_few c.args.self.now c.printed.ensures.accepted
+
+pub returns-clause-calls : goal.returns-clause-calls
+returns-clause-calls c = calls_are_there c.args.self.now c.printed.ensures.accepted
+
+pub returns-clause-handles : goal.returns-clause-handles
+returns-clause-handles c = methods_fit c.args.self.now c.printed.ensures.accepted
