@@ -1,5 +1,5 @@
 -- What the program writes of a run.
-use Rattle.std.specs.Prelude.{◌≡◌, ◌⊎◌, ◌<◌, ◌≤◌, ℕ, ℤ, ◌+◌, Bool, true, false, IsTrue, Option, List, [], ◌∷◌, length}
+use Rattle.std.specs.Prelude.{◌≡◌, ◌⊎◌, ◌<◌, ◌≤◌, ℕ, ℤ, Bool, true, false, IsTrue, Option, List, [], ◌∷◌, length}
 use Rattle.std.specs.declared.vec.Vec.{Vec}
 use Rattle.std.specs.declared.alloc.Global.{Global}
 use Rattle.swift_types.specs.declared.limits.TheConstants.{WORKERS}
@@ -13,7 +13,7 @@ use Rattle.swift_script.specs.FaultLines.{IsAtItsLine}
 use Rattle.swift_history.specs.Histories.{IsLegal}
 use Rattle.swift_certificate.specs.Reports.{report_view}
 use Rattle.swift_output.specs.Part.{WritesPart}
-use Rattle.swift_workers.specs.Leaves.{AreEndings, AreReplayed}
+use Rattle.swift_workers.specs.Leaves.{AreEndings, AreReplayed, EachFrom}
 use Rattle.swift_workers.specs.declared.fault.RunFault.{RunFault}
 use Rattle.swift_workers.specs.declared.fault.RunFault.TheVariants.{Workers, Memory, Unfinished, Illegal, Executor}
 use Rattle.swift_tool.specs.declared.fault.ToolFault.{ToolFault}
@@ -35,8 +35,7 @@ end_well (e ∷ es) = ends_well e.1 (end_well es)
 
 -- Of each executor from a number on, each invariant of its actors holds of these fields.
 abbrev pub HoldInvariants : ScriptView → ℕ → List (Vec (Vec ℤ Global) Global) → Type 0
-HoldInvariants p e [] = Unit {0}
-HoldInvariants p e (rows ∷ others) = IsTrue (all_hold (executor_invariants p e) (rows_of rows.items)) × HoldInvariants p (e + 1) others
+HoldInvariants p e fields = EachFrom (λ k rows. IsTrue (all_hold (executor_invariants p k) (rows_of rows.items))) e fields
 
 -- A text is that of a run of the script that these bytes spell. The run's report is legal. Of each executor the journal is lawful from its checkpoint on, its
 -- turns are of the executor's actors, and the fields are what replaying them gives; each invariant holds of the fields. The log

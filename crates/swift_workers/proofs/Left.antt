@@ -1,30 +1,21 @@
 -- One executor more, and one task more, of what a run leaves.
-use Rattle.std.proofs.Common.{◌≡◌, ℕ, suc, ◌+◌, ℤ, IsTrue, Some, List, [], ◌∷◌, ◌++◌, length, sym, subst, ap, ◌∙◌, arith, add-zero, length-append}
-use Rattle.std.specs.Prelude.{Contains}
+use Rattle.std.proofs.Common.{◌≡◌, ℕ, suc, ◌+◌, ℤ, List, [], ◌∷◌, ◌++◌, length, sym, subst, ap, ◌∙◌, arith, add-zero, length-append}
 use Rattle.std.specs.declared.vec.Vec.{Vec}
 use Rattle.std.specs.declared.alloc.Global.{Global}
 use Rattle.script_code.specs.Seen.{rows_of}
-use Rattle.script_code.specs.Tree.{Term}
 use Rattle.script_code.specs.Value.{holds}
-use Rattle.swift_types.specs.declared.outcome.Ending.{Ending}
-use Rattle.swift_script.specs.Scripts.{ScriptView, executor_invariants, executor_start}
+use Rattle.swift_script.specs.Scripts.{ScriptView}
 use Rattle.swift_journal.specs.Checkpoints.{CheckpointRoom, CheckpointView}
 use Rattle.swift_journal.specs.Records.{RecordView}
-use Rattle.swift_events.specs.declared.event.Event.{Event}
-use Rattle.swift_events.specs.declared.life.Origin.{Origin}
 use Rattle.swift_inbox.specs.Site.{Site}
 use Rattle.swift_executor.specs.Exec.{site_of}
 use Rattle.swift_executor.specs.State.{ExecView, IsExecutor}
 use Rattle.swift_workers.specs.declared.leave.Parts.{Parts}
-use Rattle.swift_workers.specs.Leaves.{AreEndingsFrom, AreReplayed, IsEnding, IsReplayed, KeepInvariants}
+use Rattle.swift_workers.specs.Leaves.{AreReplayed, EachFrom, IsReplayed, KeepInvariants, Keeps}
 use Rattle.swift_workers.specs.PartsInside.{AreParts}
 
 abbrev Rows : Type 0
 Rows = Vec (Vec ℤ Global) Global
-
--- each invariant of an executor's actors that held at the start holds of these fields
-abbrev pub Keeps : ScriptView → ℕ → List (List ℤ) → Type 0
-Keeps p e rows = (t : Term) → Contains (executor_invariants p e) t → IsTrue (holds (Some t) (executor_start p e)) → IsTrue (holds (Some t) rows)
 
 next_place : (e n : ℕ) → e + suc n ≡ e + 1 + n
 next_place e n = omega arith
@@ -39,9 +30,10 @@ replayed_push p e (d ∷ cs) (k ∷ js) [] c j f are is = absurd are
 replayed_push p e (d ∷ cs) (k ∷ js) (g ∷ fs) c j f are is =
     (are.0, replayed_push p (e + 1) cs js fs c j f are.1 (subst (λ n. IsReplayed p n c.view j (rows_of f.items)) (next_place e (length cs)) is))
 
-keep_push : (p : ScriptView) (e : ℕ) (fs : List Rows) (f : Rows) → KeepInvariants p e fs → Keeps p (e + length fs) (rows_of f.items) → KeepInvariants p e (fs ++ f ∷ [])
-keep_push p e [] f are is = (subst (λ n. Keeps p n (rows_of f.items)) (add-zero e) is, tt)
-keep_push p e (g ∷ fs) f are is = (are.0, keep_push p (e + 1) fs f are.1 (subst (λ n. Keeps p n (rows_of f.items)) (next_place e (length fs)) is))
+-- one thing more, of each of which something holds
+pub each_push : {A : Type 0} (P : ℕ → A → Type 0) (n : ℕ) (xs : List A) (x : A) → EachFrom P n xs → P (n + length xs) x → EachFrom P n (xs ++ x ∷ [])
+each_push P n [] x are is = (subst (λ k. P k x) (add-zero n) is, tt)
+each_push P n (y ∷ ys) x are is = (are.0, each_push P (n + 1) ys x are.1 (subst (λ k. P k x) (next_place n (length ys)) is))
 
 zero_more : (n : ℕ) → n ≡ 0 + n
 zero_more n = omega arith
@@ -69,13 +61,8 @@ parts_push p many old new s c f are site is keeps checkpoint fields cs js fs =
     let all_js = subst (λ (x : List (List RecordView)). AreReplayed p 0 new.checkpoints.items x (old.fields.items ++ f ∷ [])) (sym js) all_cs in
     record {
       lawful = subst (λ (x : List Rows). AreReplayed p 0 new.checkpoints.items new.journals.items x) (sym fs) all_js;
-      invariants = subst (λ (x : List Rows). KeepInvariants p 0 x) (sym fs) (keep_push p 0 old.fields.items f are.invariants kept);
+      invariants = subst (λ (x : List Rows). KeepInvariants p 0 x) (sym fs) (each_push (λ k (rows : Rows). Keeps p k (rows_of rows.items)) 0 old.fields.items f are.invariants kept);
       journals = ap length js ∙ one_longer old.journals.items s.journal many are.journals;
       checkpoints = ap length cs ∙ one_longer old.checkpoints.items c many are.checkpoints;
       fields = ap length fs ∙ one_longer old.fields.items f many are.fields;
     }
-
--- one ending more
-pub endings_push : (roots : ℕ) (log : List Event) (task : ℕ) (es : List (Origin × Ending)) (e : Origin × Ending) → AreEndingsFrom roots log task es → IsEnding roots log (task + length es) e → AreEndingsFrom roots log task (es ++ e ∷ [])
-endings_push roots log task [] e are is = (subst (λ n. IsEnding roots log n e) (add-zero task) is, tt)
-endings_push roots log task (d ∷ es) e are is = (are.0, endings_push roots log (task + 1) es e are.1 (subst (λ n. IsEnding roots log n e) (next_place task (length es)) is))

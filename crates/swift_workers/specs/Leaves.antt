@@ -33,12 +33,18 @@ AreReplayed p e (c ∷ checkpoints) (journal ∷ journals) (fields ∷ others) =
     IsReplayed p e c.view journal (rows_of fields.items) × AreReplayed p (e + 1) checkpoints journals others
 AreReplayed p e _ _ _ = ⊥
 
--- Of each executor from a number on: each invariant of its actors that holds of what their fields start with holds of
--- these.
+-- Something holds of each thing in a list, with its number, the first of which is given.
+abbrev pub EachFrom : {A : Type 0} → (ℕ → A → Type 0) → ℕ → List A → Type 0
+EachFrom P n [] = Unit {0}
+EachFrom P n (x ∷ xs) = P n x × EachFrom P (n + 1) xs
+
+-- Each invariant of an executor's actors that holds of what their fields start with holds of these.
+abbrev pub Keeps : ScriptView → ℕ → List (List ℤ) → Type 0
+Keeps p e rows = (t : Term) → Contains (executor_invariants p e) t → IsTrue (holds (Some t) (executor_start p e)) → IsTrue (holds (Some t) rows)
+
+-- the same of each executor from a number on
 abbrev pub KeepInvariants : ScriptView → ℕ → List (Vec (Vec ℤ Global) Global) → Type 0
-KeepInvariants p e [] = Unit {0}
-KeepInvariants p e (rows ∷ others) =
-    ((t : Term) → Contains (executor_invariants p e) t → IsTrue (holds (Some t) (executor_start p e)) → IsTrue (holds (Some t) (rows_of rows.items))) × KeepInvariants p (e + 1) others
+KeepInvariants p e fields = EachFrom (λ k rows. Keeps p k (rows_of rows.items)) e fields
 
 -- A task comes from there and has ended so, as the log says. It is a root's where its number is below that of roots.
 pub record IsEnding (roots : ℕ) (log : List Event) (task : ℕ) (e : Origin × Ending) : Type 0 where
@@ -46,12 +52,7 @@ pub record IsEnding (roots : ℕ) (log : List Event) (task : ℕ) (e : Origin ×
   pub ending : (life_of task log).ending ≡ Some e.1
   pub root : (e.0 ≡ Root) ↔ (task < roots)
 
--- the same of each task from a number on
-abbrev pub AreEndingsFrom : ℕ → List Event → ℕ → List (Origin × Ending) → Type 0
-AreEndingsFrom roots log task [] = Unit {0}
-AreEndingsFrom roots log task (e ∷ es) = IsEnding roots log task e × AreEndingsFrom roots log (task + 1) es
-
 -- There is one ending for each task that the log made, in their order, and the first ones are those of the roots.
 pub record AreEndings (roots : ℕ) (log : List Event) (endings : List (Origin × Ending)) : Type 0 where
   pub many : length endings ≡ tasks_of roots log
-  pub each : AreEndingsFrom roots log 0 endings
+  pub each : EachFrom (IsEnding roots log) 0 endings

@@ -1,11 +1,11 @@
 use Rattle.std.proofs.Common.{◌≡◌, ◌≤◌, length}
 use Rattle.swift_script.specs.Scripts.{root_count}
-use Rattle.swift_workers.specs.Leaves.{AreEndingsFrom}
+use Rattle.swift_workers.specs.Leaves.{EachFrom, IsEnding}
 use Rattle.swift_workers.proofs.leave.endings_of.Given as goal
 
 abbrev pub invariant-loop-task : goal.invariant-loop-task
 invariant-loop-task l = record {
-  each : AreEndingsFrom (root_count l.script) l.book.log 0 l.endings.items;
+  each : EachFrom (IsEnding (root_count l.script) l.book.log) 0 l.endings.items;
   many : length l.endings.items ≡ l.task;
   bound : l.task ≤ l.tasks;
 }
