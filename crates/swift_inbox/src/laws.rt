@@ -20,39 +20,39 @@ use crate::rule::InboxRule;
 use crate::view::PassView;
 use crossbeam_queue::protocol::Protocol;
 
-/// What the queue of an inbox keeps between any two steps is the rule.
+/// What the queue of an inbox keeps between any two steps is the rule (our own).
 pub fn inbox_keeps_its_rule()
     ensures { (inside : List (JobIs BodyView)) (views : List PassView)
         → ⟦<InboxRule as Protocol<Item, PassView>>⟧.holds inside views → InboxInvariant inside views }
 {}
 
 /// The jobs that were put in, through any pass, are those that were taken out and those inside, up to order: each as
-/// often as it was put in.
+/// often as it was put in (our own).
 pub fn nothing_is_lost()
     ensures { (inside : List (JobIs BodyView)) (views : List PassView) → InboxInvariant inside views
         → IsPermutation (pushed_in views) (taken_in views ++ map job_view inside) }
 {}
 
-/// Each job inside can run at the executor that a pass knows.
+/// Each job inside can run at the executor that a pass knows (our own).
 pub fn each_inside_can_run()
     ensures { (inside : List (JobIs BodyView)) (views : List PassView) → InboxInvariant inside views
         → (pass : ℕ) (v : PassView) (site : Site) → get_elem? views pass ≡ some v → v.site ≡ Some site
         → All (CanRunAt site) inside }
 {}
 
-/// All passes of an inbox that know an executor know the same.
+/// All passes of an inbox that know an executor know the same (our own).
 pub fn one_executor()
     ensures { (inside : List (JobIs BodyView)) (views : List PassView) → InboxInvariant inside views
         → (a b : ℕ) (v w : PassView) (s t : Site) → get_elem? views a ≡ some v → get_elem? views b ≡ some w
         → v.site ≡ Some s → w.site ≡ Some t → s ≡ t }
 {}
 
-/// Threads may share an inbox.
+/// Threads may share an inbox (our own).
 pub fn threads_share_an_inbox()
     ensures { IsSync inbox.the_row }
 {}
 
-/// A pass may go to another thread, as may a job's body.
+/// A pass may go to another thread, as may a job's body (our own).
 pub fn passes_and_bodies_cross_threads()
     ensures pass { IsSend pass.the_row }
     ensures body { IsSend body.the_row }

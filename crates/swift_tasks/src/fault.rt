@@ -15,7 +15,8 @@ pub enum BookFault {
     /// A growth was refused.
     #[error("B3 no memory")]
     Memory,
-    /// A turn that is not the task's next one, or has not begun; or effects or an exit that do not fit it.
+    /// A turn that is not the task's next one, or has not begun; effects or an exit that do not fit it; or a body of
+    /// another script.
     #[error("B4 not this turn")]
     Refused,
 }
