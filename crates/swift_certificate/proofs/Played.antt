@@ -13,12 +13,12 @@ use Rattle.swift_journal.specs.Records.{RecordView}
 use Rattle.swift_journal.specs.Checkpoints.{CheckpointView, FoldedView}
 use Rattle.swift_journal.specs.Replay.{IsAfter, IsLawfulRecord, StandsFor, fields_after}
 use Rattle.swift_turn.specs.Body.{HasFirst, HasFrames, IfRunning, Polls, TurnsTo, callers_of, entered, kept_turn, left, state_at}
-use Rattle.swift_history.specs.Histories.{left_as}
+use Rattle.swift_history.specs.Histories.{IsLeft, LeavesFrame, left_as}
 use Rattle.swift_certificate.specs.declared.waiting.Ready.{Ready}
 use Rattle.swift_certificate.specs.declared.playing.Done.{Done}
 use Rattle.swift_certificate.specs.declared.playing.Place.{Place}
 use Rattle.swift_certificate.specs.declared.playing.Turns.TheVariants.{Play, Read}
-use Rattle.swift_certificate.specs.ReplayInside.{Folds, Follows, GoesOn, IsAfterFrame, IsLeft, Takes, folded_turn, turn_of}
+use Rattle.swift_certificate.specs.ReplayInside.{Folds, Follows, GoesOn, IsAfterFrame, Takes, folded_turn, turn_of}
 
 -- the frame that a turn leaves stands for what is still to do
 stands : (script : ScriptView) (g : FrameView) (rows : List (List ℤ)) (effects : List EffectView) (s : State) → state_at script g rows effects s.room ≡ s → state_at script g s.fields s.effects s.room ≡ s
@@ -185,16 +185,22 @@ reads journal old new task ready env worker p effects exit after done t runs the
       folded = folded;
     }
 
-pub folds : (checkpoint : CheckpointView) (old new : Place) (task : TaskId) (ready : Ready) (effects : List EffectView) (exit : ExitView) (after : Option FrameView) (done : Done)
-    → Takes ready effects exit after done
+-- a turn of the checkpoint, of the frame that runs
+pub folds : (checkpoint : CheckpointView) (old new : Place) (task : TaskId) (ready : Ready) (p : FrameView) (effects : List EffectView) (exit : ExitView) (after : Option FrameView) (done : Done)
+    → Takes ready effects exit after done → IfRunning ready.body.task.frames (λ q. q ≡ p) → LeavesFrame p effects exit after
     → slice_get checkpoint.folded old.folded ≡ Some (folded_turn task ready effects exit after)
     → rows_of new.fields.items ≡ rows_of old.fields.items → new.played ≡ old.played → new.folded ≡ old.folded + 1 → Folds checkpoint old new task ready done
-folds checkpoint old new task ready effects exit after done t there fields played folded = record {
+folds checkpoint old new task ready p effects exit after done t runs leaves there fields played folded = record {
   frame = t.frame;
   after = after;
   there = there ∙ ap (λ (es : List EffectView). Some (folded_turn task ready es exit after)) (sym t.effects_are)
       ∙ ap (λ (e : ExitView). Some (folded_turn task ready (effect_views done.effects.items) e after)) (sym t.exit_is);
   goes_on = goes_on_as ready effects exit after done t;
+  leaves =
+      let top : t.frame ≡ p = subst (λ (fs : List FrameView). IfRunning fs (λ q. q ≡ p)) t.goes_on.was runs in
+      let of_frame : LeavesFrame t.frame effects exit after = subst (λ (q : FrameView). LeavesFrame q effects exit after) (sym top) leaves in
+      let of_effects : LeavesFrame t.frame (effect_views done.effects.items) exit after = subst (λ (es : List EffectView). LeavesFrame t.frame es exit after) (sym t.effects_are) of_frame in
+      subst (λ (e : ExitView). LeavesFrame t.frame (effect_views done.effects.items) e after) (sym t.exit_is) of_effects;
   fields = fields;
   played = played;
   folded = folded;

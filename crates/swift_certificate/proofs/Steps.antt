@@ -264,7 +264,7 @@ followed_folded script report x m y k t g env row row' done is between none begu
     let own = place_folded x.turns script report bs k row row' turn place folds.there folds.fields folds.played folds.folded in
     let before = place.played ∙ ap (λ n. take n (journal_at report.journals k)) none in
     replay_more script report x m y t g k row row' done f (folded k turn) _ is between a refl
-    (stand_push script report.checkpoints bs (folded k turn) f.stand (record { job = given_view t.0 g; env = env; frame = folds.frame; stands = taken.stands }, before))
+    (stand_push script report.checkpoints bs (folded k turn) f.stand (record { job = given_view t.0 g; env = env; frame = folds.frame; stands = taken.stands; leaves = folds.leaves }, before))
     refl taken.log_is taken.held_is taken.given
     (places_set (IsPlace x.turns script report bs) (IsPlace x.turns script report (bs ++ folded k turn ∷ [])) x.rows.items k row row' between.at own (others_folded x.turns script report bs k turn) f.places)
 

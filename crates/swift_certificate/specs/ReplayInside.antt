@@ -13,7 +13,7 @@ use Rattle.swift_events.specs.declared.event.Event.{Event}
 use Rattle.swift_journal.specs.Checkpoints.{CheckpointRoom, CheckpointView, FoldedView}
 use Rattle.swift_journal.specs.Records.{RecordView}
 use Rattle.swift_journal.specs.Replay.{IsLawfulRecord, fields_after}
-use Rattle.swift_history.specs.Histories.{AllStand, Block, ReportView, after_blocks, at_first, checkpoint_at, fields_of, folded_of, left_as, records_of, roots_of, with_jobs}
+use Rattle.swift_history.specs.Histories.{AllStand, Block, LeavesFrame, ReportView, after_blocks, at_first, checkpoint_at, fields_of, folded_of, left_as, records_of, roots_of, with_jobs}
 use Rattle.swift_history.specs.TurnEnds.{HeldView, JobView}
 use Rattle.swift_tasks.specs.Books.{IsEndOf}
 use Rattle.swift_tasks.specs.Refusals.{refusal_of_apply}
@@ -55,12 +55,6 @@ AreGiven seen tasks = (t : ℕ) (g : Ready) → given_at tasks t ≡ Some g → 
 -- the body of each is of the script
 abbrev pub AreOf : ScriptView → List (Option Ready) → Type 0
 AreOf script tasks = (t : ℕ) (g : Ready) → given_at tasks t ≡ Some g → g.body.script ≡ script
-
--- such an exit leaves its frame
-abbrev pub IsLeft : ExitView → Type 0
-IsLeft (returning v) = Unit {0}
-IsLeft (failing f) = Unit {0}
-IsLeft _ = ⊥
 
 -- the frame after a turn: none where it was left, else the one that runs
 abbrev pub IsAfterFrame : List FrameView → ExitView → Option FrameView → Type 0
@@ -122,6 +116,7 @@ pub record Folds (checkpoint : CheckpointView) (old new : Place) (task : TaskId)
   pub after : Option FrameView
   pub there : slice_get checkpoint.folded old.folded ≡ Some (folded_turn task ready (effect_views done.effects.items) (exit_view done.exit) after)
   pub goes_on : GoesOn ready done.ready frame (effect_views done.effects.items) after
+  pub leaves : LeavesFrame frame (effect_views done.effects.items) (exit_view done.exit) after
   pub fields : rows_of new.fields.items ≡ rows_of old.fields.items
   pub played : new.played ≡ old.played
   pub folded : new.folded ≡ old.folded + 1

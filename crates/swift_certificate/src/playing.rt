@@ -1,14 +1,14 @@
 //! One turn, played again or taken from a journal or a checkpoint.
 
-ghost use Rattle.std.specs.Prelude.{◌≡◌, ◌<◌, ◌↔◌, ◌+◌, IfOk, IfSome, IsTrue, None, ◌∷◌};
+ghost use Rattle.std.specs.Prelude.{◌≡◌, ◌<◌, ◌↔◌, ◌+◌, count_by, IfOk, IfSome, IsTrue, None, ◌∷◌};
 ghost use Rattle.swift_interpreter.specs.Frames.{effect_view, effect_views, frame_view};
 ghost use Rattle.swift_interpreter.specs.TurnStates.{exit_view};
 ghost use Rattle.swift_journal.specs.Records.{frame_if, frame_if_lent};
-ghost use Rattle.swift_history.specs.Histories.{left_as, makes_own, opens_group};
+ghost use Rattle.swift_history.specs.Histories.{IsLeft, LeavesFrame, left_as, makes_own, opens_group};
 ghost use Rattle.swift_script.specs.Scripts.{method_count};
 ghost use Rattle.swift_turn.specs.Body.{HasFirst, IsRunning, callers_of};
 ghost use Rattle.swift_certificate.specs.declared.playing.Turns.TheVariants.{Play, Read};
-ghost use Rattle.swift_certificate.specs.ReplayInside.{Folds, Follows, IsAfterFrame, IsLeft, Takes};
+ghost use Rattle.swift_certificate.specs.ReplayInside.{Folds, Follows, IsAfterFrame, Takes};
 
 use crate::waiting::Ready;
 use script_code::Env;
@@ -58,19 +58,41 @@ fn opens_group(effect: &Effect) -> bool
     matches!(effect, Effect::Open)
 }
 
+// A task's counts in a frame: how many tasks it has spawned or detached, and how many groups it has opened.
+#[derive(Clone, Copy)]
+struct Counts {
+    made: u64,
+    opened: u64,
+}
+
+// The task's counts in a frame after these effects. Nothing where one would not fit.
+fn counts_after(frame: &Frame, effects: &[Effect]) -> Option<Counts>
+    ensures made { IfSome result (λ c. c.made ≡ frame.now.made + count_by makes_own (effect_views effects.now)) }
+    ensures opened { IfSome result (λ c. c.opened ≡ frame.now.opened + count_by opens_group (effect_views effects.now)) }
+{
+    let mut counts = Counts {
+        made: frame.made,
+        opened: frame.opened,
+    };
+    for effect in effects {
+        if makes_own(effect) {
+            counts.made = counts.made.checked_add(1)?;
+        }
+        if opens_group(effect) {
+            counts.opened = counts.opened.checked_add(1)?;
+        }
+    }
+    Some(counts)
+}
+
 // The frame with its task's counts after these effects. Nothing where a count would not fit.
 fn counted(mut frame: Frame, effects: &[Effect]) -> Option<Frame>
     ensures counts { IfSome result (λ after. frame_view after ≡ left_as (frame_view frame) (effect_views effects.now) None) }
     ensures method { IfSome result (λ after. after.method ≡ frame.method) }
 {
-    for effect in effects {
-        if makes_own(effect) {
-            frame.made = frame.made.checked_add(1)?;
-        }
-        if opens_group(effect) {
-            frame.opened = frame.opened.checked_add(1)?;
-        }
-    }
+    let counts = counts_after(&frame, effects)?;
+    frame.made = counts.made;
+    frame.opened = counts.opened;
     Some(frame)
 }
 
@@ -275,8 +297,21 @@ pub fn next(
     }
 }
 
+// Whether a turn of a frame, with these effects and this exit, can have left this frame.
+fn can_leave(frame: &Frame, effects: &[Effect], exit: &Exit, after: Option<&Frame>) -> bool
+    ensures { IsTrue result → LeavesFrame (frame_view frame.now) (effect_views effects.now) (exit_view exit.now) (frame_if_lent after) }
+{
+    let Some(after) = after else {
+        return is_left(exit);
+    };
+    match counts_after(frame, effects) {
+        Some(counts) => !is_left(exit) && after.made == counts.made && after.opened == counts.opened,
+        None => false,
+    }
+}
+
 /// Takes the next turn of an executor's checkpoint. It is not played again. Nothing where the checkpoint has a turn of another
-/// task or number there, or none.
+/// task or number there, one that cannot have left the frame that stands there, or none.
 pub fn fold(
     alloc: Global,
     row: &mut Place,
@@ -298,6 +333,9 @@ pub fn fold(
         after,
     } = checkpoint.read(alloc, row.folded)?;
     if of != task || number != ready.number {
+        return Ok(None);
+    }
+    if !can_leave(ready.body.top(), &effects, &exit, after.as_ref()) {
         return Ok(None);
     }
     row.folded += 1;

@@ -8,7 +8,7 @@ use Rattle.swift_types.specs.declared.outcome.Ending.{Ending}
 use Rattle.script_code.specs.declared.env.Env.{Env}
 use Rattle.swift_script.specs.Scripts.{ScriptView, root_count, executor_count, executor_start, actor_executor, method_actor}
 use Rattle.swift_interpreter.specs.Frames.{FrameView}
-use Rattle.swift_interpreter.specs.Turn.{EffectView, spawning, detaching, opening, ExitView}
+use Rattle.swift_interpreter.specs.Turn.{EffectView, spawning, detaching, opening, ExitView, returning, failing}
 use Rattle.swift_turn.specs.Body.{advanced}
 use Rattle.swift_journal.specs.Records.{RecordView}
 use Rattle.swift_journal.specs.Checkpoints.{FoldedView, CheckpointView}
@@ -68,6 +68,19 @@ opens_group _ = false
 abbrev pub left_as : FrameView → List EffectView → Option FrameView → FrameView
 left_as p effects (Some after) = after
 left_as p effects None = record p { made = p.made + count_by makes_own effects; opened = p.opened + count_by opens_group effects }
+
+-- such an exit leaves the frame for good
+abbrev pub IsLeft : ExitView → Type 0
+IsLeft (returning v) = Unit {0}
+IsLeft (failing f) = Unit {0}
+IsLeft _ = ⊥
+
+-- Which frame a turn of a frame can leave: none where its exit leaves the frame for good, and else one with the task's counts after
+-- the effects.
+abbrev pub LeavesFrame : FrameView → List EffectView → ExitView → Option FrameView → Type 0
+LeavesFrame p effects exit None = IsLeft exit
+LeavesFrame p effects exit (Some after) =
+    (IsLeft exit → ⊥) × (after.made ≡ p.made + count_by makes_own effects) × (after.opened ≡ p.opened + count_by opens_group effects)
 
 -- the priority of a task in the turn that it has begun
 abbrev pub begun_priority : Option Stage → Priority
@@ -141,12 +154,13 @@ pub record RecordStands (script : ScriptView) (s : Standing) (fields : List (Lis
   pub outer : r.outer ≡ job.frames.outer
   pub lawful : IsLawfulRecord script fields r
 
--- A folded turn: it is not run again.
+-- A folded turn: it is not run again. The frame that it leaves is one that its exit and its effects can leave.
 pub record FoldedStands (script : ScriptView) (s : Standing) (executor : ℕ) (f : FoldedView) : Type 0 where
   pub job : JobView
   pub env : Env
   pub frame : FrameView
   pub stands : TurnStands script s executor f.task f.number f.effects f.exit job env frame
+  pub leaves : LeavesFrame frame f.effects f.exit f.after
 
 -- the checkpoint of an executor
 abbrev pub no_checkpoint : CheckpointView

@@ -3,7 +3,6 @@ use Rattle.std.proofs.Common.{◌≡◌, ℕ, suc, ◌+◌, ℤ, List, [], ◌�
 use Rattle.std.specs.declared.vec.Vec.{Vec}
 use Rattle.std.specs.declared.alloc.Global.{Global}
 use Rattle.script_code.specs.Seen.{rows_of}
-use Rattle.script_code.specs.Value.{holds}
 use Rattle.swift_script.specs.Scripts.{ScriptView}
 use Rattle.swift_journal.specs.Checkpoints.{CheckpointRoom, CheckpointView}
 use Rattle.swift_journal.specs.Records.{RecordView}
