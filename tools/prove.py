@@ -4,8 +4,8 @@
     tools/prove.py NAME..        these crates, and all below them
     tools/prove.py               every crate
 
-Each crate is proved on all cores: rt holds the crates below the one that it proves, so two at once would wait for each
-other. What the prover writes goes to out/prove/NAME.log. When a check fails, its last lines are shown, and the rest of
+Each crate is proved on at most 4 cores: rt holds the crates below the one that it proves, so two at once would wait for
+each other. What the prover writes goes to out/prove/NAME.log. When a check fails, its last lines are shown, and the rest of
 the crates that do not stand on it are still tried. Status 0 where every crate is proved.
 """
 import argparse
