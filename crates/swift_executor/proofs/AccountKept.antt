@@ -1,6 +1,6 @@
 -- What each call keeps of the account of an executor.
 use Rattle.std.proofs.Common.{◌≡◌, ℕ, suc, ◌==◌, ℤ, Bool, true, false, if◌then◌else◌, Option, Some, None, List, [], ◌∷◌, ◌++◌, length, map, refl, ap, sym, subst, ◌∙◌, inl, inr, append_assoc}
-use Rattle.std.proofs.lemmas.List.{map-append}
+use Rattle.std.proofs.lemmas.List.{append-nil, map-append}
 use Rattle.std.proofs.lemmas.List.Sorted.{IsPermutation-append, IsPermutation-append_comm, IsPermutation-append_left, IsPermutation-append_right, IsPermutation-cons, IsPermutation-map, IsPermutation-middle, IsPermutation-refl, IsPermutation-sym, IsPermutation-to_front, IsPermutation-trans}
 use Rattle.std.specs.List.Sorted.{IsPermutation}
 use Rattle.swift_types.specs.declared.id.TaskId.{TaskId}
@@ -12,7 +12,7 @@ use Rattle.swift_journal.specs.Records.{RecordView}
 use Rattle.swift_events.specs.declared.event.Event.{Event}
 use Rattle.swift_history.specs.TurnEnds.{JobView}
 use Rattle.swift_tasks.specs.Books.{BookView, job_view}
-use Rattle.swift_executor.specs.Account.{HasTaken, accounted, chosen_entries, folded_entry, job_entry, journal_entries, noted, ready_entries, record_entry, taken_entry}
+use Rattle.swift_executor.specs.Account.{AreTaken, HasTaken, Seen, chosen_jobs, folded_named, job_named, job_seen, ready_jobs, record_seen}
 use Rattle.swift_executor.specs.Ready.{Adds, Forwards, ReadyIs, ReadyJob, ready_job}
 use Rattle.swift_executor.specs.State.{Begins, Chooses, ChosenView, ExecView, HasChosen, HasNone, Journals, LacksTask, Plays, PutsBack, StageView, picked, begun, played, before_turn, checkpoint_with, journal_with, record_by}
 
@@ -53,143 +53,200 @@ module _ {X : Type 0} where
       IsPermutation-trans (e ∷ (xs ++ ys)) ((xs ++ e ∷ []) ++ ys) (ys ++ (xs ++ e ∷ [])) (at_end xs ys e) (IsPermutation-append_comm (xs ++ e ∷ []) ys)
 
 -- a job in front
-abbrev front_entry : ReadyJob BodyView → ℕ × ℕ
-front_entry x = job_entry x.job
+abbrev front_job : ReadyJob BodyView → JobView
+front_job x = job_view x.job
 
 -- one job more in front
-front_more : (r new : ReadyIs BodyView) (x : ReadyJob BodyView) → IsPermutation (x ∷ r.front) new.front → new.behind ≡ r.behind → IsPermutation (front_entry x ∷ ready_entries r) (ready_entries new)
+front_more : (r new : ReadyIs BodyView) (x : ReadyJob BodyView) → IsPermutation (x ∷ r.front) new.front → new.behind ≡ r.behind → IsPermutation (front_job x ∷ ready_jobs r) (ready_jobs new)
 front_more r new x perm same =
-    subst (λ (js : List (JobIs BodyView)). IsPermutation (front_entry x ∷ ready_entries r) (map front_entry new.front ++ map job_entry js)) (sym same)
-    (IsPermutation-append_left (map job_entry r.behind) (map front_entry (x ∷ r.front)) (map front_entry new.front) (IsPermutation-map front_entry (x ∷ r.front) new.front perm))
+    subst (λ (js : List (JobIs BodyView)). IsPermutation (front_job x ∷ ready_jobs r) (map front_job new.front ++ map job_view js)) (sym same)
+    (IsPermutation-append_left (map job_view r.behind) (map front_job (x ∷ r.front)) (map front_job new.front) (IsPermutation-map front_job (x ∷ r.front) new.front perm))
 
 -- one job less in front
-front_less : (r new : ReadyIs BodyView) (x : ReadyJob BodyView) → IsPermutation r.front (x ∷ new.front) → new.behind ≡ r.behind → IsPermutation (ready_entries r) (front_entry x ∷ ready_entries new)
+front_less : (r new : ReadyIs BodyView) (x : ReadyJob BodyView) → IsPermutation r.front (x ∷ new.front) → new.behind ≡ r.behind → IsPermutation (ready_jobs r) (front_job x ∷ ready_jobs new)
 front_less r new x perm same =
-    subst (λ (js : List (JobIs BodyView)). IsPermutation (ready_entries r) (front_entry x ∷ (map front_entry new.front ++ map job_entry js))) (sym same)
-    (IsPermutation-append_left (map job_entry r.behind) (map front_entry r.front) (map front_entry (x ∷ new.front)) (IsPermutation-map front_entry r.front (x ∷ new.front) perm))
+    subst (λ (js : List (JobIs BodyView)). IsPermutation (ready_jobs r) (front_job x ∷ (map front_job new.front ++ map job_view js))) (sym same)
+    (IsPermutation-append_left (map job_view r.behind) (map front_job r.front) (map front_job (x ∷ new.front)) (IsPermutation-map front_job r.front (x ∷ new.front) perm))
 
 -- those in front in another order
-front_moved : (r new : ReadyIs BodyView) → IsPermutation r.front new.front → new.behind ≡ r.behind → IsPermutation (ready_entries r) (ready_entries new)
+front_moved : (r new : ReadyIs BodyView) → IsPermutation r.front new.front → new.behind ≡ r.behind → IsPermutation (ready_jobs r) (ready_jobs new)
 front_moved r new perm same =
-    subst (λ (js : List (JobIs BodyView)). IsPermutation (ready_entries r) (map front_entry new.front ++ map job_entry js)) (sym same)
-    (IsPermutation-append_left (map job_entry r.behind) (map front_entry r.front) (map front_entry new.front) (IsPermutation-map front_entry r.front new.front perm))
+    subst (λ (js : List (JobIs BodyView)). IsPermutation (ready_jobs r) (map front_job new.front ++ map job_view js)) (sym same)
+    (IsPermutation-append_left (map job_view r.behind) (map front_job r.front) (map front_job new.front) (IsPermutation-map front_job r.front new.front perm))
 
 -- a job that is added
-added : (r : ReadyIs BodyView) (job : JobIs BodyView) (new : ReadyIs BodyView) → Adds r job new → IsPermutation (job_entry job ∷ ready_entries r) (ready_entries new)
+added : (r : ReadyIs BodyView) (job : JobIs BodyView) (new : ReadyIs BodyView) → Adds r job new → IsPermutation (job_view job ∷ ready_jobs r) (ready_jobs new)
 added r job new (inl h) = front_more r new (ready_job job r.arrived) h.1 (ap (λ (x : ReadyIs BodyView). x.behind) h.2)
 added r job new (inr h) =
-    let at : ready_entries new ≡ map front_entry r.front ++ (map job_entry r.behind ++ job_entry job ∷ []) =
-    ap (λ (x : ReadyIs BodyView). ready_entries x) h.1 ∙ ap (λ es. map front_entry r.front ++ es) (map-append job_entry r.behind (job ∷ [])) in
-    subst (IsPermutation (job_entry job ∷ ready_entries r)) (sym at) (at_last (map front_entry r.front) (map job_entry r.behind) (job_entry job))
+    let at : ready_jobs new ≡ map front_job r.front ++ (map job_view r.behind ++ job_view job ∷ []) =
+    ap (λ (x : ReadyIs BodyView). ready_jobs x) h.1 ∙ ap (λ es. map front_job r.front ++ es) (map-append job_view r.behind (job ∷ [])) in
+    subst (IsPermutation (job_view job ∷ ready_jobs r)) (sym at) (at_last (map front_job r.front) (map job_view r.behind) (job_view job))
 
 -- a job from behind may come to the front
-forwarded : (r : ReadyIs BodyView) (task : TaskId) (new : ReadyIs BodyView) → Forwards r task new → IsPermutation (ready_entries r) (ready_entries new)
-forwarded r task new (inl h) = subst (λ (x : ReadyIs BodyView). IsPermutation (ready_entries r) (ready_entries x)) (sym h.1) (IsPermutation-refl (ready_entries r))
+forwarded : (r : ReadyIs BodyView) (task : TaskId) (new : ReadyIs BodyView) → Forwards r task new → IsPermutation (ready_jobs r) (ready_jobs new)
+forwarded r task new (inl h) = subst (λ (x : ReadyIs BodyView). IsPermutation (ready_jobs r) (ready_jobs x)) (sym h.1) (IsPermutation-refl (ready_jobs r))
 forwarded r task new (inr h) =
     let before = h.0 in
     let after = h.1 in
     let job = h.2 in
     let x = ready_job job r.arrived in
-    let front = map front_entry r.front in
-    let behind = map job_entry (before ++ after) in
-    let here : IsPermutation (map job_entry r.behind) (job_entry job ∷ behind) =
-    subst (λ (js : List (JobIs BodyView)). IsPermutation (map job_entry js) (job_entry job ∷ behind)) (sym h.3)
-    (IsPermutation-map job_entry (before ++ job ∷ after) (job ∷ (before ++ after)) (IsPermutation-middle before job after)) in
-    let out : IsPermutation (ready_entries r) (front ++ job_entry job ∷ behind) = IsPermutation-append_right front (map job_entry r.behind) (job_entry job ∷ behind) here in
-    let there : IsPermutation (job_entry job ∷ front) (map front_entry new.front) = IsPermutation-map front_entry (x ∷ r.front) new.front h.6 in
-    subst (λ (js : List (JobIs BodyView)). IsPermutation (ready_entries r) (map front_entry new.front ++ map job_entry js)) (sym (ap (λ (y : ReadyIs BodyView). y.behind) h.7))
-    (one_back (ready_entries r) front (map front_entry new.front) behind (job_entry job) out there)
+    let front = map front_job r.front in
+    let behind = map job_view (before ++ after) in
+    let here : IsPermutation (map job_view r.behind) (job_view job ∷ behind) =
+    subst (λ (js : List (JobIs BodyView)). IsPermutation (map job_view js) (job_view job ∷ behind)) (sym h.3)
+    (IsPermutation-map job_view (before ++ job ∷ after) (job ∷ (before ++ after)) (IsPermutation-middle before job after)) in
+    let out : IsPermutation (ready_jobs r) (front ++ job_view job ∷ behind) = IsPermutation-append_right front (map job_view r.behind) (job_view job ∷ behind) here in
+    let there : IsPermutation (job_view job ∷ front) (map front_job new.front) = IsPermutation-map front_job (x ∷ r.front) new.front h.6 in
+    subst (λ (js : List (JobIs BodyView)). IsPermutation (ready_jobs r) (map front_job new.front ++ map job_view js)) (sym (ap (λ (y : ReadyIs BodyView). y.behind) h.7))
+    (one_back (ready_jobs r) front (map front_job new.front) behind (job_view job) out there)
 
--- records that are folded are the same jobs
-folded_same : (rs : List RecordView) → map folded_entry (map folded_of rs) ≡ map record_entry rs
-folded_same [] = refl
-folded_same (r ∷ rs) = ap (λ es. record_entry r ∷ es) (folded_same rs)
+-- what is seen of a record, once that is folded
+seen_named : Seen → ℕ × ℕ
+seen_named s = (s.task, s.number)
 
--- a journal that gains a record, and may then be folded
-journalled : (journal : List RecordView) (c : CheckpointView) (r : RecordView) (rows : List (List ℤ)) (b : Bool)
-    → IsPermutation (record_entry r ∷ journal_entries journal c) (journal_entries (if b then [] else (journal ++ r ∷ [])) (if b then folds c (journal ++ r ∷ []) rows else c))
-journalled journal c r rows true =
-    let at : map folded_entry (c.folded ++ map folded_of (journal ++ r ∷ [])) ≡ map folded_entry c.folded ++ (map record_entry journal ++ record_entry r ∷ []) =
-    map-append folded_entry c.folded (map folded_of (journal ++ r ∷ []))
-    ∙ ap (λ es. map folded_entry c.folded ++ es) (folded_same (journal ++ r ∷ []) ∙ map-append record_entry journal (r ∷ [])) in
-    subst (IsPermutation (record_entry r ∷ journal_entries journal c)) (sym at) (at_turn (map record_entry journal) (map folded_entry c.folded) (record_entry r))
-journalled journal c r rows false =
-    subst (λ es. IsPermutation (record_entry r ∷ journal_entries journal c) (es ++ map folded_entry c.folded)) (sym (map-append record_entry journal (r ∷ [])))
-    (at_end (map record_entry journal) (map folded_entry c.folded) (record_entry r))
+jobs_named : (js : List JobView) → map seen_named (map job_seen js) ≡ map job_named js
+unfolding seen_named
+jobs_named [] = refl
+jobs_named (j ∷ js) = ap (λ es. job_named j ∷ es) (jobs_named js)
 
--- what is accounted for where this is the chosen job
-abbrev with_chosen : ExecView → Option ChosenView → List (ℕ × ℕ)
-with_chosen s o = ready_entries s.ready ++ (chosen_entries o ++ journal_entries s.journal s.checkpoint)
+records_named : (rs : List RecordView) → map seen_named (map record_seen rs) ≡ map folded_named (map folded_of rs)
+unfolding seen_named
+records_named [] = refl
+records_named (r ∷ rs) = ap (λ es. (r.task, r.number) ∷ es) (records_named rs)
 
-taken_with : (taken : List JobView) (s : ExecView) (o : Option ChosenView) → HasTaken taken s → s.chosen ≡ o → IsPermutation (noted taken) (with_chosen s o)
-taken_with taken s o was is = subst (λ (p : Option ChosenView). IsPermutation (noted taken) (with_chosen s p)) is was
+-- jobs of records are known by task and number once these are folded
+fold_named : (js : List JobView) (rs : List RecordView) → map job_seen js ≡ map record_seen rs → map job_named js ≡ map folded_named (map folded_of rs)
+fold_named js rs same = sym (jobs_named js) ∙ ap (map seen_named) same ∙ records_named rs
 
--- a job is the same whether its turn was played or not
-entry_before : (stage : StageView) (j : JobIs BodyView) → taken_entry (before_turn stage j) ≡ job_entry j
-entry_before picked j = refl
-entry_before (begun worker env) j = refl
-entry_before (played worker env frame fields effects exit) j = refl
+-- What is said of jobs that were taken, by those that are not run yet.
+module _ (taken unrun unrun' : List JobView) (journal : List RecordView) (c : CheckpointView) (was : AreTaken taken unrun journal c) where
+  -- these in another order
+  moved : IsPermutation unrun unrun' → AreTaken taken unrun' journal c
+  moved perm = record {
+    journalled = was.journalled;
+    folded = was.folded;
+    all = both taken unrun unrun' (was.journalled ++ was.folded) (was.journalled ++ was.folded) was.all perm (IsPermutation-refl (was.journalled ++ was.folded));
+    records = was.records;
+    past = was.past;
+  }
+
+  -- one more was taken, and is one of these
+  took_one : (j : JobView) → IsPermutation (j ∷ unrun) unrun' → AreTaken (taken ++ j ∷ []) unrun' journal c
+  took_one j more = record {
+    journalled = was.journalled;
+    folded = was.folded;
+    all = one_more taken unrun unrun' (was.journalled ++ was.folded) j was.all more;
+    records = was.records;
+    past = was.past;
+  }
+
+  -- one of these is journalled, and the journal may then be folded
+  journals : (j : JobView) (r : RecordView) (rows : List (List ℤ)) (b : Bool) → IsPermutation unrun (j ∷ unrun') → job_seen j ≡ record_seen r
+      → AreTaken taken unrun' (if b then [] else (journal ++ r ∷ [])) (if b then folds c (journal ++ r ∷ []) rows else c)
+  journals j r rows b out same =
+      let rest = was.journalled ++ was.folded in
+      let less : IsPermutation taken (unrun' ++ j ∷ rest) = one_out taken unrun unrun' rest j was.all out in
+      let records : map job_seen (was.journalled ++ j ∷ []) ≡ map record_seen (journal ++ r ∷ []) =
+      map-append job_seen was.journalled (j ∷ [])
+      ∙ ap (λ es. es ++ job_seen j ∷ []) was.records
+      ∙ ap (λ e. map record_seen journal ++ e ∷ []) same
+      ∙ sym (map-append record_seen journal (r ∷ [])) in
+      by b less records
+    where
+      by : (b : Bool) → IsPermutation taken (unrun' ++ j ∷ (was.journalled ++ was.folded)) → map job_seen (was.journalled ++ j ∷ []) ≡ map record_seen (journal ++ r ∷ [])
+          → AreTaken taken unrun' (if b then [] else (journal ++ r ∷ [])) (if b then folds c (journal ++ r ∷ []) rows else c)
+      by true less records = record {
+        journalled = [];
+        folded = was.folded ++ (was.journalled ++ j ∷ []);
+        all = IsPermutation-trans taken (unrun' ++ j ∷ (was.journalled ++ was.folded)) (unrun' ++ (was.folded ++ (was.journalled ++ j ∷ []))) less
+            (IsPermutation-append_right unrun' (j ∷ (was.journalled ++ was.folded)) (was.folded ++ (was.journalled ++ j ∷ [])) (at_turn was.journalled was.folded j));
+        records = refl;
+        past = map-append job_named was.folded (was.journalled ++ j ∷ [])
+            ∙ ap (λ es. es ++ map job_named (was.journalled ++ j ∷ [])) was.past
+            ∙ ap (λ es. map folded_named c.folded ++ es) (fold_named (was.journalled ++ j ∷ []) (journal ++ r ∷ []) records)
+            ∙ sym (map-append folded_named c.folded (map folded_of (journal ++ r ∷ [])));
+      }
+      by false less records = record {
+        journalled = was.journalled ++ j ∷ [];
+        folded = was.folded;
+        all = IsPermutation-trans taken (unrun' ++ j ∷ (was.journalled ++ was.folded)) (unrun' ++ ((was.journalled ++ j ∷ []) ++ was.folded)) less
+            (IsPermutation-append_right unrun' (j ∷ (was.journalled ++ was.folded)) ((was.journalled ++ j ∷ []) ++ was.folded) (at_end was.journalled was.folded j));
+        records = records;
+        past = was.past;
+      }
+
+-- the jobs that are not run yet, where this is the chosen one
+abbrev unrun_jobs : ReadyIs BodyView → Option ChosenView → List JobView
+unrun_jobs r o = ready_jobs r ++ chosen_jobs o
+
+taken_with : (taken : List JobView) (s : ExecView) (o : Option ChosenView) → HasTaken taken s → s.chosen ≡ o → AreTaken taken (unrun_jobs s.ready o) s.journal s.checkpoint
+taken_with taken s o was is = subst (λ (p : Option ChosenView). AreTaken taken (unrun_jobs s.ready p) s.journal s.checkpoint) is was
 
 pub accepted : (taken : List JobView) (job : JobIs BodyView) (old new : ExecView) → HasTaken taken old → Adds old.ready job new.ready → new ≡ record old { ready = new.ready } → HasTaken (taken ++ job_view job ∷ []) new
 accepted taken job old new was adds same =
-    let rest = chosen_entries old.chosen ++ journal_entries old.journal old.checkpoint in
-    let is = one_more (noted taken) (ready_entries old.ready) (ready_entries new.ready) rest (job_entry job) was (added old.ready job new.ready adds) in
-    subst (IsPermutation (noted (taken ++ job_view job ∷ []))) (sym (ap accounted same))
-    (subst (λ es. IsPermutation es (ready_entries new.ready ++ rest)) (sym (map-append taken_entry taken (job_view job ∷ []))) is)
+    subst (HasTaken (taken ++ job_view job ∷ [])) (sym same)
+    (took_one taken (unrun_jobs old.ready old.chosen) (unrun_jobs new.ready old.chosen) old.journal old.checkpoint was (job_view job)
+    (IsPermutation-append_left (chosen_jobs old.chosen) (job_view job ∷ ready_jobs old.ready) (ready_jobs new.ready) (added old.ready job new.ready adds)))
 
 pub chose : (taken : List JobView) (log : List Event) (task : TaskId) (old new : ExecView) → HasTaken taken old → old.chosen ≡ None → Chooses log old new task → HasTaken taken new
 chose taken log task old new was free h =
     let ready = record old.ready { front = new.ready.front; levels = new.ready.levels } in
+    let j = job_view h.job in
     let less = front_less old.ready ready (ready_job h.job h.arrival) h.rest refl in
-    subst (IsPermutation (noted taken)) (sym (ap accounted h.same))
-    (one_out (noted taken) (ready_entries old.ready) (ready_entries ready) (journal_entries old.journal old.checkpoint) (job_entry h.job) (taken_with taken old None was free) less)
+    subst (HasTaken taken) (sym h.same)
+    (moved taken (ready_jobs old.ready ++ []) (ready_jobs ready ++ j ∷ []) old.journal old.checkpoint (taken_with taken old None was free)
+    (one_out (ready_jobs old.ready ++ []) (ready_jobs old.ready) (ready_jobs ready) [] j (IsPermutation-refl (ready_jobs old.ready ++ [])) less))
 
 pub lacked : (taken : List JobView) (log : List Event) (old new : ExecView) → HasTaken taken old → LacksTask log old new → HasTaken taken new
 lacked taken log old new was h =
     let ready = record old.ready { front = new.ready.front; levels = new.ready.levels } in
-    let rest = chosen_entries old.chosen ++ journal_entries old.journal old.checkpoint in
-    subst (IsPermutation (noted taken)) (sym (ap accounted h.same))
-    (both (noted taken) (ready_entries old.ready) (ready_entries ready) rest rest was (front_moved old.ready ready h.rest refl) (IsPermutation-refl rest))
+    subst (HasTaken taken) (sym h.same)
+    (moved taken (unrun_jobs old.ready old.chosen) (unrun_jobs ready old.chosen) old.journal old.checkpoint was
+    (IsPermutation-append_left (chosen_jobs old.chosen) (ready_jobs old.ready) (ready_jobs ready) (front_moved old.ready ready h.rest refl)))
 
 pub had_none : (taken : List JobView) (log : List Event) (old new : ExecView) → HasTaken taken old → HasNone log old new → HasTaken taken new
-had_none taken log old new was h = subst (IsPermutation (noted taken)) (sym (ap accounted h.same)) was
+had_none taken log old new was h = subst (HasTaken taken) (sym h.same) was
 
 pub started : (taken : List JobView) (book book' : BookView) (worker : ℕ) (old new : ExecView) → HasTaken taken old → HasChosen old (Begins book book' worker old new) → HasTaken taken new
-started taken book book' worker old new was (c, is, h) = subst (IsPermutation (noted taken)) (sym (ap accounted h.same)) (taken_with taken old (Some c) was is)
+started taken book book' worker old new was (c, is, h) =
+    let same : before_turn c.stage c.job ≡ job_view c.job = ap (λ (st : StageView). before_turn st c.job) h.was in
+    subst (HasTaken taken) (sym h.same)
+    (subst (λ j. AreTaken taken (ready_jobs old.ready ++ j ∷ []) old.journal old.checkpoint) same (taken_with taken old (Some c) was is))
 
 pub put_back : (taken : List JobView) (old new : ExecView) → HasTaken taken old → HasChosen old (PutsBack old new) → HasTaken taken new
 put_back taken old new was (c, is, h) =
     let ready = record old.ready { front = new.ready.front } in
-    let job_is : job_entry h.job ≡ job_entry c.job = ap taken_entry h.same_job ∙ entry_before c.stage c.job in
-    let more = subst (λ e. IsPermutation (e ∷ ready_entries old.ready) (ready_entries ready)) job_is (front_more old.ready ready (ready_job h.job c.arrival) h.front refl) in
-    subst (IsPermutation (noted taken)) (sym (ap accounted h.same))
-    (one_back (noted taken) (ready_entries old.ready) (ready_entries ready) (journal_entries old.journal old.checkpoint) (job_entry c.job) (taken_with taken old (Some c) was is) more)
+    let j = before_turn c.stage c.job in
+    let more = subst (λ e. IsPermutation (e ∷ ready_jobs old.ready) (ready_jobs ready)) h.same_job (front_more old.ready ready (ready_job h.job c.arrival) h.front refl) in
+    subst (HasTaken taken) (sym h.same)
+    (moved taken (ready_jobs old.ready ++ j ∷ []) (ready_jobs ready ++ []) old.journal old.checkpoint (taken_with taken old (Some c) was is)
+    (one_back (ready_jobs old.ready ++ j ∷ []) (ready_jobs old.ready) (ready_jobs ready) [] j (IsPermutation-refl (ready_jobs old.ready ++ j ∷ [])) more))
 
 pub was_played : (taken : List JobView) (old new : ExecView) → HasTaken taken old → HasChosen old (Plays old new) → HasTaken taken new
 was_played taken old new was (c, is, h) =
-    let job_is : job_entry c.job ≡ job_entry h.job = sym (ap taken_entry h.same_job) in
-    let journal = journal_entries old.journal old.checkpoint in
-    subst (IsPermutation (noted taken)) (sym (ap accounted h.same))
-    (subst (λ e. IsPermutation (noted taken) (ready_entries old.ready ++ e ∷ journal)) job_is (taken_with taken old (Some c) was is))
+    let same : before_turn c.stage c.job ≡ before_turn (played h.worker h.env h.frame h.fields h.effects h.exit) h.job = ap (λ (st : StageView). before_turn st c.job) h.was ∙ sym h.same_job in
+    subst (HasTaken taken) (sym h.same)
+    (subst (λ j. AreTaken taken (ready_jobs old.ready ++ j ∷ []) old.journal old.checkpoint) same (taken_with taken old (Some c) was is))
 
 pub turned : (taken : List JobView) (book book' : BookView) (jobs jobs' : List JobView) (old new : ExecView) → HasTaken taken old → HasChosen old (Journals book book' jobs jobs' old new) → HasTaken taken new
 turned taken book book' jobs jobs' old new was (c, is, h) =
     let r = record_by c.job h.worker h.env h.frame h.effects h.exit in
-    let journal = journal_entries (journal_with old.journal r) (checkpoint_with old.checkpoint old.journal r h.fields) in
-    subst (IsPermutation (noted taken)) (sym (ap accounted h.same))
-    (both (noted taken) (ready_entries old.ready) (ready_entries new.ready) (job_entry c.job ∷ journal_entries old.journal old.checkpoint) journal (taken_with taken old (Some c) was is)
-    (forwarded old.ready c.job.task new.ready h.forwards) (journalled old.journal old.checkpoint r h.fields (suc (length old.journal) == FOLD)))
+    let j = before_turn c.stage c.job in
+    let same : job_seen j ≡ record_seen r = ap (λ (st : StageView). job_seen (before_turn st c.job)) h.was in
+    let out = IsPermutation-trans (ready_jobs old.ready ++ j ∷ []) (j ∷ (ready_jobs old.ready ++ [])) (j ∷ (ready_jobs new.ready ++ [])) (IsPermutation-middle (ready_jobs old.ready) j [])
+    (IsPermutation-cons j (ready_jobs old.ready ++ []) (ready_jobs new.ready ++ []) (IsPermutation-append_left [] (ready_jobs old.ready) (ready_jobs new.ready) (forwarded old.ready c.job.task new.ready h.forwards))) in
+    subst (HasTaken taken) (sym h.same)
+    (journals taken (ready_jobs old.ready ++ j ∷ []) (ready_jobs new.ready ++ []) old.journal old.checkpoint (taken_with taken old (Some c) was is) j r h.fields (suc (length old.journal) == FOLD) out same)
 
 -- the jobs that are ready, as they are given up
-front_jobs : (xs : List (ReadyJob BodyView)) → map job_entry (map (λ x. x.job) xs) ≡ map front_entry xs
+front_jobs : (xs : List (ReadyJob BodyView)) → map job_view (map (λ x. x.job) xs) ≡ map front_job xs
 front_jobs [] = refl
-front_jobs (x ∷ xs) = ap (λ es. front_entry x ∷ es) (front_jobs xs)
+front_jobs (x ∷ xs) = ap (λ es. front_job x ∷ es) (front_jobs xs)
 
 pub given_up : (taken : List JobView) (s : ExecView) (jobs : List (JobIs BodyView)) → HasTaken taken s → s.chosen ≡ None → IsPermutation (map (λ x. x.job) s.ready.front ++ s.ready.behind) jobs
-    → IsPermutation (noted taken) (map job_entry jobs ++ journal_entries s.journal s.checkpoint)
+    → AreTaken taken (map job_view jobs) s.journal s.checkpoint
 given_up taken s jobs was free perm =
-    let rest = journal_entries s.journal s.checkpoint in
     let ready = map (λ (x : ReadyJob BodyView). x.job) s.ready.front ++ s.ready.behind in
-    let at : map job_entry ready ≡ ready_entries s.ready = map-append job_entry (map (λ (x : ReadyJob BodyView). x.job) s.ready.front) s.ready.behind ∙ ap (λ es. es ++ map job_entry s.ready.behind) (front_jobs s.ready.front) in
-    let out = subst (λ es. IsPermutation es (map job_entry jobs)) at (IsPermutation-map job_entry ready jobs perm) in
-    both (noted taken) (ready_entries s.ready) (map job_entry jobs) rest rest (taken_with taken s None was free) out (IsPermutation-refl rest)
+    let at : map job_view ready ≡ ready_jobs s.ready = map-append job_view (map (λ (x : ReadyJob BodyView). x.job) s.ready.front) s.ready.behind ∙ ap (λ es. es ++ map job_view s.ready.behind) (front_jobs s.ready.front) in
+    let out = subst (λ es. IsPermutation es (map job_view jobs)) (at ∙ sym (append-nil (ready_jobs s.ready))) (IsPermutation-map job_view ready jobs perm) in
+    moved taken (ready_jobs s.ready ++ []) (map job_view jobs) s.journal s.checkpoint (taken_with taken s None was free) out

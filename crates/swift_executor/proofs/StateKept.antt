@@ -228,6 +228,12 @@ same_before next next' Picked j = refl
 same_before next next' (Begun worker env) j = refl
 same_before next next' (Played worker env p) j = refl
 
+-- its turn has not begun
+pub stage_picked : (stage : StageView) → IsPicked stage → stage ≡ picked
+stage_picked picked is = refl
+stage_picked (begun worker env) is = absurd is
+stage_picked (played worker env frame fields effects exit) is = absurd is
+
 -- a chosen job whose turn has not begun
 pub picked_job : (next : List (Vec ℤ Global)) (place : Option Chosen) → (c : ChosenView) × (chosen_of next place ≡ Some c) × IsPicked c.stage → HasJob place (λ c. c.stage ≡ Picked)
 picked_job next None has = absurd (subst (λ (o : Option ChosenView). MatchOption o (Unit {0}) (λ _. ⊥)) has.1 tt)

@@ -1,50 +1,59 @@
 -- The account of an executor (SE-0392 for jobs that run once; the account is our own): each job that it took is ready, chosen or
 -- journalled, exactly one of these, as often as it was taken.
-use Rattle.std.specs.Prelude.{ℕ, Option, Some, None, List, [], ◌∷◌, ◌++◌, map}
+use Rattle.std.specs.Prelude.{◌≡◌, ℕ, ℤ, Option, Some, None, List, [], ◌∷◌, ◌++◌, map}
 use Rattle.std.specs.List.Sorted.{IsPermutation}
+use Rattle.swift_types.specs.declared.outcome.Resume.{Resume}
+use Rattle.swift_interpreter.specs.Frames.{FrameView}
+use Rattle.swift_interpreter.specs.Turn.{head}
 use Rattle.swift_turn.specs.Body.{BodyView}
-use Rattle.swift_queue.specs.Job.{JobIs}
 use Rattle.swift_journal.specs.Checkpoints.{CheckpointView, FoldedView}
 use Rattle.swift_journal.specs.Records.{RecordView}
 use Rattle.swift_history.specs.TurnEnds.{JobView}
+use Rattle.swift_tasks.specs.Books.{job_view}
 use Rattle.swift_executor.specs.Ready.{ReadyIs}
-use Rattle.swift_executor.specs.State.{ChosenView, ExecView}
-
--- What an account has of a job: its task, and the number of its turn. Of a job that was taken, of one that the executor has, of one
--- that is journalled, and of one whose record was folded.
-abbrev pub taken_entry : JobView → ℕ × ℕ
-taken_entry j = (j.task, j.number)
-
-abbrev pub job_entry : JobIs BodyView → ℕ × ℕ
-job_entry j = (j.task.0, j.number)
-
-abbrev pub record_entry : RecordView → ℕ × ℕ
-record_entry r = (r.task, r.number)
-
-abbrev pub folded_entry : FoldedView → ℕ × ℕ
-folded_entry f = (f.task, f.number)
+use Rattle.swift_executor.specs.State.{ChosenView, ExecView, before_turn}
 
 -- the jobs that are ready, in front and behind
-abbrev pub ready_entries : ReadyIs BodyView → List (ℕ × ℕ)
-ready_entries r = map (λ x. job_entry x.job) r.front ++ map job_entry r.behind
+abbrev pub ready_jobs : ReadyIs BodyView → List JobView
+ready_jobs r = map (λ x. job_view x.job) r.front ++ map job_view r.behind
 
--- the job that is chosen, if there is one
-abbrev pub chosen_entries : Option ChosenView → List (ℕ × ℕ)
-chosen_entries None = []
-chosen_entries (Some c) = job_entry c.job ∷ []
+-- the job that is chosen, if there is one, as it was when it was chosen
+abbrev pub chosen_jobs : Option ChosenView → List JobView
+chosen_jobs None = []
+chosen_jobs (Some c) = before_turn c.stage c.job ∷ []
 
--- the jobs that are journalled, those of the checkpoint too
-abbrev pub journal_entries : List RecordView → CheckpointView → List (ℕ × ℕ)
-journal_entries journal checkpoint = map record_entry journal ++ map folded_entry checkpoint.folded
+-- What a record keeps of the job whose turn it is: the task, the number of the turn, what it begins with, the frame that runs, and
+-- the bindings that stood when that frame began. The callers of that frame are not in it.
+pub record Seen : Type 0 where
+  pub task : ℕ
+  pub number : ℕ
+  pub resume : Resume
+  pub frame : Option FrameView
+  pub outer : List (ℕ × ℤ)
 
--- the jobs that an executor accounts for: those that are ready, the chosen one, and those that are journalled
-abbrev pub accounted : ExecView → List (ℕ × ℕ)
-accounted s = ready_entries s.ready ++ (chosen_entries s.chosen ++ journal_entries s.journal s.checkpoint)
+abbrev pub job_seen : JobView → Seen
+job_seen j = record { task = j.task; number = j.number; resume = j.resume; frame = head j.frames.frames; outer = j.frames.outer }
 
--- the jobs that were taken
-abbrev pub noted : List JobView → List (ℕ × ℕ)
-noted taken = map taken_entry taken
+abbrev pub record_seen : RecordView → Seen
+record_seen r = record { task = r.task; number = r.number; resume = r.resume; frame = Some r.frame; outer = r.outer }
 
--- An executor has taken these jobs: they are, up to order and each as often as it was taken, those that it accounts for.
+-- what is left of it once its record was folded: the task, and the number of the turn
+abbrev pub job_named : JobView → ℕ × ℕ
+job_named j = (j.task, j.number)
+
+abbrev pub folded_named : FoldedView → ℕ × ℕ
+folded_named f = (f.task, f.number)
+
+-- Jobs that were taken are, up to order and each as often, those that are not run yet, those of the records of a journal, and
+-- those whose records were folded. A record is that of its job, and so is what is left of one.
+pub record AreTaken (taken unrun : List JobView) (journal : List RecordView) (checkpoint : CheckpointView) : Type 0 where
+  pub journalled : List JobView
+  pub folded : List JobView
+  pub all : IsPermutation taken (unrun ++ (journalled ++ folded))
+  pub records : map job_seen journalled ≡ map record_seen journal
+  pub past : map job_named folded ≡ map folded_named checkpoint.folded
+
+-- An executor has taken these jobs: they are those that are ready, the chosen one as it was when it was chosen, and those that are
+-- journalled.
 abbrev pub HasTaken : List JobView → ExecView → Type 0
-HasTaken taken s = IsPermutation (noted taken) (accounted s)
+HasTaken taken s = AreTaken taken (ready_jobs s.ready ++ chosen_jobs s.chosen) s.journal s.checkpoint

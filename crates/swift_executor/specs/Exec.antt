@@ -69,10 +69,10 @@ after_run (Nothing left) d = d
 abbrev pub site_of : ExecView → Site
 site_of s = record { script = s.script; executor = s.executor }
 
--- The state of the executor that a pass takes jobs for; what came out of the inbox through the pass is ready, chosen or
--- journalled, each once.
+-- The state of the executor that a pass takes jobs for; none was sent through the pass, and what came out of the inbox through it
+-- is ready, chosen or journalled, each once.
 abbrev pub IsOf : PassIs → ExecView → Type 0
-IsOf p s = (p.site ≡ Some (site_of s)) × HasTaken p.taken s
+IsOf p s = (p.site ≡ Some (site_of s)) × (p.pushed ≡ []) × HasTaken p.taken s
 
 -- what a word knows of a state: whose it is, and from which inbox it takes its jobs
 abbrev pub state_name : Site → TableId → StateName

@@ -191,8 +191,9 @@ abbrev pub IsPlayed : StageView → Type 0
 IsPlayed (played worker env frame fields effects exit) = Unit {0}
 IsPlayed _ = ⊥
 
--- The turn has begun on this worker: the book has begun it, and what it gave is kept.
+-- The turn of a job that was picked has begun on this worker: the book has begun it, and what it gave is kept.
 pub record Begins (book book' : BookView) (worker : ℕ) (old new : ExecView) (c : ChosenView) : Type 0 where
+  pub was : c.stage ≡ picked
   pub env : Env
   pub given : IsEnv (root_count book.script) c.job.task book.log env
   pub book_is : book' ≡ record book { log = book.log ++ Begin c.job.task c.job.number env ∷ [] }

@@ -1,6 +1,7 @@
 //! The job that was chosen.
 
 ghost use Rattle.std.specs.Prelude.{◌≡◌, None, Some};
+ghost use Rattle.swift_executor.specs.Playing.{HasJob};
 
 use script_code::Env;
 use std::mem;
@@ -35,11 +36,34 @@ pub struct Chosen {
     pub stage: Stage,
 }
 
-/// Keeps a job as the chosen one, where none was.
-pub fn fill(place: &mut Option<Chosen>, chosen: Chosen)
-    requires { place.old ≡ None }
-    ensures { place.new ≡ Some chosen }
+/// Takes the chosen job out of its place.
+pub fn take_out(place: &mut Option<Chosen>) -> (Job<Body>, u64, Stage)
+    requires { HasJob place.old (λ _. Unit {0}) }
+    ensures was { place.old ≡ Some (record { job = result.0; arrival = result.1; stage = result.2 }) }
+    ensures gone { place.new ≡ None }
 {
+    match place.take() {
+        Some(
+            Chosen {
+                job,
+                arrival,
+                stage,
+            },
+        ) => (job, arrival, stage),
+        None => unreachable!(),
+    }
+}
+
+/// Keeps a job as the chosen one, where none was.
+pub fn fill(place: &mut Option<Chosen>, job: Job<Body>, arrival: u64, stage: Stage)
+    requires { place.old ≡ None }
+    ensures { place.new ≡ Some (record { job = job; arrival = arrival; stage = stage }) }
+{
+    let chosen = Chosen {
+        job,
+        arrival,
+        stage,
+    };
     match mem::replace(place, Some(chosen)) {
         None => {}
         Some(_before) => unreachable!(),

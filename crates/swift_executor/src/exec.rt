@@ -2,6 +2,7 @@
 
 ghost use Rattle.std.specs.Prelude.{◌≡◌, ◌<◌, [], None, Some, IfOk, IfErr, IfSome, OnOk, OnErr};
 ghost use Rattle.std.specs.Arc.{arc_value};
+ghost use Rattle.swift_inbox.specs.Inbox.{IsDrained};
 ghost use Rattle.swift_inbox.specs.Site.{CanRunAt};
 ghost use Rattle.swift_executor.specs.Exec.{IsDeskOf, IsOf, first_desk, has_sent, site_of};
 
@@ -80,6 +81,8 @@ pub struct Closed {
     pub state: Option<(ExecState, Pass)>,
     /// The jobs that were in the inbox, the oldest first.
     pub inbox: Vec<Job<Body>>,
+    /// The pass by which these came out of it.
+    pub drained: Pass,
 }
 
 // The first state of an executor, with no job.
@@ -89,7 +92,8 @@ fn first_state(
     pass: Pass,
     room: usize,
 ) -> Result<Resting, AllocError>
-    requires { (pass.site ≡ Some site.now) × (pass.taken ≡ []) }
+    requires site { pass.site ≡ Some site.now }
+    requires unused { (pass.pushed ≡ []) × (pass.taken ≡ []) }
     ensures { IfOk result (λ r. (site_of r.state ≡ site.now) × (r.pass ≡ pass)) }
 {
     new_has_taken_none();
@@ -171,6 +175,7 @@ impl Exec {
         requires desk { IsDeskOf self.now desk.old }
         requires job { CanRunAt self.now.inbox.site job }
         ensures ok { OnOk result (desk.new ≡ has_sent desk.old job) }
+        ensures allowed { OnOk result (0 < desk.old.allowance) }
         ensures back { IfErr result (λ e. (e.0 ≡ job) × (e.1 ≡ ExecFault.Full)) }
         ensures kept { OnErr result (desk.new ≡ desk.old) }
     {
@@ -192,9 +197,12 @@ impl Exec {
         }
     }
 
-    /// Gives the executor up. The state comes where no desk holds it, with no job chosen. It takes no memory.
+    /// Gives the executor up. The state comes where no desk holds it, with no job chosen; and what was in the inbox comes,
+    /// with the pass whose account says so. It takes no memory. It waits only for a thread that stands between two steps of
+    /// a call of its own.
     pub fn close<R: Wait>(self, rt: &R) -> Closed
         ensures state { IfSome result.state (λ s. (site_of s.0 ≡ self.inbox.site) × IsOf s.1 s.0 × (s.0.chosen ≡ None)) }
+        ensures inbox { IsDrained self.inbox [] result.inbox.items result.drained }
     {
         let Exec {
             word,
@@ -203,7 +211,7 @@ impl Exec {
             spare,
         } = self;
         let (pending, state) = word.close();
-        let (inbox, _pass) = inbox.drain(rt, spare.into_list());
+        let (inbox, drained) = inbox.drain(rt, spare.into_list());
         let state = match state {
             Some(resting) => Some(resting.into_parts()),
             None => None,
@@ -212,6 +220,7 @@ impl Exec {
             pending,
             state,
             inbox,
+            drained,
         }
     }
 }

@@ -13,7 +13,7 @@ pub enum ExecFault {
     /// The executor is pinned to another worker.
     #[error("X2 wrong worker")]
     Worker,
-    /// There is no room for another job.
+    /// The inbox was full at some moment of the call, or the desk has no allowance left.
     #[error("X3 full")]
     Full,
     /// The book refused, for another reason than memory.

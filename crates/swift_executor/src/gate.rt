@@ -2,11 +2,11 @@
 
 use swift_types::{ExecId, TaskId};
 
-/// A moment of a run, at an executor (our own). Those of a turn come in the order of this list, each with the executor and
-/// the worker that runs there; the last two are of a job that is sent, by whatever thread.
+/// A moment of a run, at an executor (our own). `Exec::run_one` tells those of a visit, in the order of this list, each with the
+/// executor and the worker that visits it. `Exec::enqueue` tells the last two, of a job that is sent by whatever thread.
 #[derive(Clone, Copy, Debug, PartialEq, Eq)]
 pub enum Moment {
-    /// The worker has taken the executor's token.
+    /// The worker may run the executor, and is about to ask for its state. In a run it has just taken the executor's token.
     Took(ExecId, u32),
     /// The worker holds the executor's state.
     Began(ExecId, u32),

@@ -1,5 +1,6 @@
-//! The account of an executor: a job that it has taken is ready, chosen or journalled, exactly one of these, once. Each
-//! function's contract is a law on what the calls of `ExecState` ensure; the functions do nothing.
+//! The account of an executor: a job that it has taken is ready, chosen or journalled, exactly one of these, once. That is said of
+//! the whole job: what it begins with, its frames and its bindings. Each function's contract is a law on what the calls of
+//! `ExecState` ensure; the functions do nothing.
 
 ghost use Rattle.std.specs.Prelude.{◌≡◌, ℕ, List, [], ◌∷◌, ◌++◌, None, map};
 ghost use Rattle.std.specs.List.Sorted.{IsPermutation};
@@ -10,7 +11,7 @@ ghost use Rattle.swift_events.specs.declared.event.Event.{Event};
 ghost use Rattle.swift_history.specs.TurnEnds.{JobView};
 ghost use Rattle.swift_types.specs.declared.id.TaskId.{TaskId};
 ghost use Rattle.swift_tasks.specs.Books.{BookView, job_view};
-ghost use Rattle.swift_executor.specs.Account.{HasTaken, job_entry, journal_entries, noted};
+ghost use Rattle.swift_executor.specs.Account.{AreTaken, HasTaken};
 ghost use Rattle.swift_executor.specs.Ready.{Adds};
 ghost use Rattle.std.specs.Thread.{IsSend, IsSync};
 ghost use Rattle.swift_executor.specs.contracts.desk.Desk as desk;
@@ -70,7 +71,7 @@ pub fn turn_loses_none()
 pub fn parts_are_what_was_taken()
     ensures { (taken : List JobView) (s : ExecView) (jobs : List (JobIs BodyView)) → HasTaken taken s → s.chosen ≡ None
         → IsPermutation (map (λ x. x.job) s.ready.front ++ s.ready.behind) jobs
-        → IsPermutation (noted taken) (map job_entry jobs ++ journal_entries s.journal s.checkpoint) }
+        → AreTaken taken (map job_view jobs) s.journal s.checkpoint }
 {}
 
 /// Threads may share an executor (our own).

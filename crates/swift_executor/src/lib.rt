@@ -44,3 +44,4 @@ pub use gate::{Gate, Moment, Open};
 pub use ran::Ran;
 pub use run::may_run;
 pub use state::ExecState;
+pub use swift_word::{Left, Was};

@@ -1,6 +1,6 @@
 //! A visit of a worker to an executor.
 
-ghost use Rattle.std.specs.Prelude.{◌≡◌, ◌<◌, ◌↔◌, None, Some, Err, false, map, IfOk, IfErr, IfSome, IfNone, IsSome, IsSomeAnd, OnOk, OnErr};
+ghost use Rattle.std.specs.Prelude.{◌≡◌, ◌<◌, ◌↔◌, ◌⊎◌, None, Some, Err, false, map, IfOk, IfErr, IfSome, IfNone, IsSome, IsSomeAnd, OnOk, OnErr};
 ghost use Rattle.std.specs.List.{AllByRecursion};
 ghost use Rattle.futures.specs.Task.{Keeps};
 ghost use Rattle.swift_script.specs.Scripts.{executor_kind};
@@ -261,9 +261,10 @@ impl Exec {
     ///
     /// # Errors
     ///
-    /// `Worker` where the executor is pinned to another worker, before anything else. `Memory` where a growth was refused, and
-    /// `Refused` where the book has refused the turn for another reason. The jobs that were taken out of the inbox are ready then, the chosen
-    /// one again with the number of its arrival; journal and fields are as before, and `jobs` too.
+    /// `Worker` where the executor is pinned to another worker, before anything else, and only there. Else `Memory`, where a
+    /// growth was refused, or `Refused`, where the book has refused the turn for another reason. The desk and `jobs` are as before, and
+    /// each job that was taken out of the inbox is ready or journalled, as `Exec::close` says of it. By what `ExecState::start`, `play` and
+    /// `turn` say, the chosen one is ready again with the number of its arrival, and journal and fields are as before.
     pub fn run_one<R, G>(
         &self,
         rt: &R,
@@ -284,6 +285,7 @@ impl Exec {
         ensures jobs { IfOk result (IfNoTurn (jobs.new.items ≡ jobs.old.items)) }
         ensures none { OnErr result (jobs.new.items ≡ jobs.old.items) }
         ensures bodies { AllByRecursion (IsJobOf self.now.inbox.site.script) jobs.old.items → AllByRecursion (IsJobOf self.now.inbox.site.script) jobs.new.items }
+        ensures err { IfErr result (λ fault. (fault ≡ ExecFault.Worker) ⊎ IsRunFault fault) }
         ensures worker { (result ≡ Err ExecFault.Worker) ↔ (may_run (executor_kind self.now.inbox.site.script self.now.inbox.site.executor) self.now.workers worker ≡ false) }
         ensures context { Keeps cx.old cx.new }
     {
@@ -292,6 +294,7 @@ impl Exec {
         if !may_run(site.script().executor_kind(executor), self.workers, worker) {
             return Err(ExecFault::Worker);
         }
+        gate.at(Moment::Took(executor, worker));
         match self.word.begin(&mut desk.seat) {
             Begun::Busy => Ok(Ran::Busy),
             Begun::Run(found, resting) => {

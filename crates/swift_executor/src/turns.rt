@@ -12,7 +12,7 @@ ghost use Rattle.swift_executor.specs.StateInside.{stage_of};
 ghost use Rattle.swift_executor.specs.Refusals.{IsRefusal};
 ghost use Rattle.swift_executor.specs.State.{Begins, HasChosen, IsBegun, IsPicked, IsPlayed, Journals, Plays, PutsBack, refusal_of_stage, refusal_to_begin, refusal_to_apply};
 
-use crate::chosen::{Chosen, Played, Stage, fill};
+use crate::chosen::{Chosen, Played, Stage, fill, take_out};
 use crate::fault::ExecFault;
 use crate::playing::{as_chosen, copy_into, play_job, room_to_fold, settle, write_record};
 use crate::state::ExecState;
@@ -66,16 +66,7 @@ fn apply_chosen(
     ensures err { OnErr result ((book.new ≡ book.old) × (jobs.new.items ≡ jobs.old.items)) }
     ensures refused { MatchResult result (λ _. HasJob place.old (λ c. refusal_of_stage book.old c.job (stage_of [] c.stage) ≡ None)) (λ fault. HasJob place.old (λ c. BookRefusal (refusal_of_stage book.old c.job (stage_of [] c.stage)) fault)) }
 {
-    let Some(
-        Chosen {
-            job,
-            arrival,
-            stage,
-        },
-    ) = place.take()
-    else {
-        unreachable!()
-    };
+    let (job, arrival, stage) = take_out(place);
     let Stage::Played(worker, env, played) = stage else {
         unreachable!()
     };
@@ -94,14 +85,7 @@ fn apply_chosen(
                 exit,
             };
             let stage = Stage::Played(worker, env, played);
-            fill(
-                place,
-                Chosen {
-                    job,
-                    arrival,
-                    stage,
-                },
-            );
+            fill(place, job, arrival, stage);
             Err(fault)
         }
     }
@@ -118,16 +102,7 @@ fn play_chosen(
     ensures err { OnErr result (HasJob place.old (KeepsJob place.new)) }
     ensures kept { Keeps cx.old cx.new }
 {
-    let Some(
-        Chosen {
-            job,
-            arrival,
-            stage,
-        },
-    ) = place.take()
-    else {
-        unreachable!()
-    };
+    let (job, arrival, stage) = take_out(place);
     let Stage::Begun(worker, env) = stage else {
         unreachable!()
     };
@@ -135,26 +110,12 @@ fn play_chosen(
     match played {
         Ok((next, played)) => {
             let stage = Stage::Played(worker, env, played);
-            fill(
-                place,
-                Chosen {
-                    job,
-                    arrival,
-                    stage,
-                },
-            );
+            fill(place, job, arrival, stage);
             Ok(next)
         }
         Err(next) => {
             let stage = Stage::Begun(worker, env);
-            fill(
-                place,
-                Chosen {
-                    job,
-                    arrival,
-                    stage,
-                },
-            );
+            fill(place, job, arrival, stage);
             Err(next)
         }
     }
@@ -167,38 +128,15 @@ fn begin_chosen(place: &mut Option<Chosen>, worker: u32, book: &mut Book) -> Res
     ensures err { OnErr result ((place.new ≡ place.old) × (book.new ≡ book.old)) }
     ensures refused { MatchResult result (λ _. HasJob place.old (λ c. refusal_of_begin book.old.script book.old.log c.job ≡ None)) (λ fault. HasJob place.old (λ c. BookRefusal (refusal_of_begin book.old.script book.old.log c.job) fault)) }
 {
-    let Some(
-        Chosen {
-            job,
-            arrival,
-            stage,
-        },
-    ) = place.take()
-    else {
-        unreachable!()
-    };
+    let (job, arrival, stage) = take_out(place);
     match book.begin(&job) {
         Ok(env) => {
             let begun = Stage::Begun(worker, env);
-            fill(
-                place,
-                Chosen {
-                    job,
-                    arrival,
-                    stage: begun,
-                },
-            );
+            fill(place, job, arrival, begun);
             Ok(())
         }
         Err(fault) => {
-            fill(
-                place,
-                Chosen {
-                    job,
-                    arrival,
-                    stage,
-                },
-            );
+            fill(place, job, arrival, stage);
             Err(fault)
         }
     }

@@ -90,6 +90,7 @@ fn close<R: Wait>(rt: &R, exec: Exec) -> Result<ExecState, Halt>
         pending,
         state,
         inbox,
+        drained: _,
     } = exec.close(rt);
     let is_left = pending > 0 || !inbox.is_empty();
     give_all_up(inbox);

@@ -14,7 +14,7 @@ use futures::task::{Context, Doorbell, Solo};
 use std::alloc::AllocGlobal;
 use std::random::RandomSource;
 use std::sync::Wait;
-use swift_executor::{Gate, Moment, Ran};
+use swift_executor::{Gate, Ran};
 use swift_queue::Job;
 use swift_turn::Body;
 use swift_types::ExecId;
@@ -50,7 +50,6 @@ fn visit<R: Wait, G: Gate>(
         return Err(Halt::Unfinished);
     }
     let worker = hand.worker;
-    gate.at(Moment::Took(on, worker));
     let exec = &crew.execs[place];
     let desk = &mut hand.desks[place];
     let ran = exec.run_one(rt, desk, worker, crew.book, cx, jobs, gate)?;

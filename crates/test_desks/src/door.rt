@@ -11,7 +11,7 @@ use crate::tasks::Tasks;
 use std::alloc::AllocError;
 use std::marker::Model;
 use std::sync::{Arc, Wait};
-use swift_executor::{Desk, Exec, ExecFault, Gate, Moment, Ran};
+use swift_executor::{Desk, Exec, ExecFault, Gate, Ran};
 use swift_queue::Job;
 use swift_turn::Body;
 use swift_word::Was;
@@ -95,7 +95,6 @@ impl Door {
         jobs: &mut Jobs,
         gate: &G,
     ) -> Result<Ran, ExecFault> {
-        gate.at(Moment::Took(self.exec.site().executor(), worker));
         let mut cx = poller.solo.begin();
         let list = &mut jobs.list;
         let desk = &mut self.desk;

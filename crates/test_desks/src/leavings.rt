@@ -64,6 +64,7 @@ impl Leavings {
             pending,
             state,
             inbox,
+            drained: _,
         } = door.into_exec()?.close(rt);
         let inbox = Jobs { list: inbox };
         let (state, _pass) = state?;

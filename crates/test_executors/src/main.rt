@@ -25,8 +25,8 @@
 //! ```
 //!
 //! Desks are numbered from 0: first the one that each executor is made with, in the order of executors, and then those that were
-//! split. Calls in braces use other desks than the call behind them. MOMENT is the name of a moment of the gate; `Took` comes right
-//! before a visit, as a worker says it. In answers `t3.1` is turn 1 of task 3.
+//! split. Calls in braces use other desks than the call behind them. MOMENT is the name of a moment of the gate. In answers `t3.1`
+//! is turn 1 of task 3.
 #![tactic(auto)]
 
 // Calls that a gate makes.

@@ -1,6 +1,6 @@
-use Rattle.std.proofs.Common.{[]}
+use Rattle.std.proofs.Common.{[], refl}
 use Rattle.std.proofs.lemmas.List.Sorted.{IsPermutation-refl}
 use Rattle.swift_executor.proofs.laws.new_has_taken_none.Goals as goal
 
 pub returns : goal.returns
-returns c script executor room = IsPermutation-refl []
+returns c script executor room = record { journalled = []; folded = []; all = IsPermutation-refl []; records = refl; past = refl }

@@ -1,4 +1,5 @@
 use Rattle.std.proofs.Common.{◌≡◌, Some, Option, IfSome, refl, ap, sym, subst, ◌∙◌}
+use Rattle.std.proofs.lemmas.Option.{same_Some}
 use Rattle.std.specs.Arc.{arc_value}
 use Rattle.script_code.specs.Seen.{rows_of}
 use Rattle.swift_executor.specs.State.{Begins, ChosenView, ExecView, HasChosen, IsChosen, IsExecutor, IsPicked, PutsBack, begun, refusal_to_begin}
@@ -7,7 +8,7 @@ use Rattle.swift_executor.specs.Refusals.{IsRefusal}
 use Rattle.swift_executor.specs.declared.fault.ExecFault.{ExecFault}
 use Rattle.swift_executor.specs.StateInside.{chosen_of, chosen_view}
 use Rattle.swift_executor.specs.declared.chosen.Chosen.{Chosen}
-use Rattle.swift_executor.proofs.StateKept.{picked_job, refused_so, stage_keeps}
+use Rattle.swift_executor.proofs.StateKept.{picked_job, refused_so, stage_keeps, stage_picked}
 use Rattle.swift_executor.proofs.state.ExecState.start.Goals as goal
 
 pub begin_chosen-requires : goal.begin_chosen-requires
@@ -44,11 +45,20 @@ returns-in-Ok-clause-ok c =
     let x = c.self.inside in
     let s : ExecView = record { script = arc_value x.script; executor = x.executor.0; ready = x.ready; chosen = chosen_of x.next.items x.chosen; journal = x.journal; checkpoint = x.checkpoint.view; fields = rows_of x.fields.items } in
     let h = c.in-Ok.ensures.ok in
+    let at : s.chosen ≡ Some (chosen_view x.next.items h.0) = ap (chosen_of x.next.items) h.1 in
+    let has : HasChosen s (λ c. IsPicked c.stage) = subst (λ (v : ExecView). HasChosen v (λ c. IsPicked c.stage)) (sym c.self.view_is) c.requires in
+    let was : IsPicked (chosen_view x.next.items h.0).stage = subst (λ (v : ChosenView). IsPicked v.stage) (same_Some has.0 (chosen_view x.next.items h.0) (sym has.1 ∙ at)) has.2 in
     let new : ExecView = record s { chosen = chosen_of x.next.items c.begin_chosen.new.place } in
     subst (λ (v : ExecView). HasChosen v (Begins c.args.book.now c.begin_chosen.new.book c.args.worker v new)) c.self.view_is (
       chosen_view x.next.items h.0,
-      ap (chosen_of x.next.items) h.1,
-      record { env = h.2.env; given = h.2.given; book_is = h.2.book_is; same = ap (λ (o : Option Chosen). record s { chosen = chosen_of x.next.items o }) h.2.new_is },
+      at,
+      record {
+        was = stage_picked (chosen_view x.next.items h.0).stage was;
+        env = h.2.env;
+        given = h.2.given;
+        book_is = h.2.book_is;
+        same = ap (λ (o : Option Chosen). record s { chosen = chosen_of x.next.items o }) h.2.new_is;
+      },
     )
 
 pub returns-in-Err-clause-back : goal.returns-in-Err-clause-back
