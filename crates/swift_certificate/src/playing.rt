@@ -299,13 +299,13 @@ pub fn next(
 
 // Whether a turn of a frame, with these effects and this exit, can have left this frame.
 fn can_leave(frame: &Frame, effects: &[Effect], exit: &Exit, after: Option<&Frame>) -> bool
-    ensures { IsTrue result → LeavesFrame (frame_view frame.now) (effect_views effects.now) (exit_view exit.now) (frame_if_lent after) }
+    ensures { IsTrue result → LeavesFrame (frame_view frame.now) (effect_views effects.now) (exit_view exit.now) (frame_if_lent after.entry) }
 {
-    let Some(after) = after else {
+    let Some(left) = after else {
         return is_left(exit);
     };
     match counts_after(frame, effects) {
-        Some(counts) => !is_left(exit) && after.made == counts.made && after.opened == counts.opened,
+        Some(counts) => !is_left(exit) && left.made == counts.made && left.opened == counts.opened,
         None => false,
     }
 }

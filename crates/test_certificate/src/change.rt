@@ -1,7 +1,10 @@
 //! Changes of reports.
 
 use crate::fault::CaseFault;
-use crate::turns::{journal_on_worker, journal_with_flag, start_at, without_last};
+use crate::turns::{
+    journal_on_worker, journal_with_flag, journal_with_made, start_at, with_made, without_frame,
+    without_last,
+};
 use std::alloc::Global;
 use swift_events::{Event, Origin};
 use swift_journal::Journal;
@@ -25,6 +28,8 @@ pub fn make(alloc: Global, report: &mut Report, words: &str) -> Result<(), CaseF
         "worker" => move_turns(alloc, report)?,
         "checkpoint" => change_start(alloc, report, value)?,
         "folded" => leave_out_folded(alloc, report)?,
+        "frame" => leave_out_frame(alloc, report)?,
+        "made" => change_made(alloc, report, value)?,
         _ => return Err(CaseFault::Change),
     }
     Ok(())
@@ -111,6 +116,27 @@ fn leave_out_folded(alloc: Global, report: &mut Report) -> Result<(), CaseFault>
     if !report.checkpoints.is_empty() {
         let checkpoint = without_last(alloc, &report.checkpoints[0])?;
         report.checkpoints[0] = checkpoint;
+    }
+    Ok(())
+}
+
+fn leave_out_frame(alloc: Global, report: &mut Report) -> Result<(), CaseFault> {
+    if !report.checkpoints.is_empty() {
+        let checkpoint = without_frame(alloc, &report.checkpoints[0])?;
+        report.checkpoints[0] = checkpoint;
+    }
+    Ok(())
+}
+
+fn change_made(alloc: Global, report: &mut Report, value: i64) -> Result<(), CaseFault> {
+    let Ok(made) = u64::try_from(value) else {
+        return Err(CaseFault::Change);
+    };
+    if !report.checkpoints.is_empty() && !report.journals.is_empty() {
+        let (checkpoint, task) = with_made(alloc, &report.checkpoints[0], made)?;
+        report.checkpoints[0] = checkpoint;
+        let journal = journal_with_made(alloc, &report.journals[0], task, made)?;
+        report.journals[0] = journal;
     }
     Ok(())
 }

@@ -15,6 +15,8 @@
 //! worker           each turn of the first executor ran on worker 7
 //! checkpoint N     the one field of the first checkpoint is N
 //! folded           the last turn of the first checkpoint is left out
+//! frame            the last turn of the first checkpoint leaves no frame
+//! made N           its task has made N tasks, in the frame that it leaves and in the later turns of the first journal
 //! ```
 #![tactic(auto)]
 

@@ -6,7 +6,7 @@ use std::alloc::Global;
 use swift_interpreter::Frame;
 use swift_journal::{Checkpoint, Folded, Journal, OwnedRecord, Record};
 use swift_locals::Bindings;
-use swift_types::{Priority, Resume};
+use swift_types::{Priority, Resume, TaskId};
 
 // Puts a turn to a journal, with another worker and another environment.
 fn push(journal: &mut Journal, turn: &OwnedRecord, worker: u32, env: Env) -> Result<(), CaseFault> {
@@ -72,22 +72,89 @@ pub fn start_at(alloc: Global, checkpoint: &mut Checkpoint, value: i64) -> Resul
     Ok(())
 }
 
+// Sets how many tasks the task of a frame has made.
+fn set_made(frame: &mut Option<Frame>, made: u64) {
+    if let Some(frame) = frame {
+        frame.made = made;
+    }
+}
+
+/// The same turns. In those of this task it has made so many tasks.
+pub fn journal_with_made(
+    alloc: Global,
+    journal: &Journal,
+    task: TaskId,
+    made: u64,
+) -> Result<Journal, CaseFault> {
+    let mut changed = Journal::new(alloc);
+    for place in 0..journal.len() {
+        let mut turn = journal.read(alloc, place)?;
+        if turn.task == task {
+            turn.frame.made = made;
+            set_made(&mut turn.after, made);
+        }
+        let env = turn.env;
+        push(&mut changed, &turn, turn.worker, env)?;
+    }
+    Ok(changed)
+}
+
 /// The same checkpoint without its last turn.
 pub fn without_last(alloc: Global, checkpoint: &Checkpoint) -> Result<Checkpoint, CaseFault> {
+    with_last(alloc, checkpoint, None)
+}
+
+/// The same checkpoint, whose last turn leaves no frame.
+pub fn without_frame(alloc: Global, checkpoint: &Checkpoint) -> Result<Checkpoint, CaseFault> {
+    let mut turn = last_of(alloc, checkpoint)?;
+    turn.after = None;
+    with_last(alloc, checkpoint, Some(&turn))
+}
+
+/// The same checkpoint, and the task of its last turn. In the frame that this turn leaves it has made so many tasks.
+pub fn with_made(
+    alloc: Global,
+    checkpoint: &Checkpoint,
+    made: u64,
+) -> Result<(Checkpoint, TaskId), CaseFault> {
+    let mut turn = last_of(alloc, checkpoint)?;
+    set_made(&mut turn.after, made);
+    let changed = with_last(alloc, checkpoint, Some(&turn))?;
+    Ok((changed, turn.task))
+}
+
+// The last turn of a checkpoint.
+fn last_of(alloc: Global, checkpoint: &Checkpoint) -> Result<Folded, CaseFault> {
+    let count = checkpoint.len();
+    if count == 0 {
+        return Err(CaseFault::Change);
+    }
+    Ok(checkpoint.read(alloc, count - 1)?)
+}
+
+// The same checkpoint with this turn in place of its last one, or with none there.
+fn with_last(
+    alloc: Global,
+    checkpoint: &Checkpoint,
+    last: Option<&Folded>,
+) -> Result<Checkpoint, CaseFault> {
     let mut journal = Journal::new(alloc);
     let left = checkpoint.len().saturating_sub(1);
     for place in 0..left {
         let turn = checkpoint.read(alloc, place)?;
         push_folded(alloc, &mut journal, &turn)?;
     }
+    if let Some(turn) = last {
+        push_folded(alloc, &mut journal, turn)?;
+    }
     let mut fields = Vec::new(alloc);
     for row in checkpoint.fields() {
         fields.push(Vec::from_slice(alloc, row)?)?;
     }
-    let mut shorter = Checkpoint::new(alloc, Vec::new(alloc));
-    shorter.make_room(&journal)?;
-    shorter.fold(&mut journal, fields);
-    Ok(shorter)
+    let mut changed = Checkpoint::new(alloc, Vec::new(alloc));
+    changed.make_room(&journal)?;
+    changed.fold(&mut journal, fields);
+    Ok(changed)
 }
 
 // Puts a turn to a journal of which a checkpoint has what is left. The rest of it is made up.
