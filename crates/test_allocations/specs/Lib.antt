@@ -1,1 +1,1 @@
-pub mod Want
+pub mod Refusals

@@ -5,11 +5,11 @@ use std::alloc::AllocError;
 /// Why a call was refused.
 pub trait Refusal: Drop {
     /// Whether it says that a growth was refused, and nothing else.
-    fn is_want_of_memory(&self) -> bool;
+    fn is_out_of_memory(&self) -> bool;
 }
 
 impl Refusal for AllocError {
-    fn is_want_of_memory(&self) -> bool {
+    fn is_out_of_memory(&self) -> bool {
         true
     }
 }
@@ -40,7 +40,7 @@ where
     for _ in 0..TRIES {
         match call() {
             Ok(value) => return Some(value),
-            Err(refusal) => refused(rt, name, refusal.is_want_of_memory()),
+            Err(refusal) => refused(rt, name, refusal.is_out_of_memory()),
         }
     }
     wrong(rt, name);
@@ -69,7 +69,7 @@ where
             Ok(value) => return Some(value),
             Err(refusal) => {
                 let is_same = seen(state) == before;
-                refused(rt, name, refusal.is_want_of_memory() && is_same);
+                refused(rt, name, refusal.is_out_of_memory() && is_same);
             }
         }
     }

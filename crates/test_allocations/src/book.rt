@@ -18,7 +18,7 @@ use swift_types::limits::MADE;
 use swift_types::{ActorId, Ending, Fault, LocalId, MethodId, Priority, RootId, TaskId};
 
 impl Refusal for BookFault {
-    fn is_want_of_memory(&self) -> bool
+    fn is_out_of_memory(&self) -> bool
         ensures { IsTrue result ↔ (self.now ≡ Memory) }
     {
         matches!(self, BookFault::Memory)
@@ -142,7 +142,7 @@ fn apply_again(
                     && back.number() == number
                     && back.resume() == resume;
                 let is_whole = done.len() == count && jobs.len() == few && seen(book) == before;
-                let is_promised = fault.is_want_of_memory() && is_same && is_whole;
+                let is_promised = fault.is_out_of_memory() && is_same && is_whole;
                 refused(rt, "Book::apply", is_promised);
                 job = back;
                 effects = done;

@@ -8,7 +8,7 @@ use swift_escalation::{Event, Waits, WaitsFault};
 use swift_types::{Priority, TaskId};
 
 impl Refusal for WaitsFault {
-    fn is_want_of_memory(&self) -> bool
+    fn is_out_of_memory(&self) -> bool
         ensures { IsTrue result ↔ (self.now ≡ Memory) }
     {
         matches!(self, WaitsFault::Memory)

@@ -8,7 +8,7 @@ use swift_groups::{GroupFault, GroupId, Groups};
 use swift_types::{Ending, TaskId};
 
 impl Refusal for GroupFault {
-    fn is_want_of_memory(&self) -> bool
+    fn is_out_of_memory(&self) -> bool
         ensures { IsTrue result ↔ (self.now ≡ Memory) }
     {
         matches!(self, GroupFault::Memory)

@@ -34,6 +34,8 @@ mod script;
 mod tell;
 // A task, turn by turn.
 mod turn;
+// A status word.
+mod word;
 
 use std::process::ExitCode;
 
@@ -43,6 +45,7 @@ fn main(rt: HostRuntime) -> ExitCode {
         let _ = report::run_again(&rt, &rt, &found);
         let _ = script::print_again(&rt, script::TEXT, &found);
     }
+    let _ = report::run_locals_again(&rt, &rt);
     if let Some(found) = script::read_again(&rt, script::WORK) {
         let _ = turn::play_root(&rt, &found);
         let _ = script::print_again(&rt, script::WORK, &found);
@@ -53,5 +56,6 @@ fn main(rt: HostRuntime) -> ExitCode {
     groups::open_again(&rt);
     escalation::wait_again(&rt);
     queue::make_again(&rt);
+    word::open_again(&rt);
     ExitCode::SUCCESS
 }

@@ -2,10 +2,10 @@
 
 ghost use Rattle.std.specs.Prelude.{◌≡◌, ◌↔◌, IsTrue};
 ghost use Rattle.swift_workers.specs.declared.fault.RunFault.TheVariants.{Memory};
-ghost use Rattle.test_allocations.specs.Want.{IsWantOfMemory};
+ghost use Rattle.test_allocations.specs.Refusals.{IsOutOfMemory};
 
 use crate::again::{Refusal, TRIES, again, refused, wrong};
-use crate::script::TEXT;
+use crate::script::{LOCALS, TEXT};
 use std::alloc::AllocGlobal;
 use std::random::RandomSource;
 use std::sync::{Arc, Wait};
@@ -18,7 +18,7 @@ use swift_tool::{ToolFault, run_text};
 use swift_workers::{Open, RunFault, run};
 
 impl Refusal for RunFault {
-    fn is_want_of_memory(&self) -> bool
+    fn is_out_of_memory(&self) -> bool
         ensures { IsTrue result ↔ (self.now ≡ Memory) }
     {
         matches!(self, RunFault::Memory)
@@ -26,12 +26,12 @@ impl Refusal for RunFault {
 }
 
 impl Refusal for ToolFault {
-    fn is_want_of_memory(&self) -> bool
-        ensures { IsTrue result ↔ IsWantOfMemory self.now }
+    fn is_out_of_memory(&self) -> bool
+        ensures { IsTrue result ↔ IsOutOfMemory self.now }
     {
         match self {
-            ToolFault::Script(fault) => fault.is_want_of_memory(),
-            ToolFault::Run(fault) => fault.is_want_of_memory(),
+            ToolFault::Script(fault) => fault.is_out_of_memory(),
+            ToolFault::Run(fault) => fault.is_out_of_memory(),
             ToolFault::Device => false,
         }
     }
@@ -55,7 +55,7 @@ where
     for _ in 0..TRIES {
         match run_shared(wait, script, workers) {
             Ok(report) => return Some(report),
-            Err(fault) => refused(rt, "run", fault.is_want_of_memory()),
+            Err(fault) => refused(rt, "run", fault.is_out_of_memory()),
         }
     }
     wrong(rt, "run");
@@ -96,26 +96,50 @@ where
     let mut out = again(rt, "room for a text", || {
         Vec::with_capacity(alloc, text.len())
     })?;
-    let is_well = run_text_again(rt, wait, &mut out)?;
+    let is_well = run_text_again(rt, wait, TEXT, 1, false, &mut out)?;
     if is_well || out.as_slice() != text {
         wrong(rt, "run_text");
     }
     Some(())
 }
 
-// Runs the script's text, again where that is refused; a refusal has to leave the text that was written as it was.
-fn run_text_again<W>(rt: &HostRuntime, wait: &W, out: &mut Vec<u8>) -> Option<bool>
+/// Runs a script whose tasks make others, on one worker and on two, and writes how they ended.
+pub fn run_locals_again<W>(rt: &HostRuntime, wait: &W) -> Option<()>
+where
+    W: RandomSource + AllocGlobal + Threads + Wait + Sync,
+{
+    for workers in 1..3 {
+        let mut out = again(rt, "room for a text", || {
+            Vec::with_capacity(rt.alloc(), 128)
+        })?;
+        if !run_text_again(rt, wait, LOCALS, workers, true, &mut out)? {
+            wrong(rt, "run_text");
+        }
+        write_all(&mut rt.stdout(), &out).ok()?;
+    }
+    Some(())
+}
+
+// Runs a script's text, again where that is refused; a refusal has to leave the text that was written as it was.
+fn run_text_again<W>(
+    rt: &HostRuntime,
+    wait: &W,
+    text: &str,
+    workers: u32,
+    quiet: bool,
+    out: &mut Vec<u8>,
+) -> Option<bool>
 where
     W: RandomSource + AllocGlobal + Threads + Wait + Sync,
 {
     for _ in 0..TRIES {
         let before = out.len();
-        match run_text(wait, TEXT.as_bytes(), 1, false, &Open, out) {
+        match run_text(wait, text.as_bytes(), workers, quiet, &Open, out) {
             Ok(is_well) => return Some(is_well),
             Err(fault) => refused(
                 rt,
                 "run_text",
-                fault.is_want_of_memory() && out.len() == before,
+                fault.is_out_of_memory() && out.len() == before,
             ),
         }
     }

@@ -142,8 +142,33 @@ root first = Worker.work(1, 2);
 root second = Maker.make(4) at high;
 ";
 
+/// A script whose task makes one of each kind, with bindings.
+pub const LOCALS: &str = "local L = 7;
+actor A {
+    func get() { return @L; }
+    func run() {
+        let s = 0;
+        bind L = 1 {
+            bind L = 2 { s = @L; }
+            s = s * 10 + @L;
+            let h = spawn A.get();
+            let d = detach A.get();
+            let c = 0;
+            group g { add g A.get(); c = await next g; }
+            s = s * 10 + c;
+            let x = await task h;
+            s = s * 10 + x;
+            x = await task d;
+            s = s * 10 + x;
+        }
+        return s;
+    }
+}
+root r = A.run();
+";
+
 impl Refusal for ScriptFault {
-    fn is_want_of_memory(&self) -> bool
+    fn is_out_of_memory(&self) -> bool
         ensures { IsTrue result ↔ ((self.now.line ≡ 0) × (self.now.kind ≡ ScriptMemory)) }
     {
         self.line == 0 && self.kind == ScriptFaultKind::Memory
@@ -151,7 +176,7 @@ impl Refusal for ScriptFault {
 }
 
 impl Refusal for ReadError {
-    fn is_want_of_memory(&self) -> bool
+    fn is_out_of_memory(&self) -> bool
         ensures { IsTrue result ↔ (self.now ≡ Memory) }
     {
         matches!(self, ReadError::Memory)

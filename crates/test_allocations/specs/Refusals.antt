@@ -6,7 +6,7 @@ use Rattle.swift_tool.specs.declared.fault.ToolFault.{ToolFault}
 use Rattle.swift_tool.specs.declared.fault.ToolFault.TheVariants.{Script, Run, Device}
 
 -- while the script was read, on no line of it, or in the run
-abbrev pub IsWantOfMemory : ToolFault → Type 0
-IsWantOfMemory (Script fault) = (fault.line ≡ 0) × (fault.kind ≡ kind.Memory)
-IsWantOfMemory (Run fault) = fault ≡ run.Memory
-IsWantOfMemory Device = ⊥
+abbrev pub IsOutOfMemory : ToolFault → Type 0
+IsOutOfMemory (Script fault) = (fault.line ≡ 0) × (fault.kind ≡ kind.Memory)
+IsOutOfMemory (Run fault) = fault ≡ run.Memory
+IsOutOfMemory Device = ⊥
