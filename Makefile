@@ -38,7 +38,7 @@ examples: $(PROGRAM)
 	done
 
 # More allocations than a run of test_allocations makes, and than one of test_executor_allocations.
-ALLOCATIONS = 5000
+ALLOCATIONS = 8000
 EXECUTOR_ALLOCATIONS = 800
 
 # Runs the program CRATE once for each STEP-th of its allocations, with that one refused, and compares what it writes with
