@@ -67,7 +67,7 @@ refusals:
 
 # A sample of them.
 refusals-sample:
-	@$(MAKE) --no-print-directory refusals STEP=60 EXECUTOR_STEP=40
+	@$(MAKE) --no-print-directory refusals STEP=100 EXECUTOR_STEP=40
 
 # Whether what the documents link to is there.
 links:
