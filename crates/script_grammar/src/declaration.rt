@@ -12,7 +12,8 @@ pub enum ExecutorKind {
     Priority,
     /// `fifo`: the oldest first.
     Fifo,
-    /// `pinned k`: as `priority`, and run by one worker alone: the k-th modulo the number of workers.
+    /// `pinned k`: as `priority`, and run by one worker alone: the k-th modulo the number of workers. The grammar takes
+    /// every `i64`; a script whose names are in order has 0 to 7.
     Pinned(i64),
 }
 
@@ -63,7 +64,7 @@ pub struct Actor {
     pub executor: Option<Name>,
     /// Its fields, in order.
     pub fields: Vec<Field>,
-    /// Its invariant, if it has one: a test that is to hold after each of its turns (our own).
+    /// Its invariant, if it has one: a test that holds after each turn on its executor (our own).
     pub invariant: Option<Expr>,
     /// Its methods, in order.
     pub methods: Vec<Method>,

@@ -16,6 +16,7 @@ pub enum Region {
     Method,
     /// In a group's block, where no `return` stands.
     Group,
-    /// In the block of an `assume`, where only statements stand that neither wait nor make tasks.
+    /// In the block of an `assume`, where nothing waits, gives way, returns or cancels, or makes a task, a group or a
+    /// binding.
     Assume,
 }

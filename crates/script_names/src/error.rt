@@ -28,7 +28,9 @@ pub enum NameErrorKind {
 /// What is wrong, and how many names stand in the text before the name that is concerned.
 #[derive(Clone, Copy)]
 pub struct NameError {
+    /// What is wrong.
     pub kind: NameErrorKind,
+    /// How many names stand before it, from the start of the text.
     pub names_before: u32,
 }
 
@@ -37,6 +39,7 @@ pub struct NameError {
 pub enum CheckError {
     /// A growth was refused.
     Memory,
+    /// A name is at fault.
     Name(NameError),
 }
 

@@ -9,7 +9,7 @@ use std::fmt::{self, Display, Formatter, Write};
 use std::marker::Model;
 use swift_types::{Priority, TaskId};
 
-/// What happened to tasks.
+/// What happened to tasks, as far as their priorities ask (SE-0304; that it is logged is our own).
 #[derive(Clone, Copy, Debug, PartialEq, Eq)]
 pub enum Event {
     /// A root task was added, with its priority.

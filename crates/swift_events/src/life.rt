@@ -20,7 +20,7 @@ pub enum Origin {
     Detached(TaskId),
 }
 
-/// The last job that was made for a task.
+/// The last job that was made for a task (our own).
 #[derive(Clone, Copy, PartialEq, Eq)]
 pub struct Given {
     /// The number of its turn.
@@ -29,7 +29,7 @@ pub struct Given {
     pub resume: Resume,
 }
 
-/// How far a task is with its last job.
+/// How far a task is with its last job (our own).
 #[derive(Clone, Copy, PartialEq, Eq)]
 pub enum Stage {
     /// The job was made.

@@ -3,7 +3,7 @@
 use swift_locals::Bindings;
 use swift_types::{ActorId, MethodId, Priority, RootId};
 
-/// A method that is to run.
+/// A method that is to run (our own).
 #[derive(Drop)]
 pub struct Invocation {
     /// The actor that the method is of.
@@ -14,7 +14,7 @@ pub struct Invocation {
     pub args: Vec<i64>,
 }
 
-/// A task, as a frame names it.
+/// A task, as a frame names it (our own).
 #[derive(Clone, Copy, PartialEq, Eq)]
 pub enum TaskName {
     /// A root's task.

@@ -41,7 +41,8 @@ impl Undo {
         self.frame.groups.reserve(frame.groups.len())
     }
 
-    // A turn begins, with no effects, which may make this many tasks.
+    /// A turn begins, with no effects, which may make this many tasks. After an error its frame, fields and method are as
+    /// they were.
     pub fn begin(&mut self, turn: &mut TurnState, room: u32) -> Result<(), AllocError>
         ensures state { (at : _) → state_of at turn.new ≡ state_in at (frame_view turn.old.frame) (rows_of turn.old.fields.items) [] room }
         ensures frame { frame_view turn.new.frame ≡ frame_view turn.old.frame }
@@ -57,7 +58,7 @@ impl Undo {
         copy_frame(&turn.frame, &mut self.frame)
     }
 
-    // The turn under way is undone: it has done nothing, and may make this many tasks.
+    /// The turn under way is undone: it has done nothing, and may make this many tasks.
     pub fn put_back(&mut self, turn: &mut TurnState, room: u32)
         ensures state { (at : _) → state_of at turn.new ≡ state_in at (frame_view self.old.frame) (fields_before self.old.saved turn.old) [] room }
         ensures frame { frame_view turn.new.frame ≡ frame_view self.old.frame }

@@ -25,7 +25,7 @@ use swift_groups::{Close, Next};
 use swift_types::limits::{MADE, TASKS};
 use swift_types::{Priority, TaskId};
 
-/// The log of a run, and indexes by which each question below is answered in constant time. Only `note` writes.
+/// The log of a run, and indexes by which each question below is answered in constant time (our own). Only `note` writes.
 #[derive(Drop)]
 pub struct Ledger {
     roots: usize,

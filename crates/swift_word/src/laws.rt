@@ -1,5 +1,5 @@
 //! What holds after every schedule of the mail machine, and between any two steps of a word. Each function's contract
-//! is the law; the functions do nothing.
+//! is the law; the functions do nothing. That at most one thread holds is SE-0306's; the machine is our own.
 
 ghost use Rattle.std.specs.Prelude.{◌≡◌, ℕ, ◌+◌, ◌*◌, ◌^◌, ◌<◌, ◌≤◌, true, false, List, length, All, IsPermutation, find, slice_get, bit_or, [], ◌∷◌, Some, IsSome, IfSome};
 ghost use mathlib.Core.Option.{none, some};
