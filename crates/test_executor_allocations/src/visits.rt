@@ -5,6 +5,7 @@ use crate::again::{
     tasks_again, text_again, wrong,
 };
 use std::sync::Wait;
+use swift_events::Event;
 use swift_executor::{ExecFault, Open, Ran};
 use swift_tasks::BookFault;
 use swift_types::TaskId;
@@ -155,6 +156,15 @@ fn tell_close<W: Wait>(rt: &HostRuntime, wait: &W, door: Door, setting: &Setting
     }
 }
 
+// Whether the log has, behind the two events of each root, at most the begin of the first task's first turn. Where a
+// visit is refused after that begin, the room of the turn stays reserved until it begins again and is applied.
+fn has_begun_at_most(log: &[Event]) -> bool {
+    matches!(
+        *log,
+        [_, _, _, _] | [_, _, _, _, Event::Begin(TaskId(0), 0, _)]
+    )
+}
+
 // The first visit alone: where it is refused, no turn was run, both jobs are ready, and the field is as it was.
 fn first_visit<W: Wait>(
     rt: &HostRuntime,
@@ -168,6 +178,9 @@ fn first_visit<W: Wait>(
     send_root(rt, wait, &mut door, &tasks, 1)?;
     let mut jobs = Jobs::new(rt.alloc());
     let ran = visit(rt, wait, &mut door, &tasks, poller, &mut jobs, 1);
+    if ran.is_none() && !has_begun_at_most(tasks.book.lock(wait).log()) {
+        wrong(rt, "Book::begin");
+    }
     let (left, text) = close(rt, wait, door, setting)?;
     let (ready, wanted) = match ran {
         Some(_) => (1, VISITED),
