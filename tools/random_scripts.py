@@ -1,5 +1,5 @@
 #!/usr/bin/env python3
-"""Writes scripts whose tasks and fields don't depend on the order of turns, as cases of test_workers.
+"""Writes scripts whose tasks and fields don't depend on the order of turns, as cases of test_scripts.
 
     tools/random_scripts.py COUNT SEED
 
@@ -77,7 +77,7 @@ def main():
     count, seed = int(sys.argv[1]), int(sys.argv[2])
     for n in range(count):
         r = random.Random(seed * 1_000 + n)
-        print(f"== same random script {n}\n{script(r)}\n")
+        print(f"== agree random script {n}\n{script(r)}\n")
 
 
 main()

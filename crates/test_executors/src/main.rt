@@ -24,6 +24,11 @@
 //!                        the calls for each number, which stands in place of `#`; what the last of them answer is written
 //! ```
 //!
+//! A case `== held at MOMENT`, with nothing behind it, is two threads on one executor with the job of task 0 in its inbox: a
+//! worker that visits it, and one that sends the job of task 1. At `Pushed` and `Counted` the thread that sends is held, at each
+//! other moment the one that visits. The call that is not held begins when the other is held. A thread looks 1,000,000 times for
+//! the other, and else says `too long`. Then another worker visits the executor, until nothing is left.
+//!
 //! Desks are numbered from 0: first the one that each executor is made with, in the order of executors, and then those that were
 //! split. Calls in braces use other desks than the call behind them. MOMENT is the name of a moment of the gate. In answers `t3.1`
 //! is turn 1 of task 3.
@@ -37,12 +42,15 @@ mod call;
 mod case;
 // What is left of executors.
 mod end;
+// A thread that is held.
+mod hold;
 // What the calls of a case work on.
 mod stage;
 // What calls answered.
 mod tell;
+// Two threads.
+mod threads;
 
-use crate::case::play;
 use std::io;
 
 fn main(rt: HostRuntime) -> io::Result<()> {
@@ -52,7 +60,10 @@ fn main(rt: HostRuntime) -> io::Result<()> {
     let _comment = cases.next();
     for case in cases {
         let mut out = String::new(rt.alloc());
-        play(&rt, case, &mut out);
+        match case.strip_prefix("held at ") {
+            Some(moment) => threads::play(&rt, moment, &mut out),
+            None => case::play(&rt, case, &mut out),
+        };
         print!(rt; "{out}")?;
     }
     Ok(())

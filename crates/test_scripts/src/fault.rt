@@ -9,6 +9,8 @@ use swift_output::Device;
 pub enum CaseFault {
     /// A case has not the form that it needs.
     Form,
+    /// A script that has to be run is refused, or its run is.
+    Script,
     Memory,
     /// Standard input or output failed.
     Device,

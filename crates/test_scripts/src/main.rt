@@ -26,12 +26,38 @@
 //! - `moments`: how often a gate is told of a token, and of a turn of task 1 on executor 0.
 //! - `faults`: what the program says of each fault of its own.
 //! - `words`: what the words of each line ask the program for, or what is said of them, with the status.
+//! - `agree`: the report of the run on one worker without its journals, whether those on two, four and eight workers are the same,
+//!   and what is said of none and of nine. No script here says more than its tasks and fields, in which all runs have to agree.
+//! - `turns`: the report of a run on four workers without the lines of its turns, of which the order depends on the schedule.
+//! - `gated`: the same of two hundred such runs, in each of which a thread gives way at one moment, each time a later one.
+//! - `legal`: whether the report of a run on two workers is legal.
+//! - `changed`: whether the report of a run on one worker is legal once it is changed as the title says. After a line `--` stands
+//!   another script, against which the report is held. The changes are
+//!
+//!   ```text
+//!   nothing
+//!   field N          the first field is N
+//!   records          the first executor's journal has no turns
+//!   end N            each task has ended with the value N, by the log
+//!   ending N         the first task has, by the endings
+//!   origin           the first task is a detached one, by the endings
+//!   cancel           the first task is cancelled before its first turn, which has seen it
+//!   worker           each turn of the first executor ran on worker 7
+//!   checkpoint N     the one field of the first checkpoint is N
+//!   folded           the last turn of the first checkpoint is left out
+//!   frame            the last turn of the first checkpoint leaves no frame
+//!   made N           its task has made N tasks, in the frame that it leaves and in the later turns of the first journal
+//!   ```
+//!
+//! - `meet`: of two executors that are run by two workers, how many wait, once they are begun, until the other is begun too.
 //!
 //! What is accepted is printed, and has to be read again.
 //!
 //! A line that begins with `wrong: ` is in no right output.
 #![tactic(auto)]
 
+// Changes of reports.
+mod change;
 // Devices that take or give little, and devices that fail.
 mod devices;
 // Bytes and repetitions in the text of a case.
@@ -40,6 +66,12 @@ mod escapes;
 mod fault;
 // The words of faults that the program says.
 mod faults;
+// Runs whose threads give way.
+mod gated;
+// Changes of journals and of checkpoints.
+mod journals;
+// Two executors that wait for each other.
+mod meeting;
 // What a gate is given of a run.
 mod moments;
 // Two texts, and whether they say the same.
@@ -54,6 +86,8 @@ mod running;
 mod tally;
 // Words of a command line.
 mod words;
+// Runs on several workers, and reports that are changed.
+mod workers;
 
 use crate::escapes::expand;
 use crate::fault::CaseFault;
@@ -88,12 +122,18 @@ where
     };
     let mut out = Vec::new(rt.alloc());
     writeln!(out, "== {title}")?;
-    answer(rt, kind, text, &mut out)?;
+    answer(rt, kind, title, text, &mut out)?;
     Ok(out)
 }
 
 // What is said of a text in a case of this kind.
-fn answer<R>(rt: &R, kind: &str, text: &str, out: &mut Vec<u8>) -> Result<(), CaseFault>
+fn answer<R>(
+    rt: &R,
+    kind: &str,
+    title: &str,
+    text: &str,
+    out: &mut Vec<u8>,
+) -> Result<(), CaseFault>
 where
     R: RandomSource + AllocGlobal + Threads + Wait + Sync,
 {
@@ -107,6 +147,9 @@ where
         "failing" => devices::failing_input(alloc, out),
         "faults" => faults::program_faults(out),
         "words" => words::words(alloc, text, out),
+        "agree" | "turns" | "gated" | "legal" | "meet" | "changed" => {
+            workers::answer(rt, kind, title, text, out)
+        }
         _ => answer_whole(rt, kind, &expand(alloc, text)?, out),
     }
 }

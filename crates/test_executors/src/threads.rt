@@ -136,7 +136,7 @@ where
     let answers = play_roots(rt, &mut door, &tasks, &hold, moment);
     let next = visit(rt, &mut door, 1, &tasks, &Open);
     let last = visit(rt, &mut door, 1, &tasks, &Open);
-    writeln!(out, "{moment}\n  sent and visited: {answers:?}").ok()?;
+    writeln!(out, "== held at {moment}\n  sent and visited: {answers:?}").ok()?;
     writeln!(out, "  next: {next:?}\n  last: {last:?}").ok()?;
     if hold.is_too_long() {
         out.push_str("  too long\n").ok()?;

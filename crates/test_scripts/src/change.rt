@@ -1,7 +1,7 @@
 //! Changes of reports.
 
 use crate::fault::CaseFault;
-use crate::turns::{
+use crate::journals::{
     journal_on_worker, journal_with_flag, journal_with_made, start_at, with_made, without_frame,
     without_last,
 };
@@ -15,7 +15,7 @@ use swift_types::{Ending, TaskId};
 pub fn make(alloc: Global, report: &mut Report, words: &str) -> Result<(), CaseFault> {
     let (change, number) = words.split_once(' ').unwrap_or((words, "0"));
     let Ok(value) = number.parse::<i64>() else {
-        return Err(CaseFault::Change);
+        return Err(CaseFault::Form);
     };
     match change {
         "nothing" => {}
@@ -30,7 +30,7 @@ pub fn make(alloc: Global, report: &mut Report, words: &str) -> Result<(), CaseF
         "folded" => leave_out_folded(alloc, report)?,
         "frame" => leave_out_frame(alloc, report)?,
         "made" => change_made(alloc, report, value)?,
-        _ => return Err(CaseFault::Change),
+        _ => return Err(CaseFault::Form),
     }
     Ok(())
 }
@@ -130,7 +130,7 @@ fn leave_out_frame(alloc: Global, report: &mut Report) -> Result<(), CaseFault> 
 
 fn change_made(alloc: Global, report: &mut Report, value: i64) -> Result<(), CaseFault> {
     let Ok(made) = u64::try_from(value) else {
-        return Err(CaseFault::Change);
+        return Err(CaseFault::Form);
     };
     if !report.checkpoints.is_empty() && !report.journals.is_empty() {
         let (checkpoint, task) = with_made(alloc, &report.checkpoints[0], made)?;

@@ -1,7 +1,7 @@
 //! Runs whose threads give way.
 
 use crate::fault::CaseFault;
-use crate::report_on;
+use crate::workers::report_on;
 use std::alloc::{AllocError, AllocGlobal, Global};
 use std::io::Write;
 use std::random::RandomSource;
