@@ -127,7 +127,7 @@ pub fn with_made(
 fn last_of(alloc: Global, checkpoint: &Checkpoint) -> Result<Folded, CaseFault> {
     let count = checkpoint.len();
     if count == 0 {
-        return Err(CaseFault::Change);
+        return Err(CaseFault::Form);
     }
     Ok(checkpoint.read(alloc, count - 1)?)
 }
