@@ -9,10 +9,16 @@ try:
 	@said=$$(mktemp); (cd crates/swiftrun && rt try --steps 1 -- $(ARGS)) < $(SCRIPT) 2> $$said; status=$$?; \
 	if [ $$status -gt 1 ]; then cat $$said >&2; fi; rm $$said; [ $$status -le 1 ]
 
-# Proves the program, and what it stands on where that has changed, and builds it.
-$(PROGRAM): crates.txt $(SOURCES)
-	@tools/prove.py swiftrun
-	@cd crates/swiftrun && rt run < /dev/null > /dev/null 2> ../../out/prove/build.log && touch out/swiftrun
+# Proves a program, and what it stands on where that has changed, and builds it. Its run, with some words, is not shown.
+define program
+crates/$(1)/out/$(1): crates.txt $$(SOURCES)
+	@tools/prove.py $(1)
+	@cd crates/$(1) && rt run $(2) < /dev/null > /dev/null 2> ../../out/prove/build.log && touch out/$(1)
+endef
+$(eval $(call program,swiftrun))
+$(eval $(call program,bench_parts,-- nothing 1))
+$(eval $(call program,test_allocations))
+$(eval $(call program,test_executor_allocations))
 
 # Runs a script with the proved program. Status 0 also where a task ended with a fault.
 run: $(PROGRAM)
@@ -37,37 +43,11 @@ examples: $(PROGRAM)
 		echo "$$script prints what it has to"; \
 	done
 
-# More allocations than a run of test_allocations makes, and than one of test_executor_allocations.
-ALLOCATIONS = 8000
-EXECUTOR_ALLOCATIONS = 800
+# Runs both programs once for each of their allocations, with that one refused.
+REFUSED = test_allocations test_executor_allocations
 
-# Runs the program CRATE once for each STEP-th of its allocations, with that one refused, and compares what it writes with
-# its file stdout. A run's file has the number of allocations that are made and given back first; the run of the file 0
-# has to be refused none.
-refused:
-	@cases=$$(mktemp -d); \
-	for n in 0 $$(seq 1 $(STEP) $$(($(ALLOCATIONS) - 1))); do \
-		echo $$n > $$cases/$$n; cp crates/$(CRATE)/stdout $$cases/$$n.stdout; \
-	done; \
-	rm $$cases/0.stdout; \
-	(cd crates/$(CRATE) && rt try --steps 1 --fail-alloc $(ALLOCATIONS) --cases $$cases) > $$cases.out 2>&1; \
-	status=$$?; \
-	if grep -q '^refused: ' $$cases.out; then echo 'ALLOCATIONS is too small'; status=1; fi; \
-	sed '/^== 0$$/,/^case=0 /d; /^allocations/d; / output=expected /d' $$cases.out; \
-	rm -r $$cases $$cases.out; \
-	exit $$status
-
-# Runs both programs for each of their allocations. With steps of 1 it takes half an hour.
-STEP = 1
-EXECUTOR_STEP = 1
-refusals:
-	@$(MAKE) --no-print-directory refused CRATE=test_allocations
-	@$(MAKE) --no-print-directory refused CRATE=test_executor_allocations \
-		ALLOCATIONS=$(EXECUTOR_ALLOCATIONS) STEP=$(EXECUTOR_STEP)
-
-# A sample of them.
-refusals-sample:
-	@$(MAKE) --no-print-directory refusals STEP=100 EXECUTOR_STEP=40
+refusals: $(foreach name,$(REFUSED),crates/$(name)/out/$(name))
+	@tools/refusals.py $(REFUSED)
 
 # Whether what the documents link to is there.
 links:
@@ -75,13 +55,8 @@ links:
 
 MEASURE = crates/bench_parts/out/bench_parts
 
-# Its run on the stored words is not shown.
-$(MEASURE): crates.txt $(SOURCES)
-	@tools/prove.py bench_parts
-	@cd crates/bench_parts && rt run -- nothing 1 > /dev/null 2> ../../out/prove/build.log && touch out/bench_parts
-
 # Measures, and asserts nothing: builds both programs, and prints tables.
 bench: $(PROGRAM) $(MEASURE)
 	@python3 bench/run.py
 
-.PHONY: try run test prove mutants examples refused refusals refusals-sample links bench
+.PHONY: try run test prove mutants examples refusals links bench

@@ -5,15 +5,10 @@
 //! growth was refused or not, and its status is 0: it is run once for each of its allocations, with that one refused,
 //! and the texts are compared. A line `wrong: ..` stands where a promise is not kept. A refusal is given on standard
 //! error.
-//!
-//! Standard input may have a number: so many allocations are made and given back first. So a run in which the n-th
-//! allocation is refused, whatever n, can refuse any of those after them.
 #![tactic(auto)]
 
 // Calls that are made again where they are refused.
 mod again;
-// Allocations before all others.
-mod ballast;
 // A book of tasks.
 mod book;
 // Priorities of tasks that wait.
@@ -40,7 +35,6 @@ mod word;
 use std::process::ExitCode;
 
 fn main(rt: HostRuntime) -> ExitCode {
-    ballast::burn(&rt);
     if let Some(found) = script::read_again(&rt, script::TEXT) {
         let _ = report::run_again(&rt, &rt, &found);
         let _ = script::print_again(&rt, script::TEXT, &found);

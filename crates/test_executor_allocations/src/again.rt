@@ -5,13 +5,6 @@ use test_desks::{Door, Jobs, Leavings, Poller, Setting, Tasks};
 /// How often a call is made: in a run at most one growth is refused.
 pub const TRIES: u32 = 2;
 
-/// Makes so many allocations, and gives each back.
-pub fn burn(rt: &HostRuntime, count: u32) {
-    for _ in 0..count {
-        let _ = Box::new(rt.alloc(), 0u64);
-    }
-}
-
 /// Tells of a refusal on standard error, and writes a line more where it is not the promised one.
 pub fn refused(rt: &HostRuntime, call: &str, is_promised: bool) {
     let _ = eprintln!(rt; "refused: {call}");

@@ -17,7 +17,7 @@ pub struct Acting<'a, R: Wait + RandomSource + AllocGlobal> {
 }
 
 // The name of a moment, whatever executor, worker and task it is of.
-fn name_of(moment: Moment) -> &'static str {
+pub(crate) fn name_of(moment: Moment) -> &'static str {
     match moment {
         Moment::Took(_, _) => "Took",
         Moment::Began(_, _) => "Began",

@@ -1,5 +1,6 @@
 //! A thread that is held.
 
+use crate::acting::name_of;
 use std::sync::atomic::{AtomicBool, Ordering};
 use std::thread;
 use swift_executor::{Gate, Moment};
@@ -57,20 +58,6 @@ impl Hold {
 pub struct Holding<'a> {
     pub hold: &'a Hold,
     pub moment: &'a str,
-}
-
-// The name of a moment, whatever executor, worker and task it is of.
-fn name_of(moment: Moment) -> &'static str {
-    match moment {
-        Moment::Took(_, _) => "Took",
-        Moment::Began(_, _) => "Began",
-        Moment::Accepted(_, _) => "Accepted",
-        Moment::Chose(_, _, _) => "Chose",
-        Moment::Turned(_, _, _) => "Turned",
-        Moment::Ended(_, _) => "Ended",
-        Moment::Pushed(_, _) => "Pushed",
-        Moment::Counted(_, _) => "Counted",
-    }
 }
 
 impl<'a> Gate for Holding<'a> {
