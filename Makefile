@@ -9,11 +9,10 @@ try:
 	@said=$$(mktemp); (cd crates/swiftrun && rt try --steps 1 -- $(ARGS)) < $(SCRIPT) 2> $$said; status=$$?; \
 	if [ $$status -gt 1 ]; then cat $$said >&2; fi; rm $$said; [ $$status -le 1 ]
 
-# Proves a program, and what it stands on where that has changed, and builds it. Its run, with some words, is not shown.
+# Proves a program and what it stands on, and builds it.
 define program
 crates/$(1)/out/$(1): crates.txt $$(SOURCES)
-	@tools/prove.py $(1)
-	@cd crates/$(1) && rt run $(2) < /dev/null > /dev/null 2> ../../out/prove/build.log && touch out/$(1)
+	@tools/build.py $(1) $(2) && touch $$@
 endef
 $(eval $(call program,swiftrun))
 $(eval $(call program,bench_parts,-- nothing 1))

@@ -15,6 +15,7 @@ import sys
 import time
 
 TOP = os.path.dirname(os.path.dirname(os.path.abspath(__file__)))
+JOBS = max(1, min(4, os.cpu_count() or 2))
 
 
 def graph():
@@ -61,16 +62,8 @@ def show(path):
     print(f"    all of it: {os.path.relpath(path)}", flush=True)
 
 
-def main():
-    stands_on = graph()
-    words = argparse.ArgumentParser(description="Proves crates and what they stand on.")
-    words.add_argument("names", nargs="*", metavar="NAME")
-    words.add_argument("--jobs", type=int, default=max(1, min(4, (os.cpu_count() or 2))))
-    words = words.parse_args()
-    for name in words.names:
-        if name not in stands_on:
-            sys.exit(f"crates.txt has no crate {name}")
-    names = in_order(stands_on, words.names or list(stands_on))
+def prove_all(names, stands_on, jobs):
+    """Proves these crates in this order. Those that were not proved."""
     logs = os.path.join(TOP, "out", "prove")
     os.makedirs(logs, exist_ok=True)
     failed = set()
@@ -79,14 +72,28 @@ def main():
             failed.add(name)
             print(f"not tried {name}", flush=True)
             continue
-        status, seconds = prove(name, logs, words.jobs)
+        status, seconds = prove(name, logs, jobs)
         word = "NOT PROVED" if status else "proved"
         print(f"{word} {name} ({seconds:.0f} s), {len(names) - place - 1} left", flush=True)
         if status:
             failed.add(name)
             show(os.path.join(logs, name + ".log"))
-    if failed:
+    return failed
+
+
+def main():
+    stands_on = graph()
+    words = argparse.ArgumentParser(description="Proves crates and what they stand on.")
+    words.add_argument("names", nargs="*", metavar="NAME")
+    words.add_argument("--jobs", type=int, default=JOBS)
+    words = words.parse_args()
+    for name in words.names:
+        if name not in stands_on:
+            sys.exit(f"crates.txt has no crate {name}")
+    names = in_order(stands_on, words.names or list(stands_on))
+    if prove_all(names, stands_on, words.jobs):
         sys.exit(1)
 
 
-main()
+if __name__ == "__main__":
+    main()

@@ -1,17 +1,28 @@
 /* Loaded before a program (LD_PRELOAD), it refuses the program one allocation: the one of the number in REFUSE, from 1
-   on. It then says so on standard error, in the line "refused". All other allocations are the C library's. */
+   on. It then writes a byte to the descriptor REFUSE_TELL. All other allocations are the C library's. */
 #include <errno.h>
 #include <stdatomic.h>
 #include <stdlib.h>
 #include <unistd.h>
 
+extern void *__libc_malloc(size_t size);
+extern void *__libc_realloc(void *block, size_t size);
+extern void *__libc_memalign(size_t align, size_t size);
+
 static atomic_long made;
 static long number;
+static int tell;
+
+static int number_in(const char *name)
+{
+    const char *word = getenv(name);
+    return word ? atoi(word) : 0;
+}
 
 __attribute__((constructor)) static void begin(void)
 {
-    const char *word = getenv("REFUSE");
-    number = word ? atol(word) : 0;
+    tell = number_in("REFUSE_TELL");
+    number = number_in("REFUSE");
     atomic_store(&made, 0);
 }
 
@@ -20,15 +31,12 @@ static int is_refused(void)
     if (number == 0 || atomic_fetch_add(&made, 1) + 1 != number) {
         return 0;
     }
-    ssize_t told = write(2, "refused\n", 8);
-    (void)told;
+    if (write(tell, "1", 1) != 1) {
+        abort();
+    }
     errno = ENOMEM;
     return 1;
 }
-
-extern void *__libc_malloc(size_t size);
-extern void *__libc_realloc(void *block, size_t size);
-extern void *__libc_memalign(size_t align, size_t size);
 
 void *malloc(size_t size)
 {
