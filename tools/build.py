@@ -73,6 +73,8 @@ def main():
     stands_on = graph()
     if name not in stands_on:
         sys.exit(f"crates.txt has no crate {name}")
+    if not os.path.exists(os.path.join(TOP, "crates", name, "src", "main.rt")):
+        sys.exit(f"{name} is no program")
     names = in_order(stands_on, [name])
     os.makedirs(LOGS, exist_ok=True)
     if all(os.path.isdir(os.path.join(TOP, "crates", each, "out", "incremental")) for each in names):
