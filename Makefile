@@ -17,7 +17,6 @@ endef
 $(eval $(call program,swiftrun))
 $(eval $(call program,bench_parts,-- nothing 1))
 $(eval $(call program,test_allocations))
-$(eval $(call program,test_executor_allocations))
 
 # Runs a script with the proved program. Status 0 also where a task ended with a fault.
 run: $(PROGRAM)
@@ -42,11 +41,9 @@ examples: $(PROGRAM)
 		echo "$$script prints what it has to"; \
 	done
 
-# Runs both programs once for each of their allocations, with that one refused.
-REFUSED = test_allocations test_executor_allocations
-
-refusals: $(foreach name,$(REFUSED),crates/$(name)/out/$(name))
-	@tools/refusals.py $(REFUSED)
+# Runs a program once for each of its allocations, with that one refused.
+refusals: crates/test_allocations/out/test_allocations
+	@tools/refusals.py test_allocations
 
 # Whether what the documents link to is there.
 links:

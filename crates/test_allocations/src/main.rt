@@ -13,6 +13,10 @@ mod again;
 mod book;
 // Priorities of tasks that wait.
 mod escalation;
+// An executor that is visited.
+mod executor;
+// Calls on executors that are made again where they are refused.
+mod executor_again;
 // Task groups.
 mod groups;
 // An inbox of an executor.
@@ -51,5 +55,7 @@ fn main(rt: HostRuntime) -> ExitCode {
     escalation::wait_again(&rt);
     queue::make_again(&rt);
     word::open_again(&rt);
+    let _ = executor::visit_executors(&rt, &rt);
+    let _ = executor::fold_journal(&rt, &rt);
     ExitCode::SUCCESS
 }

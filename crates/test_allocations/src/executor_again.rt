@@ -1,25 +1,10 @@
-//! Calls that are made again where they are refused.
+//! Calls on executors that are made again where they are refused.
 
+use crate::again::{TRIES, refused, wrong};
 use test_desks::{Door, Jobs, Leavings, Poller, Setting, Tasks};
 
-/// How often a call is made: in a run at most one growth is refused.
-pub const TRIES: u32 = 2;
-
-/// Tells of a refusal on standard error, and writes a line more where it is not the promised one.
-pub fn refused(rt: &HostRuntime, call: &str, is_promised: bool) {
-    let _ = eprintln!(rt; "refused: {call}");
-    if !is_promised {
-        wrong(rt, call);
-    }
-}
-
-/// Writes a line that is in no right text.
-pub fn wrong(rt: &HostRuntime, call: &str) {
-    let _ = println!(rt; "wrong: {call}");
-}
-
 // Makes a call until it is not refused. None where it never answers.
-fn again<T, F>(rt: &HostRuntime, name: &str, mut call: F) -> Option<T>
+fn made<T, F>(rt: &HostRuntime, name: &str, mut call: F) -> Option<T>
 where
     F: FnMut() -> Option<T> + Drop,
     requires { F.IsAlwaysCallable call }
@@ -36,24 +21,24 @@ where
 
 /// The script of a text.
 pub fn setting_again(rt: &HostRuntime, text: &str) -> Option<Setting> {
-    again(rt, "read", || Setting::read(rt.alloc(), text))
+    made(rt, "read", || Setting::read(rt.alloc(), text))
 }
 
 /// A book without tasks.
 pub fn tasks_again(rt: &HostRuntime, setting: &Setting) -> Option<Tasks> {
-    again(rt, "Book::new", || setting.tasks(rt.alloc()).ok())
+    made(rt, "Book::new", || setting.tasks(rt.alloc()).ok())
 }
 
 /// The first executor of a script, for one worker, with this room.
 pub fn door_again(rt: &HostRuntime, setting: &Setting, room: usize) -> Option<Door> {
-    again(rt, "Exec::new", || {
+    made(rt, "Exec::new", || {
         setting.open(rt.alloc(), 0, 1, room).ok()
     })
 }
 
 /// No job, with room for one.
 pub fn jobs_again(rt: &HostRuntime) -> Option<Jobs> {
-    again(rt, "Vec::with_capacity", || {
+    made(rt, "Vec::with_capacity", || {
         let list = Vec::with_capacity(rt.alloc(), 1).ok()?;
         Some(Jobs { list })
     })
@@ -61,17 +46,17 @@ pub fn jobs_again(rt: &HostRuntime) -> Option<Jobs> {
 
 /// What polls turns.
 pub fn poller_again(rt: &HostRuntime) -> Option<Poller> {
-    again(rt, "Solo::new", || Poller::new(rt).ok())
+    made(rt, "Solo::new", || Poller::new(rt).ok())
 }
 
 /// What executors leave, of which none is closed yet.
 pub fn leavings_again(rt: &HostRuntime) -> Option<Leavings> {
-    again(rt, "Vec::with_capacity", || Leavings::new(rt.alloc()).ok())
+    made(rt, "Vec::with_capacity", || Leavings::new(rt.alloc()).ok())
 }
 
 /// A report of the turns and fields that executors leave.
 pub fn text_again(rt: &HostRuntime, leavings: &Leavings, setting: &Setting) -> Option<String> {
-    let text = again(
+    let text = made(
         rt,
         "report_text",
         || leavings.text(rt.alloc(), setting).ok(),

@@ -1,8 +1,8 @@
-//! Visits of a worker.
+//! An executor that is visited.
 
-use crate::again::{
-    TRIES, door_again, jobs_again, leavings_again, poller_again, refused, setting_again,
-    tasks_again, text_again, wrong,
+use crate::again::{TRIES, refused, wrong};
+use crate::executor_again::{
+    door_again, jobs_again, leavings_again, poller_again, setting_again, tasks_again, text_again,
 };
 use std::sync::Wait;
 use swift_events::Event;
