@@ -36,8 +36,8 @@ fn called<P: Part>(alloc: Global, part: &mut P, call: &str) -> Result<String, Ca
     part.answer(alloc, &words)
 }
 
-// The call with a number in place of each of these marks.
-fn numbered(alloc: Global, call: &str, mark: char, count: u32) -> Result<String, AllocError> {
+/// The call with a number in place of each of these marks.
+pub(crate) fn numbered(alloc: Global, call: &str, mark: char, count: u32) -> Result<String, AllocError> {
     let mut made = String::new(alloc);
     for (place, piece) in call.split(mark).enumerate() {
         if place > 0 {

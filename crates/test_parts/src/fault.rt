@@ -3,11 +3,13 @@
 use std::alloc::{AllocError, AllocFailed};
 use std::io;
 use swift_output::Device;
+use swift_script::ScriptFault;
+use swift_tasks::BookFault;
 
 /// Why the program stops before its last case.
 #[derive(Clone, Copy, Debug, PartialEq, Eq)]
 pub enum CaseFault {
-    /// A case has not the form that it needs.
+    /// A case has not the form that it needs, or its script is refused.
     Form,
     Memory,
     /// Standard input or output failed.
@@ -35,5 +37,20 @@ impl From<io::Error> for CaseFault {
 impl From<Device> for CaseFault {
     fn from(_fault: Device) -> CaseFault {
         CaseFault::Device
+    }
+}
+
+impl From<BookFault> for CaseFault {
+    fn from(fault: BookFault) -> CaseFault {
+        match fault {
+            BookFault::Memory => CaseFault::Memory,
+            _ => CaseFault::Form,
+        }
+    }
+}
+
+impl From<ScriptFault> for CaseFault {
+    fn from(_fault: ScriptFault) -> CaseFault {
+        CaseFault::Form
     }
 }

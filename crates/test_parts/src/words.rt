@@ -1,7 +1,7 @@
 //! The words of a call.
 
 use crate::fault::CaseFault;
-use swift_types::{Priority, TaskId};
+use swift_types::{Fault, Priority, Resume, TaskId};
 
 /// A number of a thing.
 pub fn number(word: &str) -> Result<u32, CaseFault> {
@@ -30,6 +30,34 @@ pub fn priority_of(word: &str) -> Result<Priority, CaseFault> {
         "low" => Ok(Priority::Low),
         "medium" => Ok(Priority::Medium),
         "high" => Ok(Priority::High),
+        _ => Err(CaseFault::Form),
+    }
+}
+
+/// A fault, by its words.
+pub fn fault_of(words: &[&str]) -> Result<Fault, CaseFault> {
+    match *words {
+        ["thrown", thrown] => Ok(Fault::Thrown(value(thrown)?)),
+        ["cancelled"] => Ok(Fault::Cancelled),
+        ["invariant"] => Ok(Fault::Invariant),
+        ["overflow"] => Ok(Fault::Overflow),
+        ["steps"] => Ok(Fault::Steps),
+        ["turns"] => Ok(Fault::Turns),
+        ["depth"] => Ok(Fault::Depth),
+        ["tasks"] => Ok(Fault::Tasks),
+        ["empty"] => Ok(Fault::Empty),
+        ["isolation"] => Ok(Fault::Isolation),
+        _ => Err(CaseFault::Form),
+    }
+}
+
+/// What a turn begins with, by its words.
+pub fn resume_of(words: &[&str]) -> Result<Resume, CaseFault> {
+    match *words {
+        ["start"] => Ok(Resume::Start),
+        ["go"] => Ok(Resume::Go),
+        ["value", given] => Ok(Resume::Value(value(given)?)),
+        ["fault", ref fault @ ..] => Ok(Resume::Fault(fault_of(fault)?)),
         _ => Err(CaseFault::Form),
     }
 }

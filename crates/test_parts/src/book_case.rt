@@ -1,23 +1,21 @@
-//! Cases, one after another.
+//! A case of calls on a book.
 
-use crate::calls::Tasks;
+use crate::book::Tasks;
+use crate::calls::numbered;
 use crate::fault::CaseFault;
 use crate::words::number;
 use std::alloc::Global;
 use std::fmt::Write;
+use std::io;
 
-/// What is written for a case: its title, each call with its answer, and what closing its book gives.
-pub fn answered(alloc: Global, case: &str) -> Result<Vec<u8>, CaseFault> {
-    let Some((title, rest)) = case.split_once('\n') else {
+/// Writes what a case answers: each call with its answer, and what closing its book gives.
+pub fn play_book(alloc: Global, case: &str, out: &mut Vec<u8>) -> Result<(), CaseFault> {
+    let Some((script, calls)) = case.split_once("\n--\n") else {
         return Err(CaseFault::Form);
     };
-    let Some((text, calls)) = rest.split_once("\n--\n") else {
-        return Err(CaseFault::Form);
-    };
-    let mut out = String::new(alloc);
-    writeln!(out, "== {title}")?;
-    play(Tasks::new(alloc, text)?, alloc, calls, &mut out)?;
-    Ok(out.into_bytes())
+    let mut text = String::new(alloc);
+    play(Tasks::new(alloc, script)?, alloc, calls, &mut text)?;
+    Ok(io::Write::write_all(out, text.as_bytes())?)
 }
 
 // Makes the calls of a case, and closes its book.
@@ -51,18 +49,6 @@ fn play_lines(
     Ok(())
 }
 
-// The call with a number in place of each mark.
-fn numbered(alloc: Global, call: &str, count: u32) -> Result<String, CaseFault> {
-    let mut made = String::new(alloc);
-    for (place, piece) in call.split('#').enumerate() {
-        if place > 0 {
-            write!(made, "{count}")?;
-        }
-        made.push_str(piece)?;
-    }
-    Ok(made)
-}
-
 // Makes a call for each number of a range, `FIRST to LAST`.
 fn play_range(
     tasks: &mut Tasks,
@@ -76,7 +62,7 @@ fn play_range(
     };
     let mut before = String::new(alloc);
     for count in number(first)?..=number(last)? {
-        let made = numbered(alloc, call, count)?;
+        let made = numbered(alloc, call, '#', count)?;
         let mut answer = String::new(alloc);
         tasks.call(made.as_str(), &mut answer)?;
         if answer.as_str() != before.as_str() {
