@@ -37,7 +37,12 @@ fn called<P: Part>(alloc: Global, part: &mut P, call: &str) -> Result<String, Ca
 }
 
 /// The call with a number in place of each of these marks.
-pub(crate) fn numbered(alloc: Global, call: &str, mark: char, count: u32) -> Result<String, AllocError> {
+pub(crate) fn numbered(
+    alloc: Global,
+    call: &str,
+    mark: char,
+    count: u32,
+) -> Result<String, AllocError> {
     let mut made = String::new(alloc);
     for (place, piece) in call.split(mark).enumerate() {
         if place > 0 {

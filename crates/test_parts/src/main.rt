@@ -3,9 +3,9 @@
 //!
 //! A case begins with a line `== PART TITLE`, and has a line for each call, up to the next such line. What stands
 //! before the first case is a comment. PART is `locals`, `waits`, `groups`, `roots`, `formulas`, `queue`, `words`,
-//! `inbox`, `inbox_threads` or `book`, and each case has a part of its own. A line `FIRST to LAST: CALL`, or `FIRST to LAST by STEP: CALL`, makes a call
-//! for each number, up or down, which stands in place of `#`, and the number below it in place of `@`; of its answers
-//! one that is the same as the one before is not written again.
+//! `inbox`, `inbox_threads` or `book`, and each case has a part of its own. A line `FIRST to LAST: CALL`, or `FIRST to
+//! LAST by STEP: CALL`, makes a call for each number, up or down, which stands in place of `#`, and the number below it in
+//! place of `@`; of its answers one that is the same as the one before is not written again.
 //!
 //! A call is the name of a method, and its arguments, all of them numbers but for priorities and endings. Answers are
 //! `ok`, what the call answered, or the text of its refusal.

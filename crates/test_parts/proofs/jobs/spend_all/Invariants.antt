@@ -1,5 +1,5 @@
 use Rattle.std.proofs.Common.{length}
-use Rattle.test_tasks.proofs.jobs.spend_all.Given as goal
+use Rattle.test_parts.proofs.jobs.spend_all.Given as goal
 
 abbrev pub decreases-loop-job : goal.decreases-loop-job
 decreases-loop-job l = length l.jobs.items
