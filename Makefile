@@ -30,9 +30,10 @@ test:
 prove:
 	@tools/prove.py
 
-# Tries the planted bugs that the gate leaves out: make mutants CRATES="swift_turn script_names" (all).
+# Tries the planted bugs that the gate leaves out: make mutants CRATES="swift_turn script_names" (all), those of them whose names match:
+# EDITS="advance__* poll__*" (all).
 mutants:
-	@tools/mutants.sh $(CRATES)
+	@EDITS='$(EDITS)' tools/mutants.sh $(CRATES)
 
 # Runs each example, and compares what it prints with the text that stands beside it.
 examples: $(PROGRAM)
