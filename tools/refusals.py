@@ -4,7 +4,7 @@
     tools/refusals.py NAME..
 
 NAME is a program that rt has built (crates/NAME/out/NAME). Each run has to end with status 0 and to write the file
-crates/NAME/stdout. The n-th run refuses the n-th allocation (tools/refuse.c, built by cc), and the first run in which none
+crates/NAME/stdout. The n-th run refuses the n-th allocation (tools/refuse.c, built by $CC or cc), and the first run in which none
 is refused is the last. Status 0 where no run differs.
 """
 import concurrent.futures
@@ -64,7 +64,7 @@ def main():
     with tempfile.TemporaryDirectory() as folder:
         library = os.path.join(folder, "refuse.so")
         source = os.path.join(TOP, "tools", "refuse.c")
-        subprocess.run(["cc", "-O2", "-Wall", "-Wextra", "-shared", "-fPIC", "-o", library, source], check=True)
+        subprocess.run([os.environ.get("CC", "cc"), "-O2", "-Wall", "-Wextra", "-shared", "-fPIC", "-o", library, source], check=True)
         with concurrent.futures.ThreadPoolExecutor(os.cpu_count()) as workers:
             for name in names:
                 refused, wrong = refuse_each(name, library, workers)
