@@ -42,8 +42,9 @@ pub fn not_stranded()
         w.uncounted ≡ [] → 0 < length w.inbox + length w.ready → IsScheduled w }
 {}
 
-/// The machine's events are the steps that the calls of a word make, and the others leave the word as it is. A count that
-/// happens adds 2, a begin sets bit 0, an end that happens takes 3 off, and a leave that happens clears bit 0.
+/// What each event of the machine does to the number of the word: a count that happens adds 2, a begin sets bit 0, an end
+/// that happens takes 3 off, a leave that happens clears bit 0, and the others leave it. That the calls of a word are these events
+/// is tested.
 pub fn events_step_the_word()
     ensures count { (events : List Event) (place : ℕ) (p : Pushed) → let w = after events start in
         slice_get w.uncounted place ≡ Some p → status_of (after_event w (Count place)) ≡ status_of w + 2 }
