@@ -151,7 +151,7 @@ found f [] p x y at gives = absurd (none-some x at)
 found f (z ∷ xs) zero x y at gives = ap (λ o. slice_get (cons_option o (filter_map f xs)) 0) (ap f (same_Some z x at) ∙ gives)
 found f (z ∷ xs) (suc p) x y at gives = found_by f p xs y (f z) (found f xs p x y at gives)
 
-there : {A : Type 0} (xs : List A) (k : ℕ) → k < length xs → (x : A) × (slice_get xs k ≡ Some x)
+pub there : {A : Type 0} (xs : List A) (k : ℕ) → k < length xs → (x : A) × (slice_get xs k ≡ Some x)
 there [] k lt = absurd (omega (arith, lt))
 there (x ∷ xs) zero lt = (x, refl)
 there (x ∷ xs) (suc k) lt = there xs k (omega (arith, lt))

@@ -4,6 +4,7 @@ use Rattle.std.proofs.Common.{◌≡◌, ◌≢◌, ℕ, ◌+◌, ◌<◌, ◌�
 use Rattle.std.specs.Prelude.{◌⊎◌, Option, Some, None, IfSome, if◌then◌else◌, slice_index_or}
 use Rattle.std.specs.List.{cons_option, range_with_len}
 use Rattle.std.proofs.lemmas.Bool.{cases_eq, false≢true, true≢false, eq-eqb, ne_eqb}
+use Rattle.std.proofs.lemmas.Option.{none-some}
 use Rattle.std.proofs.lemmas.List.{length-append}
 use Rattle.std.proofs.lemmas.List.Elements.{filter_map-append}
 use Rattle.script_code.specs.declared.env.Env.{Env}
@@ -21,6 +22,7 @@ use Rattle.swift_history.specs.Checks.{is_under_way}
 use Rattle.swift_history.specs.TurnEnds.{task, JobView, HeldView}
 use Rattle.swift_laws.specs.Laws.{turn_in, turns_of}
 use Rattle.swift_laws.proofs.HistoriesWritten.{IsWritten}
+use Rattle.swift_laws.proofs.OpenLogs.{cases_of}
 
 -- how many turns of a task were applied
 abbrev pub applied : ℕ → List Event → ℕ
@@ -29,11 +31,16 @@ applied t log = length (turns_of t log)
 abbrev pub held_at : List (Option HeldView) → ℕ → Option HeldView
 held_at held t = slice_index_or held t None
 
+-- the last job is of this number
+abbrev pub HasNumber : Option Given → ℕ → Type 0
+HasNumber None n = ⊥
+HasNumber (Some g) n = g.number ≡ n
+
 -- A task, by where it comes from, its last job, its stage, how many turns of it were applied, and what is held of it. Before it
 -- is made it has none of them. A turn under way has the next number, and so has one that waits; never both.
 pub record IsCounted (o : Option Origin) (g : Option Given) (s : Option Stage) (turns : ℕ) (h : Option HeldView) : Type 0 where
   pub unmade : o ≡ None → (turns ≡ 0) × (g ≡ None) × (h ≡ None)
-  pub current : is_under_way s ≡ true → IfSome g (λ x. x.number ≡ turns) × (h ≡ None)
+  pub current : is_under_way s ≡ true → HasNumber g turns × (h ≡ None)
   pub waits : IfSome h (λ x. x.number ≡ turns)
 
 abbrev pub Counts : List Event → List (Option HeldView) → ℕ → Type 0
@@ -74,6 +81,20 @@ pub idle_applied : (t : ℕ) (log : List Event) (e : Event) → turn_in t e ≡ 
 idle_applied t log e none = ap length (filter_map-push_none (turn_in t) log e none)
 
 -- of one task
+
+-- before it is made, no turn of it is under way
+pub unbegun : {o : Option Origin} {g : Option Given} {s : Option Stage} {n : ℕ} {h : Option HeldView} → IsCounted o g s n h → o ≡ None → is_under_way s ≡ false
+unbegun {s = s} {n = n} c none = elim (cases_of (is_under_way s)) [
+  | inl under ↦ absurd (subst (λ (x : Option Given). HasNumber x n) (c.unmade none).1 (c.current under).0)
+  | inr rest ↦ rest
+]
+
+-- nor where it waits
+pub held_rests : {o : Option Origin} {g : Option Given} {s : Option Stage} {n : ℕ} {h : Option HeldView} (x : HeldView) → h ≡ Some x → IsCounted o g s n h → is_under_way s ≡ false
+held_rests {s = s} x is c = elim (cases_of (is_under_way s)) [
+  | inl under ↦ absurd (none-some x (sym (c.current under).1 ∙ is))
+  | inr rest ↦ rest
+]
 
 is_made_now : {o : Option Origin} {g : Option Given} {s : Option Stage} {n : ℕ} {h : Option HeldView} (x : Origin) → IsCounted o g s n h → IsCounted (Some x) g s n h
 is_made_now x c = record { unmade = λ (none : Some x ≡ None). cc; current = c.current; waits = c.waits }
@@ -212,11 +233,6 @@ applied_push t n log = ap length (turns_push t n log) ∙ length_push (turns_of 
 pub applied_other : (u t n : ℕ) (log : List Event) → t ≢ u → applied u (log ++ Apply (task t) n ∷ []) ≡ applied u log
 applied_other u t n log ne = idle_applied u log (Apply (task t) n) (turn_elsewhere u t n ne)
 
--- the last job is of this number
-abbrev pub HasNumber : Option Given → ℕ → Type 0
-HasNumber None n = ⊥
-HasNumber (Some g) n = g.number ≡ n
-
 number_is : {o : Option Origin} {g : Option Given} {s : Option Stage} {turns : ℕ} {h : Option HeldView} (n : ℕ) → HasNumber g n → is_under_way s ≡ true → IsCounted o g s turns h → n ≡ turns
 number_is {g = None} n has is c = absurd has
 number_is {g = Some x} n has is c = sym has ∙ (c.current is).0
@@ -279,7 +295,7 @@ made_push t log e made = elim (cases_eq (task_of e) t) [
   | inr other ↦ subst (λ (l : Life). l.origin ≢ None) (sym (life_of-push_other t log e other)) made
 ]
 
-idle_stage : (e : Event) (s : Option Stage) → starts e ≡ false → is_under_way s ≡ false → is_under_way (later (stage_in e) s) ≡ false
+pub idle_stage : (e : Event) (s : Option Stage) → starts e ≡ false → is_under_way s ≡ false → is_under_way (later (stage_in e) s) ≡ false
 idle_stage (Begin u n env) s h is = absurd (true≢false h)
 idle_stage (Apply u n) s h is = absurd (true≢false h)
 idle_stage (Give u n resume) s h is = absurd (true≢false h)
@@ -295,13 +311,16 @@ idle_stage (Next o g) s h is = refl
 idle_stage (Close o g) s h is = refl
 idle_stage (End u ending) s h is = is
 
+pub rest_push : (t : ℕ) (log : List Event) (e : Event) → starts e ≡ false → is_under_way (life_of t log).stage ≡ false → is_under_way (life_of t (log ++ e ∷ [])).stage ≡ false
+rest_push t log e idle rest = elim (cases_eq (task_of e) t) [
+  | inl same ↦ subst (λ (l : Life). is_under_way l.stage ≡ false) (sym (life_of-push_same t log e same)) (idle_stage e (life_of t log).stage idle rest)
+  | inr other ↦ subst (λ (l : Life). is_under_way l.stage ≡ false) (sym (life_of-push_other t log e other)) rest
+]
+
 pub rests_push : (log : List Event) (held : List (Option HeldView)) (t n : ℕ) (e : Event) → starts e ≡ false → Rests log held t n → Rests (log ++ e ∷ []) held t n
 rests_push log held t n e idle r = record {
   made = made_push t log e r.made;
-  rest = elim (cases_eq (task_of e) t) [
-    | inl same ↦ subst (λ (l : Life). is_under_way l.stage ≡ false) (sym (life_of-push_same t log e same)) (idle_stage e (life_of t log).stage idle r.rest)
-    | inr other ↦ subst (λ (l : Life). is_under_way l.stage ≡ false) (sym (life_of-push_other t log e other)) r.rest
-  ];
+  rest = rest_push t log e idle r.rest;
   turns = idle_applied t log e (idle_turn t e idle) ∙ r.turns;
   free = r.free;
 }

@@ -1,5 +1,5 @@
 -- The end of a turn, and each block of a history, keeps the turns of each task counted.
-use Rattle.std.proofs.Common.{◌≡◌, ◌≢◌, ℕ, ◌+◌, ◌<◌, List, [], ◌∷◌, ◌++◌, length, zero, suc, refl, sym, ◌∙◌, ap, arith, Bool, true, false, inl, inr, subst, append_assoc, replicate, get_or-set_other}
+use Rattle.std.proofs.Common.{◌≡◌, ◌≢◌, ℕ, ◌+◌, ◌<◌, ◌≤◌, List, [], ◌∷◌, ◌++◌, length, zero, suc, refl, sym, ◌∙◌, ap, arith, Bool, true, false, inl, inr, subst, append_assoc, replicate, get_or-set_other}
 use Rattle.std.specs.Prelude.{◌⊎◌, ◌==◌, ◌&&◌, nat_lt, Option, Some, None, IfSome, if◌then◌else◌, slice_set, unwrap_or}
 use Rattle.std.specs.List.{AllByRecursion}
 use Rattle.std.proofs.lemmas.Bool.{cases_eq, false≢true, eqb-true, ltb-true}
@@ -27,15 +27,16 @@ use Rattle.swift_events.specs.declared.life.Origin.{Origin}
 use Rattle.swift_events.specs.declared.life.Given.{Given}
 use Rattle.swift_events.specs.declared.life.Stage.{Stage}
 use Rattle.swift_events.specs.declared.life.Stage.TheVariants as stage
-use Rattle.swift_events.specs.Events.{task_of, tasks_of, later}
+use Rattle.swift_events.specs.Events.{task_of, is_made, tasks_of, later}
 use Rattle.swift_events.specs.Lives.{life_of, origin_in}
 use Rattle.swift_events.specs.Relations.{group_of, parent_of, waiters_of}
-use Rattle.swift_events.proofs.LogLemmas.{life_of-push_same, unborn_without}
+use Rattle.swift_events.proofs.LogLemmas.{life_of-push_same, unborn_without, tasks_of-push_made}
 use Rattle.swift_history.specs.Checks.{is_current, was_given, same_resume, is_under_way}
 use Rattle.swift_history.specs.TurnEnds.{task, JobView, HeldView, Follows, woken, wake, wake_each, wake_closing, wake_owner, wake_parent, wake_all, followed, resume_of, first_job, effect_events, effect_jobs, exit_events, exit_resume, is_left_out, log_after, jobs_made, gives, turn_end, root_job, root_events}
 use Rattle.swift_history.specs.Histories.{Block, added, begun, ran, folded, Standing, Stands, AllStand, TurnStands, after_block, after_blocks, at_first, left_as, begun_priority, frames_applied, job_applied, turn_applied}
+use Rattle.swift_laws.proofs.OpenLogs.{tasks_grow}
 use Rattle.swift_laws.proofs.HistoriesWritten.{IsWritten, keeps_effect, keeps_effects, keeps_exit}
-use Rattle.swift_laws.proofs.HistoriesCounted.{applied, held_at, IsCounted, Counts, AreCounted, HasNumber, Rests, JobFits, starts, idle_turn, idle_applied, idle_push, written_idle, written_within, counted_number, apply_push, rests_push, fits_push, give_push, begin_push, none_held, some_held}
+use Rattle.swift_laws.proofs.HistoriesCounted.{applied, held_at, IsCounted, Counts, AreCounted, HasNumber, Rests, JobFits, starts, idle_turn, idle_applied, idle_push, written_idle, written_within, counted_number, apply_push, rest_push, rests_push, fits_push, give_push, begin_push, none_held, some_held, unbegun, held_rests}
 
 -- lists
 
@@ -103,25 +104,51 @@ fits_taken log held u j f = record {
   ];
 }
 
+-- jobs of one end of a turn
+
+-- no turn of the job's task is under way
+abbrev pub Resting : List Event → JobView → Type 0
+Resting log j = is_under_way (life_of j.task log).stage ≡ false
+
+-- a job of another task than this one
+abbrev pub IsOther : ℕ → JobView → Type 0
+IsOther t j = j.task ≢ t
+
+-- no two jobs are of one task
+abbrev pub Apart : List JobView → Type 0
+Apart [] = Unit {0}
+Apart (j ∷ js) = AllByRecursion (IsOther j.task) js × Apart js
+
+apart_push : (js : List JobView) (j : JobView) → Apart js → AllByRecursion (IsOther j.task) js → Apart (js ++ j ∷ [])
+apart_push [] j apart all = (tt, tt)
+apart_push (i ∷ js) j apart all = (all_append (IsOther i.task) js (j ∷ []) apart.0 ((λ same. all.0 (sym same)), tt), apart_push js j apart.1 all.1)
+
 -- what follows from a turn
 
 pub record FollowFits (roots : ℕ) (log : List Event) (f : Follows) : Type 0 where
   pub counted : AreCounted roots log f.held
   pub jobs : AllByRecursion (JobFits log f.held) f.jobs
+  pub resting : AllByRecursion (Resting log) f.jobs
+  pub apart : Apart f.jobs
 
 woken_fits : (roots : ℕ) (log : List Event) (u : ℕ) (resume : Resume) (f : Follows) (o : Option HeldView) → held_at f.held u ≡ o → FollowFits roots log f → FollowFits roots log (woken u resume f o)
 woken_fits roots log u resume f None is fits = fits
-woken_fits roots log u resume f (Some h) is fits = record {
-  counted = counted_taken roots log f.held u fits.counted;
-  jobs = all_append (JobFits log (slice_set f.held u None)) f.jobs _ (all_map (fits_taken log f.held u) f.jobs fits.jobs) (
+woken_fits roots log u resume f (Some h) is fits =
+    let others : AllByRecursion (IsOther u) f.jobs =
+    all_map (λ j fit. λ (same : j.task ≡ u). (let e : Some h ≡ None = sym is ∙ subst (λ (k : ℕ). held_at f.held k ≡ None) same fit.free in cc)) f.jobs fits.jobs in
     record {
-      made = λ none. (let e : Some h ≡ None = sym is ∙ ((fits.counted.each u).unmade none).2 in cc);
-      number = subst (λ (x : Option HeldView). IfSome x (λ y. y.number ≡ applied u log)) is (fits.counted.each u).waits;
-      free = none_set f.held u;
-    },
-    tt,
-  );
-}
+      counted = counted_taken roots log f.held u fits.counted;
+      jobs = all_append (JobFits log (slice_set f.held u None)) f.jobs _ (all_map (fits_taken log f.held u) f.jobs fits.jobs) (
+        record {
+          made = λ none. (let e : Some h ≡ None = sym is ∙ ((fits.counted.each u).unmade none).2 in cc);
+          number = subst (λ (x : Option HeldView). IfSome x (λ y. y.number ≡ applied u log)) is (fits.counted.each u).waits;
+          free = none_set f.held u;
+        },
+        tt,
+      );
+      resting = all_append (Resting log) f.jobs _ fits.resting (held_rests h is (fits.counted.each u), tt);
+      apart = apart_push f.jobs _ fits.apart others;
+    }
 
 wake_fits : (roots : ℕ) (log : List Event) (u : ℕ) (resume : Resume) (f : Follows) → FollowFits roots log f → FollowFits roots log (wake u resume f)
 wake_fits roots log u resume f fits = woken_fits roots log u resume f (held_at f.held u) refl fits
@@ -158,11 +185,12 @@ wake_all_fits roots log t e f fits = wake_parent_fits roots log (parent_of t log
 -- a job of another task than the one whose turn it is
 pub record MadeFits (log : List Event) (held : List (Option HeldView)) (t : ℕ) (j : JobView) : Type 0 where
   pub fits : JobFits log held j
+  pub rest : Resting log j
   pub other : j.task ≢ t
 
-waits_fits : (roots : ℕ) (log : List Event) (held : List (Option HeldView)) (jobs : List JobView) (t n : ℕ) (frames : TaskView) → AreCounted roots log held → Rests log held t n → AllByRecursion (MadeFits log held t) jobs
+waits_fits : (roots : ℕ) (log : List Event) (held : List (Option HeldView)) (jobs : List JobView) (t n : ℕ) (frames : TaskView) → AreCounted roots log held → Rests log held t n → AllByRecursion (MadeFits log held t) jobs → Apart jobs
     → FollowFits roots log (record { held = slice_set held t (Some (record { number = n + 1; frames = frames })); jobs = jobs })
-waits_fits roots log held jobs t n frames are rests all =
+waits_fits roots log held jobs t n frames are rests all apart =
     let h : HeldView = record { number = n + 1; frames = frames } in
     let held' = slice_set held t (Some h) in
     record {
@@ -179,17 +207,22 @@ waits_fits roots log held jobs t n frames are rests all =
         numbered = are.numbered;
       };
       jobs = all_map (λ j m. record { made = m.fits.made; number = m.fits.number; free = other_set held t j.task (Some h) m.other ∙ m.fits.free }) jobs all;
+      resting = all_map (λ j m. m.rest) jobs all;
+      apart = apart;
     }
 
 followed_fits : (roots : ℕ) (log : List Event) (held : List (Option HeldView)) (jobs : List JobView) (t n : ℕ) (frames : TaskView) (o : Option Resume) (step : Step)
-    → AreCounted roots log held → Rests log held t n → AllByRecursion (MadeFits log held t) jobs → FollowFits roots log (followed t (n + 1) frames o step log (record { held = held; jobs = jobs }))
-followed_fits roots log held jobs t n frames (Some resume) step are rests all = record {
+    → AreCounted roots log held → Rests log held t n → AllByRecursion (MadeFits log held t) jobs → Apart jobs → FollowFits roots log (followed t (n + 1) frames o step log (record { held = held; jobs = jobs }))
+followed_fits roots log held jobs t n frames (Some resume) step are rests all apart = record {
   counted = are;
   jobs = all_append (JobFits log held) jobs _ (all_map (λ j m. m.fits) jobs all) (record { made = rests.made; number = sym rests.turns; free = rests.free }, tt);
+  resting = all_append (Resting log) jobs _ (all_map (λ j m. m.rest) jobs all) (rests.rest, tt);
+  apart = apart_push jobs _ apart (all_map (λ j m. m.other) jobs all);
 }
-followed_fits roots log held jobs t n frames None (Ended e) are rests all = wake_all_fits roots log t e _ (record { counted = are; jobs = all_map (λ j m. m.fits) jobs all })
-followed_fits roots log held jobs t n frames None (Run actor resume) are rests all = waits_fits roots log held jobs t n frames are rests all
-followed_fits roots log held jobs t n frames None Await are rests all = waits_fits roots log held jobs t n frames are rests all
+followed_fits roots log held jobs t n frames None (Ended e) are rests all apart = wake_all_fits roots log t e _
+    (record { counted = are; jobs = all_map (λ j m. m.fits) jobs all; resting = all_map (λ j m. m.rest) jobs all; apart = apart })
+followed_fits roots log held jobs t n frames None (Run actor resume) are rests all apart = waits_fits roots log held jobs t n frames are rests all apart
+followed_fits roots log held jobs t n frames None Await are rests all apart = waits_fits roots log held jobs t n frames are rests all apart
 
 gives_counted : (roots : ℕ) (log : List Event) (held : List (Option HeldView)) (jobs : List JobView) → AreCounted roots log held → AllByRecursion (JobFits log held) jobs → AreCounted roots (log ++ gives jobs) held
 gives_counted roots log held [] are all = subst (λ (l : List Event). AreCounted roots l held) (sym (append-nil log)) are
@@ -206,17 +239,57 @@ gives_applied t log (j ∷ js) =
 
 -- the jobs of the tasks that effects make
 
+-- their tasks have numbers from this one on, and each its own
+abbrev MadeFrom : ℕ → List JobView → Type 0
+MadeFrom n js = AllByRecursion (λ (j : JobView). n ≤ j.task) js × Apart js
+
+made_later : (n m : ℕ) (js : List JobView) → n ≤ m → MadeFrom m js → MadeFrom n js
+made_later n m js le p = (all_map (λ (j : JobView) (at : m ≤ j.task). (let it : n ≤ j.task = omega (arith, le, at) in it)) js p.0, p.1)
+
+made_next : (roots : ℕ) (log : List Event) (e : Event) (j : JobView) (js : List JobView) → is_made e ≡ true → j.task ≡ tasks_of roots log → MadeFrom (tasks_of roots (log ++ e ∷ [])) js → MadeFrom (tasks_of roots log) (j ∷ js)
+made_next roots log e j js made at p =
+    let more = tasks_of-push_made roots log e made in
+    let later = made_later (tasks_of roots log) (tasks_of roots (log ++ e ∷ [])) js (omega (arith, more)) p in
+    let here : tasks_of roots log ≤ j.task = omega (arith, at) in
+    let others : AllByRecursion (IsOther j.task) js =
+    all_map (λ (i : JobView) (le : tasks_of roots (log ++ e ∷ []) ≤ i.task). λ (same : i.task ≡ j.task). absurd (omega (arith, more, at, le, same))) js p.0 in
+    ((here, later.0), (others, p.1))
+
+module _ (script : ScriptView) (t : ℕ) (own : Priority) where
+  made_or : (log : List Event) (skip child : Event) (j : JobView) (es : List EffectView) (b : Bool) → is_made child ≡ true → j.task ≡ tasks_of (root_count script) log
+      → MadeFrom (tasks_of (root_count script) (log ++ skip ∷ [])) (jobs_made script t own (log ++ skip ∷ []) es)
+      → MadeFrom (tasks_of (root_count script) (log ++ child ∷ [])) (jobs_made script t own (log ++ child ∷ []) es)
+      → MadeFrom (tasks_of (root_count script) log) ((if b then [] else j ∷ []) ++ jobs_made script t own (log ++ (if b then skip ∷ [] else child ∷ [])) es)
+  made_or log skip child j es true made at p q = made_later _ _ (jobs_made script t own (log ++ skip ∷ []) es) (tasks_grow (root_count script) log (skip ∷ [])) p
+  made_or log skip child j es false made at p q = made_next (root_count script) log child j (jobs_made script t own (log ++ child ∷ []) es) made at q
+
+  made_from : (log : List Event) (es : List EffectView) → MadeFrom (tasks_of (root_count script) log) (jobs_made script t own log es)
+  made_from log [] = (tt, tt)
+  made_from log (spawning i p bindings ∷ es) =
+      made_next (root_count script) log _ (first_job script (tasks_of (root_count script) log) i.method i.args bindings) _ refl refl (made_from _ es)
+  made_from log (detaching i p ∷ es) =
+      made_next (root_count script) log _ (first_job script (tasks_of (root_count script) log) i.method i.args []) _ refl refl (made_from _ es)
+  made_from log (opening ∷ es) = made_later _ _ _ (tasks_grow (root_count script) log _) (made_from (log ++ effect_events (root_count script) t own log opening) es)
+  made_from log (adding g unless i p bindings ∷ es) =
+      made_or log (Skip (task t) g) (Child (task (tasks_of (root_count script) log)) (task t) g (unwrap_or p Background))
+      (first_job script (tasks_of (root_count script) log) i.method i.args bindings) es (is_left_out t g unless log) refl refl (made_from _ es) (made_from _ es)
+  made_from log (cancelling_task name ∷ es) = made_later _ _ _ (tasks_grow (root_count script) log _) (made_from (log ++ effect_events (root_count script) t own log (cancelling_task name)) es)
+  made_from log (cancelling_group g ∷ es) = made_later _ _ _ (tasks_grow (root_count script) log _) (made_from (log ++ effect_events (root_count script) t own log (cancelling_group g)) es)
+
 module _ (script : ScriptView) (held : List (Option HeldView)) (t n : ℕ) (own : Priority) where
-  abbrev Here : List Event → Type 0
+  -- what holds from the turn's being applied until its jobs are made
+  abbrev pub Here : List Event → Type 0
   Here log = AreCounted (root_count script) log held × Rests log held t n
 
-  here_push : (log : List Event) (e : Event) → IsWritten (root_count script) t log e → Here log → Here (log ++ e ∷ [])
+  pub here_push : (log : List Event) (e : Event) → IsWritten (root_count script) t log e → Here log → Here (log ++ e ∷ [])
   here_push log e w h =
       let idle = written_idle (root_count script) t log e w in
       (idle_push (root_count script) log held e idle (written_within (root_count script) t log e w) h.0, rests_push log held t n e idle h.1)
 
   fits_on : (log : List Event) (j : JobView) (e : Event) → IsWritten (root_count script) t log e → MadeFits log held t j → MadeFits (log ++ e ∷ []) held t j
-  fits_on log j e w m = record { fits = fits_push log held j e (idle_turn j.task e (written_idle (root_count script) t log e w)) m.fits; other = m.other }
+  fits_on log j e w m =
+      let idle = written_idle (root_count script) t log e w in
+      record { fits = fits_push log held j e (idle_turn j.task e idle) m.fits; rest = rest_push j.task log e idle m.rest; other = m.other }
 
   made_one : (log : List Event) (e : Event) (j : JobView) (x : Origin) → origin_in e ≡ Some x → starts e ≡ false → task_of e ≡ j.task → j.task ≡ tasks_of (root_count script) log → j.number ≡ 0 → Here log → MadeFits (log ++ e ∷ []) held t j
   made_one log e j x made idle of at first h =
@@ -229,6 +302,7 @@ module _ (script : ScriptView) (held : List (Option HeldView)) (t n : ℕ) (own 
           number = first ∙ sym before.0 ∙ sym (idle_applied j.task log e (idle_turn j.task e idle));
           free = before.2;
         };
+        rest = rest_push j.task log e idle (unbegun (h.0.each j.task) none);
         other = λ same. h.1.made (subst (λ (k : ℕ). (life_of k log).origin ≡ None) same none);
       }
 
@@ -257,10 +331,13 @@ module _ (script : ScriptView) (held : List (Option HeldView)) (t n : ℕ) (own 
       (lift log' es (effect_jobs script t log e) (first_fits log e h))
       (made_fit log' es (keeps_effect Here (root_count script) t own here_push log e h))
 
-  -- the whole end of a turn
-  pub turn_counted : (log : List Event) (effects : List EffectView) (exit : ExitView) (after : Advanced) → HasNumber (life_of t log).given n → is_under_way (life_of t log).stage ≡ true → AreCounted (root_count script) log held
-      → (let e = turn_end script log held t n own effects exit after in AreCounted (root_count script) e.log e.held × (applied t e.log ≡ n + 1))
-  turn_counted log effects exit after has under are =
+  -- what follows from the turn
+  pub turn_follows : (log : List Event) (effects : List EffectView) (exit : ExitView) (after : Advanced) → HasNumber (life_of t log).given n → is_under_way (life_of t log).stage ≡ true → AreCounted (root_count script) log held
+      → (let done = log_after (root_count script) t own (log ++ Apply (task t) n ∷ []) effects in
+      let written = done ++ exit_events t done exit after.step in
+      let made = jobs_made script t own (log ++ Apply (task t) n ∷ []) effects in
+      Here written × FollowFits (root_count script) written (followed t (n + 1) after.task (exit_resume t done exit after.step) after.step written (record { held = held ++ replicate (length made) None; jobs = made })))
+  turn_follows log effects exit after has under are =
       let roots = root_count script in
       let begun = log ++ Apply (task t) n ∷ [] in
       let done = log_after roots t own begun effects in
@@ -273,10 +350,18 @@ module _ (script : ScriptView) (held : List (Option HeldView)) (t n : ℕ) (own 
       let jobs : AllByRecursion (MadeFits written held t) made =
       all_map (λ j m. keeps_exit (λ (l : List Event). MadeFits l held t j) roots t own (λ l e w p. fits_on l j e w p) done exit after.step m) made (made_fit begun effects h0) in
       let jobs' : AllByRecursion (MadeFits written more t) made =
-      all_map (λ j m. record { fits = record { made = m.fits.made; number = m.fits.number; free = held_more held (length made) j.task ∙ m.fits.free }; other = m.other }) made jobs in
+      all_map (λ j m. record { fits = record { made = m.fits.made; number = m.fits.number; free = held_more held (length made) j.task ∙ m.fits.free }; rest = m.rest; other = m.other }) made jobs in
       let rests : Rests written more t n = record { made = h2.1.made; rest = h2.1.rest; turns = h2.1.turns; free = held_more held (length made) t ∙ h2.1.free } in
-      let fits = followed_fits roots written more made t n after.task (exit_resume t done exit after.step) after.step (counted_more roots written held (length made) h2.0) rests jobs' in
-      (gives_counted roots written _ _ fits.counted fits.jobs, gives_applied t written _ ∙ h2.1.turns)
+      (h2, followed_fits roots written more made t n after.task (exit_resume t done exit after.step) after.step (counted_more roots written held (length made) h2.0) rests jobs' (made_from script t own begun effects).1)
+
+  -- the whole end of a turn
+  pub turn_counted : (log : List Event) (effects : List EffectView) (exit : ExitView) (after : Advanced) → HasNumber (life_of t log).given n → is_under_way (life_of t log).stage ≡ true → AreCounted (root_count script) log held
+      → (let e = turn_end script log held t n own effects exit after in AreCounted (root_count script) e.log e.held × (applied t e.log ≡ n + 1))
+  turn_counted log effects exit after has under are =
+      let done = log_after (root_count script) t own (log ++ Apply (task t) n ∷ []) effects in
+      let written = done ++ exit_events t done exit after.step in
+      let f = turn_follows log effects exit after has under are in
+      (gives_counted (root_count script) written _ _ f.1.counted f.1.jobs, gives_applied t written _ ∙ f.0.1.turns)
 
 -- blocks
 

@@ -18,3 +18,4 @@ pub mod OpenHistories
 pub mod OpenScripts
 pub mod OpenExecutors
 pub mod OpenReports
+pub mod HistoriesGiven

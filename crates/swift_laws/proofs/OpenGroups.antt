@@ -28,7 +28,7 @@ in_cons (Some x) xs y h = inr h
 in_here : {A : Type 0} (o : Option A) (xs : List A) (y : A) → o ≡ Some y → In (cons_option o xs) y
 in_here o xs y is = subst (λ p. In (cons_option p xs) y) (sym is) (inl refl)
 
-in_filter_map : {A B : Type 0} (h : A → Option B) (xs : List A) (x : A) (y : B) → In xs x → h x ≡ Some y → In (filter_map h xs) y
+pub in_filter_map : {A B : Type 0} (h : A → Option B) (xs : List A) (x : A) (y : B) → In xs x → h x ≡ Some y → In (filter_map h xs) y
 in_filter_map h [] x y i is = absurd i
 in_filter_map h (z ∷ zs) x y (inl q) is = in_here (h z) (filter_map h zs) y (ap h q ∙ is)
 in_filter_map h (z ∷ zs) x y (inr i) is = in_cons (h z) (filter_map h zs) y (in_filter_map h zs x y i is)

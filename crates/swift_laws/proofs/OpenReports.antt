@@ -26,7 +26,7 @@ use Rattle.swift_laws.proofs.OpenExecutors.{runs_on_executor}
 
 -- what holds of each legal report
 
-any_sound : (script : ScriptView) (report : ReportView) (front : List Event) → IsLegal script report → IsPrefix report front → Sound (root_count script) front
+pub any_sound : (script : ScriptView) (report : ReportView) (front : List Event) → IsLegal script report → IsPrefix report front → Sound (root_count script) front
 any_sound script report front legal is = sound_front (root_count script) report.log front is.0 (legal_leads script report legal) is.1
 
 pub waiters_go_on : (script : ScriptView) (report : ReportView) (front : List Event) (t u : TaskId)

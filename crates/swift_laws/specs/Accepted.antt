@@ -1,8 +1,11 @@
 -- What holds of each accepted script.
-use Rattle.std.specs.Prelude.{◌≡◌, ℕ, ◌<◌, zero, suc, length}
+use Rattle.std.specs.Prelude.{◌≡◌, ℕ, ◌<◌, zero, suc, length, Contains}
+use Rattle.swift_types.specs.declared.id.TaskId.{TaskId}
+use Rattle.swift_types.specs.declared.outcome.Resume.{Resume}
 use Rattle.script_code.specs.Tree.{Deed, return, open_group, close_group, Code, end, act, choice, loop}
 use Rattle.swift_script.specs.Scripts.{ScriptView, method_code, root_count}
 use Rattle.swift_script.specs.Accepted.{WasAccepted}
+use Rattle.swift_events.specs.declared.event.Event.TheVariants.{Give}
 use Rattle.swift_history.specs.Histories.{IsLegal, ReportView}
 use Rattle.swift_laws.specs.Laws.{TurnPlace, HasTurn, turns_of, ActorsHaveExecutors}
 
@@ -38,3 +41,8 @@ AcceptedHaveExecutors = (script : ScriptView) → WasAccepted script → 0 < roo
 abbrev pub AcceptedTurnsStand : Type 0
 AcceptedTurnsStand = (script : ScriptView) (report : ReportView) (t n : ℕ) → WasAccepted script → IsLegal script report
     → n < length (turns_of t report.log) → (p : TurnPlace) × HasTurn report p t n
+
+-- And so does the turn of each job that the log gives.
+abbrev pub AcceptedJobsStand : Type 0
+AcceptedJobsStand = (script : ScriptView) (report : ReportView) (t : TaskId) (n : ℕ) (resume : Resume) → WasAccepted script → IsLegal script report
+    → Contains report.log (Give t n resume) → (p : TurnPlace) × HasTurn report p t.0 n

@@ -6,7 +6,7 @@ use Rattle.swift_script.specs.Scripts.{ScriptView, root_count, executor_count, a
 use Rattle.swift_journal.specs.Records.{RecordView}
 use Rattle.swift_journal.specs.Checkpoints.{FoldedView, CheckpointView}
 use Rattle.swift_events.specs.declared.event.Event.{Event}
-use Rattle.swift_events.specs.declared.event.Event.TheVariants.{Begin, Apply}
+use Rattle.swift_events.specs.declared.event.Event.TheVariants.{Begin, Apply, Give}
 use Rattle.swift_events.specs.Room.{IsEnv}
 use Rattle.swift_history.specs.TurnEnds.{task}
 use Rattle.swift_history.specs.Histories.{IsLegal, ReportView}
@@ -60,6 +60,18 @@ ActorsHaveExecutors script = (actor : ℕ) → actor_executor script actor < exe
 abbrev pub AppliedTurnsStand : Type 0
 AppliedTurnsStand = (script : ScriptView) (report : ReportView) (t n : ℕ) → IsLegal script report → ActorsHaveExecutors script
     → n < length (turns_of t report.log) → (p : TurnPlace) × HasTurn report p t n
+
+-- the numbers of the turns for which the log gives the task a job, in order
+abbrev pub job_in : ℕ → Event → Option ℕ
+job_in t (Give task n resume) = if task.0 == t then Some n else None
+job_in t _ = None
+
+abbrev pub jobs_of : ℕ → List Event → List ℕ
+jobs_of t log = filter_map (job_in t) log
+
+-- in a legal report they are those of the turns that it applies, in that order
+abbrev pub GivenJobsAreApplied : Type 0
+GivenJobsAreApplied = (script : ScriptView) (report : ReportView) (t : ℕ) → IsLegal script report → jobs_of t report.log ≡ turns_of t report.log
 
 -- whether a turn of the task begins
 abbrev pub begins_turn : ℕ → Event → Bool

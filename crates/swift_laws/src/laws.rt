@@ -1,6 +1,6 @@
 //! What holds of each legal report. A call costs nothing; its contract is the law.
 
-ghost use Rattle.swift_laws.specs.Laws.{EachTurnStandsOnce, TurnsAreNumbered, AppliedTurnsStand, TurnsHaveTheirPriority};
+ghost use Rattle.swift_laws.specs.Laws.{EachTurnStandsOnce, TurnsAreNumbered, AppliedTurnsStand, GivenJobsAreApplied, TurnsHaveTheirPriority};
 
 /// In a legal report no turn stands twice, in journals and checkpoints together (our own).
 pub fn each_turn_stands_once()
@@ -17,6 +17,12 @@ pub fn turns_are_numbered()
 /// actors run on its executors (our own).
 pub fn applied_turns_stand()
     ensures { AppliedTurnsStand }
+{}
+
+/// The jobs that the log of a legal report gives for a task are, in order, those of the turns of the task that it applies: no job
+/// is left, and none is run twice (our own).
+pub fn given_jobs_are_applied()
+    ensures { GivenJobsAreApplied }
 {}
 
 /// Each turn in a journal of a legal report has begun at a point of the log with the priority that its task had there: the
