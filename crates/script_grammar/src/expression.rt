@@ -10,7 +10,7 @@ pub struct Name {
     pub text: NameText,
 }
 
-/// An expression, of height 32 at most: an atom has height 1, and an operator one more than its highest operand.
+/// An expression, of height 32 at most: an atom has height 1, and an operator is one higher than its higher operand.
 /// Parentheses leave no trace.
 #[derive(Drop)]
 pub enum Expr {

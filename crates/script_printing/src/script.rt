@@ -10,8 +10,8 @@ use script_tokens::Keyword;
 use std::alloc::{AllocError, Global};
 
 /// The printed form of declarations: the executors, the task locals, the actors and then the roots, each on one line
-/// that an LF ends, with one space between two tokens. Each use of an operator stands in a parenthesis, and other
-/// expressions in none. Numbers have no leading zeros. A root or a `detach` is always printed with its priority, a
+/// that an LF ends, with one space between two tokens. Each use of an operator stands in a parenthesis, and nothing
+/// else does. Leading zeros are dropped. A root or a `detach` is always printed with its priority, a
 /// `spawn` or an `add` where one was given. An `on`, an invariant or an `else` that is absent is not printed.
 ///
 /// `Err` says that there was no memory. Time and memory are linear in the printed form. What is printed of a script

@@ -15,8 +15,8 @@ fn end_line(text: &[u8]) -> u32
     u32::try_from(feeds.saturating_add(1)).unwrap_or(u32::MAX)
 }
 
-/// The line of the first byte that no script may contain, if there is one. A script may contain the bytes 0x20 to
-/// 0x7E, tab, LF and CR. Lines count from 1, by LF, and no further than 4294967295. Linear in the bytes.
+/// The line of the first byte that no script may contain, if there is one. Allowed are printable ASCII (0x20 to
+/// 0x7E), tabs, LFs and CRs. Lines count from 1, by LF, and no further than 4294967295. Linear in the bytes.
 pub fn stray_line(text: &[u8]) -> Option<u32>
     // There is one exactly where the text isn't made of bytes that a script may contain.
     ensures found { IsSome result ↔ (is_text text.now ≡ false) }

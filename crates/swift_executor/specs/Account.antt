@@ -44,8 +44,8 @@ job_named j = (j.task, j.number)
 abbrev pub folded_named : FoldedView → ℕ × ℕ
 folded_named f = (f.task, f.number)
 
--- Jobs that were taken are, up to order and each as often, those that are not run yet, those of the records of a journal, and
--- those whose records were folded. A record is that of its job, and so is what is left of one.
+-- The jobs taken are a permutation of those that are not run yet, those of the records of a journal, and those whose records were
+-- folded. A record is that of its job, and so is what is left of one.
 pub record AreTaken (taken unrun : List JobView) (journal : List RecordView) (checkpoint : CheckpointView) : Type 0 where
   pub journalled : List JobView
   pub folded : List JobView

@@ -110,9 +110,10 @@ fn first_state(
 }
 
 impl Exec {
-    /// An executor of a script, by its number, that has run no turn, with room for so many jobs in its inbox and as many that
-    /// are ready; and its first desk, by which 2^60 jobs may be sent. A run of so many workers, at least 1. Out of memory
-    /// nothing remains. The room is not touched before it is used, but for a mark at each place of the inbox.
+    /// An executor of a script, by its number, that has run no turn, with room for so many jobs in its inbox, at least 1, and as
+    /// many that are ready; and its first desk, by which 2^60 jobs may be sent. A run of so many workers, at least 1. The number is
+    /// not looked at: at one that the script lacks no job can run. Out of memory nothing remains, and a room of 2^60 or more is
+    /// refused so. The room is not touched before it is used, but for a mark at each place of the inbox.
     pub fn new(
         alloc: Global,
         script: Arc<Script>,
@@ -156,12 +157,13 @@ impl Exec {
     }
 
     /// Sends a job: it goes into the inbox, and then it is counted. `Idle` where no job was pending and no worker held the
-    /// executor: whoever sent it has to see that a worker comes. It takes no memory, and constant time where no other thread is
+    /// executor: whoever sent it has to see that a worker comes. Else `Busy`: whoever holds the executor, or has its token, runs this job
+    /// too. It takes no memory, and constant time where no other thread is
     /// in the way. The gate is called between the two steps, and after them.
     ///
-    /// For a job that can run here: its body is of an equal script and has not ended, and its running frame is of an actor of
-    /// this executor (SE-0392). A refusal is `Full`, where the inbox was full at some moment of the call or the desk has no
-    /// allowance left; the job comes back, and nothing has changed.
+    /// For a job that can run here: its body is of an equal script and has not ended, and its running frame is of an actor of this
+    /// executor (SE-0392). A refusal is `Full`, where the inbox was found full or the desk has no allowance left; the job comes
+    /// back, and nothing has changed.
     pub fn enqueue<R, G>(
         &self,
         rt: &R,

@@ -4,7 +4,8 @@ use std::alloc::AllocError;
 use swift_tasks::BookFault;
 use thiserror::Error;
 
-/// Why an executor refuses a call (our own). Its fields, its journal and its jobs are then as they were.
+/// Why an executor refuses a call (our own). No job is lost. After a refused call of `ExecState` fields and journal are as before, by
+/// contract; after a refused `Exec::run_one` they are so by tests, and jobs of the inbox may have become ready.
 #[derive(Clone, Copy, Debug, PartialEq, Eq, Error)]
 pub enum ExecFault {
     /// A growth was refused.
@@ -13,7 +14,7 @@ pub enum ExecFault {
     /// The executor is pinned to another worker.
     #[error("X2 wrong worker")]
     Worker,
-    /// The inbox was full at some moment of the call, or the desk has no allowance left.
+    /// The inbox was found full, or the desk has no allowance left.
     #[error("X3 full")]
     Full,
     /// The book refused, for another reason than memory.

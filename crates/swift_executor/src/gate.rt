@@ -1,9 +1,10 @@
-//! What is given of the moments of a run.
+//! What a gate is told of a run.
 
 use swift_types::{ExecId, TaskId};
 
 /// A moment of a run, at an executor (our own). `Exec::run_one` tells those of a visit, in the order of this list, each with the
-/// executor and the worker that visits it. `Exec::enqueue` tells the last two, of a job that is sent by whatever thread.
+/// executor and the worker that visits it. Of a visit that is refused `Ended` is still told, and `Turned` is not; of one that finds the
+/// executor busy, `Took` alone. `Exec::enqueue` tells the last two, of a job that is sent by whatever thread.
 #[derive(Clone, Copy, Debug, PartialEq, Eq)]
 pub enum Moment {
     /// The worker may run the executor, and is about to ask for its state. In a run it has just taken the executor's token.
@@ -24,9 +25,10 @@ pub enum Moment {
     Counted(ExecId, TaskId),
 }
 
-/// Is given of each moment as it comes (our own). It can look on, and changes nothing of the run.
+/// Is told of each moment as it comes (our own). It looks on, and changes nothing of the run.
 pub trait Gate {
-    /// Called on the thread that the moment is of, which waits until it returns. The book of tasks is not locked then.
+    /// Called on the thread that the moment is of, which waits until it returns. That thread does not hold
+    /// the lock of the book then; another may.
     fn at(&self, moment: Moment);
 }
 

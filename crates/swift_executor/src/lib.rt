@@ -22,7 +22,7 @@ mod turns;
 // The account of an executor.
 pub mod laws;
 
-// What is given of the moments of a run.
+// What a gate is told of a run.
 mod gate;
 // The name of a state.
 mod state_name;

@@ -18,7 +18,7 @@ use swift_types::TaskId;
 impl ExecState {
     /// Adds a job to those that are ready, as the newest. It is one of this executor: its body is of an equal script and has not
     /// ended, and its frame is of an actor that runs here. There is room, and no job is chosen. Where a job of its task is
-    /// ready already, it waits behind that one. It takes no memory.
+    /// ready already, it comes after that one. It takes no memory.
     pub fn accept(&mut self, job: Job<Body>)
         requires belongs { BelongsTo self.old.script self.old.executor job }
         requires room { HasRoom self.old.ready 0 }
@@ -35,7 +35,7 @@ impl ExecState {
     /// ready. No job is chosen yet.
     ///
     /// It takes no memory, and constant time where no level has changed since the last call, besides the comparison of a byte
-    /// for each task. The refusal is that of the book, where the task of that job was not made; the job is then ready as before.
+    /// for each task. The refusal is `Refused(Unknown)`, where the task of that job was not made; the job is then ready as before.
     pub fn choose(&mut self, given: &[u8]) -> Result<Option<TaskId>, ExecFault>
         requires free { self.old.chosen ≡ None }
         requires levels { (log : List Event) × AreLevels log given.now }

@@ -6,10 +6,10 @@ use swift_word::Left;
 /// What came of a visit to an executor (our own).
 #[derive(Clone, Copy, Debug, PartialEq, Eq)]
 pub enum Ran {
-    /// A turn of this task was run, and so much is pending.
+    /// A turn of this task was run; and whether jobs are left.
     Turn(TaskId, Left),
     /// Another worker holds the executor.
     Busy,
-    /// No job was pending, or none was ready: no turn was run, and so much is pending.
+    /// No job was pending, or none was ready: no turn was run; and whether jobs are left.
     Nothing(Left),
 }

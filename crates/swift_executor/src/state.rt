@@ -65,8 +65,8 @@ impl Model for ExecState {
 }
 
 impl ExecState {
-    /// An executor of a script that has run no turn, with room for this many jobs. Out of memory nothing remains. The
-    /// room is not touched before it is used.
+    /// An executor of a script that has run no turn, with room for this many jobs. It takes memory for the jobs and for three copies of
+    /// the start values. Out of memory nothing remains. The room is not touched before it is used.
     pub fn new(
         alloc: Global,
         script: Arc<Script>,
@@ -92,7 +92,8 @@ impl ExecState {
         })
     }
 
-    /// What holds of each executor. It does nothing.
+    /// The journal is lawful from the checkpoint on, replaying it gives the fields, and each invariant that held at the start holds. It
+    /// does nothing.
     pub fn facts(&self)
         ensures keeps { IsExecutor self.now }
         // Each invariant of its actors that held at the start holds.

@@ -162,7 +162,8 @@ impl ExecState {
     }
 
     /// Begins the turn of the chosen job on a worker, and keeps what the book gives it. The caller sees to it that the
-    /// executor is not pinned to another worker. The refusal is that of the book.
+    /// executor is not pinned to another worker. A refusal is `Memory`, or `Refused` with the cause of `Book::begin`: the book is then as
+    /// before, and the job is ready again with the number of its arrival.
     pub fn start(&mut self, worker: u32, book: &mut Book) -> Result<(), ExecFault>
         requires { HasChosen self.old (λ c. IsPicked c.stage) }
         ensures ok { OnOk result (HasChosen self.old (Begins book.old book.new worker self.old self.new)) }
@@ -180,7 +181,8 @@ impl ExecState {
     }
 
     /// Plays the turn that has begun (SE-0306), on a copy of the fields, and keeps what it gave. In time by its steps
-    /// and by the fields of the executor's actors. The only refusal is `Memory`.
+    /// and by the fields of the executor's actors. The only refusal is `Memory`; the job is then ready again, with the number of its
+    /// arrival.
     pub fn play(&mut self, cx: &mut Context<'_>) -> Result<(), ExecFault>
         requires { HasChosen self.old (λ c. IsBegun c.stage) }
         ensures ok { OnOk result (HasChosen self.old (Plays self.old self.new)) }
@@ -209,7 +211,8 @@ impl ExecState {
     /// Journals the turn that was played, and lets the book take it. The jobs that follow come behind those that `jobs`
     /// has. A journal that has 4,096 turns then is folded. It takes no memory for a turn that only gives way, but for
     /// the growth of the journal and of the log; all memory is taken before the book changes. A refusal is that of the
-    /// book, or `Memory`; `jobs` is then as before.
+    /// book, or `Memory`: `jobs`, the book, the fields and the journal are then as before, and the job is ready again with the number of
+    /// its arrival.
     pub fn turn(&mut self, book: &mut Book, jobs: &mut Vec<Job<Body>>) -> Result<(), ExecFault>
         requires { HasChosen self.old (λ c. IsPlayed c.stage) }
         ensures ok { OnOk result (HasChosen self.old (Journals book.old book.new (map job_view jobs.old.items) (map job_view jobs.new.items) self.old self.new)) }

@@ -67,7 +67,7 @@ fn make_placed<K: Placed>(queue: &Queue, first: &mut RawPass, site: &ExecutorSit
 }
 
 impl Inbox {
-    /// An empty inbox for the jobs of this executor, with room for so many, and its first pass. The only call that takes
+    /// An empty inbox for the jobs of this executor, with room for so many, at least 1, and its first pass. The only call that takes
     /// memory: a place for each job and 8 bytes beside it, and each place is marked as empty. An `Err` says that a growth
     /// was refused, and a room of 2^60 or more is refused too.
     pub fn new(alloc: Global, site: ExecutorSite, room: usize) -> Result<(Inbox, Pass), AllocError>
@@ -96,8 +96,8 @@ impl Inbox {
         self.queue.capacity()
     }
 
-    /// Puts a job in, as the newest. Where the inbox was full at some moment of the call, the job comes back, and nothing
-    /// has changed. It takes no memory, and constant time where no other thread is in the way.
+    /// Puts a job in, as the newest. Where the inbox was found full, the job comes back, and nothing has changed. It takes no
+    /// memory, and constant time where no other thread is in the way.
     ///
     /// For a job that can run at the inbox's executor: its body is of that script and has not ended, and its running
     /// frame is of an actor of that executor.

@@ -23,7 +23,7 @@ use Rattle.swift_events.proofs.LogLemmas.{life_of-push_same, life_of-push_other,
 use Rattle.swift_history.specs.Checks.{is_under_way}
 use Rattle.swift_history.specs.TurnEnds.{task, JobView, HeldView, exit_events, log_after, gives, turn_end, root_job, root_events}
 use Rattle.swift_history.specs.Histories.{Block, added, begun, ran, folded, Standing, Stands, AllStand, TurnStands, IsLegal, ReportView, after_block, after_blocks, at_first, left_as, begun_priority, turn_applied}
-use Rattle.swift_laws.specs.Laws.{turns_of, turn_in, jobs_of, job_in, TurnsAreNumbered, GivenJobsAreApplied}
+use Rattle.swift_laws.specs.Laws.{turns_of, turn_in, jobs_given, given_job, TurnsAreNumbered, GivenJobsAreApplied}
 use Rattle.swift_laws.specs.Accepted.{AcceptedTurnsStand, AcceptedJobsStand}
 use Rattle.swift_laws.proofs.OpenLogs.{In, in_contains}
 use Rattle.swift_laws.proofs.OpenGroups.{in_filter_map}
@@ -39,7 +39,7 @@ Owed true jobs turns = jobs ≡ turns ++ length turns ∷ []
 Owed false jobs turns = jobs ≡ turns
 
 abbrev IsOwed : List Event → ℕ → Type 0
-IsOwed log t = Owed (is_under_way (life_of t log).stage) (jobs_of t log) (turns_of t log)
+IsOwed log t = Owed (is_under_way (life_of t log).stage) (jobs_given t log) (turns_of t log)
 
 abbrev AreGiven : List Event → Type 0
 AreGiven log = (t : ℕ) → IsOwed log t
@@ -53,7 +53,7 @@ owed_at js ts c is owed = subst (λ (x : Bool). Owed x js ts) is owed
 
 -- one more event
 
-idle_job : (t : ℕ) (e : Event) → starts e ≡ false → job_in t e ≡ None
+idle_job : (t : ℕ) (e : Event) → starts e ≡ false → given_job t e ≡ None
 idle_job t (Begin u n env) h = refl
 idle_job t (Apply u n) h = refl
 idle_job t (Give u n resume) h = absurd (true≢false h)
@@ -70,18 +70,18 @@ idle_job t (Close o g) h = refl
 idle_job t (End u ending) h = refl
 
 -- an event of another task
-owed_other : (t : ℕ) (log : List Event) (e : Event) → task_of e ≢ t → job_in t e ≡ None → turn_in t e ≡ None → IsOwed log t → IsOwed (log ++ e ∷ []) t
+owed_other : (t : ℕ) (log : List Event) (e : Event) → task_of e ≢ t → given_job t e ≡ None → turn_in t e ≡ None → IsOwed log t → IsOwed (log ++ e ∷ []) t
 owed_other t log e other no_job no_turn is =
-    owed_same (jobs_of t log) (jobs_of t (log ++ e ∷ [])) (turns_of t log) (turns_of t (log ++ e ∷ [])) (ap (λ (l : Life). is_under_way l.stage) (life_of-push_other t log e other)) (filter_map-push_none (job_in t) log e no_job) (filter_map-push_none (turn_in t) log e no_turn) is
+    owed_same (jobs_given t log) (jobs_given t (log ++ e ∷ [])) (turns_of t log) (turns_of t (log ++ e ∷ [])) (ap (λ (l : Life). is_under_way l.stage) (life_of-push_other t log e other)) (filter_map-push_none (given_job t) log e no_job) (filter_map-push_none (turn_in t) log e no_turn) is
 
 -- an event that gives no job, applies no turn, and doesn't change whether one is under way
-given_idle : (log : List Event) (e : Event) → ((t : ℕ) → job_in t e ≡ None) → ((t : ℕ) → turn_in t e ≡ None)
+given_idle : (log : List Event) (e : Event) → ((t : ℕ) → given_job t e ≡ None) → ((t : ℕ) → turn_in t e ≡ None)
     → is_under_way (later (stage_in e) (life_of (task_of e) log).stage) ≡ is_under_way (life_of (task_of e) log).stage → AreGiven log → AreGiven (log ++ e ∷ [])
 given_idle log e no_job no_turn way are t = elim (cases_eq (task_of e) t) [
   | inl same ↦
       let here : is_under_way (life_of t (log ++ e ∷ [])).stage ≡ is_under_way (life_of t log).stage =
       ap (λ (l : Life). is_under_way l.stage) (life_of-push_same t log e same) ∙ subst (λ (k : ℕ). is_under_way (later (stage_in e) (life_of k log).stage) ≡ is_under_way (life_of k log).stage) same way in
-      owed_same (jobs_of t log) (jobs_of t (log ++ e ∷ [])) (turns_of t log) (turns_of t (log ++ e ∷ [])) here (filter_map-push_none (job_in t) log e (no_job t)) (filter_map-push_none (turn_in t) log e (no_turn t)) (are t)
+      owed_same (jobs_given t log) (jobs_given t (log ++ e ∷ [])) (turns_of t log) (turns_of t (log ++ e ∷ [])) here (filter_map-push_none (given_job t) log e (no_job t)) (filter_map-push_none (turn_in t) log e (no_turn t)) (are t)
   | inr other ↦ owed_other t log e other (no_job t) (no_turn t) (are t)
 ]
 
@@ -114,26 +114,26 @@ apply_given log t n number under are u =
     let e : Event = Apply (task t) n in
     elim (cases_eq t u) [
       | inl same ↦ subst (IsOwed (log ++ e ∷ [])) same
-          (owed_at (jobs_of t (log ++ e ∷ [])) (turns_of t (log ++ e ∷ [])) _ (sym (ap (λ (l : Life). is_under_way l.stage) (life_of-push_same t log e refl)))
-          (filter_map-push_none (job_in t) log e refl ∙ owed_at (jobs_of t log) (turns_of t log) true under (are t) ∙ ap (λ (k : ℕ). turns_of t log ++ k ∷ []) (sym number) ∙ sym (turns_push t n log)))
+          (owed_at (jobs_given t (log ++ e ∷ [])) (turns_of t (log ++ e ∷ [])) _ (sym (ap (λ (l : Life). is_under_way l.stage) (life_of-push_same t log e refl)))
+          (filter_map-push_none (given_job t) log e refl ∙ owed_at (jobs_given t log) (turns_of t log) true under (are t) ∙ ap (λ (k : ℕ). turns_of t log ++ k ∷ []) (sym number) ∙ sym (turns_push t n log)))
       | inr other ↦ owed_other u log e other refl (ap (λ (b : Bool). if b then Some n else None) (ne_eqb t u other)) (are u)
     ]
 
 -- a job is given
 
-job_here : (t n : ℕ) (resume : Resume) → job_in t (Give (task t) n resume) ≡ Some n
+job_here : (t n : ℕ) (resume : Resume) → given_job t (Give (task t) n resume) ≡ Some n
 job_here t n resume = ap (λ (b : Bool). if b then Some n else None) (eq-eqb t t refl)
 
-jobs_push : (t n : ℕ) (resume : Resume) (log : List Event) → jobs_of t (log ++ Give (task t) n resume ∷ []) ≡ jobs_of t log ++ n ∷ []
-jobs_push t n resume log = filter_map-append (job_in t) log (Give (task t) n resume ∷ []) ∙ ap (λ (o : Option ℕ). jobs_of t log ++ cons_option o []) (job_here t n resume)
+jobs_push : (t n : ℕ) (resume : Resume) (log : List Event) → jobs_given t (log ++ Give (task t) n resume ∷ []) ≡ jobs_given t log ++ n ∷ []
+jobs_push t n resume log = filter_map-append (given_job t) log (Give (task t) n resume ∷ []) ∙ ap (λ (o : Option ℕ). jobs_given t log ++ cons_option o []) (job_here t n resume)
 
 give_given : (log : List Event) (j : JobView) → Resting log j → j.number ≡ applied j.task log → AreGiven log → AreGiven (log ++ Give (task j.task) j.number j.resume ∷ [])
 give_given log j rest number are u =
     let e : Event = Give (task j.task) j.number j.resume in
     elim (cases_eq j.task u) [
       | inl same ↦ subst (IsOwed (log ++ e ∷ [])) same
-          (owed_at (jobs_of j.task (log ++ e ∷ [])) (turns_of j.task (log ++ e ∷ [])) _ (sym (ap (λ (l : Life). is_under_way l.stage) (life_of-push_same j.task log e refl)))
-          (jobs_push j.task j.number j.resume log ∙ ap (λ (js : List ℕ). js ++ j.number ∷ []) (owed_at (jobs_of j.task log) (turns_of j.task log) false rest (are j.task))
+          (owed_at (jobs_given j.task (log ++ e ∷ [])) (turns_of j.task (log ++ e ∷ [])) _ (sym (ap (λ (l : Life). is_under_way l.stage) (life_of-push_same j.task log e refl)))
+          (jobs_push j.task j.number j.resume log ∙ ap (λ (js : List ℕ). js ++ j.number ∷ []) (owed_at (jobs_given j.task log) (turns_of j.task log) false rest (are j.task))
           ∙ ap (λ (k : ℕ). turns_of j.task log ++ k ∷ []) number ∙ ap (λ (ts : List ℕ). ts ++ length ts ∷ []) (sym (filter_map-push_none (turn_in j.task) log e refl))))
       | inr other ↦ owed_other u log e other (ap (λ (b : Bool). if b then Some j.number else None) (ne_eqb j.task u other)) refl (are u)
     ]
@@ -225,10 +225,10 @@ ended_rests script report t legal = by (nat_lt t (length report.endings)) refl
         subst (λ (l : List Event). tasks_of (root_count script) l ≤ t → is_under_way (life_of t l).stage ≡ false) (sym legal.log)
         (λ beyond. unbegun (counted.each t) (counted.beyond t beyond)) le
 
-pub given_are_applied : (script : ScriptView) (report : ReportView) (t : ℕ) → IsLegal script report → jobs_of t report.log ≡ turns_of t report.log
+pub given_are_applied : (script : ScriptView) (report : ReportView) (t : ℕ) → IsLegal script report → jobs_given t report.log ≡ turns_of t report.log
 given_are_applied script report t legal =
     let whole : AreGiven report.log = subst AreGiven (sym legal.log) (all_given script report.checkpoints [] legal.blocks legal.stand (first_counted script) (first_given script)) in
-    owed_at (jobs_of t report.log) (turns_of t report.log) false (ended_rests script report t legal) (whole t)
+    owed_at (jobs_given t report.log) (turns_of t report.log) false (ended_rests script report t legal) (whole t)
 
 -- so the turn of each job that is given stands in the report
 
@@ -239,8 +239,8 @@ in_range a (suc k) n (inr i) = let lt = in_range (a + 1) k n i in omega (arith, 
 
 pub jobs_stand : AcceptedTurnsStand → GivenJobsAreApplied → TurnsAreNumbered → AcceptedJobsStand
 jobs_stand stand applied numbered script report t n resume accepted legal has =
-    let is : job_in t.0 (Give t n resume) ≡ Some n = ap (λ (b : Bool). if b then Some n else None) (eq-eqb t.0 t.0 refl) in
-    let gave = in_filter_map (job_in t.0) report.log (Give t n resume) n (in_contains report.log (Give t n resume) has) is in
+    let is : given_job t.0 (Give t n resume) ≡ Some n = ap (λ (b : Bool). if b then Some n else None) (eq-eqb t.0 t.0 refl) in
+    let gave = in_filter_map (given_job t.0) report.log (Give t n resume) n (in_contains report.log (Give t n resume) has) is in
     let turn = subst (λ (ns : List ℕ). In ns n) (applied script report t.0 legal ∙ (numbered script report t.0 legal).0) gave in
     let lt = in_range 0 (length (turns_of t.0 report.log)) n turn in
     stand script report t.0 n accepted legal (omega (arith, lt))

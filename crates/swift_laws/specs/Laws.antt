@@ -62,16 +62,16 @@ AppliedTurnsStand = (script : ScriptView) (report : ReportView) (t n : ℕ) → 
     → n < length (turns_of t report.log) → (p : TurnPlace) × HasTurn report p t n
 
 -- the numbers of the turns for which the log gives the task a job, in order
-abbrev pub job_in : ℕ → Event → Option ℕ
-job_in t (Give task n resume) = if task.0 == t then Some n else None
-job_in t _ = None
+abbrev pub given_job : ℕ → Event → Option ℕ
+given_job t (Give task n resume) = if task.0 == t then Some n else None
+given_job t _ = None
 
-abbrev pub jobs_of : ℕ → List Event → List ℕ
-jobs_of t log = filter_map (job_in t) log
+abbrev pub jobs_given : ℕ → List Event → List ℕ
+jobs_given t log = filter_map (given_job t) log
 
 -- in a legal report they are those of the turns that it applies, in that order
 abbrev pub GivenJobsAreApplied : Type 0
-GivenJobsAreApplied = (script : ScriptView) (report : ReportView) (t : ℕ) → IsLegal script report → jobs_of t report.log ≡ turns_of t report.log
+GivenJobsAreApplied = (script : ScriptView) (report : ReportView) (t : ℕ) → IsLegal script report → jobs_given t report.log ≡ turns_of t report.log
 
 -- whether a turn of the task begins
 abbrev pub begins_turn : ℕ → Event → Bool

@@ -12,23 +12,23 @@ pub fn owners_go_on_after_their_children()
     ensures { OwnersGoOnAfter }
 {}
 
-/// In a legal report, at each point of the log, each task that an ended task has waited for has ended (SE-0304).
+/// Wherever the log of a legal report is cut, each task that an ended task has waited for has ended (SE-0304).
 pub fn ended_tasks_wait_for_none()
     ensures { EndedWaitForNone }
 {}
 
-/// In a legal report, at each point of the log, each child of a group that an ended task has closed has ended (SE-0304).
+/// Wherever the log of a legal report is cut, each child of a group that an ended task has closed has ended (SE-0304).
 pub fn ended_tasks_leave_no_children_of_closed_groups()
     ensures { EndedLeaveNoneClosed }
 {}
 
-/// In a legal report, at each point of the log, each child that was added to a group of an ended task has ended (SE-0304).
+/// Wherever the log of a legal report is cut, each child that was added to a group of an ended task has ended (SE-0304).
 pub fn ended_tasks_leave_no_children()
     ensures { EndedLeaveNoChildren }
 {}
 
-/// In a legal report, at each point of the log, each task that is reached from an ended task along children and waits has
-/// ended (SE-0304).
+/// Wherever the log of a legal report is cut, each task that is reached from an ended task along children and waits has ended
+/// (SE-0304).
 pub fn ended_tasks_reach_only_ended_ones()
     ensures { EndedReachEnded }
 {}

@@ -39,7 +39,7 @@ pub enum ScriptFaultKind {
     /// A root that waits for itself or for a root that is declared after it.
     #[error("S10 a root waits for a later root")]
     RootWaits,
-    /// More than 65,536 bytes, 64 declared executors, 64 actors or 1,024 roots, or a worker above the 8th.
+    /// More than 65,536 bytes, 64 declared executors, 64 actors or 1,024 roots, or a number above 7 after `pinned`.
     #[error("S11 a limit is passed")]
     LimitPassed,
     /// The text ends where more has to come.
@@ -59,6 +59,7 @@ pub enum ScriptFaultKind {
 pub struct ScriptFault {
     /// The line, counted by LF from 1; 0 where memory ran out.
     pub line: u32,
+    /// What is wrong.
     pub kind: ScriptFaultKind,
 }
 

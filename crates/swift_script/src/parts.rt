@@ -149,7 +149,7 @@ impl Script {
         self.method(method).params
     }
 
-    /// How many numbers a frame of a method has: its parameters and variables.
+    /// How many places for numbers a frame of a method has: as many as parameters and variables stand at once at most.
     pub fn method_numbers(&self, method: MethodId) -> u32
         requires { method.0 < method_count self.now }
         ensures { result ≡ method_numbers self.now method.0 }
@@ -157,7 +157,7 @@ impl Script {
         self.method(method).numbers
     }
 
-    /// How many handles a frame of a method has: its task variables and groups.
+    /// How many places for handles a frame of a method has: as many as task variables and groups stand at once at most.
     pub fn method_handles(&self, method: MethodId) -> u32
         requires { method.0 < method_count self.now }
         ensures { result ≡ method_handles self.now method.0 }

@@ -72,7 +72,7 @@ impl Script {
         &self.printed
     }
 
-    /// How many executors there are: the declared ones (SE-0392), and those that actors have of their own (SE-0306).
+    /// How many executors there are: the declared ones (SE-0392), and those that actors have of their own (SE-0306); 128 at most.
     pub fn executor_count(&self) -> usize
         ensures { result ≡ executor_count self.now }
     {
@@ -86,7 +86,7 @@ impl Script {
         self.compiled.locals.len()
     }
 
-    /// How many actors there are (SE-0306).
+    /// How many actors there are, 64 at most (SE-0306).
     pub fn actor_count(&self) -> usize
         ensures { result ≡ actor_count self.now }
     {
@@ -100,7 +100,7 @@ impl Script {
         self.compiled.methods.len()
     }
 
-    /// How many roots there are (our own).
+    /// How many roots there are, 1,024 at most (our own).
     pub fn root_count(&self) -> usize
         ensures { result ≡ root_count self.now }
     {

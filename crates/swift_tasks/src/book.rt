@@ -59,7 +59,8 @@ impl Model for Book {
 }
 
 impl Book {
-    /// A book without tasks. It takes memory for the roots, and a byte for each of 1,024 tasks.
+    /// A book without tasks. It takes memory for the roots, and a byte for each of 1,024 tasks. The only refusal is `Memory`; nothing
+    /// remains then.
     pub fn new(alloc: Global, script: Arc<Script>) -> Result<Book, BookFault>
         ensures ok { IfOk result (λ book. book ≡ empty_book (arc_value script)) }
         ensures err { IfErr result (λ fault. fault ≡ BookFault.Memory) }
@@ -92,7 +93,7 @@ impl Book {
         self.ledger.log()
     }
 
-    /// How many numbers of tasks are taken, those of all roots included.
+    /// How many numbers of tasks are taken, those of all roots included; 1,024 at most (`laws::runs_stay_within_room`).
     pub fn tasks(&self) -> usize
         ensures { result ≡ tasks_of (root_count self.now.script) self.now.log }
     {
@@ -131,7 +132,7 @@ impl Book {
         self.ledger.life(task).origin
     }
 
-    /// Whether a task has closed each group that it has opened (SE-0304). Time linear in these groups.
+    /// True only where a task has closed each group that it has opened (SE-0304). Time linear in these groups.
     pub fn has_closed_all(&self, task: TaskId) -> bool
         ensures { IsTrue result → (g : ℕ) → g < opened_by task.0 self.now.log → is_closed task.0 g self.now.log ≡ true }
     {

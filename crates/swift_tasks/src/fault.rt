@@ -16,7 +16,7 @@ pub enum BookFault {
     #[error("B3 no memory")]
     Memory,
     /// A turn that is not the task's next one, or has not begun; effects or an exit that do not fit it; or a body of
-    /// another script.
+    /// another script; or a turn numbered 2^32 - 1, after which none could come.
     #[error("B4 not this turn")]
     Refused,
 }

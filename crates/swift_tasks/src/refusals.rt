@@ -154,10 +154,10 @@ impl Book {
         Ok(env)
     }
 
-    /// Begins a turn, and says in which environment: the one that the log gives (SE-0304). The turn must be the one of the
-    /// task's last job, of an equal script; one that has begun may begin again, until it is applied. A refusal is `Unknown`, `Completed`,
-    /// `Refused` or `Memory`, the first of these that stands. Where nothing else is refused, it compares the printed forms of two
-    /// scripts; `begin_known` does not.
+    /// Begins a turn, and says in which environment: the one that the log gives (SE-0304). The turn must be the one of the task's
+    /// last job, of an equal script; one that has begun may begin again, until it is applied. A refusal is `Unknown`, `Completed`,
+    /// `Refused` or `Memory`, the first of these that stands, and changes nothing. It writes one event. Where nothing else is
+    /// refused, it compares the printed forms of two scripts; `begin_known` does not.
     pub fn begin(&mut self, job: &Job<Body>) -> Result<Env, BookFault>
         ensures env { IfOk result (λ env. IsEnv (root_count self.old.script) job.now.task self.old.log env) }
         ensures ok { IfOk result (λ env. self.new ≡ record self.old { log = self.old.log ++ Event.Begin job.now.task job.now.number env ∷ [] }) }
@@ -170,7 +170,7 @@ impl Book {
         self.begin_fitting(job.task(), job.number())
     }
 
-    /// `begin` for a job that is known to be of an equal script, in constant time.
+    /// `begin` for a job that is known to be of an equal script, in constant time; its refusals are those of `begin`.
     pub fn begin_known(&mut self, job: &Job<Body>) -> Result<Env, BookFault>
         requires { job.now.body.script ≡ self.old.script }
         ensures env { IfOk result (λ env. IsEnv (root_count self.old.script) job.now.task self.old.log env) }

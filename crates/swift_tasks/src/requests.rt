@@ -70,7 +70,7 @@ impl Book {
     }
 
     /// Cancels a task, with the children of its groups (SE-0304). A refusal is `Unknown`, `Completed` or `Memory`, the first of
-    /// these that stands.
+    /// these that stands, and changes nothing. Time linear in the tasks of the run where the task was not cancelled yet, else constant.
     pub fn cancel(&mut self, task: TaskId) -> Result<(), BookFault>
         ensures ok { OnOk result (self.new ≡ record self.old { log = self.old.log ++ Event.CancelTask task ∷ [] }) }
         ensures err { OnErr result (self.new ≡ self.old) }
@@ -84,8 +84,9 @@ impl Book {
         Ok(())
     }
 
-    /// The priority of each of these tasks, at its place (SE-0304; our own where tasks wait). `Unknown` where one of them was
-    /// not made: then nothing is written. It takes no memory, and time linear in how many are asked for.
+    /// The priority of each of these tasks, at its place of a list of the same length (SE-0304; our own where tasks wait).
+    /// `Unknown` where one of them was not made: then nothing is written. It takes no memory, and time linear in how many are asked
+    /// for.
     pub fn priorities(&self, tasks: &[TaskId], priorities: &mut [Priority]) -> Result<(), BookFault>
         requires { length tasks.now ≡ length priorities.old }
         ensures ok { OnOk result ((k : ℕ) (t : TaskId) (p : Priority) → k < length tasks.now → IsPriority (links_of self.now.log) (slice_index_or tasks.now k t) (slice_index_or priorities.new k p)) }

@@ -377,9 +377,10 @@ impl Book {
     }
 
     /// Takes what a turn of a job did: its effects, in order, and its exit (SE-0304, SE-0306). The events and the jobs that
-    /// follow are those of `end_of_turn`; the jobs come behind those that `jobs` has: for the tasks that were made, in order of effects, for the task's own next
-    /// turn, and for those that have waited for its end. It writes three events and takes no more memory for a turn that only gives way; else it takes time linear in
-    /// the effects and in the jobs, and what `Ledger::note` says of a wait and of a cancel.
+    /// follow are those of `end_of_turn`; the jobs come behind those that `jobs` has: for the tasks that were made, in order of
+    /// effects, for the task's own next turn, and for those that have waited for its end. It writes three events and takes no more
+    /// memory for a turn that only gives way; else it takes time linear in the effects and in the jobs, and what `Ledger::note` says of
+    /// a wait and of a cancel.
     ///
     /// A refusal is `Unknown`, `Completed`, `Refused` or `Memory`, the first of these that stands: nothing has changed, and the
     /// job and the effects come back. Where nothing else is refused, it compares the printed forms of two scripts; `apply_known`
@@ -406,7 +407,7 @@ impl Book {
         self.apply_fitting(job, exit, effects, jobs)
     }
 
-    /// `apply` for a job that is known to be of an equal script.
+    /// `apply` for a job that is known to be of an equal script; its refusals, and what they leave, are those of `apply`.
     pub fn apply_known(
         &mut self,
         job: Job<Body>,

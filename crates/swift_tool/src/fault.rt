@@ -18,7 +18,7 @@ pub enum ToolFault {
     /// The script was refused.
     #[error("{0}")]
     Script(ScriptFault),
-    /// The run was refused, or there was no memory for it or for its text.
+    /// The run was refused, or there was no memory to read the text, for the run, or for the report's text.
     #[error("{0}")]
     Run(RunFault),
     /// A read or a write failed, or a write took no byte.

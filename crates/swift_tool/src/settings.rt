@@ -3,7 +3,7 @@
 /// How a script is run (our own).
 #[derive(Clone, Copy, Debug, PartialEq, Eq)]
 pub struct Options {
-    /// On how many threads.
+    /// On how many threads: 1 to 8 where `options` made it.
     pub workers: u32,
     /// Whether the journals are left out of the report.
     pub quiet: bool,

@@ -30,12 +30,12 @@ fn command<'a>(alloc: Global) -> Result<Command<'a>, Error> {
     Ok(command)
 }
 
-/// Reads the words of a command line, of which the first is the program's name: `--workers N`, from 1 to 8 and 1 where it is not
-/// given, and `--quiet` (our own).
+/// Reads the arguments of a command line, of which the first is the program's name: `--workers N` or `--workers=N`, from 1 to 8 and
+/// 1 where it is not given, and `--quiet` (our own).
 ///
 /// # Errors
 ///
-/// Any other word, a number that is none or out of range, a word given twice, `--help`, and words for which there is no memory.
+/// Any other argument, a number that is none or out of range, one given twice, `--help`, and arguments for which there is no memory.
 /// The error's text is the one to show, and its `exit_code` the status to end with: 0 for help, else 2.
 pub fn options<'a>(alloc: Global, words: &'a [String]) -> Result<Options, Error>
     ensures least { IfOk result (λ options. 1 ≤ options.workers) }

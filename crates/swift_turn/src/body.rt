@@ -98,11 +98,10 @@ impl Future for Body {
 
     ghost gives = { λ b e. ends_with b ≡ Some e };
 
-    /// Plays the turn that was entered (SE-0304); without one it yields and changes nothing. It is Ready with the
-    /// ending where the turn leaves the first frame. Else it is Pending: it has registered with the body's own source
-    /// where the turn waits for a task, asks for the next child of a group, or closes a group, and has yielded after
-    /// every other turn. Out of memory it has yielded too, and `leave` then says so. What an earlier turn waited for is
-    /// over, so a turn that was played empties the slot of its waker.
+    /// Plays the turn that was entered (SE-0304); without one it yields and changes nothing. Ready, with the ending, where the
+    /// turn's exit ends the task; else Pending. A turn that waits for a task, for the next child of a group or for the end of a
+    /// group leaves its waker at the body's own source; after any other the body has yielded. Out of memory it has yielded too, and
+    /// `leave` then says so. What an earlier turn waited for is over, so a turn that was played empties the slot of its waker.
     fn poll(&mut self, cx: &mut Context<'_>) -> Poll<Ending>
         ensures value { IfReady result (λ e. ends_with self.old ≡ Some e) }
         ensures same { OnPending result ((x : _) → ends_with self.new ≡ Some x → ends_with self.old ≡ Some x) }
@@ -186,8 +185,9 @@ fn play(
 }
 
 impl Body {
-    /// A task whose first frame is the method's (SE-0304), in which these bindings stand (SE-0311). Numbers that are no
-    /// arguments are 0. It takes memory for those and for itself; out of memory, nothing remains.
+    /// A task whose first frame is the method's (SE-0304), in which these bindings stand (SE-0311). For a method of the script and
+    /// any number of arguments. Numbers that are no arguments are 0. It takes memory for those and for itself; out of memory,
+    /// nothing remains.
     pub fn start(
         alloc: Global,
         script: Arc<Script>,
@@ -227,7 +227,8 @@ impl Body {
 
     /// Enters a turn of the frame that runs, on the fields of the actors of its executor, a list for each in text order.
     /// A turn that was entered before and not left is given up, with its fields and effects. Room for undoing the turn is
-    /// made here, so it may run out of memory: then it hands the fields back and leaves the body as it was.
+    /// made here, so it may run out of memory: then it hands the fields back and leaves the body as it was. For a task that has not
+    /// ended (`is_running`).
     pub fn enter(
         &mut self,
         fields: Vec<Vec<i64>>,
@@ -248,7 +249,8 @@ impl Body {
     }
 
     /// Leaves the turn that was polled: the fields after it, its effects in order, and how it ended. Where the poll ran
-    /// out of memory, the fields are those that were entered, and the body is as it was before it was entered.
+    /// out of memory, the fields are those that were entered, and the body is as it was before it was entered. For a turn that was
+    /// polled (`is_polled`).
     pub fn leave(
         &mut self,
     ) -> Result<(Vec<Vec<i64>>, Vec<Effect>, Exit), (Vec<Vec<i64>>, AllocError)>
@@ -272,9 +274,9 @@ impl Body {
     /// Follows the exit of a turn: a call begins a frame, whose numbers are its arguments and then zeros, and which finds
     /// its caller's bindings; where a frame is left its caller goes on, with its own bindings (SE-0306, SE-0311). It takes
     /// memory for a call that begins a frame alone, so it runs out of memory nowhere else, and the body is then as it
-    /// was. A call from a task with 64 frames begins none, and the same frame gets the fault `depth`. A turn that is
+    /// was. Where a task has 64 frames, a call begins none, and the same frame gets the fault `depth`. A turn that is
     /// under way stays so: one that was entered will run the frame that is then on top, and one that was polled can still
-    /// be left.
+    /// be left. For a task that has not ended, and an exit that can be followed (`can_advance`).
     pub fn advance(&mut self, exit: &Exit) -> Result<Step, AllocError>
         requires running { IsRunning self.old }
         requires call { CanAdvance self.old.script (exit_view exit.now) }
@@ -326,7 +328,7 @@ impl Body {
         }
     }
 
-    /// The actor of the frame that runs.
+    /// The actor of the frame that runs. For a task that has not ended (`is_running`).
     pub fn actor(&self) -> ActorId
         requires { IsRunning self.now }
         ensures { IfRunning self.now.task.frames (λ p. result.0 ≡ method_actor self.now.script p.method) }
@@ -350,7 +352,7 @@ impl Body {
         &self.inside.outer
     }
 
-    /// The frame that runs. It takes no memory.
+    /// The frame that runs. For a task that has not ended (`is_running`). It takes no memory.
     pub fn top(&self) -> &Frame
         requires { IsRunning self.now }
         ensures { IfRunning self.now.task.frames (λ p. p ≡ frame_view result.now) }
@@ -359,7 +361,7 @@ impl Body {
     }
 
     /// A copy of the frame that runs, with the bindings that it has made. It costs and takes memory for its variables,
-    /// bindings and groups.
+    /// bindings and groups; an `Err` says that there was none. For a task that has not ended (`is_running`).
     pub fn frame(&self) -> Result<Frame, AllocError>
         requires { IsRunning self.now }
         ensures frame { IfOk result (λ f. IfRunning self.now.task.frames (λ p. p ≡ frame_view f)) }
@@ -369,7 +371,8 @@ impl Body {
     }
 
     /// Sets the frame that runs to what `frame` gave before a turn. Its instruction may be any: one past the last of
-    /// its method stands for the end of the method. It gives up no turn: what was played can still be left.
+    /// its method stands for the end of the method. It gives up no turn: what was played can still be left. For a task that has not
+    /// ended, and a frame of its script (`can_put_back`).
     pub fn put_back(&mut self, frame: Frame)
         requires running { IsRunning self.old }
         requires method { frame.method.0 < method_count self.old.script }

@@ -2,7 +2,7 @@
 
 use swift_types::{ActorId, Ending, Resume};
 
-/// What comes after a turn.
+/// What comes after a turn, as `Body::advance` says (our own).
 #[derive(Clone, Copy, PartialEq, Eq)]
 pub enum Step {
     /// The next turn runs for this actor, and begins with this.

@@ -15,8 +15,8 @@ use std::alloc::AllocError;
 use swift_interpreter::{Effect, Exit};
 use swift_types::Resume;
 
-/// Enters a turn, polls it and leaves it: the kept turn of the continuation that the body stands for, which then
-/// stands for what that turn leaves. Out of memory, the fields come back, and the body is as it was, but that a turn
+/// Enters a turn, polls it and leaves it, for a task that has not ended (`is_running`): the kept turn of the frame that runs. The
+/// body then stands for what that turn leaves. Out of memory, the fields come back, and the body is as it was, but that a turn
 /// which was entered before may be given up. Its cost is the turn's steps, the sizes of the frame's variables and own
 /// bindings, the fields of the actors that it sets, and a look at each invariant of its executor's actors. It takes memory
 /// for what it makes, and where what it keeps to undo it is more than that of any turn before.

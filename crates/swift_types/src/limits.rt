@@ -1,5 +1,5 @@
 //! How much a run may have of each thing (our own). Code, clauses and definitions cite these names; the numbers stand
-//! nowhere else.
+//! nowhere else in code, but for the range of `--workers` in `swift_tool`, whose contract cites `WORKERS`.
 
 /// How many steps a turn may have: statements begun, a `while` apart, and tests of a `while`.
 pub const STEPS: u32 = 10_000;

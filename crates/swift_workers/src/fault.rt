@@ -17,7 +17,7 @@ pub enum RunFault {
     /// A task has not ended, and no executor has a job that could go on with it; or a job was sent and not run.
     #[error("N3 unfinished jobs")]
     Unfinished,
-    /// What the run has left is not a legal report of the script.
+    /// The certificate did not find the report legal. That it finds each legal report so is tested, not proved.
     #[error("N4 report not legal")]
     Illegal,
     /// An executor had no room for a job, or the book refused a turn.

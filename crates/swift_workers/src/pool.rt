@@ -12,7 +12,7 @@ use swift_types::ExecId;
 pub struct Pool {
     // The executors that have jobs and that no worker visits, the oldest token first.
     tokens: VecDeque<ExecId>,
-    // How many workers have taken a token and not yet finished what follows from it.
+    // How many workers are between taking a token and having sent what came of it.
     under_way: u32,
     // Why the run is given up.
     halt: Option<Halt>,
@@ -23,7 +23,7 @@ pub struct Pool {
 pub enum Next {
     /// It visits this executor, whose token it has taken.
     Visit(ExecId),
-    /// Nothing that it may run has jobs, but others are under way.
+    /// No token is one that it may run, but a token is left or a worker is under way.
     Pause,
     Stop,
 }

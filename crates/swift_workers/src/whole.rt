@@ -40,15 +40,16 @@ use swift_types::limits::WORKERS;
 /// An executor with jobs has a token, until a worker takes it. A worker takes the oldest token of an executor that it may run,
 /// runs one turn there, puts the token behind the others where more is pending, and then sends the jobs that the turn made; an
 /// executor that was idle gets a token. A pinned executor is run by one worker alone. A worker that finds no such token pauses
-/// while others are under way, and else stops. The roots are sent in order of declaration before the workers start, and with one
-/// worker a run is determined.
+/// while a token is left or another worker is under way, and else stops. It stops, too, once the run is given up. The roots' jobs
+/// are sent first, as the text declares them; then the workers start. With one worker a run is determined. `run` returns when
+/// each thread that it made has ended.
 ///
 /// # Errors
 ///
 /// `Workers` stands for any number of workers but 1 to 8, `Memory` for a growth that was refused or a thread that could not be
 /// made, `Unfinished` for a task that has not ended or a job that was not run though no executor has a token, `Illegal` for a
-/// report that is not legal, and `Executor` for an executor that had no room or a turn that the book refused. Nothing of a
-/// refused run remains.
+/// report that the certificate does not find legal, and `Executor` for an executor that had no room or a turn that the book refused.
+/// Nothing of a refused run remains.
 pub fn run<R, G>(rt: &R, script: Arc<Script>, workers: u32, gate: &G) -> Result<Report, RunFault>
 where
     R: RandomSource + AllocGlobal + Threads + Wait + Sync,
