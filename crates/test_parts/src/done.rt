@@ -2,24 +2,12 @@
 
 use crate::fault::CaseFault;
 use crate::scripts::{actor_named, method_named};
-use crate::words::{fault_of, number, priority_of, value};
+use crate::words::{fault_of, number, priority_of, value, values};
 use std::alloc::Global;
 use swift_interpreter::{Effect, Exit, Invocation, TaskName};
 use swift_locals::Bindings;
 use swift_script::Script;
 use swift_types::{ActorId, LocalId, MethodId, Priority, RootId};
-
-// Numbers with commas between them.
-fn values(alloc: Global, text: &str) -> Result<Vec<i64>, CaseFault> {
-    let mut found = Vec::new(alloc);
-    if text.is_empty() {
-        return Ok(found);
-    }
-    for word in text.split(',') {
-        found.push(value(word)?)?;
-    }
-    Ok(found)
-}
 
 fn actor_of(script: &Script, word: &str) -> Result<ActorId, CaseFault> {
     match actor_named(script, word) {

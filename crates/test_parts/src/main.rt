@@ -3,7 +3,7 @@
 //!
 //! A case begins with a line `== PART TITLE`, and has a line for each call, up to the next such line. What stands
 //! before the first case is a comment. PART is `locals`, `waits`, `groups`, `roots`, `formulas`, `queue`, `words`,
-//! `inbox`, `inbox_threads` or `book`, and each case has a part of its own. A line `FIRST to LAST: CALL`, or `FIRST to
+//! `inbox`, `inbox_threads`, `book` or `turns`, and each case has a part of its own. A line `FIRST to LAST: CALL`, or `FIRST to
 //! LAST by STEP: CALL`, makes a call for each number, up or down, which stands in place of `#`, and the number below it in
 //! place of `@`; of its answers one that is the same as the one before is not written again.
 //!
@@ -43,6 +43,30 @@
 //! local. Groups are numbered within their task. In answers `t3.1` is turn 1 of task 3; an environment is a priority, whether
 //! the task is cancelled, and room; and a job has the frames of its body, the innermost first, with their variables, and the
 //! bindings that stand.
+//!
+//! A case of `turns` has a script, a line `--`, and then calls, each made once; a line of these that begins with `#` is a comment.
+//! Here turns are played. A call whose condition doesn't hold isn't made: its answer is `not possible`.
+//!
+//! ```text
+//! start METHOD ARG.. [with LOCAL=VALUE ..]
+//!                       a task whose first frame is the first method of this name, and in which locals are bound,
+//!                       by their numbers, the outermost first
+//! enter TURN, poll, leave, actor, frame
+//! advance               by the exit of the turn that was left last
+//! put_back CHANGE..     the frame that was copied last, with changes: a number is a group that is open too, the
+//!                       innermost last; `made=N` and `opened=N` are counts of the task, `line=N` is where it is
+//! run_turn TURN
+//! play TURN             turns to the task's end, with no other task between them: one line each, then what comes next
+//! ```
+//!
+//! A TURN is FIELDS RESUME PRIORITY CANCELLED ROOM, as `3,-1 / 5 value 7 medium 0 16`. FIELDS has a row for each actor of
+//! the executor, with `/` between them, of numbers with commas between them; a row without fields is `-`. RESUME is
+//! `start`, `go`, `value NUMBER` or `fault FAULT`; CANCELLED is 0 or 1. Where a task goes from executor to executor, `play`
+//! gives each the fields of the one before, so it is for tasks of one executor.
+//!
+//! The answer to a turn is its fields, its effects in order, and its exit. Tasks and groups are named by their numbers
+//! within the task, as `task 0` and `group 0`, and roots as `root 0`. `{0: 5} of 2` are two bindings, of which local 0 reads
+//! as 5.
 #![tactic(auto)]
 
 // What calls on a book answer.
@@ -75,6 +99,8 @@ mod roots;
 mod scripts;
 // Events and jobs as text.
 mod show;
+// A case of calls on a task, turn by turn.
+mod turns;
 // Priorities of tasks that wait.
 mod waits;
 // Status words, and two threads.
@@ -90,10 +116,12 @@ use crate::inbox::{play_inbox, play_threads};
 use crate::locals::LocalsPart;
 use crate::queue::play_queue;
 use crate::roots::RootsPart;
+use crate::turns::play_turns;
 use crate::word::play_words;
-use std::alloc::Global;
+use std::alloc::{AllocGlobal, Global};
 use std::io;
 use std::io::Write;
+use std::random::RandomSource;
 use std::sync::Wait;
 use std::thread::Threads;
 use swift_escalation::Waits;
@@ -113,11 +141,10 @@ fn main(rt: HostRuntime) -> Result<(), CaseFault> {
 }
 
 // What is written for a case.
-fn answered<R: Threads + Wait + Sync>(
-    rt: &R,
-    alloc: Global,
-    case: &str,
-) -> Result<Vec<u8>, CaseFault> {
+fn answered<R>(rt: &R, alloc: Global, case: &str) -> Result<Vec<u8>, CaseFault>
+where
+    R: RandomSource + AllocGlobal + Threads + Wait + Sync,
+{
     let Some((head, calls)) = case.split_once('\n') else {
         return Err(CaseFault::Form);
     };
@@ -131,13 +158,16 @@ fn answered<R: Threads + Wait + Sync>(
 }
 
 // What the calls of a case answer.
-fn answer<R: Threads + Wait + Sync>(
+fn answer<R>(
     rt: &R,
     alloc: Global,
     part: &str,
     calls: &str,
     out: &mut Vec<u8>,
-) -> Result<(), CaseFault> {
+) -> Result<(), CaseFault>
+where
+    R: RandomSource + AllocGlobal + Threads + Wait + Sync,
+{
     match part {
         "locals" => play(alloc, &mut LocalsPart::new(alloc), calls, out),
         "waits" => play(alloc, &mut Waits::new(alloc), calls, out),
@@ -149,6 +179,7 @@ fn answer<R: Threads + Wait + Sync>(
         "inbox" => play_inbox(rt, alloc, calls, out),
         "inbox_threads" => play_threads(rt, alloc, calls, out),
         "book" => play_book(alloc, calls, out),
+        "turns" => play_turns(rt, calls, out),
         _ => Err(CaseFault::Form),
     }
 }

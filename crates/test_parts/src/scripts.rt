@@ -1,6 +1,6 @@
 //! The script of a case.
 
-ghost use Rattle.std.specs.Prelude.{◌<◌};
+ghost use Rattle.std.specs.Prelude.{◌<◌, IfSome};
 ghost use Rattle.std.specs.Arc.{arc_value};
 ghost use Rattle.swift_script.specs.Scripts.{method_count};
 
@@ -84,6 +84,19 @@ pub fn method_named(script: &Script, actor: ActorId, name: &str) -> Option<Metho
     for place in 0..script.method_count() {
         let method = MethodId(u32::try_from(place).ok()?);
         if script.method_actor(method) == actor && script.method_name(method) == name.as_bytes() {
+            return Some(method);
+        }
+    }
+    None
+}
+
+/// The first method of this name, of any actor.
+pub fn first_method_named(script: &Script, name: &str) -> Option<MethodId>
+    ensures { IfSome result (λ m. m.0 < method_count script.now) }
+{
+    for place in 0..script.method_count() {
+        let method = MethodId(u32::try_from(place).ok()?);
+        if script.method_name(method) == name.as_bytes() {
             return Some(method);
         }
     }

@@ -21,7 +21,9 @@ pub fn priority(given: Priority) -> &'static str {
     }
 }
 
-fn fault(out: &mut String, raised: Fault) -> Result<(), AllocError> {
+/// A fault, with the word `fault` before it.
+pub fn fault(out: &mut String, raised: Fault) -> Result<(), AllocError> {
+    out.push_str("fault ")?;
     match raised {
         Fault::Thrown(value) => write!(out, "thrown {value}"),
         Fault::Cancelled => out.push_str("cancelled"),
@@ -36,15 +38,13 @@ fn fault(out: &mut String, raised: Fault) -> Result<(), AllocError> {
     }
 }
 
-fn resume(out: &mut String, begun: Resume) -> Result<(), AllocError> {
+/// What a turn begins with.
+pub fn resume(out: &mut String, begun: Resume) -> Result<(), AllocError> {
     match begun {
         Resume::Start => out.push_str("start"),
         Resume::Go => out.push_str("go"),
         Resume::Value(value) => write!(out, "value {value}"),
-        Resume::Fault(raised) => {
-            out.push_str("fault ")?;
-            fault(out, raised)
-        }
+        Resume::Fault(raised) => fault(out, raised),
     }
 }
 
@@ -53,10 +53,7 @@ pub fn ending(out: &mut String, ended: Option<Ending>) -> Result<(), AllocError>
     match ended {
         None => out.push_str("none"),
         Some(Ending::Value(value)) => write!(out, "value {value}"),
-        Some(Ending::Fault(raised)) => {
-            out.push_str("fault ")?;
-            fault(out, raised)
-        }
+        Some(Ending::Fault(raised)) => fault(out, raised),
     }
 }
 
@@ -154,14 +151,20 @@ pub fn job(out: &mut String, script: &Script, made: &Job<Body>) -> Result<(), Al
     bindings(out, script, body.outer())
 }
 
+/// A name of a script.
+pub fn name(out: &mut String, bytes: &[u8]) -> Result<(), AllocError> {
+    for byte in bytes {
+        out.push(char::from(*byte))?;
+    }
+    Ok(())
+}
+
 // The method of a frame, by its name, and its variables.
 fn frame(out: &mut String, script: &Script, top: &Frame) -> Result<(), AllocError> {
     if top.method.0 as usize >= script.method_count() {
         return out.push_str("no method");
     }
-    for byte in script.method_name(top.method) {
-        out.push(char::from(*byte))?;
-    }
+    name(out, script.method_name(top.method))?;
     let variables = top.variables.as_slice();
     write!(out, " {variables:?}")
 }

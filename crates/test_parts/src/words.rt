@@ -1,6 +1,7 @@
 //! The words of a call.
 
 use crate::fault::CaseFault;
+use std::alloc::Global;
 use swift_types::{Fault, Priority, Resume, TaskId};
 
 /// A number of a thing.
@@ -16,6 +17,18 @@ pub fn size(word: &str) -> Result<usize, CaseFault> {
 /// A value.
 pub fn value(word: &str) -> Result<i64, CaseFault> {
     word.parse::<i64>().map_err(|_| CaseFault::Form)
+}
+
+/// Values with commas between them.
+pub fn values(alloc: Global, text: &str) -> Result<Vec<i64>, CaseFault> {
+    let mut found = Vec::new(alloc);
+    if text.is_empty() {
+        return Ok(found);
+    }
+    for word in text.split(',') {
+        found.push(value(word)?)?;
+    }
+    Ok(found)
 }
 
 /// A task, by its number.

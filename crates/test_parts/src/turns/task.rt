@@ -1,20 +1,19 @@
-//! The calls of a task.
+//! A task, and the calls on it.
 
-ghost use Rattle.std.specs.Prelude.{◌<◌, IfSome};
-ghost use Rattle.swift_script.specs.Scripts.{method_count};
-
-use crate::play::{play, run};
+use crate::fault::CaseFault;
+use crate::scripts::first_method_named;
 use crate::show;
-use crate::words::{Turn, change, opening_of, turn_of};
-use anyhow::Result;
+use crate::turns::begin::{Turn, change, opening_of, turn_of};
+use crate::turns::play::{play, run};
+use crate::turns::tell;
 use futures::Future;
 use futures::task::{Doorbell, Poll, Solo};
-use std::alloc::{AllocError, Global};
+use std::alloc::{AllocError, AllocGlobal, Global};
+use std::random::RandomSource;
 use std::sync::Arc;
 use swift_interpreter::{Exit, Frame};
 use swift_script::Script;
 use swift_turn::Body;
-use swift_types::MethodId;
 
 /// A task, the exit of its last turn, and the frame that was copied last.
 #[derive(Drop)]
@@ -24,19 +23,6 @@ pub struct Task {
     frame: Option<Frame>,
 }
 
-// The first method of this name.
-fn method_named(script: &Script, name: &str) -> Option<MethodId>
-    ensures { IfSome result (λ m. m.0 < method_count script.now) }
-{
-    for place in 0..script.method_count() {
-        let method = MethodId(u32::try_from(place).ok()?);
-        if script.method_name(method) == name.as_bytes() {
-            return Some(method);
-        }
-    }
-    None
-}
-
 /// A task of this method.
 pub fn start(
     alloc: Global,
@@ -44,14 +30,18 @@ pub fn start(
     name: &str,
     words: &[&str],
     out: &mut String,
-) -> Result<Option<Task>, AllocError> {
-    let Some(method) = method_named(script, name) else {
+) -> Result<Option<Task>, CaseFault> {
+    let Some(method) = first_method_named(script, name) else {
         out.push_str("no such method")?;
         return Ok(None);
     };
-    let Some(opening) = opening_of(alloc, words)? else {
-        out.push_str("no such arguments")?;
-        return Ok(None);
+    let opening = match opening_of(alloc, words) {
+        Ok(opening) => opening,
+        Err(CaseFault::Form) => {
+            out.push_str("no such arguments")?;
+            return Ok(None);
+        }
+        Err(fault) => return Err(fault),
     };
     let script = Arc::clone(script)?;
     let body = Body::start(alloc, script, method, opening.args, opening.bindings)?;
@@ -64,39 +54,38 @@ pub fn start(
 }
 
 /// Any other call.
-pub fn call(
-    rt: &HostRuntime,
+pub fn call<R: RandomSource + AllocGlobal>(
+    rt: &R,
     script: &Script,
     task: &mut Task,
     words: &[&str],
     out: &mut String,
-) -> Result<()> {
-    let alloc = rt.alloc();
+) -> Result<(), CaseFault> {
     match *words {
-        ["poll"] => poll(rt, &mut task.body, out)?,
-        ["leave"] => leave(script, task, out)?,
-        ["advance"] => advance(task, out)?,
-        ["actor"] => actor(&task.body, out)?,
-        ["frame"] => frame(script, task, out)?,
-        ["put_back", ref changes @ ..] => put_back(task, changes, out)?,
-        [name, ref begin @ ..] => match turn_of(alloc, begin)? {
-            Some(begin) => begin_turn(rt, script, task, name, begin, out)?,
-            None => out.push_str("no such call")?,
+        ["poll"] => poll(rt, &mut task.body, out),
+        ["leave"] => Ok(leave(script, task, out)?),
+        ["advance"] => Ok(advance(task, out)?),
+        ["actor"] => Ok(actor(&task.body, out)?),
+        ["frame"] => Ok(frame(script, task, out)?),
+        ["put_back", ref changes @ ..] => put_back(task, changes, out),
+        [name, ref begin @ ..] => match turn_of(rt.alloc(), begin) {
+            Ok(begin) => begin_turn(rt, script, task, name, begin, out),
+            Err(CaseFault::Form) => Ok(out.push_str("no such call")?),
+            Err(fault) => Err(fault),
         },
-        [] => {}
+        [] => Err(CaseFault::Form),
     }
-    Ok(())
 }
 
 // A call with what a turn begins with.
-fn begin_turn(
-    rt: &HostRuntime,
+fn begin_turn<R: RandomSource + AllocGlobal>(
+    rt: &R,
     script: &Script,
     task: &mut Task,
     name: &str,
     begin: Turn,
     out: &mut String,
-) -> Result<()> {
+) -> Result<(), CaseFault> {
     match name {
         "enter" => enter(&mut task.body, begin, out)?,
         "run_turn" => task.exit = run(rt, script, &mut task.body, begin, out)?,
@@ -116,7 +105,11 @@ fn enter(body: &mut Body, begin: Turn, out: &mut String) -> Result<(), AllocErro
     }
 }
 
-fn poll(rt: &HostRuntime, body: &mut Body, out: &mut String) -> Result<()> {
+fn poll<R: RandomSource + AllocGlobal>(
+    rt: &R,
+    body: &mut Body,
+    out: &mut String,
+) -> Result<(), CaseFault> {
     let solo = Solo::new(rt, Doorbell::spinning())?;
     let mut cx = solo.begin();
     let polled = body.poll(&mut cx);
@@ -124,7 +117,7 @@ fn poll(rt: &HostRuntime, body: &mut Body, out: &mut String) -> Result<()> {
     match polled {
         Poll::Ready(ended) => {
             out.push_str("ready ")?;
-            show::ending(out, ended)?;
+            show::ending(out, Some(ended))?;
         }
         Poll::Pending if is_woken(&solo) => out.push_str("pending, has yielded")?,
         Poll::Pending => out.push_str("pending, waits")?,
@@ -149,7 +142,7 @@ fn leave(script: &Script, task: &mut Task, out: &mut String) -> Result<(), Alloc
     }
     match task.body.leave() {
         Ok((fields, effects, exit)) => {
-            show::left(out, script, &fields, &effects, &exit)?;
+            tell::left(out, script, &fields, &effects, &exit)?;
             task.exit = Some(exit);
             Ok(())
         }
@@ -161,7 +154,7 @@ fn advance(task: &mut Task, out: &mut String) -> Result<(), AllocError> {
     match &task.exit {
         Some(exit) if task.body.is_running() && task.body.can_advance(exit) => {
             let step = task.body.advance(exit)?;
-            show::step(out, step)
+            tell::step(out, step)
         }
         _ => out.push_str("not possible"),
     }
@@ -180,25 +173,27 @@ fn frame(script: &Script, task: &mut Task, out: &mut String) -> Result<(), Alloc
         return out.push_str("not possible");
     }
     let copy = task.body.frame()?;
-    show::frame(out, script, &copy)?;
+    tell::frame(out, script, &copy)?;
     out.push_str(" outer ")?;
-    show::bindings(out, script, task.body.outer())?;
+    tell::bindings(out, script, task.body.outer())?;
     task.frame = Some(copy);
     Ok(())
 }
 
-fn put_back(task: &mut Task, changes: &[&str], out: &mut String) -> Result<(), AllocError> {
+fn put_back(task: &mut Task, changes: &[&str], out: &mut String) -> Result<(), CaseFault> {
     let Some(mut copy) = task.frame.take() else {
-        return out.push_str("not possible");
+        return Ok(out.push_str("not possible")?);
     };
     for word in changes {
-        if !change(&mut copy, word)? {
-            return out.push_str("no such part");
+        match change(&mut copy, word) {
+            Ok(()) => {}
+            Err(CaseFault::Form) => return Ok(out.push_str("no such part")?),
+            Err(fault) => return Err(fault),
         }
     }
     if !task.body.is_running() || !task.body.can_put_back(&copy) {
-        return out.push_str("not possible");
+        return Ok(out.push_str("not possible")?);
     }
     task.body.put_back(copy);
-    out.push_str("put back")
+    Ok(out.push_str("put back")?)
 }

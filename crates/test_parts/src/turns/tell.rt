@@ -1,5 +1,6 @@
-//! Answers as text.
+//! What turns leave, as text.
 
+use crate::show;
 use script_code::Binding;
 use std::alloc::AllocError;
 use std::fmt::Write;
@@ -7,7 +8,7 @@ use swift_interpreter::{Effect, Exit, Frame, Invocation, TaskName};
 use swift_locals::Bindings;
 use swift_script::Script;
 use swift_turn::Step;
-use swift_types::{ActorId, Ending, Fault, LocalId, MethodId, Priority, Resume};
+use swift_types::{ActorId, LocalId, MethodId, Priority};
 
 /// What a turn gave: the fields, the effects, and the exit.
 pub fn left(
@@ -69,10 +70,10 @@ fn invocation(out: &mut String, script: &Script, called: &Invocation) -> Result<
 fn priority(out: &mut String, given: Option<Priority>) -> Result<(), AllocError> {
     match given {
         None => Ok(()),
-        Some(Priority::Background) => out.push_str(" at background"),
-        Some(Priority::Low) => out.push_str(" at low"),
-        Some(Priority::Medium) => out.push_str(" at medium"),
-        Some(Priority::High) => out.push_str(" at high"),
+        Some(given) => {
+            out.push_str(" at ")?;
+            out.push_str(show::priority(given))
+        }
     }
 }
 
@@ -134,11 +135,11 @@ fn show_exit(out: &mut String, script: &Script, exit: &Exit) -> Result<(), Alloc
         Exit::Close(group, None) => write!(out, "close {group}"),
         Exit::Close(group, Some(pending)) => {
             write!(out, "close {group} ")?;
-            fault(out, *pending)
+            show::fault(out, *pending)
         }
         Exit::Yield => out.push_str("yield"),
         Exit::Return(value) => write!(out, "return {value}"),
-        Exit::Fault(left) => fault(out, *left),
+        Exit::Fault(left) => show::fault(out, *left),
     }
 }
 
@@ -146,54 +147,14 @@ fn actor(out: &mut String, script: &Script, called: ActorId) -> Result<(), Alloc
     if called.0 as usize >= script.actor_count() {
         return out.push_str("?");
     }
-    name(out, script.actor_name(called))
+    show::name(out, script.actor_name(called))
 }
 
 fn method(out: &mut String, script: &Script, called: MethodId) -> Result<(), AllocError> {
     if called.0 as usize >= script.method_count() {
         return out.push_str("?");
     }
-    name(out, script.method_name(called))
-}
-
-fn name(out: &mut String, bytes: &[u8]) -> Result<(), AllocError> {
-    for byte in bytes {
-        out.push(char::from(*byte))?;
-    }
-    Ok(())
-}
-
-fn fault(out: &mut String, left: Fault) -> Result<(), AllocError> {
-    out.push_str("fault ")?;
-    match left {
-        Fault::Thrown(value) => write!(out, "thrown {value}"),
-        Fault::Cancelled => out.push_str("cancelled"),
-        Fault::Invariant => out.push_str("invariant"),
-        Fault::Overflow => out.push_str("overflow"),
-        Fault::Steps => out.push_str("steps"),
-        Fault::Turns => out.push_str("turns"),
-        Fault::Depth => out.push_str("depth"),
-        Fault::Tasks => out.push_str("tasks"),
-        Fault::Empty => out.push_str("empty"),
-        Fault::Isolation => out.push_str("isolation"),
-    }
-}
-
-fn resume(out: &mut String, next: Resume) -> Result<(), AllocError> {
-    match next {
-        Resume::Start => out.push_str("start"),
-        Resume::Go => out.push_str("go"),
-        Resume::Value(value) => write!(out, "value {value}"),
-        Resume::Fault(raised) => fault(out, raised),
-    }
-}
-
-/// How a task ended.
-pub fn ending(out: &mut String, ended: Ending) -> Result<(), AllocError> {
-    match ended {
-        Ending::Value(value) => write!(out, "value {value}"),
-        Ending::Fault(left) => fault(out, left),
-    }
+    show::name(out, script.method_name(called))
 }
 
 /// What comes after a turn.
@@ -202,11 +163,11 @@ pub fn step(out: &mut String, next: Step) -> Result<(), AllocError> {
         Step::Run(actor, with) => {
             let actor = actor.0;
             write!(out, "run actor {actor} ")?;
-            resume(out, with)
+            show::resume(out, with)
         }
         Step::Ended(ended) => {
             out.push_str("ended ")?;
-            ending(out, ended)
+            show::ending(out, Some(ended))
         }
         Step::Await => out.push_str("await"),
     }
@@ -223,7 +184,7 @@ pub fn frame(out: &mut String, script: &Script, copy: &Frame) -> Result<(), Allo
     let groups = copy.groups.as_slice();
     write!(out, " groups {groups:?} pending ")?;
     match copy.pending {
-        Some(pending) => fault(out, pending)?,
+        Some(pending) => show::fault(out, pending)?,
         None => out.push_str("none")?,
     }
     let (made, opened) = (copy.made, copy.opened);

@@ -1,23 +1,24 @@
 //! Whole turns.
 
-use crate::show;
-use crate::words::Turn;
-use anyhow::Result;
+use crate::fault::CaseFault;
+use crate::turns::begin::Turn;
+use crate::turns::tell;
 use futures::task::{Context, Doorbell, Solo};
-use std::alloc::AllocError;
+use std::alloc::{AllocError, AllocGlobal};
+use std::random::RandomSource;
 use swift_interpreter::Exit;
 use swift_script::Script;
 use swift_turn::{Body, Step, run_turn};
 use swift_types::limits::TURNS;
 
 /// One turn. None where it can't be run.
-pub fn run(
-    rt: &HostRuntime,
+pub fn run<R: RandomSource + AllocGlobal>(
+    rt: &R,
     script: &Script,
     body: &mut Body,
     begin: Turn,
     out: &mut String,
-) -> Result<Option<Exit>> {
+) -> Result<Option<Exit>, CaseFault> {
     let solo = Solo::new(rt, Doorbell::spinning())?;
     let mut cx = solo.begin();
     let ran = one(script, &mut cx, body, begin, out);
@@ -39,7 +40,7 @@ fn one(
     }
     match run_turn(body, cx, begin.fields, begin.resume, begin.env) {
         Ok((fields, effects, exit)) => {
-            show::left(out, script, &fields, &effects, &exit)?;
+            tell::left(out, script, &fields, &effects, &exit)?;
             Ok(Some((fields, exit)))
         }
         Err((_, AllocError)) => {
@@ -50,13 +51,13 @@ fn one(
 }
 
 /// Turns to the task's end, each a line, and then what comes next.
-pub fn play(
-    rt: &HostRuntime,
+pub fn play<R: RandomSource + AllocGlobal>(
+    rt: &R,
     script: &Script,
     body: &mut Body,
     begin: Turn,
     out: &mut String,
-) -> Result<()> {
+) -> Result<(), CaseFault> {
     let solo = Solo::new(rt, Doorbell::spinning())?;
     let mut cx = solo.begin();
     let played = turns(script, &mut cx, body, begin, out);
@@ -79,7 +80,7 @@ fn turns(
         out.push('\n')?;
         let resume = match next(body, &exit)? {
             Some(Step::Run(_, resume)) => resume,
-            Some(step) => return show::step(out, step),
+            Some(step) => return tell::step(out, step),
             None => return out.push_str("not possible"),
         };
         begin = Turn {
