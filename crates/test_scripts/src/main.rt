@@ -1,5 +1,5 @@
-//! Reads and runs the scripts of its standard input, and writes what is said of each. What it has to write stands in
-//! the file stdout.
+//! Reads and runs the scripts of its standard input, makes calls on their executors, and writes what is said of each. What it
+//! has to write stands in the file stdout.
 //!
 //! A case begins with a line `== KIND TITLE`, and its text goes on to the next such line, or to the end. The LF before
 //! that line, and the last one of the input, belong to no text. What stands before the first case is a comment. In a
@@ -50,6 +50,36 @@
 //!   ```
 //!
 //! - `meet`: of two executors that are run by two workers, how many wait, once they are begun, until the other is begun too.
+//! - `executors`: what each of some calls on executors answered. The text, which is taken as it is, has a script, a line `--`, a line
+//!   `WORKERS ROOM`, and a line for each call. Each case has the executors of its script, all made for so many workers and with this
+//!   room, and a book of tasks. It ends by closing them: its last lines say how many jobs each had pending, and which were ready and
+//!   in its inbox, and are a report of their turns and fields, without tasks. A case whose last line is `drop` ends by dropping them.
+//!   The calls are
+//!
+//!   ```text
+//!   root ROOT              adds a root; its job is kept
+//!   make ROOT as NUMBER    keeps a job that no book gave: the turn of that number of a root's task, at the start of its method
+//!   foreign ROOT as NUMBER the same, with a body of a script that was read from another text
+//!   enqueue TASK by DESK   sends the oldest job that is kept of that task
+//!   run WORKER by DESK     a visit of a worker; the jobs that it makes are kept
+//!   run_unknown WORKER by DESK
+//!                          the same with a book of the same script that has no tasks
+//!   cancel TASK, ending TASK
+//!   allowance DESK         how many jobs may still be sent by it
+//!   split DESK             a new desk of the same executor
+//!   at MOMENT { CALL; .. } CALL
+//!                          the last call, with a gate that makes the others at that moment, once
+//!   FIRST to LAST: CALL; ..
+//!                          the calls for each number, which stands in place of `#`; what the last of them answer is written
+//!   ```
+//!
+//!   Desks are numbered from 0: first the one that each executor is made with, in the order of executors, and then those that were
+//!   split. Calls in braces use other desks than the call behind them. MOMENT is the name of a moment of the gate. In answers `t3.1`
+//!   is turn 1 of task 3.
+//! - `held`, with the title `at MOMENT` and no text: two threads on one executor with the job of task 0 in its inbox, a worker that
+//!   visits it, and one that sends the job of task 1. At `Pushed` and `Counted` the thread that sends is held, at each other moment
+//!   the one that visits. The call that is not held begins when the other is held. A thread looks 1,000,000 times for the other, and
+//!   else says `too long`. Then another worker visits the executor, until nothing is left.
 //!
 //! What is accepted is printed, and has to be read again.
 //!
@@ -62,6 +92,8 @@ mod change;
 mod devices;
 // Bytes and repetitions in the text of a case.
 mod escapes;
+// Calls on executors that threads share.
+mod executors;
 // Why a case has no answer.
 mod fault;
 // The words of faults that the program says.
@@ -150,6 +182,8 @@ where
         "agree" | "turns" | "gated" | "legal" | "meet" | "changed" => {
             workers::answer(rt, kind, title, text, out)
         }
+        "executors" => executors::calls(rt, text, out),
+        "held" => executors::held(rt, title, out),
         _ => answer_whole(rt, kind, &expand(alloc, text)?, out),
     }
 }

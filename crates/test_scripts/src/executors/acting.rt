@@ -1,6 +1,6 @@
 //! Calls that a gate makes.
 
-use crate::stage::Stage;
+use crate::executors::stage::Stage;
 use std::alloc::AllocGlobal;
 use std::random::RandomSource;
 use std::sync::{Mutex, Wait};

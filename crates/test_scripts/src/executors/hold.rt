@@ -1,6 +1,6 @@
 //! A thread that is held.
 
-use crate::acting::name_of;
+use crate::executors::acting::name_of;
 use std::sync::atomic::{AtomicBool, Ordering};
 use std::thread;
 use swift_executor::{Gate, Moment};

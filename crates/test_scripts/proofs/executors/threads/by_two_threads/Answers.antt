@@ -1,7 +1,7 @@
 use denote.Param.Send.{sendable}
 use Rattle.test_desks.proofs.CrossesThreads.{door_send, jobs_send}
-use Rattle.test_executors.proofs.CrossesThreads.{hold_sync}
-use Rattle.test_executors.proofs.threads.by_two_threads.Goals as goal
+use Rattle.test_scripts.proofs.CrossesThreads.{hold_sync}
+use Rattle.test_scripts.proofs.executors.threads.by_two_threads.Goals as goal
 
 pub join-requires-send-F : goal.join-requires-send-F
 join-requires-send-F g c κs within = search (sendable, door_send, jobs_send, hold_sync) depth 20

@@ -1,24 +1,22 @@
 //! A case.
 
-use crate::acting::Acting;
-use crate::call::number;
-use crate::end::close_all;
-use crate::stage::Stage;
+use crate::executors::acting::Acting;
+use crate::executors::call::number;
+use crate::executors::end::close_all;
+use crate::executors::stage::Stage;
 use std::alloc::AllocGlobal;
 use std::fmt::Write;
 use std::random::RandomSource;
 use std::sync::{Mutex, Wait};
 use test_desks::Setting;
 
-/// Writes the title of a case, each call with its answer, and what closing its executors gives.
+/// Writes each call of a case with its answer, and what closing its executors gives.
 pub fn play<R>(rt: &R, case: &str, out: &mut String) -> Option<()>
 where
     R: Wait + RandomSource + AllocGlobal,
 {
-    let (title, rest) = case.split_once('\n')?;
-    let (text, lines) = rest.split_once("\n--\n")?;
+    let (text, lines) = case.split_once("\n--\n")?;
     let (head, calls) = lines.split_once('\n')?;
-    writeln!(out, "== {title}").ok()?;
     play_script(rt, text, head, calls, out)
 }
 

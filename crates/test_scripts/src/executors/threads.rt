@@ -1,6 +1,6 @@
 //! Two threads on one executor.
 
-use crate::hold::{Hold, Holding};
+use crate::executors::hold::{Hold, Holding};
 use std::alloc::AllocGlobal;
 use std::fmt::Write;
 use std::random::RandomSource;
@@ -136,7 +136,7 @@ where
     let answers = play_roots(rt, &mut door, &tasks, &hold, moment);
     let next = visit(rt, &mut door, 1, &tasks, &Open);
     let last = visit(rt, &mut door, 1, &tasks, &Open);
-    writeln!(out, "== held at {moment}\n  sent and visited: {answers:?}").ok()?;
+    writeln!(out, "  sent and visited: {answers:?}").ok()?;
     writeln!(out, "  next: {next:?}\n  last: {last:?}").ok()?;
     if hold.is_too_long() {
         out.push_str("  too long\n").ok()?;

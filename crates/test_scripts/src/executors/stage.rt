@@ -1,7 +1,7 @@
 //! What the calls of a case work on.
 
-use crate::call::{Call, Verb, call_of};
-use crate::tell::{tell_back, tell_jobs, tell_ran};
+use crate::executors::call::{Call, Verb, call_of};
+use crate::executors::tell::{tell_back, tell_jobs, tell_ran};
 use std::alloc::{AllocGlobal, Global};
 use std::fmt::Write;
 use std::random::RandomSource;

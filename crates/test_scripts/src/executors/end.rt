@@ -1,7 +1,7 @@
 //! What is left of executors.
 
-use crate::stage::Stage;
-use crate::tell::tell_place;
+use crate::executors::stage::Stage;
+use crate::executors::tell::tell_place;
 use std::alloc::AllocGlobal;
 use std::fmt::Write;
 use std::sync::Wait;

@@ -1,0 +1,57 @@
+//! Calls on executors that threads share.
+
+// Calls that a gate makes.
+mod acting;
+// Calls, by words.
+mod call;
+// A case.
+mod case;
+// What is left of executors.
+mod end;
+// A thread that is held.
+mod hold;
+// What the calls of a case work on.
+mod stage;
+// What calls answered.
+mod tell;
+// Two threads.
+mod threads;
+
+use crate::fault::CaseFault;
+use std::alloc::AllocGlobal;
+use std::io::Write;
+use std::random::RandomSource;
+use std::sync::Wait;
+use std::thread::Threads;
+
+// Writes what a case has said, and a line more where it was not played to its end.
+fn append(played: Option<()>, said: &str, out: &mut Vec<u8>) -> Result<(), CaseFault> {
+    out.extend_from_slice(said.as_bytes())?;
+    if played.is_none() {
+        writeln!(out, "wrong: not played to its end")?;
+    }
+    Ok(())
+}
+
+/// Makes the calls of a case on the executors of its script, and writes what each answered.
+pub fn calls<R>(rt: &R, text: &str, out: &mut Vec<u8>) -> Result<(), CaseFault>
+where
+    R: Wait + RandomSource + AllocGlobal,
+{
+    let mut said = String::new(rt.alloc());
+    let played = case::play(rt, text, &mut said);
+    append(played, &said, out)
+}
+
+/// Has two threads make a call each on an executor, of which one is held at the moment of the title, and writes what they answered.
+pub fn held<R>(rt: &R, title: &str, out: &mut Vec<u8>) -> Result<(), CaseFault>
+where
+    R: Threads + Wait + Sync + RandomSource + AllocGlobal,
+{
+    let Some(moment) = title.strip_prefix("at ") else {
+        return Err(CaseFault::Form);
+    };
+    let mut said = String::new(rt.alloc());
+    let played = threads::play(rt, moment, &mut said);
+    append(played, &said, out)
+}
