@@ -54,20 +54,8 @@ owed_at js ts c is owed = subst (λ (x : Bool). Owed x js ts) is owed
 -- one more event
 
 idle_job : (t : ℕ) (e : Event) → starts e ≡ false → given_job t e ≡ None
-idle_job t (Begin u n env) h = refl
-idle_job t (Apply u n) h = refl
 idle_job t (Give u n resume) h = absurd (true≢false h)
-idle_job t (Root u p) h = refl
-idle_job t (Free u by p detached) h = refl
-idle_job t (Open o g) h = refl
-idle_job t (Child u o g p) h = refl
-idle_job t (Skip o g) h = refl
-idle_job t (CancelTask u) h = refl
-idle_job t (CancelGroup o g) h = refl
-idle_job t (Wait u awaited) h = refl
-idle_job t (Next o g) h = refl
-idle_job t (Close o g) h = refl
-idle_job t (End u ending) h = refl
+idle_job t e h = refl
 
 -- an event of another task
 owed_other : (t : ℕ) (log : List Event) (e : Event) → task_of e ≢ t → given_job t e ≡ None → turn_in t e ≡ None → IsOwed log t → IsOwed (log ++ e ∷ []) t
