@@ -135,7 +135,14 @@ fn add_stmt(stmts: &mut Vec<Stmt>, stmt: Stmt) -> Result<(), AllocError>
     ensures { OnOk result (stmts.new.items ≡ stmts.old.items ++ stmt ∷ []) }
 {
     if stmts.is_empty() {
-        stmts.reserve_exact(1)?;
+        match stmts.reserve_exact(1) {
+            Ok(()) => {}
+            Err(fault) => {
+                // By name: at the end of its scope it would take the prover a minute.
+                drop(stmt);
+                return Err(fault);
+            }
+        }
     }
     stmts.push(stmt)?;
     Ok(())
