@@ -4,7 +4,7 @@ ghost use Rattle.std.specs.Prelude.{◌≡◌, ◌<◌, [], None, Some, IfOk, If
 ghost use Rattle.std.specs.Arc.{arc_value};
 ghost use Rattle.swift_inbox.specs.Inbox.{IsDrained};
 ghost use Rattle.swift_inbox.specs.Site.{CanRunAt};
-ghost use Rattle.swift_executor.specs.Exec.{IsDeskOf, IsOf, first_desk, has_sent, site_of};
+ghost use Rattle.swift_executor.specs.Exec.{IsAt, IsDeskOf, first_desk, has_sent, site_of};
 
 use crate::desk::Desk;
 use crate::fault::ExecFault;
@@ -203,7 +203,7 @@ impl Exec {
     /// with the pass whose account says so. It takes no memory. It waits only for a thread that stands between two steps of
     /// a call of its own.
     pub fn close<R: Wait>(self, rt: &R) -> Closed
-        ensures state { IfSome result.state (λ s. (site_of s.0 ≡ self.inbox.site) × IsOf s.1 s.0 × (s.0.chosen ≡ None)) }
+        ensures state { IfSome result.state (λ s. IsAt self.inbox s.1 s.0 × (s.0.chosen ≡ None)) }
         ensures inbox { IsDrained self.inbox [] result.inbox.items result.drained }
     {
         let Exec {

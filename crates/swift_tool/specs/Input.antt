@@ -9,7 +9,7 @@ use Rattle.swift_tool.specs.declared.fault.ToolFault.TheVariants.{Script, Run, D
 abbrev pub TakesMore : Option (List ℕ) → Option (List ℕ) → List ℕ → List ℕ → ℕ → Type 0
 TakesMore before after old new n = (bytes : List ℕ) × (length bytes ≡ n) × (new ≡ old ++ bytes) × Consumes before after bytes
 
--- A device failed, or a growth was refused.
+-- what a reading answers that gives up: `Device`, or out of memory; no fault of a script, and no other of a run
 abbrev pub IsInputFault : ToolFault → Type 0
 IsInputFault (Script fault) = ⊥
 IsInputFault (Run fault) = fault ≡ run.Memory
