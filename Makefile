@@ -15,7 +15,7 @@ crates/$(1)/out/$(1): crates.txt $$(SOURCES)
 	@tools/build.py $(1) $(2) && touch $$@
 endef
 $(eval $(call program,swiftrun))
-$(eval $(call program,bench_parts,-- nothing 1))
+$(eval $(call program,test_scripts))
 $(eval $(call program,test_allocations))
 
 # Runs a script with the proved program. Status 0 also where a task ended with a fault.
@@ -50,7 +50,7 @@ refusals: crates/test_allocations/out/test_allocations
 links:
 	@tools/links.py
 
-MEASURE = crates/bench_parts/out/bench_parts
+MEASURE = crates/test_scripts/out/test_scripts
 
 # Measures, and asserts nothing: builds both programs, and prints tables.
 bench: $(PROGRAM) $(MEASURE)

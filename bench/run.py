@@ -16,7 +16,7 @@ import scripts
 
 TOP = os.path.dirname(os.path.dirname(os.path.abspath(__file__)))
 PROGRAM = "crates/swiftrun/out/swiftrun"
-MEASURE = "crates/bench_parts/out/bench_parts"
+MEASURE = "crates/test_scripts/out/test_scripts"
 PARTS = ["queue", "queue_takes", "word", "locals", "groups", "escalation", "book"]
 FEW, MANY = 16, 1024
 # What the longest script may take to be read, on a quiet core of 3 GHz, whatever it says.

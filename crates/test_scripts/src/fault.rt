@@ -7,12 +7,14 @@ use swift_output::Device;
 /// Why the program stops before its last case.
 #[derive(Clone, Copy, Debug, PartialEq, Eq)]
 pub enum CaseFault {
-    /// A case has not the form that it needs.
+    /// A case has not the form that it needs, or a measure not the words.
     Form,
     /// A script that has to be run is refused, or its run is.
     Script,
     Memory,
-    /// Standard input or output failed.
+    /// A part refused an operation that is measured, or answered something else than was asked for.
+    Refused,
+    /// Standard input or output failed, or the clock.
     Device,
 }
 

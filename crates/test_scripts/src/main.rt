@@ -1,5 +1,5 @@
 //! Reads and runs the scripts of its standard input, makes calls on their executors, and writes what is said of each. What it
-//! has to write stands in the file stdout.
+//! has to write stands in the file stdout. With words it measures.
 //!
 //! A case begins with a line `== KIND TITLE`, and its text goes on to the next such line, or to the end. The LF before
 //! that line, and the last one of the input, belong to no text. What stands before the first case is a comment. In a
@@ -84,6 +84,10 @@
 //! What is accepted is printed, and has to be read again.
 //!
 //! A line that begins with `wrong: ` is in no right output.
+//!
+//! Two words name a part of the runtime and how many entries are inside, as `queue 1024`: a million operations on it are measured.
+//! The parts are `queue`, `queue_takes`, `word`, `locals`, `groups`, `escalation` and `book`. One word names a stage, `read`, `run` or
+//! `text`: the script of the standard input is taken as far, and `run 4` is a run on four workers.
 #![tactic(auto)]
 
 // Changes of reports.
@@ -102,6 +106,8 @@ mod faults;
 mod gated;
 // Changes of journals and of checkpoints.
 mod journals;
+// Measurements.
+mod measure;
 // Two executors that wait for each other.
 mod meeting;
 // What a gate is given of a run.
@@ -124,20 +130,44 @@ mod workers;
 use crate::escapes::expand;
 use crate::fault::CaseFault;
 use std::alloc::AllocGlobal;
-use std::io;
 use std::io::Write;
 use std::random::RandomSource;
 use std::sync::Wait;
 use std::thread::Threads;
+use std::{env, io};
 use swift_output::write_all;
 
 fn main(rt: HostRuntime) -> Result<(), CaseFault> {
+    whole(&rt, &rt)
+}
+
+// Measures what the words of the command line ask for, or makes the cases. The runtime comes twice, since it waits in `main` alone.
+fn whole<W>(rt: &HostRuntime, wait: &W) -> Result<(), CaseFault>
+where
+    W: RandomSource + AllocGlobal + Threads + Wait + Sync,
+{
+    let mut words = env::args(rt)?;
+    let _program = words.next();
+    let Some(name) = words.next() else {
+        return make_cases(rt, wait);
+    };
+    match words.next() {
+        None => measure::measure(rt, wait, name.as_str(), None),
+        Some(count) => measure::measure(rt, wait, name.as_str(), Some(count.as_str())),
+    }
+}
+
+// Writes what is said of each case.
+fn make_cases<W>(rt: &HostRuntime, wait: &W) -> Result<(), CaseFault>
+where
+    W: RandomSource + AllocGlobal + Threads + Wait + Sync,
+{
     let input = io::read_to_string(rt.alloc(), rt.stdin())?;
     let all = input.as_str();
     let mut cases = all.strip_suffix('\n').unwrap_or(all).split("\n== ");
     let _comment = cases.next();
     for case in cases {
-        let out = answered(&rt, case)?;
+        let out = answered(wait, case)?;
         write_all(&mut rt.stdout(), &out)?;
     }
     Ok(())
