@@ -1,5 +1,6 @@
 SCRIPT = examples/account.actors
 PROGRAM = crates/swiftrun/out/swiftrun
+CASES = crates/test_scripts/out/test_scripts
 SOURCES = $(shell find crates -name out -prune -o \( -name '*.rt' -o -name '*.antt' \) -print)
 
 # Runs a script without a proof: make try SCRIPT=examples/account.actors ARGS="--workers 4". Status 0 also where a task ended with a
@@ -16,7 +17,6 @@ crates/$(1)/out/$(1): crates.txt $$(SOURCES)
 endef
 $(eval $(call program,swiftrun))
 $(eval $(call program,test_scripts))
-$(eval $(call program,test_allocations))
 
 # Runs a script with the proved program. Status 0 also where a task ended with a fault.
 run: $(PROGRAM)
@@ -42,18 +42,16 @@ examples: $(PROGRAM)
 		echo "$$script prints what it has to"; \
 	done
 
-# Runs a program once for each of its allocations, with that one refused.
-refusals: crates/test_allocations/out/test_allocations
-	@tools/refusals.py test_allocations
+# Makes each call that takes memory, once for each of its allocations, with that one refused.
+refusals: $(CASES)
+	@tools/refusals.py
 
 # Whether what the documents link to is there.
 links:
 	@tools/links.py
 
-MEASURE = crates/test_scripts/out/test_scripts
-
 # Measures, and asserts nothing: builds both programs, and prints tables.
-bench: $(PROGRAM) $(MEASURE)
+bench: $(PROGRAM) $(CASES)
 	@python3 bench/run.py
 
 .PHONY: try run test prove mutants examples refusals links bench

@@ -1,4 +1,4 @@
--- Structured concurrency (SE-0304): an ended task leaves no task behind.
+-- Structured concurrency (SE-0304): when a task has ended, so have the tasks that it has waited for, and the children of its groups.
 use Rattle.std.specs.Prelude.{◌≡◌, ◌≢◌, ℕ, IsTrue, is_some, Some, List, ◌++◌, Contains}
 use Rattle.swift_types.specs.declared.id.TaskId.{TaskId}
 use Rattle.swift_types.specs.declared.priority.Priority.{Priority}

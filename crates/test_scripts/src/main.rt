@@ -1,5 +1,5 @@
 //! Reads and runs the scripts of its standard input, makes calls on their executors, and writes what is said of each. What it
-//! has to write stands in the file stdout. With words it measures.
+//! has to write stands in the file stdout. With words it makes calls that are refused memory, or measures.
 //!
 //! A case begins with a line `== KIND TITLE`, and its text goes on to the next such line, or to the end. The LF before
 //! that line, and the last one of the input, belong to no text. What stands before the first case is a comment. In a
@@ -85,6 +85,9 @@
 //!
 //! A line that begins with `wrong: ` is in no right output.
 //!
+//! The word `refusals` makes no case: it makes each call that takes memory, and makes it again where it is refused, as the head of
+//! src/refusals.rt says.
+//!
 //! Two words name a part of the runtime and how many entries are inside, as `queue 1024`: a million operations on it are measured.
 //! The parts are `queue`, `queue_takes`, `word`, `locals`, `groups`, `escalation` and `book`. One word names a stage, `read`, `run` or
 //! `text`: the script of the standard input is taken as far, and `run 4` is a run on four workers.
@@ -92,6 +95,8 @@
 
 // Changes of reports.
 mod change;
+// What calls on executors work with.
+mod desks;
 // Devices that take or give little, and devices that fail.
 mod devices;
 // Bytes and repetitions in the text of a case.
@@ -104,6 +109,8 @@ mod fault;
 mod faults;
 // Runs whose threads give way.
 mod gated;
+// Jobs that are kept, and jobs that are given up.
+mod jobs;
 // Changes of journals and of checkpoints.
 mod journals;
 // Measurements.
@@ -118,6 +125,8 @@ mod pairs;
 mod places;
 // Scripts that are read and printed.
 mod reading;
+// Calls that are made again where they are refused.
+mod refusals;
 // Scripts that are run.
 mod running;
 // How often each answer was given.
@@ -141,19 +150,46 @@ fn main(rt: HostRuntime) -> Result<(), CaseFault> {
     whole(&rt, &rt)
 }
 
-// Measures what the words of the command line ask for, or makes the cases. The runtime comes twice, since it waits in `main` alone.
+// The words of the command line after the program's name, of which at most two mean something.
+fn words_of(rt: &HostRuntime) -> io::Result<(Option<String>, Option<String>)> {
+    let mut words = env::args(rt)?;
+    let _program = words.next();
+    let first = words.next();
+    Ok((first, words.next()))
+}
+
+// Does what the words of the command line ask for, or makes the cases. The words are asked for again where there was no memory for
+// them, as each call of `refusals` is. The runtime comes twice, since it waits in `main` alone.
 fn whole<W>(rt: &HostRuntime, wait: &W) -> Result<(), CaseFault>
 where
     W: RandomSource + AllocGlobal + Threads + Wait + Sync,
 {
-    let mut words = env::args(rt)?;
-    let _program = words.next();
-    let Some(name) = words.next() else {
-        return make_cases(rt, wait);
+    let (name, count) = match words_of(rt) {
+        Ok(words) => words,
+        Err(_) => words_of(rt)?,
     };
-    match words.next() {
-        None => measure::measure(rt, wait, name.as_str(), None),
-        Some(count) => measure::measure(rt, wait, name.as_str(), Some(count.as_str())),
+    match name {
+        None => make_cases(rt, wait),
+        Some(name) => asked(
+            rt,
+            wait,
+            name.as_str(),
+            count.as_ref().map(|word| word.as_str()),
+        ),
+    }
+}
+
+// Does what these words ask for.
+fn asked<W>(rt: &HostRuntime, wait: &W, name: &str, count: Option<&str>) -> Result<(), CaseFault>
+where
+    W: RandomSource + AllocGlobal + Threads + Wait + Sync,
+{
+    match name {
+        "refusals" => {
+            refusals::make_calls(rt, wait);
+            Ok(())
+        }
+        _ => measure::measure(rt, wait, name, count),
     }
 }
 

@@ -6,8 +6,6 @@
 mod book;
 // A million waits between tasks.
 mod escalation;
-// Why a measure was given up.
-mod fault;
 // A million children of one group.
 mod groups;
 // A million bindings and reads.
@@ -69,10 +67,6 @@ fn measure_part(rt: &HostRuntime, name: &str, entries: u32) -> Result<(), CaseFa
         return Err(CaseFault::Form);
     }
     let spent = match name {
-        "nothing" => {
-            println!(rt; "nothing {entries} entries 0 operations")?;
-            return Ok(());
-        }
         "queue" => queue::measure(rt, entries, true)?,
         "queue_takes" => queue::measure(rt, entries, false)?,
         "locals" => locals::measure(rt, entries)?,

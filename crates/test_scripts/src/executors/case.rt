@@ -1,5 +1,6 @@
 //! A case.
 
+use crate::desks::Setting;
 use crate::executors::acting::Acting;
 use crate::executors::call::number;
 use crate::executors::end::close_all;
@@ -8,7 +9,6 @@ use std::alloc::AllocGlobal;
 use std::fmt::Write;
 use std::random::RandomSource;
 use std::sync::{Mutex, Wait};
-use test_desks::Setting;
 
 /// Writes each call of a case with its answer, and what closing its executors gives.
 pub fn play<R>(rt: &R, case: &str, out: &mut String) -> Option<()>

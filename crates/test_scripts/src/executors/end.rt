@@ -1,11 +1,11 @@
 //! What is left of executors.
 
+use crate::desks::Leavings;
 use crate::executors::stage::Stage;
 use crate::executors::tell::tell_place;
 use std::alloc::AllocGlobal;
 use std::fmt::Write;
 use std::sync::Wait;
-use test_desks::Leavings;
 
 /// Closes the executors of a case, each with the last of its desks: a line for each, and a report.
 pub fn close_all<R: Wait + AllocGlobal>(rt: &R, stage: Stage, out: &mut String) -> Option<()> {

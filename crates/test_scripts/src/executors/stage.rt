@@ -1,5 +1,6 @@
 //! What the calls of a case work on.
 
+use crate::desks::{Door, Jobs, Poller, Setting, Tasks};
 use crate::executors::call::{Call, Verb, call_of};
 use crate::executors::tell::{tell_back, tell_jobs, tell_ran};
 use std::alloc::{AllocGlobal, Global};
@@ -8,7 +9,6 @@ use std::random::RandomSource;
 use std::sync::{Mutex, Wait};
 use swift_executor::{Gate, Open};
 use swift_types::TaskId;
-use test_desks::{Door, Jobs, Poller, Setting, Tasks};
 
 /// The script that foreign jobs are of.
 const FOREIGN: &str = "actor A { func f() { return 1; } } root a = A.f(); root b = A.f();";

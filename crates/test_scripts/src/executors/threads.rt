@@ -1,5 +1,6 @@
 //! Two threads on one executor.
 
+use crate::desks::{Door, Jobs, Leavings, Poller, Setting, Tasks};
 use crate::executors::hold::{Hold, Holding};
 use std::alloc::AllocGlobal;
 use std::fmt::Write;
@@ -10,7 +11,6 @@ use std::thread::Threads;
 use swift_executor::{Gate, Open, Ran};
 use swift_types::TaskId;
 use swift_word::Was;
-use test_desks::{Door, Jobs, Leavings, Poller, Setting, Tasks};
 
 /// A script of two tasks, each of one turn.
 const TEXT: &str = "actor Acc { var bal = 10; invariant bal >= 0; func take() { return 1; } }

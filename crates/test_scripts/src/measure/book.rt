@@ -3,8 +3,9 @@
 ghost use Rattle.std.specs.Prelude.{◌<◌};
 
 use crate::fault::CaseFault;
+use crate::jobs::{keep, spend, spend_all};
 use crate::measure::pick::{OPERATIONS, drawn};
-use std::alloc::{AllocError, AllocFailed, Global};
+use std::alloc::{AllocError, Global};
 use std::sync::Arc;
 use std::time::{Duration, Instant};
 use swift_interpreter::{Effect, Exit, Invocation};
@@ -111,25 +112,4 @@ pub fn turn(
             Err(fault.into())
         }
     }
-}
-
-fn spend(job: Job<Body>) {
-    let (_task, _number, _resume, _body) = job.spend();
-}
-
-fn keep(jobs: &mut Vec<Job<Body>>, job: Job<Body>) -> Result<(), CaseFault> {
-    match jobs.push(job) {
-        Ok(()) => Ok(()),
-        Err(AllocFailed { value }) => {
-            spend(value);
-            Err(CaseFault::Memory)
-        }
-    }
-}
-
-fn spend_all(mut jobs: Vec<Job<Body>>) {
-    while let Some(job) = jobs.pop() {
-        spend(job);
-    }
-    jobs.destroy_empty();
 }

@@ -1,6 +1,5 @@
 use denote.Param.Send.{sendable}
-use Rattle.test_desks.proofs.CrossesThreads.{door_send, jobs_send}
-use Rattle.test_scripts.proofs.CrossesThreads.{hold_sync}
+use Rattle.test_scripts.proofs.CrossesThreads.{door_send, hold_sync, jobs_send}
 use Rattle.test_scripts.proofs.executors.threads.by_two_threads.Goals as goal
 
 pub join-requires-send-F : goal.join-requires-send-F

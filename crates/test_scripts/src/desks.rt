@@ -1,0 +1,22 @@
+//! What calls on executors work with: a script, an executor with a desk of it, a book of tasks, jobs, and what an executor leaves.
+//! Each may be dropped at any time, and is dropped in one place.
+
+// An executor, with a right to use it.
+mod door;
+// Jobs that are kept.
+mod jobs;
+// What executors leave.
+mod leavings;
+// What polls turns.
+mod poller;
+// The script of a case.
+mod setting;
+// A book that is closed where it is dropped.
+mod tasks;
+
+pub use door::Door;
+pub use jobs::Jobs;
+pub use leavings::{Leavings, Left};
+pub use poller::Poller;
+pub use setting::Setting;
+pub use tasks::Tasks;

@@ -1,0 +1,46 @@
+//! Jobs that are kept.
+
+use crate::jobs::{spend, spend_all};
+use std::alloc::{AllocFailed, Global};
+use swift_queue::Job;
+use swift_turn::Body;
+use swift_types::TaskId;
+
+/// Jobs, the oldest first. Where they are dropped, they are spent.
+pub struct Jobs {
+    pub list: Vec<Job<Body>>,
+}
+
+impl Drop for Jobs {
+    fn drop(self) {
+        let Jobs { list } = self;
+        spend_all(list);
+    }
+}
+
+impl Jobs {
+    /// No job.
+    pub fn new(alloc: Global) -> Jobs {
+        Jobs {
+            list: Vec::new(alloc),
+        }
+    }
+
+    /// Adds a job. Where there is no memory for its place, it is spent.
+    pub fn keep(&mut self, job: Job<Body>) {
+        if let Err(AllocFailed { value }) = self.list.push(job) {
+            spend(value);
+        }
+    }
+
+    /// Adds these jobs. Where there is no memory for their places, they are spent.
+    pub fn keep_all(&mut self, mut jobs: Jobs) {
+        let _ = self.list.append(&mut jobs.list);
+    }
+
+    /// Takes the oldest job of a task out.
+    pub fn take(&mut self, task: TaskId) -> Option<Job<Body>> {
+        let place = self.list.iter().position(|job| job.task() == task)?;
+        Some(self.list.remove(place))
+    }
+}

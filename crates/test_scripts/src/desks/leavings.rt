@@ -1,0 +1,83 @@
+//! What executors leave.
+
+ghost use Rattle.std.specs.Prelude.{◌≡◌, None};
+
+use crate::desks::door::Door;
+use crate::desks::jobs::Jobs;
+use crate::desks::setting::Setting;
+use std::alloc::{AllocError, Global};
+use std::sync::Wait;
+use swift_executor::{Closed, ExecState};
+use swift_report::{Report, report_text};
+
+/// The turns and fields that executors leave, in the order in which they were closed.
+pub struct Leavings {
+    report: Report,
+}
+
+/// What an executor leaves beside its turns.
+#[derive(Drop)]
+pub struct Left {
+    /// How many jobs were counted and not run.
+    pub pending: u64,
+    pub ready: Jobs,
+    pub inbox: Jobs,
+}
+
+impl Drop for Leavings {
+    fn drop(self) {
+        let Leavings { report } = self;
+        drop(report);
+    }
+}
+
+impl Leavings {
+    /// Those of no executor, with room for those of one.
+    pub fn new(alloc: Global) -> Result<Leavings, AllocError> {
+        let journals = Vec::with_capacity(alloc, 1)?;
+        let checkpoints = Vec::with_capacity(alloc, 1)?;
+        let fields = Vec::with_capacity(alloc, 1)?;
+        let report = Report {
+            journals,
+            checkpoints,
+            log: Vec::new(alloc),
+            endings: Vec::new(alloc),
+            fields,
+        };
+        Ok(Leavings { report })
+    }
+
+    // Adds what a state leaves in which no job is chosen. Its jobs.
+    fn add_state(&mut self, state: ExecState) -> Jobs
+        requires { state.chosen ≡ None }
+    {
+        let (list, journal, fields, checkpoint) = state.into_parts();
+        let _ = self.report.journals.push(journal);
+        let _ = self.report.checkpoints.push(checkpoint);
+        let _ = self.report.fields.push(fields);
+        Jobs { list }
+    }
+
+    /// Closes an executor with the last of its desks. None where it has another, or a desk holds it.
+    pub fn close<R: Wait>(&mut self, rt: &R, door: Door) -> Option<Left> {
+        let Closed {
+            pending,
+            state,
+            inbox,
+            drained: _,
+        } = door.into_exec()?.close(rt);
+        let inbox = Jobs { list: inbox };
+        let (state, _pass) = state?;
+        let ready = self.add_state(state);
+        Some(Left {
+            pending,
+            ready,
+            inbox,
+        })
+    }
+
+    /// A report of the turns and fields, without tasks.
+    pub fn text(&self, alloc: Global, setting: &Setting) -> Result<Vec<u8>, AllocError> {
+        report_text(alloc, &setting.script, &self.report, false)
+    }
+}

@@ -1,0 +1,72 @@
+//! The script of a case.
+
+use crate::desks::door::Door;
+use crate::desks::tasks::Tasks;
+use std::alloc::{AllocError, Global};
+use std::sync::Arc;
+use swift_executor::Exec;
+use swift_locals::Bindings;
+use swift_queue::Job;
+use swift_script::{Script, read};
+use swift_tasks::BookFault;
+use swift_turn::Body;
+use swift_types::{ExecId, Resume, RootId, TaskId};
+
+/// A script.
+pub struct Setting {
+    pub(crate) script: Arc<Script>,
+}
+
+impl Drop for Setting {
+    fn drop(self) {
+        let Setting { script } = self;
+        drop(script);
+    }
+}
+
+impl Setting {
+    /// The script of a text. None where it is refused.
+    pub fn read(alloc: Global, text: &str) -> Option<Setting> {
+        let script = read(alloc, text.as_bytes()).ok()?;
+        let script = Arc::new(alloc, script).ok()?;
+        Some(Setting { script })
+    }
+
+    /// How many executors it has.
+    pub fn executor_count(&self) -> usize {
+        self.script.executor_count()
+    }
+
+    /// A book without tasks.
+    pub fn tasks(&self, alloc: Global) -> Result<Tasks, BookFault> {
+        Tasks::new(alloc, &self.script)
+    }
+
+    /// The executor of this number, made for so many workers and with this room, and its first desk. 0 workers are made 1, and
+    /// so is a room of 0.
+    pub fn open(
+        &self,
+        alloc: Global,
+        executor: u32,
+        workers: u32,
+        room: usize,
+    ) -> Result<Door, AllocError> {
+        let script = Arc::clone(&self.script)?;
+        let executor = ExecId(executor);
+        let (exec, desk) = Exec::new(alloc, script, executor, workers.max(1), room.max(1))?;
+        let exec = Arc::new(alloc, exec)?;
+        Ok(Door::new(exec, desk))
+    }
+
+    /// A job that no book gave: the turn of this number of a root's task, at the start of its method.
+    pub fn job(&self, alloc: Global, root: u32, number: u32) -> Option<Job<Body>> {
+        let script = Arc::clone(&self.script).ok()?;
+        let method = script.root_method(RootId(root));
+        if method.0 as usize >= script.method_count() {
+            return None;
+        }
+        let args = script.root_args(RootId(root)).to_vec(alloc).ok()?;
+        let body = Body::start(alloc, script, method, args, Bindings::new(alloc)).ok()?;
+        Some(Job::new(TaskId(root), number, Resume::Start, body))
+    }
+}
