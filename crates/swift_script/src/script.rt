@@ -27,11 +27,24 @@ use swift_types::{ActorId, ExecId, LocalId, MethodId, RootId};
 /// A script that `read` accepted: no rule on its names, counts, invariants and roots is broken, and it is compiled.
 ///
 /// All that a turn needs of it is found in constant time. Contracts see its tree.
-#[derive(Drop)]
 pub struct Script {
     declarations: Declarations,
     printed: Vec<u8>,
     compiled: Compiled,
+}
+
+// By hand, so that what a script has is not taken apart in each proof of a crate above.
+impl Drop for Script {
+    fn drop(self) {
+        let Script {
+            declarations,
+            printed,
+            compiled,
+        } = self;
+        drop(declarations);
+        drop(printed);
+        drop(compiled);
+    }
 }
 
 impl Model for Script {
