@@ -5,7 +5,8 @@
 
 It is the program that rt has built (crates/test_scripts/out/test_scripts). Each run has to end with status 0 and to write the file
 crates/test_scripts/refusals. The n-th run refuses the n-th allocation (tools/refuse.c, built by $CC or cc), and the first run in which
-none is refused is the last. Status 0 where no run differs.
+none is refused is the last. The program as Rattle's own compiler builds it, which rt ci leaves beside, is run once with none refused.
+Status 0 where no run differs.
 """
 import concurrent.futures
 import os
@@ -16,6 +17,8 @@ import tempfile
 TOP = os.path.dirname(os.path.dirname(os.path.abspath(__file__)))
 FOLDER = os.path.join(TOP, "crates", "test_scripts")
 COMMAND = [os.path.join(FOLDER, "out", "test_scripts"), "refusals"]
+# The same program by the other compiler, where rt ci has built it.
+OTHER = COMMAND[0] + ".by-rattle"
 SECONDS = 60
 # How many runs are asked for at once.
 RUNS = 256
@@ -40,10 +43,8 @@ def run(library, number, wanted):
     return is_refused, None if done.stdout == wanted else "another text"
 
 
-def refuse_each(library, workers):
+def refuse_each(library, wanted, workers):
     """Refuses each allocation in turn. How many were refused, and what was wrong with which."""
-    with open(os.path.join(FOLDER, "refusals"), "rb") as file:
-        wanted = file.read()
     wrong = []
     first = 1
     while True:
@@ -56,17 +57,33 @@ def refuse_each(library, workers):
         first = numbers.stop
 
 
+def other_fault(wanted):
+    """What is wrong with the other compiler's build, if anything is."""
+    done = subprocess.run([OTHER, "refusals"], stdin=subprocess.DEVNULL, stdout=subprocess.PIPE, stderr=subprocess.DEVNULL, timeout=SECONDS, check=False)
+    if done.returncode:
+        return f"status {done.returncode}"
+    return None if done.stdout == wanted else "another text"
+
+
 def main():
     if len(sys.argv) > 1:
         sys.exit(__doc__)
+    with open(os.path.join(FOLDER, "refusals"), "rb") as file:
+        wanted = file.read()
     with tempfile.TemporaryDirectory() as folder:
         library = os.path.join(folder, "refuse.so")
         source = os.path.join(TOP, "tools", "refuse.c")
         subprocess.run([os.environ.get("CC", "cc"), "-O2", "-Wall", "-Wextra", "-shared", "-fPIC", "-o", library, source], check=True)
         with concurrent.futures.ThreadPoolExecutor(os.cpu_count()) as workers:
-            refused, wrong = refuse_each(library, workers)
+            refused, wrong = refuse_each(library, wanted, workers)
     print("\n".join(wrong[:20] + [f"{refused} allocations refused in turn, {len(wrong)} runs differ"]))
-    if not refused or wrong:
+    fault = None
+    if os.path.exists(OTHER):
+        fault = other_fault(wanted)
+        print(f"as Rattle's own compiler builds it: {fault or 'the same text'}")
+    else:
+        print("as Rattle's own compiler builds it: not run, since only rt ci builds that")
+    if not refused or wrong or fault:
         sys.exit(1)
 
 
