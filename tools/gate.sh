@@ -10,6 +10,9 @@ programs, the examples, and one program once for each allocation that it makes, 
 four cores, and prints little until its end.
 TXT
 log=$(mktemp)
+# One core for each check, and four checks at once at most: on several cores a check takes up to half as much processor time again.
+cores=$(nproc)
+export RT_JOBS=${RT_JOBS:-$((cores < 4 ? cores : 4))}
 rt ci | tee "$log"
 status=${PIPESTATUS[0]}
 last=$(tail -n 1 "$log")

@@ -35,7 +35,6 @@ pub enum Formula {
 }
 
 /// A call of a method of an actor (SE-0306), with its arguments from left to right.
-#[derive(Drop)]
 pub struct Call {
     /// The actor that the method is of.
     pub actor: ActorId,
@@ -43,4 +42,15 @@ pub struct Call {
     pub method: MethodId,
     /// As many as the method has parameters.
     pub args: Vec<Formula>,
+}
+
+impl Drop for Call {
+    fn drop(self) {
+        let Call {
+            actor: _,
+            method: _,
+            args,
+        } = self;
+        drop(args);
+    }
 }

@@ -14,7 +14,6 @@ pub enum Place {
 
 /// What a turn can wait for. Handles, which hold the numbers of tasks and groups, are numbered from 0 within their
 /// method.
-#[derive(Drop)]
 pub enum Awaited {
     /// What a call gives (SE-0306).
     Call(Call),
@@ -24,6 +23,15 @@ pub enum Awaited {
     Task(u32),
     /// What the next child of a handle's group ends with (SE-0304).
     Next(u32),
+}
+
+impl Drop for Awaited {
+    fn drop(self) {
+        match self {
+            Awaited::Call(call) => drop(call),
+            Awaited::Root(_) | Awaited::Task(_) | Awaited::Next(_) => {}
+        }
+    }
 }
 
 /// What is cancelled (SE-0304).
@@ -38,7 +46,6 @@ pub enum Cancelled {
 }
 
 /// What an instruction does (our own).
-#[derive(Drop)]
 pub enum Act {
     /// The end of the method, which gives 0. It is no step.
     End,
@@ -82,6 +89,33 @@ pub enum Act {
     Assume,
     /// An `assume` of an actor of another executor: the fault `isolation`.
     Isolated,
+}
+
+impl Drop for Act {
+    fn drop(self) {
+        match self {
+            Act::Test(formula)
+            | Act::SetVariable(_, formula)
+            | Act::SetField(_, formula)
+            | Act::Return(formula)
+            | Act::Throw(formula)
+            | Act::Bind(_, formula) => drop(formula),
+            Act::Wait(awaited) => drop(awaited),
+            Act::Receive(_, other) => drop(other),
+            Act::Spawn(call, _, _) | Act::Detach(call, _, _) | Act::Add(_, _, call, _) => drop(
+                call,
+            ),
+            Act::Cancel(_)
+            | Act::Open(_)
+            | Act::End
+            | Act::Check
+            | Act::Yield
+            | Act::Close
+            | Act::Unbind
+            | Act::Assume
+            | Act::Isolated => {}
+        }
+    }
 }
 
 /// An instruction, and the numbers of the instructions that may follow it. An instruction's number past the last

@@ -81,7 +81,6 @@ pub struct CompiledRoot {
 /// All that a run needs of a script. Each thing stands at the place that its number says: executors, task locals, actors and
 /// roots are numbered in text order, the declared executors before those that actors have of their own, and methods actor
 /// by actor.
-#[derive(Drop)]
 pub struct Compiled {
     /// The executors, the declared ones first.
     pub executors: Vec<CompiledExecutor>,
@@ -93,4 +92,21 @@ pub struct Compiled {
     pub methods: Vec<CompiledMethod>,
     /// The roots.
     pub roots: Vec<CompiledRoot>,
+}
+
+impl Drop for Compiled {
+    fn drop(self) {
+        let Compiled {
+            executors,
+            locals,
+            actors,
+            methods,
+            roots,
+        } = self;
+        drop(executors);
+        drop(locals);
+        drop(actors);
+        drop(methods);
+        drop(roots);
+    }
 }

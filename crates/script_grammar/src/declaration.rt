@@ -45,7 +45,6 @@ pub struct Field {
 }
 
 /// A method of an actor.
-#[derive(Drop)]
 pub struct Method {
     /// What it is called.
     pub name: Name,
@@ -55,8 +54,16 @@ pub struct Method {
     pub body: Vec<Stmt>,
 }
 
+impl Drop for Method {
+    fn drop(self) {
+        let Method { name, params, body } = self;
+        drop(name);
+        drop(params);
+        drop(body);
+    }
+}
+
 /// An actor (SE-0306).
-#[derive(Drop)]
 pub struct Actor {
     /// What it is called.
     pub name: Name,
@@ -70,8 +77,24 @@ pub struct Actor {
     pub methods: Vec<Method>,
 }
 
+impl Drop for Actor {
+    fn drop(self) {
+        let Actor {
+            name,
+            executor,
+            fields,
+            invariant,
+            methods,
+        } = self;
+        drop(name);
+        drop(executor);
+        drop(fields);
+        drop(invariant);
+        drop(methods);
+    }
+}
+
 /// A task that a run starts with (our own).
-#[derive(Drop)]
 pub struct Root {
     /// What it is called.
     pub name: Name,
@@ -83,6 +106,22 @@ pub struct Root {
     pub args: Vec<i64>,
     /// Its priority: medium where none is given.
     pub priority: Priority,
+}
+
+impl Drop for Root {
+    fn drop(self) {
+        let Root {
+            name,
+            actor,
+            method,
+            args,
+            priority: _,
+        } = self;
+        drop(name);
+        drop(actor);
+        drop(method);
+        drop(args);
+    }
 }
 
 /// A declaration.

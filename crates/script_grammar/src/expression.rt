@@ -4,10 +4,16 @@ use script_tokens::NameText;
 use swift_types::Operator;
 
 /// A name, as the text has it.
-#[derive(Drop)]
 pub struct Name {
     /// Its bytes.
     pub text: NameText,
+}
+
+impl Drop for Name {
+    fn drop(self) {
+        let Name { text } = self;
+        drop(text);
+    }
 }
 
 /// An expression, of height 32 at most: an atom has height 1, and an operator is one higher than its higher operand.
@@ -33,7 +39,6 @@ pub enum Expr {
 }
 
 /// A call of an actor's method.
-#[derive(Drop)]
 pub struct Call {
     /// The actor.
     pub actor: Name,
@@ -43,8 +48,20 @@ pub struct Call {
     pub args: Vec<Expr>,
 }
 
+impl Drop for Call {
+    fn drop(self) {
+        let Call {
+            actor,
+            method,
+            args,
+        } = self;
+        drop(actor);
+        drop(method);
+        drop(args);
+    }
+}
+
 /// What a turn can wait for.
-#[derive(Drop)]
 pub enum Awaited {
     /// `await A.f(..)`: what a call gives (SE-0306).
     Call(Call),
@@ -54,8 +71,16 @@ pub enum Awaited {
     Next(Name),
 }
 
+impl Drop for Awaited {
+    fn drop(self) {
+        match self {
+            Awaited::Call(call) => drop(call),
+            Awaited::Task(name) | Awaited::Next(name) => drop(name),
+        }
+    }
+}
+
 /// An `await`.
-#[derive(Drop)]
 pub struct Wait {
     /// What is waited for.
     pub awaited: Awaited,
@@ -63,11 +88,27 @@ pub struct Wait {
     pub other: Option<Expr>,
 }
 
+impl Drop for Wait {
+    fn drop(self) {
+        let Wait { awaited, other } = self;
+        drop(awaited);
+        drop(other);
+    }
+}
+
 /// What a variable or a field is set to.
-#[derive(Drop)]
 pub enum Value {
     /// An expression's value.
     Expr(Expr),
     /// What is waited for.
     Await(Wait),
+}
+
+impl Drop for Value {
+    fn drop(self) {
+        match self {
+            Value::Expr(value) => drop(value),
+            Value::Await(wait) => drop(wait),
+        }
+    }
 }

@@ -4,7 +4,6 @@ use crate::expression::{Call, Expr, Name, Value, Wait};
 use swift_types::Priority;
 
 /// A task that is made beside the one that makes it.
-#[derive(Drop)]
 pub enum Make {
     /// `spawn A.f(..)`: an unstructured task, with the priority of its maker where none is given (SE-0304).
     Spawn(Call, Option<Priority>),
@@ -12,8 +11,15 @@ pub enum Make {
     Detach(Call, Priority),
 }
 
+impl Drop for Make {
+    fn drop(self) {
+        match self {
+            Make::Spawn(call, _) | Make::Detach(call, _) => drop(call),
+        }
+    }
+}
+
 /// `add g A.f(..)`: a child task of a group (SE-0304).
-#[derive(Drop)]
 pub struct Add {
     /// The group.
     pub group: Name,
@@ -25,8 +31,20 @@ pub struct Add {
     pub priority: Option<Priority>,
 }
 
+impl Drop for Add {
+    fn drop(self) {
+        let Add {
+            group,
+            unless: _,
+            call,
+            priority: _,
+        } = self;
+        drop(group);
+        drop(call);
+    }
+}
+
 /// A statement that does something and holds no block.
-#[derive(Drop)]
 pub enum Action {
     /// `let x = v;` makes a variable.
     Let(Name, Value),
@@ -52,8 +70,28 @@ pub enum Action {
     Yield,
 }
 
+impl Drop for Action {
+    fn drop(self) {
+        match self {
+            Action::Let(name, value) | Action::Assign(name, value) => {
+                drop(name);
+                drop(value);
+            }
+            Action::LetTask(name, make) => {
+                drop(name);
+                drop(make);
+            }
+            Action::Await(wait) => drop(wait),
+            Action::Make(make) => drop(make),
+            Action::Add(add) => drop(add),
+            Action::Cancel(name) => drop(name),
+            Action::Return(value) | Action::Throw(value) => drop(value),
+            Action::Check | Action::Yield => {}
+        }
+    }
+}
+
 /// What stands in front of a block.
-#[derive(Drop)]
 pub enum Head {
     /// `if e`
     If(Expr),
@@ -65,6 +103,19 @@ pub enum Head {
     Group(Name),
     /// `assume A`: in the block stand the fields of another actor of the same executor (SE-0392).
     Assume(Name),
+}
+
+impl Drop for Head {
+    fn drop(self) {
+        match self {
+            Head::If(test) | Head::While(test) => drop(test),
+            Head::Bind(name, value) => {
+                drop(name);
+                drop(value);
+            }
+            Head::Group(name) | Head::Assume(name) => drop(name),
+        }
+    }
 }
 
 /// A statement. Blocks stand in one another 32 deep at most, that of the method included.

@@ -16,12 +16,26 @@ use swift_types::LocalId;
 
 /// What lowering knows of a whole script: what it declares, the defaults of its task locals, and for each actor its
 /// executor and its seat, which is its place among the actors of that executor.
-#[derive(Drop)]
 pub struct Plan {
     declared: Declared,
     defaults: Vec<i64>,
     executors: Vec<u32>,
     seats: Vec<u32>,
+}
+
+impl Drop for Plan {
+    fn drop(self) {
+        let Plan {
+            declared,
+            defaults,
+            executors,
+            seats,
+        } = self;
+        drop(declared);
+        drop(defaults);
+        drop(executors);
+        drop(seats);
+    }
 }
 
 impl Model for Plan {

@@ -15,11 +15,22 @@ use std::marker::Model;
 
 /// The names that stand at a place of a method, each with how many numbers and handles stand before it. So the place of a
 /// name is found in time linear in the name.
-#[derive(Drop)]
 pub(crate) struct Standing<'a> {
     scope: Scope<'a>,
     counts: Vec<Counts>,
     here: Counts,
+}
+
+impl Drop for Standing<'_> {
+    fn drop(self) {
+        let Standing {
+            scope,
+            counts,
+            here: _,
+        } = self;
+        drop(scope);
+        drop(counts);
+    }
 }
 
 impl<'a> Model for Standing<'a> {

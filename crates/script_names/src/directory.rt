@@ -17,7 +17,6 @@ use std::marker::Model;
 /// they stand. Of two of one name the first one counts; a second actor of a name adds nothing, its fields and methods
 /// neither. A method is kept under its actor's place and its own name, so memory is linear in the names of the text
 /// (our own).
-#[derive(Drop)]
 pub struct Declared {
     seed: Seed,
     executors: Names,
@@ -27,6 +26,28 @@ pub struct Declared {
     fields: Vec<Names>,
     methods: Methods,
     params: Vec<usize>,
+}
+
+impl Drop for Declared {
+    fn drop(self) {
+        let Declared {
+            seed: _,
+            executors,
+            locals,
+            roots,
+            actors,
+            fields,
+            methods,
+            params,
+        } = self;
+        drop(executors);
+        drop(locals);
+        drop(roots);
+        drop(actors);
+        drop(fields);
+        drop(methods);
+        drop(params);
+    }
 }
 
 impl Model for Declared {

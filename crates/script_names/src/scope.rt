@@ -30,7 +30,6 @@ pub enum NameKind {
 
 /// The names that stand at a place, each with its kind: the fields of one actor, and the names of the method. A name is
 /// found by its hash, in time linear in the name.
-#[derive(Drop)]
 pub struct Scope<'a> {
     declared: &'a Declared,
     actor: usize,
@@ -38,6 +37,22 @@ pub struct Scope<'a> {
     kinds: Vec<NameKind>,
     bound: usize,
     cleared: Cleared,
+}
+
+impl Drop for Scope<'_> {
+    fn drop(self) {
+        let Scope {
+            declared: _,
+            actor: _,
+            names,
+            kinds,
+            bound: _,
+            cleared,
+        } = self;
+        drop(names);
+        drop(kinds);
+        drop(cleared);
+    }
 }
 
 impl<'a> Model for Scope<'a> {

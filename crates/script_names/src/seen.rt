@@ -15,13 +15,27 @@ use std::marker::Model;
 
 /// What stands before a declaration: the names of executors and actors together, those of task locals and of roots, and
 /// how many executors and actors there are.
-#[derive(Drop)]
 pub(crate) struct Seen {
     pub(crate) places: Names,
     pub(crate) locals: Names,
     pub(crate) roots: Names,
     pub(crate) executors: usize,
     pub(crate) actors: usize,
+}
+
+impl Drop for Seen {
+    fn drop(self) {
+        let Seen {
+            places,
+            locals,
+            roots,
+            executors: _,
+            actors: _,
+        } = self;
+        drop(places);
+        drop(locals);
+        drop(roots);
+    }
 }
 
 impl Model for Seen {

@@ -10,9 +10,15 @@ use std::alloc::{AllocError, Global};
 use std::marker::Model;
 
 /// Names in the order of their first places, each standing once.
-#[derive(Drop)]
 pub struct Names {
     set: IndexSet<Vec<u8>, Seed>,
+}
+
+impl Drop for Names {
+    fn drop(self) {
+        let Names { set } = self;
+        drop(set);
+    }
 }
 
 impl Model for Names {

@@ -61,11 +61,23 @@ impl From<AllocError> for WaitsFault {
 /// waits, itself included; so a wait raises the awaited task, its children, and what these wait for in turn, also where
 /// tasks wait in a ring (our own). Priorities never fall. In a clause it is the list of the events, and how many more
 /// calls are sure to find memory.
-#[derive(Drop)]
 pub struct Waits {
     events: Vec<Event>,
     places: HashMap<u32, usize>,
     graph: Graph,
+}
+
+impl Drop for Waits {
+    fn drop(self) {
+        let Waits {
+            events,
+            places,
+            graph,
+        } = self;
+        drop(events);
+        drop(places);
+        drop(graph);
+    }
 }
 
 impl Model for Waits {

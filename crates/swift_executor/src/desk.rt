@@ -17,10 +17,17 @@ use swift_word::Seat;
 /// desk is its executor, the jobs that were sent by it, the oldest first, how many turns were run by it, and its allowance.
 /// By its type no job has come out of the inbox through a desk: jobs are taken with the state in hand alone. A desk that is
 /// dropped takes its allowance with it.
-#[derive(Drop)]
 pub struct Desk {
     pub(crate) seat: Seat<Resting>,
     pub(crate) pass: Pass,
+}
+
+impl Drop for Desk {
+    fn drop(self) {
+        let Desk { seat, pass } = self;
+        drop(seat);
+        drop(pass);
+    }
 }
 
 impl Model for Desk {

@@ -29,13 +29,26 @@ use swift_word::{Was, Word};
 /// In a clause it is its word, its inbox, with its script and number, and how many workers the run has. No clause knows
 /// the state, since other threads may change it at any moment: what holds of it is said by its type, `ExecState`. Where an
 /// executor is dropped, its jobs are spent.
-#[derive(Drop)]
 pub struct Exec {
     pub(crate) word: Word<Resting>,
     pub(crate) inbox: Inbox,
     pub(crate) workers: u32,
     // It is empty, and has room for what is in the inbox.
     spare: Spare,
+}
+
+impl Drop for Exec {
+    fn drop(self) {
+        let Exec {
+            word,
+            inbox,
+            workers: _,
+            spare,
+        } = self;
+        drop(word);
+        drop(inbox);
+        drop(spare);
+    }
 }
 
 // A list that jobs can go onto. Where it is dropped, they are spent.

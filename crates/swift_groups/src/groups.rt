@@ -21,7 +21,6 @@ use swift_types::{Ending, TaskId};
 ///
 /// Each call takes constant time, `open` and `add` amortized. Room for an ending is made by `add`, so that only
 /// `open`, `add` and `reserve` take memory.
-#[derive(Drop)]
 pub struct Groups {
     groups: Vec<Group>,
     // The children of all groups, in order of adding.
@@ -34,6 +33,24 @@ pub struct Groups {
     after: Vec<Option<usize>>,
     // How many more calls of `open` and `add` find memory for sure.
     room: usize,
+}
+
+impl Drop for Groups {
+    fn drop(self) {
+        let Groups {
+            groups,
+            children,
+            marks,
+            endings,
+            after,
+            room: _,
+        } = self;
+        drop(groups);
+        drop(children);
+        drop(marks);
+        drop(endings);
+        drop(after);
+    }
 }
 
 impl Model for Groups {

@@ -34,10 +34,17 @@ pub(crate) type Queue = RuledArrayQueue<Item, PassView, InboxRule>;
 /// In a clause it is which inbox it is, the executor whose jobs it is for, and how many it has room for. No clause knows
 /// what is inside, since other threads may change it at any moment; what holds of it is said in `laws`. Where an inbox is
 /// dropped, the jobs inside are spent.
-#[derive(Drop)]
 pub struct Inbox {
     pub(crate) queue: Queue,
     site: ExecutorSite,
+}
+
+impl Drop for Inbox {
+    fn drop(self) {
+        let Inbox { queue, site } = self;
+        drop(queue);
+        drop(site);
+    }
 }
 
 impl Model for Inbox {

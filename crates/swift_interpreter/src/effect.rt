@@ -24,7 +24,6 @@ pub enum TaskName {
 }
 
 /// What is done when a turn has ended, in order (SE-0304 for tasks and groups, SE-0311 for bindings).
-#[derive(Drop)]
 pub enum Effect {
     /// An unstructured task is made, with its maker's priority where none is given, and with the bindings that stand.
     Spawn(Invocation, Option<Priority>, Bindings),
@@ -39,4 +38,17 @@ pub enum Effect {
     CancelTask(TaskName),
     /// A group is cancelled, by its number within its task.
     CancelGroup(u32),
+}
+
+impl Drop for Effect {
+    fn drop(self) {
+        match self {
+            Effect::Spawn(run, _, bindings) | Effect::Add(_, _, run, _, bindings) => {
+                drop(run);
+                drop(bindings);
+            }
+            Effect::Detach(run, _) => drop(run),
+            Effect::Open | Effect::CancelTask(_) | Effect::CancelGroup(_) => {}
+        }
+    }
 }

@@ -5,7 +5,6 @@ use std::alloc::Global;
 use swift_types::{Fault, MethodId};
 
 /// A method that is under way, and the counts of its task (our own).
-#[derive(Drop)]
 pub struct Frame {
     /// Its method.
     pub method: MethodId,
@@ -25,6 +24,26 @@ pub struct Frame {
     pub made: u64,
     /// How many groups its task has opened so far.
     pub opened: u64,
+}
+
+impl Drop for Frame {
+    fn drop(self) {
+        let Frame {
+            method: _,
+            line: _,
+            variables,
+            handles,
+            own,
+            groups,
+            pending: _,
+            made: _,
+            opened: _,
+        } = self;
+        drop(variables);
+        drop(handles);
+        drop(own);
+        drop(groups);
+    }
 }
 
 impl Frame {

@@ -7,7 +7,6 @@ use crate::frame::Frame;
 pub const LAST_NUMBER: u64 = 0xFFFF_FFFF;
 
 /// A turn that is under way (our own).
-#[derive(Drop)]
 pub struct TurnState {
     /// The frame that runs.
     pub frame: Frame,
@@ -17,4 +16,18 @@ pub struct TurnState {
     pub effects: Vec<Effect>,
     /// How many tasks the turn may still make.
     pub room: u32,
+}
+
+impl Drop for TurnState {
+    fn drop(self) {
+        let TurnState {
+            frame,
+            fields,
+            effects,
+            room: _,
+        } = self;
+        drop(frame);
+        drop(fields);
+        drop(effects);
+    }
 }

@@ -13,10 +13,17 @@ use std::mem;
 
 /// What undoes a turn: a copy of its frame, and the rows of fields that it has changed (our own). It may serve any
 /// turn, and its buffers are used again from one to the next.
-#[derive(Drop)]
 pub struct Undo {
     pub(crate) frame: Frame,
     pub(crate) saved: SavedRows,
+}
+
+impl Drop for Undo {
+    fn drop(self) {
+        let Undo { frame, saved } = self;
+        drop(frame);
+        drop(saved);
+    }
 }
 
 impl Undo {

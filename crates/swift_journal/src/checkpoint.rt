@@ -17,13 +17,24 @@ use swift_types::TaskId;
 ///
 /// A turn that was folded takes 56 bytes, and eight for each number of the frame after it, its arguments and its value: 64
 /// bytes where a frame of one variable goes on. Effects take a list of their own.
-#[derive(Drop)]
 pub struct Checkpoint {
     fields: Vec<Vec<i64>>,
     // The turns that were folded, and after them those that are written ahead.
     turns: Turns,
     // How many were folded.
     count: usize,
+}
+
+impl Drop for Checkpoint {
+    fn drop(self) {
+        let Checkpoint {
+            fields,
+            turns,
+            count: _,
+        } = self;
+        drop(fields);
+        drop(turns);
+    }
 }
 
 impl Model for Checkpoint {

@@ -20,7 +20,6 @@ use swift_types::{MethodId, Resume, TaskId};
 /// A turn takes 96 bytes, and eight for each number of its frames, bindings, arguments and values: 112 bytes where its
 /// frame has one variable and goes on. Effects take a list of their own. A journal allocates where one of its lists grows,
 /// and nowhere else.
-#[derive(Drop)]
 pub struct Journal {
     heads: Vec<Head>,
     // The words of each turn, in the order of turns.
@@ -28,6 +27,21 @@ pub struct Journal {
     // The effects of each turn, in the order of turns.
     effects: Vec<StoredEffect>,
     draft: Draft,
+}
+
+impl Drop for Journal {
+    fn drop(self) {
+        let Journal {
+            heads,
+            words,
+            effects,
+            draft,
+        } = self;
+        drop(heads);
+        drop(words);
+        drop(effects);
+        drop(draft);
+    }
 }
 
 impl Model for Journal {

@@ -31,7 +31,6 @@ pub struct Record<'a> {
 }
 
 /// A turn of a task, copied out of a journal. Its fields are those of a [`Record`].
-#[derive(Drop)]
 pub struct OwnedRecord {
     /// The task.
     pub task: TaskId,
@@ -53,4 +52,26 @@ pub struct OwnedRecord {
     pub effects: Vec<Effect>,
     /// The frame as the turn left it. None where the frame was left.
     pub after: Option<Frame>,
+}
+
+impl Drop for OwnedRecord {
+    fn drop(self) {
+        let OwnedRecord {
+            task: _,
+            number: _,
+            worker: _,
+            frame,
+            outer,
+            resume: _,
+            env: _,
+            exit,
+            effects,
+            after,
+        } = self;
+        drop(frame);
+        drop(outer);
+        drop(exit);
+        drop(effects);
+        drop(after);
+    }
 }

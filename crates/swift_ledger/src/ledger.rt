@@ -26,7 +26,6 @@ use swift_types::limits::{MADE, TASKS};
 use swift_types::{Priority, TaskId};
 
 /// The log of a run, and indexes by which each question below is answered in constant time (our own). Only `note` writes.
-#[derive(Drop)]
 pub struct Ledger {
     roots: usize,
     log: Vec<Event>,
@@ -34,6 +33,21 @@ pub struct Ledger {
     // How many more events find memory for sure.
     spare: usize,
     levels: Levels,
+}
+
+impl Drop for Ledger {
+    fn drop(self) {
+        let Ledger {
+            roots: _,
+            log,
+            indexes,
+            spare: _,
+            levels,
+        } = self;
+        drop(log);
+        drop(indexes);
+        drop(levels);
+    }
 }
 
 impl Model for Ledger {

@@ -20,12 +20,19 @@ struct Entry {
 /// A read takes constant time however deep the bindings are: a table has the place of each local's innermost
 /// binding, and each binding the place of the next outer one of its local. The table is as long as the greatest
 /// number of a local that was ever bound, plus one: locals are meant to be numbered densely from 0.
-#[derive(Drop)]
 pub struct Bindings {
     // Outermost first.
     entries: Vec<Entry>,
     // By the local's number.
     newest: Vec<Option<usize>>,
+}
+
+impl Drop for Bindings {
+    fn drop(self) {
+        let Bindings { entries, newest } = self;
+        drop(entries);
+        drop(newest);
+    }
 }
 
 impl Model for Bindings {

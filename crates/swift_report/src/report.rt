@@ -5,7 +5,6 @@ use swift_journal::{Checkpoint, Journal};
 use swift_types::Ending;
 
 /// What a run leaves.
-#[derive(Drop)]
 pub struct Report {
     /// The journal of each executor, in the order of executors.
     pub journals: Vec<Journal>,
@@ -17,4 +16,21 @@ pub struct Report {
     pub endings: Vec<(Origin, Ending)>,
     /// The fields of the actors of each executor, in the order of executors, and of each one's actors in text order.
     pub fields: Vec<Vec<Vec<i64>>>,
+}
+
+impl Drop for Report {
+    fn drop(self) {
+        let Report {
+            journals,
+            checkpoints,
+            log,
+            endings,
+            fields,
+        } = self;
+        drop(journals);
+        drop(checkpoints);
+        drop(log);
+        drop(endings);
+        drop(fields);
+    }
 }

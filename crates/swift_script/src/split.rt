@@ -9,12 +9,26 @@ use script_grammar::{Actor, Decl, Executor, Local, Root};
 use std::alloc::{AllocError, Global};
 
 /// The declarations of a script, each kind in text order.
-#[derive(Drop)]
 pub(crate) struct Declarations {
     pub executors: Vec<Executor>,
     pub locals: Vec<Local>,
     pub actors: Vec<Actor>,
     pub roots: Vec<Root>,
+}
+
+impl Drop for Declarations {
+    fn drop(self) {
+        let Declarations {
+            executors,
+            locals,
+            actors,
+            roots,
+        } = self;
+        drop(executors);
+        drop(locals);
+        drop(actors);
+        drop(roots);
+    }
 }
 
 impl Declarations {

@@ -56,7 +56,6 @@ impl Drop for Body {
 }
 
 // What a body has.
-#[derive(Drop)]
 struct Inside {
     alloc: Global,
     script: Arc<Script>,
@@ -71,6 +70,31 @@ struct Inside {
     undo: Undo,
     source: Source,
     waker: Option<Waker>,
+}
+
+impl Drop for Inside {
+    fn drop(self) {
+        let Inside {
+            alloc: _,
+            script,
+            turn,
+            running: _,
+            callers,
+            outer,
+            phase,
+            undo,
+            source,
+            waker,
+        } = self;
+        drop(script);
+        drop(turn);
+        drop(callers);
+        drop(outer);
+        drop(phase);
+        drop(undo);
+        drop(source);
+        drop(waker);
+    }
 }
 
 impl Model for Body {
