@@ -82,24 +82,36 @@ impl Tasks {
     // A call other than of what a turn has done.
     fn plain(&mut self, words: &[&str], out: &mut String) -> Result<(), CaseFault> {
         match *words {
-            ["root", root] => self.add_root(RootId(number(root)?), out),
             ["begin", ref job @ ..] => {
                 self.begin(job, out)?;
                 Ok(())
             }
-            ["cancel", named] => match self.book.cancel(task(named)?) {
-                Ok(()) => Ok(out.push_str("ok")?),
-                Err(fault) => refused(out, fault),
-            },
-            ["ending", named] => Ok(show::ending(out, self.book.ending(task(named)?))?),
-            ["origin", named] => Ok(show::origin(out, self.book.origin(task(named)?))?),
+            ["priorities", ref named @ ..] => self.priorities(named, out),
             ["open_tasks"] => {
                 let open = self.book.open_tasks();
                 Ok(write!(out, "{open}")?)
             }
-            ["priorities", ref named @ ..] => self.priorities(named, out),
             ["levels"] => told_levels(out, self.book.levels()),
+            [call, named] => self.named(call, named, out),
             _ => Err(CaseFault::Form),
+        }
+    }
+
+    // A call of a root or a task.
+    fn named(&mut self, call: &str, named: &str, out: &mut String) -> Result<(), CaseFault> {
+        match call {
+            "root" => self.add_root(RootId(number(named)?), out),
+            "cancel" => self.cancel(task(named)?, out),
+            "ending" => Ok(show::ending(out, self.book.ending(task(named)?))?),
+            "origin" => Ok(show::origin(out, self.book.origin(task(named)?))?),
+            _ => Err(CaseFault::Form),
+        }
+    }
+
+    fn cancel(&mut self, named: TaskId, out: &mut String) -> Result<(), CaseFault> {
+        match self.book.cancel(named) {
+            Ok(()) => Ok(out.push_str("ok")?),
+            Err(fault) => refused(out, fault),
         }
     }
 

@@ -90,27 +90,73 @@ fn add(
     Ok(Effect::Add(group, unless, child, priority, bound))
 }
 
+// A task that is detached.
+fn detach(alloc: Global, script: &Script, words: &[&str]) -> Result<Effect, CaseFault> {
+    let (method, priority) = match *words {
+        [method] => (method, Priority::Medium),
+        [method, "at", priority] => (method, priority_of(priority)?),
+        _ => return Err(CaseFault::Form),
+    };
+    Ok(Effect::Detach(invocation(alloc, script, method)?, priority))
+}
+
+// A task that is spawned.
+fn spawn(alloc: Global, script: &Script, words: &[&str]) -> Result<Effect, CaseFault> {
+    let Some((method, rest)) = words.split_first() else {
+        return Err(CaseFault::Form);
+    };
+    let made = invocation(alloc, script, method)?;
+    let (priority, bound) = rest_of(alloc, rest)?;
+    Ok(Effect::Spawn(made, priority, bound))
+}
+
+// A child that is added.
+fn child(alloc: Global, script: &Script, words: &[&str]) -> Result<Effect, CaseFault> {
+    match *words {
+        [group, "unless", ref rest @ ..] => add(alloc, script, group, true, rest),
+        [group, ref rest @ ..] => add(alloc, script, group, false, rest),
+        [] => Err(CaseFault::Form),
+    }
+}
+
+// What is cancelled.
+fn cancel(words: &[&str]) -> Result<Effect, CaseFault> {
+    match *words {
+        ["group", group] => Ok(Effect::CancelGroup(number(group)?)),
+        _ => Ok(Effect::CancelTask(name_of(words)?)),
+    }
+}
+
 /// An effect by its words.
 pub fn effect(alloc: Global, script: &Script, words: &[&str]) -> Result<Effect, CaseFault> {
+    let Some((word, rest)) = words.split_first() else {
+        return Err(CaseFault::Form);
+    };
+    match *word {
+        "spawn" => spawn(alloc, script, rest),
+        "detach" => detach(alloc, script, rest),
+        "open" if rest.is_empty() => Ok(Effect::Open),
+        "add" => child(alloc, script, rest),
+        "cancel" => cancel(rest),
+        _ => Err(CaseFault::Form),
+    }
+}
+
+// The wait for a group's children, and the fault that is kept meanwhile.
+fn close(words: &[&str]) -> Result<Exit, CaseFault> {
     match *words {
-        ["spawn", method, ref rest @ ..] => {
-            let made = invocation(alloc, script, method)?;
-            let (priority, bound) = rest_of(alloc, rest)?;
-            Ok(Effect::Spawn(made, priority, bound))
-        }
-        ["detach", method] => {
-            let made = invocation(alloc, script, method)?;
-            Ok(Effect::Detach(made, Priority::Medium))
-        }
-        ["detach", method, "at", priority] => {
-            let made = invocation(alloc, script, method)?;
-            Ok(Effect::Detach(made, priority_of(priority)?))
-        }
-        ["open"] => Ok(Effect::Open),
-        ["add", group, "unless", ref rest @ ..] => add(alloc, script, group, true, rest),
-        ["add", group, ref rest @ ..] => add(alloc, script, group, false, rest),
-        ["cancel", "group", group] => Ok(Effect::CancelGroup(number(group)?)),
-        ["cancel", ref name @ ..] => Ok(Effect::CancelTask(name_of(name)?)),
+        [group] => Ok(Exit::Close(number(group)?, None)),
+        [group, ref fault @ ..] => Ok(Exit::Close(number(group)?, Some(fault_of(fault)?))),
+        [] => Err(CaseFault::Form),
+    }
+}
+
+// An exit of one word after the first.
+fn exit_with(alloc: Global, script: &Script, exit: &str, word: &str) -> Result<Exit, CaseFault> {
+    match exit {
+        "call" => Ok(Exit::Call(invocation(alloc, script, word)?)),
+        "next" => Ok(Exit::Next(number(word)?)),
+        "return" => Ok(Exit::Return(value(word)?)),
         _ => Err(CaseFault::Form),
     }
 }
@@ -118,14 +164,11 @@ pub fn effect(alloc: Global, script: &Script, words: &[&str]) -> Result<Effect, 
 /// An exit by its words.
 pub fn exit(alloc: Global, script: &Script, words: &[&str]) -> Result<Exit, CaseFault> {
     match *words {
-        ["call", method] => Ok(Exit::Call(invocation(alloc, script, method)?)),
-        ["wait", ref name @ ..] => Ok(Exit::Wait(name_of(name)?)),
-        ["next", group] => Ok(Exit::Next(number(group)?)),
-        ["close", group] => Ok(Exit::Close(number(group)?, None)),
-        ["close", group, ref fault @ ..] => Ok(Exit::Close(number(group)?, Some(fault_of(fault)?))),
         ["yield"] => Ok(Exit::Yield),
-        ["return", returned] => Ok(Exit::Return(value(returned)?)),
+        ["close", ref rest @ ..] => close(rest),
+        ["wait", ref name @ ..] => Ok(Exit::Wait(name_of(name)?)),
         ["fault", ref fault @ ..] => Ok(Exit::Fault(fault_of(fault)?)),
+        [exit, word] => exit_with(alloc, script, exit, word),
         _ => Err(CaseFault::Form),
     }
 }

@@ -32,52 +32,79 @@ fn shown(alloc: Global, next: Next) -> Result<String, AllocError> {
     }
 }
 
-// What a call on a group that is there answers.
+fn ok(done: Result<(), GroupFault>) -> Result<&'static str, GroupFault> {
+    done.map(|()| "ok")
+}
+
+fn yes_or_no(is_so: Result<bool, GroupFault>) -> Result<&'static str, GroupFault> {
+    is_so.map(|is_so| if is_so { "true" } else { "false" })
+}
+
+fn closed(close: Result<Close, GroupFault>) -> Result<&'static str, GroupFault> {
+    close.map(|close| match close {
+        Close::Done => "done",
+        Close::Wait => "wait",
+    })
+}
+
+// What a call on a group answers that has no more words.
+fn asked(
+    groups: &mut Groups,
+    call: &str,
+    named: GroupId,
+) -> Result<Result<&'static str, GroupFault>, CaseFault> {
+    match call {
+        "cancel_all" => Ok(ok(groups.cancel_all(named))),
+        "is_cancelled" => Ok(yes_or_no(groups.is_cancelled(named))),
+        "close" => Ok(closed(groups.close(named))),
+        _ => Err(CaseFault::Form),
+    }
+}
+
+// What a call that makes no group and asks for no child answers.
 fn answered(
-    alloc: Global,
     groups: &mut Groups,
     words: &[&str],
-) -> Result<Result<String, GroupFault>, CaseFault> {
-    let word = match words {
-        ["reserve", calls] => groups.reserve(size(calls)?).map(|()| "ok"),
-        ["add", to, child] => groups.add(group(to)?, task(child)?).map(|()| "ok"),
+) -> Result<Result<&'static str, GroupFault>, CaseFault> {
+    match *words {
+        ["reserve", calls] => Ok(ok(groups.reserve(size(calls)?))),
+        [call, named] => asked(groups, call, group(named)?),
+        ["add", to, child] => Ok(ok(groups.add(group(to)?, task(child)?))),
         ["finished", of, child, ended] => {
-            groups
-                .finished(group(of)?, task(child)?, ending_of(ended)?)
-                .map(|()| "ok")
+            let ended = ending_of(ended)?;
+            Ok(ok(groups.finished(group(of)?, task(child)?, ended)))
         }
-        ["cancel_all", all] => groups.cancel_all(group(all)?).map(|()| "ok"),
-        ["is_cancelled", asked] => groups
-            .is_cancelled(group(asked)?)
-            .map(|is_so| if is_so { "true" } else { "false" }),
-        ["close", closed] => groups.close(group(closed)?).map(|close| match close {
-            Close::Done => "done",
-            Close::Wait => "wait",
-        }),
-        _ => return Err(CaseFault::Form),
-    };
-    match word {
-        Ok(word) => Ok(Ok(String::from_str(alloc, word)?)),
-        Err(fault) => Ok(Err(fault)),
+        _ => Err(CaseFault::Form),
+    }
+}
+
+fn opened(alloc: Global, opened: Result<GroupId, GroupFault>) -> Result<String, AllocError> {
+    match opened {
+        Ok(GroupId(opened)) => format!(in alloc; "group {opened}"),
+        Err(fault) => format!(in alloc; "{fault}"),
+    }
+}
+
+fn next(alloc: Global, next: Result<Next, GroupFault>) -> Result<String, AllocError> {
+    match next {
+        Ok(next) => shown(alloc, next),
+        Err(fault) => format!(in alloc; "{fault}"),
+    }
+}
+
+fn told(alloc: Global, answer: Result<&str, GroupFault>) -> Result<String, AllocError> {
+    match answer {
+        Ok(word) => String::from_str(alloc, word),
+        Err(fault) => format!(in alloc; "{fault}"),
     }
 }
 
 impl Part for Groups {
     fn answer(&mut self, alloc: Global, words: &[&str]) -> Result<String, CaseFault> {
-        let answer = match words {
-            ["open", owner] => match self.open(task(owner)?) {
-                Ok(GroupId(opened)) => Ok(format!(in alloc; "group {opened}")?),
-                Err(fault) => Err(fault),
-            },
-            ["next", asked] => match self.next(group(asked)?) {
-                Ok(next) => Ok(shown(alloc, next)?),
-                Err(fault) => Err(fault),
-            },
-            _ => answered(alloc, self, words)?,
-        };
-        match answer {
-            Ok(text) => Ok(text),
-            Err(fault) => Ok(format!(in alloc; "{fault}")?),
+        match *words {
+            ["open", owner] => Ok(opened(alloc, self.open(task(owner)?))?),
+            ["next", asked] => Ok(next(alloc, self.next(group(asked)?))?),
+            _ => Ok(told(alloc, answered(self, words)?)?),
         }
     }
 }

@@ -48,31 +48,54 @@ fn cut(bindings: &mut Bindings, depth: usize) -> Result<(), CaseFault> {
     Ok(())
 }
 
-impl Part for LocalsPart {
-    fn answer(&mut self, alloc: Global, words: &[&str]) -> Result<String, CaseFault> {
-        match words {
-            ["bind", local, bound] => {
-                self.bindings.bind(LocalId(number(local)?), value(bound)?)?;
-            }
-            ["unbind"] => unbind(&mut self.bindings)?,
-            ["cut", depth] => cut(&mut self.bindings, size(depth)?)?,
-            ["copy"] => self.copy = self.bindings.copy()?,
-            ["read", local] => {
-                return Ok(shown(alloc, self.bindings.read(LocalId(number(local)?)))?);
-            }
-            ["read_copy", local] => {
-                return Ok(shown(alloc, self.copy.read(LocalId(number(local)?)))?);
-            }
-            ["depth"] => {
-                let depth = self.bindings.depth();
-                return Ok(format!(in alloc; "{depth}")?);
-            }
-            ["depth_of_copy"] => {
-                let depth = self.copy.depth();
-                return Ok(format!(in alloc; "{depth}")?);
-            }
+fn ok(alloc: Global) -> Result<String, CaseFault> {
+    Ok(String::from_str(alloc, "ok")?)
+}
+
+fn depth(alloc: Global, bindings: &Bindings) -> Result<String, CaseFault> {
+    let depth = bindings.depth();
+    Ok(format!(in alloc; "{depth}")?)
+}
+
+fn read(alloc: Global, bindings: &Bindings, local: &str) -> Result<String, CaseFault> {
+    Ok(shown(alloc, bindings.read(LocalId(number(local)?)))?)
+}
+
+impl LocalsPart {
+    // A call of one word.
+    fn plain(&mut self, alloc: Global, call: &str) -> Result<String, CaseFault> {
+        match call {
+            "unbind" => unbind(&mut self.bindings)?,
+            "copy" => self.copy = self.bindings.copy()?,
+            "depth" => return depth(alloc, &self.bindings),
+            "depth_of_copy" => return depth(alloc, &self.copy),
             _ => return Err(CaseFault::Form),
         }
-        Ok(String::from_str(alloc, "ok")?)
+        ok(alloc)
+    }
+
+    // A call with a word more.
+    fn given(&mut self, alloc: Global, call: &str, word: &str) -> Result<String, CaseFault> {
+        match call {
+            "cut" => cut(&mut self.bindings, size(word)?)?,
+            "read" => return read(alloc, &self.bindings, word),
+            "read_copy" => return read(alloc, &self.copy, word),
+            _ => return Err(CaseFault::Form),
+        }
+        ok(alloc)
+    }
+}
+
+impl Part for LocalsPart {
+    fn answer(&mut self, alloc: Global, words: &[&str]) -> Result<String, CaseFault> {
+        match *words {
+            [call] => self.plain(alloc, call),
+            [call, word] => self.given(alloc, call, word),
+            ["bind", local, bound] => {
+                self.bindings.bind(LocalId(number(local)?), value(bound)?)?;
+                ok(alloc)
+            }
+            _ => Err(CaseFault::Form),
+        }
     }
 }

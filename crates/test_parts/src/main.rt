@@ -169,17 +169,29 @@ where
     R: RandomSource + AllocGlobal + Threads + Wait + Sync,
 {
     match part {
+        "words" => play_words(rt, alloc, calls, out),
+        "inbox" => play_inbox(rt, alloc, calls, out),
+        "inbox_threads" => play_threads(rt, alloc, calls, out),
+        "turns" => play_turns(rt, calls, out),
+        _ => answer_alone(alloc, part, calls, out),
+    }
+}
+
+// What the calls of a part answer that needs memory alone.
+fn answer_alone(
+    alloc: Global,
+    part: &str,
+    calls: &str,
+    out: &mut Vec<u8>,
+) -> Result<(), CaseFault> {
+    match part {
         "locals" => play(alloc, &mut LocalsPart::new(alloc), calls, out),
         "waits" => play(alloc, &mut Waits::new(alloc), calls, out),
         "groups" => play(alloc, &mut Groups::new(alloc), calls, out),
         "roots" => play(alloc, &mut RootsPart, calls, out),
         "formulas" => play(alloc, &mut FormulasPart, calls, out),
         "queue" => play_queue(alloc, calls, out),
-        "words" => play_words(rt, alloc, calls, out),
-        "inbox" => play_inbox(rt, alloc, calls, out),
-        "inbox_threads" => play_threads(rt, alloc, calls, out),
         "book" => play_book(alloc, calls, out),
-        "turns" => play_turns(rt, calls, out),
         _ => Err(CaseFault::Form),
     }
 }

@@ -59,23 +59,30 @@ fn counted(alloc: Global, queue: &Queue<u32>, word: &str) -> Result<String, Case
     Ok(format!(in alloc; "{count}")?)
 }
 
+// What a call of one word answers.
+fn plain(alloc: Global, queue: &mut Queue<u32>, call: &str) -> Result<String, CaseFault> {
+    match call {
+        "take" => Ok(shown(alloc, told(queue.take()))?),
+        "take_oldest" => Ok(shown(alloc, told(queue.take_oldest()))?),
+        "is_empty" => Ok(String::from_str(alloc, yes_or_no(queue.is_empty()))?),
+        _ => counted(alloc, queue, call),
+    }
+}
+
 impl Part for Queue<u32> {
     fn answer(&mut self, alloc: Global, words: &[&str]) -> Result<String, CaseFault> {
-        let word = match words {
+        let word = match *words {
+            [call] => return plain(alloc, self, call),
+            ["put_back", priority] => {
+                let priority = priority_of(priority)?;
+                return Ok(shown(alloc, put_back(self, priority))?);
+            }
+            ["holds", asked] => yes_or_no(self.holds(task(asked)?)),
             ["put", added, priority] => put(self, task(added)?, priority_of(priority)?),
             ["raise", raised, priority] => {
                 self.raise(task(raised)?, priority_of(priority)?);
                 "ok"
             }
-            ["holds", asked] => yes_or_no(self.holds(task(asked)?)),
-            ["is_empty"] => yes_or_no(self.is_empty()),
-            ["take"] => return Ok(shown(alloc, told(self.take()))?),
-            ["take_oldest"] => return Ok(shown(alloc, told(self.take_oldest()))?),
-            ["put_back", priority] => {
-                let priority = priority_of(priority)?;
-                return Ok(shown(alloc, put_back(self, priority))?);
-            }
-            [word] => return counted(alloc, self, word),
             _ => return Err(CaseFault::Form),
         };
         Ok(String::from_str(alloc, word)?)

@@ -9,7 +9,7 @@ use swift_locals::Bindings;
 use swift_queue::Job;
 use swift_script::Script;
 use swift_turn::Body;
-use swift_types::{Ending, Fault, LocalId, Priority, Resume};
+use swift_types::{Ending, Fault, LocalId, Priority, Resume, TaskId};
 
 /// The name of a priority.
 pub fn priority(given: Priority) -> &'static str {
@@ -87,40 +87,54 @@ pub fn env(out: &mut String, given: Env) -> Result<(), AllocError> {
 
 /// An event.
 pub fn event(out: &mut String, happened: Event) -> Result<(), AllocError> {
-    let task = happened.task().0;
     match happened {
-        Event::Root(_, own) => {
+        Event::Root(..) | Event::Free(..) | Event::Child(..) => made(out, happened),
+        Event::Begin(..) | Event::Apply(..) | Event::End(..) | Event::Give(..) => {
+            turn_event(out, happened)
+        }
+        Event::CancelTask(TaskId(task)) => write!(out, "cancel t{task}"),
+        Event::Wait(TaskId(task), TaskId(awaited)) => write!(out, "wait t{task} for t{awaited}"),
+        _ => group_event(out, happened),
+    }
+}
+
+// A task that is made.
+fn made(out: &mut String, happened: Event) -> Result<(), AllocError> {
+    match happened {
+        Event::Root(TaskId(task), own) => {
             let own = priority(own);
             write!(out, "root t{task} {own}")
         }
-        Event::Begin(_, number, given) => {
-            write!(out, "begin t{task}.{number} ")?;
-            env(out, given)
-        }
-        Event::Apply(_, number) => write!(out, "apply t{task}.{number}"),
-        Event::Free(_, by, own, detached) => {
-            let (by, own) = (by.0, priority(own));
+        Event::Free(TaskId(task), TaskId(by), own, detached) => {
+            let own = priority(own);
             let word = if detached { "detach" } else { "spawn" };
             write!(out, "{word} t{task} by t{by} {own}")
         }
-        Event::Child(_, owner, group, own) => {
-            let (owner, own) = (owner.0, priority(own));
+        Event::Child(TaskId(task), TaskId(owner), group, own) => {
+            let own = priority(own);
             write!(out, "child t{task} of t{owner} group {group} {own}")
         }
-        Event::CancelTask(_) => write!(out, "cancel t{task}"),
-        Event::Wait(_, awaited) => {
-            let awaited = awaited.0;
-            write!(out, "wait t{task} for t{awaited}")
+        _ => Ok(()),
+    }
+}
+
+// A task's turns, and its end.
+fn turn_event(out: &mut String, happened: Event) -> Result<(), AllocError> {
+    match happened {
+        Event::Begin(TaskId(task), number, given) => {
+            write!(out, "begin t{task}.{number} ")?;
+            env(out, given)
         }
-        Event::End(_, ended) => {
+        Event::Apply(TaskId(task), number) => write!(out, "apply t{task}.{number}"),
+        Event::End(TaskId(task), ended) => {
             write!(out, "end t{task} ")?;
             ending(out, Some(ended))
         }
-        Event::Give(_, number, begun) => {
+        Event::Give(TaskId(task), number, begun) => {
             write!(out, "give t{task}.{number} ")?;
             resume(out, begun)
         }
-        _ => group_event(out, happened),
+        _ => Ok(()),
     }
 }
 

@@ -6,7 +6,7 @@ use crate::fault::CaseFault;
 use crate::words::{priority_of, size, task};
 use std::alloc::{AllocError, Global};
 use swift_escalation::{Waits, WaitsFault};
-use swift_types::Priority;
+use swift_types::{Priority, TaskId};
 
 fn shown(alloc: Global, found: Option<Priority>) -> Result<String, AllocError> {
     let word = match found {
@@ -27,17 +27,30 @@ fn done(alloc: Global, answer: Result<(), WaitsFault>) -> Result<String, AllocEr
     }
 }
 
+// A call of a task and a word more.
+fn given(
+    waits: &mut Waits,
+    call: &str,
+    named: TaskId,
+    word: &str,
+) -> Result<Result<(), WaitsFault>, CaseFault> {
+    match call {
+        "add_root" => Ok(waits.add_root(named, priority_of(word)?)),
+        "add_free" => Ok(waits.add_free(named, priority_of(word)?)),
+        "wait" => Ok(waits.wait(named, task(word)?)),
+        _ => Err(CaseFault::Form),
+    }
+}
+
 impl Part for Waits {
     fn answer(&mut self, alloc: Global, words: &[&str]) -> Result<String, CaseFault> {
-        let answer = match words {
+        let answer = match *words {
+            ["priority", asked] => return Ok(shown(alloc, self.priority(task(asked)?))?),
             ["reserve", calls] => self.reserve(size(calls)?),
-            ["add_root", added, own] => self.add_root(task(added)?, priority_of(own)?),
-            ["add_free", added, own] => self.add_free(task(added)?, priority_of(own)?),
+            [call, named, word] => given(self, call, task(named)?, word)?,
             ["add_child", added, parent, own] => {
                 self.add_child(task(added)?, task(parent)?, priority_of(own)?)
             }
-            ["wait", waiter, awaited] => self.wait(task(waiter)?, task(awaited)?),
-            ["priority", asked] => return Ok(shown(alloc, self.priority(task(asked)?))?),
             _ => return Err(CaseFault::Form),
         };
         Ok(done(alloc, answer)?)

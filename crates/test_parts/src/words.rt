@@ -47,19 +47,27 @@ pub fn priority_of(word: &str) -> Result<Priority, CaseFault> {
     }
 }
 
+// A fault of one word.
+fn fault_by_name(word: &str) -> Result<Fault, CaseFault> {
+    match word {
+        "cancelled" => Ok(Fault::Cancelled),
+        "invariant" => Ok(Fault::Invariant),
+        "overflow" => Ok(Fault::Overflow),
+        "steps" => Ok(Fault::Steps),
+        "turns" => Ok(Fault::Turns),
+        "depth" => Ok(Fault::Depth),
+        "tasks" => Ok(Fault::Tasks),
+        "empty" => Ok(Fault::Empty),
+        "isolation" => Ok(Fault::Isolation),
+        _ => Err(CaseFault::Form),
+    }
+}
+
 /// A fault, by its words.
 pub fn fault_of(words: &[&str]) -> Result<Fault, CaseFault> {
     match *words {
         ["thrown", thrown] => Ok(Fault::Thrown(value(thrown)?)),
-        ["cancelled"] => Ok(Fault::Cancelled),
-        ["invariant"] => Ok(Fault::Invariant),
-        ["overflow"] => Ok(Fault::Overflow),
-        ["steps"] => Ok(Fault::Steps),
-        ["turns"] => Ok(Fault::Turns),
-        ["depth"] => Ok(Fault::Depth),
-        ["tasks"] => Ok(Fault::Tasks),
-        ["empty"] => Ok(Fault::Empty),
-        ["isolation"] => Ok(Fault::Isolation),
+        [word] => fault_by_name(word),
         _ => Err(CaseFault::Form),
     }
 }

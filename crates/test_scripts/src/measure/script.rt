@@ -13,7 +13,7 @@ use std::time::Instant;
 use swift_certificate::legal;
 use swift_journal::{Checkpoint, Journal};
 use swift_report::{Report, report_text};
-use swift_script::read;
+use swift_script::{Script, read};
 use swift_workers::{Open, run};
 
 /// How far a script is taken.
@@ -27,40 +27,68 @@ pub enum Stage {
     Text,
 }
 
+// Reads a script, and says how long that took.
+fn read_timed(rt: &HostRuntime, text: &[u8]) -> Result<Arc<Script>, CaseFault> {
+    let start = Instant::now(rt)?;
+    let answer = read(rt.alloc(), text);
+    told(rt, "read", start.elapsed(rt)?)?;
+    Ok(Arc::new(rt.alloc(), answer?)?)
+}
+
+// Runs a script, and says how long that took.
+fn run_timed<W>(
+    rt: &HostRuntime,
+    wait: &W,
+    script: &Arc<Script>,
+    workers: u32,
+) -> Result<Report, CaseFault>
+where
+    W: RandomSource + AllocGlobal + Threads + Wait + Sync,
+{
+    let start = Instant::now(rt)?;
+    let report = run(wait, Arc::clone(script)?, workers, &Open)?;
+    told(rt, "run", start.elapsed(rt)?)?;
+    let turns = turns_of(&report)?;
+    println!(rt; "run {turns} turns")?;
+    Ok(report)
+}
+
+// Certifies a report, and says how long that took.
+fn certify_timed(rt: &HostRuntime, script: &Arc<Script>, report: &Report) -> Result<(), CaseFault> {
+    let start = Instant::now(rt)?;
+    let is_legal = legal(rt.alloc(), script, report)?;
+    told(rt, "certificate", start.elapsed(rt)?)?;
+    println!(rt; "legal {is_legal}")?;
+    Ok(())
+}
+
+// Makes the text of a report, and says how long that took.
+fn write_timed(rt: &HostRuntime, script: &Arc<Script>, report: &Report) -> Result<(), CaseFault> {
+    let start = Instant::now(rt)?;
+    let text = report_text(rt.alloc(), script, report, false)?;
+    told(rt, "text", start.elapsed(rt)?)?;
+    let bytes = text.len();
+    println!(rt; "text {bytes} bytes")?;
+    Ok(())
+}
+
 // Takes the script on standard input as far as a stage, and says how long each one took.
 pub fn measure<W>(rt: &HostRuntime, wait: &W, stage: Stage, workers: u32) -> Result<(), CaseFault>
 where
     W: RandomSource + AllocGlobal + Threads + Wait + Sync,
 {
-    let alloc = rt.alloc();
-    let text = io::read_to_string(alloc, rt.stdin())?;
-    let start = Instant::now(rt)?;
-    let answer = read(alloc, text.as_bytes());
-    told(rt, "read", start.elapsed(rt)?)?;
-    let script = Arc::new(alloc, answer?)?;
+    let text = io::read_to_string(rt.alloc(), rt.stdin())?;
+    let script = read_timed(rt, text.as_bytes())?;
     if stage == Stage::Read {
         let bytes = text.len();
         println!(rt; "read {bytes} bytes")?;
         return Ok(());
     }
-    let start = Instant::now(rt)?;
-    let report = run(wait, Arc::clone(&script)?, workers, &Open)?;
-    told(rt, "run", start.elapsed(rt)?)?;
-    let turns = turns_of(&report)?;
-    println!(rt; "run {turns} turns")?;
-    if stage == Stage::Run {
-        let start = Instant::now(rt)?;
-        let is_legal = legal(alloc, &script, &report)?;
-        told(rt, "certificate", start.elapsed(rt)?)?;
-        println!(rt; "legal {is_legal}")?;
-        return Ok(());
+    let report = run_timed(rt, wait, &script, workers)?;
+    match stage {
+        Stage::Text => write_timed(rt, &script, &report),
+        Stage::Read | Stage::Run => certify_timed(rt, &script, &report),
     }
-    let start = Instant::now(rt)?;
-    let told_text = report_text(alloc, &script, &report, false)?;
-    told(rt, "text", start.elapsed(rt)?)?;
-    let bytes = told_text.len();
-    println!(rt; "text {bytes} bytes")?;
-    Ok(())
 }
 
 /// How many turns the executors ran, those that were folded too. `Refused` where that is no number of 64 bits.

@@ -150,7 +150,7 @@ fn turn_again(
     jobs: &mut Vec<Job<Body>>,
     task: u32,
     effects: Vec<Effect>,
-    exit: &Exit,
+    exit: Exit,
 ) {
     let Some(job) = take(jobs, TaskId(task)) else {
         wrong(rt, "no job");
@@ -159,7 +159,7 @@ fn turn_again(
     match again_on(rt, "Book::begin", book, seen, |on| on.begin(&job)) {
         Some(env) => {
             let _ = println!(rt; "task {task} begins: {env:?}");
-            apply_again(rt, book, jobs, job, effects, exit);
+            apply_again(rt, book, jobs, job, effects, &exit);
             tell(rt, "turn applied", book, jobs);
         }
         None => spend(job),
@@ -181,20 +181,41 @@ fn bound(alloc: Global) -> Result<Bindings, AllocError> {
     Ok(bindings)
 }
 
+// A task that is spawned, and a child of a group, of two bindings each.
+fn spawned(alloc: Global) -> Result<Effect, AllocError> {
+    let made = invocation(alloc, 1, &[1, 2])?;
+    Ok(Effect::Spawn(made, Some(Priority::Low), bound(alloc)?))
+}
+
+fn child(alloc: Global, group: u32, unless: bool, made: Invocation) -> Result<Effect, AllocError> {
+    Ok(Effect::Add(group, unless, made, None, bound(alloc)?))
+}
+
+fn add(effects: &mut Vec<Effect>, effect: Effect) -> Result<(), AllocError> {
+    Ok(effects.push(effect)?)
+}
+
+fn add_all_kinds(alloc: Global, effects: &mut Vec<Effect>) -> Result<(), AllocError> {
+    add(effects, spawned(alloc)?)?;
+    add(
+        effects,
+        Effect::Detach(invocation(alloc, 1, &[3, 4])?, Priority::High),
+    )?;
+    add(effects, Effect::Open)?;
+    add(
+        effects,
+        child(alloc, 0, false, invocation(alloc, 1, &[5, 6])?)?,
+    )?;
+    add(effects, Effect::CancelTask(TaskName::Own(0)))?;
+    add(effects, Effect::Open)?;
+    add(effects, Effect::CancelGroup(1))?;
+    add(effects, child(alloc, 1, true, invocation(alloc, 2, &[7])?)?)
+}
+
 // An effect of each kind.
 fn all_kinds(alloc: Global) -> Result<Vec<Effect>, AllocError> {
     let mut effects = Vec::new(alloc);
-    let spawned = invocation(alloc, 1, &[1, 2])?;
-    effects.push(Effect::Spawn(spawned, Some(Priority::Low), bound(alloc)?))?;
-    effects.push(Effect::Detach(invocation(alloc, 1, &[3, 4])?, Priority::High))?;
-    effects.push(Effect::Open)?;
-    let child = invocation(alloc, 1, &[5, 6])?;
-    effects.push(Effect::Add(0, false, child, None, bound(alloc)?))?;
-    effects.push(Effect::CancelTask(TaskName::Own(0)))?;
-    effects.push(Effect::Open)?;
-    effects.push(Effect::CancelGroup(1))?;
-    let child = invocation(alloc, 2, &[7])?;
-    effects.push(Effect::Add(1, true, child, None, bound(alloc)?))?;
+    add_all_kinds(alloc, &mut effects)?;
     Ok(effects)
 }
 
@@ -209,7 +230,7 @@ fn crowd(alloc: Global) -> Result<Vec<Effect>, AllocError> {
 }
 
 // A turn without effects.
-fn plain(rt: &HostRuntime, book: &mut Book, jobs: &mut Vec<Job<Body>>, task: u32, exit: &Exit) {
+fn plain(rt: &HostRuntime, book: &mut Book, jobs: &mut Vec<Job<Body>>, task: u32, exit: Exit) {
     turn_again(rt, book, jobs, task, Vec::new(rt.alloc()), exit);
 }
 
@@ -219,22 +240,22 @@ fn play(rt: &HostRuntime, book: &mut Book, jobs: &mut Vec<Job<Body>>) -> Option<
     add_root(rt, book, jobs, 0);
     add_root(rt, book, jobs, 1);
     let effects = again(rt, "effects", || all_kinds(alloc))?;
-    turn_again(rt, book, jobs, 0, effects, &Exit::Wait(TaskName::Own(1)));
+    turn_again(rt, book, jobs, 0, effects, Exit::Wait(TaskName::Own(1)));
     let called = again(rt, "call", || invocation(alloc, 2, &[8]))?;
-    plain(rt, book, jobs, 1, &Exit::Call(called));
+    plain(rt, book, jobs, 1, Exit::Call(called));
     cancel(rt, book, jobs, 0);
-    plain(rt, book, jobs, 1, &Exit::Wait(TaskName::Root(RootId(0))));
-    plain(rt, book, jobs, 3, &Exit::Return(5));
-    plain(rt, book, jobs, 0, &Exit::Next(0));
-    plain(rt, book, jobs, 4, &Exit::Fault(Fault::Thrown(6)));
+    plain(rt, book, jobs, 1, Exit::Wait(TaskName::Root(RootId(0))));
+    plain(rt, book, jobs, 3, Exit::Return(5));
+    plain(rt, book, jobs, 0, Exit::Next(0));
+    plain(rt, book, jobs, 4, Exit::Fault(Fault::Thrown(6)));
     let effects = again(rt, "effects", || crowd(alloc))?;
-    turn_again(rt, book, jobs, 0, effects, &Exit::Close(0, None));
-    plain(rt, book, jobs, 0, &Exit::Close(1, Some(Fault::Empty)));
+    turn_again(rt, book, jobs, 0, effects, Exit::Close(0, None));
+    plain(rt, book, jobs, 0, Exit::Close(1, Some(Fault::Empty)));
     let effects = again(rt, "effects", || crowd(alloc))?;
-    turn_again(rt, book, jobs, 0, effects, &Exit::Yield);
-    plain(rt, book, jobs, 0, &Exit::Return(7));
-    plain(rt, book, jobs, 1, &Exit::Return(8));
-    plain(rt, book, jobs, 2, &Exit::Wait(TaskName::Root(RootId(1))));
+    turn_again(rt, book, jobs, 0, effects, Exit::Yield);
+    plain(rt, book, jobs, 0, Exit::Return(7));
+    plain(rt, book, jobs, 1, Exit::Return(8));
+    plain(rt, book, jobs, 2, Exit::Wait(TaskName::Root(RootId(1))));
     Some(())
 }
 
