@@ -4,8 +4,9 @@
     tools/build.py NAME [WORD..]
 
 It leaves crates/NAME/out/NAME. Where each crate has work of an earlier proof (out/incremental), they are proved over that, one
-after the other, and the program is run once with these words. Else `rt ci` proves them from nothing, each on one core, at most four at once, in a
-copy of what they need. What the prover writes goes to out/prove/. Status 0 where every crate is proved and the program is built.
+after the other, and the program is run once with these words. Else `rt ci` proves them from nothing, each on one core, at most
+four at once, in a copy of what they need. What the prover writes goes to out/prove/. Status 0 where every crate is proved and the
+program is built.
 """
 import os
 import re
