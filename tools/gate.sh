@@ -10,7 +10,7 @@ programs, the examples, and one program once for each allocation that it makes, 
 cores, more on fewer, and prints little until its end.
 TXT
 log=$(mktemp)
-# One core for each check, and four checks at once at most: on several cores a check takes up to half as much processor time again.
+# One core for each check, and four checks at once at most: on several cores a check takes more processor time (docs/DECISIONS.md).
 cores=$(nproc)
 export RT_JOBS=${RT_JOBS:-$((cores < 4 ? cores : 4))}
 rt ci | tee "$log"
