@@ -1,6 +1,7 @@
 SCRIPT = examples/account.actors
 PROGRAM = crates/swiftrun/out/swiftrun
 CASES = crates/test_scripts/out/test_scripts
+PARTS = crates/test_parts/out/test_parts
 SOURCES = $(shell find crates -name out -prune -o \( -name '*.rt' -o -name '*.antt' \) -print)
 
 # Runs a script without a proof: make try SCRIPT=examples/account.actors ARGS="--workers 4". Status 0 also where a task ended with a
@@ -16,6 +17,7 @@ crates/$(1)/out/$(1): crates.txt $$(SOURCES)
 	@tools/build.py $(1) $(2) && touch $$@
 endef
 $(eval $(call program,swiftrun))
+$(eval $(call program,test_parts))
 $(eval $(call program,test_scripts))
 
 # Runs a script with the proved program. Status 0 also where a task ended with a fault.
@@ -42,8 +44,8 @@ examples: $(PROGRAM)
 		echo "$$script prints what it has to"; \
 	done
 
-# Makes each call that takes memory, once for each of its allocations, with that one refused.
-refusals: $(CASES)
+# Runs cases of the test programs once for each of their allocations, with that one refused.
+refusals: $(PARTS) $(CASES)
 	@tools/refusals.py
 
 # Whether what the documents link to is there.
@@ -51,7 +53,7 @@ links:
 	@tools/links.py
 
 # Measures, and asserts nothing: builds both programs, and prints tables.
-bench: $(PROGRAM) $(CASES)
+bench: $(PROGRAM) $(PARTS)
 	@python3 bench/run.py
 
 .PHONY: try run test prove mutants examples refusals links bench

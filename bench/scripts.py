@@ -1,4 +1,4 @@
-"""Writes the scripts that are measured to bench/out/."""
+"""Writes the scripts and the calls that are measured to bench/out/."""
 
 import os
 
@@ -357,6 +357,40 @@ REFUSED = {
 }
 
 
+# How many entries a part has, and how many calls are made of it.
+FEW, MANY = 16, 1024
+CALLS = 300_000
+
+
+def ranges(count, *calls):
+    """Calls for each number from 1 on."""
+    return "".join(f"1 to {count}: {call}\n" for call in calls)
+
+
+def of_book(count):
+    """Roots that begin, give way twenty times, and end."""
+    script = "actor A { func f() { } }\n" + "".join(f"root {short(k)} = A.f();\n" for k in range(count))
+    turns = [f"0 to {count - 1}: quiet turn #; yield\n"] * 20
+    return f"{script}--\n0 to {count - 1}: quiet root #\n" + "".join(turns) + f"0 to {count - 1}: quiet turn #; return 1\n"
+
+
+# Of each part, the lines of a case of crates/test_parts with so many entries, and how many calls it makes for each.
+PARTS = {
+    "queue": (lambda n: f"{n}\n" + ranges(n, "put # low", "put_back low", "take"), 3),
+    "locals": (lambda n: ranges(n, "bind 3 #", "read 3", "unbind"), 3),
+    "groups": (lambda n: "open 0\n" + ranges(n, "add 0 #", "finished 0 # 1", "next 0"), 3),
+    # A line of waits, which is raised at its end.
+    "waits": (lambda n: "add_root 0 low\n" + ranges(n, "add_root # low", "wait @ #") + f"add_root {n + 1} high\nwait {n + 1} 0\n" + ranges(n, "priority #"), 3),
+    "book": (of_book, 22),
+}
+
+
+def calls_of(part, entries):
+    """Cases that make so many calls of a part with so many entries."""
+    text, calls = PARTS[part]
+    return "Cases.\n" + f"== {part} case\n{text(entries)}" * (CALLS // (calls * entries))
+
+
 def path(name):
     return os.path.join(FOLDER, name + ".actors")
 
@@ -367,6 +401,7 @@ def write():
     texts |= {"read " + name: text for name, text in READ.items()}
     texts |= {"refuse " + name: text for name, text in REFUSED.items()}
     texts |= CREWS | GROWTH | SPLIT
+    texts |= {f"{part} {entries}": calls_of(part, entries) for part in PARTS for entries in (FEW, MANY)}
     for name, text in texts.items():
         with open(path(name), "w", encoding="ascii", newline="\n") as file:
             file.write(text)

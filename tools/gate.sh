@@ -6,8 +6,8 @@ edits=$(ls crates/*/must-fail/*.edit | wc -l)
 crates=$(ls -d crates/*/src | wc -l)
 cat <<TXT
 This proves $crates crates from nothing, tries $edits planted bugs that the prover has to refuse, runs all tests and
-programs, the examples, and one program once for each allocation that it makes, with that one refused. It takes an hour on four
-cores, more on fewer, and prints little until its end.
+programs, the examples, and cases of the test programs once for each allocation that these make, with that one refused. It takes an
+hour on four cores, more on fewer, and prints little until its end.
 TXT
 log=$(mktemp)
 # One core for each check, and four checks at once at most: on several cores a check takes more processor time (docs/DECISIONS.md).

@@ -1,11 +1,12 @@
 #!/usr/bin/env python3
-"""Runs `test_scripts refusals` once for each of its allocations, with that one refused, and compares what it writes.
+"""Runs test programs once for each of their allocations, with that one refused, and compares what they write.
 
-    tools/refusals.py
+    tools/refusals.py [NAME..]       (test_parts and test_scripts)
 
-It is the program that rt has built (crates/test_scripts/out/test_scripts). Each run has to end with status 0 and to write the file
-crates/test_scripts/refusals. The n-th run refuses the n-th allocation (tools/refuse.c, built by $CC or cc), and the first run in which
-none is refused is the last. The program as Rattle's own compiler builds it, which rt ci leaves beside, is run once with none refused.
+A program is the one that rt has built (crates/NAME/out/NAME). It is given the cases whose first lines the file crates/NAME/refused has,
+and has to write what the file stdout has for them, with status 0: it makes each call again that was refused memory. The n-th run refuses the
+n-th allocation (tools/refuse.c, built by $CC or cc), and the first run in which none is refused is the last. Where an allocation is
+refused before the first case is read, the program has to stop with another status and nothing written.
 Status 0 where no run differs.
 """
 import concurrent.futures
@@ -15,75 +16,91 @@ import sys
 import tempfile
 
 TOP = os.path.dirname(os.path.dirname(os.path.abspath(__file__)))
-FOLDER = os.path.join(TOP, "crates", "test_scripts")
-COMMAND = [os.path.join(FOLDER, "out", "test_scripts"), "refusals"]
-# The same program by the other compiler, where rt ci has built it.
-OTHER = COMMAND[0] + ".by-rattle"
+NAMES = ["test_parts", "test_scripts"]
 SECONDS = 60
 # How many runs are asked for at once.
 RUNS = 256
 
 
-def run(library, number, wanted):
-    """Whether an allocation was refused, and what differs from a run without, if anything does."""
-    told, tell = os.pipe()
-    words = dict(os.environ, LD_PRELOAD=library, REFUSE=str(number), REFUSE_TELL=str(tell))
-    with os.fdopen(told, "rb") as told:
-        try:
-            done = subprocess.run(
-                COMMAND, env=words, stdin=subprocess.DEVNULL, stdout=subprocess.PIPE, stderr=subprocess.DEVNULL, pass_fds=[tell], timeout=SECONDS, check=False
-            )
-        except subprocess.TimeoutExpired:
-            return True, f"it runs for more than {SECONDS} seconds"
-        finally:
-            os.close(tell)
-        is_refused = told.read() != b""
-    if done.returncode:
-        return is_refused, f"status {done.returncode}"
-    return is_refused, None if done.stdout == wanted else "another text"
+def cases_of(path):
+    """The cases of a file, in order. What stands before the first is left out."""
+    with open(path, encoding="utf8") as file:
+        return ("\n" + file.read().removesuffix("\n")).split("\n== ")[1:]
 
 
-def refuse_each(library, wanted, workers):
-    """Refuses each allocation in turn. How many were refused, and what was wrong with which."""
-    wrong = []
-    first = 1
-    while True:
-        numbers = range(first, first + RUNS)
-        for number, (is_refused, fault) in zip(numbers, workers.map(lambda n: run(library, n, wanted), numbers)):
-            if fault:
-                wrong.append(f"allocation {number} refused: {fault}")
-            if not is_refused:
-                return number - 1, wrong
-        first = numbers.stop
+class Program:
+    """A test program, the cases that it is given, and what it has to write."""
+
+    def __init__(self, name, library):
+        folder = os.path.join(TOP, "crates", name)
+        self.words = [os.path.join(folder, "out", name)]
+        self.library = library
+        with open(os.path.join(folder, "refused"), encoding="utf8") as file:
+            titles = [line for line in file.read().split("\n") if line]
+        asked, wanted = cases_of(os.path.join(folder, "stdin")), cases_of(os.path.join(folder, "stdout"))
+        known = {case.partition("\n")[0]: (case, answer) for case, answer in zip(asked, wanted, strict=True)}
+        unknown = [title for title in titles if title not in known]
+        if unknown:
+            sys.exit(f"{name} has no case {unknown[0]}")
+        self.given = ("Cases.\n== " + "\n== ".join(known[title][0] for title in titles) + "\n").encode()
+        self.wanted = ("== " + "\n== ".join(known[title][1] for title in titles) + "\n").encode()
+
+    def run(self, number):
+        """Whether an allocation was refused, and what differs from a run without, if anything does."""
+        told, tell = os.pipe()
+        words = dict(os.environ, LD_PRELOAD=self.library, REFUSE=str(number), REFUSE_TELL=str(tell))
+        with os.fdopen(told, "rb") as told:
+            try:
+                done = subprocess.run(
+                    self.words, env=words, input=self.given, stdout=subprocess.PIPE, stderr=subprocess.DEVNULL, pass_fds=[tell], timeout=SECONDS, check=False
+                )
+            except subprocess.TimeoutExpired:
+                return True, f"it runs for more than {SECONDS} seconds"
+            finally:
+                os.close(tell)
+            is_refused = told.read() != b""
+        if done.returncode:
+            # Its input was not read.
+            is_unread = is_refused and done.returncode == 1 and done.stdout == b""
+            return is_refused, UNREAD if is_unread else f"status {done.returncode}"
+        return is_refused, None if done.stdout == self.wanted else "another text"
+
+    def refuse_each(self, workers):
+        """Refuses each allocation in turn. How many were refused, how many of these before a case was read, and what was wrong."""
+        wrong, unread = [], 0
+        first = 1
+        while True:
+            numbers = range(first, first + RUNS)
+            for number, (is_refused, fault) in zip(numbers, workers.map(self.run, numbers)):
+                # No case is read until each of these is granted.
+                if fault == UNREAD and unread == number - 1:
+                    unread = number
+                elif fault:
+                    wrong.append(f"allocation {number} refused: {fault}")
+                if not is_refused:
+                    return number - 1, unread, wrong
+            first = numbers.stop
 
 
-def other_fault(wanted):
-    """What is wrong with the other compiler's build, if anything is."""
-    done = subprocess.run([OTHER, "refusals"], stdin=subprocess.DEVNULL, stdout=subprocess.PIPE, stderr=subprocess.DEVNULL, timeout=SECONDS, check=False)
-    if done.returncode:
-        return f"status {done.returncode}"
-    return None if done.stdout == wanted else "another text"
+UNREAD = "nothing was written"
 
 
 def main():
-    if len(sys.argv) > 1:
+    names = sys.argv[1:] or NAMES
+    if any(name not in NAMES for name in names):
         sys.exit(__doc__)
-    with open(os.path.join(FOLDER, "refusals"), "rb") as file:
-        wanted = file.read()
+    is_well = True
     with tempfile.TemporaryDirectory() as folder:
         library = os.path.join(folder, "refuse.so")
         source = os.path.join(TOP, "tools", "refuse.c")
         subprocess.run([os.environ.get("CC", "cc"), "-O2", "-Wall", "-Wextra", "-shared", "-fPIC", "-o", library, source], check=True)
         with concurrent.futures.ThreadPoolExecutor(os.cpu_count()) as workers:
-            refused, wrong = refuse_each(library, wanted, workers)
-    print("\n".join(wrong[:20] + [f"{refused} allocations refused in turn, {len(wrong)} runs differ"]))
-    fault = None
-    if os.path.exists(OTHER):
-        fault = other_fault(wanted)
-        print(f"as Rattle's own compiler builds it: {fault or 'the same text'}")
-    else:
-        print("as Rattle's own compiler builds it: not run, since only rt ci builds that")
-    if not refused or wrong or fault:
+            for name in names:
+                refused, unread, wrong = Program(name, library).refuse_each(workers)
+                print("\n".join(wrong[:20]), end="\n" if wrong else "")
+                print(f"{name}: {refused} allocations refused in turn, {unread} of them before a case was read; {len(wrong)} runs differ")
+                is_well = is_well and refused > unread and not wrong
+    if not is_well:
         sys.exit(1)
 
 

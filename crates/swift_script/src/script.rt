@@ -21,14 +21,16 @@ use script_compiler::{
 };
 use std::alloc::{AllocError, Global};
 use std::marker::Model;
+use std::snapshot::Snapshot;
 use swift_types::limits::{ACTORS, EXECUTORS, TASKS};
 use swift_types::{ActorId, ExecId, LocalId, MethodId, RootId};
 
 /// A script that `read` accepted: no rule on its names, counts, invariants and roots is broken, and it is compiled.
 ///
-/// All that a turn needs of it is found in constant time. Contracts see its tree.
+/// All that a turn needs of it is found in constant time. Contracts see its tree, of which its printed form is kept and what it was
+/// compiled to.
 pub struct Script {
-    declarations: Declarations,
+    tree: Snapshot<Declarations>,
     printed: Vec<u8>,
     compiled: Compiled,
 }
@@ -37,11 +39,10 @@ pub struct Script {
 impl Drop for Script {
     fn drop(self) {
         let Script {
-            declarations,
+            tree: _,
             printed,
             compiled,
         } = self;
-        drop(declarations);
         drop(printed);
         drop(compiled);
     }
@@ -58,19 +59,19 @@ impl Model for Script {
 
     ghost use Rattle.swift_script.specs.ScriptInvariant.{ScriptInvariant, tree_of};
 
-    ghost view = { λ s. tree_of s.declarations };
+    ghost view = { λ s. tree_of s.tree.value };
 
-    ghost invariant = { λ s. ScriptInvariant (tree_of s.declarations) s.printed.items s.compiled };
+    ghost invariant = { λ s. ScriptInvariant (tree_of s.tree.value) s.printed.items s.compiled };
 }
 
 impl Script {
     /// The script of these declarations, which are printed and compiled so.
-    pub(crate) fn of(declarations: Declarations, printed: Vec<u8>, compiled: Compiled) -> Script
-        requires { ScriptInvariant (tree_of declarations) printed.items compiled }
-        ensures { result ≡ tree_of declarations }
+    pub(crate) fn of(declarations: &Declarations, printed: Vec<u8>, compiled: Compiled) -> Script
+        requires { ScriptInvariant (tree_of declarations.now) printed.items compiled }
+        ensures { result ≡ tree_of declarations.now }
     {
         Script {
-            declarations,
+            tree: Snapshot::of(declarations),
             printed,
             compiled,
         }

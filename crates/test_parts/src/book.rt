@@ -16,7 +16,7 @@ use swift_tasks::{Book, BookFault};
 use swift_turn::Body;
 use swift_types::{Priority, RootId, TaskId};
 
-/// A book, and the jobs that it gave and that were not applied.
+/// A book, and the jobs that it gave and that were not applied. A call that is refused memory is made again.
 pub struct Tasks {
     alloc: Global,
     scripts: Scripts,
@@ -64,37 +64,61 @@ impl Tasks {
 
     // Makes a call, and writes what it answered.
     fn answer(&mut self, call: &str, out: &mut String) -> Result<(), CaseFault> {
-        let mut parts: Vec<&str> = call.split("; ").collect(self.alloc)?;
-        let last = parts.pop().unwrap_or("");
-        let Some((head, effects)) = parts.split_first() else {
-            let words: Vec<&str> = last.split(' ').collect(self.alloc)?;
-            return self.plain(&words, out);
+        let (front, last) = match call.rsplit_once("; ") {
+            Some((front, last)) => (front, Some(last)),
+            None => (call, None),
         };
-        let head: Vec<&str> = head.split(' ').collect(self.alloc)?;
+        let (head, effects) = front.split_once("; ").unwrap_or((front, ""));
+        let words: Vec<&str> = head.split(' ').collect(self.alloc)?;
+        match last {
+            Some(last) => self.with_done(&words, effects, last, out),
+            None => self.plain(&words, out),
+        }
+    }
+
+    // A call of what a turn has done.
+    fn with_done(
+        &mut self,
+        words: &[&str],
+        effects: &str,
+        last: &str,
+        out: &mut String,
+    ) -> Result<(), CaseFault> {
+        let Some((call, job)) = words.split_first() else {
+            return Err(CaseFault::Form);
+        };
         let done = self.done(effects, last)?;
-        match *head {
-            ["apply", ref job @ ..] => self.apply(job, done, out),
-            ["turn", ref job @ ..] => self.turn(job, done, out),
+        match *call {
+            "apply" => self.apply(job, done, out),
+            "turn" => self.turn(job, done, out),
             _ => Err(CaseFault::Form),
         }
     }
 
     // A call other than of what a turn has done.
     fn plain(&mut self, words: &[&str], out: &mut String) -> Result<(), CaseFault> {
-        match *words {
-            ["begin", ref job @ ..] => {
-                self.begin(job, out)?;
-                Ok(())
-            }
-            ["priorities", ref named @ ..] => self.priorities(named, out),
-            ["open_tasks"] => {
-                let open = self.book.open_tasks();
-                Ok(write!(out, "{open}")?)
-            }
-            ["levels"] => told_levels(out, self.book.levels()),
-            [call, named] => self.named(call, named, out),
-            _ => Err(CaseFault::Form),
+        let Some((call, rest)) = words.split_first() else {
+            return Err(CaseFault::Form);
+        };
+        match *call {
+            "begin" => self.begin(rest, out).map(|_| ()),
+            "priorities" => self.priorities(rest, out),
+            "levels" => told_levels(out, self.book.levels()),
+            _ => match *rest {
+                [] => self.told(call, out),
+                [named] => self.named(call, named, out),
+                _ => Err(CaseFault::Form),
+            },
         }
+    }
+
+    // A call without more words.
+    fn told(&self, call: &str, out: &mut String) -> Result<(), CaseFault> {
+        if call != "open_tasks" {
+            return Err(CaseFault::Form);
+        }
+        let open = self.book.open_tasks();
+        Ok(write!(out, "{open}")?)
     }
 
     // A call of a root or a task.
@@ -109,28 +133,51 @@ impl Tasks {
     }
 
     fn cancel(&mut self, named: TaskId, out: &mut String) -> Result<(), CaseFault> {
-        match self.book.cancel(named) {
+        let cancelled = match self.book.cancel(named) {
+            Err(BookFault::Memory) => self.book.cancel(named),
+            cancelled => cancelled,
+        };
+        match cancelled {
             Ok(()) => Ok(out.push_str("ok")?),
             Err(fault) => refused(out, fault),
         }
     }
 
-    fn done(&self, effects: &[&str], last: &str) -> Result<Done, CaseFault> {
-        let script = &self.scripts.own;
+    fn done(&self, effects: &str, last: &str) -> Result<Done, CaseFault> {
         let mut found = Vec::new(self.alloc);
-        for text in effects {
-            let words: Vec<&str> = text.split(' ').collect(self.alloc)?;
-            found.push(effect(self.alloc, script, &words)?)?;
+        if !effects.is_empty() {
+            self.add_effects(effects, &mut found)?;
         }
-        let words: Vec<&str> = last.split(' ').collect(self.alloc)?;
+        let exit = self.exit_of(last)?;
         Ok(Done {
             effects: found,
-            exit: exit(self.alloc, script, &words)?,
+            exit,
         })
     }
 
+    fn add_effects(&self, effects: &str, found: &mut Vec<Effect>) -> Result<(), CaseFault> {
+        for text in effects.split("; ") {
+            found.push(self.effect_of(text)?)?;
+        }
+        Ok(())
+    }
+
+    fn effect_of(&self, text: &str) -> Result<Effect, CaseFault> {
+        let words: Vec<&str> = text.split(' ').collect(self.alloc)?;
+        effect(self.alloc, &self.scripts.own, &words)
+    }
+
+    fn exit_of(&self, text: &str) -> Result<Exit, CaseFault> {
+        let words: Vec<&str> = text.split(' ').collect(self.alloc)?;
+        exit(self.alloc, &self.scripts.own, &words)
+    }
+
     fn add_root(&mut self, root: RootId, out: &mut String) -> Result<(), CaseFault> {
-        match self.book.add_root(root) {
+        let added = match self.book.add_root(root) {
+            Err(BookFault::Memory) => self.book.add_root(root),
+            added => added,
+        };
+        match added {
             Ok(job) => {
                 keep(&mut self.given, job)?;
                 Ok(out.push_str("ok")?)
@@ -147,11 +194,11 @@ impl Tasks {
                     out.push_str("no job")?;
                     return Ok(false);
                 };
-                self.book.begin(&self.jobs[place])
+                begun_again(&mut self.book, &self.jobs[place])
             }
             _ => {
                 let job = made(&self.scripts, words)?;
-                let begun = self.book.begin(&job);
+                let begun = begun_again(&mut self.book, &job);
                 spend(job);
                 begun
             }
@@ -206,7 +253,13 @@ impl Tasks {
             return Err(CaseFault::Form);
         }
         let Done { effects, exit } = done;
-        match self.book.apply(job, &exit, effects, &mut self.given) {
+        let applied = match self.book.apply(job, &exit, effects, &mut self.given) {
+            Err((job, effects, BookFault::Memory)) => {
+                self.book.apply(job, &exit, effects, &mut self.given)
+            }
+            applied => applied,
+        };
+        match applied {
             Ok(()) => {
                 out.push_str("ok")?;
                 Ok(None)
@@ -249,6 +302,14 @@ impl Tasks {
         spend_all(jobs);
         spend_all(given);
         told
+    }
+}
+
+// Begins the turn of a job, again where that is refused memory.
+fn begun_again(book: &mut Book, job: &Job<Body>) -> Result<Env, BookFault> {
+    match book.begin(job) {
+        Err(BookFault::Memory) => book.begin(job),
+        begun => begun,
     }
 }
 

@@ -30,10 +30,31 @@ pub fn play<P: Part>(
     Ok(())
 }
 
-// Makes one call.
+/// Whether an answer says that a growth was refused.
+pub fn is_refused(answer: &str) -> bool {
+    answer.ends_with("no memory")
+}
+
+// Makes one call, and makes it again where it is refused memory.
 fn called<P: Part>(alloc: Global, part: &mut P, call: &str) -> Result<String, CaseFault> {
     let words: Vec<&str> = call.split(' ').collect(alloc)?;
-    part.answer(alloc, &words)
+    let answer = part.answer(alloc, &words)?;
+    if is_refused(&answer) {
+        return part.answer(alloc, &words);
+    }
+    Ok(answer)
+}
+
+// Makes a call with this number in place of each `#`, and the number below it in place of each `@`.
+fn called_with<P: Part>(
+    alloc: Global,
+    part: &mut P,
+    call: &str,
+    count: u32,
+) -> Result<String, CaseFault> {
+    let call = numbered(alloc, call, '#', count)?;
+    let call = numbered(alloc, call.as_str(), '@', count.saturating_sub(1))?;
+    called(alloc, part, call.as_str())
 }
 
 /// The call with a number in place of each of these marks.
@@ -81,9 +102,7 @@ fn play_range<P: Part>(
         } else {
             first.saturating_sub(place)
         };
-        let call = numbered(alloc, call, '#', count)?;
-        let call = numbered(alloc, call.as_str(), '@', count.saturating_sub(1))?;
-        let answer = called(alloc, part, call.as_str())?;
+        let answer = called_with(alloc, part, call, count)?;
         if answer.as_str() != before.as_str() {
             writeln!(out, "{answer}")?;
         }

@@ -52,6 +52,14 @@ fn ok(alloc: Global) -> Result<String, CaseFault> {
     Ok(String::from_str(alloc, "ok")?)
 }
 
+// What a call answers that takes memory.
+fn grown(alloc: Global, done: Result<(), AllocError>) -> Result<String, CaseFault> {
+    match done {
+        Ok(()) => ok(alloc),
+        Err(AllocError) => Ok(String::from_str(alloc, "no memory")?),
+    }
+}
+
 fn depth(alloc: Global, bindings: &Bindings) -> Result<String, CaseFault> {
     let depth = bindings.depth();
     Ok(format!(in alloc; "{depth}")?)
@@ -62,11 +70,16 @@ fn read(alloc: Global, bindings: &Bindings, local: &str) -> Result<String, CaseF
 }
 
 impl LocalsPart {
+    fn copy_all(&mut self) -> Result<(), AllocError> {
+        self.copy = self.bindings.copy()?;
+        Ok(())
+    }
+
     // A call of one word.
     fn plain(&mut self, alloc: Global, call: &str) -> Result<String, CaseFault> {
         match call {
             "unbind" => unbind(&mut self.bindings)?,
-            "copy" => self.copy = self.bindings.copy()?,
+            "copy" => return grown(alloc, self.copy_all()),
             "depth" => return depth(alloc, &self.bindings),
             "depth_of_copy" => return depth(alloc, &self.copy),
             _ => return Err(CaseFault::Form),
@@ -92,8 +105,8 @@ impl Part for LocalsPart {
             [call] => self.plain(alloc, call),
             [call, word] => self.given(alloc, call, word),
             ["bind", local, bound] => {
-                self.bindings.bind(LocalId(number(local)?), value(bound)?)?;
-                ok(alloc)
+                let (local, bound) = (LocalId(number(local)?), value(bound)?);
+                grown(alloc, self.bindings.bind(local, bound))
             }
             _ => Err(CaseFault::Form),
         }

@@ -106,7 +106,12 @@ pub fn play_queue(alloc: Global, case: &str, out: &mut Vec<u8>) -> Result<(), Ca
         return Err(CaseFault::Form);
     };
     let room = size(room)?;
-    let Ok(mut queue) = Queue::with_room(alloc, room) else {
+    // Made again where it is refused memory.
+    let made = match Queue::with_room(alloc, room) {
+        Err(AllocError) => Queue::with_room(alloc, room),
+        made => made,
+    };
+    let Ok(mut queue) = made else {
         writeln!(out, "out of memory")?;
         return Ok(());
     };

@@ -46,15 +46,26 @@ fn first_by_words(alloc: Global, words: &[&str]) -> Result<Option<usize>, CaseFa
     let mut waits = Vec::new(alloc);
     let mut roots = Vec::new(alloc);
     for word in words {
-        if let Some((from, to)) = pair(word, '>')? {
-            edges.push(Edge { from, to })?;
-        } else if let Some((method, root)) = pair(word, '@')? {
-            waits.push(Wait { method, root })?;
-        } else {
-            roots.push(number(word)?)?;
-        }
+        take(word, &mut edges, &mut waits, &mut roots)?;
     }
     first_of(alloc, &edges, &waits, &roots)
+}
+
+// Takes a word: an edge, a wait, or the method of a root.
+fn take(
+    word: &str,
+    edges: &mut Vec<Edge>,
+    waits: &mut Vec<Wait>,
+    roots: &mut Vec<u32>,
+) -> Result<(), CaseFault> {
+    if let Some((from, to)) = pair(word, '>')? {
+        edges.push(Edge { from, to })?;
+    } else if let Some((method, root)) = pair(word, '@')? {
+        waits.push(Wait { method, root })?;
+    } else {
+        roots.push(number(word)?)?;
+    }
+    Ok(())
 }
 
 impl Part for RootsPart {

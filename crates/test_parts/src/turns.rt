@@ -55,18 +55,29 @@ fn answer<R: RandomSource + AllocGlobal>(
     line: &str,
     out: &mut Vec<u8>,
 ) -> Result<(), CaseFault> {
-    let alloc = rt.alloc();
-    let words: Vec<&str> = line.split_whitespace().collect(alloc)?;
-    let mut text = String::new(alloc);
-    match *words {
-        ["start", name, ref opening @ ..] => {
-            *task = start(alloc, script, name, opening, &mut text)?;
-        }
-        _ => match task {
-            Some(task) => call(rt, script, task, &words, &mut text)?,
-            None => text.push_str("not possible")?,
-        },
-    }
+    let mut text = String::new(rt.alloc());
+    made(rt, script, task, line, &mut text)?;
     writeln!(out, "{text}")?;
     Ok(())
+}
+
+// Makes one call, and writes what it answered.
+fn made<R: RandomSource + AllocGlobal>(
+    rt: &R,
+    script: &Arc<Script>,
+    task: &mut Option<Task>,
+    line: &str,
+    text: &mut String,
+) -> Result<(), CaseFault> {
+    let words: Vec<&str> = line.split_whitespace().collect(rt.alloc())?;
+    match *words {
+        ["start", name, ref opening @ ..] => {
+            *task = start(rt.alloc(), script, name, opening, text)?;
+            Ok(())
+        }
+        _ => match task {
+            Some(task) => call(rt, script, task, &words, text),
+            None => Ok(text.push_str("not possible")?),
+        },
+    }
 }

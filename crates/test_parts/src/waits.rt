@@ -27,6 +27,15 @@ fn done(alloc: Global, answer: Result<(), WaitsFault>) -> Result<String, AllocEr
     }
 }
 
+// A call of one word more.
+fn asked(alloc: Global, waits: &mut Waits, call: &str, word: &str) -> Result<String, CaseFault> {
+    match call {
+        "priority" => Ok(shown(alloc, waits.priority(task(word)?))?),
+        "reserve" => Ok(done(alloc, waits.reserve(size(word)?))?),
+        _ => Err(CaseFault::Form),
+    }
+}
+
 // A call of a task and a word more.
 fn given(
     waits: &mut Waits,
@@ -44,15 +53,14 @@ fn given(
 
 impl Part for Waits {
     fn answer(&mut self, alloc: Global, words: &[&str]) -> Result<String, CaseFault> {
-        let answer = match *words {
-            ["priority", asked] => return Ok(shown(alloc, self.priority(task(asked)?))?),
-            ["reserve", calls] => self.reserve(size(calls)?),
-            [call, named, word] => given(self, call, task(named)?, word)?,
+        match *words {
+            [call, word] => asked(alloc, self, call, word),
+            [call, named, word] => Ok(done(alloc, given(self, call, task(named)?, word)?)?),
             ["add_child", added, parent, own] => {
-                self.add_child(task(added)?, task(parent)?, priority_of(own)?)
+                let added = self.add_child(task(added)?, task(parent)?, priority_of(own)?);
+                Ok(done(alloc, added)?)
             }
-            _ => return Err(CaseFault::Form),
-        };
-        Ok(done(alloc, answer)?)
+            _ => Err(CaseFault::Form),
+        }
     }
 }

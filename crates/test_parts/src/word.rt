@@ -26,8 +26,12 @@ fn opened(alloc: Global, state: Number) -> Result<(Word<Number>, Seat<Number>), 
     ensures { IfOk result (λ r. r.1 ≡ first_seat r.0) }
 {
     match Word::open(alloc, state) {
+        // The state comes back, and opens one then.
+        Err((state, AllocError)) => match Word::open(alloc, state) {
+            Ok(opened) => Ok(opened),
+            Err((_, refused)) => Err(refused),
+        },
         Ok(opened) => Ok(opened),
-        Err((_, refused)) => Err(refused),
     }
 }
 

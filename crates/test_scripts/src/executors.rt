@@ -24,11 +24,17 @@ use std::random::RandomSource;
 use std::sync::Wait;
 use std::thread::Threads;
 
+/// What is said of a case that was not played to its end.
+pub const UNPLAYED: &str = "wrong: not played to its end";
+
+// For how many bytes that a case says there is room.
+const ROOM: usize = 8192;
+
 // Writes what a case has said, and a line more where it was not played to its end.
 fn append(played: Option<()>, said: &str, out: &mut Vec<u8>) -> Result<(), CaseFault> {
     out.extend_from_slice(said.as_bytes())?;
     if played.is_none() {
-        writeln!(out, "wrong: not played to its end")?;
+        writeln!(out, "{UNPLAYED}")?;
     }
     Ok(())
 }
@@ -38,7 +44,7 @@ pub fn calls<R>(rt: &R, text: &str, out: &mut Vec<u8>) -> Result<(), CaseFault>
 where
     R: Wait + RandomSource + AllocGlobal,
 {
-    let mut said = String::new(rt.alloc());
+    let mut said = String::with_capacity(rt.alloc(), ROOM)?;
     let played = case::play(rt, text, &mut said);
     append(played, &said, out)
 }

@@ -1,7 +1,5 @@
-//! Jobs that are kept, and jobs that are given up.
+//! Jobs that are given up.
 
-use crate::fault::CaseFault;
-use std::alloc::AllocFailed;
 use swift_queue::Job;
 use swift_turn::Body;
 
@@ -16,15 +14,4 @@ pub fn spend_all(mut jobs: Vec<Job<Body>>) {
         spend(job);
     }
     jobs.destroy_empty();
-}
-
-/// Adds a job. Where there is no memory for its place, it is given up.
-pub fn keep(jobs: &mut Vec<Job<Body>>, job: Job<Body>) -> Result<(), CaseFault> {
-    match jobs.push(job) {
-        Ok(()) => Ok(()),
-        Err(AllocFailed { value }) => {
-            spend(value);
-            Err(CaseFault::Memory)
-        }
-    }
 }

@@ -1,5 +1,5 @@
 //! Reads and runs the scripts of its standard input, makes calls on their executors, and writes what is said of each. What it
-//! has to write stands in the file stdout. With words it makes calls that are refused memory, or measures.
+//! has to write stands in the file stdout.
 //!
 //! A case begins with a line `== KIND TITLE`, and its text goes on to the next such line, or to the end. The LF before
 //! that line, and the last one of the input, belong to no text. What stands before the first case is a comment. In a
@@ -85,12 +85,9 @@
 //!
 //! A line that begins with `wrong: ` is in no right output.
 //!
-//! The word `refusals` makes no case: it makes each call that takes memory, and makes it again where it is refused, as the head of
-//! src/refusals.rt says.
-//!
-//! Two words name a part of the runtime and how many entries are inside, as `queue 1024`: a million operations on it are measured.
-//! The parts are `queue`, `queue_takes`, `word`, `locals`, `groups`, `escalation` and `book`. One word names a stage, `read`, `run` or
-//! `text`: the script of the standard input is taken as far, and `run 4` is a run on four workers.
+//! A call on executors that is refused memory is made again, on what it was made on; where something else of a case is refused memory,
+//! the case is made again. So the program writes one text, whether one of its growths is refused or none: tools/refusals.py refuses each
+//! in turn.
 #![tactic(auto)]
 
 // Changes of reports.
@@ -109,12 +106,10 @@ mod fault;
 mod faults;
 // Runs whose threads give way.
 mod gated;
-// Jobs that are kept, and jobs that are given up.
+// Jobs that are given up.
 mod jobs;
 // Changes of journals and of checkpoints.
 mod journals;
-// Measurements.
-mod measure;
 // Two executors that wait for each other.
 mod meeting;
 // What a gate is given of a run.
@@ -125,8 +120,6 @@ mod pairs;
 mod places;
 // Scripts that are read and printed.
 mod reading;
-// Calls that are made again where they are refused.
-mod refusals;
 // Scripts that are run.
 mod running;
 // How often each answer was given.
@@ -137,63 +130,24 @@ mod words;
 mod workers;
 
 use crate::escapes::expand;
+use crate::executors::UNPLAYED;
 use crate::fault::CaseFault;
 use std::alloc::AllocGlobal;
+use std::io;
 use std::io::Write;
 use std::random::RandomSource;
 use std::sync::Wait;
 use std::thread::Threads;
-use std::{env, io};
 use swift_output::write_all;
 
+// For how many bytes of a case's answer there is room. A growth for more is a device's that fails.
+const ROOM: usize = 16384;
+
 fn main(rt: HostRuntime) -> Result<(), CaseFault> {
-    whole(&rt, &rt)
+    make_cases(&rt, &rt)
 }
 
-// The words of the command line after the program's name, of which at most two mean something.
-fn words_of(rt: &HostRuntime) -> io::Result<(Option<String>, Option<String>)> {
-    let mut words = env::args(rt)?;
-    let _program = words.next();
-    let first = words.next();
-    Ok((first, words.next()))
-}
-
-// Does what the words of the command line ask for, or makes the cases. The words are asked for again where there was no memory for
-// them, as each call of `refusals` is. The runtime comes twice, since it waits in `main` alone.
-fn whole<W>(rt: &HostRuntime, wait: &W) -> Result<(), CaseFault>
-where
-    W: RandomSource + AllocGlobal + Threads + Wait + Sync,
-{
-    let (name, count) = match words_of(rt) {
-        Ok(words) => words,
-        Err(_) => words_of(rt)?,
-    };
-    match name {
-        None => make_cases(rt, wait),
-        Some(name) => asked(
-            rt,
-            wait,
-            name.as_str(),
-            count.as_ref().map(|word| word.as_str()),
-        ),
-    }
-}
-
-// Does what these words ask for.
-fn asked<W>(rt: &HostRuntime, wait: &W, name: &str, count: Option<&str>) -> Result<(), CaseFault>
-where
-    W: RandomSource + AllocGlobal + Threads + Wait + Sync,
-{
-    match name {
-        "refusals" => {
-            refusals::make_calls(rt, wait);
-            Ok(())
-        }
-        _ => measure::measure(rt, wait, name, count),
-    }
-}
-
-// Writes what is said of each case.
+// Writes what is said of each case. The runtime comes twice, since it waits in `main` alone.
 fn make_cases<W>(rt: &HostRuntime, wait: &W) -> Result<(), CaseFault>
 where
     W: RandomSource + AllocGlobal + Threads + Wait + Sync,
@@ -203,10 +157,32 @@ where
     let mut cases = all.strip_suffix('\n').unwrap_or(all).split("\n== ");
     let _comment = cases.next();
     for case in cases {
-        let out = answered(wait, case)?;
+        let out = match answered(wait, case) {
+            Err(_) => answered(wait, case)?,
+            Ok(out) => settled(wait, case, out)?,
+        };
         write_all(&mut rt.stdout(), &out)?;
     }
     Ok(())
+}
+
+// Whether what is written for a case says that a growth was refused, or that it was not played to its end.
+fn is_refused(out: &[u8]) -> bool {
+    match str::from_utf8(out) {
+        Ok(text) => text.contains("no memory\n") || text.contains(UNPLAYED),
+        Err(_) => false,
+    }
+}
+
+// What is written for a case, for which this was written before.
+fn settled<R>(rt: &R, case: &str, out: Vec<u8>) -> Result<Vec<u8>, CaseFault>
+where
+    R: RandomSource + AllocGlobal + Threads + Wait + Sync,
+{
+    if is_refused(&out) {
+        return answered(rt, case);
+    }
+    Ok(out)
 }
 
 // What is written for a case.
@@ -218,7 +194,7 @@ where
     let Some((kind, title)) = head.split_once(' ') else {
         return Err(CaseFault::Form);
     };
-    let mut out = Vec::new(rt.alloc());
+    let mut out = Vec::with_capacity(rt.alloc(), ROOM)?;
     writeln!(out, "== {title}")?;
     answer(rt, kind, title, text, &mut out)?;
     Ok(out)

@@ -3,50 +3,104 @@
 use crate::fault::CaseFault;
 use crate::turns::begin::Turn;
 use crate::turns::tell;
+use futures::Future;
 use futures::task::{Context, Doorbell, Solo};
+use script_code::Env;
 use std::alloc::{AllocError, AllocGlobal};
 use std::random::RandomSource;
-use swift_interpreter::Exit;
+use swift_interpreter::{Effect, Exit};
 use swift_script::Script;
 use swift_turn::{Body, Step, run_turn};
+use swift_types::Resume;
 use swift_types::limits::TURNS;
+
+/// By which calls a turn is run.
+#[derive(Clone, Copy, PartialEq, Eq)]
+pub enum How {
+    /// By one call.
+    Whole,
+    /// By those that enter, poll and leave it.
+    Parts,
+}
+
+// What a turn leaves: the fields, its effects, and its exit.
+type Left = (Vec<Vec<i64>>, Vec<Effect>, Exit);
 
 /// One turn. None where it can't be run.
 pub fn run<R: RandomSource + AllocGlobal>(
     rt: &R,
     script: &Script,
     body: &mut Body,
+    how: How,
     begin: Turn,
     out: &mut String,
 ) -> Result<Option<Exit>, CaseFault> {
     let solo = Solo::new(rt, Doorbell::spinning())?;
     let mut cx = solo.begin();
-    let ran = one(script, &mut cx, body, begin, out);
+    let ran = one(script, &mut cx, body, how, begin, out);
     cx.cancel();
     Ok(ran?.map(|left| left.1))
 }
 
-// One turn: the fields after it, and its exit. None where it can't be run.
+// One turn: the fields after it, and its exit. None where it can't be run. Where it is refused memory, it is run again on the fields
+// that come back.
 fn one(
     script: &Script,
     cx: &mut Context<'_>,
     body: &mut Body,
+    how: How,
     begin: Turn,
     out: &mut String,
 ) -> Result<Option<(Vec<Vec<i64>>, Exit)>, AllocError> {
-    if !body.is_running() {
-        out.push_str("not possible")?;
-        return Ok(None);
-    }
-    match run_turn(body, cx, begin.fields, begin.resume, begin.env) {
-        Ok((fields, effects, exit)) => {
+    let (resume, env) = (begin.resume, begin.env);
+    let ran = match ran(cx, body, how, begin.fields, resume, env) {
+        Err(fields) => ran(cx, body, how, fields, resume, env),
+        ran => ran,
+    };
+    match ran {
+        Ok(Some((fields, effects, exit))) => {
             tell::left(out, script, &fields, &effects, &exit)?;
             Ok(Some((fields, exit)))
         }
-        Err((_, AllocError)) => {
-            out.push_str("out of memory")?;
+        Ok(None) => {
+            out.push_str("not possible")?;
             Ok(None)
         }
+        Err(_) => {
+            out.push_str("no memory")?;
+            Ok(None)
+        }
+    }
+}
+
+// What a turn leaves. None where it can't be run, and the fields where it is refused memory.
+fn ran(
+    cx: &mut Context<'_>,
+    body: &mut Body,
+    how: How,
+    fields: Vec<Vec<i64>>,
+    resume: Resume,
+    env: Env,
+) -> Result<Option<Left>, Vec<Vec<i64>>> {
+    if !body.is_running() {
+        return Ok(None);
+    }
+    let left = match how {
+        How::Whole => run_turn(body, cx, fields, resume, env),
+        How::Parts => {
+            if let Err((fields, AllocError)) = body.enter(fields, resume, env) {
+                return Err(fields);
+            }
+            let _ = body.poll(cx);
+            if !body.is_polled() {
+                return Ok(None);
+            }
+            body.leave()
+        }
+    };
+    match left {
+        Ok(left) => Ok(Some(left)),
+        Err((fields, AllocError)) => Err(fields),
     }
 }
 
@@ -74,7 +128,7 @@ fn turns(
 ) -> Result<(), AllocError> {
     let env = begin.env;
     for _ in 0..TURNS {
-        let Some((fields, exit)) = one(script, cx, body, begin, out)? else {
+        let Some((fields, exit)) = one(script, cx, body, How::Whole, begin, out)? else {
             return Ok(());
         };
         out.push('\n')?;
@@ -97,5 +151,9 @@ fn next(body: &mut Body, exit: &Exit) -> Result<Option<Step>, AllocError> {
     if !body.is_running() || !body.can_advance(exit) {
         return Ok(None);
     }
-    Ok(Some(body.advance(exit)?))
+    match body.advance(exit) {
+        // Made again where it is refused memory.
+        Err(AllocError) => Ok(Some(body.advance(exit)?)),
+        Ok(step) => Ok(Some(step)),
+    }
 }

@@ -4,7 +4,7 @@ use crate::fault::CaseFault;
 use crate::scripts::first_method_named;
 use crate::show;
 use crate::turns::begin::{Turn, change, opening_of, turn_of};
-use crate::turns::play::{play, run};
+use crate::turns::play::{How, play, run};
 use crate::turns::tell;
 use futures::Future;
 use futures::task::{Doorbell, Poll, Solo};
@@ -88,7 +88,8 @@ fn begin_turn<R: RandomSource + AllocGlobal>(
 ) -> Result<(), CaseFault> {
     match name {
         "enter" => enter(&mut task.body, begin, out)?,
-        "run_turn" => task.exit = run(rt, script, &mut task.body, begin, out)?,
+        "run_turn" => task.exit = run(rt, script, &mut task.body, How::Whole, begin, out)?,
+        "turn" => task.exit = run(rt, script, &mut task.body, How::Parts, begin, out)?,
         "play" => play(rt, script, &mut task.body, begin, out)?,
         _ => out.push_str("no such call")?,
     }
@@ -153,7 +154,11 @@ fn leave(script: &Script, task: &mut Task, out: &mut String) -> Result<(), Alloc
 fn advance(task: &mut Task, out: &mut String) -> Result<(), AllocError> {
     match &task.exit {
         Some(exit) if task.body.is_running() && task.body.can_advance(exit) => {
-            let step = task.body.advance(exit)?;
+            // Made again where it is refused memory.
+            let step = match task.body.advance(exit) {
+                Err(AllocError) => task.body.advance(exit)?,
+                Ok(step) => step,
+            };
             tell::step(out, step)
         }
         _ => out.push_str("not possible"),

@@ -31,23 +31,20 @@ pub fn left(
 
 fn effect(out: &mut String, script: &Script, done: &Effect) -> Result<(), AllocError> {
     match done {
-        Effect::Spawn(made, given, standing) => {
+        Effect::Spawn(spawned, given, standing) => {
             out.push_str("spawn ")?;
-            invocation(out, script, made)?;
-            priority(out, *given)?;
+            made(out, script, spawned, *given)?;
             with(out, script, standing)
         }
-        Effect::Detach(made, given) => {
+        Effect::Detach(detached, given) => {
             out.push_str("detach ")?;
-            invocation(out, script, made)?;
-            priority(out, Some(*given))
+            made(out, script, detached, Some(*given))
         }
         Effect::Open => out.push_str("open"),
         Effect::Add(group, unless, child, given, standing) => {
             write!(out, "add {group} ")?;
             out.push_str(if *unless { "unless " } else { "" })?;
-            invocation(out, script, child)?;
-            priority(out, *given)?;
+            made(out, script, child, *given)?;
             with(out, script, standing)
         }
         Effect::CancelTask(name) => {
@@ -56,6 +53,17 @@ fn effect(out: &mut String, script: &Script, done: &Effect) -> Result<(), AllocE
         }
         Effect::CancelGroup(group) => write!(out, "cancel group {group}"),
     }
+}
+
+// A task that is made, and the priority that it is given.
+fn made(
+    out: &mut String,
+    script: &Script,
+    called: &Invocation,
+    given: Option<Priority>,
+) -> Result<(), AllocError> {
+    invocation(out, script, called)?;
+    priority(out, given)
 }
 
 // A method with its arguments.

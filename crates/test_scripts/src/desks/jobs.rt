@@ -1,7 +1,7 @@
 //! Jobs that are kept.
 
 use crate::jobs::{spend, spend_all};
-use std::alloc::{AllocFailed, Global};
+use std::alloc::{AllocError, AllocFailed, Global};
 use swift_queue::Job;
 use swift_turn::Body;
 use swift_types::TaskId;
@@ -24,6 +24,12 @@ impl Jobs {
         Jobs {
             list: Vec::new(alloc),
         }
+    }
+
+    /// No job, with room for so many.
+    pub fn with_room(alloc: Global, room: usize) -> Result<Jobs, AllocError> {
+        let list = Vec::with_capacity(alloc, room)?;
+        Ok(Jobs { list })
     }
 
     /// Adds a job. Where there is no memory for its place, it is spent.

@@ -7,11 +7,20 @@ use std::alloc::{AllocGlobal, Global};
 use std::fmt::Write;
 use std::random::RandomSource;
 use std::sync::{Mutex, Wait};
-use swift_executor::{Gate, Open};
+use swift_executor::{ExecFault, Gate, Open};
+use swift_tasks::BookFault;
 use swift_types::TaskId;
 
 /// The script that foreign jobs are of.
 const FOREIGN: &str = "actor A { func f() { return 1; } } root a = A.f(); root b = A.f();";
+
+// How often a call is made: the first time it may have been refused memory.
+const TRIES: u32 = 2;
+
+// For how many jobs and desks there is room. A growth for more is not made again where it is refused.
+const JOBS: usize = 64;
+
+const DOORS: usize = 16;
 
 /// The script of a case, its tasks, the jobs that are kept, and its desks.
 #[derive(Drop)]
@@ -26,11 +35,13 @@ impl Stage {
     /// A case of this script, with no task and no desk. None where there is no memory.
     pub fn new(alloc: Global, setting: Setting) -> Option<Stage> {
         let tasks = setting.tasks(alloc).ok()?;
+        let jobs = Jobs::with_room(alloc, JOBS).ok()?;
+        let doors = Vec::with_capacity(alloc, DOORS).ok()?;
         Some(Stage {
             setting,
             tasks,
-            jobs: Mutex::new(Jobs::new(alloc)),
-            doors: Vec::new(alloc),
+            jobs: Mutex::new(jobs),
+            doors,
         })
     }
 
@@ -73,19 +84,20 @@ impl Stage {
         }
     }
 
-    /// Makes a call, and writes what it answered.
+    /// Makes a call, again where it can't be made, and writes what it answered.
     pub fn make<R, G>(&self, rt: &R, text: &str, count: u32, gate: &G, out: &mut String)
     where
         R: Wait + RandomSource + AllocGlobal,
         G: Gate,
     {
-        let made = match call_of(text, count) {
-            Some(call) => self.answer(rt, call, gate, out),
-            None => None,
-        };
-        if made.is_none() {
-            let _ = out.push_str("not made");
+        if let Some(call) = call_of(text, count) {
+            for _ in 0..TRIES {
+                if self.answer(rt, call, gate, out).is_some() {
+                    return;
+                }
+            }
         }
+        let _ = out.push_str("not made");
     }
 
     // Makes a call, and writes what it answered. None where it can't be made.
@@ -104,10 +116,7 @@ impl Stage {
                 let tasks = self.setting.tasks(rt.alloc()).ok()?;
                 self.run(rt, call, &tasks, gate, out)
             }
-            Verb::Cancel => match self.tasks.cancel(rt, call.first) {
-                Ok(()) => out.push_str("ok").ok(),
-                Err(fault) => write!(out, "{fault}").ok(),
-            },
+            Verb::Cancel => told(self.tasks.cancel(rt, call.first), out),
             Verb::Ending => write!(out, "{:?}", self.tasks.ending(rt, call.first)?).ok(),
             Verb::Allowance => {
                 let allowance = self.doors.get(call.first as usize)?.lock(rt).allowance();
@@ -117,11 +126,7 @@ impl Stage {
     }
 
     fn add_root<R: Wait>(&self, rt: &R, root: u32, out: &mut String) -> Option<()> {
-        let added = self.tasks.add_root(rt, root, &mut self.jobs.lock(rt));
-        match added {
-            Ok(()) => out.push_str("ok").ok(),
-            Err(fault) => write!(out, "{fault}").ok(),
-        }
+        told(self.tasks.add_root(rt, root, &mut self.jobs.lock(rt)), out)
     }
 
     // Keeps a job that no book gave, of a root of this script.
@@ -163,12 +168,23 @@ impl Stage {
     {
         let door = self.doors.get(call.second as usize)?;
         let poller = Poller::new(rt).ok()?;
-        let mut made = Jobs::new(rt.alloc());
-        let ran = door
-            .lock(rt)
-            .run(rt, call.first, tasks, &poller, &mut made, gate);
+        let mut made = Jobs::with_room(rt.alloc(), JOBS).ok()?;
+        let mut door = door.lock(rt);
+        let ran = match door.run(rt, call.first, tasks, &poller, &mut made, gate) {
+            Err(ExecFault::Memory) => door.run(rt, call.first, tasks, &poller, &mut made, gate),
+            ran => ran,
+        };
         let told = tell_ran(ran, out).and_then(|_| tell_jobs(&made.list, out));
         self.jobs.lock(rt).keep_all(made);
         told.ok()
+    }
+}
+
+// What a call on the book answered. None where it was refused memory.
+fn told(answer: Result<(), BookFault>, out: &mut String) -> Option<()> {
+    match answer {
+        Ok(()) => out.push_str("ok").ok(),
+        Err(BookFault::Memory) => None,
+        Err(fault) => write!(out, "{fault}").ok(),
     }
 }

@@ -10,5 +10,5 @@ pub returns : goal.returns
 returns c =
     let ms = c.self.inside.compiled.methods in
     let long = AllZip-long IsMethod ms.items _ c.self.invariant.has_parts.methods in
-    let same : c.len.result ≡ length (parts_of (tree_of c.self.inside.declarations)).methods = omega (arith, c.len.ensures, long, ms.ok.0) in
+    let same : c.len.result ≡ length (parts_of (tree_of c.self.inside.tree.value)).methods = omega (arith, c.len.ensures, long, ms.ok.0) in
     subst (λ (s : ScriptTree). c.len.result ≡ method_count s) c.self.view_is same
