@@ -156,41 +156,39 @@ def crews(times):
 
 
 def growth(times):
-    """A run with ten times the turns."""
+    """A run with few jobs and with many, and with ten times the turns."""
     rows = []
     nothing = idle(times)
-    for case in scripts.GROWTH:
+    for case, (_, yields) in scripts.GROWTH.items():
         outcomes = best(times, [PROGRAM, "--quiet"], scripts.path(case))
         run = least(outcomes, nothing)
-        turns = int(case.split()[-1]) * 1000
-        rows.append([case, f"{turns:,}", f"{run:.4f}", f"{run / turns * 1e6:.2f}"])
+        rows.append([case, f"{yields:,}", f"{run:.4f}", f"{run / yields * 1e6:.2f}"])
     table(["case", "yields", "quiet s", "us/yield"], rows)
 
 
 def split():
-    """Where the instructions of a turn go: of the workers' loop, and of the certificate's walk, what each call takes with all
-    that it calls."""
+    """Where the instructions of a turn go: what each call takes with all that it calls. The workers' loop and the certificate stand
+    beside each other."""
     if not shutil.which("valgrind"):
         print("No valgrind on this machine: no split of a turn.\n")
         return
     script = scripts.path("ready")
     report = Outcome([PROGRAM], script).wrote
     turns = sum(int(n) for n in re.findall(rb"(?m)^executor .* turns (\d+)$", report))
-    for whole in ("swift_workers::turns::work", "swift_certificate::whole::walk"):
-        kept = os.path.join(scripts.FOLDER, "callgrind.out")
-        words = ["valgrind", "--tool=callgrind", "--collect-atstart=no", f"--toggle-collect={whole}*", f"--callgrind-out-file={kept}", PROGRAM]
-        with open(script, "rb") as given:
-            subprocess.run(words, cwd=TOP, stdin=given, check=True, capture_output=True)
-        words = ["callgrind_annotate", "--inclusive=yes", "--threshold=100", kept]
-        told = subprocess.run(words, check=True, capture_output=True, text=True).stdout
-        found = [(int(n.replace(",", "")), name) for n, name in re.findall(r"(?m)^ *([\d,]+) \([ \d.]+%\)  \S*?:(\w+::\S+)", told)]
-        all_of_it = max(n for n, _ in found)
-        # What calls the loop has all of it, too.
-        rows = [[whole, f"{all_of_it / turns:,.0f}", "100"]]
-        for n, name in found:
-            if all_of_it / 100 <= n < all_of_it * 0.99:
-                rows.append([name.split("::<")[0], f"{n / turns:,.0f}", f"{100 * n / all_of_it:.0f}"])
-        table(["call, with what it calls", "instructions a turn", "%"], rows)
+    kept = os.path.join(scripts.FOLDER, "callgrind.out")
+    words = ["valgrind", "--tool=callgrind", f"--callgrind-out-file={kept}", PROGRAM, "--quiet"]
+    with open(script, "rb") as given:
+        subprocess.run(words, cwd=TOP, stdin=given, check=True, capture_output=True)
+    words = ["callgrind_annotate", "--inclusive=yes", "--threshold=100", kept]
+    told = subprocess.run(words, check=True, capture_output=True, text=True).stdout
+    found = [(int(n.replace(",", "")), name) for n, name in re.findall(r"(?m)^ *([\d,]+) \([ \d.]+%\)  \S*?:(\w+::\S+)", told)]
+    whole = max(n for n, _ in found)
+    rows = []
+    for n, name in found:
+        # What calls the rest has nearly all of it.
+        if whole / 100 <= n < whole * 0.95:
+            rows.append([name.split("::<")[0], f"{n / turns:,.0f}", f"{100 * n / whole:.0f}"])
+    table([f"call, with what it calls, of {whole / turns:,.0f} in all", "instructions a turn", "%"], rows)
 
 
 def reading(times):
@@ -234,7 +232,8 @@ def main():
     print("to read and to run: it reads, runs, certifies and writes. `quiet s` is with `--quiet`, which leaves the journals' text out. `B/turn` is the")
     print("peak of that above that of nothing. `Erlang s` is one scheduler, which keeps no journal and undoes nothing. `4 processes apart` is how many")
     print("times as much four runs of one worker do at once as one does alone: what the machine gives to threads that share nothing. A script that is")
-    print("read has nothing to run, or next to nothing. Calls of parts are lines of text, whose reading and answer are in their time.\n")
+    print("read has nothing to run, or next to nothing; its KB are those of its executors too. Calls of parts are lines of text, whose reading")
+    print("and answer are in their time.\n")
     whole_runs(times)
     growth(times)
     crews(times)

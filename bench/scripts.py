@@ -218,14 +218,15 @@ CREWS = {
     "light": eight(COUNTER, "Counter{}.spin(990)"),
 }
 
-# The same script with ten times the turns.
-GROWTH = {
-    "spin 99": COUNTER + roots(1000, "Counter.spin(99)"),
-    "spin 990": COUNTER + roots(1000, "Counter.spin(990)"),
-}
-
 # What is taken apart: 16 jobs are ready at a time.
-SPLIT = {"ready": COUNTER + roots(16, "Counter.spin(990)")}
+READY = COUNTER + roots(16, "Counter.spin(990)")
+
+# The same script with few jobs and with many, and with ten times the turns; and how often each yields.
+GROWTH = {
+    "ready": (READY, 16 * 990),
+    "spin 99": (COUNTER + roots(1000, "Counter.spin(99)"), 1000 * 99),
+    "spin 990": (COUNTER + roots(1000, "Counter.spin(990)"), 1000 * 990),
+}
 
 FIRST = "abcdefghijklmnopqrstuvwxyzABCDEFGHIJKLMNOPQRSTUVWXYZ"
 LATER = FIRST + "0123456789_"
@@ -367,13 +368,6 @@ def ranges(count, *calls):
     return "".join(f"1 to {count}: {call}\n" for call in calls)
 
 
-def of_book(count):
-    """Roots that begin, give way twenty times, and end."""
-    script = "actor A { func f() { } }\n" + "".join(f"root {short(k)} = A.f();\n" for k in range(count))
-    turns = [f"0 to {count - 1}: quiet turn #; yield\n"] * 20
-    return f"{script}--\n0 to {count - 1}: quiet root #\n" + "".join(turns) + f"0 to {count - 1}: quiet turn #; return 1\n"
-
-
 # Of each part, the lines of a case of crates/test_parts with so many entries, and how many calls it makes for each.
 PARTS = {
     "queue": (lambda n: f"{n}\n" + ranges(n, "put # low", "put_back low", "take"), 3),
@@ -381,7 +375,6 @@ PARTS = {
     "groups": (lambda n: "open 0\n" + ranges(n, "add 0 #", "finished 0 # 1", "next 0"), 3),
     # A line of waits, which is raised at its end.
     "waits": (lambda n: "add_root 0 low\n" + ranges(n, "add_root # low", "wait @ #") + f"add_root {n + 1} high\nwait {n + 1} 0\n" + ranges(n, "priority #"), 3),
-    "book": (of_book, 22),
 }
 
 
@@ -400,7 +393,7 @@ def write():
     texts = {name: text for name, (text, _) in SCRIPTS.items()}
     texts |= {"read " + name: text for name, text in READ.items()}
     texts |= {"refuse " + name: text for name, text in REFUSED.items()}
-    texts |= CREWS | GROWTH | SPLIT
+    texts |= CREWS | {name: text for name, (text, _) in GROWTH.items()}
     texts |= {f"{part} {entries}": calls_of(part, entries) for part in PARTS for entries in (FEW, MANY)}
     for name, text in texts.items():
         with open(path(name), "w", encoding="ascii", newline="\n") as file:

@@ -1,13 +1,13 @@
 #!/usr/bin/env python3
-"""Runs test programs once for each of their allocations, with that one refused, and compares what they write.
+"""Runs cases of test programs once for each of their allocations, with that one refused, and compares what they write.
 
     tools/refusals.py [NAME..]       (test_parts and test_scripts)
 
-A program is the one that rt has built (crates/NAME/out/NAME). It is given the cases whose first lines the file crates/NAME/refused has,
-and has to write what the file stdout has for them, with status 0: it makes each call again that was refused memory. The n-th run refuses the
-n-th allocation (tools/refuse.c, built by $CC or cc), and the first run in which none is refused is the last. Where an allocation is
-refused before the first case is read, the program has to stop with another status and nothing written.
-Status 0 where no run differs.
+A program is the one that rt has built (crates/NAME/out/NAME). It is given one case at a time, of those whose first lines the file
+crates/NAME/refused has, and has to write what the file stdout has for it, with status 0: it makes each call again that was refused memory.
+The n-th run refuses the n-th allocation (tools/refuse.c, built by $CC or cc). Of a case with more than 2,000 allocations the first and the
+last 500 are refused, and of the others each 41st. Where an allocation is refused before the case is read, the program has to stop with
+status 1 and nothing written. Status 0 where no run differs.
 """
 import concurrent.futures
 import os
@@ -18,8 +18,10 @@ import tempfile
 TOP = os.path.dirname(os.path.dirname(os.path.abspath(__file__)))
 NAMES = ["test_parts", "test_scripts"]
 SECONDS = 60
-# How many runs are asked for at once.
-RUNS = 256
+# What is said of a run in which nothing was written.
+UNREAD = "nothing was written"
+# Of how many allocations each is refused; of more, so many at both ends, and one in so many between.
+ALL, ENDS, STEP = 2000, 500, 41
 
 
 def cases_of(path):
@@ -28,22 +30,14 @@ def cases_of(path):
         return ("\n" + file.read().removesuffix("\n")).split("\n== ")[1:]
 
 
-class Program:
-    """A test program, the cases that it is given, and what it has to write."""
+class Case:
+    """What a program is given, and what it has to write."""
 
-    def __init__(self, name, library):
-        folder = os.path.join(TOP, "crates", name)
-        self.words = [os.path.join(folder, "out", name)]
+    def __init__(self, program, library, asked, wanted):
+        self.words = [program]
         self.library = library
-        with open(os.path.join(folder, "refused"), encoding="utf8") as file:
-            titles = [line for line in file.read().split("\n") if line]
-        asked, wanted = cases_of(os.path.join(folder, "stdin")), cases_of(os.path.join(folder, "stdout"))
-        known = {case.partition("\n")[0]: (case, answer) for case, answer in zip(asked, wanted, strict=True)}
-        unknown = [title for title in titles if title not in known]
-        if unknown:
-            sys.exit(f"{name} has no case {unknown[0]}")
-        self.given = ("Cases.\n== " + "\n== ".join(known[title][0] for title in titles) + "\n").encode()
-        self.wanted = ("== " + "\n== ".join(known[title][1] for title in titles) + "\n").encode()
+        self.given = f"A case.\n== {asked}\n".encode()
+        self.wanted = f"== {wanted}\n".encode()
 
     def run(self, number):
         """Whether an allocation was refused, and what differs from a run without, if anything does."""
@@ -65,42 +59,73 @@ class Program:
             return is_refused, UNREAD if is_unread else f"status {done.returncode}"
         return is_refused, None if done.stdout == self.wanted else "another text"
 
+    def count(self):
+        """How many allocations it makes."""
+        least, most = 0, 64
+        while self.run(most)[0]:
+            least, most = most, 2 * most
+        while most - least > 1:
+            middle = (least + most) // 2
+            if self.run(middle)[0]:
+                least = middle
+            else:
+                most = middle
+        return least
+
+    def numbers(self):
+        """Which allocations are refused."""
+        last = self.count()
+        if last <= ALL:
+            return range(1, last + 1)
+        return [*range(1, ENDS + 1), *range(ENDS + 1, last - ENDS + 1, STEP), *range(last - ENDS + 1, last + 1)]
+
     def refuse_each(self, workers):
-        """Refuses each allocation in turn. How many were refused, how many of these before a case was read, and what was wrong."""
-        wrong, unread = [], 0
-        first = 1
-        while True:
-            numbers = range(first, first + RUNS)
-            for number, (is_refused, fault) in zip(numbers, workers.map(self.run, numbers)):
-                # No case is read until each of these is granted.
-                if fault == UNREAD and unread == number - 1:
-                    unread = number
-                elif fault:
-                    wrong.append(f"allocation {number} refused: {fault}")
-                if not is_refused:
-                    return number - 1, unread, wrong
-            first = numbers.stop
+        """Refuses its allocations in turn. How many were refused, how many of these before the case was read, and what was wrong."""
+        refused, unread, wrong = 0, 0, []
+        numbers = self.numbers()
+        for number, (is_refused, fault) in zip(numbers, workers.map(self.run, numbers)):
+            # The case is not read until each of these is granted.
+            if fault == UNREAD and unread == number - 1:
+                unread = number
+            elif fault:
+                wrong.append(f"allocation {number} refused: {fault}")
+            refused += is_refused
+        return refused, unread, wrong
 
 
-UNREAD = "nothing was written"
+def refuse_in(name, library, workers):
+    """Refuses the allocations of the cases of a program. Whether no run differs."""
+    folder = os.path.join(TOP, "crates", name)
+    with open(os.path.join(folder, "refused"), encoding="utf8") as file:
+        firsts = [line for line in file.read().split("\n") if line]
+    asked, wanted = cases_of(os.path.join(folder, "stdin")), cases_of(os.path.join(folder, "stdout"))
+    known = {case.partition("\n")[0]: (case, answer) for case, answer in zip(asked, wanted, strict=True)}
+    refused, unread, differ = 0, 0, 0
+    for first in firsts:
+        if first not in known:
+            sys.exit(f"{name} has no case {first}")
+        counts = Case(os.path.join(folder, "out", name), library, *known[first]).refuse_each(workers)
+        refused, unread, differ = refused + counts[0], unread + counts[1], differ + len(counts[2])
+        if counts[0] <= counts[1]:
+            differ += 1
+            print(f"{name}, {first}: no allocation was refused once it was read")
+        for fault in counts[2][:5]:
+            print(f"{name}, {first}: {fault}")
+    print(f"{name}: {len(firsts)} cases, {refused} allocations refused in turn, {unread} of them before a case was read; {differ} runs differ")
+    return not differ
 
 
 def main():
     names = sys.argv[1:] or NAMES
     if any(name not in NAMES for name in names):
         sys.exit(__doc__)
-    is_well = True
     with tempfile.TemporaryDirectory() as folder:
         library = os.path.join(folder, "refuse.so")
         source = os.path.join(TOP, "tools", "refuse.c")
         subprocess.run([os.environ.get("CC", "cc"), "-O2", "-Wall", "-Wextra", "-shared", "-fPIC", "-o", library, source], check=True)
         with concurrent.futures.ThreadPoolExecutor(os.cpu_count()) as workers:
-            for name in names:
-                refused, unread, wrong = Program(name, library).refuse_each(workers)
-                print("\n".join(wrong[:20]), end="\n" if wrong else "")
-                print(f"{name}: {refused} allocations refused in turn, {unread} of them before a case was read; {len(wrong)} runs differ")
-                is_well = is_well and refused > unread and not wrong
-    if not is_well:
+            are_well = [refuse_in(name, library, workers) for name in names]
+    if not all(are_well):
         sys.exit(1)
 
 
