@@ -24,17 +24,14 @@ use std::random::RandomSource;
 use std::sync::Wait;
 use std::thread::Threads;
 
-/// What is said of a case that was not played to its end.
-pub const UNPLAYED: &str = "wrong: not played to its end";
-
-// For how many bytes that a case says there is room.
-const ROOM: usize = 8192;
+/// For how many bytes that a case says there is room. A call whose answer has no room may be made twice.
+pub(crate) const ROOM: usize = 8192;
 
 // Writes what a case has said, and a line more where it was not played to its end.
 fn append(played: Option<()>, said: &str, out: &mut Vec<u8>) -> Result<(), CaseFault> {
     out.extend_from_slice(said.as_bytes())?;
     if played.is_none() {
-        writeln!(out, "{UNPLAYED}")?;
+        writeln!(out, "wrong: not played to its end")?;
     }
     Ok(())
 }

@@ -130,7 +130,6 @@ mod words;
 mod workers;
 
 use crate::escapes::expand;
-use crate::executors::UNPLAYED;
 use crate::fault::CaseFault;
 use std::alloc::AllocGlobal;
 use std::io;
@@ -166,10 +165,10 @@ where
     Ok(())
 }
 
-// Whether what is written for a case says that a growth was refused, or that it was not played to its end.
+// Whether what is written for a case says that a growth was refused, or what is in no right output.
 fn is_refused(out: &[u8]) -> bool {
     match str::from_utf8(out) {
-        Ok(text) => text.contains("no memory\n") || text.contains(UNPLAYED),
+        Ok(text) => text.contains("no memory\n") || text.contains("wrong: "),
         Err(_) => false,
     }
 }

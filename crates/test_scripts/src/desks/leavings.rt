@@ -32,11 +32,11 @@ impl Drop for Leavings {
 }
 
 impl Leavings {
-    /// Those of no executor, with room for those of one.
-    pub fn new(alloc: Global) -> Result<Leavings, AllocError> {
-        let journals = Vec::with_capacity(alloc, 1)?;
-        let checkpoints = Vec::with_capacity(alloc, 1)?;
-        let fields = Vec::with_capacity(alloc, 1)?;
+    /// Those of no executor, with room for those of so many.
+    pub fn new(alloc: Global, room: usize) -> Result<Leavings, AllocError> {
+        let journals = Vec::with_capacity(alloc, room)?;
+        let checkpoints = Vec::with_capacity(alloc, room)?;
+        let fields = Vec::with_capacity(alloc, room)?;
         let report = Report {
             journals,
             checkpoints,

@@ -1,6 +1,7 @@
 //! A case.
 
 use crate::desks::Setting;
+use crate::executors::ROOM;
 use crate::executors::acting::Acting;
 use crate::executors::call::number;
 use crate::executors::end::close_all;
@@ -45,16 +46,20 @@ fn play_line<R>(rt: &R, stage: &mut Stage, line: &str, out: &mut String)
 where
     R: Wait + RandomSource + AllocGlobal,
 {
-    if let Some(rest) = line.strip_prefix("at ") {
-        let _ = play_at(rt, stage, line, rest, out);
+    let played = if let Some(rest) = line.strip_prefix("at ") {
+        play_at(rt, stage, line, rest, out)
     } else if let Some(desk) = line.strip_prefix("split ") {
         let split = number(desk, 0).and_then(|desk| stage.split(rt, desk));
         let answer = if split.is_some() { "ok" } else { "no" };
-        let _ = writeln!(out, "{line}: {answer}");
+        writeln!(out, "{line}: {answer}").ok()
     } else if let Some((range, calls)) = line.split_once(": ") {
-        let _ = play_range(rt, stage, range, calls, out);
+        play_range(rt, stage, range, calls, out)
     } else {
         stage.play(rt, "", line, 0, out);
+        Some(())
+    };
+    if played.is_none() {
+        let _ = out.push_str("wrong: a line was not played\n");
     }
 }
 
@@ -70,9 +75,9 @@ where
         stage,
         moment,
         calls,
-        lines: Mutex::new(String::new(rt.alloc())),
+        lines: Mutex::new(String::with_capacity(rt.alloc(), ROOM).ok()?),
     };
-    let mut answer = String::new(rt.alloc());
+    let mut answer = String::with_capacity(rt.alloc(), ROOM).ok()?;
     stage.make(rt, call, 0, &gate, &mut answer);
     let lines = gate.lines.into_inner();
     writeln!(out, "{lines}{line}: {answer}").ok()
@@ -84,7 +89,7 @@ where
     R: Wait + RandomSource + AllocGlobal,
 {
     let (first, last) = range.split_once(" to ")?;
-    let mut lines = String::new(rt.alloc());
+    let mut lines = String::with_capacity(rt.alloc(), ROOM).ok()?;
     for count in number(first, 0)?..=number(last, 0)? {
         lines.clear();
         stage.play(rt, "  ", calls, count, &mut lines);

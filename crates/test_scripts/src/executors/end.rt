@@ -11,7 +11,7 @@ use std::sync::Wait;
 pub fn close_all<R: Wait + AllocGlobal>(rt: &R, stage: Stage, out: &mut String) -> Option<()> {
     let alloc = rt.alloc();
     let (setting, doors) = stage.into_parts();
-    let mut leavings = Leavings::new(alloc).ok()?;
+    let mut leavings = Leavings::new(alloc, doors.len()).ok()?;
     let mut number = 0u32;
     for door in doors {
         if let Some(left) = leavings.close(rt, door.into_inner()) {

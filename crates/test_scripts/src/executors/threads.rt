@@ -141,7 +141,7 @@ where
     if hold.is_too_long() {
         out.push_str("  too long\n").ok()?;
     }
-    let mut leavings = Leavings::new(alloc).ok()?;
+    let mut leavings = Leavings::new(alloc, 1).ok()?;
     let pending = leavings.close(rt, door)?.pending;
     let text = String::from_utf8(leavings.text(alloc, &setting).ok()?).ok()?;
     write!(out, "  closed: {pending} pending\n{text}").ok()
