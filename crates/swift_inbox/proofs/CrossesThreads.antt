@@ -22,7 +22,7 @@ use Rattle.script_grammar.proofs.statement.Stmt.TheLaws.TheKnot as StmtKnot
 use Rattle.swift_script.specs.contracts.script.Script as script
 use Rattle.swift_turn.specs.contracts.body.Body as body
 use Rattle.swift_interpreter.proofs.turn_state.TurnState.TheSendSync as TurnState
-use Rattle.swift_interpreter.proofs.undo.Undo.TheSendSync as Undo
+use Rattle.swift_undo.proofs.undo.Undo.TheSendSync as Undo
 use Rattle.swift_locals.proofs.bindings.Bindings.TheSendSync as Bindings
 use Rattle.swift_turn.proofs.phase.Phase.TheSendSync as Phase
 use Rattle.swift_turn.proofs.stack.Stack.TheSendSync as Stack

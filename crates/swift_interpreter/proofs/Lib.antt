@@ -2,6 +2,4 @@ pub mod SavedLists
 pub mod Arguments
 pub mod Settling
 pub mod Turns
-pub mod Keeping
-pub mod KeptTurns
 pub mod AtOnce

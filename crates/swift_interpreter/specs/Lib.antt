@@ -1,5 +1,4 @@
 pub mod Turn
-pub mod Laws
 pub mod Frames
 pub mod TurnStates
 pub mod Saved

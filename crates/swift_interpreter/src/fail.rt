@@ -1,7 +1,7 @@
 //! A frame that a fault leaves.
 
 ghost use Rattle.std.specs.Prelude.{◌≡◌};
-ghost use Rattle.swift_interpreter.specs.Turn.{exits, left_by, undoes as undoes_turn};
+ghost use Rattle.swift_interpreter.specs.Turn.{exits, left_by};
 ghost use Rattle.swift_interpreter.specs.TurnStates.{exit_view, played_of, state_of};
 
 use crate::exit::Exit;
@@ -9,7 +9,7 @@ use crate::group::pop_group;
 use crate::turn_state::TurnState;
 use swift_types::Fault;
 
-// The frame is left as the exit says.
+/// Leaves the frame as the exit says: a fault ends its bindings, and closes its innermost group first, if one is open (our own).
 pub fn leave_frame(turn: &mut TurnState, exit: Exit) -> Exit
     ensures left { (at : _) → played_of (state_of at turn.new) result ≡ exits (state_of at turn.old) (exit_view exit) }
     ensures fields { turn.new.fields.items ≡ turn.old.fields.items }
@@ -35,14 +35,4 @@ fn leave_by(turn: &mut TurnState, f: Fault) -> Exit
         }
         None => Exit::Fault(f),
     }
-}
-
-// Whether an exit undoes its turn.
-pub fn undoes(exit: &Exit) -> bool
-    ensures { result ≡ undoes_turn (exit_view exit.now) }
-{
-    matches!(
-        exit,
-        Exit::Fault(Fault::Overflow | Fault::Steps | Fault::Tasks | Fault::Isolation)
-    )
 }

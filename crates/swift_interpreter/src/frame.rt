@@ -1,7 +1,11 @@
 //! A method that is under way.
 
+ghost use Rattle.std.specs.Prelude.{◌≡◌, OnOk};
+ghost use Rattle.swift_interpreter.specs.Frames.{frame_view};
+
+use crate::saved::copy_into;
 use script_code::Binding;
-use std::alloc::Global;
+use std::alloc::{AllocError, Global};
 use swift_types::{Fault, MethodId};
 
 /// A method that is under way, and the counts of its task (our own).
@@ -60,5 +64,22 @@ impl Frame {
             made: 0,
             opened: 0,
         }
+    }
+
+    /// Becomes a copy of another frame, in its own buffers, which grow only where they are too small.
+    pub fn copy_from(&mut self, from: &Frame) -> Result<(), AllocError>
+        ensures parts { OnOk result (frame_view self.new ≡ frame_view from.now) }
+        ensures method { OnOk result (self.new.method ≡ from.now.method) }
+    {
+        self.method = from.method;
+        self.line = from.line;
+        copy_into(&from.variables, &mut self.variables)?;
+        copy_into(&from.handles, &mut self.handles)?;
+        copy_into(&from.own, &mut self.own)?;
+        copy_into(&from.groups, &mut self.groups)?;
+        self.pending = from.pending;
+        self.made = from.made;
+        self.opened = from.opened;
+        Ok(())
     }
 }

@@ -1,4 +1,4 @@
-//! One turn of a frame: its statements, what is kept of it, and how it is undone.
+//! The statements of one turn of a frame.
 #![tactic(auto)]
 
 mod at_once;
@@ -8,8 +8,6 @@ mod fail;
 mod frame;
 mod given;
 mod group;
-mod kept;
-pub mod laws;
 mod make;
 mod place;
 mod play;
@@ -18,13 +16,14 @@ mod saved;
 mod settle;
 mod step;
 mod turn_state;
-mod undo;
 mod values;
+mod whole;
 
 pub use effect::{Effect, Invocation, TaskName};
 pub use exit::Exit;
+pub use fail::leave_frame;
 pub use frame::Frame;
 pub use given::Given;
-pub use kept::play_kept;
+pub use saved::SavedRows;
 pub use turn_state::TurnState;
-pub use undo::Undo;
+pub use whole::play_whole;

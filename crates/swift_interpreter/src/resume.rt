@@ -1,7 +1,7 @@
 //! What a turn begins with.
 
 ghost use Rattle.std.specs.Prelude.{◌≡◌, IfOk};
-ghost use Rattle.swift_interpreter.specs.Turn.{caught, given, taken};
+ghost use Rattle.swift_interpreter.specs.Turn.{caught, given, received, taken};
 ghost use Rattle.swift_interpreter.specs.TurnStates.{fields_before, lent, next_of, state_of};
 ghost use Rattle.script_code.specs.Instructions.{Follows, first};
 ghost use Rattle.script_code.specs.Tree.{term_if};
@@ -46,12 +46,32 @@ pub fn take<'a>(
             _ => None,
         });
     };
+    receive(alloc, resume, other, outer, env, turn, saved, *place, *next)
+}
+
+// The resume goes to an await that stands open.
+fn receive<'a>(
+    alloc: Global,
+    resume: Resume,
+    other: &Option<Formula>,
+    outer: &'a Bindings,
+    env: &'a Env,
+    turn: &mut TurnState,
+    saved: &mut SavedRows,
+    place: Option<Place>,
+    next: u32,
+) -> Result<Option<Exit>, AllocError>
+    ensures next { IfOk result (λ exit. (at : _) → next_of (state_of at turn.new) exit
+        ≡ received (lent outer.now env.now) place (term_if other.now) (at next) resume (state_of at turn.old)) }
+    ensures back { fields_before saved.new turn.new ≡ fields_before saved.old turn.old }
+    ensures method { turn.new.frame.method ≡ turn.old.frame.method }
+{
     let v = match resume {
         Resume::Start | Resume::Go => 0,
         Resume::Value(v) => v,
-        Resume::Fault(f) => return catch(alloc, f, other, outer, env, turn, saved, *place, *next),
+        Resume::Fault(f) => return catch(alloc, f, other, outer, env, turn, saved, place, next),
     };
-    give(alloc, turn, saved, *place, *next, v)
+    give(alloc, turn, saved, place, next, v)
 }
 
 // A fault comes to an await that stands open. None where `else` gives a value in its place.

@@ -5,7 +5,7 @@ ghost use Rattle.swift_interpreter.specs.Frames.{invocation_if};
 ghost use Rattle.swift_interpreter.specs.Turn.{act, calling, failing, given, goes, leaves, returning, tail, wait_for, with_invocation, with_value};
 ghost use Rattle.swift_interpreter.specs.TurnStates.{exit_view, fields_before, lent, next_of, state_of};
 ghost use Rattle.swift_types.specs.declared.outcome.Fault.TheVariants.{Cancelled, Thrown};
-ghost use Rattle.script_code.specs.Instructions.{Follows, first};
+ghost use Rattle.script_code.specs.Instructions.{Follows, first, first_by};
 ghost use Rattle.script_code.specs.Tree.{wanted_of};
 ghost use Rattle.script_code.specs.Value.{is_zero};
 
@@ -41,6 +41,24 @@ pub fn step<'a>(
     let Some(instruction) = instructions.get(turn.frame.line as usize) else {
         return Ok(Some(Exit::Return(0)));
     };
+    perform(alloc, instruction, outer, env, turn, saved)
+}
+
+// What an instruction does.
+#[inline(always)]
+fn perform<'a>(
+    alloc: Global,
+    instruction: &Instruction,
+    outer: &'a Bindings,
+    env: &'a Env,
+    turn: &mut TurnState,
+    saved: &mut SavedRows,
+) -> Result<Option<Exit>, AllocError>
+    ensures next { IfOk result (λ exit. (at : _) → next_of (state_of at turn.new) exit
+        ≡ act (lent outer.now env.now) (first_by at instruction.now.act instruction.now.next instruction.now.other) (state_of at turn.old)) }
+    ensures back { fields_before saved.new turn.new ≡ fields_before saved.old turn.old }
+    ensures method { turn.new.frame.method ≡ turn.old.frame.method }
+{
     let next = instruction.next;
     let sight = Sight {
         variables: &turn.frame.variables,

@@ -5,7 +5,7 @@ use Rattle.swift_types.specs.declared.limits.TheConstants.{STEPS}
 use Rattle.script_code.specs.Tree.{Term}
 use Rattle.script_code.specs.Value.{holds}
 use Rattle.swift_script.specs.Scripts.{ScriptView, actor_executor, executor_invariants, method_actor}
-use Rattle.swift_interpreter.specs.Laws.{InvariantsAreKept}
+use Rattle.swift_undo.specs.Laws.{InvariantsAreKept}
 use Rattle.swift_turn.specs.Body.{state_at}
 use Rattle.swift_journal.specs.Records.{RecordView}
 use Rattle.swift_journal.specs.Replay.{AreLawful, IsLawfulRecord, LawfulGrows, RunOn, fields_after, replay}

@@ -5,7 +5,7 @@ ghost use Rattle.swift_script.specs.Scripts.{ScriptView};
 ghost use Rattle.swift_journal.specs.Records.{RecordView};
 ghost use Rattle.swift_journal.specs.Replay.{InvariantsStay, LawfulGrows};
 
-use swift_interpreter::laws::invariants_are_kept;
+use swift_undo::laws::invariants_are_kept;
 
 /// A lawful journal that gains a lawful record is lawful (our own).
 pub fn lawful_grows()

@@ -7,6 +7,7 @@ pub mod HistoriesSplit
 pub mod HistoriesBegun
 pub mod HistoriesFrames
 pub mod HistoriesLocals
+pub mod InnermostReads
 pub mod HistoriesMade
 pub mod HistoriesHandedOn
 pub mod HistoriesApplied

@@ -1,5 +1,5 @@
--- Laws of task locals in legal reports (SE-0311): which bindings a turn finds.
-use Rattle.std.specs.Prelude.{◌≡◌, ◌⊎◌, ℕ, zero, suc, ℤ, false, Some, List, [], ◌∷◌, ◌++◌, unwrap_or}
+-- Laws of task locals (SE-0311): which bindings a turn of a legal report finds, and which of them a read gives.
+use Rattle.std.specs.Prelude.{◌≡◌, ◌⊎◌, ℕ, zero, suc, ℤ, false, Option, None, Some, List, [], ◌∷◌, ◌++◌, unwrap_or}
 use Rattle.swift_types.specs.declared.limits.TheConstants.{STEPS}
 use Rattle.swift_types.specs.declared.priority.Priority.{Priority}
 use Rattle.swift_locals.specs.Bindings.{value_of}
@@ -127,3 +127,14 @@ pub record IsHandedOn (script : ScriptView) (r : RecordView) (before : List Effe
 abbrev pub BindingsAreHandedOn : Type 0
 BindingsAreHandedOn = (script : ScriptView) (report : ReportView) (executor place : ℕ) (r : RecordView) (before : List EffectView) (e : EffectView)
     (after : List EffectView) → IsLegal script report → IsRecord report executor place r → r.effects ≡ before ++ e ∷ after → IsHandedOn script r before e
+
+-- the first of two values that is there
+abbrev pub first_of_two : Option ℤ → Option ℤ → Option ℤ
+first_of_two None outer = outer
+first_of_two (Some v) outer = Some v
+
+-- A read of a local gives its innermost binding among the frame's own, or else among those that stood when the frame
+-- began, or else its default.
+abbrev pub ReadsInnermost : Type 0
+ReadsInnermost = (g : Given) (s : State) (l : ℕ) (default : ℤ) →
+    ev (local l default) (scene g s) ≡ Some (unwrap_or (first_of_two (value_of s.own l) (value_of g.outer l)) default)

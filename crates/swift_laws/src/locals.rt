@@ -1,6 +1,6 @@
-//! What holds of the task locals of each legal report (SE-0311). A call costs nothing; its contract is the law.
+//! What holds of task locals, in turns and in each legal report (SE-0311). A call costs nothing; its contract is the law.
 
-ghost use Rattle.swift_laws.specs.Inherited.{EachTaskIsMadeOnce, LocalsAreInherited, BindingsAreHandedOn};
+ghost use Rattle.swift_laws.specs.Inherited.{EachTaskIsMadeOnce, LocalsAreInherited, BindingsAreHandedOn, ReadsInnermost};
 
 /// In a legal report each task is made once: so the bindings that it was made with are its own (our own).
 pub fn each_task_is_made_once()
@@ -18,4 +18,9 @@ pub fn locals_are_inherited()
 /// statement: those of its maker's frame, the innermost first, and then those that its maker found (SE-0311).
 pub fn bindings_are_handed_on()
     ensures { BindingsAreHandedOn }
+{}
+
+/// A read of a task local gives its innermost binding, or its default where none stands (SE-0311).
+pub fn read_gives_innermost()
+    ensures { ReadsInnermost }
 {}

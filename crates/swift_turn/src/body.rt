@@ -11,8 +11,8 @@ ghost use Rattle.swift_interpreter.specs.TurnStates.{exit_view};
 ghost use Rattle.swift_interpreter.specs.Turn.{calling};
 ghost use Rattle.swift_turn.specs.Body.{AdvancesTo, BeginsFrame, BeginsToWait, CanAdvance, GoesOn, Hands, IfRunning, IsPolled, IsRunning, KeepsSlot, Polls, Registers, WaitsIn, Resumes, answer_of, at_rest, callers_of, ending_if, ends_with, entered, idle, kept_turn, opening, out_of_memory, state_at};
 
-use crate::opening::{copy_of, opening_of};
-use crate::outer::{bind_all, unbind_all};
+use crate::opening::{callee_of, copy_of, opening_of};
+use crate::outer::{begin_over, unbind_all};
 use crate::phase::Phase;
 use crate::stack::Stack;
 use crate::step::Step;
@@ -23,11 +23,12 @@ use std::alloc::{AllocError, Global};
 use std::marker::Model;
 use std::mem;
 use std::sync::Arc;
-use swift_interpreter::{Effect, Exit, Frame, Given, Invocation, TurnState, Undo, play_kept};
+use swift_interpreter::{Effect, Exit, Frame, Given, Invocation, TurnState};
 use swift_locals::Bindings;
 use swift_script::Script;
 use swift_types::limits::{FRAMES, STEPS};
 use swift_types::{ActorId, Ending, Fault, MethodId, Resume};
+use swift_undo::{Undo, play_kept};
 
 /// A task: its script, its frames, the bindings that stand in it, and the turn that is under way (SE-0304). A turn is
 /// entered with the fields of the actors of its executor, polled once, and left; then `advance` says what comes next.
@@ -450,25 +451,22 @@ impl Body {
             return Ok(Step::Run(self.actor(), Resume::Fault(Fault::Depth)));
         }
         let inside = &mut *self.inside;
-        let method = invocation.method;
-        let args = invocation.args.to_vec(inside.alloc)?;
-        let top = &inside.turn.frame;
-        let callee = opening_of(
+        let callee = callee_of(
             inside.alloc,
             &inside.script,
-            method,
-            args,
-            top.made,
-            top.opened,
+            invocation,
+            &inside.turn.frame,
         )?;
-        bind_all(&mut inside.outer, &top.own)?;
-        let caller = mem::replace(&mut inside.turn.frame, callee);
-        if let Err(refused) = inside.callers.push(caller) {
-            inside.turn.frame = refused.value;
-            unbind_all(&mut inside.outer, inside.turn.frame.own.len());
-            return Err(AllocError);
-        }
-        Ok(Step::Run(inside.script.method_actor(method), Resume::Start))
+        begin_over(
+            &mut inside.callers,
+            &mut inside.turn.frame,
+            &mut inside.outer,
+            callee,
+        )?;
+        Ok(Step::Run(
+            inside.script.method_actor(invocation.method),
+            Resume::Start,
+        ))
     }
 
     fn resume_caller(&mut self, resume: Resume, ending: Ending) -> Step

@@ -3,10 +3,10 @@
 ghost use Rattle.std.specs.Prelude.{◌≡◌, ◌<◌, IfOk};
 ghost use Rattle.swift_script.specs.Scripts.{method_count};
 ghost use Rattle.swift_interpreter.specs.Frames.{frame_view};
-ghost use Rattle.swift_turn.specs.Body.{opening};
+ghost use Rattle.swift_turn.specs.Body.{opening, padded};
 
 use std::alloc::{AllocError, Global};
-use swift_interpreter::Frame;
+use swift_interpreter::{Frame, Invocation};
 use swift_script::Script;
 use swift_types::MethodId;
 
@@ -20,13 +20,10 @@ pub fn opening_of(
     opened: u64,
 ) -> Result<Frame, AllocError>
     requires { method.0 < method_count script.now }
-    ensures { IfOk result (λ f. frame_view f ≡ opening script.now method.0 args.items made opened) }
+    ensures parts { IfOk result (λ f. frame_view f ≡ opening script.now method.0 args.items made opened) }
+    ensures method { IfOk result (λ f. f.method ≡ method) }
 {
-    let numbers = script.method_numbers(method) as usize;
-    let mut variables = args;
-    if variables.len() < numbers {
-        variables.resize(numbers, 0)?;
-    }
+    let variables = variables_of(args, script.method_numbers(method) as usize)?;
     let mut handles = Vec::new(alloc);
     handles.resize(script.method_handles(method) as usize, 0)?;
     Ok(Frame {
@@ -40,6 +37,39 @@ pub fn opening_of(
         made,
         opened,
     })
+}
+
+// The arguments, and as many zeros as there are further numbers.
+fn variables_of(args: Vec<i64>, numbers: usize) -> Result<Vec<i64>, AllocError>
+    ensures { IfOk result (λ vs. vs.items ≡ padded args.items numbers) }
+{
+    let mut variables = args;
+    if variables.len() < numbers {
+        variables.resize(numbers, 0)?;
+    }
+    Ok(variables)
+}
+
+// The frame that a call begins.
+pub fn callee_of(
+    alloc: Global,
+    script: &Script,
+    invocation: &Invocation,
+    caller: &Frame,
+) -> Result<Frame, AllocError>
+    requires { invocation.now.method.0 < method_count script.now }
+    ensures parts { IfOk result (λ f. frame_view f ≡ opening script.now invocation.now.method.0 invocation.now.args.items caller.now.made caller.now.opened) }
+    ensures method { IfOk result (λ f. f.method ≡ invocation.now.method) }
+{
+    let args = invocation.args.to_vec(alloc)?;
+    opening_of(
+        alloc,
+        script,
+        invocation.method,
+        args,
+        caller.made,
+        caller.opened,
+    )
 }
 
 // The same frame again.

@@ -1,5 +1,0 @@
-use Rattle.swift_interpreter.proofs.KeptTurns.{invariants_kept}
-use Rattle.swift_interpreter.proofs.laws.invariants_are_kept.Goals as goal
-
-pub returns : goal.returns
-returns c = invariants_kept

@@ -1,5 +1,0 @@
-use Rattle.swift_interpreter.proofs.KeptTurns.{others_are_kept}
-use Rattle.swift_interpreter.proofs.laws.other_turns_are_kept.Goals as goal
-
-pub returns : goal.returns
-returns c = others_are_kept

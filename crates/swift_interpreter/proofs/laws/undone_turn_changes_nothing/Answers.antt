@@ -1,5 +1,0 @@
-use Rattle.swift_interpreter.proofs.KeptTurns.{undone_changes_nothing}
-use Rattle.swift_interpreter.proofs.laws.undone_turn_changes_nothing.Goals as goal
-
-pub returns : goal.returns
-returns c = undone_changes_nothing

@@ -1,0 +1,78 @@
+//! Undoing a turn.
+
+ghost use Rattle.std.specs.Prelude.{◌≡◌, [], OnOk};
+ghost use Rattle.swift_interpreter.specs.Frames.{frame_view, state_in};
+ghost use Rattle.swift_interpreter.specs.TurnStates.{fields_before, state_of};
+ghost use Rattle.script_code.specs.Seen.{rows_of};
+
+use std::alloc::{AllocError, Global};
+use std::mem;
+use swift_interpreter::{Frame, SavedRows, TurnState};
+
+/// What undoes a turn: a copy of its frame, and the rows of fields that it has changed (our own). It may serve any
+/// turn, and its buffers are used again from one to the next.
+pub struct Undo {
+    pub(crate) frame: Frame,
+    pub(crate) saved: SavedRows,
+}
+
+impl Drop for Undo {
+    fn drop(self) {
+        let Undo { frame, saved } = self;
+        drop(frame);
+        drop(saved);
+    }
+}
+
+impl Undo {
+    /// Nothing to undo. It takes no memory.
+    pub fn new(alloc: Global) -> Self {
+        Undo {
+            frame: Frame::new(alloc),
+            saved: SavedRows::new(alloc),
+        }
+    }
+
+    /// Makes room for a copy of a frame, so that a turn of it takes no memory for that. An error says that a growth was
+    /// refused. It may be called between turns only.
+    pub fn make_room(&mut self, frame: &Frame) -> Result<(), AllocError> {
+        self.frame.variables.clear();
+        self.frame.variables.reserve(frame.variables.len())?;
+        self.frame.handles.clear();
+        self.frame.handles.reserve(frame.handles.len())?;
+        self.frame.own.clear();
+        self.frame.own.reserve(frame.own.len())?;
+        self.frame.groups.clear();
+        self.frame.groups.reserve(frame.groups.len())
+    }
+
+    /// A turn begins, with no effects, which may make this many tasks. After an error its frame, fields and method are as
+    /// they were.
+    pub fn begin(&mut self, turn: &mut TurnState, room: u32) -> Result<(), AllocError>
+        ensures state { (at : _) → state_of at turn.new ≡ state_in at (frame_view turn.old.frame) (rows_of turn.old.fields.items) [] room }
+        ensures frame { frame_view turn.new.frame ≡ frame_view turn.old.frame }
+        ensures fields { turn.new.fields.items ≡ turn.old.fields.items }
+        ensures method { turn.new.frame.method ≡ turn.old.frame.method }
+        ensures copy { OnOk result (frame_view self.new.frame ≡ frame_view turn.old.frame) }
+        ensures copy_method { OnOk result (self.new.frame.method ≡ turn.old.frame.method) }
+        ensures saved { self.new.saved ≡ [] }
+    {
+        turn.effects.clear();
+        turn.room = room;
+        self.saved.clear();
+        self.frame.copy_from(&turn.frame)
+    }
+
+    /// The turn under way is undone: it has done nothing, and may make this many tasks.
+    pub fn put_back(&mut self, turn: &mut TurnState, room: u32)
+        ensures state { (at : _) → state_of at turn.new ≡ state_in at (frame_view self.old.frame) (fields_before self.old.saved turn.old) [] room }
+        ensures frame { frame_view turn.new.frame ≡ frame_view self.old.frame }
+        ensures fields { rows_of turn.new.fields.items ≡ fields_before self.old.saved turn.old }
+        ensures method { turn.new.frame.method ≡ self.old.frame.method }
+    {
+        mem::swap(&mut turn.frame, &mut self.frame);
+        self.saved.put_back(&mut turn.fields);
+        turn.effects.clear();
+        turn.room = room;
+    }
+}
