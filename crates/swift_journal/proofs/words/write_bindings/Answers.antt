@@ -1,6 +1,6 @@
-use Rattle.std.proofs.Common.{◌≡◌, ℕ, ℤ, pos, ◌<◌, [], ◌∷◌, ◌++◌, length, reverse, get_or, arith, ap, ◌∙◌, rules, w64, to_z, of_z}
-use Rattle.std.proofs.lemmas.List.{length-reverse}
-use Rattle.swift_journal.specs.Words.{pair_words}
+use Rattle.std.proofs.Common.{◌≡◌, ℕ, ℤ, pos, ◌<◌, List, [], ◌∷◌, ◌++◌, length, reverse, get_or, arith, ap, subst, ◌∙◌, rules, w64, to_z, of_z}
+use Rattle.std.proofs.lemmas.List.{length-reverse, take_all}
+use Rattle.swift_journal.specs.Words.{pair_words, AreNarrow}
 use Rattle.swift_journal.proofs.Pairs.{written_more, narrow_more}
 use Rattle.swift_journal.proofs.words.write_bindings.Goals as goal
 
@@ -19,3 +19,15 @@ loop-place-preserved c =
       words = written_more _ _ _ ps c.loop-place.place p h at c.loop-place.invariant.words written;
       narrow = narrow_more ps c.loop-place.place p h at c.loop-place.invariant.narrow c.in_ok-write_pair.ensures.narrow;
     }
+
+pub returns-clause-words : goal.returns-clause-words
+returns-clause-words c =
+    let ps = reverse c.args.bindings.now in
+    let len = length-reverse c.args.bindings.now in
+    c.loop-place.invariant.words ∙ ap (λ (qs : List (ℕ × ℤ)). c.args.words.now.items ++ pair_words qs) (take_all c.loop-place.place ps (omega arith))
+
+pub returns-clause-narrow : goal.returns-clause-narrow
+returns-clause-narrow c =
+    let ps = reverse c.args.bindings.now in
+    let len = length-reverse c.args.bindings.now in
+    subst AreNarrow (take_all c.loop-place.place ps (omega arith)) c.loop-place.invariant.narrow

@@ -1,7 +1,7 @@
-use Rattle.std.proofs.Common.{◌≡◌, ℤ, pos, ◌<◌, [], ◌∷◌, ◌++◌, length, map, get_or, arith, ap, ◌∙◌, rules, w64, to_z, of_z}
-use Rattle.std.proofs.lemmas.List.{length-map, get_or-map}
+use Rattle.std.proofs.Common.{◌≡◌, ℕ, ℤ, pos, ◌<◌, List, [], ◌∷◌, ◌++◌, length, map, get_or, arith, ap, subst, ◌∙◌, rules, w64, to_z, of_z}
+use Rattle.std.proofs.lemmas.List.{length-map, get_or-map, take_all}
 use Rattle.script_code.specs.Seen.{pair_of}
-use Rattle.swift_journal.specs.Words.{pair_words}
+use Rattle.swift_journal.specs.Words.{pair_words, AreNarrow}
 use Rattle.swift_journal.proofs.Pairs.{written_more, narrow_more}
 use Rattle.swift_journal.proofs.words.write_own.Goals as goal
 
@@ -22,3 +22,15 @@ loop-binding-preserved c =
       words = written_more _ _ _ ps k p h at c.loop-binding.invariant.words written;
       narrow = narrow_more ps k p h at c.loop-binding.invariant.narrow c.in_ok-write_pair.ensures.narrow;
     }
+
+pub returns-clause-words : goal.returns-clause-words
+returns-clause-words c =
+    let ps = map pair_of c.args.own.now in
+    let len = length-map c.args.own.now pair_of in
+    c.loop-binding.invariant.words ∙ ap (λ (qs : List (ℕ × ℤ)). c.args.words.now.items ++ pair_words qs) (take_all c.loop-binding.binding-index ps (omega (arith, len, c.loop-binding-test.false)))
+
+pub returns-clause-narrow : goal.returns-clause-narrow
+returns-clause-narrow c =
+    let ps = map pair_of c.args.own.now in
+    let len = length-map c.args.own.now pair_of in
+    subst AreNarrow (take_all c.loop-binding.binding-index ps (omega (arith, len, c.loop-binding-test.false))) c.loop-binding.invariant.narrow
