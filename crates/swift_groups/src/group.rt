@@ -22,7 +22,7 @@ pub enum Stage {
 }
 
 /// A group. Its children and endings stand among those of all groups.
-#[derive(Clone, Copy, Debug)]
+#[derive(Clone, Copy)]
 pub struct Group {
     pub owner: TaskId,
     pub cancelled: bool,
@@ -38,14 +38,14 @@ pub struct Group {
 }
 
 /// A child of a group.
-#[derive(Clone, Copy, Debug)]
+#[derive(Clone, Copy)]
 pub struct Child {
     pub group: usize,
     pub task: TaskId,
 }
 
 /// The ending of a child of a group.
-#[derive(Clone, Copy, Debug)]
+#[derive(Clone, Copy)]
 pub struct Ended {
     pub group: usize,
     pub task: TaskId,

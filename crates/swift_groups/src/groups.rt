@@ -9,7 +9,7 @@ use crate::group::{
     open_group,
 };
 use crate::queue::enqueue;
-use crate::room::make_room;
+use crate::room::{make_room_for_children, make_room_for_endings};
 use std::alloc::Global;
 use std::collections::HashMap;
 use std::marker::Model;
@@ -96,14 +96,10 @@ impl Groups {
         if calls <= self.room {
             return Ok(());
         }
-        make_room(
-            calls,
-            &mut self.groups,
-            &mut self.children,
-            &mut self.marks,
-            &mut self.endings,
-            &mut self.after,
-        )?;
+        self.groups.reserve(calls)?;
+        make_room_for_children(calls, &mut self.children, &mut self.marks)?;
+        let all = self.children.len() + calls;
+        make_room_for_endings(all, &mut self.endings, &mut self.after)?;
         self.room = calls;
         Ok(())
     }
