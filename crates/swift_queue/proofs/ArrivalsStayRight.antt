@@ -1,7 +1,7 @@
 -- The arrival numbers that are noted by task stay those of the jobs inside.
-use Rattle.std.proofs.Common.{Option, None, Some, is_some, ◌≡◌, ◌≢◌, ℕ, false, List, ◌∷◌, ◌↔◌, get_or, set, map, refl, ap, sym, subst, ◌∙◌, inl, inr, arith, get_or-set_same, get_or-set_other, length-set}
+use Rattle.std.proofs.Common.{Option, None, Some, is_some, ◌≡◌, ◌≢◌, ℕ, ◌<◌, false, List, [], ◌∷◌, ◌↔◌, get_or, replicate, set, map, refl, ap, sym, subst, ◌∙◌, inl, inr, arith, get_or-set_same, get_or-set_other, length-set}
 use Rattle.std.proofs.lemmas.Bool.{cases_eq}
-use Rattle.std.proofs.lemmas.List.{get_or-map, length-map}
+use Rattle.std.proofs.lemmas.List.{get_or-map, get_or-replicate, length-map, length-replicate}
 use Rattle.std.proofs.lemmas.List.Elements.{All-cons, All-head, All-map, All-tail}
 use Rattle.std.proofs.lemmas.List.Sorted.{All-permutation, IsPermutation-sym}
 use Rattle.std.specs.List.{AllPairs}
@@ -30,6 +30,12 @@ module _ {B : Type 0} where
   arrival_by : (m : Option ℕ) (xs ys : List (Waiting B)) (t : TaskId) → IsWithout xs t ↔ IsWithout ys t → ((n : ℕ) → HasArrival xs t n → HasArrival ys t n) → IsArrivalOf m xs t → IsArrivalOf m ys t
   arrival_by None xs ys t same known h = record { none = same.0 h.none; some = tt; inside = tt }
   arrival_by (Some n) xs ys t same known h = record { none = tt; some = known n h.some; inside = λ w. h.inside (same.1 w) }
+
+  -- none is inside
+  pub arrivals_new : (count : ℕ) → AreArrivals {B = B} (replicate count None) []
+  arrivals_new count t within =
+      subst (λ (m : Option ℕ). IsArrivalOf {B = B} m [] (record { 0 = t })) (sym (get_or-replicate count t None None (subst (λ (n : ℕ). t < n) (length-replicate count None) within)))
+      (record { none = λ k d within. absurd (omega (arith, within)); some = tt; inside = tt })
 
   pub arrivals_add : (noted : List (Option ℕ)) (x : Waiting B) (xs ys : List (Waiting B)) → AreArrivals noted xs → IsWithout xs x.job.task → IsPermutation (x ∷ xs) ys → AreArrivals (set noted x.job.task.0 (Some x.arrival)) ys
   arrivals_add noted x xs ys h without p t l =

@@ -6,3 +6,4 @@ pub mod FirstIsPicked
 pub mod RaiseChangesOne
 pub mod QueueStaysOrderly
 pub mod ArrivalsStayRight
+pub mod ListsJustMade

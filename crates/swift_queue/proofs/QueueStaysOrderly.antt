@@ -1,5 +1,5 @@
 -- The queue stays orderly: what a change of its jobs leaves true of each two of them.
-use Rattle.std.proofs.Common.{◌≡◌, ◌≢◌, ℕ, ◌<◌, ◌≤◌, Bool, true, false, List, ◌∷◌, if◌then◌else◌, length, get_or, map, refl, ap, sym, subst, ◌∙◌, arith, ◌&&◌, eqb, nat_lt}
+use Rattle.std.proofs.Common.{◌≡◌, ◌≢◌, ℕ, ◌<◌, ◌≤◌, Bool, true, false, List, [], ◌∷◌, if◌then◌else◌, length, get_or, map, refl, ap, sym, subst, ◌∙◌, arith, ◌&&◌, eqb, nat_lt}
 use Rattle.std.proofs.lemmas.List.{get_or-map, length-map}
 use Rattle.std.proofs.lemmas.List.Elements.{All-cons, All-head, All-map, All-tail}
 use Rattle.std.proofs.lemmas.List.Sorted.{All-permutation, length_permutation}
@@ -19,6 +19,15 @@ module _ {B : Type 0} where
 
   abbrev Tasks : Waiting B → Waiting B → Type 0
   Tasks x y = x.job.task ≢ y.job.task
+
+  -- none is inside
+  pub orderly_new : (room : ℕ) → IsOrderly {B = B} (record { jobs = []; room = room; arrived = 0 })
+  orderly_new room = record {
+    few = omega arith;
+    below = λ k d within. absurd (omega (arith, within));
+    arrivals = λ i j d less within. absurd (omega (arith, within));
+    tasks = λ i j d less within. absurd (omega (arith, within));
+  }
 
   -- one is added
   pub orderly_add : (q : QueueIs B) (x : Waiting B) (new : List (Waiting B)) (arrived : ℕ) → IsOrderly q → IsPermutation (x ∷ q.jobs) new → length q.jobs < q.room → q.arrived ≤ arrived → x.arrival < arrived → All (λ y. y.arrival ≢ x.arrival) q.jobs → IsWithout q.jobs x.job.task

@@ -171,16 +171,22 @@ impl<B> Model for Lists<B> {
 }
 
 impl<B> Lists<B> {
+    /// The lists of all priorities, which are empty and have room for this many each.
+    fn of(lists: [VecDeque<Waiting<B>>; PRIORITIES], room: usize) -> Lists<B>
+        requires lists { AreLists room lists }
+        requires empty { AreEmptyFrom 0 lists }
+        ensures { result ≡ record { jobs = []; room = room } }
+    {
+        Lists { lists, room }
+    }
+
     /// No job, with room for this many.
     pub(crate) fn with_room(alloc: Global, room: usize) -> Result<Lists<B>, AllocError>
         ensures { IfOk result (λ x. x ≡ record { jobs = []; room = room }) }
     {
         let (background, low) = two_lists(alloc, room)?;
         match two_lists(alloc, room) {
-            Ok((medium, high)) => Ok(Lists {
-                lists: [background, low, medium, high],
-                room,
-            }),
+            Ok((medium, high)) => Ok(Lists::of([background, low, medium, high], room)),
             Err(fault) => {
                 background.destroy_empty();
                 low.destroy_empty();
