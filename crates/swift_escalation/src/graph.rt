@@ -23,7 +23,7 @@ fn more_urgent(one: Priority, other: Priority) -> Priority
 }
 
 /// An edge from one task's place to another's.
-#[derive(Clone, Copy, Debug)]
+#[derive(Clone, Copy)]
 pub(crate) struct Edge {
     pub from: usize,
     pub to: usize,
@@ -197,12 +197,11 @@ impl Graph {
         if calls <= self.room {
             return Ok(());
         }
-        let tasks = self.levels.len().checked_add(calls).ok_or(AllocError)?;
         self.levels.reserve(calls)?;
         self.newest.reserve(calls)?;
         self.edges.reserve(calls)?;
         self.before.reserve(calls)?;
-        self.raised.reserve(tasks)?;
+        self.raised.reserve(self.levels.len() + calls)?;
         self.room = calls;
         Ok(())
     }

@@ -10,7 +10,7 @@ use std::marker::Model;
 use swift_types::{Priority, TaskId};
 
 /// What happened to tasks, as far as their priorities ask (SE-0304; that it is logged is our own).
-#[derive(Clone, Copy, Debug, PartialEq, Eq)]
+#[derive(Clone, Copy)]
 pub enum Event {
     /// A root task was added, with its priority.
     Root(TaskId, Priority),

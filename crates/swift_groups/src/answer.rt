@@ -3,11 +3,11 @@
 use swift_types::{Ending, TaskId};
 
 /// The number of a group: how many groups were opened before it.
-#[derive(Clone, Copy, Debug, PartialEq, Eq, PartialOrd, Ord, Hash)]
+#[derive(Clone, Copy, Debug, PartialEq, Eq)]
 pub struct GroupId(pub usize);
 
 /// What a wait for the next result of a group gives (SE-0304).
-#[derive(Clone, Copy, Debug, PartialEq, Eq)]
+#[derive(Clone, Copy)]
 pub enum Next {
     /// A child that ended and was not handed out before, with its ending.
     Result(TaskId, Ending),
@@ -18,7 +18,7 @@ pub enum Next {
 }
 
 /// What closing a group gives (SE-0304).
-#[derive(Clone, Copy, Debug, PartialEq, Eq)]
+#[derive(Clone, Copy)]
 pub enum Close {
     /// Each child has ended. From here on the group refuses every call.
     Done,
