@@ -1,4 +1,4 @@
-use Rattle.std.proofs.Common.{◌≡◌, ℕ, ◌<◌, [], ◌∷◌, ◌++◌, List, Option, length, arith, subst, sym, ap, ◌∙◌}
+use Rattle.std.proofs.Common.{◌≡◌, ℕ, ◌-◌, ◌<◌, [], ◌∷◌, ◌++◌, List, Option, length, arith, subst, sym, ap, ◌∙◌}
 use Rattle.swift_escalation.specs.declared.graph.Edge.{Edge}
 use Rattle.std.proofs.lemmas.List.{with_items_is}
 use Rattle.std.specs.Vec.{with_items}
@@ -57,3 +57,47 @@ pub returns-clause-settled : goal.returns-clause-settled
 returns-clause-settled c =
     let l : (with_items c.self.inside.levels c.settle.new.levels).items ≡ c.settle.new.levels = with_items_is c.self.inside.levels c.settle.new.levels (omega arith) in
     subst (λ (s : List Priority). IsSettled c.link.new.edges.items s) (sym l) (subst (λ (s : List Edge). IsSettled s c.settle.new.levels) c.deref.ensures.value c.settle.ensures.settled)
+
+pub link-requires-clause-chained : goal.link-requires-clause-chained
+link-requires-clause-chained c =
+    subst (λ (s : List (Option ℕ)). AreChained c.self.inside.edges.items c.self.inside.before.items s) (sym c.deref_mut.ensures.value) c.self.invariant.chained
+
+pub link-requires-clause-from : goal.link-requires-clause-from
+link-requires-clause-from c =
+    let levels = ap (λ (g : GraphIs). length g.levels) c.self.view_is in
+    subst (λ (n : ℕ). c.args.from < n) (sym (ap length c.deref_mut.ensures.value ∙ c.self.invariant.same ∙ levels)) c.requires.from
+
+pub link-requires-clause-to : goal.link-requires-clause-to
+link-requires-clause-to c =
+    let levels = ap (λ (g : GraphIs). length g.levels) c.self.view_is in
+    subst (λ (n : ℕ). c.args.to < n) (sym (ap length c.deref_mut.ensures.value ∙ c.self.invariant.same ∙ levels)) c.requires.to
+
+pub link-requires-clause-edges : goal.link-requires-clause-edges
+link-requires-clause-edges c = let r = c.self.invariant.edges_room in let room = ap (λ (g : GraphIs). g.room) c.self.view_is in let some = c.requires.room in omega (arith, r, room, some)
+
+pub link-requires-clause-before : goal.link-requires-clause-before
+link-requires-clause-before c = let r = c.self.invariant.before_room in let room = ap (λ (g : GraphIs). g.room) c.self.view_is in let some = c.requires.room in omega (arith, r, room, some)
+
+pub settle-requires-clause-chained : goal.settle-requires-clause-chained
+settle-requires-clause-chained c =
+    let n : (with_items c.self.inside.newest c.link.new.newest).items ≡ c.link.new.newest = with_items_is c.self.inside.newest c.link.new.newest (omega arith) in
+    subst (λ (s : List Edge). AreChained s c.deref-2.result.now c.deref-3.result.now) (sym c.deref.ensures.value)
+    (subst (λ (s : List (Option ℕ)). AreChained c.link.new.edges.items s c.deref-3.result.now) (sym c.deref-2.ensures.value)
+    (subst (λ (s : List (Option ℕ)). AreChained c.link.new.edges.items c.link.new.before.items s) (sym (c.deref-3.ensures.value ∙ n)) c.link.ensures.chained))
+
+pub settle-requires-clause-start : goal.settle-requires-clause-start
+settle-requires-clause-start c =
+    let levels = ap (λ (g : GraphIs). length g.levels) c.self.view_is in
+    subst (λ (n : ℕ). c.args.to < n) (sym (ap length c.deref_mut-2.ensures.value ∙ levels)) c.requires.to
+
+pub settle-requires-clause-empty : goal.settle-requires-clause-empty
+settle-requires-clause-empty c = c.self.invariant.empty
+
+pub overflow_sub-self : goal.overflow_sub-self
+overflow_sub-self c = let room = ap (λ (g : GraphIs). g.room) c.self.view_is in let some = c.requires.room in omega (arith, room, some)
+
+pub returns-clause-edges : goal.returns-clause-edges
+returns-clause-edges c = c.link.ensures.edges ∙ ap (λ (g : GraphIs). g.edges ++ (record { from = c.args.from; to = c.args.to }) ∷ []) c.self.view_is
+
+pub returns-clause-room : goal.returns-clause-room
+returns-clause-room c = ap (λ (g : GraphIs). g.room - 1) c.self.view_is

@@ -1,8 +1,9 @@
 use Rattle.swift_types.specs.declared.id.TaskId.{TaskId}
-use Rattle.std.proofs.Common.{ℕ, List, Some, [], ◌∷◌, ◌++◌, length, get_or, arith, subst, sym, ap, ◌∙◌, nat_eq, cond, Option}
+use Rattle.std.proofs.Common.{ℕ, ◌<◌, List, Some, [], ◌∷◌, ◌++◌, length, get_or, arith, subst, sym, ap, ◌∙◌, nat_eq, cond, Option}
+use Rattle.std.proofs.lemmas.Option.{slice_get_within}
 use Rattle.std.specs.HashMap.{get}
 use Rattle.swift_escalation.specs.Levels.{GraphIs, higher}
-use Rattle.swift_escalation.specs.Waits.{IsKnown, WaitsIs}
+use Rattle.swift_escalation.specs.Waits.{IsKnown, WaitsIs, tasks_of, with_event}
 use Rattle.swift_escalation.specs.WaitsInside.{StandsAt, AreOf}
 use Rattle.swift_types.specs.declared.priority.Priority.TheVariants.{Background}
 use Rattle.swift_types.specs.declared.priority.Priority.{Priority}
@@ -36,3 +37,24 @@ invariant_of-self c =
       events_room = omega (arith, left, len, cap, er, rq, room);
       places_room = omega (arith, left, spare', pr, rq, room);
     }
+
+pub unreachable-requires : goal.unreachable-requires
+unreachable-requires c =
+    let room = ap (λ (w : WaitsIs). w.reserved) c.self.view_is in let some = c.requires.room in
+    let r = c.self.invariant.events_room in let full = c.in_default.ensures.full in omega (arith, r, room, some, full)
+
+pub add_under-requires-clause-room : goal.add_under-requires-clause-room
+add_under-requires-clause-room c = let room = ap (λ (w : WaitsIs). w.reserved) c.self.view_is in let some = c.requires.room in omega (arith, room, some)
+
+pub add_under-requires-clause-parent : goal.add_under-requires-clause-parent
+add_under-requires-clause-parent c =
+    let es : List Event = c.self.inside.events.items in
+    let above : StandsAt es c.args.parent c.args.above = subst (λ (s : List Event). StandsAt s c.args.parent c.args.above) (sym (ap (λ (w : WaitsIs). w.events) c.self.view_is)) c.requires.above in
+    subst (λ (n : ℕ). c.args.above < n) (sym c.self.invariant.are_of.count) (slice_get_within (tasks_of es) c.args.above c.args.parent above)
+
+pub returns : goal.returns
+returns c =
+    let event : Event = Child c.args.task c.args.parent c.args.own in
+    let with_events : List Event → WaitsIs = λ events. record { events = events; reserved = c.add_under.new.self.room } in
+    let with_room : GraphIs → WaitsIs = λ graph. record { events = c.self.inside.events.items ++ event ∷ []; reserved = graph.room } in
+    ap with_events c.in-Ok.ensures.items ∙ ap with_room c.add_under.ensures ∙ ap (λ (w : WaitsIs). with_event w event) c.self.view_is

@@ -1,8 +1,9 @@
 use Rattle.swift_types.specs.declared.id.TaskId.{TaskId}
-use Rattle.std.proofs.Common.{ℕ, List, [], ◌∷◌, ◌++◌, arith, subst, sym, ap, nat_eq, Option}
+use Rattle.std.proofs.Common.{ℕ, ◌-◌, ◌<◌, List, [], ◌∷◌, ◌++◌, arith, subst, sym, ap, nat_eq, Option, ◌∙◌}
+use Rattle.std.proofs.lemmas.Option.{slice_get_within}
 use Rattle.std.specs.HashMap.{get}
 use Rattle.swift_escalation.specs.Levels.{GraphIs, Settling, level_of}
-use Rattle.swift_escalation.specs.Waits.{WaitsIs}
+use Rattle.swift_escalation.specs.Waits.{WaitsIs, tasks_of, with_event}
 use Rattle.swift_escalation.specs.WaitsInside.{StandsAt, AreOf}
 use Rattle.swift_escalation.specs.declared.graph.Edge.{Edge}
 use Rattle.swift_escalation.specs.declared.waits.Event.{Event}
@@ -32,3 +33,30 @@ invariant_of-self c =
       events_room = omega (arith, left, len, cap, er, rq, room);
       places_room = omega (arith, left, pr, rq, room);
     }
+
+pub unreachable-requires : goal.unreachable-requires
+unreachable-requires c =
+    let room = ap (λ (w : WaitsIs). w.reserved) c.self.view_is in let some = c.requires.room in
+    let r = c.self.invariant.events_room in let full = c.in_default.ensures.full in omega (arith, r, room, some, full)
+
+pub join-requires-clause-room : goal.join-requires-clause-room
+join-requires-clause-room c = let room = ap (λ (w : WaitsIs). w.reserved) c.self.view_is in let some = c.requires.room in omega (arith, room, some)
+
+pub join-requires-clause-from : goal.join-requires-clause-from
+join-requires-clause-from c =
+    let es : List Event = c.self.inside.events.items in
+    let from : StandsAt es c.args.waiter c.args.from = subst (λ (s : List Event). StandsAt s c.args.waiter c.args.from) (sym (ap (λ (w : WaitsIs). w.events) c.self.view_is)) c.requires.from in
+    subst (λ (n : ℕ). c.args.from < n) (sym c.self.invariant.are_of.count) (slice_get_within (tasks_of es) c.args.from c.args.waiter from)
+
+pub join-requires-clause-to : goal.join-requires-clause-to
+join-requires-clause-to c =
+    let es : List Event = c.self.inside.events.items in
+    let to : StandsAt es c.args.task c.args.to = subst (λ (s : List Event). StandsAt s c.args.task c.args.to) (sym (ap (λ (w : WaitsIs). w.events) c.self.view_is)) c.requires.to in
+    subst (λ (n : ℕ). c.args.to < n) (sym c.self.invariant.are_of.count) (slice_get_within (tasks_of es) c.args.to c.args.task to)
+
+pub returns : goal.returns
+returns c =
+    let event : Event = Wait c.args.waiter c.args.task in
+    let with_events : List Event → WaitsIs = λ events. record { events = events; reserved = c.join.new.self.room } in
+    let with_room : ℕ → WaitsIs = λ room. record { events = c.self.inside.events.items ++ event ∷ []; reserved = room } in
+    ap with_events c.in-Ok.ensures.items ∙ ap with_room c.join.ensures.room ∙ ap (λ (w : WaitsIs). with_event w event) c.self.view_is
