@@ -1,0 +1,14 @@
+use Rattle.std.proofs.Common.{map, sym, ◌∙◌, arith}
+use Rattle.std.proofs.lemmas.List.{at_drop_all}
+use Rattle.script_grammar.specs.Tree.{view_method}
+use Rattle.script_names.specs.Scope.{fields_alone}
+use Rattle.script_names.specs.Rules.{methods_error, past_methods}
+use Rattle.script_names.proofs.actors.methods.Goals as goal
+
+pub returns-clause-finds : goal.returns-clause-finds
+returns-clause-finds c =
+    sym c.loop-next.invariant.errors ∙ at_drop_all (λ ms. methods_error (fields_alone c.args.declared.now c.args.actor) c.loop-next.seen c.loop-next.at (map view_method ms)) c.args.methods.now c.loop-next.next-index (omega (arith, c.loop-next-test.false))
+
+pub returns-clause-after : goal.returns-clause-after
+returns-clause-after c =
+    sym (at_drop_all (λ ms. past_methods (map view_method ms) c.loop-next.at) c.args.methods.now c.loop-next.next-index (omega (arith, c.loop-next-test.false))) ∙ c.loop-next.invariant.after

@@ -1,0 +1,17 @@
+use Rattle.std.proofs.Common.{map, sym, ◌∙◌, arith}
+use Rattle.std.proofs.lemmas.List.{at_drop_all}
+use Rattle.script_grammar.specs.Tree.{text_of}
+use Rattle.script_names.specs.Rules.{parameters_error, past_names, with_parameters}
+use Rattle.script_names.proofs.actors.parameters.Goals as goal
+
+pub returns-clause-finds : goal.returns-clause-finds
+returns-clause-finds c =
+    sym c.loop-param.invariant.errors ∙ at_drop_all (λ ps. parameters_error c.loop-param.scope c.loop-param.at (map text_of ps)) c.args.params.now c.loop-param.param-index (omega (arith, c.loop-param-test.false))
+
+pub returns-clause-after : goal.returns-clause-after
+returns-clause-after c =
+    sym (at_drop_all (λ ps. past_names (map text_of ps) c.loop-param.at) c.args.params.now c.loop-param.param-index (omega (arith, c.loop-param-test.false))) ∙ c.loop-param.invariant.after
+
+pub returns-clause-scope : goal.returns-clause-scope
+returns-clause-scope c =
+    sym (at_drop_all (λ ps. with_parameters c.loop-param.scope (map text_of ps)) c.args.params.now c.loop-param.param-index (omega (arith, c.loop-param-test.false))) ∙ c.loop-param.invariant.standing
