@@ -12,7 +12,6 @@ use script_tokens::{Keyword, Mark};
 use std::alloc::AllocError;
 
 /// All of them, one after the other.
-#[tactic(auto, using(crate::proofs::Written::after_after, crate::proofs::Written::after_none))]
 pub(crate) fn write_all<T: Write>(out: &mut Vec<u8>, items: &[T]) -> Result<(), AllocError>
     ensures { OnOk result (out.new.items ≡ after out.old.items (flat_map T.pieces (map T.view items.now))) }
 {
@@ -31,7 +30,6 @@ fn write_after_comma<T: Write>(out: &mut Vec<u8>, item: &T) -> Result<(), AllocE
 }
 
 /// Each after a comma.
-#[tactic(auto, using(crate::proofs::Written::after_after, crate::proofs::Written::after_none))]
 fn write_more<T: Write>(out: &mut Vec<u8>, items: &[T]) -> Result<(), AllocError>
     ensures { OnOk result (out.new.items ≡ after out.old.items (flat_map (after_comma T.pieces) (map T.view items.now))) }
 {
