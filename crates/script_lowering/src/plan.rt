@@ -1,6 +1,6 @@
 //! What lowering knows of a whole script.
 
-ghost use Rattle.std.specs.Prelude.{◌≡◌, ℕ, pos, ◌∷◌, ◌++◌, [], Some, length, map, option_copied, slice_get, unwrap_or, List, IfOk, OnOk};
+ghost use Rattle.std.specs.Prelude.{◌≡◌, ◌==◌, ℕ, pos, ◌∷◌, ◌++◌, [], Some, length, map, option_copied, slice_get, unwrap_or, count_by, List, IfOk, OnOk};
 ghost use Rattle.script_grammar.specs.Tree.{text_if, view_decl};
 ghost use Rattle.script_names.specs.Texts.{place_of};
 ghost use Rattle.script_names.specs.Directory.{directory_of, executors_in};
@@ -77,7 +77,7 @@ impl Plan {
     pub fn executor(&self, actor: usize) -> u32
         ensures { result ≡ executor_at self.now actor }
     {
-        self.executors.get(actor).copied().unwrap_or(0)
+        executor_at(&self.executors, actor)
     }
 
     /// The seat of the actor at a place, in constant time. An actor that is not there would sit after all those of
@@ -203,10 +203,23 @@ fn seats(alloc: Global, executors: &[u32]) -> Result<Vec<u32>, AllocError>
     Ok(seats)
 }
 
+// The executor of the actor at a place, or 0 where there is no such actor.
+fn executor_at(executors: &[u32], actor: usize) -> u32
+    ensures { result ≡ unwrap_or (slice_get executors.now actor) 0 }
+{
+    executors.get(actor).copied().unwrap_or(0)
+}
+
+// How often an executor stands among others.
+fn count_of(executors: &[u32], own: u32) -> usize
+    ensures { result ≡ count_by (λ e. e == own) executors.now }
+{
+    executors.iter().filter(|e| **e == own).count()
+}
+
 fn seat_in(executors: &[u32], actor: usize) -> usize
     ensures { result ≡ seat_in executors.now actor }
 {
-    let own = executors.get(actor).copied().unwrap_or(0);
-    let before = &executors[..actor.min(executors.len())];
-    before.iter().filter(|e| **e == own).count()
+    let own = executor_at(executors, actor);
+    count_of(&executors[..actor.min(executors.len())], own)
 }

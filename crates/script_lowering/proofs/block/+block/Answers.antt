@@ -1,10 +1,14 @@
-use Rattle.std.proofs.Common.{◌≡◌, ◌+◌, ◌-◌, ◌<◌, false, length, sym, ap, subst, ◌∙◌, arith}
-use Rattle.script_grammar.specs.Tree.{view, view_head, view_stmt}
+use Rattle.std.proofs.Common.{◌≡◌, ◌+◌, ◌-◌, ◌<◌, ◌++◌, List, map, false, length, sym, ap, subst, ◌∙◌, arith}
+use Rattle.std.proofs.lemmas.List.{append-nil, take_all, at_drop_all}
+use Rattle.script_grammar.specs.declared.statement.Stmt.{Stmt}
+use Rattle.script_grammar.specs.Tree.{view, view_head, view_stmt, block_tree}
 use Rattle.script_code.specs.Tree.{term_of}
 use Rattle.script_code.specs.Instructions.{tests}
+use Rattle.script_code.specs.Layout.{meaning_of, written, entry}
 use Rattle.script_names.specs.Scope.{Scope}
 use Rattle.script_names.specs.Rules.{scope_after, scope_within}
-use Rattle.script_lowering.specs.Lowered.{lowered, stmt_code}
+use Rattle.script_lowering.specs.Lowered.{lowered, stmt_code, block_code}
+use Rattle.script_lowering.specs.Standing.{scope_through}
 use Rattle.script_lowering.specs.Heads.{HeadsAs, is_isolated}
 use Rattle.script_lowering.proofs.Lines.{IsWritten}
 use Rattle.script_lowering.proofs.Blocks.{through_more, step_back}
@@ -121,3 +125,16 @@ statement-returns-in_ok-act-in_default t c =
       head_number = at;
     })) in
     record { lines = w.0; start = w.1; scope = ok_of c.write_test.result _ back }
+
+pub block-loop-left-init : goal.block-loop-left-init
+block-loop-left-init t c =
+    let body = c.args.block.now in
+    let here = map meaning_of c.args.instructions.now.items in
+    let code = λ (ss : List Stmt). block_code c.args.plan.now c.loop-stmt.scope (block_tree (map view_stmt ss)) in
+    let at = length c.args.instructions.now.items in
+    record {
+      within = omega arith;
+      standing = c.loop-stmt.invariant ∙ ap (λ (ss : List Stmt). scope_through c.args.scope.now (map view_stmt ss)) (take_all c.loop-stmt.stmt-index body c.loop-stmt-test.false ∙ sym (take_all (length body) body (omega arith)));
+      lines = sym (append-nil here) ∙ sym (at_drop_all (λ (ss : List Stmt). here ++ written (code ss) at c.args.next) body (length body) (omega arith));
+      start = sym (at_drop_all (λ (ss : List Stmt). entry (code ss) at c.args.next) body (length body) (omega arith));
+    }
