@@ -1,10 +1,20 @@
 -- Texts that grow piece by piece.
-use Rattle.std.proofs.Common.{◌≡◌, ℕ, List, ◌++◌, ap, ◌∙◌, append_assoc}
+use Rattle.std.proofs.Common.{◌≡◌, ℕ, List, ◌++◌, sym, ap, ◌∙◌, append_assoc}
 use Rattle.std.specs.Prelude.{Result, Ok, Err, OnOk, is_ok, if◌then◌else◌}
 
 -- after a text stands one more piece
 onto : (x0 x1 x2 text piece : List ℕ) → x1 ≡ x0 ++ text → x2 ≡ x1 ++ piece → x2 ≡ x0 ++ (text ++ piece)
 onto x0 x1 x2 text piece before e = e ∙ ap (λ (xs : List ℕ). xs ++ piece) before ∙ append_assoc x0 text piece
+
+-- what is so unless an error is
+pub if_ok : {A E : Type 0} (r : Result A E) (x y z : List ℕ) → x ≡ (if is_ok r then y else z) → OnOk r (x ≡ y)
+if_ok (Ok u) x y z is = is
+if_ok (Err u) x y z is = tt
+
+-- two pieces, which are a text
+pub two_joined : {A E : Type 0} (r : Result A E) (x0 x1 x2 a b text : List ℕ) → text ≡ a ++ b → x1 ≡ x0 ++ a → OnOk r (x2 ≡ x1 ++ b) → OnOk r (x2 ≡ x0 ++ text)
+two_joined (Ok u) x0 x1 x2 a b text is h1 h2 = onto x0 x1 x2 a b h1 h2 ∙ ap (λ (xs : List ℕ). x0 ++ xs) (sym is)
+two_joined (Err u) x0 x1 x2 a b text is h1 h2 = tt
 
 -- seven pieces, one after the other
 pub seven_joined : {A E : Type 0} (r : Result A E) (x0 x1 x2 x3 x4 x5 x6 x7 a b c d e f g : List ℕ) →
