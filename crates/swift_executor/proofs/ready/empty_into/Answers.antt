@@ -1,10 +1,15 @@
-use Rattle.std.proofs.Common.{List, ◌∷◌, ◌++◌, map, sym, subst, arith}
-use Rattle.std.proofs.lemmas.List.Sorted.{IsPermutation-map, IsPermutation-pop_more}
+use Rattle.std.proofs.Common.{◌≡◌, ◌<◌, true, false, true≢false, List, [], ◌∷◌, ◌++◌, append-nil, length, map, refl, sym, subst, arith}
+use Rattle.std.proofs.lemmas.List.Sorted.{IsPermutation-map, IsPermutation-pop_more, IsPermutation-refl}
 use Rattle.std.specs.List.Sorted.{IsPermutation}
 use Rattle.swift_queue.specs.Job.{JobIs}
 use Rattle.swift_queue.specs.Queue.{waiting}
 use Rattle.swift_queue.specs.declared.waiting.Waiting.{Waiting}
 use Rattle.swift_executor.proofs.ready.empty_into.Goals as goal
+
+-- a list of which there is no more than nothing
+none_waits : {X : Type 0} (xs : List X) → (0 < length xs → false ≡ true) → xs ≡ []
+none_waits [] never = refl
+none_waits (x ∷ xs) never = absurd (true≢false (sym (never (omega arith))))
 
 pub empty-preserved : goal.empty-preserved
 empty-preserved g c =
@@ -22,3 +27,15 @@ empty-preserved g c =
           (IsPermutation-pop_more all c.empty.jobs.items (map f c.empty.queue.jobs) rest c.in-Some.job c.empty.invariant.0 moved),
       omega (arith, more, len, cap, few),
     )
+
+pub empty-init : goal.empty-init
+empty-init g c = (IsPermutation-refl _, c.requires)
+
+pub returns : goal.returns
+returns g c =
+    let f : Waiting g.row.B.Denot → JobIs g.row.B.Denot = λ w. w.job in
+    let all = c.args.jobs.items ++ map f c.args.queue.jobs in
+    let none : c.empty.queue.jobs ≡ [] = none_waits c.empty.queue.jobs c.in_default.ensures.some.1 in
+    let kept : IsPermutation all (c.empty.jobs.items ++ []) =
+    subst (λ (js : List (Waiting g.row.B.Denot)). IsPermutation all (c.empty.jobs.items ++ map f js)) none c.empty.invariant.0 in
+    subst (IsPermutation all) (append-nil c.empty.jobs.items) kept
