@@ -1,8 +1,11 @@
-use Rattle.std.proofs.Common.{ℕ, List, ◌∷◌, length, ap, sym, subst, arith}
+use Rattle.std.proofs.Common.{ℕ, List, ◌∷◌, length, ap, sym, subst, arith, ◌∙◌}
 use Rattle.std.proofs.lemmas.List.Sorted.{length_permutation}
 use Rattle.swift_queue.specs.Inside.ArrivalOf.{AreArrivals}
+use Rattle.swift_queue.specs.Inside.ListsAre.{ListsAre}
+use Rattle.swift_queue.specs.Inside.QueueInvariant.{QueueInvariant}
 use Rattle.swift_queue.specs.Job.{JobIs}
-use Rattle.swift_queue.specs.Queue.{IsOrderly, IsRestorable, QueueIs}
+use Rattle.swift_queue.specs.Picks.{PicksFirst}
+use Rattle.swift_queue.specs.Queue.{IsOrderly, IsRestorable, QueueIs, Takes}
 use Rattle.swift_queue.proofs.ArrivalsStayRight.{arrivals_take}
 use Rattle.swift_queue.proofs.QueueStaysOrderly.{orderly_take, restorable}
 use Rattle.swift_queue.proofs.queue.Queue.take.Goals as goal
@@ -33,3 +36,20 @@ returns-in-Some-clause-restorable g c =
     let new = c.take.new.self.jobs in
     subst (λ (r : JobIs g.row.B.Denot × ℕ). IsRestorable (record { jobs = new; room = c.take.new.self.room; arrived = x.arrived }) r.0.task r.1) (sym c.hand_out.ensures.job)
     (subst (λ (n : ℕ). IsRestorable (record { jobs = new; room = n; arrived = x.arrived }) job.job.task job.arrival) (sym c.take.ensures.room) (restorable old job new c.self.invariant.orderly c.in-Some.ensures.rest))
+
+pub returns-in-Some-clause-first : goal.returns-in-Some-clause-first
+returns-in-Some-clause-first g c =
+    let job = c.in-Some.taken in
+    let new = c.take.new.self.jobs in
+    let takes : Takes PicksFirst c.self.inside.lists.jobs job.job job.arrival new = record { priority = job.priority; first = c.in-Some.ensures.first; rest = c.in-Some.ensures.rest } in
+    subst (λ (r : JobIs g.row.B.Denot × ℕ). Takes PicksFirst c.args.self.now.jobs r.0 r.1 new) (sym c.hand_out.ensures.job)
+    (subst (λ (q : QueueIs g.row.B.Denot). Takes PicksFirst q.jobs job.job job.arrival new) c.self.view_is takes)
+
+pub invariant_of-self-in-None : goal.invariant_of-self-in-None
+invariant_of-self-in-None g c =
+    let x = c.self.inside in
+    subst (λ (lists : ListsAre g.row.B.Denot). QueueInvariant {B = g.row.B.Denot} (record { lists = lists; arrival_of = x.arrival_of; arrived = x.arrived })) (sym c.in-None.ensures.none) c.self.invariant
+
+pub returns-in-None-clause-none : goal.returns-in-None-clause-none
+returns-in-None-clause-none g c =
+    ap (λ (lists : ListsAre g.row.B.Denot). record c.args.self.now { jobs = lists.jobs; room = lists.room; arrived = c.self.inside.arrived }) c.in-None.ensures.none ∙ c.self.view_is
