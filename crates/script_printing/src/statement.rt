@@ -110,7 +110,6 @@ pub(crate) fn write_block(out: &mut Vec<u8>, block: &[Stmt]) -> Result<(), Alloc
 
 /// Statements, one after the other.
 #[cycle(statement)]
-#[tactic(auto, using(crate::proofs::Written::after_none))]
 fn write_stmts(out: &mut Vec<u8>, stmts: &[Stmt]) -> Result<(), AllocError>
     ensures { OnOk result (out.new.items ≡ after out.old.items (pieces_of_block (block_tree (map view_stmt stmts.now)))) }
 {

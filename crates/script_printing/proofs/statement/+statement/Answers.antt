@@ -1,8 +1,15 @@
-use Rattle.std.proofs.Common.{◌∙◌, ap, arith}
+use Rattle.std.proofs.Common.{◌∙◌, sym, ap, arith}
+use Rattle.std.proofs.lemmas.List.{take_all}
 use Rattle.script_grammar.specs.Tree.{view_stmt}
-use Rattle.script_printing.proofs.Written.{then_after}
+use Rattle.script_printing.proofs.Written.{after_none, then_after}
 use Rattle.script_printing.proofs.Blocks.{after_next_stmt, view_stmt-Do, view_stmt-Block, view_stmt-IfElse}
 use Rattle.script_printing.proofs.statement.+statement.Goals as goal
+
+pub write_stmts-loop-stmt-init : goal.write_stmts-loop-stmt-init
+write_stmts-loop-stmt-init t c = sym (after_none c.args.out.now.items)
+
+pub write_stmts-returns : goal.write_stmts-returns
+write_stmts-returns t c = rw (take_all c.loop-stmt.stmt-index c.args.stmts.now c.loop-stmt-test.false) at c.loop-stmt.invariant
 
 pub write_stmts-loop-stmt-preserved : goal.write_stmts-loop-stmt-preserved
 write_stmts-loop-stmt-preserved t c =
