@@ -1,5 +1,5 @@
 -- What the next turn of each task begins with, when a job comes or goes.
-use Rattle.std.proofs.Common.{◌≡◌, ◌≢◌, ℕ, List, [], ◌∷◌, ◌++◌, map, reverse, refl, sym, subst, ap, ◌∙◌, true, false, arith, inl, inr}
+use Rattle.std.proofs.Common.{◌≡◌, ◌≢◌, ◌<◌, ℕ, zero, suc, List, length, set, get_or-set_same, get_or-set_other, [], ◌∷◌, ◌++◌, map, reverse, refl, sym, subst, ap, ◌∙◌, true, false, arith, inl, inr}
 use Rattle.std.specs.Prelude.{Option, Some, None, if◌then◌else◌, ◌==◌}
 use Rattle.std.proofs.lemmas.Bool.{cases_eq}
 use Rattle.std.proofs.lemmas.Bool.Decides.{nat_tests}
@@ -22,6 +22,20 @@ equal a b is = grind (arith, nat_tests)
 
 pub unequal : (a b : ℕ) → a ≢ b → (a == b) ≡ false
 unequal a b ne = grind (arith, nat_tests)
+
+-- a place more, where nothing is
+pub given_none : (tasks : List (Option Ready)) (u : ℕ) → given_at (tasks ++ None ∷ []) u ≡ given_at tasks u
+given_none [] zero = refl
+given_none [] (suc u) = refl
+given_none (x ∷ tasks) zero = refl
+given_none (x ∷ tasks) (suc u) = given_none tasks u
+
+-- something is set at one place
+pub given_set : (tasks : List (Option Ready)) (t : ℕ) (g : Ready) (u : ℕ) → t < length tasks → given_at (set tasks t (Some g)) u ≡ with_given t (Some g) (given_at tasks) u
+given_set tasks t g u lt = elim (cases_eq u t) [
+  | inl e ↦ ap (given_at (set tasks t (Some g))) e ∙ get_or-set_same tasks t (Some g) None lt ∙ sym (ap (λ b. if b then Some g else given_at tasks u) (equal u t e))
+  | inr ne ↦ get_or-set_other tasks t u (Some g) None ne ∙ sym (ap (λ b. if b then Some g else given_at tasks u) (unequal u t ne))
+]
 
 -- a job is put to the others
 pub given_put : (seen : ℕ → Option JobView) (tasks tasks' : List (Option Ready)) (t : ℕ) (g : Ready)

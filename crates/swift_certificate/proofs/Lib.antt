@@ -1,4 +1,5 @@
 pub mod Blocks
+pub mod Counted
 pub mod Ended
 pub mod First
 pub mod Given
