@@ -30,11 +30,11 @@ given_none [] (suc u) = refl
 given_none (x ∷ tasks) zero = refl
 given_none (x ∷ tasks) (suc u) = given_none tasks u
 
--- something is set at one place
-pub given_set : (tasks : List (Option Ready)) (t : ℕ) (g : Ready) (u : ℕ) → t < length tasks → given_at (set tasks t (Some g)) u ≡ with_given t (Some g) (given_at tasks) u
+-- what is there when one place is set
+pub given_set : (tasks : List (Option Ready)) (t : ℕ) (g : Option Ready) (u : ℕ) → t < length tasks → given_at (set tasks t g) u ≡ with_given t g (given_at tasks) u
 given_set tasks t g u lt = elim (cases_eq u t) [
-  | inl e ↦ ap (given_at (set tasks t (Some g))) e ∙ get_or-set_same tasks t (Some g) None lt ∙ sym (ap (λ b. if b then Some g else given_at tasks u) (equal u t e))
-  | inr ne ↦ get_or-set_other tasks t u (Some g) None ne ∙ sym (ap (λ b. if b then Some g else given_at tasks u) (unequal u t ne))
+  | inl e ↦ ap (given_at (set tasks t g)) e ∙ get_or-set_same tasks t g None lt ∙ sym (ap (λ b. if b then g else given_at tasks u) (equal u t e))
+  | inr ne ↦ get_or-set_other tasks t u g None ne ∙ sym (ap (λ b. if b then g else given_at tasks u) (unequal u t ne))
 ]
 
 -- a job is put to the others

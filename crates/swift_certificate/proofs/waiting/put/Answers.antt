@@ -12,5 +12,5 @@ loop-tasks-preserved c = λ u.
 pub returns : goal.returns
 returns c = λ u.
     (let lt : c.args.task.0 < length c.loop-tasks.tasks.items = omega (arith, c.loop-tasks-test.false, c.len.ensures) in
-    given_set c.loop-tasks.tasks.items c.args.task.0 c.args.ready u lt
+    given_set c.loop-tasks.tasks.items c.args.task.0 (Some c.args.ready) u lt
     ∙ ap (λ (g : Option Ready). if u == c.args.task.0 then Some c.args.ready else g) (c.loop-tasks.invariant u))
