@@ -4,7 +4,9 @@ use Rattle.std.specs.Prelude.{Option, reverse}
 use Rattle.std.proofs.lemmas.List.{reverse-append}
 use Rattle.swift_types.specs.declared.priority.Priority.{Priority}
 use Rattle.swift_script.specs.Scripts.{ScriptView}
+use Rattle.swift_interpreter.specs.Frames.{effect_views}
 use Rattle.swift_interpreter.specs.Turn.{EffectView, ExitView}
+use Rattle.swift_interpreter.specs.declared.effect.Effect.{Effect}
 use Rattle.swift_turn.specs.Body.{BodyView}
 use Rattle.swift_events.specs.declared.event.Event.{Event}
 use Rattle.swift_events.specs.Room.{reserved_of}
@@ -24,6 +26,10 @@ drop_at (y ∷ ys) (suc k) x lt is = drop_at ys k x (omega (arith, lt)) is
 pub drop_all : {A : Type 0} (xs : List A) → drop (length xs) xs ≡ []
 drop_all [] = refl
 drop_all (x ∷ xs) = drop_all xs
+
+-- past the last effect there is none
+pub none_left : (es : List Effect) (k : ℕ) → k ≡ length es → effect_views (drop k es) ≡ []
+none_left es k end = ap (λ (n : ℕ). effect_views (drop n es)) end ∙ ap effect_views (drop_all es)
 
 -- the first effect may take place
 pub take_first : (roots t : ℕ) (log : List Event) (e : EffectView) (es : List EffectView) (bodies : List (Option BodyView)) (exit : ExitView) → CanTakeAll roots t log (e ∷ es) bodies exit → CanTake roots t log e

@@ -1,4 +1,5 @@
-use Rattle.std.proofs.Common.{◌≡◌, ℕ, ◌+◌, ◌∙◌, ap, sym, subst, suc, add-one, drop, arith, List, [], ◌∷◌, ◌++◌, append_assoc, length}
+use Rattle.std.proofs.Common.{◌≡◌, ℕ, ◌+◌, ◌∙◌, refl, ap, sym, subst, suc, add-one, drop, arith, List, [], ◌∷◌, ◌++◌, append_assoc, append-nil, length}
+use Rattle.std.proofs.lemmas.List.{reverse-reverse}
 use Rattle.std.specs.Prelude.{Option, map, reverse}
 use Rattle.swift_interpreter.specs.Turn.{EffectView, ExitView}
 use Rattle.swift_interpreter.specs.Frames.{effect_view, effect_views}
@@ -11,7 +12,7 @@ use Rattle.swift_tasks.specs.Applying.{CanTake, CanTakeAll}
 use Rattle.swift_tasks.specs.Bodies.{AreBodiesOf}
 use Rattle.swift_tasks.specs.Books.{job_view}
 use Rattle.swift_tasks.proofs.Grows.{effect_grows}
-use Rattle.swift_tasks.proofs.EffectsTaken.{drop_at, drop_all, take_first, take_rest, take_none, last_first, first_body, rest_bodies}
+use Rattle.swift_tasks.proofs.EffectsTaken.{drop_at, drop_all, none_left, take_first, take_rest, take_none, last_first, first_body, rest_bodies}
 use Rattle.swift_tasks.proofs.turns.note_effects.Goals as goal
 
 pub note_effect-requires-clause-take : goal.note_effect-requires-clause-take
@@ -83,7 +84,58 @@ loop-effect-preserved c =
 
 pub returns-clause-leave : goal.returns-clause-leave
 returns-clause-leave c = λ exit can.
-    let es = c.args.effects.now in
-    let none : effect_views (drop c.loop-effect.effect-index es) ≡ [] =
-    (let end : c.loop-effect.effect-index ≡ length es = omega (arith, c.loop-effect-test.false, c.loop-effect.auto.effect-index-end) in ap (λ (n : ℕ). effect_views (drop n es)) end ∙ ap effect_views (drop_all es)) in
+    let none = none_left c.args.effects.now c.loop-effect.effect-index (omega (arith, c.loop-effect-test.false, c.loop-effect.auto.effect-index-end)) in
     take_none c.args.ledger.now.roots c.args.task.0 c.loop-effect.ledger.log (reverse c.loop-effect.bodies.items) exit (subst (λ (vs : List EffectView). CanTakeAll c.args.ledger.now.roots c.args.task.0 c.loop-effect.ledger.log vs (reverse c.loop-effect.bodies.items) exit) none (c.loop-effect.invariant.take exit can))
+
+pub returns-clause-log : goal.returns-clause-log
+returns-clause-log c =
+    let none = none_left c.args.effects.now c.loop-effect.effect-index (omega (arith, c.loop-effect-test.false, c.loop-effect.auto.effect-index-end)) in
+    sym (ap (λ (vs : List EffectView). log_after c.args.ledger.now.roots c.args.task.0 c.args.own c.loop-effect.ledger.log vs) none) ∙ c.loop-effect.invariant.log
+
+pub returns-clause-jobs : goal.returns-clause-jobs
+returns-clause-jobs c = λ script are count.
+    let none = none_left c.args.effects.now c.loop-effect.effect-index (omega (arith, c.loop-effect-test.false, c.loop-effect.auto.effect-index-end)) in
+    let js : List JobView = map job_view c.loop-effect.jobs.items in
+    sym (append-nil js) ∙ (sym (ap (λ (vs : List EffectView). js ++ jobs_made script c.args.task.0 c.args.own c.loop-effect.ledger.log vs) none) ∙ c.loop-effect.invariant.jobs script are count)
+
+pub returns-clause-bodies : goal.returns-clause-bodies
+returns-clause-bodies c = c.loop-effect.invariant.bodies
+
+pub loop-effect-init : goal.loop-effect-init
+loop-effect-init c =
+    let bodies = c.args.bodies.items in
+    let back : reverse c.reverse.new.self.items ≡ bodies = ap reverse c.reverse.ensures.items ∙ reverse-reverse bodies in
+    record {
+      roots = refl;
+      mine = c.requires.mine;
+      take = λ exit can. subst (λ (bs : List (Option BodyView)). CanTakeAll c.args.ledger.now.roots c.args.task.0 c.args.ledger.now.log (effect_views c.args.effects.now) bs exit) (sym back) can;
+      log = refl;
+      spare = omega arith;
+      started = λ script are. subst (λ (bs : List (Option BodyView)). AreBodiesOf script (effect_views c.args.effects.now) bs) (sym back) are;
+      jobs = λ script are count. refl;
+      bodies = λ script are all. all;
+      few = omega arith;
+      capacity = refl;
+    }
+
+pub note_effect-requires-clause-body : goal.note_effect-requires-clause-body
+note_effect-requires-clause-body c =
+    let es = c.args.effects.now in
+    let k : ℕ = c.loop-effect.effect-index in
+    let roots : ℕ = c.args.ledger.now.roots in
+    let log : List Event = c.loop-effect.ledger.log in
+    let e : EffectView = effect_view c.effect-item.result in
+    let next : List EffectView = effect_views (drop (suc k) es) in
+    let at : effect_views (drop k es) ≡ e ∷ next = ap effect_views (drop_at es k c.effect-item.result c.loop-effect-test.true c.effect-item.is) in
+    let exit : ExitView = c.requires.take.0 in
+    let can = subst (λ (vs : List EffectView). CanTakeAll roots c.args.task.0 log vs (reverse c.loop-effect.bodies.items) exit) at (c.loop-effect.invariant.take exit c.requires.take.1) in
+    let bs : List (Option BodyView) = reverse c.pop.new.self.items in
+    let b : Option BodyView = c.in-Some.body in
+    let popped : reverse c.loop-effect.bodies.items ≡ b ∷ bs = last_first c.pop.new.self.items c.loop-effect.bodies.items b c.in-Some.ensures.items in
+    (can.script, first_body can.script e next b bs (subst (AreBodiesOf can.script (e ∷ next)) popped can.started))
+
+pub note_effect-requires-clause-room : goal.note_effect-requires-clause-room
+note_effect-requires-clause-room c = omega (arith, c.loop-effect.invariant.few, c.loop-effect.invariant.capacity, c.requires.room, c.loop-effect-test.true)
+
+pub note_effect-requires-clause-spare : goal.note_effect-requires-clause-spare
+note_effect-requires-clause-spare c = omega (arith, c.loop-effect.invariant.spare, c.requires.spare, c.loop-effect-test.true)
