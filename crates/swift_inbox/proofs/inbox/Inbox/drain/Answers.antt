@@ -1,6 +1,7 @@
-use Rattle.std.proofs.Common.{rules, ◌++◌, ◌∷◌, [], ◌+◌, refl, sym, ap, ◌∙◌, append-nil, length-append}
+use Rattle.std.proofs.Common.{rules, arith, ◌≡◌, length, ◌++◌, ◌∷◌, [], ◌+◌, refl, sym, ap, ◌∙◌, append-nil, length-append}
 use Rattle.std.proofs.lemmas.List.{map-append}
 use Rattle.swift_inbox.specs.Sent.{job_view}
+use Rattle.swift_inbox.specs.Inbox.{InboxIs}
 use Rattle.swift_inbox.proofs.AccountIsKept.{admits, takes, goes_on}
 use Rattle.swift_inbox.proofs.inbox.Inbox.drain.Goals as goal
 
@@ -24,3 +25,16 @@ drain-preserved g c =
       rw (map-append job_view i.2 (x ∷ []), c.into_job.ensures) (rw i.4 at c.in-Some.ensures.rule.0),
       length-append i.2 (x ∷ []) ∙ ap (λ n. n + 1) i.5,
     )
+
+pub returns : goal.returns
+returns g c =
+    let i = c.drain.invariant in
+    let room = ap (λ (b : InboxIs). b.room) c.self.view_is in
+    (i.2, i.3, omega (arith, i.5, c.drain.auto.counter-end, c.capacity-end.ensures, room), search rules)
+
+pub push_reserved-requires : goal.push_reserved-requires
+push_reserved-requires g c =
+    let i = c.drain.invariant in
+    let room = ap (λ (b : InboxIs). b.room) c.self.view_is in
+    let len : length c.drain.list.items ≡ length c.args.list.items + length i.2 = ap length i.3 ∙ length-append c.args.list.items i.2 in
+    omega (arith, len, c.drain.list.ok.0, c.args.list.ok.0, i.1, i.5, c.drain-test.true, c.capacity-end.ensures, room, c.requires)
