@@ -98,3 +98,14 @@ returns-clause-bodies c = λ all.
     let bodies = c.in_default-take_turn.ensures.bodies script fits (subst (AllByRecursion (FitsScript script)) (sym c.make_room.ensures.held) c.self.invariant.0.bodies) in
     let was = subst (λ (s : ScriptView). AllByRecursion (IsJobOf s) c.args.jobs.now.items) (sym ss) all in
     subst (λ (s : ScriptView). AllByRecursion (IsJobOf s) c.take_turn.new.jobs.items) ss (bodies.1 (subst (AllByRecursion (IsJobOf script)) (sym c.make_room.ensures.jobs) was))
+
+pub take_turn-requires-clause-small : goal.take_turn-requires-clause-small
+take_turn-requires-clause-small c = c.requires.small
+
+pub take_turn-requires-clause-held_room : goal.take_turn-requires-clause-held_room
+take_turn-requires-clause-held_room c =
+    let held : length c.make_room.new.held.items ≡ length c.self.inside.held.items = ap length c.make_room.ensures.held in
+    omega (arith, held, c.make_room.new.held.ok.0, c.self.inside.held.ok.0, c.len.ensures, c.deref-2.ensures.len, c.in-Ok-make_room.ensures.held_room)
+
+pub returns-clause-script : goal.returns-clause-script
+returns-clause-script c = ap (λ (b : BookView). b.script) c.self.view_is
