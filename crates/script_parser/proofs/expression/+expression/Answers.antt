@@ -1,10 +1,9 @@
-use Rattle.std.proofs.Common.{◌-◌, map, sym, ◌∙◌, arith}
+use Rattle.std.proofs.Common.{◌-◌, map, sym, ◌∙◌}
 use Rattle.std.proofs.lemmas.Result.{err_from_is_err_and}
-use Rattle.std.proofs.lemmas.Grind.{common_steps}
 use Rattle.script_parser.specs.declared.limits.TheConstants.{NESTING}
 use Rattle.script_tokens.specs.Pieces.{piece}
 use Rattle.script_grammar.specs.Tree.{view}
-use Rattle.script_parser.specs.Model.Expressions.{unary_at, operands_at, level_at, inside_at}
+use Rattle.script_parser.specs.Model.Expressions.{operands_at, level_at, inside_at}
 use Rattle.script_parser.proofs.Operands.{next_operand, operand_fails, operand_too_high}
 use Rattle.script_parser.proofs.Levels.{not_found, first_level, level_with, level_without, first_fails, operands_fail}
 use Rattle.script_parser.proofs.expression.+expression.Goals.{level-then-is_some+in_ok-next, level-else-is_some}
@@ -47,7 +46,3 @@ level-loop-tighter-preserved t c =
       | level-then-is_some+in_ok-next w ↦ rw (w.left-is, w.rest-is) (level_with c.args.atoms inside c.loop-tighter.tighter w.most_operators-most.result ts left rest w.most_operators-most.ensures c.loop-tighter.invariant ∙ w.in_ok-next.ensures)
       | level-else-is_some w ↦ rw (w.left-is, w.rest-is) (level_without c.args.atoms inside c.loop-tighter.tighter ts left rest (not_found _ c.next_operator.result _ (sym c.is_some.ensures ∙ w.if-is_some.false) c.next_operator.ensures) c.loop-tighter.invariant)
     ]
-
-pub unary-returns-in_default : goal.unary-returns-in_default
-unfolding unary_at
-unary-returns-in_default t c = grind (arith, common_steps) steps 2000000

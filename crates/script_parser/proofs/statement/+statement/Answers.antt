@@ -1,7 +1,6 @@
-use Rattle.std.proofs.Common.{◌≡◌, ◌++◌, ◌∷◌, [], map, length, sym, arith}
+use Rattle.std.proofs.Common.{◌≡◌, ◌++◌, ◌∷◌, [], map, length, sym}
 use Rattle.std.proofs.lemmas.Result.{err_from_is_err_and}
 use Rattle.std.proofs.lemmas.List.{map_push}
-use Rattle.std.proofs.lemmas.Grind.{common_steps}
 use Rattle.script_parser.specs.declared.limits.TheConstants.{NESTING}
 use Rattle.script_tokens.specs.Pieces.{piece}
 use Rattle.script_parser.specs.declared.fault.Kind.TheVariants.{EndsEarly}
@@ -29,7 +28,3 @@ statements-loop-preserved t c =
 pub statements-returns : goal.statements-returns
 statements-returns t c =
     refused_fails c.refused.result (at EndsEarly (map piece c.loop.rest.now)) _ c.refused.ensures (runs_out brace_at (stmt_at NESTING c.args.region (block_at NESTING c.args.blocks)) (map view_stmt c.loop.stmts.items) (length c.args.tokens.now) c.loop.counter (map piece c.loop.rest.now) _ c.loop-test.false c.loop.invariant)
-
-pub stmt-returns-in-Key-2 : goal.stmt-returns-in-Key-2
-unfolding stmt_at
-stmt-returns-in-Key-2 t c = grind (arith, common_steps) steps 2000000

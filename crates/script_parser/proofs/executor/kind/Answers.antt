@@ -1,8 +1,0 @@
-use Rattle.std.proofs.Common.{arith}
-use Rattle.std.proofs.lemmas.Grind.{common_steps}
-use Rattle.script_parser.specs.Model.Declarations.{kind_at}
-use Rattle.script_parser.proofs.executor.kind.Goals as goal
-
-pub returns-in_default : goal.returns-in_default
-unfolding kind_at
-returns-in_default c = grind (arith, common_steps) steps 2000000

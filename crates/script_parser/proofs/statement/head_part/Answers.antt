@@ -1,8 +1,0 @@
-use Rattle.std.proofs.Common.{arith}
-use Rattle.std.proofs.lemmas.Grind.{common_steps}
-use Rattle.script_parser.specs.Model.Statements.{head_part_at}
-use Rattle.script_parser.proofs.statement.head_part.Goals as goal
-
-pub returns-in_default : goal.returns-in_default
-unfolding head_part_at
-returns-in_default c = grind (arith, common_steps) steps 2000000
