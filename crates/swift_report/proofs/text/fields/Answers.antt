@@ -1,4 +1,4 @@
-use Rattle.std.proofs.Common.{◌≡◌, ℕ, ℤ, ◌+◌, ◌-◌, ◌++◌, List, sym, ap, ◌∙◌, append_assoc, arith}
+use Rattle.std.proofs.Common.{ℕ, ℤ, ◌+◌, ◌-◌, ◌++◌, List, sym, ap, ◌∙◌, append_assoc, arith}
 use Rattle.swift_script.specs.Scripts.{actor_count}
 use Rattle.swift_report.specs.Text.{fields_text, values_text}
 use Rattle.swift_report.proofs.Rows.{fields_from}
