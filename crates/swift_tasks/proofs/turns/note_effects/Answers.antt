@@ -1,4 +1,4 @@
-use Rattle.std.proofs.Common.{◌≡◌, ℕ, ◌+◌, ◌∙◌, refl, ap, sym, subst, suc, add-one, drop, arith, List, [], ◌∷◌, ◌++◌, append_assoc, append-nil, length}
+use Rattle.std.proofs.Common.{◌≡◌, ℕ, ◌+◌, ◌∙◌, refl, ap, sym, subst, suc, add-one, drop, arith, List, [], ◌∷◌, ◌++◌, append_assoc, append-nil}
 use Rattle.std.proofs.lemmas.List.{reverse-reverse}
 use Rattle.std.specs.Prelude.{Option, map, reverse}
 use Rattle.swift_interpreter.specs.Turn.{EffectView, ExitView}
@@ -12,7 +12,7 @@ use Rattle.swift_tasks.specs.Applying.{CanTake, CanTakeAll}
 use Rattle.swift_tasks.specs.Bodies.{AreBodiesOf}
 use Rattle.swift_tasks.specs.Books.{job_view}
 use Rattle.swift_tasks.proofs.Grows.{effect_grows}
-use Rattle.swift_tasks.proofs.EffectsTaken.{drop_at, drop_all, none_left, take_first, take_rest, take_none, last_first, first_body, rest_bodies}
+use Rattle.swift_tasks.proofs.EffectsTaken.{drop_at, none_left, take_first, take_rest, take_none, last_first, first_body, rest_bodies}
 use Rattle.swift_tasks.proofs.turns.note_effects.Goals as goal
 
 pub note_effect-requires-clause-take : goal.note_effect-requires-clause-take
