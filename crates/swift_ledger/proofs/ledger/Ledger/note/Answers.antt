@@ -1,4 +1,4 @@
-use Rattle.std.proofs.Common.{◌≡◌, ℕ, ◌+◌, ◌-◌, ◌<◌, List, [], ◌∷◌, ◌++◌, subst, sym, arith}
+use Rattle.std.proofs.Common.{◌≡◌, ℕ, ◌+◌, ◌-◌, ◌<◌, List, [], ◌∷◌, ◌++◌, subst, sym, ap, ◌∙◌, arith}
 use Rattle.swift_events.specs.declared.event.Event.{Event}
 use Rattle.swift_events.specs.Events.{task_of}
 use Rattle.swift_events.specs.Lives.{life_of, room_held}
@@ -34,3 +34,14 @@ returns-clause-reserved c =
     subst (λ (b : LedgerView). reserved_of s.roots c.push_reserved.new.self.items + room_held (life_of (task_of e) b.log) ≡ reserved_of b.roots b.log + room_held (life_of (task_of e) c.push_reserved.new.self.items)) c.self.view_is
     (subst (λ (es : List Event). reserved_of s.roots es + room_held (life_of (task_of e) s.log.items) ≡ reserved_of s.roots s.log.items + room_held (life_of (task_of e) es)) (sym c.push_reserved.ensures.items)
     (reserved_push s.roots s.log.items e c.self.invariant.form fits))
+
+pub returns-clause-log : goal.returns-clause-log
+returns-clause-log c =
+    let less : ℕ = c.self.inside.spare - 1 in
+    ap (λ (es : List Event). record { roots = c.self.inside.roots; log = es; spare = less }) c.push_reserved.ensures.items
+    ∙ ap (λ (b : LedgerView). record { roots = b.roots; log = b.log ++ c.args.event ∷ []; spare = less }) c.self.view_is
+
+pub push_reserved-requires : goal.push_reserved-requires
+push_reserved-requires c =
+    let some : 0 < c.self.inside.spare = subst (λ (b : LedgerView). 0 < b.spare) (sym c.self.view_is) c.requires.spare in
+    omega (arith, some, c.self.invariant.log_room)
