@@ -1,13 +1,11 @@
 //! Changes of reports.
 
 use crate::fault::CaseFault;
-use crate::journals::{
-    journal_on_worker, journal_with_flag, journal_with_made, start_at, with_made, without_frame,
-    without_last,
-};
-use std::alloc::Global;
+use crate::journals::{Change, changed_journal, start_at, with_made, without_frame, without_last};
+use script_code::Env;
+use std::alloc::{AllocError, Global};
 use swift_events::{Event, Origin};
-use swift_journal::Journal;
+use swift_journal::{Checkpoint, Journal};
 use swift_report::Report;
 use swift_types::{Ending, TaskId};
 
@@ -19,111 +17,119 @@ pub fn make(alloc: Global, report: &mut Report, words: &str) -> Result<(), CaseF
     };
     match change {
         "nothing" => {}
-        "field" => set_field(report, value),
-        "records" => set_journal(report, Journal::new(alloc)),
-        "end" => set_ends(alloc, report, value)?,
-        "ending" => set_ending(report, Ending::Value(value)),
-        "origin" => set_origin(report, Origin::Detached(TaskId(0))),
+        "field" => set_field(&mut report.fields, value),
+        "records" => set_journal(&mut report.journals, Journal::new(alloc)),
+        "end" => set_ends(&mut report.log, value),
+        "ending" => set_ending(&mut report.endings, Ending::Value(value)),
+        "origin" => set_origin(&mut report.endings, Origin::Detached(TaskId(0))),
         "cancel" => cancel(alloc, report)?,
-        "worker" => move_turns(alloc, report)?,
-        "checkpoint" => change_start(alloc, report, value)?,
-        "folded" => leave_out_folded(alloc, report)?,
-        "frame" => leave_out_frame(alloc, report)?,
+        "worker" => change_turns(alloc, &mut report.journals, Change::Worker(7))?,
+        "checkpoint" => change_start(alloc, &mut report.checkpoints, value)?,
+        "folded" => leave_out_folded(alloc, &mut report.checkpoints)?,
+        "frame" => leave_out_frame(alloc, &mut report.checkpoints)?,
         "made" => change_made(alloc, report, value)?,
         _ => return Err(CaseFault::Form),
     }
     Ok(())
 }
 
-fn set_field(report: &mut Report, value: i64) {
-    if report.fields.is_empty() || report.fields[0].is_empty() || report.fields[0][0].is_empty() {
+fn set_field(fields: &mut [Vec<Vec<i64>>], value: i64) {
+    if fields.is_empty() || fields[0].is_empty() || fields[0][0].is_empty() {
         return;
     }
-    report.fields[0][0][0] = value;
+    fields[0][0][0] = value;
 }
 
-fn set_journal(report: &mut Report, journal: Journal) {
-    if !report.journals.is_empty() {
-        report.journals[0] = journal;
+fn set_journal(journals: &mut [Journal], journal: Journal) {
+    if !journals.is_empty() {
+        journals[0] = journal;
     }
 }
 
 // Each task that ends by the log ends with this value.
-fn set_ends(alloc: Global, report: &mut Report, value: i64) -> Result<(), CaseFault> {
-    let mut log = Vec::new(alloc);
-    for place in 0..report.log.len() {
-        let event = match report.log[place] {
-            Event::End(task, _) => Event::End(task, Ending::Value(value)),
-            other => other,
-        };
-        log.push(event)?;
-    }
-    report.log = log;
-    Ok(())
-}
-
-fn set_ending(report: &mut Report, ending: Ending) {
-    if !report.endings.is_empty() {
-        report.endings[0].1 = ending;
+fn set_ends(log: &mut [Event], value: i64) {
+    for event in log.iter_mut() {
+        if let Event::End(task, _) = *event {
+            *event = Event::End(task, Ending::Value(value));
+        }
     }
 }
 
-fn set_origin(report: &mut Report, origin: Origin) {
-    if !report.endings.is_empty() {
-        report.endings[0].0 = origin;
+fn set_ending(endings: &mut [(Origin, Ending)], ending: Ending) {
+    if !endings.is_empty() {
+        endings[0].1 = ending;
+    }
+}
+
+fn set_origin(endings: &mut [(Origin, Ending)], origin: Origin) {
+    if !endings.is_empty() {
+        endings[0].0 = origin;
     }
 }
 
 // The first task is cancelled before its first turn, which has seen it.
-fn cancel(alloc: Global, report: &mut Report) -> Result<(), CaseFault> {
-    let mut log = Vec::new(alloc);
-    for place in 0..report.log.len() {
-        let event = report.log[place];
-        if let Event::Begin(task, number, mut env) = event {
-            if place < 4 {
-                log.push(Event::CancelTask(TaskId(0)))?;
-                env.cancelled = true;
+fn cancel(alloc: Global, report: &mut Report) -> Result<(), AllocError> {
+    let log = with_cancel(alloc, &report.log)?;
+    report.log = log;
+    change_turns(alloc, &mut report.journals, Change::Flag)
+}
+
+// The same events, and before the first of them that begins a turn that task 0 is cancelled.
+fn with_cancel(alloc: Global, log: &[Event]) -> Result<Vec<Event>, AllocError> {
+    let mut changed = Vec::new(alloc);
+    for (place, event) in log.iter().enumerate() {
+        match *event {
+            Event::Begin(task, number, env) if place < 4 => {
+                changed.push(Event::CancelTask(TaskId(0)))?;
+                changed.push(Event::Begin(task, number, with_flag(env)))?;
             }
-            log.push(Event::Begin(task, number, env))?;
-        } else {
-            log.push(event)?;
+            other => changed.push(other)?,
         }
     }
-    report.log = log;
-    if !report.journals.is_empty() {
-        let journal = journal_with_flag(alloc, &report.journals[0])?;
-        report.journals[0] = journal;
+    Ok(changed)
+}
+
+// The same, of a task that was cancelled.
+fn with_flag(env: Env) -> Env {
+    Env {
+        priority: env.priority,
+        cancelled: true,
+        room: env.room,
+    }
+}
+
+// Changes the turns of the first executor.
+fn change_turns(alloc: Global, journals: &mut [Journal], change: Change) -> Result<(), AllocError> {
+    if !journals.is_empty() {
+        let journal = changed_journal(alloc, &journals[0], change)?;
+        journals[0] = journal;
     }
     Ok(())
 }
 
-fn move_turns(alloc: Global, report: &mut Report) -> Result<(), CaseFault> {
-    if !report.journals.is_empty() {
-        let journal = journal_on_worker(alloc, &report.journals[0], 7)?;
-        report.journals[0] = journal;
+fn change_start(
+    alloc: Global,
+    checkpoints: &mut [Checkpoint],
+    value: i64,
+) -> Result<(), AllocError> {
+    if !checkpoints.is_empty() {
+        start_at(alloc, &mut checkpoints[0], value)?;
     }
     Ok(())
 }
 
-fn change_start(alloc: Global, report: &mut Report, value: i64) -> Result<(), CaseFault> {
-    if !report.checkpoints.is_empty() {
-        start_at(alloc, &mut report.checkpoints[0], value)?;
+fn leave_out_folded(alloc: Global, checkpoints: &mut [Checkpoint]) -> Result<(), CaseFault> {
+    if !checkpoints.is_empty() {
+        let checkpoint = without_last(alloc, &checkpoints[0])?;
+        checkpoints[0] = checkpoint;
     }
     Ok(())
 }
 
-fn leave_out_folded(alloc: Global, report: &mut Report) -> Result<(), CaseFault> {
-    if !report.checkpoints.is_empty() {
-        let checkpoint = without_last(alloc, &report.checkpoints[0])?;
-        report.checkpoints[0] = checkpoint;
-    }
-    Ok(())
-}
-
-fn leave_out_frame(alloc: Global, report: &mut Report) -> Result<(), CaseFault> {
-    if !report.checkpoints.is_empty() {
-        let checkpoint = without_frame(alloc, &report.checkpoints[0])?;
-        report.checkpoints[0] = checkpoint;
+fn leave_out_frame(alloc: Global, checkpoints: &mut [Checkpoint]) -> Result<(), CaseFault> {
+    if !checkpoints.is_empty() {
+        let checkpoint = without_frame(alloc, &checkpoints[0])?;
+        checkpoints[0] = checkpoint;
     }
     Ok(())
 }
@@ -132,11 +138,10 @@ fn change_made(alloc: Global, report: &mut Report, value: i64) -> Result<(), Cas
     let Ok(made) = u64::try_from(value) else {
         return Err(CaseFault::Form);
     };
-    if !report.checkpoints.is_empty() && !report.journals.is_empty() {
-        let (checkpoint, task) = with_made(alloc, &report.checkpoints[0], made)?;
-        report.checkpoints[0] = checkpoint;
-        let journal = journal_with_made(alloc, &report.journals[0], task, made)?;
-        report.journals[0] = journal;
+    if report.checkpoints.is_empty() {
+        return Ok(());
     }
-    Ok(())
+    let (checkpoint, task) = with_made(alloc, &report.checkpoints[0], made)?;
+    report.checkpoints[0] = checkpoint;
+    Ok(change_turns(alloc, &mut report.journals, Change::Made(task, made))?)
 }

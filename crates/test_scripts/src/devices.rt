@@ -84,29 +84,39 @@ where
     };
     let text = expand(rt.alloc(), text)?;
     for row in rows.split('\n') {
-        let Some(mut device) = device_of(rt.alloc(), row) else {
-            return Err(CaseFault::Form);
-        };
-        let answer = if is_run {
-            run_text(rt, &text, 1, false, &Open, &mut device)
-        } else {
-            wrote(&mut device, &text)
-        };
-        tell(answer, &device, out)?;
+        slow_on(rt, &text, row, is_run, out)?;
     }
     Ok(())
+}
+
+// A text on the device of these words.
+fn slow_on<R>(
+    rt: &R,
+    text: &[u8],
+    words: &str,
+    is_run: bool,
+    out: &mut Vec<u8>,
+) -> Result<(), CaseFault>
+where
+    R: RandomSource + AllocGlobal + Threads + Wait + Sync,
+{
+    let Some(mut device) = device_of(rt.alloc(), words) else {
+        return Err(CaseFault::Form);
+    };
+    let answer = if is_run {
+        run_text(rt, text, 1, false, &Open, &mut device)
+    } else {
+        wrote(&mut device, text)
+    };
+    tell(answer, &device, out)
 }
 
 /// How many bytes of a text the program takes, and how many it leaves.
 pub fn input(alloc: Global, text: &[u8], out: &mut Vec<u8>) -> Result<(), CaseFault> {
     let mut rest = text;
-    match read_input(alloc, &mut rest) {
-        Ok(taken) => {
-            let (taken, left) = (taken.len(), rest.len());
-            writeln!(out, "{taken} bytes are taken, {left} are left")?;
-        }
-        Err(fault) => writeln!(out, "{fault}")?,
-    }
+    let taken = read_input(alloc, &mut rest)?.len();
+    let left = rest.len();
+    writeln!(out, "{taken} bytes are taken, {left} are left")?;
     Ok(())
 }
 
@@ -132,7 +142,8 @@ pub fn failing_input(alloc: Global, out: &mut Vec<u8>) -> Result<(), CaseFault> 
     let mut from = Failing { has_given: false };
     match read_input(alloc, &mut from) {
         Ok(_) => writeln!(out, "wrong: it was read")?,
-        Err(fault) => writeln!(out, "{fault}")?,
+        Err(ToolFault::Device) => writeln!(out, "{}", ToolFault::Device)?,
+        Err(fault) => return Err(CaseFault::from(fault)),
     }
     Ok(())
 }

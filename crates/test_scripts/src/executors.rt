@@ -4,6 +4,8 @@
 mod acting;
 // Calls, by words.
 mod call;
+// Calls, one after another.
+mod callee;
 // A case.
 mod case;
 // What is left of executors.
@@ -19,22 +21,12 @@ mod threads;
 
 use crate::fault::CaseFault;
 use std::alloc::AllocGlobal;
-use std::io::Write;
 use std::random::RandomSource;
 use std::sync::Wait;
 use std::thread::Threads;
 
 /// For how many bytes that a case says there is room. A call whose answer has no room may be made twice.
 pub(crate) const ROOM: usize = 8192;
-
-// Writes what a case has said, and a line more where it was not played to its end.
-fn append(played: Option<()>, said: &str, out: &mut Vec<u8>) -> Result<(), CaseFault> {
-    out.extend_from_slice(said.as_bytes())?;
-    if played.is_none() {
-        writeln!(out, "wrong: not played to its end")?;
-    }
-    Ok(())
-}
 
 /// Makes the calls of a case on the executors of its script, and writes what each answered.
 pub fn calls<R>(rt: &R, text: &str, out: &mut Vec<u8>) -> Result<(), CaseFault>
@@ -43,7 +35,8 @@ where
 {
     let mut said = String::with_capacity(rt.alloc(), ROOM)?;
     let played = case::play(rt, text, &mut said);
-    append(played, &said, out)
+    out.extend_from_slice(said.as_bytes())?;
+    played
 }
 
 /// Has two threads make a call each on an executor, of which one is held at the moment of the title, and writes what they answered.
@@ -56,5 +49,6 @@ where
     };
     let mut said = String::new(rt.alloc());
     let played = threads::play(rt, moment, &mut said);
-    append(played, &said, out)
+    out.extend_from_slice(said.as_bytes())?;
+    played
 }

@@ -71,24 +71,26 @@ where
 }
 
 /// The report of a run without the lines of its turns.
-pub fn turns<R>(rt: &R, script: &Arc<Script>) -> Result<Vec<u8>, CaseFault>
+pub fn turns<R>(rt: &R, script: &Arc<Script>, out: &mut Vec<u8>) -> Result<(), CaseFault>
 where
     R: RandomSource + AllocGlobal + Threads + Wait + Sync,
 {
-    turns_with(rt, script, &Open)
+    let found = turns_with(rt, script, &Open)?;
+    Ok(out.extend_from_slice(&found)?)
 }
 
 /// The same, and whether it is that of each run in which a thread gives way at one moment.
-pub fn gated<R>(rt: &R, script: &Arc<Script>) -> Result<Vec<u8>, CaseFault>
+pub fn gated<R>(rt: &R, script: &Arc<Script>, out: &mut Vec<u8>) -> Result<(), CaseFault>
 where
     R: RandomSource + AllocGlobal + Threads + Wait + Sync,
 {
-    let mut out = turns(rt, script)?;
+    let first = turns_with(rt, script, &Open)?;
     let mut is_same = true;
     for place in 0..PLACES {
         let found = turns_with(rt, script, &Yielding::at_place(place))?;
-        is_same = is_same && found.as_slice() == out.as_slice();
+        is_same = is_same && found.as_slice() == first.as_slice();
     }
+    out.extend_from_slice(&first)?;
     writeln!(out, "gated 1..{PLACES}, the same: {is_same}")?;
-    Ok(out)
+    Ok(())
 }

@@ -2,74 +2,35 @@
 
 use crate::fault::CaseFault;
 use script_code::Env;
-use std::alloc::Global;
+use std::alloc::{AllocError, Global};
 use swift_interpreter::Frame;
 use swift_journal::{Checkpoint, Folded, Journal, OwnedRecord, Record};
 use swift_locals::Bindings;
 use swift_types::{Priority, Resume, TaskId};
 
-// Puts a turn to a journal, with another worker and another environment.
-fn push(journal: &mut Journal, turn: &OwnedRecord, worker: u32, env: Env) -> Result<(), CaseFault> {
-    journal.push(&Record {
-        task: turn.task,
-        number: turn.number,
-        worker,
-        frame: &turn.frame,
-        outer: &turn.outer,
-        resume: turn.resume,
-        env,
-        exit: &turn.exit,
-        effects: &turn.effects,
-        after: turn.after.as_ref(),
-    })?;
-    Ok(())
+/// What is changed of each turn of a journal.
+#[derive(Clone, Copy)]
+pub enum Change {
+    /// The worker that ran it.
+    Worker(u32),
+    /// Its task was cancelled.
+    Flag,
+    /// Its task has made so many tasks, if it is this one.
+    Made(TaskId, u64),
 }
 
-/// The same turns, on this worker.
-pub fn journal_on_worker(
-    alloc: Global,
-    journal: &Journal,
-    worker: u32,
-) -> Result<Journal, CaseFault> {
-    let mut moved = Journal::new(alloc);
-    for place in 0..journal.len() {
-        let turn = journal.read(alloc, place)?;
-        push(&mut moved, &turn, worker, turn.env)?;
+// Makes a change of a turn.
+fn change_turn(turn: &mut OwnedRecord, change: Change) {
+    match change {
+        Change::Worker(worker) => turn.worker = worker,
+        Change::Flag => turn.env.cancelled = true,
+        Change::Made(task, made) => {
+            if turn.task == task {
+                turn.frame.made = made;
+                set_made(&mut turn.after, made);
+            }
+        }
     }
-    Ok(moved)
-}
-
-/// The same turns, each of a task that was cancelled.
-pub fn journal_with_flag(alloc: Global, journal: &Journal) -> Result<Journal, CaseFault> {
-    let mut seen = Journal::new(alloc);
-    for place in 0..journal.len() {
-        let turn = journal.read(alloc, place)?;
-        let env = Env {
-            priority: turn.env.priority,
-            cancelled: true,
-            room: turn.env.room,
-        };
-        push(&mut seen, &turn, turn.worker, env)?;
-    }
-    Ok(seen)
-}
-
-// Fields of one actor that has one.
-fn one_field(alloc: Global, value: i64) -> Result<Vec<Vec<i64>>, CaseFault> {
-    let mut row = Vec::new(alloc);
-    row.push(value)?;
-    let mut rows = Vec::new(alloc);
-    rows.push(row)?;
-    Ok(rows)
-}
-
-/// Sets the fields of a checkpoint of one actor that has one field.
-pub fn start_at(alloc: Global, checkpoint: &mut Checkpoint, value: i64) -> Result<(), CaseFault> {
-    let mut none = Journal::new(alloc);
-    let fields = one_field(alloc, value)?;
-    checkpoint.make_room(&none)?;
-    checkpoint.fold(&mut none, fields);
-    Ok(())
 }
 
 // Sets how many tasks the task of a frame has made.
@@ -79,24 +40,61 @@ fn set_made(frame: &mut Option<Frame>, made: u64) {
     }
 }
 
-/// The same turns. In those of this task it has made so many tasks.
-pub fn journal_with_made(
+// Puts a turn to a journal.
+fn push(journal: &mut Journal, turn: &OwnedRecord) -> Result<(), AllocError> {
+    journal.push(&Record {
+        task: turn.task,
+        number: turn.number,
+        worker: turn.worker,
+        frame: &turn.frame,
+        outer: &turn.outer,
+        resume: turn.resume,
+        env: turn.env,
+        exit: &turn.exit,
+        effects: &turn.effects,
+        after: turn.after.as_ref(),
+    })
+}
+
+/// The same turns, each changed.
+pub fn changed_journal(
     alloc: Global,
     journal: &Journal,
-    task: TaskId,
-    made: u64,
-) -> Result<Journal, CaseFault> {
+    change: Change,
+) -> Result<Journal, AllocError> {
     let mut changed = Journal::new(alloc);
     for place in 0..journal.len() {
         let mut turn = journal.read(alloc, place)?;
-        if turn.task == task {
-            turn.frame.made = made;
-            set_made(&mut turn.after, made);
-        }
-        let env = turn.env;
-        push(&mut changed, &turn, turn.worker, env)?;
+        change_turn(&mut turn, change);
+        push(&mut changed, &turn)?;
     }
     Ok(changed)
+}
+
+// Fields of one actor that has one.
+fn one_field(alloc: Global, value: i64) -> Result<Vec<Vec<i64>>, AllocError> {
+    let mut row = Vec::new(alloc);
+    row.push(value)?;
+    let mut rows = Vec::new(alloc);
+    rows.push(row)?;
+    Ok(rows)
+}
+
+// Folds the turns of a journal, after which the fields are these.
+fn fold(
+    checkpoint: &mut Checkpoint,
+    mut journal: Journal,
+    fields: Vec<Vec<i64>>,
+) -> Result<(), AllocError> {
+    checkpoint.make_room(&journal)?;
+    checkpoint.fold(&mut journal, fields);
+    Ok(())
+}
+
+/// Sets the fields of a checkpoint of one actor that has one field.
+pub fn start_at(alloc: Global, checkpoint: &mut Checkpoint, value: i64) -> Result<(), AllocError> {
+    let fields = one_field(alloc, value)?;
+    fold(checkpoint, Journal::new(alloc), fields)
 }
 
 /// The same checkpoint without its last turn.
@@ -138,27 +136,38 @@ fn with_last(
     checkpoint: &Checkpoint,
     last: Option<&Folded>,
 ) -> Result<Checkpoint, CaseFault> {
+    let mut journal = all_but_last(alloc, checkpoint)?;
+    if let Some(turn) = last {
+        push_folded(alloc, &mut journal, turn)?;
+    }
+    let fields = copy_of(alloc, checkpoint.fields())?;
+    let mut changed = Checkpoint::new(alloc, Vec::new(alloc));
+    fold(&mut changed, journal, fields)?;
+    Ok(changed)
+}
+
+// The turns of a checkpoint but for the last, as far as it has them.
+fn all_but_last(alloc: Global, checkpoint: &Checkpoint) -> Result<Journal, AllocError> {
     let mut journal = Journal::new(alloc);
     let left = checkpoint.len().saturating_sub(1);
     for place in 0..left {
         let turn = checkpoint.read(alloc, place)?;
         push_folded(alloc, &mut journal, &turn)?;
     }
-    if let Some(turn) = last {
-        push_folded(alloc, &mut journal, turn)?;
+    Ok(journal)
+}
+
+// The same fields.
+fn copy_of(alloc: Global, fields: &[Vec<i64>]) -> Result<Vec<Vec<i64>>, AllocError> {
+    let mut copy = Vec::new(alloc);
+    for row in fields {
+        copy.push(Vec::from_slice(alloc, row)?)?;
     }
-    let mut fields = Vec::new(alloc);
-    for row in checkpoint.fields() {
-        fields.push(Vec::from_slice(alloc, row)?)?;
-    }
-    let mut changed = Checkpoint::new(alloc, Vec::new(alloc));
-    changed.make_room(&journal)?;
-    changed.fold(&mut journal, fields);
-    Ok(changed)
+    Ok(copy)
 }
 
 // Puts a turn to a journal of which a checkpoint has what is left. The rest of it is made up.
-fn push_folded(alloc: Global, journal: &mut Journal, turn: &Folded) -> Result<(), CaseFault> {
+fn push_folded(alloc: Global, journal: &mut Journal, turn: &Folded) -> Result<(), AllocError> {
     journal.push(&Record {
         task: turn.task,
         number: turn.number,
@@ -174,6 +183,5 @@ fn push_folded(alloc: Global, journal: &mut Journal, turn: &Folded) -> Result<()
         exit: &turn.exit,
         effects: &turn.effects,
         after: turn.after.as_ref(),
-    })?;
-    Ok(())
+    })
 }

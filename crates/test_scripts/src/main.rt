@@ -85,9 +85,9 @@
 //!
 //! A line that begins with `wrong: ` is in no right output.
 //!
-//! A call on executors that is refused memory is made again, on what it was made on; where something else of a case is refused memory,
-//! the case is made again. So the program writes one text, whether one of its growths is refused or none: tools/refusals.py refuses each
-//! in turn.
+//! A call on executors that is refused memory is made again, on what it was made on, and so is a run of `run` and `quiet`. Where something
+//! else of a case answers that it was refused memory, the case is made again, and what it wrote before has to be the beginning of what it
+//! writes then. So the program writes one text, whether one of its growths is refused or none: tools/refusals.py refuses each in turn.
 #![tactic(auto)]
 
 // Changes of reports.
@@ -156,36 +156,40 @@ where
     let mut cases = all.strip_suffix('\n').unwrap_or(all).split("\n== ");
     let _comment = cases.next();
     for case in cases {
-        let out = match answered(wait, case) {
-            Err(_) => answered(wait, case)?,
-            Ok(out) => settled(wait, case, out)?,
-        };
+        let out = written(wait, case)?;
         write_all(&mut rt.stdout(), &out)?;
     }
     Ok(())
 }
 
-// Whether what is written for a case says that a growth was refused, or what is in no right output.
-fn is_refused(out: &[u8]) -> bool {
-    match str::from_utf8(out) {
-        Ok(text) => text.contains("no memory\n") || text.contains("wrong: "),
-        Err(_) => false,
-    }
-}
-
-// What is written for a case, for which this was written before.
-fn settled<R>(rt: &R, case: &str, out: Vec<u8>) -> Result<Vec<u8>, CaseFault>
+// What is written for a case, which is made again where it was refused memory.
+fn written<R>(rt: &R, case: &str) -> Result<Vec<u8>, CaseFault>
 where
     R: RandomSource + AllocGlobal + Threads + Wait + Sync,
 {
-    if is_refused(&out) {
-        return answered(rt, case);
+    let mut out = Vec::new(rt.alloc());
+    match write_case(rt, case, &mut out) {
+        Ok(()) => Ok(out),
+        Err(CaseFault::Memory) => written_again(rt, case, &out),
+        Err(fault) => Err(fault),
+    }
+}
+
+// What is written for a case that wrote this before it was refused memory.
+fn written_again<R>(rt: &R, case: &str, before: &[u8]) -> Result<Vec<u8>, CaseFault>
+where
+    R: RandomSource + AllocGlobal + Threads + Wait + Sync,
+{
+    let mut out = Vec::new(rt.alloc());
+    write_case(rt, case, &mut out)?;
+    if !out.starts_with(before) {
+        writeln!(out, "wrong: it wrote something else before")?;
     }
     Ok(out)
 }
 
-// What is written for a case.
-fn answered<R>(rt: &R, case: &str) -> Result<Vec<u8>, CaseFault>
+// Writes what is said of a case.
+fn write_case<R>(rt: &R, case: &str, out: &mut Vec<u8>) -> Result<(), CaseFault>
 where
     R: RandomSource + AllocGlobal + Threads + Wait + Sync,
 {
@@ -193,10 +197,9 @@ where
     let Some((kind, title)) = head.split_once(' ') else {
         return Err(CaseFault::Form);
     };
-    let mut out = Vec::with_capacity(rt.alloc(), ROOM)?;
+    out.reserve(ROOM)?;
     writeln!(out, "== {title}")?;
-    answer(rt, kind, title, text, &mut out)?;
-    Ok(out)
+    answer(rt, kind, title, text, out)
 }
 
 // What is said of a text in a case of this kind.

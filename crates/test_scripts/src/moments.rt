@@ -38,9 +38,7 @@ where
         turns: AtomicU32::new(0),
     };
     let mut report = Vec::new(rt.alloc());
-    if let Err(fault) = run_text(rt, text, 1, true, &gate, &mut report) {
-        writeln!(out, "wrong: {fault}")?;
-    }
+    run_text(rt, text, 1, true, &gate, &mut report)?;
     let taken = gate.taken.load(Ordering::SeqCst);
     let turns = gate.turns.load(Ordering::SeqCst);
     writeln!(out, "{taken} tokens, {turns} turns of task 1")?;

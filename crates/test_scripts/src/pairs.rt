@@ -2,10 +2,10 @@
 
 use crate::escapes::expand;
 use crate::fault::CaseFault;
-use crate::reading::texts_of;
+use crate::reading::{script_of, texts_of};
 use std::alloc::Global;
 use std::io::Write;
-use swift_script::{Script, read};
+use swift_script::Script;
 
 /// How two texts compare.
 #[derive(Clone, Copy, PartialEq, Eq)]
@@ -30,10 +30,10 @@ fn compare_scripts(first: &Script, second: &Script) -> Compared {
     }
 }
 
-fn compare(alloc: Global, first: &[u8], second: &[u8]) -> Compared {
-    match (read(alloc, first), read(alloc, second)) {
-        (Ok(first), Ok(second)) => compare_scripts(&first, &second),
-        _ => Compared::Refused,
+fn compare(alloc: Global, first: &[u8], second: &[u8]) -> Result<Compared, CaseFault> {
+    match (script_of(alloc, first)?, script_of(alloc, second)?) {
+        (Ok(first), Ok(second)) => Ok(compare_scripts(&first, &second)),
+        _ => Ok(Compared::Refused),
     }
 }
 
@@ -44,7 +44,7 @@ pub fn same(alloc: Global, texts: &str, out: &mut Vec<u8>) -> Result<(), CaseFau
     };
     let first = expand(alloc, first)?;
     let second = expand(alloc, second)?;
-    out.extend_from_slice(match compare(alloc, &first, &second) {
+    out.extend_from_slice(match compare(alloc, &first, &second)? {
         Compared::Same => b"same\n",
         Compared::Other => b"other\n",
         Compared::SameOneWayRound => b"wrong: same one way round\n",
@@ -63,7 +63,7 @@ pub fn distinct(alloc: Global, table: &str, out: &mut Vec<u8>) -> Result<(), Cas
             } else {
                 Compared::Other
             };
-            if compare(alloc, first, second) != wanted {
+            if compare(alloc, first, second)? != wanted {
                 writeln!(out, "wrong: row {i} and row {j}")?;
             }
         }

@@ -2,9 +2,9 @@
 
 use crate::escapes::expand;
 use crate::fault::CaseFault;
-use std::alloc::{AllocError, Global};
+use std::alloc::Global;
 use std::io::Write;
-use swift_script::{Script, ScriptFault, print_script, read};
+use swift_script::{Script, ScriptFault, ScriptFaultKind, print_script, read};
 use swift_types::limits::BYTES;
 
 /// What is said of a script that was read.
@@ -16,22 +16,35 @@ pub struct Printed {
     pub is_read_again: bool,
 }
 
+// Why a text is refused. Out of memory is none of its own refusals.
+fn refusal_of(fault: ScriptFault) -> Result<ScriptFault, CaseFault> {
+    if fault.kind == ScriptFaultKind::Memory {
+        return Err(CaseFault::Memory);
+    }
+    Ok(fault)
+}
+
+/// The script of a text, or its refusal.
+pub fn script_of(alloc: Global, text: &[u8]) -> Result<Result<Script, ScriptFault>, CaseFault> {
+    match read(alloc, text) {
+        Ok(script) => Ok(Ok(script)),
+        Err(fault) => Ok(Err(refusal_of(fault)?)),
+    }
+}
+
 // Whether a printed form is read as this script, and printed the same.
-fn is_read_again(alloc: Global, script: &Script, printed: &str) -> Result<bool, AllocError> {
-    match read(alloc, printed.as_bytes()) {
+fn is_read_again(alloc: Global, script: &Script, printed: &str) -> Result<bool, CaseFault> {
+    match script_of(alloc, printed.as_bytes())? {
         Ok(again) => {
-            let is_same = script.says_the_same(&again);
-            match print_script(alloc, &again) {
-                Ok(second) => Ok(is_same && second.as_str() == printed),
-                Err(refused) => Err(refused),
-            }
+            let second = print_script(alloc, &again)?;
+            Ok(script.says_the_same(&again) && second.as_str() == printed)
         }
         Err(_) => Ok(false),
     }
 }
 
 // The printed form of a script, and whether it is read again.
-fn print(alloc: Global, script: &Script) -> Result<Printed, AllocError> {
+fn print(alloc: Global, script: &Script) -> Result<Printed, CaseFault> {
     let text = print_script(alloc, script)?;
     let is_read_again = text.len() > BYTES || is_read_again(alloc, script, text.as_str())?;
     Ok(Printed {
@@ -41,12 +54,9 @@ fn print(alloc: Global, script: &Script) -> Result<Printed, AllocError> {
 }
 
 /// The printed form of a text's script, or its refusal.
-pub fn print_text(alloc: Global, text: &[u8]) -> Result<Result<Printed, ScriptFault>, AllocError> {
-    match read(alloc, text) {
-        Ok(script) => match print(alloc, &script) {
-            Ok(printed) => Ok(Ok(printed)),
-            Err(refused) => Err(refused),
-        },
+pub fn print_text(alloc: Global, text: &[u8]) -> Result<Result<Printed, ScriptFault>, CaseFault> {
+    match script_of(alloc, text)? {
+        Ok(script) => Ok(Ok(print(alloc, &script)?)),
         Err(fault) => Ok(Err(fault)),
     }
 }
@@ -64,7 +74,7 @@ pub fn check(printed: &Printed, out: &mut Vec<u8>) -> Result<(), CaseFault> {
 fn show(alloc: Global, printed: &Printed, out: &mut Vec<u8>) -> Result<(), CaseFault> {
     let text = printed.text.as_bytes();
     if text.len() > BYTES {
-        if let Err(fault) = read(alloc, text) {
+        if let Err(fault) = script_of(alloc, text)? {
             writeln!(out, "printed form: {fault}")?;
         }
         return Ok(());

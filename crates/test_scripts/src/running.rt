@@ -26,8 +26,11 @@ where
 {
     let before = out.len();
     let mut ended = run_text(rt, text, 1, quiet, &Open, out);
-    // Made again where it is refused memory, and has written nothing.
-    if is_refused(&ended) && out.len() == before {
+    // Made again where it is refused memory, which leaves nothing written.
+    if is_refused(&ended) {
+        if out.len() != before {
+            writeln!(out, "wrong: it was refused memory, and has written")?;
+        }
         ended = run_text(rt, text, 1, quiet, &Open, out);
     }
     if let Err(fault) = &ended {

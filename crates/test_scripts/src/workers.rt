@@ -10,14 +10,12 @@ use std::random::RandomSource;
 use std::sync::{Arc, Wait};
 use std::thread::Threads;
 use swift_certificate::legal;
-use swift_report::report_text;
+use swift_report::{Report, report_text};
 use swift_script::{Script, read};
-use swift_workers::{Gate, Open, run};
+use swift_workers::{Gate, Open, RunFault, run};
 
 fn script_of(alloc: Global, text: &str) -> Result<Arc<Script>, CaseFault> {
-    let Ok(script) = read(alloc, text.as_bytes()) else {
-        return Err(CaseFault::Script);
-    };
+    let script = read(alloc, text.as_bytes())?;
     Ok(Arc::new(alloc, script)?)
 }
 
@@ -36,25 +34,27 @@ where
     let alloc = rt.alloc();
     match run(rt, Arc::clone(script)?, workers, gate) {
         Ok(report) => Ok(report_text(alloc, script, &report, quiet)?),
-        Err(fault) => {
-            let mut out = Vec::new(alloc);
-            writeln!(out, "{fault}")?;
-            Ok(out)
-        }
+        Err(RunFault::Memory) => Err(CaseFault::Memory),
+        Err(fault) => Ok(format!(in alloc; "{fault}\n")?.into_bytes()),
     }
 }
 
 // What is written for a script in a case of this kind.
-fn answer_script<R>(rt: &R, kind: &str, script: &Arc<Script>) -> Result<Vec<u8>, CaseFault>
+fn answer_script<R>(
+    rt: &R,
+    kind: &str,
+    script: &Arc<Script>,
+    out: &mut Vec<u8>,
+) -> Result<(), CaseFault>
 where
     R: RandomSource + AllocGlobal + Threads + Wait + Sync,
 {
     match kind {
-        "agree" => agree(rt, script),
-        "turns" => turns(rt, script),
-        "gated" => gated(rt, script),
-        "legal" => legal_on_two(rt, script),
-        "meet" => meet(rt, script),
+        "agree" => agree(rt, script, out),
+        "turns" => turns(rt, script, out),
+        "gated" => gated(rt, script, out),
+        "legal" => legal_on_two(rt, script, out),
+        "meet" => meet(rt, script, out),
         _ => Err(CaseFault::Form),
     }
 }
@@ -70,22 +70,19 @@ pub fn answer<R>(
 where
     R: RandomSource + AllocGlobal + Threads + Wait + Sync,
 {
-    let found = if kind == "changed" {
-        changed(rt, title, text)?
-    } else {
-        let script = script_of(rt.alloc(), text)?;
-        answer_script(rt, kind, &script)?
-    };
-    Ok(out.extend_from_slice(&found)?)
+    if kind == "changed" {
+        return changed(rt, title, text, out);
+    }
+    answer_script(rt, kind, &script_of(rt.alloc(), text)?, out)
 }
 
 // The report of a run on one worker, and whether those on more are the same.
-fn agree<R>(rt: &R, script: &Arc<Script>) -> Result<Vec<u8>, CaseFault>
+fn agree<R>(rt: &R, script: &Arc<Script>, out: &mut Vec<u8>) -> Result<(), CaseFault>
 where
     R: RandomSource + AllocGlobal + Threads + Wait + Sync,
 {
-    let mut out = report_on(rt, script, 1, &Open, true)?;
     let alone = report_on(rt, script, 1, &Open, true)?;
+    out.extend_from_slice(&alone)?;
     for workers in [2, 4, 8] {
         let others = report_on(rt, script, workers, &Open, true)?;
         let is_same = others.as_slice() == alone.as_slice();
@@ -95,39 +92,38 @@ where
         let refused = report_on(rt, script, workers, &Open, true)?;
         out.extend_from_slice(&refused)?;
     }
-    Ok(out)
+    Ok(())
+}
+
+// Writes whether a report is legal.
+fn tell_legal(
+    alloc: Global,
+    script: &Arc<Script>,
+    report: &Report,
+    out: &mut Vec<u8>,
+) -> Result<(), CaseFault> {
+    let is_legal = legal(alloc, script, report)?;
+    writeln!(out, "legal: {is_legal}")?;
+    Ok(())
 }
 
 // Whether the report of a run on two workers is legal.
-fn legal_on_two<R>(rt: &R, script: &Arc<Script>) -> Result<Vec<u8>, CaseFault>
+fn legal_on_two<R>(rt: &R, script: &Arc<Script>, out: &mut Vec<u8>) -> Result<(), CaseFault>
 where
     R: RandomSource + AllocGlobal + Threads + Wait + Sync,
 {
-    let mut out = Vec::new(rt.alloc());
-    match run(rt, Arc::clone(script)?, 2, &Open) {
-        Ok(report) => {
-            let is_legal = legal(rt.alloc(), script, &report)?;
-            writeln!(out, "legal: {is_legal}")?;
-        }
-        Err(fault) => writeln!(out, "wrong: {fault}")?,
-    }
-    Ok(out)
+    let report = run(rt, Arc::clone(script)?, 2, &Open)?;
+    tell_legal(rt.alloc(), script, &report, out)
 }
 
 // Whether the report of a run of the first of these scripts is legal for the second, once it is changed.
-fn changed<R>(rt: &R, change: &str, scripts: &str) -> Result<Vec<u8>, CaseFault>
+fn changed<R>(rt: &R, change: &str, scripts: &str, out: &mut Vec<u8>) -> Result<(), CaseFault>
 where
     R: RandomSource + AllocGlobal + Threads + Wait + Sync,
 {
     let alloc = rt.alloc();
     let (first, second) = scripts.split_once("\n--\n").unwrap_or((scripts, scripts));
-    let Ok(mut report) = run(rt, script_of(alloc, first)?, 1, &Open) else {
-        return Err(CaseFault::Script);
-    };
+    let mut report = run(rt, script_of(alloc, first)?, 1, &Open)?;
     make(alloc, &mut report, change)?;
-    let against = script_of(alloc, second)?;
-    let is_legal = legal(alloc, &against, &report)?;
-    let mut out = Vec::new(alloc);
-    writeln!(out, "legal: {is_legal}")?;
-    Ok(out)
+    tell_legal(alloc, &script_of(alloc, second)?, &report, out)
 }

@@ -5,6 +5,7 @@ ghost use Rattle.std.specs.Prelude.{◌≡◌, None};
 use crate::desks::door::Door;
 use crate::desks::jobs::Jobs;
 use crate::desks::setting::Setting;
+use crate::fault::CaseFault;
 use std::alloc::{AllocError, Global};
 use std::sync::Wait;
 use swift_executor::{Closed, ExecState};
@@ -76,8 +77,17 @@ impl Leavings {
         })
     }
 
-    /// A report of the turns and fields, without tasks.
-    pub fn text(&self, alloc: Global, setting: &Setting) -> Result<Vec<u8>, AllocError> {
-        report_text(alloc, &setting.script, &self.report, false)
+    /// Writes a report of the turns and fields, without tasks.
+    pub fn tell(
+        &self,
+        alloc: Global,
+        setting: &Setting,
+        out: &mut String,
+    ) -> Result<(), CaseFault> {
+        let text = report_text(alloc, &setting.script, &self.report, false)?;
+        match str::from_utf8(&text) {
+            Ok(text) => Ok(out.push_str(text)?),
+            Err(_) => Err(CaseFault::Form),
+        }
     }
 }

@@ -2,6 +2,7 @@
 
 use crate::desks::door::Door;
 use crate::desks::tasks::Tasks;
+use crate::fault::CaseFault;
 use std::alloc::{AllocError, Global};
 use std::sync::Arc;
 use swift_executor::Exec;
@@ -25,11 +26,11 @@ impl Drop for Setting {
 }
 
 impl Setting {
-    /// The script of a text. None where it is refused.
-    pub fn read(alloc: Global, text: &str) -> Option<Setting> {
-        let script = read(alloc, text.as_bytes()).ok()?;
-        let script = Arc::new(alloc, script).ok()?;
-        Some(Setting { script })
+    /// The script of a text.
+    pub fn read(alloc: Global, text: &str) -> Result<Setting, CaseFault> {
+        let script = read(alloc, text.as_bytes())?;
+        let script = Arc::new(alloc, script)?;
+        Ok(Setting { script })
     }
 
     /// How many executors it has.
@@ -59,14 +60,14 @@ impl Setting {
     }
 
     /// A job that no book gave: the turn of this number of a root's task, at the start of its method.
-    pub fn job(&self, alloc: Global, root: u32, number: u32) -> Option<Job<Body>> {
-        let script = Arc::clone(&self.script).ok()?;
+    pub fn job(&self, alloc: Global, root: u32, number: u32) -> Result<Job<Body>, CaseFault> {
+        let script = Arc::clone(&self.script)?;
         let method = script.root_method(RootId(root));
         if method.0 as usize >= script.method_count() {
-            return None;
+            return Err(CaseFault::Form);
         }
-        let args = script.root_args(RootId(root)).to_vec(alloc).ok()?;
-        let body = Body::start(alloc, script, method, args, Bindings::new(alloc)).ok()?;
-        Some(Job::new(TaskId(root), number, Resume::Start, body))
+        let args = script.root_args(RootId(root)).to_vec(alloc)?;
+        let body = Body::start(alloc, script, method, args, Bindings::new(alloc))?;
+        Ok(Job::new(TaskId(root), number, Resume::Start, body))
     }
 }

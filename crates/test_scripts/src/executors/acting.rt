@@ -1,16 +1,14 @@
 //! Calls that a gate makes.
 
-use crate::executors::stage::Stage;
-use std::alloc::AllocGlobal;
-use std::random::RandomSource;
+use crate::executors::callee::{Callee, play};
 use std::sync::{Mutex, Wait};
 use swift_executor::{Gate, Moment};
 
 /// A gate that makes calls at the first moment of this name, and writes what they answer.
 #[derive(Drop)]
-pub struct Acting<'a, R: Wait + RandomSource + AllocGlobal> {
+pub struct Acting<'a, R: Wait, C: Callee<R>> {
     pub rt: &'a R,
-    pub stage: &'a Stage,
+    pub callee: &'a C,
     pub moment: &'a str,
     pub calls: &'a str,
     pub lines: Mutex<String>,
@@ -30,12 +28,12 @@ pub(crate) fn name_of(moment: Moment) -> &'static str {
     }
 }
 
-impl<'a, R: Wait + RandomSource + AllocGlobal> Gate for Acting<'a, R> {
+impl<'a, R: Wait, C: Callee<R>> Gate for Acting<'a, R, C> {
     fn at(&self, moment: Moment) {
         let mut lines = self.lines.lock(self.rt);
         if lines.is_empty() && name_of(moment) == self.moment {
-            self.stage
-                .play(self.rt, "  at that moment: ", self.calls, 0, &mut lines);
+            let before = "  at that moment: ";
+            play(self.rt, self.callee, before, self.calls, 0, &mut lines);
         }
     }
 }

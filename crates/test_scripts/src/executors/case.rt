@@ -4,95 +4,177 @@ use crate::desks::Setting;
 use crate::executors::ROOM;
 use crate::executors::acting::Acting;
 use crate::executors::call::number;
+use crate::executors::callee::{Callee, make, play as play_calls};
 use crate::executors::end::close_all;
 use crate::executors::stage::Stage;
-use std::alloc::AllocGlobal;
+use crate::fault::CaseFault;
+use std::alloc::{AllocGlobal, Global};
 use std::fmt::Write;
 use std::random::RandomSource;
 use std::sync::{Mutex, Wait};
 
 /// Writes each call of a case with its answer, and what closing its executors gives.
-pub fn play<R>(rt: &R, case: &str, out: &mut String) -> Option<()>
+pub fn play<R>(rt: &R, case: &str, out: &mut String) -> Result<(), CaseFault>
 where
     R: Wait + RandomSource + AllocGlobal,
 {
-    let (text, lines) = case.split_once("\n--\n")?;
-    let (head, calls) = lines.split_once('\n')?;
-    play_script(rt, text, head, calls, out)
+    let Some((text, lines)) = case.split_once("\n--\n") else {
+        return Err(CaseFault::Form);
+    };
+    let Some((head, calls)) = lines.split_once('\n') else {
+        return Err(CaseFault::Form);
+    };
+    play_on(rt, open(rt.alloc(), text, head)?, calls, out)
 }
 
-// Makes the executors of a case and its calls, and gives the executors up.
-fn play_script<R>(rt: &R, text: &str, head: &str, lines: &str, out: &mut String) -> Option<()>
+// The executors of a script, made for so many workers and with the room that these words tell.
+fn open(alloc: Global, text: &str, head: &str) -> Result<Stage, CaseFault> {
+    let Some((workers, room)) = pair_of(head, " ") else {
+        return Err(CaseFault::Form);
+    };
+    let mut stage = Stage::new(alloc, Setting::read(alloc, text)?)?;
+    stage.open_all(alloc, workers, room)?;
+    Ok(stage)
+}
+
+// Two numbers, with these words between them.
+fn pair_of(words: &str, between: &str) -> Option<(u32, u32)> {
+    let (first, second) = words.split_once(between)?;
+    Some((number(first, 0)?, number(second, 0)?))
+}
+
+// Makes the calls of a case on its executors, and gives these up.
+fn play_on<R>(rt: &R, mut stage: Stage, lines: &str, out: &mut String) -> Result<(), CaseFault>
 where
     R: Wait + RandomSource + AllocGlobal,
 {
-    let (workers, room) = head.split_once(' ')?;
-    let (workers, room) = (number(workers, 0)?, number(room, 0)?);
-    let mut stage = Stage::new(rt.alloc(), Setting::read(rt.alloc(), text)?)?;
-    stage.open_all(rt.alloc(), workers, room)?;
     let calls = lines.strip_suffix("\ndrop");
-    for line in calls.unwrap_or(lines).split('\n') {
-        play_line(rt, &mut stage, line, out);
-    }
+    play_lines(rt, &mut stage, calls.unwrap_or(lines), out)?;
     if calls.is_none() {
         return close_all(rt, stage, out);
     }
     drop(stage);
-    out.push_str("dropped\n").ok()
+    Ok(out.push_str("dropped\n")?)
+}
+
+// Makes the calls of these lines.
+fn play_lines<R, C>(rt: &R, callee: &mut C, lines: &str, out: &mut String) -> Result<(), CaseFault>
+where
+    R: Wait + AllocGlobal,
+    C: Callee<R>,
+{
+    for line in lines.split('\n') {
+        play_line(rt, callee, line, out)?;
+    }
+    Ok(())
 }
 
 // Makes the calls of a line.
-fn play_line<R>(rt: &R, stage: &mut Stage, line: &str, out: &mut String)
+fn play_line<R, C>(rt: &R, callee: &mut C, line: &str, out: &mut String) -> Result<(), CaseFault>
 where
-    R: Wait + RandomSource + AllocGlobal,
+    R: Wait + AllocGlobal,
+    C: Callee<R>,
 {
-    let played = if let Some(rest) = line.strip_prefix("at ") {
-        play_at(rt, stage, line, rest, out)
-    } else if let Some(desk) = line.strip_prefix("split ") {
-        let split = number(desk, 0).and_then(|desk| stage.split(rt, desk));
-        let answer = if split.is_some() { "ok" } else { "no" };
-        writeln!(out, "{line}: {answer}").ok()
-    } else if let Some((range, calls)) = line.split_once(": ") {
-        play_range(rt, stage, range, calls, out)
-    } else {
-        stage.play(rt, "", line, 0, out);
-        Some(())
-    };
-    if played.is_none() {
-        let _ = out.push_str("wrong: a line was not played\n");
+    if let Some(rest) = line.strip_prefix("at ") {
+        return play_at(rt, callee, line, rest, out);
     }
+    if let Some(desk) = line.strip_prefix("split ") {
+        return play_split(rt, callee, line, desk, out);
+    }
+    if let Some((range, calls)) = line.split_once(": ") {
+        return play_range(rt, callee, range, calls, out);
+    }
+    play_calls(rt, callee, "", line, 0, out);
+    Ok(())
 }
 
-// A call with a gate that makes others at a moment: `MOMENT { CALLS } CALL`.
-fn play_at<R>(rt: &R, stage: &Stage, line: &str, rest: &str, out: &mut String) -> Option<()>
+// A new desk.
+fn play_split<R, C>(
+    rt: &R,
+    callee: &mut C,
+    line: &str,
+    desk: &str,
+    out: &mut String,
+) -> Result<(), CaseFault>
 where
-    R: Wait + RandomSource + AllocGlobal,
+    C: Callee<R>,
 {
-    let (moment, rest) = rest.split_once(" { ")?;
+    let Some(desk) = number(desk, 0) else {
+        return Err(CaseFault::Form);
+    };
+    callee.split(rt, desk)?;
+    writeln!(out, "{line}: ok")?;
+    Ok(())
+}
+
+// The words of a call with a gate that makes others at a moment.
+#[derive(Clone, Copy)]
+struct Acts<'a> {
+    moment: &'a str,
+    calls: &'a str,
+    call: &'a str,
+}
+
+// `MOMENT { CALLS } CALL`.
+fn acts_of(words: &str) -> Option<Acts<'_>> {
+    let (moment, rest) = words.split_once(" { ")?;
     let (calls, call) = rest.split_once(" } ")?;
-    let gate = Acting {
-        rt,
-        stage,
+    Some(Acts {
         moment,
         calls,
-        lines: Mutex::new(String::with_capacity(rt.alloc(), ROOM).ok()?),
+        call,
+    })
+}
+
+// A call with a gate that makes others at a moment.
+fn play_at<R, C>(
+    rt: &R,
+    callee: &C,
+    line: &str,
+    words: &str,
+    out: &mut String,
+) -> Result<(), CaseFault>
+where
+    R: Wait + AllocGlobal,
+    C: Callee<R>,
+{
+    let Some(acts) = acts_of(words) else {
+        return Err(CaseFault::Form);
     };
-    let mut answer = String::with_capacity(rt.alloc(), ROOM).ok()?;
-    stage.make(rt, call, 0, &gate, &mut answer);
+    let gate = Acting {
+        rt,
+        callee,
+        moment: acts.moment,
+        calls: acts.calls,
+        lines: Mutex::new(String::with_capacity(rt.alloc(), ROOM)?),
+    };
+    let mut answer = String::with_capacity(rt.alloc(), ROOM)?;
+    make(rt, callee, acts.call, 0, &gate, &mut answer);
     let lines = gate.lines.into_inner();
-    writeln!(out, "{lines}{line}: {answer}").ok()
+    writeln!(out, "{lines}{line}: {answer}")?;
+    Ok(())
 }
 
 // Makes calls for each number of a range, `FIRST to LAST`, and writes what they answer for the last.
-fn play_range<R>(rt: &R, stage: &Stage, range: &str, calls: &str, out: &mut String) -> Option<()>
+fn play_range<R, C>(
+    rt: &R,
+    callee: &C,
+    range: &str,
+    calls: &str,
+    out: &mut String,
+) -> Result<(), CaseFault>
 where
-    R: Wait + RandomSource + AllocGlobal,
+    R: AllocGlobal,
+    C: Callee<R>,
 {
-    let (first, last) = range.split_once(" to ")?;
-    let mut lines = String::with_capacity(rt.alloc(), ROOM).ok()?;
-    for count in number(first, 0)?..=number(last, 0)? {
+    let Some((first, last)) = pair_of(range, " to ") else {
+        return Err(CaseFault::Form);
+    };
+    let mut lines = String::with_capacity(rt.alloc(), ROOM)?;
+    for count in first..=last {
         lines.clear();
-        stage.play(rt, "  ", calls, count, &mut lines);
+        play_calls(rt, callee, "  ", calls, count, &mut lines);
     }
-    write!(out, "{range}:\n{lines}").ok()
+    write!(out, "{range}:\n{lines}")?;
+    Ok(())
 }

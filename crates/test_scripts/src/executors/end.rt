@@ -1,27 +1,52 @@
 //! What is left of executors.
 
-use crate::desks::Leavings;
+use crate::desks::{Door, Leavings, Left};
 use crate::executors::stage::Stage;
 use crate::executors::tell::tell_place;
-use std::alloc::AllocGlobal;
+use crate::fault::CaseFault;
+use std::alloc::{AllocGlobal, Global};
 use std::fmt::Write;
 use std::sync::Wait;
 
 /// Closes the executors of a case, each with the last of its desks: a line for each, and a report.
-pub fn close_all<R: Wait + AllocGlobal>(rt: &R, stage: Stage, out: &mut String) -> Option<()> {
-    let alloc = rt.alloc();
-    let (setting, doors) = stage.into_parts();
-    let mut leavings = Leavings::new(alloc, doors.len()).ok()?;
+pub fn close_all<R>(rt: &R, stage: Stage, out: &mut String) -> Result<(), CaseFault>
+where
+    R: Wait + AllocGlobal,
+{
+    let Stage { setting, doors, .. } = stage;
+    let mut leavings = Leavings::new(rt.alloc(), doors.len())?;
     let mut number = 0u32;
     for door in doors {
-        if let Some(left) = leavings.close(rt, door.into_inner()) {
-            write!(out, "executor {number}: {} pending", left.pending).ok()?;
-            tell_place(alloc, &left.ready.list, "ready", out).ok()?;
-            tell_place(alloc, &left.inbox.list, "in the inbox", out).ok()?;
-            out.push('\n').ok()?;
+        if close_one(rt, door.into_inner(), number, &mut leavings, out)? {
             number = number.saturating_add(1);
         }
     }
-    let text = String::from_utf8(leavings.text(alloc, &setting).ok()?).ok()?;
-    out.push_str(&text).ok()
+    leavings.tell(rt.alloc(), &setting, out)
+}
+
+// Closes an executor with the last of its desks, and writes its line. Whether it was the last.
+fn close_one<R>(
+    rt: &R,
+    door: Door,
+    number: u32,
+    leavings: &mut Leavings,
+    out: &mut String,
+) -> Result<bool, CaseFault>
+where
+    R: Wait + AllocGlobal,
+{
+    let Some(left) = leavings.close(rt, door) else {
+        return Ok(false);
+    };
+    tell_left(rt.alloc(), number, &left, out)?;
+    Ok(true)
+}
+
+// What the executor of this number has left beside its turns.
+fn tell_left(alloc: Global, number: u32, left: &Left, out: &mut String) -> Result<(), CaseFault> {
+    write!(out, "executor {number}: {} pending", left.pending)?;
+    tell_place(alloc, &left.ready.list, "ready", out)?;
+    tell_place(alloc, &left.inbox.list, "in the inbox", out)?;
+    out.push('\n')?;
+    Ok(())
 }

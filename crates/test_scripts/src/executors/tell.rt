@@ -1,11 +1,32 @@
 //! What calls answered.
 
+use crate::fault::CaseFault;
 use std::alloc::{AllocError, Global};
 use std::fmt::Write;
 use swift_executor::{ExecFault, Ran};
 use swift_queue::Job;
+use swift_tasks::BookFault;
 use swift_turn::Body;
-use swift_types::TaskId;
+use swift_types::{Ending, TaskId};
+
+/// What a call on the book answered.
+pub fn tell_booked(answer: Result<(), BookFault>, out: &mut String) -> Result<(), CaseFault> {
+    match answer {
+        Ok(()) => out.push_str("ok")?,
+        Err(BookFault::Memory) => return Err(CaseFault::Memory),
+        Err(fault) => write!(out, "{fault}")?,
+    }
+    Ok(())
+}
+
+/// How a task has ended, if it has.
+pub fn tell_ending(ending: Option<Ending>, out: &mut String) -> Result<(), CaseFault> {
+    let Some(ending) = ending else {
+        return Err(CaseFault::Form);
+    };
+    write!(out, "{ending:?}")?;
+    Ok(())
+}
 
 /// Why the job of this number of a task came back.
 pub fn tell_back(
@@ -21,18 +42,31 @@ pub fn tell_back(
     write!(out, ", t{task}.{number} came back")
 }
 
-/// What came of a visit.
-pub fn tell_ran(ran: Result<Ran, ExecFault>, out: &mut String) -> Result<(), AllocError> {
-    match ran {
-        Ok(Ran::Turn(TaskId(task), left)) => write!(out, "turn of t{task}, left {left:?}"),
-        Ok(Ran::Busy) => out.push_str("busy"),
-        Ok(Ran::Nothing(left)) => write!(out, "nothing, left {left:?}"),
-        Err(fault) => write!(out, "{fault}"),
-    }
+/// What came of a visit, and the jobs that it made.
+pub fn tell_visit(
+    ran: Result<Ran, ExecFault>,
+    jobs: &[Job<Body>],
+    out: &mut String,
+) -> Result<(), CaseFault> {
+    tell_ran(ran, out)?;
+    tell_jobs(jobs, out)?;
+    Ok(())
 }
 
-/// Jobs, in order, and what each begins with.
-pub fn tell_jobs(jobs: &[Job<Body>], out: &mut String) -> Result<(), AllocError> {
+// What came of a visit.
+fn tell_ran(ran: Result<Ran, ExecFault>, out: &mut String) -> Result<(), CaseFault> {
+    match ran {
+        Ok(Ran::Turn(TaskId(task), left)) => write!(out, "turn of t{task}, left {left:?}")?,
+        Ok(Ran::Busy) => out.push_str("busy")?,
+        Ok(Ran::Nothing(left)) => write!(out, "nothing, left {left:?}")?,
+        Err(ExecFault::Memory) => return Err(CaseFault::Memory),
+        Err(fault) => write!(out, "{fault}")?,
+    }
+    Ok(())
+}
+
+// Jobs, in order, and what each begins with.
+fn tell_jobs(jobs: &[Job<Body>], out: &mut String) -> Result<(), AllocError> {
     for job in jobs {
         let (task, number, resume) = (job.task().0, job.number(), job.resume());
         write!(out, ", job t{task}.{number} {resume:?}")?;

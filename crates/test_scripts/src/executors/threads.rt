@@ -2,7 +2,8 @@
 
 use crate::desks::{Door, Jobs, Leavings, Poller, Setting, Tasks};
 use crate::executors::hold::{Hold, Holding};
-use std::alloc::AllocGlobal;
+use crate::fault::CaseFault;
+use std::alloc::{AllocError, AllocGlobal};
 use std::fmt::Write;
 use std::random::RandomSource;
 use std::sync::Wait;
@@ -123,26 +124,53 @@ where
     Some(by_two_threads(rt, first, second, jobs, tasks, hold, moment))
 }
 
+// The calls of two threads, and the visits of another worker that come then.
+fn play_visits<R>(
+    rt: &R,
+    door: &mut Door,
+    tasks: &Tasks,
+    moment: &str,
+    out: &mut String,
+) -> Result<(), AllocError>
+where
+    R: Threads + Wait + Sync + RandomSource + AllocGlobal,
+{
+    let hold = Hold::new();
+    let answers = play_roots(rt, door, tasks, &hold, moment);
+    let next = visit(rt, door, 1, tasks, &Open);
+    let last = visit(rt, door, 1, tasks, &Open);
+    writeln!(out, "  sent and visited: {answers:?}")?;
+    writeln!(out, "  next: {next:?}\n  last: {last:?}")?;
+    if hold.is_too_long() {
+        out.push_str("  too long\n")?;
+    }
+    Ok(())
+}
+
+// Closes the executor with the last of its desks.
+fn close<R>(rt: &R, setting: &Setting, door: Door, out: &mut String) -> Result<(), CaseFault>
+where
+    R: Wait + AllocGlobal,
+{
+    let mut leavings = Leavings::new(rt.alloc(), 1)?;
+    let pending = match leavings.close(rt, door) {
+        Some(left) => left.pending,
+        None => return Err(CaseFault::Form),
+    };
+    writeln!(out, "  closed: {pending} pending")?;
+    leavings.tell(rt.alloc(), setting, out)
+}
+
 /// Makes an executor, and a call of each of two threads, of which one is held at this moment.
-pub fn play<R>(rt: &R, moment: &str, out: &mut String) -> Option<()>
+pub fn play<R>(rt: &R, moment: &str, out: &mut String) -> Result<(), CaseFault>
 where
     R: Threads + Wait + Sync + RandomSource + AllocGlobal,
 {
     let alloc = rt.alloc();
     let setting = Setting::read(alloc, TEXT)?;
-    let tasks = setting.tasks(alloc).ok()?;
-    let mut door = setting.open(alloc, 0, 2, 2).ok()?;
-    let hold = Hold::new();
-    let answers = play_roots(rt, &mut door, &tasks, &hold, moment);
-    let next = visit(rt, &mut door, 1, &tasks, &Open);
-    let last = visit(rt, &mut door, 1, &tasks, &Open);
-    writeln!(out, "  sent and visited: {answers:?}").ok()?;
-    writeln!(out, "  next: {next:?}\n  last: {last:?}").ok()?;
-    if hold.is_too_long() {
-        out.push_str("  too long\n").ok()?;
-    }
-    let mut leavings = Leavings::new(alloc, 1).ok()?;
-    let pending = leavings.close(rt, door)?.pending;
-    let text = String::from_utf8(leavings.text(alloc, &setting).ok()?).ok()?;
-    write!(out, "  closed: {pending} pending\n{text}").ok()
+    let mut door = setting.open(alloc, 0, 2, 2)?;
+    let tasks = setting.tasks(alloc)?;
+    play_visits(rt, &mut door, &tasks, moment, out)?;
+    drop(tasks);
+    close(rt, &setting, door, out)
 }

@@ -1,0 +1,51 @@
+//! Calls, one after another.
+
+use crate::executors::call::{Call, call_of};
+use crate::fault::CaseFault;
+use std::fmt::Write;
+use swift_executor::{Gate, Open};
+
+/// What the calls of a case are made on.
+pub trait Callee<R> {
+    /// Makes a call, and writes what it answered. One that was refused memory may be made again.
+    fn answer<G: Gate>(
+        &self,
+        rt: &R,
+        call: Call,
+        gate: &G,
+        out: &mut String,
+    ) -> Result<(), CaseFault>;
+
+    /// Makes a new desk of the executor of this one, which comes behind the others.
+    fn split(&mut self, rt: &R, desk: u32) -> Result<(), CaseFault>;
+}
+
+/// Makes a call, again where it was refused memory, and writes what it answered.
+pub fn make<R, C, G>(rt: &R, callee: &C, text: &str, count: u32, gate: &G, out: &mut String)
+where
+    C: Callee<R>,
+    G: Gate,
+{
+    if let Some(call) = call_of(text, count) {
+        let made = match callee.answer(rt, call, gate, out) {
+            Err(CaseFault::Memory) => callee.answer(rt, call, gate, out),
+            made => made,
+        };
+        if made.is_ok() {
+            return;
+        }
+    }
+    let _ = out.push_str("not made");
+}
+
+/// Makes calls, and writes each with its answer on a line of its own, behind these words.
+pub fn play<R, C>(rt: &R, callee: &C, before: &str, calls: &str, count: u32, out: &mut String)
+where
+    C: Callee<R>,
+{
+    for text in calls.split("; ") {
+        let _ = write!(out, "{before}{text}: ");
+        make(rt, callee, text, count, &Open, out);
+        let _ = out.push('\n');
+    }
+}
