@@ -1,7 +1,10 @@
 //! Calls on a book.
 
+ghost use Rattle.swift_turn.specs.Body.{IsRunning};
+
 use crate::answers::{refused, tell_jobs, told_events, told_levels, told_priorities};
-use crate::done::{effect, exit};
+use crate::calls::Part;
+use crate::done::{Done, done_of};
 use crate::fault::CaseFault;
 use crate::jobs::{keep, made, place_of, spend, spend_all, take};
 use crate::scripts::Scripts;
@@ -10,7 +13,6 @@ use crate::words::{number, task};
 use script_code::Env;
 use std::alloc::Global;
 use std::fmt::Write;
-use swift_interpreter::{Effect, Exit};
 use swift_queue::Job;
 use swift_tasks::{Book, BookFault};
 use swift_turn::Body;
@@ -24,13 +26,6 @@ pub struct Tasks {
     jobs: Vec<Job<Body>>,
     // Those that the call that is being made gave.
     given: Vec<Job<Body>>,
-}
-
-// What a turn has done.
-#[derive(Drop)]
-struct Done {
-    effects: Vec<Effect>,
-    exit: Exit,
 }
 
 impl Tasks {
@@ -48,136 +43,76 @@ impl Tasks {
         })
     }
 
-    /// Makes a call, and writes what it answered, and each event and job.
-    pub fn call(&mut self, line: &str, out: &mut String) -> Result<(), CaseFault> {
-        let events = self.book.log().len();
-        match line.strip_prefix("quiet ") {
-            Some(quiet) => self.answer(quiet, out)?,
-            None => {
-                self.answer(line, out)?;
-                told_events(out, self.book.log(), events)?;
-                tell_jobs(out, &self.scripts.own, &self.given)?;
-            }
-        }
-        Ok(self.jobs.append(&mut self.given)?)
-    }
-
-    // Makes a call, and writes what it answered.
-    fn answer(&mut self, call: &str, out: &mut String) -> Result<(), CaseFault> {
-        let (front, last) = match call.rsplit_once("; ") {
-            Some((front, last)) => (front, Some(last)),
-            None => (call, None),
-        };
-        let (head, effects) = front.split_once("; ").unwrap_or((front, ""));
+    // Makes a call, with what a turn has done, and writes what it answered.
+    fn call(&mut self, head: &str, done: &[&str], out: &mut String) -> Result<(), CaseFault> {
         let words: Vec<&str> = head.split(' ').collect(self.alloc)?;
-        match last {
-            Some(last) => self.with_done(&words, effects, last, out),
-            None => self.plain(&words, out),
-        }
-    }
-
-    // A call of what a turn has done.
-    fn with_done(
-        &mut self,
-        words: &[&str],
-        effects: &str,
-        last: &str,
-        out: &mut String,
-    ) -> Result<(), CaseFault> {
-        let Some((call, job)) = words.split_first() else {
-            return Err(CaseFault::Form);
-        };
-        let done = self.done(effects, last)?;
-        match *call {
-            "apply" => self.apply(job, done, out),
-            "turn" => self.turn(job, done, out),
-            _ => Err(CaseFault::Form),
-        }
-    }
-
-    // A call other than of what a turn has done.
-    fn plain(&mut self, words: &[&str], out: &mut String) -> Result<(), CaseFault> {
-        let Some((call, rest)) = words.split_first() else {
-            return Err(CaseFault::Form);
-        };
-        match *call {
-            "begin" => self.begin(rest, out).map(|_| ()),
-            "priorities" => self.priorities(rest, out),
-            "levels" => told_levels(out, self.book.levels()),
-            _ => match *rest {
-                [] => self.told(call, out),
-                [named] => self.named(call, named, out),
-                _ => Err(CaseFault::Form),
-            },
+        match *words {
+            [call] => self.told(call, out),
+            ["priorities", ref tasks @ ..] => self.priorities(tasks, out),
+            [call, named, ref how @ ..] => self.named(call, number(named)?, how, done, out),
+            [] => Err(CaseFault::Form),
         }
     }
 
     // A call without more words.
-    fn told(&self, call: &str, out: &mut String) -> Result<(), CaseFault> {
-        if call != "open_tasks" {
-            return Err(CaseFault::Form);
+    fn told(&mut self, call: &str, out: &mut String) -> Result<(), CaseFault> {
+        match call {
+            "levels" => told_levels(out, self.book.levels()),
+            "open_tasks" => {
+                let open = self.book.open_tasks();
+                Ok(write!(out, "{open}")?)
+            }
+            _ => Err(CaseFault::Form),
         }
-        let open = self.book.open_tasks();
-        Ok(write!(out, "{open}")?)
     }
 
-    // A call of a root or a task.
-    fn named(&mut self, call: &str, named: &str, out: &mut String) -> Result<(), CaseFault> {
+    // A call of a root, a task or a job.
+    fn named(
+        &mut self,
+        call: &str,
+        named: u32,
+        how: &[&str],
+        done: &[&str],
+        out: &mut String,
+    ) -> Result<(), CaseFault> {
         match call {
-            "root" => self.add_root(RootId(number(named)?), out),
-            "cancel" => self.cancel(task(named)?, out),
-            "ending" => Ok(show::ending(out, self.book.ending(task(named)?))?),
-            "origin" => Ok(show::origin(out, self.book.origin(task(named)?))?),
+            "root" => self.add_root(RootId(named), out),
+            "cancel" => self.cancel(TaskId(named), out),
+            "ending" => Ok(show::ending(out, self.book.ending(TaskId(named)))?),
+            "origin" => Ok(show::origin(out, self.book.origin(TaskId(named)))?),
+            _ => self.with_job(call, TaskId(named), how, done, out),
+        }
+    }
+
+    // A call of a job.
+    fn with_job(
+        &mut self,
+        call: &str,
+        named: TaskId,
+        how: &[&str],
+        done: &[&str],
+        out: &mut String,
+    ) -> Result<(), CaseFault> {
+        match call {
+            "begin" => {
+                self.begin(named, how, out)?;
+                Ok(())
+            }
+            "apply" => self.apply(named, how, done, out),
+            "turn" => self.turn(named, how, done, out),
             _ => Err(CaseFault::Form),
         }
     }
 
     fn cancel(&mut self, named: TaskId, out: &mut String) -> Result<(), CaseFault> {
-        let cancelled = match self.book.cancel(named) {
-            Err(BookFault::Memory) => self.book.cancel(named),
-            cancelled => cancelled,
-        };
-        match cancelled {
+        match self.book.cancel(named) {
             Ok(()) => Ok(out.push_str("ok")?),
             Err(fault) => refused(out, fault),
         }
     }
 
-    fn done(&self, effects: &str, last: &str) -> Result<Done, CaseFault> {
-        let mut found = Vec::new(self.alloc);
-        if !effects.is_empty() {
-            self.add_effects(effects, &mut found)?;
-        }
-        let exit = self.exit_of(last)?;
-        Ok(Done {
-            effects: found,
-            exit,
-        })
-    }
-
-    fn add_effects(&self, effects: &str, found: &mut Vec<Effect>) -> Result<(), CaseFault> {
-        for text in effects.split("; ") {
-            found.push(self.effect_of(text)?)?;
-        }
-        Ok(())
-    }
-
-    fn effect_of(&self, text: &str) -> Result<Effect, CaseFault> {
-        let words: Vec<&str> = text.split(' ').collect(self.alloc)?;
-        effect(self.alloc, &self.scripts.own, &words)
-    }
-
-    fn exit_of(&self, text: &str) -> Result<Exit, CaseFault> {
-        let words: Vec<&str> = text.split(' ').collect(self.alloc)?;
-        exit(self.alloc, &self.scripts.own, &words)
-    }
-
     fn add_root(&mut self, root: RootId, out: &mut String) -> Result<(), CaseFault> {
-        let added = match self.book.add_root(root) {
-            Err(BookFault::Memory) => self.book.add_root(root),
-            added => added,
-        };
-        match added {
+        match self.book.add_root(root) {
             Ok(job) => {
                 keep(&mut self.given, job)?;
                 Ok(out.push_str("ok")?)
@@ -187,61 +122,89 @@ impl Tasks {
     }
 
     // Begins the turn of a job. Whether it has begun.
-    fn begin(&mut self, words: &[&str], out: &mut String) -> Result<bool, CaseFault> {
-        let begun = match *words {
-            [named] => {
-                let Some(place) = place_of(&self.jobs, task(named)?) else {
-                    out.push_str("no job")?;
-                    return Ok(false);
-                };
-                begun_again(&mut self.book, &self.jobs[place])
-            }
-            _ => {
-                let job = made(&self.scripts, words)?;
-                let begun = begun_again(&mut self.book, &job);
-                spend(job);
-                begun
-            }
-        };
-        begun_with(begun, out)
+    fn begin(&mut self, named: TaskId, how: &[&str], out: &mut String) -> Result<bool, CaseFault> {
+        if how.is_empty() {
+            let Some(place) = place_of(&self.jobs, named) else {
+                out.push_str("no job")?;
+                return Ok(false);
+            };
+            begun(out, self.book.begin(&self.jobs[place]))
+        } else {
+            let job = made(&self.scripts, named, how)?;
+            let answer = self.book.begin(&job);
+            spend(job);
+            begun(out, answer)
+        }
     }
 
     // Begins the turn of a job, and applies it if it has begun.
-    fn turn(&mut self, words: &[&str], done: Done, out: &mut String) -> Result<(), CaseFault> {
-        if self.begin(words, out)? {
+    fn turn(
+        &mut self,
+        named: TaskId,
+        how: &[&str],
+        done: &[&str],
+        out: &mut String,
+    ) -> Result<(), CaseFault> {
+        if self.begin(named, how, out)? {
             out.push_str(", ")?;
-            self.apply(words, done, out)?;
+            self.apply(named, how, done, out)?;
         }
         Ok(())
     }
 
-    fn apply(&mut self, words: &[&str], done: Done, out: &mut String) -> Result<(), CaseFault> {
-        match *words {
-            [named] => match take(&mut self.jobs, task(named)?) {
-                Some(job) => match self.applied(job, done, out)? {
-                    Some(job) => keep(&mut self.jobs, job),
-                    None => Ok(()),
-                },
-                None => Ok(out.push_str("no job")?),
-            },
-            _ => {
-                let job = made(&self.scripts, words)?;
-                let named = job.task();
-                match self.applied(job, done, out)? {
-                    Some(job) => spend(job),
-                    None => {
-                        // The job that the book gave for this turn is no longer the task's last one.
-                        if let Some(stale) = take(&mut self.jobs, named) {
-                            spend(stale);
-                        }
-                    }
-                }
-                Ok(())
-            }
+    // Applies a job.
+    fn apply(
+        &mut self,
+        named: TaskId,
+        how: &[&str],
+        done: &[&str],
+        out: &mut String,
+    ) -> Result<(), CaseFault> {
+        let done = done_of(self.alloc, &self.scripts.own, done)?;
+        if how.is_empty() {
+            self.apply_given(named, done, out)
+        } else {
+            self.apply_made(named, how, done, out)
         }
     }
 
-    // Applies a job. It comes back where that is refused.
+    // Applies the last job that was given for a task. It stays where that is refused.
+    fn apply_given(
+        &mut self,
+        named: TaskId,
+        done: Done,
+        out: &mut String,
+    ) -> Result<(), CaseFault> {
+        let Some(job) = take(&mut self.jobs, named) else {
+            return Ok(out.push_str("no job")?);
+        };
+        match self.applied(job, done, out)? {
+            Some(job) => keep(&mut self.jobs, job),
+            None => Ok(()),
+        }
+    }
+
+    // Applies a job that was not given.
+    fn apply_made(
+        &mut self,
+        named: TaskId,
+        how: &[&str],
+        done: Done,
+        out: &mut String,
+    ) -> Result<(), CaseFault> {
+        let job = made(&self.scripts, named, how)?;
+        let left = match self.applied(job, done, out)? {
+            Some(job) => Some(job),
+            // The job that the book gave for this turn is no longer the task's last one.
+            None => take(&mut self.jobs, named),
+        };
+        if let Some(job) = left {
+            spend(job);
+        }
+        Ok(())
+    }
+
+    // Applies a job, and writes the answer. It comes back where that is refused.
     fn applied(
         &mut self,
         job: Job<Body>,
@@ -252,25 +215,18 @@ impl Tasks {
             spend(job);
             return Err(CaseFault::Form);
         }
-        let Done { effects, exit } = done;
-        let applied = match self.book.apply(job, &exit, effects, &mut self.given) {
-            Err((job, effects, BookFault::Memory)) => {
-                self.book.apply(job, &exit, effects, &mut self.given)
-            }
-            applied => applied,
-        };
-        match applied {
+        match apply_again(&mut self.book, job, done, &mut self.given) {
             Ok(()) => {
                 out.push_str("ok")?;
                 Ok(None)
             }
-            Err((job, _effects, fault)) => match refused(out, fault) {
-                Ok(()) => Ok(Some(job)),
-                Err(fault) => {
+            Err((job, fault)) => {
+                if let Err(fault) = refused(out, fault) {
                     spend(job);
-                    Err(fault)
+                    return Err(fault);
                 }
-            },
+                Ok(Some(job))
+            }
         }
     }
 
@@ -305,17 +261,30 @@ impl Tasks {
     }
 }
 
-// Begins the turn of a job, again where that is refused memory.
-fn begun_again(book: &mut Book, job: &Job<Body>) -> Result<Env, BookFault> {
-    match book.begin(job) {
-        Err(BookFault::Memory) => book.begin(job),
-        begun => begun,
+impl Part for Tasks {
+    // A call, with what a turn has done, and each event and job that follow.
+    fn answer(&mut self, alloc: Global, words: &[&str]) -> Result<String, CaseFault> {
+        let Some((head, done)) = words.split_first() else {
+            return Err(CaseFault::Form);
+        };
+        let events = self.book.log().len();
+        let mut out = String::new(alloc);
+        match head.strip_prefix("quiet ") {
+            Some(quiet) => self.call(quiet, done, &mut out)?,
+            None => {
+                self.call(head, done, &mut out)?;
+                told_events(&mut out, self.book.log(), events)?;
+                tell_jobs(&mut out, &self.scripts.own, &self.given)?;
+            }
+        }
+        self.jobs.append(&mut self.given)?;
+        Ok(out)
     }
 }
 
-// Writes what a turn that has begun is given.
-fn begun_with(begun: Result<Env, BookFault>, out: &mut String) -> Result<bool, CaseFault> {
-    match begun {
+// Writes what a turn that has begun is given. Whether it has begun.
+fn begun(out: &mut String, answer: Result<Env, BookFault>) -> Result<bool, CaseFault> {
+    match answer {
         Ok(env) => {
             show::env(out, env)?;
             Ok(true)
@@ -324,6 +293,26 @@ fn begun_with(begun: Result<Env, BookFault>, out: &mut String) -> Result<bool, C
             refused(out, fault)?;
             Ok(false)
         }
+    }
+}
+
+// Applies a job, again where that is refused memory. It comes back where it is refused.
+fn apply_again(
+    book: &mut Book,
+    job: Job<Body>,
+    done: Done,
+    given: &mut Vec<Job<Body>>,
+) -> Result<(), (Job<Body>, BookFault)>
+    requires { IsRunning job.body }
+{
+    let Done { effects, exit } = done;
+    let applied = match book.apply(job, &exit, effects, given) {
+        Err((job, effects, BookFault::Memory)) => book.apply(job, &exit, effects, given),
+        applied => applied,
+    };
+    match applied {
+        Ok(()) => Ok(()),
+        Err((job, _effects, fault)) => Err((job, fault)),
     }
 }
 

@@ -9,6 +9,13 @@ use swift_locals::Bindings;
 use swift_script::Script;
 use swift_types::{ActorId, LocalId, MethodId, Priority, RootId};
 
+/// What a turn has done.
+#[derive(Drop)]
+pub struct Done {
+    pub effects: Vec<Effect>,
+    pub exit: Exit,
+}
+
 fn actor_of(script: &Script, word: &str) -> Result<ActorId, CaseFault> {
     match actor_named(script, word) {
         Some(actor) => Ok(actor),
@@ -17,7 +24,7 @@ fn actor_of(script: &Script, word: &str) -> Result<ActorId, CaseFault> {
 }
 
 fn method_of(script: &Script, actor: ActorId, word: &str) -> Result<MethodId, CaseFault> {
-    match method_named(script, actor, word) {
+    match method_named(script, Some(actor), word) {
         Some(method) => Ok(method),
         None => Ok(MethodId(number(word)?)),
     }
@@ -25,7 +32,10 @@ fn method_of(script: &Script, actor: ActorId, word: &str) -> Result<MethodId, Ca
 
 // A method with its arguments, by one word.
 fn invocation(alloc: Global, script: &Script, word: &str) -> Result<Invocation, CaseFault> {
-    let Some((called, args)) = word.strip_suffix(')').and_then(|rest| rest.split_once('(')) else {
+    let Some((called, args)) = word.split_once('(') else {
+        return Err(CaseFault::Form);
+    };
+    let Some(args) = args.strip_suffix(')') else {
         return Err(CaseFault::Form);
     };
     let Some((actor, method)) = called.split_once('.') else {
@@ -52,16 +62,32 @@ fn bindings(alloc: Global, words: &[&str]) -> Result<Bindings, CaseFault> {
     Ok(bindings)
 }
 
-// A priority that may be given, and bindings.
-fn rest_of(alloc: Global, words: &[&str]) -> Result<(Option<Priority>, Bindings), CaseFault> {
+// Bindings that may be given.
+fn bound(alloc: Global, words: &[&str]) -> Result<Bindings, CaseFault> {
     match *words {
-        [] => Ok((None, Bindings::new(alloc))),
-        ["at", priority] => Ok((Some(priority_of(priority)?), Bindings::new(alloc))),
-        ["with", ref bound @ ..] => Ok((None, bindings(alloc, bound)?)),
-        ["at", priority, "with", ref bound @ ..] => {
-            Ok((Some(priority_of(priority)?), bindings(alloc, bound)?))
-        }
+        [] => Ok(Bindings::new(alloc)),
+        ["with", ref bound @ ..] => bindings(alloc, bound),
         _ => Err(CaseFault::Form),
+    }
+}
+
+// A task that is made: its method, a priority that may be given, and bindings.
+fn made(
+    alloc: Global,
+    script: &Script,
+    words: &[&str],
+) -> Result<(Invocation, Option<Priority>, Bindings), CaseFault> {
+    match *words {
+        [method, "at", priority, ref rest @ ..] => {
+            let priority = Some(priority_of(priority)?);
+            let bound = bound(alloc, rest)?;
+            Ok((invocation(alloc, script, method)?, priority, bound))
+        }
+        [method, ref rest @ ..] => {
+            let bound = bound(alloc, rest)?;
+            Ok((invocation(alloc, script, method)?, None, bound))
+        }
+        [] => Err(CaseFault::Form),
     }
 }
 
@@ -81,12 +107,8 @@ fn add(
     unless: bool,
     words: &[&str],
 ) -> Result<Effect, CaseFault> {
-    let Some((method, rest)) = words.split_first() else {
-        return Err(CaseFault::Form);
-    };
     let group = number(group)?;
-    let child = invocation(alloc, script, method)?;
-    let (priority, bound) = rest_of(alloc, rest)?;
+    let (child, priority, bound) = made(alloc, script, words)?;
     Ok(Effect::Add(group, unless, child, priority, bound))
 }
 
@@ -102,11 +124,7 @@ fn detach(alloc: Global, script: &Script, words: &[&str]) -> Result<Effect, Case
 
 // A task that is spawned.
 fn spawn(alloc: Global, script: &Script, words: &[&str]) -> Result<Effect, CaseFault> {
-    let Some((method, rest)) = words.split_first() else {
-        return Err(CaseFault::Form);
-    };
-    let made = invocation(alloc, script, method)?;
-    let (priority, bound) = rest_of(alloc, rest)?;
+    let (made, priority, bound) = made(alloc, script, words)?;
     Ok(Effect::Spawn(made, priority, bound))
 }
 
@@ -127,8 +145,8 @@ fn cancel(words: &[&str]) -> Result<Effect, CaseFault> {
     }
 }
 
-/// An effect by its words.
-pub fn effect(alloc: Global, script: &Script, words: &[&str]) -> Result<Effect, CaseFault> {
+// An effect by its words.
+fn effect(alloc: Global, script: &Script, words: &[&str]) -> Result<Effect, CaseFault> {
     let Some((word, rest)) = words.split_first() else {
         return Err(CaseFault::Form);
     };
@@ -161,8 +179,8 @@ fn exit_with(alloc: Global, script: &Script, exit: &str, word: &str) -> Result<E
     }
 }
 
-/// An exit by its words.
-pub fn exit(alloc: Global, script: &Script, words: &[&str]) -> Result<Exit, CaseFault> {
+// An exit by its words.
+fn exit(alloc: Global, script: &Script, words: &[&str]) -> Result<Exit, CaseFault> {
     match *words {
         ["yield"] => Ok(Exit::Yield),
         ["close", ref rest @ ..] => close(rest),
@@ -171,4 +189,37 @@ pub fn exit(alloc: Global, script: &Script, words: &[&str]) -> Result<Exit, Case
         [exit, word] => exit_with(alloc, script, exit, word),
         _ => Err(CaseFault::Form),
     }
+}
+
+// An effect by its text.
+fn effect_of(alloc: Global, script: &Script, text: &str) -> Result<Effect, CaseFault> {
+    let words: Vec<&str> = text.split(' ').collect(alloc)?;
+    effect(alloc, script, &words)
+}
+
+// An exit by its text.
+fn exit_of(alloc: Global, script: &Script, text: &str) -> Result<Exit, CaseFault> {
+    let words: Vec<&str> = text.split(' ').collect(alloc)?;
+    exit(alloc, script, &words)
+}
+
+// Effects by their texts.
+fn effects_of(alloc: Global, script: &Script, texts: &[&str]) -> Result<Vec<Effect>, CaseFault> {
+    let mut found = Vec::new(alloc);
+    for text in texts {
+        found.push(effect_of(alloc, script, text)?)?;
+    }
+    Ok(found)
+}
+
+/// What a turn has done, by the texts of its effects and of its exit.
+pub fn done_of(alloc: Global, script: &Script, texts: &[&str]) -> Result<Done, CaseFault> {
+    let Some((exit, effects)) = texts.split_last() else {
+        return Err(CaseFault::Form);
+    };
+    let exit = exit_of(alloc, script, exit)?;
+    Ok(Done {
+        effects: effects_of(alloc, script, effects)?,
+        exit,
+    })
 }

@@ -2,12 +2,13 @@
 
 use std::alloc::{AllocError, AllocFailed};
 use std::io;
+use std::num::ParseIntError;
 use swift_output::Device;
 use swift_script::ScriptFault;
 use swift_tasks::BookFault;
 
 /// Why the program stops before its last case.
-#[derive(Clone, Copy, Debug, PartialEq, Eq)]
+#[derive(Clone, Copy, Debug)]
 pub enum CaseFault {
     /// A case has not the form that it needs, or its script is refused.
     Form,
@@ -46,6 +47,12 @@ impl From<BookFault> for CaseFault {
             BookFault::Memory => CaseFault::Memory,
             _ => CaseFault::Form,
         }
+    }
+}
+
+impl From<ParseIntError> for CaseFault {
+    fn from(_fault: ParseIntError) -> CaseFault {
+        CaseFault::Form
     }
 }
 

@@ -12,7 +12,8 @@ use crate::fault::CaseFault;
 use crate::words::{number, value as value_of};
 use script_code::laws::{written_code_counts, written_code_implements, written_code_joins};
 use script_code::{
-    Act, Binding, Env, FieldPlace, Formula, Sight, holds, link, push_instruction, renumber, value,
+    Act, Binding, Env, FieldPlace, Formula, Instruction, Sight, holds, link, push_instruction,
+    renumber, value,
 };
 use std::alloc::{AllocError, Global};
 use swift_locals::Bindings;
@@ -69,22 +70,42 @@ fn operator_of(word: &str) -> Option<Operator> {
 // A formula without operands.
 fn leaf(word: &str) -> Result<Formula, CaseFault> {
     match word {
-        "priority" => return Ok(Formula::Priority),
-        "cancelled" => return Ok(Formula::Cancelled),
-        _ => {}
+        "priority" => Ok(Formula::Priority),
+        "cancelled" => Ok(Formula::Cancelled),
+        _ => read_of(word),
     }
+}
+
+// What is read of a variable, a local or a field, or a number.
+fn read_of(word: &str) -> Result<Formula, CaseFault> {
     if let Some(place) = word.strip_prefix('v') {
         return Ok(Formula::Variable(number(place)?));
     }
-    if let Some((local, default)) = word.strip_prefix('l').and_then(|rest| rest.split_once('=')) {
-        return Ok(Formula::Local(LocalId(number(local)?), value_of(default)?));
+    if let Some(local) = word.strip_prefix('l') {
+        return local_of(local);
     }
-    match word.strip_prefix('f').and_then(|rest| rest.split_once('.')) {
+    match word.strip_prefix('f') {
+        Some(field) => field_of(field),
+        None => Ok(Formula::Number(value_of(word)?)),
+    }
+}
+
+// A local with its default, `N=VALUE`.
+fn local_of(text: &str) -> Result<Formula, CaseFault> {
+    match text.split_once('=') {
+        Some((local, default)) => Ok(Formula::Local(LocalId(number(local)?), value_of(default)?)),
+        None => Err(CaseFault::Form),
+    }
+}
+
+// A field of an actor, `A.N`.
+fn field_of(text: &str) -> Result<Formula, CaseFault> {
+    match text.split_once('.') {
         Some((actor, field)) => Ok(Formula::Field(FieldPlace {
             actor: number(actor)?,
             field: number(field)?,
         })),
-        None => Ok(Formula::Number(value_of(word)?)),
+        None => Err(CaseFault::Form),
     }
 }
 
@@ -120,22 +141,30 @@ fn push_word(alloc: Global, formulas: &mut Vec<Formula>, word: &str) -> Result<(
     Ok(())
 }
 
-fn valued(alloc: Global, words: &[&str]) -> Result<String, CaseFault> {
+// The formula of these words.
+fn formula_of(alloc: Global, words: &[&str]) -> Result<Formula, CaseFault> {
     let mut formulas = Vec::new(alloc);
     for word in words {
         push_word(alloc, &mut formulas, word)?;
     }
-    let Some(formula) = formulas.pop() else {
-        return Err(CaseFault::Form);
-    };
-    match seen(alloc, &formula)? {
-        Some(value) => Ok(format!(in alloc; "{value}")?),
-        None => Ok(String::from_str(alloc, "overflow")?),
+    formulas.pop().ok_or(CaseFault::Form)
+}
+
+fn valued(alloc: Global, words: &[&str]) -> Result<String, CaseFault> {
+    let formula = formula_of(alloc, words)?;
+    let seen = seen(alloc, &formula)?;
+    Ok(shown(alloc, seen)?)
+}
+
+fn shown(alloc: Global, seen: Option<i64>) -> Result<String, AllocError> {
+    match seen {
+        Some(value) => format!(in alloc; "{value}"),
+        None => String::from_str(alloc, "overflow"),
     }
 }
 
 // The end, a place for the test, and the body.
-fn while_loop(alloc: Global) -> Result<String, AllocError> {
+fn while_code(alloc: Global) -> Result<Vec<Instruction>, AllocError> {
     let mut lines = Vec::new(alloc);
     push_instruction(&mut lines, Act::End, 0, 0)?;
     push_instruction(&mut lines, Act::End, 0, 0)?;
@@ -144,6 +173,12 @@ fn while_loop(alloc: Global) -> Result<String, AllocError> {
         link(&mut lines, 1, Act::Test(Formula::Number(1)), 2, 0);
         renumber(&mut lines, 1);
     }
+    Ok(lines)
+}
+
+// The followers of each instruction.
+fn while_loop(alloc: Global) -> Result<String, AllocError> {
+    let lines = while_code(alloc)?;
     let mut followers = Vec::new(alloc);
     for line in &lines {
         followers.push((line.next, line.other))?;

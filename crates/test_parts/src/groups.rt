@@ -33,30 +33,32 @@ fn shown(alloc: Global, next: Next) -> Result<String, AllocError> {
 }
 
 fn ok(done: Result<(), GroupFault>) -> Result<&'static str, GroupFault> {
-    done.map(|()| "ok")
+    done?;
+    Ok("ok")
 }
 
 fn yes_or_no(is_so: Result<bool, GroupFault>) -> Result<&'static str, GroupFault> {
-    is_so.map(|is_so| if is_so { "true" } else { "false" })
+    Ok(if is_so? { "true" } else { "false" })
 }
 
 fn closed(close: Result<Close, GroupFault>) -> Result<&'static str, GroupFault> {
-    close.map(|close| match close {
-        Close::Done => "done",
-        Close::Wait => "wait",
-    })
+    match close? {
+        Close::Done => Ok("done"),
+        Close::Wait => Ok("wait"),
+    }
 }
 
-// What a call on a group answers that has no more words.
+// What a call with a number answers.
 fn asked(
     groups: &mut Groups,
     call: &str,
-    named: GroupId,
+    number: usize,
 ) -> Result<Result<&'static str, GroupFault>, CaseFault> {
     match call {
-        "cancel_all" => Ok(ok(groups.cancel_all(named))),
-        "is_cancelled" => Ok(yes_or_no(groups.is_cancelled(named))),
-        "close" => Ok(closed(groups.close(named))),
+        "reserve" => Ok(ok(groups.reserve(number))),
+        "cancel_all" => Ok(ok(groups.cancel_all(GroupId(number)))),
+        "is_cancelled" => Ok(yes_or_no(groups.is_cancelled(GroupId(number)))),
+        "close" => Ok(closed(groups.close(GroupId(number)))),
         _ => Err(CaseFault::Form),
     }
 }
@@ -67,8 +69,7 @@ fn answered(
     words: &[&str],
 ) -> Result<Result<&'static str, GroupFault>, CaseFault> {
     match *words {
-        ["reserve", calls] => Ok(ok(groups.reserve(size(calls)?))),
-        [call, named] => asked(groups, call, group(named)?),
+        [call, number] => asked(groups, call, size(number)?),
         ["add", to, child] => Ok(ok(groups.add(group(to)?, task(child)?))),
         ["finished", of, child, ended] => {
             let ended = ending_of(ended)?;

@@ -4,7 +4,7 @@ ghost use Rattle.std.specs.Prelude.{◌<◌, IfSome, length};
 
 use crate::fault::CaseFault;
 use crate::scripts::Scripts;
-use crate::words::{number, resume_of, task};
+use crate::words::{number, resume_of};
 use std::alloc::AllocFailed;
 use swift_queue::Job;
 use swift_turn::Body;
@@ -47,25 +47,24 @@ pub fn keep(jobs: &mut Vec<Job<Body>>, job: Job<Body>) -> Result<(), CaseFault> 
     }
 }
 
-/// A job that was not given by a book: `TASK as NUMBER RESUME`, with `of WHICH` for one of another script.
-pub fn made(scripts: &Scripts, words: &[&str]) -> Result<Job<Body>, CaseFault> {
-    match *words {
-        [named, "as", turn, ref resume @ .., "of", which] => {
+/// A job that was not given by a book, by the words after its task: `as NUMBER RESUME`, with `of WHICH` for one of another script.
+pub fn made(scripts: &Scripts, named: TaskId, how: &[&str]) -> Result<Job<Body>, CaseFault> {
+    match *how {
+        ["as", turn, ref resume @ .., "of", which] => {
             made_of(scripts, named, turn, resume, Some(which))
         }
-        [named, "as", turn, ref resume @ ..] => made_of(scripts, named, turn, resume, None),
+        ["as", turn, ref resume @ ..] => made_of(scripts, named, turn, resume, None),
         _ => Err(CaseFault::Form),
     }
 }
 
 fn made_of(
     scripts: &Scripts,
-    named: &str,
+    named: TaskId,
     turn: &str,
     resume: &[&str],
     which: Option<&str>,
 ) -> Result<Job<Body>, CaseFault> {
-    let named = task(named)?;
     let turn = number(turn)?;
     let resume = resume_of(resume)?;
     let body = scripts.body_of(which)?;

@@ -113,7 +113,7 @@ mod word;
 mod words;
 
 use crate::book_case::play_book;
-use crate::calls::play;
+use crate::calls::{PLAIN, play};
 use crate::fault::CaseFault;
 use crate::formulas::FormulasPart;
 use crate::inbox::{play_inbox, play_threads};
@@ -193,11 +193,11 @@ fn answer_alone(
     out: &mut Vec<u8>,
 ) -> Result<(), CaseFault> {
     match part {
-        "locals" => play(alloc, &mut LocalsPart::new(alloc), calls, out),
-        "waits" => play(alloc, &mut Waits::new(alloc), calls, out),
-        "groups" => play(alloc, &mut Groups::new(alloc), calls, out),
-        "roots" => play(alloc, &mut RootsPart, calls, out),
-        "formulas" => play(alloc, &mut FormulasPart, calls, out),
+        "locals" => play(alloc, &mut LocalsPart::new(alloc), PLAIN, calls, out),
+        "waits" => play(alloc, &mut Waits::new(alloc), PLAIN, calls, out),
+        "groups" => play(alloc, &mut Groups::new(alloc), PLAIN, calls, out),
+        "roots" => play(alloc, &mut RootsPart, PLAIN, calls, out),
+        "formulas" => play(alloc, &mut FormulasPart, PLAIN, calls, out),
         "queue" => play_queue(alloc, calls, out),
         "book" => play_book(alloc, calls, out),
         _ => Err(CaseFault::Form),

@@ -2,7 +2,7 @@
 //! PRIORITY` for a job that is taken and put back with another priority, `raise TASK PRIORITY`, `holds TASK`, `len`,
 //! `room`, `arrived`, `is_empty`. The first line of a case is its room.
 
-use crate::calls::{Part, play};
+use crate::calls::{PLAIN, Part, play};
 use crate::fault::CaseFault;
 use crate::words::{priority_of, size, task};
 use std::alloc::{AllocError, Global};
@@ -69,23 +69,48 @@ fn plain(alloc: Global, queue: &mut Queue<u32>, call: &str) -> Result<String, Ca
     }
 }
 
+// What a call with a word more answers.
+fn given(
+    alloc: Global,
+    queue: &mut Queue<u32>,
+    call: &str,
+    word: &str,
+) -> Result<String, CaseFault> {
+    match call {
+        "put_back" => Ok(shown(alloc, put_back(queue, priority_of(word)?))?),
+        "holds" => Ok(String::from_str(alloc, yes_or_no(queue.holds(task(word)?)))?),
+        _ => Err(CaseFault::Form),
+    }
+}
+
+// What a call on a task's job with a priority answers.
+fn placed(
+    queue: &mut Queue<u32>,
+    call: &str,
+    named: TaskId,
+    priority: Priority,
+) -> Result<&'static str, CaseFault> {
+    match call {
+        "put" => Ok(put(queue, named, priority)),
+        "raise" => {
+            queue.raise(named, priority);
+            Ok("ok")
+        }
+        _ => Err(CaseFault::Form),
+    }
+}
+
 impl Part for Queue<u32> {
     fn answer(&mut self, alloc: Global, words: &[&str]) -> Result<String, CaseFault> {
-        let word = match *words {
-            [call] => return plain(alloc, self, call),
-            ["put_back", priority] => {
-                let priority = priority_of(priority)?;
-                return Ok(shown(alloc, put_back(self, priority))?);
+        match *words {
+            [call] => plain(alloc, self, call),
+            [call, word] => given(alloc, self, call, word),
+            [call, named, priority] => {
+                let done = placed(self, call, task(named)?, priority_of(priority)?)?;
+                Ok(String::from_str(alloc, done)?)
             }
-            ["holds", asked] => yes_or_no(self.holds(task(asked)?)),
-            ["put", added, priority] => put(self, task(added)?, priority_of(priority)?),
-            ["raise", raised, priority] => {
-                self.raise(task(raised)?, priority_of(priority)?);
-                "ok"
-            }
-            _ => return Err(CaseFault::Form),
-        };
-        Ok(String::from_str(alloc, word)?)
+            _ => Err(CaseFault::Form),
+        }
     }
 }
 
@@ -100,22 +125,25 @@ fn empty(mut queue: Queue<u32>) -> u64 {
     left
 }
 
+// A queue with this room, made again where it is refused memory.
+fn opened(alloc: Global, room: usize) -> Result<Queue<u32>, AllocError> {
+    match Queue::with_room(alloc, room) {
+        Err(AllocError) => Queue::with_room(alloc, room),
+        made => made,
+    }
+}
+
 /// Makes a queue and the calls of a case, and says how many jobs are left.
 pub fn play_queue(alloc: Global, case: &str, out: &mut Vec<u8>) -> Result<(), CaseFault> {
     let Some((room, calls)) = case.split_once('\n') else {
         return Err(CaseFault::Form);
     };
     let room = size(room)?;
-    // Made again where it is refused memory.
-    let made = match Queue::with_room(alloc, room) {
-        Err(AllocError) => Queue::with_room(alloc, room),
-        made => made,
-    };
-    let Ok(mut queue) = made else {
+    let Ok(mut queue) = opened(alloc, room) else {
         writeln!(out, "out of memory")?;
         return Ok(());
     };
-    let played = play(alloc, &mut queue, calls, out);
+    let played = play(alloc, &mut queue, PLAIN, calls, out);
     let left = empty(queue);
     writeln!(out, "{left} left")?;
     played

@@ -79,24 +79,17 @@ pub fn actor_named(script: &Script, name: &str) -> Option<ActorId> {
     None
 }
 
-/// The method of this name of an actor.
-pub fn method_named(script: &Script, actor: ActorId, name: &str) -> Option<MethodId> {
-    for place in 0..script.method_count() {
-        let method = MethodId(u32::try_from(place).ok()?);
-        if script.method_actor(method) == actor && script.method_name(method) == name.as_bytes() {
-            return Some(method);
-        }
-    }
-    None
-}
-
-/// The first method of this name, of any actor.
-pub fn first_method_named(script: &Script, name: &str) -> Option<MethodId>
+/// The first method of this name, of an actor or of any.
+pub fn method_named(script: &Script, actor: Option<ActorId>, name: &str) -> Option<MethodId>
     ensures { IfSome result (λ m. m.0 < method_count script.now) }
 {
     for place in 0..script.method_count() {
         let method = MethodId(u32::try_from(place).ok()?);
-        if script.method_name(method) == name.as_bytes() {
+        let is_of = match actor {
+            Some(actor) => script.method_actor(method) == actor,
+            None => true,
+        };
+        if is_of && script.method_name(method) == name.as_bytes() {
             return Some(method);
         }
     }

@@ -24,18 +24,19 @@ pub fn priority(given: Priority) -> &'static str {
 /// A fault, with the word `fault` before it.
 pub fn fault(out: &mut String, raised: Fault) -> Result<(), AllocError> {
     out.push_str("fault ")?;
-    match raised {
-        Fault::Thrown(value) => write!(out, "thrown {value}"),
-        Fault::Cancelled => out.push_str("cancelled"),
-        Fault::Invariant => out.push_str("invariant"),
-        Fault::Overflow => out.push_str("overflow"),
-        Fault::Steps => out.push_str("steps"),
-        Fault::Turns => out.push_str("turns"),
-        Fault::Depth => out.push_str("depth"),
-        Fault::Tasks => out.push_str("tasks"),
-        Fault::Empty => out.push_str("empty"),
-        Fault::Isolation => out.push_str("isolation"),
-    }
+    let word = match raised {
+        Fault::Thrown(value) => return write!(out, "thrown {value}"),
+        Fault::Cancelled => "cancelled",
+        Fault::Invariant => "invariant",
+        Fault::Overflow => "overflow",
+        Fault::Steps => "steps",
+        Fault::Turns => "turns",
+        Fault::Depth => "depth",
+        Fault::Tasks => "tasks",
+        Fault::Empty => "empty",
+        Fault::Isolation => "isolation",
+    };
+    out.push_str(word)
 }
 
 /// What a turn begins with.
@@ -140,15 +141,16 @@ fn turn_event(out: &mut String, happened: Event) -> Result<(), AllocError> {
 
 // An event of a group.
 fn group_event(out: &mut String, happened: Event) -> Result<(), AllocError> {
+    let (word, group) = match happened {
+        Event::Open(_, group) => ("open", group),
+        Event::Skip(_, group) => ("skip", group),
+        Event::CancelGroup(_, group) => ("cancel", group),
+        Event::Next(_, group) => ("next", group),
+        Event::Close(_, group) => ("close", group),
+        _ => return Ok(()),
+    };
     let owner = happened.task().0;
-    match happened {
-        Event::Open(_, group) => write!(out, "open t{owner} group {group}"),
-        Event::Skip(_, group) => write!(out, "skip t{owner} group {group}"),
-        Event::CancelGroup(_, group) => write!(out, "cancel t{owner} group {group}"),
-        Event::Next(_, group) => write!(out, "next t{owner} group {group}"),
-        Event::Close(_, group) => write!(out, "close t{owner} group {group}"),
-        _ => Ok(()),
-    }
+    write!(out, "{word} t{owner} group {group}")
 }
 
 /// A job.

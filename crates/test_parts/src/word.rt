@@ -12,7 +12,7 @@ use std::thread::Threads;
 use swift_word::{Begun, Left, Named, Seat, Spent, Was, Word};
 
 // Numbers, which all have one name.
-#[derive(Clone, Copy, PartialEq, Eq, Debug, Drop)]
+#[derive(PartialEq, Drop)]
 struct Number(u64);
 
 impl Named for Number {
@@ -22,23 +22,25 @@ impl Named for Number {
 }
 
 // A word with this state.
-fn opened(alloc: Global, state: Number) -> Result<(Word<Number>, Seat<Number>), AllocError>
+fn opened(alloc: Global, state: Number) -> Result<(Word<Number>, Seat<Number>), CaseFault>
     ensures { IfOk result (λ r. r.1 ≡ first_seat r.0) }
 {
     match Word::open(alloc, state) {
         // The state comes back, and opens one then.
         Err((state, AllocError)) => match Word::open(alloc, state) {
             Ok(opened) => Ok(opened),
-            Err((_, refused)) => Err(refused),
+            Err(_) => Err(CaseFault::Memory),
         },
         Ok(opened) => Ok(opened),
     }
 }
 
-// What two seats find, of which neither holds.
-fn two_seats(word: &Word<Number>, a: &mut Seat<Number>, b: &mut Seat<Number>) -> bool
+// Whether one of two seats, of which neither holds, takes the state where both have counted a job.
+fn one_seat_holds(word: &Word<Number>, a: &mut Seat<Number>, b: &mut Seat<Number>) -> bool
     requires one { IsSeatOf word.now a.old × (a.old.holding ≡ None) }
     requires other { IsSeatOf word.now b.old × (b.old.holding ≡ None) }
+    ensures one { IsTrue result → IsSeatOf word.now a.new × (a.new.holding ≡ None) }
+    ensures other { IsTrue result → IsSeatOf word.now b.new × (b.new.holding ≡ None) }
 {
     let halves = a.allowance() == 1 << 59 && b.allowance() == 1 << 59;
     let counted = word.count(a) == Ok(Was::Idle) && word.count(b) == Ok(Was::Busy);
@@ -52,9 +54,14 @@ fn two_seats(word: &Word<Number>, a: &mut Seat<Number>, b: &mut Seat<Number>) ->
         return false;
     };
     let one_holds = a.holds() && !b.holds();
-    if word.end(a, Number(6)) != Left::More || !one_holds {
-        return false;
-    }
+    word.end(a, Number(6)) == Left::More && one_holds
+}
+
+// Whether the seats find the one job that is left, and then none.
+fn one_job_is_left(word: &Word<Number>, a: &mut Seat<Number>, b: &mut Seat<Number>) -> bool
+    requires one { IsSeatOf word.now a.old × (a.old.holding ≡ None) }
+    requires other { IsSeatOf word.now b.old × (b.old.holding ≡ None) }
+{
     let Begun::Run(1, Number(6)) = word.begin(b) else {
         return false;
     };
@@ -67,22 +74,18 @@ fn two_seats(word: &Word<Number>, a: &mut Seat<Number>, b: &mut Seat<Number>) ->
     word.leave(a, Number(6)) == Left::Idle && word.count(b) == Ok(Was::Idle)
 }
 
-fn two_seats_take_turns(alloc: Global) -> Result<bool, AllocError> {
+fn two_seats_take_turns(alloc: Global) -> Result<bool, CaseFault> {
     let (word, mut a) = opened(alloc, Number(5))?;
     let mut b = a.split(&word);
-    let is_right = two_seats(&word, &mut a, &mut b);
+    let is_right = one_seat_holds(&word, &mut a, &mut b) && one_job_is_left(&word, &mut a, &mut b);
     Ok(is_right && word.close() == (1, Some(Number(6))))
 }
 
-// What a call finds beside what its own seat knows. In the end the first seat holds.
-fn jobs_counted_during_turns(
-    word: &Word<Number>,
-    a: &mut Seat<Number>,
-    b: &mut Seat<Number>,
-) -> bool
+// Whether a job that one seat counts while the other holds is seen by the other's end.
+fn is_seen_by_end(word: &Word<Number>, a: &mut Seat<Number>, b: &mut Seat<Number>) -> bool
     requires one { IsSeatOf word.now a.old × (a.old.holding ≡ None) }
     requires other { IsSeatOf word.now b.old × (b.old.holding ≡ None) }
-    ensures one { IsTrue result → IsSeatOf word.now a.new }
+    ensures one { IsTrue result → IsSeatOf word.now a.new × (a.new.holding ≡ None) }
     ensures other { IsTrue result → IsSeatOf word.now b.new × (b.new.holding ≡ None) }
 {
     if word.count(a) != Ok(Was::Idle) {
@@ -97,9 +100,16 @@ fn jobs_counted_during_turns(
     let Begun::Run(1, state) = word.begin(b) else {
         return false;
     };
-    if word.end(b, state) != Left::Idle {
-        return false;
-    }
+    word.end(b, state) == Left::Idle
+}
+
+// The same of a leave. In the end the first seat holds.
+fn is_seen_by_leave(word: &Word<Number>, a: &mut Seat<Number>, b: &mut Seat<Number>) -> bool
+    requires one { IsSeatOf word.now a.old × (a.old.holding ≡ None) }
+    requires other { IsSeatOf word.now b.old × (b.old.holding ≡ None) }
+    ensures one { IsTrue result → IsSeatOf word.now a.new }
+    ensures other { IsTrue result → IsSeatOf word.now b.new × (b.new.holding ≡ None) }
+{
     let Begun::Run(0, state) = word.begin(b) else {
         return false;
     };
@@ -109,10 +119,10 @@ fn jobs_counted_during_turns(
     matches!(word.begin(a), Begun::Run(1, Number(5)))
 }
 
-fn a_job_counted_during_a_turn_is_seen(alloc: Global) -> Result<bool, AllocError> {
+fn a_job_counted_during_a_turn_is_seen(alloc: Global) -> Result<bool, CaseFault> {
     let (word, mut a) = opened(alloc, Number(5))?;
     let mut b = a.split(&word);
-    if !jobs_counted_during_turns(&word, &mut a, &mut b) {
+    if !is_seen_by_end(&word, &mut a, &mut b) || !is_seen_by_leave(&word, &mut a, &mut b) {
         return Ok(false);
     }
     a.join(&word, b);
@@ -120,13 +130,13 @@ fn a_job_counted_during_a_turn_is_seen(alloc: Global) -> Result<bool, AllocError
     Ok(joined && word.close() == (1, None))
 }
 
-fn a_word_is_opened_again(alloc: Global) -> Result<bool, AllocError> {
+fn a_word_is_opened_again(alloc: Global) -> Result<bool, CaseFault> {
     let (word, seat) = opened(alloc, Number(5))?;
     let is_new = !seat.holds() && seat.allowance() == 1 << 60;
     Ok(is_new && word.close() == (0, Some(Number(5))))
 }
 
-fn an_allowance_is_spent(alloc: Global) -> Result<bool, AllocError> {
+fn an_allowance_is_spent(alloc: Global) -> Result<bool, CaseFault> {
     let (word, mut a) = opened(alloc, Number(5))?;
     for _ in 0..60 {
         let _half = a.split(&word);
@@ -194,13 +204,29 @@ fn by_two_threads<R: Threads + Wait + Sync>(
 fn two_threads_take_turns<R: Threads + Wait + Sync>(
     rt: &R,
     alloc: Global,
-) -> Result<bool, AllocError> {
+) -> Result<bool, CaseFault> {
     let turns = 500_000;
     let (word, mut a) = opened(alloc, Number(0))?;
     let b = a.split(&word);
     let left = by_two_threads(rt, &word, a, b, turns);
     let is_spent = left == ((1 << 59) - turns, (1 << 59) - turns);
     Ok(is_spent && word.close() == (0, Some(Number(2 * turns))))
+}
+
+// Whether all that a case gave is what it has to give.
+fn is_right<R: Threads + Wait + Sync>(
+    rt: &R,
+    alloc: Global,
+    name: &str,
+) -> Result<bool, CaseFault> {
+    match name {
+        "two_seats_take_turns" => two_seats_take_turns(alloc),
+        "a_job_counted_during_a_turn_is_seen" => a_job_counted_during_a_turn_is_seen(alloc),
+        "a_word_is_opened_again" => a_word_is_opened_again(alloc),
+        "an_allowance_is_spent" => an_allowance_is_spent(alloc),
+        "two_threads_take_turns" => two_threads_take_turns(rt, alloc),
+        _ => Err(CaseFault::Form),
+    }
 }
 
 /// The cases of these names, each a line.
@@ -211,14 +237,7 @@ pub fn play_words<R: Threads + Wait + Sync>(
     out: &mut Vec<u8>,
 ) -> Result<(), CaseFault> {
     for name in names.split('\n') {
-        let is_right = match name {
-            "two_seats_take_turns" => two_seats_take_turns(alloc)?,
-            "a_job_counted_during_a_turn_is_seen" => a_job_counted_during_a_turn_is_seen(alloc)?,
-            "a_word_is_opened_again" => a_word_is_opened_again(alloc)?,
-            "an_allowance_is_spent" => an_allowance_is_spent(alloc)?,
-            "two_threads_take_turns" => two_threads_take_turns(rt, alloc)?,
-            _ => return Err(CaseFault::Form),
-        };
+        let is_right = is_right(rt, alloc, name)?;
         out.extend_from_slice(if is_right { b"right\n" } else { b"wrong\n" })?;
     }
     Ok(())

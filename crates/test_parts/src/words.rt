@@ -6,17 +6,17 @@ use swift_types::{Fault, Priority, Resume, TaskId};
 
 /// A number of a thing.
 pub fn number(word: &str) -> Result<u32, CaseFault> {
-    word.parse::<u32>().map_err(|_| CaseFault::Form)
+    Ok(word.parse::<u32>()?)
 }
 
 /// How many, or how deep.
 pub fn size(word: &str) -> Result<usize, CaseFault> {
-    word.parse::<usize>().map_err(|_| CaseFault::Form)
+    Ok(word.parse::<usize>()?)
 }
 
 /// A value.
 pub fn value(word: &str) -> Result<i64, CaseFault> {
-    word.parse::<i64>().map_err(|_| CaseFault::Form)
+    Ok(word.parse::<i64>()?)
 }
 
 /// Values with commas between them.

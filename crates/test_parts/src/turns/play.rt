@@ -15,7 +15,7 @@ use swift_types::Resume;
 use swift_types::limits::TURNS;
 
 /// By which calls a turn is run.
-#[derive(Clone, Copy, PartialEq, Eq)]
+#[derive(Clone, Copy)]
 pub enum How {
     /// By one call.
     Whole,
@@ -39,7 +39,10 @@ pub fn run<R: RandomSource + AllocGlobal>(
     let mut cx = solo.begin();
     let ran = one(script, &mut cx, body, how, begin, out);
     cx.cancel();
-    Ok(ran?.map(|left| left.1))
+    match ran? {
+        Some((_fields, exit)) => Ok(Some(exit)),
+        None => Ok(None),
+    }
 }
 
 // One turn: the fields after it, and its exit. None where it can't be run. Where it is refused memory, it is run again on the fields

@@ -1,7 +1,7 @@
 //! A task, and the calls on it.
 
 use crate::fault::CaseFault;
-use crate::scripts::first_method_named;
+use crate::scripts::method_named;
 use crate::show;
 use crate::turns::begin::{Turn, change, opening_of, turn_of};
 use crate::turns::play::{How, play, run};
@@ -31,7 +31,7 @@ pub fn start(
     words: &[&str],
     out: &mut String,
 ) -> Result<Option<Task>, CaseFault> {
-    let Some(method) = first_method_named(script, name) else {
+    let Some(method) = method_named(script, None, name) else {
         out.push_str("no such method")?;
         return Ok(None);
     };
