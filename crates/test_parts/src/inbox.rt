@@ -106,18 +106,46 @@ fn answer<R: Wait>(
     requires { IsPassOf inbox.now pass.old }
     ensures { IsPassOf inbox.now pass.new }
 {
-    match words {
+    match *words {
         ["put", root, turn] => {
             let (root, turn) = (RootId(number(root)?), number(turn)?);
-            Ok(String::from_str(alloc, put(rt, alloc, inbox, pass, root, turn)?)?)
+            let answer = put(rt, alloc, inbox, pass, root, turn)?;
+            Ok(String::from_str(alloc, answer)?)
         }
-        ["take"] => match inbox.take(rt, pass) {
-            None => Ok(String::from_str(alloc, "none")?),
-            Some(job) => {
-                let (task, number) = told(job);
-                Ok(format!(in alloc; "task {task} turn {number}")?)
-            }
-        },
+        ["take"] => Ok(shown(alloc, inbox.take(rt, pass))?),
+        _ => Err(CaseFault::Form),
+    }
+}
+
+// What was taken, which is spent.
+fn shown(alloc: Global, taken: Option<Job<Body>>) -> Result<String, AllocError> {
+    match taken {
+        None => String::from_str(alloc, "none"),
+        Some(job) => {
+            let (task, number) = told(job);
+            format!(in alloc; "task {task} turn {number}")
+        }
+    }
+}
+
+// What a call of a line answers, by the pass that it names.
+fn answer_by<R: Wait>(
+    rt: &R,
+    alloc: Global,
+    inbox: &Inbox,
+    a: &mut Pass,
+    b: &mut Pass,
+    line: &str,
+) -> Result<String, CaseFault>
+    requires a { IsPassOf inbox.now a.old }
+    requires b { IsPassOf inbox.now b.old }
+    ensures a { IsPassOf inbox.now a.new }
+    ensures b { IsPassOf inbox.now b.new }
+{
+    let words: Vec<&str> = line.split(' ').collect(alloc)?;
+    match *words {
+        ["a", ref call @ ..] => answer(rt, alloc, inbox, a, call),
+        ["b", ref call @ ..] => answer(rt, alloc, inbox, b, call),
         _ => Err(CaseFault::Form),
     }
 }
@@ -127,21 +155,15 @@ fn calls<R: Wait>(
     rt: &R,
     alloc: Global,
     inbox: &Inbox,
-    a: &mut Pass,
-    b: &mut Pass,
+    mut a: Pass,
     lines: &str,
     out: &mut Vec<u8>,
 ) -> Result<(), CaseFault>
-    requires a { IsPassOf inbox.now a.old }
-    requires b { IsPassOf inbox.now b.old }
+    requires { IsPassOf inbox.now a }
 {
+    let mut b = a.split(inbox);
     for line in lines.split('\n') {
-        let words: Vec<&str> = line.split(' ').collect(alloc)?;
-        let answer = match *words {
-            ["a", ref call @ ..] => answer(rt, alloc, inbox, a, call)?,
-            ["b", ref call @ ..] => answer(rt, alloc, inbox, b, call)?,
-            _ => return Err(CaseFault::Form),
-        };
+        let answer = answer_by(rt, alloc, inbox, &mut a, &mut b, line)?;
         writeln!(out, "{answer}")?;
     }
     Ok(())
@@ -188,10 +210,15 @@ pub fn play_inbox<R: Wait>(
     let Some((executor, room)) = head.split_once(' ') else {
         return Err(CaseFault::Form);
     };
-    let (inbox, mut a) = inbox_of(alloc, ExecId(number(executor)?), size(room)?)?;
-    let mut b = a.split(&inbox);
-    calls(rt, alloc, &inbox, &mut a, &mut b, lines, out)?;
-    for (task, number) in &drained(rt, alloc, inbox)? {
+    let (inbox, pass) = inbox_of(alloc, ExecId(number(executor)?), size(room)?)?;
+    let called = calls(rt, alloc, &inbox, pass, lines, out);
+    let left = drained(rt, alloc, inbox)?;
+    called?;
+    tell_left(out, &left)
+}
+
+fn tell_left(out: &mut Vec<u8>, left: &[(u32, u32)]) -> Result<(), CaseFault> {
+    for (task, number) in left {
         writeln!(out, "left: task {task} turn {number}")?;
     }
     Ok(())
@@ -241,15 +268,30 @@ fn put_and_take<R: Wait>(
 {
     let mut sum = 0u64;
     for place in 0..count {
-        let made = job(alloc, inbox.site(), RootId(0), first.wrapping_add(place))?;
-        if !inbox.site().can_run(&made) {
-            told(made);
-            return Err(CaseFault::Form);
-        }
-        put_at_last(rt, inbox, &mut pass, made);
-        sum = sum.wrapping_add(take_at_last(rt, inbox, &mut pass) as u64);
+        let taken = put_and_take_one(rt, alloc, inbox, &mut pass, first.wrapping_add(place))?;
+        sum = sum.wrapping_add(taken as u64);
     }
     Ok(sum)
+}
+
+// Puts a job with this number in, and takes one out. Its number.
+fn put_and_take_one<R: Wait>(
+    rt: &R,
+    alloc: Global,
+    inbox: &Inbox,
+    pass: &mut Pass,
+    number: u32,
+) -> Result<u32, CaseFault>
+    requires { IsPassOf inbox.now pass.old }
+    ensures { IsPassOf inbox.now pass.new }
+{
+    let made = job(alloc, inbox.site(), RootId(0), number)?;
+    if !inbox.site().can_run(&made) {
+        told(made);
+        return Err(CaseFault::Form);
+    }
+    put_at_last(rt, inbox, pass, made);
+    Ok(take_at_last(rt, inbox, pass))
 }
 
 // Two threads put and take. The sums of the numbers that each took.
@@ -290,8 +332,8 @@ pub fn play_threads<R: Threads + Wait + Sync>(
     let (inbox, mut a) = inbox_of(alloc, ExecId(0), size(room)?)?;
     let b = a.split(&inbox);
     let (one, other) = by_two_threads(rt, alloc, &inbox, a, b, count);
-    let sum = one?.wrapping_add(other?);
     let left = drained(rt, alloc, inbox)?.len();
+    let sum = one?.wrapping_add(other?);
     writeln!(out, "sum {sum}, {left} left")?;
     Ok(())
 }

@@ -14,7 +14,12 @@ use swift_types::TaskId;
 pub fn place_of(jobs: &[Job<Body>], task: TaskId) -> Option<usize>
     ensures { IfSome result (λ place. place < length jobs.now) }
 {
-    jobs.iter().position(|job| job.task() == task)
+    for (place, job) in jobs.iter().enumerate() {
+        if job.task() == task {
+            return Some(place);
+        }
+    }
+    None
 }
 
 /// Takes the job of a task out.

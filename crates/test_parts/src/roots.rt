@@ -33,14 +33,6 @@ fn first_of(
     }
 }
 
-// The two numbers of a word with a mark between them.
-fn pair(word: &str, mark: char) -> Result<Option<(u32, u32)>, CaseFault> {
-    match word.split_once(mark) {
-        Some((one, other)) => Ok(Some((number(one)?, number(other)?))),
-        None => Ok(None),
-    }
-}
-
 fn first_by_words(alloc: Global, words: &[&str]) -> Result<Option<usize>, CaseFault> {
     let mut edges = Vec::new(alloc);
     let mut waits = Vec::new(alloc);
@@ -58,9 +50,11 @@ fn take(
     waits: &mut Vec<Wait>,
     roots: &mut Vec<u32>,
 ) -> Result<(), CaseFault> {
-    if let Some((from, to)) = pair(word, '>')? {
+    if let Some((from, to)) = word.split_once('>') {
+        let (from, to) = (number(from)?, number(to)?);
         edges.push(Edge { from, to })?;
-    } else if let Some((method, root)) = pair(word, '@')? {
+    } else if let Some((method, root)) = word.split_once('@') {
+        let (method, root) = (number(method)?, number(root)?);
         waits.push(Wait { method, root })?;
     } else {
         roots.push(number(word)?)?;

@@ -106,7 +106,14 @@ fn take(opening: &mut Opening, word: &str) -> Result<(), CaseFault> {
 
 /// Changes a frame: `made=NUMBER` and `opened=NUMBER` are the counts of its task, `line=NUMBER` is where it is, and a number
 /// alone is a group that it has open too.
-pub fn change(frame: &mut Frame, word: &str) -> Result<(), CaseFault> {
+pub fn change(frame: &mut Frame, words: &[&str]) -> Result<(), CaseFault> {
+    for word in words {
+        change_part(frame, word)?;
+    }
+    Ok(())
+}
+
+fn change_part(frame: &mut Frame, word: &str) -> Result<(), CaseFault> {
     match word.split_once('=') {
         Some((part, count)) => set(frame, part, count),
         None => Ok(frame.groups.push(number(word)?)?),

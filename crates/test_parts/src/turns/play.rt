@@ -63,17 +63,12 @@ fn one(
     match ran {
         Ok(Some((fields, effects, exit))) => {
             tell::left(out, script, &fields, &effects, &exit)?;
-            Ok(Some((fields, exit)))
+            return Ok(Some((fields, exit)));
         }
-        Ok(None) => {
-            out.push_str("not possible")?;
-            Ok(None)
-        }
-        Err(_) => {
-            out.push_str("no memory")?;
-            Ok(None)
-        }
+        Ok(None) => out.push_str("not possible")?,
+        Err(_) => out.push_str("no memory")?,
     }
+    Ok(None)
 }
 
 // What a turn leaves. None where it can't be run, and the fields where it is refused memory.
@@ -88,20 +83,25 @@ fn ran(
     if !body.is_running() {
         return Ok(None);
     }
-    let left = match how {
-        How::Whole => run_turn(body, cx, fields, resume, env),
-        How::Parts => {
-            if let Err((fields, AllocError)) = body.enter(fields, resume, env) {
-                return Err(fields);
-            }
-            let _ = body.poll(cx);
-            if !body.is_polled() {
-                return Ok(None);
-            }
-            body.leave()
-        }
-    };
-    match left {
+    match how {
+        How::Whole => match run_turn(body, cx, fields, resume, env) {
+            Ok(left) => Ok(Some(left)),
+            Err((fields, AllocError)) => Err(fields),
+        },
+        How::Parts => match body.enter(fields, resume, env) {
+            Ok(()) => polled(cx, body),
+            Err((fields, AllocError)) => Err(fields),
+        },
+    }
+}
+
+// The same of a turn that is entered.
+fn polled(cx: &mut Context<'_>, body: &mut Body) -> Result<Option<Left>, Vec<Vec<i64>>> {
+    let _ = body.poll(cx);
+    if !body.is_polled() {
+        return Ok(None);
+    }
+    match body.leave() {
         Ok(left) => Ok(Some(left)),
         Err((fields, AllocError)) => Err(fields),
     }
@@ -134,11 +134,8 @@ fn turns(
         let Some((fields, exit)) = one(script, cx, body, How::Whole, begin, out)? else {
             return Ok(());
         };
-        out.push('\n')?;
-        let resume = match next(body, &exit)? {
-            Some(Step::Run(_, resume)) => resume,
-            Some(step) => return tell::step(out, step),
-            None => return out.push_str("not possible"),
+        let Some(resume) = after(body, &exit, out)? else {
+            return Ok(());
         };
         begin = Turn {
             fields,
@@ -147,6 +144,17 @@ fn turns(
         };
     }
     Ok(())
+}
+
+// What the task's next turn begins with. Where none follows at once, writes what comes next.
+fn after(body: &mut Body, exit: &Exit, out: &mut String) -> Result<Option<Resume>, AllocError> {
+    out.push('\n')?;
+    match next(body, exit)? {
+        Some(Step::Run(_, resume)) => return Ok(Some(resume)),
+        Some(step) => tell::step(out, step)?,
+        None => out.push_str("not possible")?,
+    }
+    Ok(None)
 }
 
 // What comes next. None where the exit can't be followed.

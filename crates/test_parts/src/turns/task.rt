@@ -43,9 +43,9 @@ pub fn start(
         }
         Err(fault) => return Err(fault),
     };
+    out.push_str("started")?;
     let script = Arc::clone(script)?;
     let body = Body::start(alloc, script, method, opening.args, opening.bindings)?;
-    out.push_str("started")?;
     Ok(Some(Task {
         body,
         exit: None,
@@ -62,12 +62,8 @@ pub fn call<R: RandomSource + AllocGlobal>(
     out: &mut String,
 ) -> Result<(), CaseFault> {
     match *words {
-        ["poll"] => poll(rt, &mut task.body, out),
-        ["leave"] => Ok(leave(script, task, out)?),
-        ["advance"] => Ok(advance(task, out)?),
-        ["actor"] => Ok(actor(&task.body, out)?),
-        ["frame"] => Ok(frame(script, task, out)?),
         ["put_back", ref changes @ ..] => put_back(task, changes, out),
+        [name] => plain(rt, script, task, name, out),
         [name, ref begin @ ..] => match turn_of(rt.alloc(), begin) {
             Ok(begin) => begin_turn(rt, script, task, name, begin, out),
             Err(CaseFault::Form) => Ok(out.push_str("no such call")?),
@@ -75,6 +71,25 @@ pub fn call<R: RandomSource + AllocGlobal>(
         },
         [] => Err(CaseFault::Form),
     }
+}
+
+// A call of one word.
+fn plain<R: RandomSource + AllocGlobal>(
+    rt: &R,
+    script: &Script,
+    task: &mut Task,
+    name: &str,
+    out: &mut String,
+) -> Result<(), CaseFault> {
+    match name {
+        "poll" => return poll(rt, &mut task.body, out),
+        "leave" => leave(script, task, out)?,
+        "advance" => advance(task, out)?,
+        "actor" => actor(&task.body, out)?,
+        "frame" => frame(script, task, out)?,
+        _ => out.push_str("no such call")?,
+    }
+    Ok(())
 }
 
 // A call with what a turn begins with.
@@ -143,9 +158,9 @@ fn leave(script: &Script, task: &mut Task, out: &mut String) -> Result<(), Alloc
     }
     match task.body.leave() {
         Ok((fields, effects, exit)) => {
-            tell::left(out, script, &fields, &effects, &exit)?;
+            let told = tell::left(out, script, &fields, &effects, &exit);
             task.exit = Some(exit);
-            Ok(())
+            told
         }
         Err((_, AllocError)) => out.push_str("out of memory"),
     }
@@ -178,23 +193,19 @@ fn frame(script: &Script, task: &mut Task, out: &mut String) -> Result<(), Alloc
         return out.push_str("not possible");
     }
     let copy = task.body.frame()?;
-    tell::frame(out, script, &copy)?;
-    out.push_str(" outer ")?;
-    tell::bindings(out, script, task.body.outer())?;
+    let told = tell::frame_and_outer(out, script, &copy, task.body.outer());
     task.frame = Some(copy);
-    Ok(())
+    told
 }
 
 fn put_back(task: &mut Task, changes: &[&str], out: &mut String) -> Result<(), CaseFault> {
     let Some(mut copy) = task.frame.take() else {
         return Ok(out.push_str("not possible")?);
     };
-    for word in changes {
-        match change(&mut copy, word) {
-            Ok(()) => {}
-            Err(CaseFault::Form) => return Ok(out.push_str("no such part")?),
-            Err(fault) => return Err(fault),
-        }
+    match change(&mut copy, changes) {
+        Ok(()) => {}
+        Err(CaseFault::Form) => return Ok(out.push_str("no such part")?),
+        Err(fault) => return Err(fault),
     }
     if !task.body.is_running() || !task.body.can_put_back(&copy) {
         return Ok(out.push_str("not possible")?);

@@ -94,8 +94,8 @@ fn with(out: &mut String, script: &Script, standing: &Bindings) -> Result<(), Al
     bindings(out, script, standing)
 }
 
-/// What is read of each local that is bound, and how many bindings stand.
-pub fn bindings(out: &mut String, script: &Script, standing: &Bindings) -> Result<(), AllocError> {
+// What is read of each local that is bound, and how many bindings stand.
+fn bindings(out: &mut String, script: &Script, standing: &Bindings) -> Result<(), AllocError> {
     if standing.depth() == 0 {
         return out.push_str("none");
     }
@@ -181,8 +181,20 @@ pub fn step(out: &mut String, next: Step) -> Result<(), AllocError> {
     }
 }
 
-/// A frame, part by part, without where it is. What is innermost stands last.
-pub fn frame(out: &mut String, script: &Script, copy: &Frame) -> Result<(), AllocError> {
+/// A frame, and the bindings that stand outside it.
+pub fn frame_and_outer(
+    out: &mut String,
+    script: &Script,
+    copy: &Frame,
+    outer: &Bindings,
+) -> Result<(), AllocError> {
+    frame(out, script, copy)?;
+    out.push_str(" outer ")?;
+    bindings(out, script, outer)
+}
+
+// A frame, part by part, without where it is. What is innermost stands last.
+fn frame(out: &mut String, script: &Script, copy: &Frame) -> Result<(), AllocError> {
     method(out, script, copy.method)?;
     out.push_str(" vars ")?;
     numbers(out, &copy.variables)?;
