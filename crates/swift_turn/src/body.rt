@@ -451,22 +451,14 @@ impl Body {
             return Ok(Step::Run(self.actor(), Resume::Fault(Fault::Depth)));
         }
         let inside = &mut *self.inside;
-        let callee = callee_of(
-            inside.alloc,
-            &inside.script,
-            invocation,
-            &inside.turn.frame,
-        )?;
+        let callee = callee_of(inside.alloc, &inside.script, invocation, &inside.turn.frame)?;
         begin_over(
             &mut inside.callers,
             &mut inside.turn.frame,
             &mut inside.outer,
             callee,
         )?;
-        Ok(Step::Run(
-            inside.script.method_actor(invocation.method),
-            Resume::Start,
-        ))
+        Ok(Step::Run(inside.script.method_actor(invocation.method), Resume::Start))
     }
 
     fn resume_caller(&mut self, resume: Resume, ending: Ending) -> Step

@@ -11,8 +11,7 @@ loop-place-preserved c = λ t x lt is.
       | inl same ↦
           let log = c.args.book.now.log in
           let at : t ≡ c.in-Ok.task = same ∙ sym c.in-Ok.ensures.1 in
-          let here = get_or_from_slice_get c.args.endings.now c.loop-place.place x _ (ap (slice_get c.args.endings.now) (sym same) ∙ is) in
-          (
+          let here = get_or_from_slice_get c.args.endings.now c.loop-place.place x _ (ap (slice_get c.args.endings.now) (sym same) ∙ is) in (
             ap (λ n. (life_of n log).origin) at ∙ c.if-not-has_ended.ensures.origin refl ∙ ap (λ y. Some y.0) here,
             ap (λ n. (life_of n log).ending) at ∙ c.if-not-has_ended.ensures.ending refl ∙ ap (λ y. Some y.1) here,
           )

@@ -11,7 +11,7 @@ loop-place-preserved g c =
     let j = c.index-behind-place.result in
     let other : j.task ≢ c.args.task = search rules in
     All-more (λ (x : JobIs g.row.B.Denot). x.task ≢ c.args.task) c.args.behind.now c.loop-place.place j c.loop-place-test.true c.loop-place.invariant
-        (subst (λ (x : JobIs g.row.B.Denot). x.task ≢ c.args.task) c.index-behind-place.is other)
+    (subst (λ (x : JobIs g.row.B.Denot). x.task ≢ c.args.task) c.index-behind-place.is other)
 
 pub returns : goal.returns
 returns g c = record {

@@ -26,4 +26,4 @@ returns-clause-words c =
 pub returns-clause-reads_back : goal.returns-clause-reads_back
 returns-clause-reads_back c =
     subst (λ (es : List Effect). ReadsBack (List EffectView) (effects_of c.loop-effect.list.items) (skip_effects c.loop-effect.list.items) (effects_words es) (effect_views es))
-        (take_all c.loop-effect.effect-index c.args.effects.now (omega (arith, c.loop-effect-test.false))) c.loop-effect.invariant.reads_back
+    (take_all c.loop-effect.effect-index c.args.effects.now (omega (arith, c.loop-effect-test.false))) c.loop-effect.invariant.reads_back

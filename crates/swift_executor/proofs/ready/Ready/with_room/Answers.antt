@@ -29,7 +29,7 @@ invariant_of-result g c =
     let capacity = c.in-Ok.ensures.capacity in
     let tasks_room = c.in_ok-tasks.ensures.room in
     let same : (map task_of q.jobs ++ map task_in c.in-Ok.behind.items) ≡ [] =
-        ap (λ (js : List (Waiting g.row.B.Denot)). map task_of js ++ map task_in c.in-Ok.behind.items) jobs ∙ ap (λ (js : List (JobIs g.row.B.Denot)). map task_in js) behind in
+    ap (λ (js : List (Waiting g.row.B.Denot)). map task_of js ++ map task_in c.in-Ok.behind.items) jobs ∙ ap (λ (js : List (JobIs g.row.B.Denot)). map task_in js) behind in
     record {
       counted = subst (AreCounted c.in_ok-levels.levels.items) (sym jobs) (λ k d lt. absurd (omega (arith, lt)));
       tasks = λ t. ap (times t) (tasks ∙ sym same);
