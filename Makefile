@@ -1,7 +1,6 @@
 SCRIPT = examples/account.actors
 PROGRAM = crates/swiftrun/out/swiftrun
-CASES = crates/test_scripts/out/test_scripts
-PARTS = crates/test_parts/out/test_parts
+CASES = crates/test_cases/out/test_cases
 SOURCES = $(shell find crates -name out -prune -o \( -name '*.rt' -o -name '*.antt' \) -print)
 
 # Runs a script without a proof: make try SCRIPT=examples/account.actors ARGS="--workers 4". Status 0 also where a task ended with a
@@ -17,8 +16,7 @@ crates/$(1)/out/$(1): crates.txt $$(SOURCES)
 	@tools/build.py $(1) $(2) && touch $$@
 endef
 $(eval $(call program,swiftrun))
-$(eval $(call program,test_parts))
-$(eval $(call program,test_scripts))
+$(eval $(call program,test_cases))
 
 # Runs a script with the proved program. Status 0 also where a task ended with a fault.
 run: $(PROGRAM)
@@ -44,8 +42,8 @@ examples: $(PROGRAM)
 		echo "$$script prints what it has to"; \
 	done
 
-# Runs cases of the test programs once for each of their allocations, with that one refused.
-refusals: $(PARTS) $(CASES)
+# Runs cases of the test program once for each of their allocations, with that one refused.
+refusals: $(CASES)
 	@tools/refusals.py
 
 # Whether what the documents link to is there.
@@ -53,7 +51,7 @@ links:
 	@tools/links.py
 
 # Measures, and asserts nothing: builds both programs, and prints tables.
-bench: $(PROGRAM) $(PARTS)
+bench: $(PROGRAM) $(CASES)
 	@python3 bench/run.py
 
 .PHONY: try run test prove mutants examples refusals links bench

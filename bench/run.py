@@ -16,7 +16,7 @@ import scripts
 
 TOP = os.path.dirname(os.path.dirname(os.path.abspath(__file__)))
 PROGRAM = "crates/swiftrun/out/swiftrun"
-PARTS = "crates/test_parts/out/test_parts"
+CASES = "crates/test_cases/out/test_cases"
 # What the longest script may take to be read, on a quiet core of 3 GHz, whatever it says.
 READ_SECONDS, READ_KILOBYTES = 0.006, 8192
 
@@ -213,12 +213,12 @@ def reading(times):
 
 
 def parts(times):
-    """Calls of test_parts on values with few entries and with many."""
+    """Calls of test_cases on values with few entries and with many."""
     rows = []
     for part in scripts.PARTS:
         seconds = []
         for entries in (scripts.FEW, scripts.MANY):
-            outcomes = best(times, [PARTS], scripts.path(f"{part} {entries}"))
+            outcomes = best(times, [CASES], scripts.path(f"{part} {entries}"))
             seconds.append(min(outcome.seconds for outcome in outcomes) / scripts.CALLS)
         rows.append([part, *(f"{s * 1e6:.2f}" for s in seconds), f"{seconds[1] / seconds[0]:.2f}"])
     table(["part", f"us/call with {scripts.FEW}", f"with {scripts.MANY}", f"time, {scripts.MANY} to {scripts.FEW}"], rows)
@@ -226,7 +226,7 @@ def parts(times):
 
 def main():
     times = int(sys.argv[1]) if len(sys.argv) > 1 else 3
-    subprocess.run(["make", "--no-print-directory", PROGRAM, PARTS], cwd=TOP, check=True, stdin=subprocess.DEVNULL, stdout=sys.stderr)
+    subprocess.run(["make", "--no-print-directory", PROGRAM, CASES], cwd=TOP, check=True, stdin=subprocess.DEVNULL, stdout=sys.stderr)
     scripts.write()
     print(f"Best of {times}, of reading the best of {2 * times + 1}. Seconds are those of a whole process of `swiftrun`, above those of one that has nothing")
     print("to read and to run: it reads, runs, certifies and writes. `quiet s` is with `--quiet`, which leaves the journals' text out. `B/turn` is the")

@@ -1,5 +1,5 @@
 #!/usr/bin/env python3
-"""Writes scripts whose tasks and fields don't depend on the order of turns, as cases of test_scripts.
+"""Writes scripts whose tasks and fields don't depend on the order of turns, as cases of test_cases.
 
     tools/random_scripts.py COUNT SEED
 

@@ -1,10 +1,10 @@
 #!/usr/bin/env python3
-"""Runs cases of test programs once for each of their allocations, with that one refused, and compares what they write.
+"""Runs cases of test_cases once for each of their allocations, with that one refused, and compares what they write.
 
-    tools/refusals.py [NAME..]       (test_parts and test_scripts)
+    tools/refusals.py
 
-A program is the one that rt has built (crates/NAME/out/NAME). It is given one case at a time, of those whose first lines the file
-crates/NAME/refused has, and has to write what the file stdout has for it, with status 0: it makes each call again that was refused memory.
+The program is the one that rt has built (crates/test_cases/out/test_cases). It is given one case at a time, of those whose first
+lines the file crates/test_cases/refused has, and has to write what the file stdout has for it, with status 0: it makes each call again that was refused memory.
 The n-th run refuses the n-th allocation (tools/refuse.c, built by $CC or cc). Of a case with more than 2,000 allocations the first and the
 last 500 are refused, and of the others each 41st. Where an allocation is refused before the case is read, the program has to stop with
 status 1 and nothing written. Status 0 where no run differs.
@@ -16,7 +16,7 @@ import sys
 import tempfile
 
 TOP = os.path.dirname(os.path.dirname(os.path.abspath(__file__)))
-NAMES = ["test_parts", "test_scripts"]
+NAME = "test_cases"
 SECONDS = 60
 # What is said of a run in which nothing was written.
 UNREAD = "nothing was written"
@@ -93,9 +93,9 @@ class Case:
         return refused, unread, wrong
 
 
-def refuse_in(name, library, workers):
-    """Refuses the allocations of the cases of a program. Whether no run differs."""
-    folder = os.path.join(TOP, "crates", name)
+def refuse_all(library, workers):
+    """Refuses the allocations of the cases. Whether no run differs."""
+    folder = os.path.join(TOP, "crates", NAME)
     with open(os.path.join(folder, "refused"), encoding="utf8") as file:
         firsts = [line for line in file.read().split("\n") if line]
     asked, wanted = cases_of(os.path.join(folder, "stdin")), cases_of(os.path.join(folder, "stdout"))
@@ -103,29 +103,28 @@ def refuse_in(name, library, workers):
     refused, unread, differ = 0, 0, 0
     for first in firsts:
         if first not in known:
-            sys.exit(f"{name} has no case {first}")
-        counts = Case(os.path.join(folder, "out", name), library, *known[first]).refuse_each(workers)
+            sys.exit(f"{NAME} has no case {first}")
+        counts = Case(os.path.join(folder, "out", NAME), library, *known[first]).refuse_each(workers)
         refused, unread, differ = refused + counts[0], unread + counts[1], differ + len(counts[2])
         if counts[0] <= counts[1]:
             differ += 1
-            print(f"{name}, {first}: no allocation was refused once it was read")
+            print(f"{first}: no allocation was refused once it was read")
         for fault in counts[2][:5]:
-            print(f"{name}, {first}: {fault}")
-    print(f"{name}: {len(firsts)} cases, {refused} allocations refused in turn, {unread} of them before a case was read; {differ} runs differ")
+            print(f"{first}: {fault}")
+    print(f"{len(firsts)} cases, {refused} allocations refused in turn, {unread} of them before a case was read; {differ} runs differ")
     return not differ
 
 
 def main():
-    names = sys.argv[1:] or NAMES
-    if any(name not in NAMES for name in names):
+    if len(sys.argv) > 1:
         sys.exit(__doc__)
     with tempfile.TemporaryDirectory() as folder:
         library = os.path.join(folder, "refuse.so")
         source = os.path.join(TOP, "tools", "refuse.c")
         subprocess.run([os.environ.get("CC", "cc"), "-O2", "-Wall", "-Wextra", "-shared", "-fPIC", "-o", library, source], check=True)
         with concurrent.futures.ThreadPoolExecutor(os.cpu_count()) as workers:
-            are_well = [refuse_in(name, library, workers) for name in names]
-    if not all(are_well):
+            is_well = refuse_all(library, workers)
+    if not is_well:
         sys.exit(1)
 
 

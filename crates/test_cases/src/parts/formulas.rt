@@ -1,0 +1,204 @@
+//! Values of formulas: `value` with a formula whose operators come after their operands, as in `v0 1 +`. `vN` is a
+//! variable, `fA.N` a field, `lN=VALUE` a local with its default, `priority` and `cancelled` are themselves, `neg` and
+//! `not` have one operand.
+//!
+//! Variable 0 is 6, and field 0 of actor 1 is 8, in a turn of priority high of a task that is cancelled. Local 2 is
+//! bound to 7 and then to 9 outside the frame and local 3 to 4, and inside it local 3 to 5 and then to 6.
+//!
+//! `while` are the followers of the instructions of `while 1 { yield; }`, as they are written.
+
+use crate::fault::CaseFault;
+use crate::parts::calls::Part;
+use crate::parts::words::{number, value as value_of};
+use script_code::laws::{written_code_counts, written_code_implements, written_code_joins};
+use script_code::{
+    Act, Binding, Env, FieldPlace, Formula, Instruction, Sight, holds, link, push_instruction,
+    renumber, value,
+};
+use std::alloc::{AllocError, Global};
+use swift_locals::Bindings;
+use swift_types::{LocalId, Operator, Priority};
+
+/// What knows nothing but the calls that are made of it.
+#[derive(Drop)]
+pub struct FormulasPart;
+
+fn own(local: u32, value: i64) -> Binding {
+    Binding {
+        local: LocalId(local),
+        value,
+    }
+}
+
+fn seen(alloc: Global, formula: &Formula) -> Result<Option<i64>, AllocError> {
+    let env = Env {
+        priority: Priority::High,
+        cancelled: true,
+        room: 16,
+    };
+    let mut bindings = Bindings::new(alloc);
+    bindings.bind(LocalId(2), 7)?;
+    bindings.bind(LocalId(2), 9)?;
+    bindings.bind(LocalId(3), 4)?;
+    let sight = Sight {
+        variables: &[6],
+        fields: &[Vec::new(alloc), Vec::from_slice(alloc, &[8])?],
+        own: &[own(3, 5), own(3, 6)],
+        outer: &bindings,
+        env: &env,
+    };
+    Ok(value(formula, sight))
+}
+
+fn operator_of(word: &str) -> Option<Operator> {
+    match word {
+        "||" => Some(Operator::Or),
+        "&&" => Some(Operator::And),
+        "==" => Some(Operator::Equal),
+        "!=" => Some(Operator::Unequal),
+        "<" => Some(Operator::Less),
+        "<=" => Some(Operator::AtMost),
+        ">" => Some(Operator::Greater),
+        ">=" => Some(Operator::AtLeast),
+        "+" => Some(Operator::Plus),
+        "-" => Some(Operator::Minus),
+        "*" => Some(Operator::Times),
+        _ => None,
+    }
+}
+
+// A formula without operands.
+fn leaf(word: &str) -> Result<Formula, CaseFault> {
+    match word {
+        "priority" => Ok(Formula::Priority),
+        "cancelled" => Ok(Formula::Cancelled),
+        _ => read_of(word),
+    }
+}
+
+// What is read of a variable, a local or a field, or a number.
+fn read_of(word: &str) -> Result<Formula, CaseFault> {
+    if let Some(place) = word.strip_prefix('v') {
+        return Ok(Formula::Variable(number(place)?));
+    }
+    if let Some(local) = word.strip_prefix('l') {
+        return local_of(local);
+    }
+    match word.strip_prefix('f') {
+        Some(field) => field_of(field),
+        None => Ok(Formula::Number(value_of(word)?)),
+    }
+}
+
+// A local with its default, `N=VALUE`.
+fn local_of(text: &str) -> Result<Formula, CaseFault> {
+    match text.split_once('=') {
+        Some((local, default)) => Ok(Formula::Local(LocalId(number(local)?), value_of(default)?)),
+        None => Err(CaseFault::Form),
+    }
+}
+
+// A field of an actor, `A.N`.
+fn field_of(text: &str) -> Result<Formula, CaseFault> {
+    match text.split_once('.') {
+        Some((actor, field)) => Ok(Formula::Field(FieldPlace {
+            actor: number(actor)?,
+            field: number(field)?,
+        })),
+        None => Err(CaseFault::Form),
+    }
+}
+
+// What a word makes of the formulas before it.
+fn push(alloc: Global, formulas: &mut Vec<Formula>, word: &str) -> Result<(), CaseFault> {
+    let made = match operator_of(word) {
+        Some(operator) => {
+            let (Some(right), Some(left)) = (formulas.pop(), formulas.pop()) else {
+                return Err(CaseFault::Form);
+            };
+            Formula::Binary(operator, Box::new(alloc, left)?, Box::new(alloc, right)?)
+        }
+        None => leaf(word)?,
+    };
+    formulas.push(made)?;
+    Ok(())
+}
+
+// The same for operators of one operand.
+fn push_word(alloc: Global, formulas: &mut Vec<Formula>, word: &str) -> Result<(), CaseFault> {
+    if word != "neg" && word != "not" {
+        return push(alloc, formulas, word);
+    }
+    let Some(operand) = formulas.pop() else {
+        return Err(CaseFault::Form);
+    };
+    let operand = Box::new(alloc, operand)?;
+    formulas.push(if word == "neg" {
+        Formula::Negate(operand)
+    } else {
+        Formula::Not(operand)
+    })?;
+    Ok(())
+}
+
+// The formula of these words.
+fn formula_of(alloc: Global, words: &[&str]) -> Result<Formula, CaseFault> {
+    let mut formulas = Vec::new(alloc);
+    for word in words {
+        push_word(alloc, &mut formulas, word)?;
+    }
+    formulas.pop().ok_or(CaseFault::Form)
+}
+
+fn valued(alloc: Global, words: &[&str]) -> Result<String, CaseFault> {
+    let formula = formula_of(alloc, words)?;
+    let seen = seen(alloc, &formula)?;
+    Ok(shown(alloc, seen)?)
+}
+
+fn shown(alloc: Global, seen: Option<i64>) -> Result<String, AllocError> {
+    match seen {
+        Some(value) => format!(in alloc; "{value}"),
+        None => String::from_str(alloc, "overflow"),
+    }
+}
+
+// The end, a place for the test, and the body.
+fn while_code(alloc: Global) -> Result<Vec<Instruction>, AllocError> {
+    let mut lines = Vec::new(alloc);
+    push_instruction(&mut lines, Act::End, 0, 0)?;
+    push_instruction(&mut lines, Act::End, 0, 0)?;
+    push_instruction(&mut lines, Act::Yield, 1, 1)?;
+    if lines.len() == 3 {
+        link(&mut lines, 1, Act::Test(Formula::Number(1)), 2, 0);
+        renumber(&mut lines, 1);
+    }
+    Ok(lines)
+}
+
+// The followers of each instruction.
+fn while_loop(alloc: Global) -> Result<String, AllocError> {
+    let lines = while_code(alloc)?;
+    let mut followers = Vec::new(alloc);
+    for line in &lines {
+        followers.push((line.next, line.other))?;
+    }
+    written_code_counts();
+    written_code_implements();
+    written_code_joins();
+    format!(in alloc; "{followers:?}")
+}
+
+impl Part for FormulasPart {
+    fn answer(&mut self, alloc: Global, words: &[&str]) -> Result<String, CaseFault> {
+        match words {
+            ["value", formula @ ..] => valued(alloc, formula),
+            ["while"] => Ok(while_loop(alloc)?),
+            ["no_invariant_holds"] => {
+                let is_so = holds(alloc, None, &[]);
+                Ok(format!(in alloc; "{is_so}")?)
+            }
+            _ => Err(CaseFault::Form),
+        }
+    }
+}

@@ -1,0 +1,339 @@
+//! Inboxes of the executors of one script, with two passes `a` and `b`: `PASS put ROOT NUMBER` for the turn of that number of
+//! a root's task, and `PASS take`. The first line of a case is the number of the executor and the room; at the end the
+//! inbox is drained. The line `two threads COUNT` has two threads that each put and take so many jobs.
+
+ghost use Rattle.std.specs.Prelude.{◌≡◌, IfOk};
+ghost use Rattle.std.specs.Arc.{arc_value};
+ghost use Rattle.swift_turn.specs.Body.{IsRunning};
+ghost use Rattle.swift_inbox.specs.Inbox.{IsPassOf, new_pass};
+ghost use Rattle.swift_inbox.specs.Site.{CanRunAt};
+
+use crate::fault::CaseFault;
+use crate::parts::words::{number, size};
+use std::alloc::{AllocError, Global};
+use std::io::Write;
+use std::sync::{Arc, Wait};
+use std::thread;
+use std::thread::Threads;
+use swift_inbox::{ExecutorSite, Inbox, Pass};
+use swift_locals::Bindings;
+use swift_queue::Job;
+use swift_script::{Script, read};
+use swift_turn::Body;
+use swift_types::{ExecId, Resume, RootId, TaskId};
+
+// Roots 0 and 1 begin on executor 0, and root 2 on executor 1.
+const TEXT: &str = "executor Desk fifo;
+actor Clerk on Desk { func file(n) { return n; } }
+actor Guest { func call(n) { return n; } }
+root first = Clerk.file(1);
+root second = Clerk.file(2);
+root third = Guest.call(3);
+";
+
+// The body of a root's task that has not begun.
+fn body(alloc: Global, script: &Arc<Script>, root: RootId) -> Result<Body, CaseFault>
+    ensures script { IfOk result (λ b. b.script ≡ arc_value script.now) }
+    ensures running { IfOk result IsRunning }
+{
+    let method = script.root_method(root);
+    if method.0 as usize >= script.method_count() {
+        return Err(CaseFault::Form);
+    }
+    let args = script.root_args(root).to_vec(alloc)?;
+    let shared = Arc::clone(script)?;
+    Ok(Body::start(alloc, shared, method, args, Bindings::new(alloc))?)
+}
+
+// A turn of a root's task, whatever its number, as if it were the first.
+fn job(
+    alloc: Global,
+    site: &ExecutorSite,
+    root: RootId,
+    number: u32,
+) -> Result<Job<Body>, CaseFault>
+    ensures script { IfOk result (λ j. j.body.script ≡ site.now.script) }
+    ensures running { IfOk result (λ j. IsRunning j.body) }
+{
+    let body = body(alloc, site.script(), root)?;
+    Ok(Job::new(TaskId(root.0), number, Resume::Start, body))
+}
+
+// The task and the number of a job, which is spent.
+fn told(job: Job<Body>) -> (u32, u32) {
+    let (task, number, _resume, _body) = job.spend();
+    (task.0, number)
+}
+
+// Puts a job in, where it can run at the inbox's executor.
+fn put<R: Wait>(
+    rt: &R,
+    alloc: Global,
+    inbox: &Inbox,
+    pass: &mut Pass,
+    root: RootId,
+    number: u32,
+) -> Result<&'static str, CaseFault>
+    requires { IsPassOf inbox.now pass.old }
+    ensures { IsPassOf inbox.now pass.new }
+{
+    let made = job(alloc, inbox.site(), root, number)?;
+    if !inbox.site().can_run(&made) {
+        told(made);
+        return Ok("another executor");
+    }
+    match inbox.put(rt, pass, made) {
+        Ok(()) => Ok("ok"),
+        Err(back) => {
+            let is_same = told(back) == (root.0, number);
+            Ok(if is_same {
+                "full"
+            } else {
+                "full, and another job came back"
+            })
+        }
+    }
+}
+
+// What a call on one pass answers.
+fn answer<R: Wait>(
+    rt: &R,
+    alloc: Global,
+    inbox: &Inbox,
+    pass: &mut Pass,
+    words: &[&str],
+) -> Result<String, CaseFault>
+    requires { IsPassOf inbox.now pass.old }
+    ensures { IsPassOf inbox.now pass.new }
+{
+    match *words {
+        ["put", root, turn] => {
+            let (root, turn) = (RootId(number(root)?), number(turn)?);
+            let answer = put(rt, alloc, inbox, pass, root, turn)?;
+            Ok(String::from_str(alloc, answer)?)
+        }
+        ["take"] => Ok(shown(alloc, inbox.take(rt, pass))?),
+        _ => Err(CaseFault::Form),
+    }
+}
+
+// What was taken, which is spent.
+fn shown(alloc: Global, taken: Option<Job<Body>>) -> Result<String, AllocError> {
+    match taken {
+        None => String::from_str(alloc, "none"),
+        Some(job) => {
+            let (task, number) = told(job);
+            format!(in alloc; "task {task} turn {number}")
+        }
+    }
+}
+
+// What a call of a line answers, by the pass that it names.
+fn answer_by<R: Wait>(
+    rt: &R,
+    alloc: Global,
+    inbox: &Inbox,
+    a: &mut Pass,
+    b: &mut Pass,
+    line: &str,
+) -> Result<String, CaseFault>
+    requires a { IsPassOf inbox.now a.old }
+    requires b { IsPassOf inbox.now b.old }
+    ensures a { IsPassOf inbox.now a.new }
+    ensures b { IsPassOf inbox.now b.new }
+{
+    let words: Vec<&str> = line.split(' ').collect(alloc)?;
+    match *words {
+        ["a", ref call @ ..] => answer(rt, alloc, inbox, a, call),
+        ["b", ref call @ ..] => answer(rt, alloc, inbox, b, call),
+        _ => Err(CaseFault::Form),
+    }
+}
+
+// Makes the calls of a case by two passes.
+fn calls<R: Wait>(
+    rt: &R,
+    alloc: Global,
+    inbox: &Inbox,
+    mut a: Pass,
+    lines: &str,
+    out: &mut Vec<u8>,
+) -> Result<(), CaseFault>
+    requires { IsPassOf inbox.now a }
+{
+    let mut b = a.split(inbox);
+    for line in lines.split('\n') {
+        let answer = answer_by(rt, alloc, inbox, &mut a, &mut b, line)?;
+        writeln!(out, "{answer}")?;
+    }
+    Ok(())
+}
+
+// What is inside, the oldest first.
+fn drained<R: Wait>(rt: &R, alloc: Global, inbox: Inbox) -> Result<Vec<(u32, u32)>, CaseFault> {
+    let room = inbox.room();
+    let mut seen = Vec::with_capacity(alloc, room)?;
+    let list = Vec::with_capacity(alloc, room)?;
+    let (mut list, _pass) = inbox.drain(rt, list);
+    while let Some(job) = list.pop() {
+        let _ = seen.push(told(job));
+    }
+    list.destroy_empty();
+    seen.reverse();
+    Ok(seen)
+}
+
+// An inbox of an executor of the script.
+fn inbox_of(alloc: Global, executor: ExecId, room: usize) -> Result<(Inbox, Pass), CaseFault>
+    ensures { IfOk result (λ r. r.1 ≡ new_pass r.0) }
+{
+    if room == 0 {
+        return Err(CaseFault::Form);
+    }
+    let Ok(script) = read(alloc, TEXT.as_bytes()) else {
+        return Err(CaseFault::Form);
+    };
+    let site = ExecutorSite::new(Arc::new(alloc, script)?, executor);
+    Ok(Inbox::new(alloc, site, room)?)
+}
+
+/// Makes an inbox and the calls of a case, and says what is left inside.
+pub fn play_inbox<R: Wait>(
+    rt: &R,
+    alloc: Global,
+    case: &str,
+    out: &mut Vec<u8>,
+) -> Result<(), CaseFault> {
+    let Some((head, lines)) = case.split_once('\n') else {
+        return Err(CaseFault::Form);
+    };
+    let Some((executor, room)) = head.split_once(' ') else {
+        return Err(CaseFault::Form);
+    };
+    let (inbox, pass) = inbox_of(alloc, ExecId(number(executor)?), size(room)?)?;
+    let called = calls(rt, alloc, &inbox, pass, lines, out);
+    let left = drained(rt, alloc, inbox)?;
+    called?;
+    tell_left(out, &left)
+}
+
+fn tell_left(out: &mut Vec<u8>, left: &[(u32, u32)]) -> Result<(), CaseFault> {
+    for (task, number) in left {
+        writeln!(out, "left: task {task} turn {number}")?;
+    }
+    Ok(())
+}
+
+// Puts a job in as soon as there is room.
+fn put_at_last<R: Wait>(rt: &R, inbox: &Inbox, pass: &mut Pass, job: Job<Body>)
+    requires pass { IsPassOf inbox.now pass.old }
+    requires job { CanRunAt inbox.now.site job }
+    ensures { IsPassOf inbox.now pass.new }
+{
+    let mut waiting = job;
+    for _ in rt.forever() {
+        match inbox.put(rt, pass, waiting) {
+            Ok(()) => return,
+            Err(back) => waiting = back,
+        }
+        thread::yield_now();
+    }
+    unreachable!()
+}
+
+// The number of the next job.
+fn take_at_last<R: Wait>(rt: &R, inbox: &Inbox, pass: &mut Pass) -> u32
+    requires { IsPassOf inbox.now pass.old }
+    ensures { IsPassOf inbox.now pass.new }
+{
+    for _ in rt.forever() {
+        if let Some(job) = inbox.take(rt, pass) {
+            return told(job).1;
+        }
+        thread::yield_now();
+    }
+    unreachable!()
+}
+
+// Puts jobs with these numbers in, and takes as many out. The sum of the numbers that came out.
+fn put_and_take<R: Wait>(
+    rt: &R,
+    alloc: Global,
+    inbox: &Inbox,
+    mut pass: Pass,
+    first: u32,
+    count: u32,
+) -> Result<u64, CaseFault>
+    requires { IsPassOf inbox.now pass }
+{
+    let mut sum = 0u64;
+    for place in 0..count {
+        let taken = put_and_take_one(rt, alloc, inbox, &mut pass, first.wrapping_add(place))?;
+        sum = sum.wrapping_add(taken as u64);
+    }
+    Ok(sum)
+}
+
+// Puts a job with this number in, and takes one out. Its number.
+fn put_and_take_one<R: Wait>(
+    rt: &R,
+    alloc: Global,
+    inbox: &Inbox,
+    pass: &mut Pass,
+    number: u32,
+) -> Result<u32, CaseFault>
+    requires { IsPassOf inbox.now pass.old }
+    ensures { IsPassOf inbox.now pass.new }
+{
+    let made = job(alloc, inbox.site(), RootId(0), number)?;
+    if !inbox.site().can_run(&made) {
+        told(made);
+        return Err(CaseFault::Form);
+    }
+    put_at_last(rt, inbox, pass, made);
+    Ok(take_at_last(rt, inbox, pass))
+}
+
+// Two threads put and take. The sums of the numbers that each took.
+fn by_two_threads<R: Threads + Wait + Sync>(
+    rt: &R,
+    alloc: Global,
+    inbox: &Inbox,
+    a: Pass,
+    b: Pass,
+    count: u32,
+) -> (Result<u64, CaseFault>, Result<u64, CaseFault>)
+    requires a { IsPassOf inbox.now a }
+    requires b { IsPassOf inbox.now b }
+{
+    thread::join(
+        rt,
+        move || -> Result<u64, CaseFault>
+            requires { IsPassOf inbox.now a }
+        { put_and_take(rt, alloc, inbox, a, 0, count) },
+        move || -> Result<u64, CaseFault>
+            requires { IsPassOf inbox.now b }
+        { put_and_take(rt, alloc, inbox, b, count, count) },
+    )
+}
+
+/// Two threads that put and take, by an inbox with this room: whether each job came out once, as far as the sum of their
+/// numbers says.
+pub fn play_threads<R: Threads + Wait + Sync>(
+    rt: &R,
+    alloc: Global,
+    case: &str,
+    out: &mut Vec<u8>,
+) -> Result<(), CaseFault> {
+    let Some((room, count)) = case.split_once(' ') else {
+        return Err(CaseFault::Form);
+    };
+    let count = number(count)?;
+    let (inbox, mut a) = inbox_of(alloc, ExecId(0), size(room)?)?;
+    let b = a.split(&inbox);
+    let (one, other) = by_two_threads(rt, alloc, &inbox, a, b, count);
+    let left = drained(rt, alloc, inbox)?.len();
+    let sum = one?.wrapping_add(other?);
+    writeln!(out, "sum {sum}, {left} left")?;
+    Ok(())
+}

@@ -1,0 +1,65 @@
+//! Jobs that were given, and jobs that were not.
+
+ghost use Rattle.std.specs.Prelude.{◌<◌, IfSome, length};
+
+use crate::fault::CaseFault;
+use crate::jobs::spend;
+use crate::parts::scripts::Scripts;
+use crate::parts::words::{number, resume_of};
+use std::alloc::AllocFailed;
+use swift_queue::Job;
+use swift_turn::Body;
+use swift_types::TaskId;
+
+/// The place of the job of a task.
+pub fn place_of(jobs: &[Job<Body>], task: TaskId) -> Option<usize>
+    ensures { IfSome result (λ place. place < length jobs.now) }
+{
+    for (place, job) in jobs.iter().enumerate() {
+        if job.task() == task {
+            return Some(place);
+        }
+    }
+    None
+}
+
+/// Takes the job of a task out.
+pub fn take(jobs: &mut Vec<Job<Body>>, task: TaskId) -> Option<Job<Body>> {
+    let place = place_of(jobs, task)?;
+    Some(jobs.swap_remove(place))
+}
+
+/// Adds a job. Where there is no memory for its place, it is given up.
+pub fn keep(jobs: &mut Vec<Job<Body>>, job: Job<Body>) -> Result<(), CaseFault> {
+    match jobs.push(job) {
+        Ok(()) => Ok(()),
+        Err(AllocFailed { value }) => {
+            spend(value);
+            Err(CaseFault::Memory)
+        }
+    }
+}
+
+/// A job that was not given by a book, by the words after its task: `as NUMBER RESUME`, with `of WHICH` for one of another script.
+pub fn made(scripts: &Scripts, named: TaskId, how: &[&str]) -> Result<Job<Body>, CaseFault> {
+    match *how {
+        ["as", turn, ref resume @ .., "of", which] => {
+            made_of(scripts, named, turn, resume, Some(which))
+        }
+        ["as", turn, ref resume @ ..] => made_of(scripts, named, turn, resume, None),
+        _ => Err(CaseFault::Form),
+    }
+}
+
+fn made_of(
+    scripts: &Scripts,
+    named: TaskId,
+    turn: &str,
+    resume: &[&str],
+    which: Option<&str>,
+) -> Result<Job<Body>, CaseFault> {
+    let turn = number(turn)?;
+    let resume = resume_of(resume)?;
+    let body = scripts.body_of(which)?;
+    Ok(Job::new(named, turn, resume, body))
+}

@@ -1,0 +1,75 @@
+//! The first root that waits for itself or for a later one: `first_waiting` with an edge `FROM>TO` for each call of a
+//! method by another, a wait `METHOD@ROOT` for each wait of a method for a root, and the method of each root. There are
+//! four methods.
+
+use crate::fault::CaseFault;
+use crate::parts::calls::Part;
+use crate::parts::words::number;
+use script_waits::{Edge, Wait, first_waiting};
+use std::alloc::Global;
+
+/// How many methods there are.
+const METHODS: usize = 4;
+
+/// What knows nothing but the calls that are made of it.
+#[derive(Drop)]
+pub struct RootsPart;
+
+// The first root that waits for itself or for a later one, where each number of a method is one.
+fn first_of(
+    alloc: Global,
+    edges: &[Edge],
+    waits: &[Wait],
+    roots: &[u32],
+) -> Result<Option<usize>, CaseFault> {
+    let from = edges.iter().all(|e| (e.from as usize) < METHODS);
+    let to = edges.iter().all(|e| (e.to as usize) < METHODS);
+    let waiting = waits.iter().all(|w| (w.method as usize) < METHODS);
+    let starting = roots.iter().all(|m| (*m as usize) < METHODS);
+    if from && to && waiting && starting {
+        Ok(first_waiting(alloc, METHODS, edges, waits, roots)?)
+    } else {
+        Err(CaseFault::Form)
+    }
+}
+
+fn first_by_words(alloc: Global, words: &[&str]) -> Result<Option<usize>, CaseFault> {
+    let mut edges = Vec::new(alloc);
+    let mut waits = Vec::new(alloc);
+    let mut roots = Vec::new(alloc);
+    for word in words {
+        take(word, &mut edges, &mut waits, &mut roots)?;
+    }
+    first_of(alloc, &edges, &waits, &roots)
+}
+
+// Takes a word: an edge, a wait, or the method of a root.
+fn take(
+    word: &str,
+    edges: &mut Vec<Edge>,
+    waits: &mut Vec<Wait>,
+    roots: &mut Vec<u32>,
+) -> Result<(), CaseFault> {
+    if let Some((from, to)) = word.split_once('>') {
+        let (from, to) = (number(from)?, number(to)?);
+        edges.push(Edge { from, to })?;
+    } else if let Some((method, root)) = word.split_once('@') {
+        let (method, root) = (number(method)?, number(root)?);
+        waits.push(Wait { method, root })?;
+    } else {
+        roots.push(number(word)?)?;
+    }
+    Ok(())
+}
+
+impl Part for RootsPart {
+    fn answer(&mut self, alloc: Global, words: &[&str]) -> Result<String, CaseFault> {
+        match words {
+            ["first_waiting", rest @ ..] => match first_by_words(alloc, rest)? {
+                Some(place) => Ok(format!(in alloc; "root {place}")?),
+                None => Ok(String::from_str(alloc, "none")?),
+            },
+            _ => Err(CaseFault::Form),
+        }
+    }
+}

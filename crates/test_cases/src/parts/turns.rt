@@ -1,0 +1,61 @@
+//! A case of calls on a task, turn by turn.
+
+// What tasks and turns begin with, by words.
+mod begin;
+// Whole turns.
+mod play;
+// A task, and the calls on it.
+mod task;
+// What turns leave, as text.
+mod tell;
+
+use crate::fault::CaseFault;
+use crate::parts::calls::{PLAIN, Part, play};
+use crate::parts::turns::task::{Task, call, start};
+use std::alloc::{AllocGlobal, Global};
+use std::random::RandomSource;
+use std::sync::Arc;
+use swift_script::{Script, read};
+
+// A script, and the task that was started last.
+#[derive(Drop)]
+struct Turns<'a, R> {
+    rt: &'a R,
+    script: Arc<Script>,
+    task: Option<Task>,
+}
+
+impl<R: RandomSource + AllocGlobal> Part for Turns<'_, R> {
+    fn answer(&mut self, alloc: Global, words: &[&str]) -> Result<String, CaseFault> {
+        let mut text = String::new(alloc);
+        match *words {
+            ["start", name, ref opening @ ..] => {
+                self.task = start(alloc, &self.script, name, opening, &mut text)?;
+            }
+            _ => match &mut self.task {
+                Some(task) => call(self.rt, &self.script, task, words, &mut text)?,
+                None => text.push_str("not possible")?,
+            },
+        }
+        Ok(text)
+    }
+}
+
+/// Reads the script of a case, and makes its calls.
+pub fn play_turns<R: RandomSource + AllocGlobal>(
+    rt: &R,
+    case: &str,
+    out: &mut Vec<u8>,
+) -> Result<(), CaseFault> {
+    let Some((text, calls)) = case.split_once("\n--\n") else {
+        return Err(CaseFault::Form);
+    };
+    let alloc = rt.alloc();
+    let script = Arc::new(alloc, read(alloc, text.as_bytes())?)?;
+    let mut turns = Turns {
+        rt,
+        script,
+        task: None,
+    };
+    play(alloc, &mut turns, PLAIN, calls, out)
+}

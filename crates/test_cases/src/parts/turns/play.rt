@@ -1,0 +1,170 @@
+//! Whole turns.
+
+use crate::fault::CaseFault;
+use crate::parts::turns::begin::Turn;
+use crate::parts::turns::tell;
+use futures::Future;
+use futures::task::{Context, Doorbell, Solo};
+use script_code::Env;
+use std::alloc::{AllocError, AllocGlobal};
+use std::random::RandomSource;
+use swift_interpreter::{Effect, Exit};
+use swift_script::Script;
+use swift_turn::{Body, Step, run_turn};
+use swift_types::Resume;
+use swift_types::limits::TURNS;
+
+/// By which calls a turn is run.
+#[derive(Clone, Copy)]
+pub enum How {
+    /// By one call.
+    Whole,
+    /// By those that enter, poll and leave it.
+    Parts,
+}
+
+// What a turn leaves: the fields, its effects, and its exit.
+type Left = (Vec<Vec<i64>>, Vec<Effect>, Exit);
+
+/// One turn. None where it can't be run.
+pub fn run<R: RandomSource + AllocGlobal>(
+    rt: &R,
+    script: &Script,
+    body: &mut Body,
+    how: How,
+    begin: Turn,
+    out: &mut String,
+) -> Result<Option<Exit>, CaseFault> {
+    let solo = Solo::new(rt, Doorbell::spinning())?;
+    let mut cx = solo.begin();
+    let ran = one(script, &mut cx, body, how, begin, out);
+    cx.cancel();
+    match ran? {
+        Some((_fields, exit)) => Ok(Some(exit)),
+        None => Ok(None),
+    }
+}
+
+// One turn: the fields after it, and its exit. None where it can't be run. Where it is refused memory, it is run again on the fields
+// that come back.
+fn one(
+    script: &Script,
+    cx: &mut Context<'_>,
+    body: &mut Body,
+    how: How,
+    begin: Turn,
+    out: &mut String,
+) -> Result<Option<(Vec<Vec<i64>>, Exit)>, AllocError> {
+    let (resume, env) = (begin.resume, begin.env);
+    let ran = match ran(cx, body, how, begin.fields, resume, env) {
+        Err(fields) => ran(cx, body, how, fields, resume, env),
+        ran => ran,
+    };
+    match ran {
+        Ok(Some((fields, effects, exit))) => {
+            tell::left(out, script, &fields, &effects, &exit)?;
+            return Ok(Some((fields, exit)));
+        }
+        Ok(None) => out.push_str("not possible")?,
+        Err(_) => out.push_str("no memory")?,
+    }
+    Ok(None)
+}
+
+// What a turn leaves. None where it can't be run, and the fields where it is refused memory.
+fn ran(
+    cx: &mut Context<'_>,
+    body: &mut Body,
+    how: How,
+    fields: Vec<Vec<i64>>,
+    resume: Resume,
+    env: Env,
+) -> Result<Option<Left>, Vec<Vec<i64>>> {
+    if !body.is_running() {
+        return Ok(None);
+    }
+    match how {
+        How::Whole => match run_turn(body, cx, fields, resume, env) {
+            Ok(left) => Ok(Some(left)),
+            Err((fields, AllocError)) => Err(fields),
+        },
+        How::Parts => match body.enter(fields, resume, env) {
+            Ok(()) => polled(cx, body),
+            Err((fields, AllocError)) => Err(fields),
+        },
+    }
+}
+
+// The same of a turn that is entered.
+fn polled(cx: &mut Context<'_>, body: &mut Body) -> Result<Option<Left>, Vec<Vec<i64>>> {
+    let _ = body.poll(cx);
+    if !body.is_polled() {
+        return Ok(None);
+    }
+    match body.leave() {
+        Ok(left) => Ok(Some(left)),
+        Err((fields, AllocError)) => Err(fields),
+    }
+}
+
+/// Turns to the task's end, each a line, and then what comes next.
+pub fn play<R: RandomSource + AllocGlobal>(
+    rt: &R,
+    script: &Script,
+    body: &mut Body,
+    begin: Turn,
+    out: &mut String,
+) -> Result<(), CaseFault> {
+    let solo = Solo::new(rt, Doorbell::spinning())?;
+    let mut cx = solo.begin();
+    let played = turns(script, &mut cx, body, begin, out);
+    cx.cancel();
+    Ok(played?)
+}
+
+fn turns(
+    script: &Script,
+    cx: &mut Context<'_>,
+    body: &mut Body,
+    mut begin: Turn,
+    out: &mut String,
+) -> Result<(), AllocError> {
+    let env = begin.env;
+    for _ in 0..TURNS {
+        let Some((fields, exit)) = one(script, cx, body, How::Whole, begin, out)? else {
+            return Ok(());
+        };
+        let Some(resume) = after(body, &exit, out)? else {
+            return Ok(());
+        };
+        begin = Turn {
+            fields,
+            resume,
+            env,
+        };
+    }
+    Ok(())
+}
+
+// What the task's next turn begins with. Where none follows at once, writes what comes next.
+fn after(body: &mut Body, exit: &Exit, out: &mut String) -> Result<Option<Resume>, AllocError> {
+    out.push('\n')?;
+    match next(body, exit)? {
+        Some(Step::Run(_, resume)) => return Ok(Some(resume)),
+        Some(step) => tell::step(out, step)?,
+        None => out.push_str("not possible")?,
+    }
+    Ok(None)
+}
+
+// What comes next. None where the exit can't be followed.
+fn next(body: &mut Body, exit: &Exit) -> Result<Option<Step>, AllocError> {
+    if !body.is_running() || !body.can_advance(exit) {
+        return Ok(None);
+    }
+    match body.advance(exit) {
+        // Made again where it is refused memory.
+        Err(AllocError) => Ok(Some(body.advance(exit)?)),
+        Ok(step) => Ok(Some(step)),
+    }
+}

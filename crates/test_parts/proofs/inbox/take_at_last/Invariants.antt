@@ -1,6 +1,0 @@
-use Rattle.swift_inbox.specs.Inbox.{IsPassOf}
-use Rattle.test_parts.proofs.inbox.take_at_last.Given as goal
-
-abbrev pub invariant-loop : goal.invariant-loop
-invariant-loop g l =
-    (goal.iterator-loop g).can_next l.iterator' × (goal.iterator-loop g).is_finite l.iterator' × IsPassOf l.inbox l.pass
