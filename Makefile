@@ -42,9 +42,9 @@ examples: $(PROGRAM)
 		echo "$$script prints what it has to"; \
 	done
 
-# Runs cases of the test program once for each of their allocations, with that one refused.
+# Runs cases of the test program once for each allocation of a sample, with that one refused: make refusals EACH=each (all of them).
 refusals: $(CASES)
-	@tools/refusals.py
+	@tools/refusals.py $(EACH)
 
 # Whether what the documents link to is there.
 links:

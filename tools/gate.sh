@@ -6,7 +6,7 @@ edits=$(ls crates/*/must-fail/*.edit | wc -l)
 crates=$(ls -d crates/*/src | wc -l)
 cat <<TXT
 This proves $crates crates from nothing, tries $edits planted bugs that the prover has to refuse, runs all tests and
-programs, the examples, and cases of the test program once for each allocation that these make, with that one refused. It takes an
+programs, the examples, and cases of the test program once for each of a sample of their allocations, with that one refused. It takes an
 hour on four cores, more on fewer, and prints little until its end.
 TXT
 log=$(mktemp)

@@ -1,12 +1,12 @@
 #!/usr/bin/env python3
 """Runs cases of test_cases once for each of their allocations, with that one refused, and compares what they write.
 
-    tools/refusals.py
+    tools/refusals.py [each]
 
 The program is the one that rt has built (crates/test_cases/out/test_cases). It is given one case at a time, of those whose first
 lines the file crates/test_cases/refused has, and has to write what the file stdout has for it, with status 0: it makes each call again that was refused memory.
-The n-th run refuses the n-th allocation (tools/refuse.c, built by $CC or cc). Of a case with more than 2,000 allocations the first and the
-last 500 are refused, and of the others each 41st. Where an allocation is refused before the case is read, the program has to stop with
+The n-th run refuses the n-th allocation (tools/refuse.c, built by $CC or cc). Of a case with more than 300 allocations the first and the
+last 100 are refused, and of the others each 7th, or each 41st where there are more than 2,000; with the word `each`, every one. Where an allocation is refused before the case is read, the program has to stop with
 status 1 and nothing written. Status 0 where no run differs.
 """
 import concurrent.futures
@@ -20,8 +20,8 @@ NAME = "test_cases"
 SECONDS = 60
 # What is said of a run in which nothing was written.
 UNREAD = "nothing was written"
-# Of how many allocations each is refused; of more, so many at both ends, and one in so many between.
-ALL, ENDS, STEP = 2000, 500, 41
+# Of how many allocations each is refused; of more, so many at both ends, and one in so many between, of many one in more.
+ALL, ENDS, STEP, MANY, LONG_STEP = 300, 100, 7, 2000, 41
 
 
 def cases_of(path):
@@ -72,17 +72,18 @@ class Case:
                 most = middle
         return least
 
-    def numbers(self):
+    def numbers(self, is_each):
         """Which allocations are refused."""
         last = self.count()
-        if last <= ALL:
+        if is_each or last <= ALL:
             return range(1, last + 1)
-        return [*range(1, ENDS + 1), *range(ENDS + 1, last - ENDS + 1, STEP), *range(last - ENDS + 1, last + 1)]
+        step = STEP if last <= MANY else LONG_STEP
+        return [*range(1, ENDS + 1), *range(ENDS + 1, last - ENDS + 1, step), *range(last - ENDS + 1, last + 1)]
 
-    def refuse_each(self, workers):
+    def refuse_in_turn(self, is_each, workers):
         """Refuses its allocations in turn. How many were refused, how many of these before the case was read, and what was wrong."""
         refused, unread, wrong = 0, 0, []
-        numbers = self.numbers()
+        numbers = self.numbers(is_each)
         for number, (is_refused, fault) in zip(numbers, workers.map(self.run, numbers)):
             # The case is not read until each of these is granted.
             if fault == UNREAD and unread == number - 1:
@@ -93,7 +94,7 @@ class Case:
         return refused, unread, wrong
 
 
-def refuse_all(library, workers):
+def refuse_all(is_each, library, workers):
     """Refuses the allocations of the cases. Whether no run differs."""
     folder = os.path.join(TOP, "crates", NAME)
     with open(os.path.join(folder, "refused"), encoding="utf8") as file:
@@ -104,7 +105,7 @@ def refuse_all(library, workers):
     for first in firsts:
         if first not in known:
             sys.exit(f"{NAME} has no case {first}")
-        counts = Case(os.path.join(folder, "out", NAME), library, *known[first]).refuse_each(workers)
+        counts = Case(os.path.join(folder, "out", NAME), library, *known[first]).refuse_in_turn(is_each, workers)
         refused, unread, differ = refused + counts[0], unread + counts[1], differ + len(counts[2])
         if counts[0] <= counts[1]:
             differ += 1
@@ -116,14 +117,14 @@ def refuse_all(library, workers):
 
 
 def main():
-    if len(sys.argv) > 1:
+    if sys.argv[1:] not in ([], ["each"]):
         sys.exit(__doc__)
     with tempfile.TemporaryDirectory() as folder:
         library = os.path.join(folder, "refuse.so")
         source = os.path.join(TOP, "tools", "refuse.c")
         subprocess.run([os.environ.get("CC", "cc"), "-O2", "-Wall", "-Wextra", "-shared", "-fPIC", "-o", library, source], check=True)
         with concurrent.futures.ThreadPoolExecutor(os.cpu_count()) as workers:
-            is_well = refuse_all(library, workers)
+            is_well = refuse_all(len(sys.argv) > 1, library, workers)
     if not is_well:
         sys.exit(1)
 
