@@ -3,7 +3,7 @@
 use swift_types::Priority;
 
 /// What a turn reads of its task. It is fixed when the turn starts (our own).
-#[derive(Clone, Copy, Debug, PartialEq, Eq)]
+#[derive(Clone, Copy, PartialEq, Eq)]
 pub struct Env {
     /// The task's priority then (SE-0304).
     pub priority: Priority,

@@ -3,7 +3,7 @@
 use swift_types::{ActorId, LocalId, MethodId, Operator};
 
 /// A field of an actor, by numbers from 0.
-#[derive(Clone, Copy, PartialEq, Eq)]
+#[derive(Clone, Copy)]
 pub struct FieldPlace {
     /// The actor, among the actors of the executor that the frame runs on.
     pub actor: u32,

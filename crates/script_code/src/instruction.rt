@@ -4,7 +4,7 @@ use crate::formula::{Call, FieldPlace, Formula};
 use swift_types::{LocalId, Priority, RootId};
 
 /// Where a number is kept: in a variable of the frame, or in a field.
-#[derive(Clone, Copy, PartialEq, Eq)]
+#[derive(Clone, Copy)]
 pub enum Place {
     /// A variable, by its number within its method.
     Variable(u32),
@@ -35,7 +35,7 @@ impl Drop for Awaited {
 }
 
 /// What is cancelled (SE-0304).
-#[derive(Clone, Copy, PartialEq, Eq)]
+#[derive(Clone, Copy)]
 pub enum Cancelled {
     /// A root's task.
     Root(RootId),

@@ -5,7 +5,7 @@ use crate::statement::Stmt;
 use swift_types::Priority;
 
 /// In which order an executor takes its jobs, and by which worker it is run.
-#[derive(Clone, Copy, Debug, PartialEq, Eq)]
+#[derive(Clone, Copy)]
 pub enum ExecutorKind {
     /// `priority`: the greatest priority first, and of equal ones the oldest (SE-0306; the order among equals is our
     /// own).

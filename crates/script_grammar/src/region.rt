@@ -1,7 +1,7 @@
 //! Which parts of the grammar may stand where.
 
 /// Which atoms an expression may have.
-#[derive(Clone, Copy, PartialEq, Eq)]
+#[derive(Clone, Copy)]
 pub enum Atoms {
     /// All.
     Every,
@@ -10,7 +10,7 @@ pub enum Atoms {
 }
 
 /// Where a statement stands, as far as the grammar asks.
-#[derive(Clone, Copy, PartialEq, Eq)]
+#[derive(Clone, Copy)]
 pub enum Region {
     /// In a method, outside groups and other actors.
     Method,

@@ -6,7 +6,7 @@ ghost use Rattle.script_names.specs.declared.error.CheckError.TheVariants.{Memor
 use std::alloc::{AllocError, AllocFailed};
 
 /// What is wrong with a name where it stands (our own).
-#[derive(Clone, Copy, PartialEq, Eq)]
+#[derive(Clone, Copy)]
 pub enum NameErrorKind {
     /// The name is taken there.
     Twice,

@@ -1,7 +1,7 @@
 //! The keywords: the words that are no names.
 
 /// A word that has a meaning of its own and so is no name.
-#[derive(Clone, Copy, Debug, PartialEq, Eq)]
+#[derive(Clone, Copy)]
 pub enum Keyword {
     /// `actor`
     Actor,

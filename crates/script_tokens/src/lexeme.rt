@@ -9,7 +9,7 @@ use crate::token::{NameText, Token};
 use std::alloc::{AllocError, Global};
 
 /// A token as it is found. A name lies in the text that it is read from, so finding one needs no memory.
-#[derive(Clone, Copy, Debug)]
+#[derive(Clone, Copy)]
 pub(crate) enum Lexeme<'a> {
     /// A number from 0 to 9223372036854775807.
     Num(i64),

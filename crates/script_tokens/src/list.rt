@@ -9,7 +9,7 @@ use std::alloc::{AllocError, Global};
 
 /// What a text consists of, and on which line each token begins. Lines count from 1, by LF, and no further than
 /// 4294967295.
-#[derive(Debug, Drop)]
+#[derive(Drop)]
 pub struct Tokens {
     /// The tokens, in order.
     pub tokens: Vec<Token>,

@@ -1,7 +1,7 @@
 //! The marks of the language: its signs of one or two bytes.
 
 /// A sign of one or two bytes.
-#[derive(Clone, Copy, Debug, PartialEq, Eq)]
+#[derive(Clone, Copy)]
 pub enum Mark {
     /// `(`
     Open,

@@ -9,7 +9,7 @@ pub type NameText = SmallVec<u8, 16>;
 
 /// What stands between white space and comments. A name has a copy of its bytes, so a token outlives the text that it
 /// was read from.
-#[derive(Debug, Drop)]
+#[derive(Drop)]
 pub enum Token {
     /// A number from 0 to 9223372036854775807.
     Num(i64),

@@ -21,7 +21,7 @@ pub enum Origin {
 }
 
 /// The last job that was made for a task (our own).
-#[derive(Clone, Copy, PartialEq, Eq)]
+#[derive(Clone, Copy)]
 pub struct Given {
     /// The number of its turn.
     pub number: u32,
@@ -30,7 +30,7 @@ pub struct Given {
 }
 
 /// How far a task is with its last job (our own).
-#[derive(Clone, Copy, PartialEq, Eq)]
+#[derive(Clone, Copy)]
 pub enum Stage {
     /// The job was made.
     Given,
@@ -47,7 +47,7 @@ pub enum Stage {
 }
 
 /// What is known of a task by its own events: of each kind, what the last one says.
-#[derive(Clone, Copy, PartialEq, Eq)]
+#[derive(Clone, Copy)]
 pub struct Life {
     /// Where it comes from; none where it was not made yet.
     pub origin: Option<Origin>,

@@ -5,7 +5,7 @@ use swift_types::{ExecId, TaskId};
 /// A moment of a run, at an executor (our own). `Exec::run_one` tells those of a visit, in the order of this list, each with the
 /// executor and the worker that visits it. Of a visit that is refused `Ended` is still told, and `Turned` is not; of one that finds the
 /// executor busy, `Took` alone. `Exec::enqueue` tells the last two, of a job that is sent by whatever thread.
-#[derive(Clone, Copy, Debug, PartialEq, Eq)]
+#[derive(Clone, Copy)]
 pub enum Moment {
     /// The worker may run the executor, and is about to ask for its state. In a run it has just taken the executor's token.
     Took(ExecId, u32),
@@ -33,7 +33,7 @@ pub trait Gate {
 }
 
 /// The gate that does nothing.
-#[derive(Clone, Copy, Debug)]
+#[derive(Clone, Copy)]
 pub struct Open;
 
 impl Gate for Open {

@@ -3,7 +3,7 @@
 use swift_types::{Ending, TaskId};
 
 /// The number of a group: how many groups were opened before it.
-#[derive(Clone, Copy, Debug, PartialEq, Eq)]
+#[derive(Clone, Copy)]
 pub struct GroupId(pub usize);
 
 /// What a wait for the next result of a group gives (SE-0304).

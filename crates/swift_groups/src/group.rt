@@ -11,7 +11,7 @@ use std::collections::HashMap;
 use swift_types::{Ending, TaskId};
 
 /// How far a group is. No call takes or gives one: contracts speak of it.
-#[derive(Clone, Copy, Debug, PartialEq, Eq)]
+#[derive(Clone, Copy)]
 pub enum Stage {
     /// It takes children and hands out results.
     Open,

@@ -7,7 +7,7 @@ use std::marker::Model;
 use swift_types::LocalId;
 
 /// A binding, and the place of the next outer binding of the same local.
-#[derive(Clone, Copy, Debug)]
+#[derive(Clone, Copy)]
 struct Entry {
     local: LocalId,
     value: i64,

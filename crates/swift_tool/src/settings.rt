@@ -1,7 +1,7 @@
 //! How a script is run.
 
 /// How a script is run (our own).
-#[derive(Clone, Copy, Debug, PartialEq, Eq)]
+#[derive(Clone, Copy)]
 pub struct Options {
     /// On how many threads: 1 to 8 where `options` made it.
     pub workers: u32,

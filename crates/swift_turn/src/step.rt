@@ -3,7 +3,7 @@
 use swift_types::{ActorId, Ending, Resume};
 
 /// What comes after a turn, as `Body::advance` says (our own).
-#[derive(Clone, Copy, PartialEq, Eq)]
+#[derive(Clone, Copy)]
 pub enum Step {
     /// The next turn runs for this actor, and begins with this.
     Run(ActorId, Resume),

@@ -26,7 +26,7 @@ pub enum RunFault {
 }
 
 // Why a run was given up.
-#[derive(Clone, Copy, Debug, PartialEq, Eq)]
+#[derive(Clone, Copy)]
 pub enum Halt {
     Memory,
     Unfinished,

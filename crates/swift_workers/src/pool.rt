@@ -19,7 +19,7 @@ pub struct Pool {
 }
 
 /// What a worker does next.
-#[derive(Clone, Copy, Debug, PartialEq, Eq)]
+#[derive(Clone, Copy)]
 pub enum Next {
     /// It visits this executor, whose token it has taken.
     Visit(ExecId),
