@@ -110,6 +110,10 @@ module _ (edges : List Edge) (waits : List Wait) (roots : List ℕ) (methods : �
     ],
   )
 
+  pub first_waits : (p : ℕ) (first : Option ℕ) → IsFirstFrom edges waits roots p first → IfSome first (WaitsForLater edges waits roots)
+  first_waits p None f = tt
+  first_waits p (Some at) f = f.0
+
   pub first_is_first : (p : ℕ) (first : Option ℕ) → p ≡ 0 → IsFirstFrom edges waits roots p first → IfSome first (NoneBefore edges waits roots)
   first_is_first p None e f = tt
   first_is_first p (Some at) e f = λ q l r. f.1 q (omega arith) l r

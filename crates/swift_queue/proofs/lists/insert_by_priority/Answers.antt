@@ -37,3 +37,11 @@ returns-clause-lists g c =
       each = each_set (λ (j : ℕ) (l : VecDeque (Waiting g.row.B.Denot) Global). IsList room j l) lists k new
           (insert_list room k (get_or lists k d) new c.args.waiting (h.each k d lt) (sym c.number-level.ensures) c.insert_by_arrival.ensures.by_arrival c.insert_by_arrival.ensures.jobs c.insert_by_arrival.ensures.capacity) h.each;
     }
+
+pub insert_by_arrival-requires-clause-by_arrival : goal.insert_by_arrival-requires-clause-by_arrival
+insert_by_arrival-requires-clause-by_arrival g c =
+    let lists = c.args.lists.now in
+    let k = c.number-level.result in
+    let four = c.requires.lists.1.four in
+    let lt : k < length lists = omega (arith, four, c.number-level.ensures, rank_few c.args.waiting.priority) in
+    (c.requires.lists.1.each k c.index-lists-level.result lt).by_arrival

@@ -1,4 +1,5 @@
-use Rattle.std.proofs.Common.{rules}
+use Rattle.std.proofs.Common.{ap, arith, length, rules}
+use Rattle.std.proofs.lemmas.Result.{IfOk-from_err}
 use Rattle.swift_queue.proofs.ListsJustMade.{new_lists, new_lists_empty}
 use Rattle.swift_queue.proofs.lists.Lists.with_room.Goals as goal
 
@@ -15,3 +16,15 @@ of-requires g c =
         ),
       ),
     )
+
+pub returns-in_err-background : goal.returns-in_err-background
+returns-in_err-background g c = IfOk-from_err c.from_residual.result _ c.from_residual.ensures.0
+
+pub destroy_empty-requires : goal.destroy_empty-requires
+destroy_empty-requires g c = omega (arith, c.in_ok-background.background.ok, ap length c.in_ok-background.ensures.empty.0)
+
+pub destroy_empty-requires-in-Err : goal.destroy_empty-requires-in-Err
+destroy_empty-requires-in-Err g c = omega (arith, c.in_ok-background.low.ok, ap length c.in_ok-background.ensures.empty.1)
+
+pub returns-in-Ok : goal.returns-in-Ok
+returns-in-Ok g c = c.of.ensures
