@@ -3,11 +3,12 @@
 
     tools/refusals.py [each]
 
-The program is the one that rt has built (crates/test_cases/out/test_cases). It is given one case at a time, of those whose first
-lines the file crates/test_cases/refused has, and has to write what the file stdout has for it, with status 0: it makes each call again that was refused memory.
-The n-th run refuses the n-th allocation (tools/refuse.c, built by $CC or cc). Of a case with more than 300 allocations the first and the
-last 100 are refused, and of the others each 7th, or each 41st where there are more than 2,000; with the word `each`, every one. Where an allocation is refused before the case is read, the program has to stop with
-status 1 and nothing written. Status 0 where no run differs.
+The program is the one that rt has built (crates/test_cases/out/test_cases). It is given one case at a time, of those whose first lines
+the file crates/test_cases/refused has, and has to write what the file stdout has for it, with status 0: it makes each call again that
+was refused memory. The n-th run refuses the n-th allocation (tools/refuse.c, built by $CC or cc). Of a case with more than 300
+allocations the first and the last 100 are refused, and of the others each 7th, or each 41st where there are more than 2,000; with the
+word `each`, every one. Where an allocation is refused before the case is read, the program has to stop with status 1 and nothing written.
+Status 0 where no run differs.
 """
 import concurrent.futures
 import os
