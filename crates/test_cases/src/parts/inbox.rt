@@ -190,9 +190,7 @@ fn inbox_of(alloc: Global, executor: ExecId, room: usize) -> Result<(Inbox, Pass
     if room == 0 {
         return Err(CaseFault::Form);
     }
-    let Ok(script) = read(alloc, TEXT.as_bytes()) else {
-        return Err(CaseFault::Form);
-    };
+    let script = read(alloc, TEXT.as_bytes())?;
     let site = ExecutorSite::new(Arc::new(alloc, script)?, executor);
     Ok(Inbox::new(alloc, site, room)?)
 }
