@@ -145,6 +145,6 @@ pub fn play_queue(alloc: Global, case: &str, out: &mut Vec<u8>) -> Result<(), Ca
     };
     let played = play(alloc, &mut queue, PLAIN, calls, out);
     let left = empty(queue);
-    writeln!(out, "{left} left")?;
-    played
+    played?;
+    Ok(writeln!(out, "{left} left")?)
 }
