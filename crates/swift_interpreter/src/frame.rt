@@ -1,7 +1,7 @@
 //! A method that is under way.
 
 ghost use Rattle.std.specs.Prelude.{◌≡◌, OnOk};
-ghost use Rattle.swift_interpreter.specs.Frames.{frame_view};
+ghost use Rattle.swift_interpreter.specs.Frames.{blank_frame, frame_view};
 
 use crate::saved::copy_into;
 use script_code::Binding;
@@ -52,7 +52,9 @@ impl Drop for Frame {
 
 impl Frame {
     /// A frame whose buffers hold nothing, to be overwritten. It takes no memory.
-    pub fn new(alloc: Global) -> Self {
+    pub fn new(alloc: Global) -> Self
+        ensures { frame_view result ≡ blank_frame }
+    {
         Frame {
             method: MethodId(0),
             line: 0,

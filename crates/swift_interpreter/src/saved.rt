@@ -76,7 +76,8 @@ impl SavedRows {
 
     /// Puts all rows back, the newest first, and forgets them.
     pub fn put_back(&mut self, fields: &mut [Vec<i64>])
-        ensures { rows_of fields.new ≡ restored self.old (rows_of fields.old) }
+        ensures fields { rows_of fields.new ≡ restored self.old (rows_of fields.old) }
+        ensures forgotten { self.new ≡ [] }
     {
         while !self.is_empty() {
             self.pop(fields);

@@ -1,7 +1,7 @@
 //! Undoing a turn.
 
-ghost use Rattle.std.specs.Prelude.{◌≡◌, [], OnOk};
-ghost use Rattle.swift_interpreter.specs.Frames.{frame_view, state_in};
+ghost use Rattle.std.specs.Prelude.{◌≡◌, ◌≤◌, [], OnOk, vec_capacity, vec_len};
+ghost use Rattle.swift_interpreter.specs.Frames.{blank_frame, frame_view, state_in};
 ghost use Rattle.swift_interpreter.specs.TurnStates.{fields_before, state_of};
 ghost use Rattle.script_code.specs.Seen.{rows_of};
 
@@ -26,7 +26,10 @@ impl Drop for Undo {
 
 impl Undo {
     /// Nothing to undo. It takes no memory.
-    pub fn new(alloc: Global) -> Self {
+    pub fn new(alloc: Global) -> Self
+        ensures frame { frame_view result.frame ≡ blank_frame }
+        ensures saved { result.saved ≡ [] }
+    {
         Undo {
             frame: Frame::new(alloc),
             saved: SavedRows::new(alloc),
@@ -35,7 +38,13 @@ impl Undo {
 
     /// Makes room for a copy of a frame, so that a turn of it takes no memory for that. An error says that a growth was
     /// refused. It may be called between turns only.
-    pub fn make_room(&mut self, frame: &Frame) -> Result<(), AllocError> {
+    pub fn make_room(&mut self, frame: &Frame) -> Result<(), AllocError>
+        ensures variables { OnOk result (vec_len frame.now.variables ≤ vec_capacity self.new.frame.variables) }
+        ensures handles { OnOk result (vec_len frame.now.handles ≤ vec_capacity self.new.frame.handles) }
+        ensures own { OnOk result (vec_len frame.now.own ≤ vec_capacity self.new.frame.own) }
+        ensures groups { OnOk result (vec_len frame.now.groups ≤ vec_capacity self.new.frame.groups) }
+        ensures saved { self.new.saved ≡ self.old.saved }
+    {
         self.frame.variables.clear();
         self.frame.variables.reserve(frame.variables.len())?;
         self.frame.handles.clear();
