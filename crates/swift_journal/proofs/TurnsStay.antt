@@ -19,8 +19,8 @@ turns_same {V = V} span read (h ∷ hs) n m ws ws' es es' laid w e =
     let s = span h in
     let fits = laid.0 in let fits' = laid.1 in
     let old = map (read_at span read ws es) hs in
-    ap (λ (x : List ℤ). read h x (take s.effects (drop s.first_effect es)) ∷ old) (part_same n s.start s.size ws ws' laid.0 w)
-    ∙ ap (λ (x : List StoredEffect). read h (take s.size (drop s.start ws')) x ∷ old) (part_same m s.first_effect s.effects es es' laid.1 e)
+    ap (λ (x : List ℤ). read h x (take s.effects (drop s.first_effect es)) ∷ old) (part_same n s.start s.size ws ws' (omega (arith, fits)) w)
+    ∙ ap (λ (x : List StoredEffect). read h (take s.size (drop s.start ws')) x ∷ old) (part_same m s.first_effect s.effects es es' (omega (arith, fits')) e)
     ∙ ap (λ (x : List V). read_at span read ws' es' h ∷ x)
     (turns_same span read hs s.start s.first_effect ws ws' es es' laid.2 (take_less s.start n ws ws' (omega (arith, fits)) w) (take_less s.first_effect m es es' (omega (arith, fits')) e))
 

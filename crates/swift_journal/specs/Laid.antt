@@ -1,5 +1,5 @@
 -- Turns whose words and effects are laid one after another in two lists. Only proofs use these.
-use Rattle.std.specs.Prelude.{ℕ, ℤ, ◌+◌, ◌≤◌, List, [], ◌∷◌, take, drop}
+use Rattle.std.specs.Prelude.{◌≡◌, ℕ, ℤ, ◌+◌, List, [], ◌∷◌, take, drop}
 use Rattle.swift_journal.specs.declared.stored.StoredEffect.{StoredEffect}
 
 -- where the words and the effects of a turn stand
@@ -13,8 +13,9 @@ pub record Span : Type 0 where
 abbrev pub read_at : {H V : Type 0} → (H → Span) → (H → List ℤ → List StoredEffect → V) → List ℤ → List StoredEffect → H → V
 read_at span read words effects h = read h (take (span h).size (drop (span h).start words)) (take (span h).effects (drop (span h).first_effect effects))
 
--- With the newest turn first: each has its words and its effects before those of the next.
+-- With the newest turn first: the words and the effects of each end where those of the next begin, those of the newest are the last,
+-- and there are no others.
 abbrev pub AreLaid : {H : Type 0} → (H → Span) → List H → ℕ → ℕ → Type 0
-AreLaid span [] words effects = Unit {0}
+AreLaid span [] words effects = (words ≡ 0) × (effects ≡ 0)
 AreLaid span (h ∷ older) words effects =
-    ((span h).start + (span h).size ≤ words) × ((span h).first_effect + (span h).effects ≤ effects) × AreLaid span older (span h).start (span h).first_effect
+    ((span h).start + (span h).size ≡ words) × ((span h).first_effect + (span h).effects ≡ effects) × AreLaid span older (span h).start (span h).first_effect
