@@ -103,3 +103,7 @@ take_next xs n x is = ap (λ k. take k xs) (one_more n) ∙ take_suc xs n x is
 pub last_hand : (execs : List ExecIs) (hands : List Hand) (h : Hand) → AreHandsOf execs (hands ++ h ∷ []) → AreDesksOf execs h.desks.items
 last_hand execs [] h are = are.0
 last_hand execs (x ∷ xs) h are = last_hand execs xs h are.1
+
+pub hand_push : (execs : List ExecIs) (hands : List Hand) (h : Hand) → AreHandsOf execs hands → AreDesksOf execs h.desks.items → AreHandsOf execs (hands ++ h ∷ [])
+hand_push execs [] h are is = (is, tt)
+hand_push execs (x ∷ xs) h are is = (are.0, hand_push execs xs h are.1 is)

@@ -1,3 +1,4 @@
 pub mod Crew
 pub mod Leaves
 pub mod PartsInside
+pub mod Pools

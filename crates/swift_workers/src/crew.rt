@@ -3,7 +3,7 @@
 ghost use Rattle.std.specs.Prelude.{◌≡◌, ◌<◌, IfOk, length};
 ghost use Rattle.std.specs.Arc.{arc_value};
 ghost use Rattle.swift_script.specs.Scripts.{executor_count};
-ghost use Rattle.swift_workers.specs.Crew.{AreAtSites, AreDesksOf, AreHandsOf};
+ghost use Rattle.swift_workers.specs.Crew.{AreAtSites, AreDesksOf, AreHandsOf, AreOthers};
 
 use crate::fault::Halt;
 use crate::pool::Pool;
@@ -79,6 +79,7 @@ pub fn others_of(
     requires { AreDesksOf execs.now first.old.items }
     ensures first { AreDesksOf execs.now first.new.items }
     ensures others { IfOk result (λ hands. AreHandsOf execs.now hands.items) }
+    ensures workers { IfOk result (λ hands. AreOthers workers hands.items) }
 {
     let mut hands = Vec::new(alloc);
     for worker in 1..workers {

@@ -1,6 +1,6 @@
 //! What a run leaves.
 
-ghost use Rattle.std.specs.Prelude.{◌≡◌, ◌↔◌, ℕ, ◌+◌, None, length, IfOk, IfSome, IsTrue, OnOk};
+ghost use Rattle.std.specs.Prelude.{◌≡◌, ◌↔◌, ℕ, ◌+◌, None, length, IfOk, IfSome, IsOk, IsTrue, OnOk};
 ghost use Rattle.swift_script.specs.Scripts.{ScriptView, root_count};
 ghost use Rattle.swift_events.specs.Events.{tasks_of};
 ghost use Rattle.swift_executor.specs.Exec.{site_of};
@@ -144,6 +144,7 @@ pub fn report_of<R: Wait>(
     played: Result<(), Halt>,
 ) -> Result<Report, Halt>
     requires sites { AreAtSites script.now execs.items }
+    ensures played { OnOk result (IsOk played) }
     ensures lawful { IfOk result (λ r. AreReplayed script.now 0 r.checkpoints.items r.journals.items r.fields.items) }
     ensures invariants { IfOk result (λ r. KeepInvariants script.now 0 r.fields.items) }
     ensures journals { IfOk result (λ r. length r.journals.items ≡ length execs.items) }

@@ -1,5 +1,12 @@
 //! The tokens of executors that have jobs.
 
+ghost use Rattle.std.specs.Prelude.{◌≡◌, ◌-◌, ◌++◌, ◌∷◌, [], Err, None, IsTrue, OnOk, OnErr};
+ghost use Rattle.swift_types.specs.declared.id.ExecId.{ExecId};
+ghost use Rattle.swift_script.specs.Scripts.{executor_kind};
+ghost use Rattle.swift_executor.specs.Exec.{may_run};
+ghost use Rattle.swift_workers.specs.declared.pool.Next.TheVariants.{Visit};
+ghost use Rattle.swift_workers.specs.Pools.{IsNext, first_cause};
+
 use crate::fault::Halt;
 use std::alloc::{AllocError, Global};
 use std::collections::VecDeque;
@@ -29,12 +36,19 @@ pub enum Next {
 }
 
 // Whether an executor is one that this worker may run.
-fn is_for(script: &Script, workers: u32, worker: u32, on: ExecId) -> bool {
+fn is_for(script: &Script, workers: u32, worker: u32, on: ExecId) -> bool
+    ensures { IsTrue result → IsTrue (may_run (executor_kind script.now on.0) workers worker) }
+{
     workers > 0 && may_run(script.executor_kind(on), workers, worker)
 }
 
 impl Pool {
-    pub fn new(alloc: Global) -> Pool {
+    /// No token, and no worker under way.
+    pub fn new(alloc: Global) -> Pool
+        ensures tokens { result.tokens.items ≡ [] }
+        ensures under_way { result.under_way ≡ 0 }
+        ensures halt { result.halt ≡ None }
+    {
         Pool {
             tokens: VecDeque::new(alloc),
             under_way: 0,
@@ -43,7 +57,11 @@ impl Pool {
     }
 
     /// Takes the oldest token that this worker may run.
-    pub fn next(&mut self, script: &Script, workers: u32, worker: u32) -> Next {
+    pub fn next(&mut self, script: &Script, workers: u32, worker: u32) -> Next
+        ensures next { IsNext self.old result self.new }
+        ensures mine { (on : ExecId) → result ≡ Visit on → IsTrue (may_run (executor_kind script.now on.0) workers worker) }
+        ensures halt { self.new.halt ≡ self.old.halt }
+    {
         if self.halt.is_some() {
             return Next::Stop;
         }
@@ -62,14 +80,23 @@ impl Pool {
         }
     }
 
-    /// Puts a token behind the others.
-    pub fn put(&mut self, on: ExecId) -> Result<(), AllocError> {
+    /// Puts a token behind the others. After an error there is none more.
+    pub fn put(&mut self, on: ExecId) -> Result<(), AllocError>
+        ensures ok { OnOk result (self.new.tokens.items ≡ self.old.tokens.items ++ on ∷ []) }
+        ensures err { OnErr result (self.new.tokens.items ≡ self.old.tokens.items) }
+        ensures under_way { self.new.under_way ≡ self.old.under_way }
+        ensures halt { self.new.halt ≡ self.old.halt }
+    {
         self.tokens.push_back(on)?;
         Ok(())
     }
 
     /// A worker has finished what followed from its token. Where it was refused, the run is given up.
-    pub fn finish(&mut self, done: Result<(), Halt>) {
+    pub fn finish(&mut self, done: Result<(), Halt>)
+        ensures tokens { self.new.tokens.items ≡ self.old.tokens.items }
+        ensures under_way { self.new.under_way ≡ self.old.under_way - 1 }
+        ensures halt { self.new.halt ≡ first_cause self.old.halt done }
+    {
         self.under_way = self.under_way.saturating_sub(1);
         if let Err(halt) = done {
             self.give_up(halt);
@@ -77,14 +104,20 @@ impl Pool {
     }
 
     /// The run is given up, for the first cause that is told.
-    pub fn give_up(&mut self, halt: Halt) {
+    pub fn give_up(&mut self, halt: Halt)
+        ensures tokens { self.new.tokens.items ≡ self.old.tokens.items }
+        ensures under_way { self.new.under_way ≡ self.old.under_way }
+        ensures halt { self.new.halt ≡ first_cause self.old.halt (Err halt) }
+    {
         if self.halt.is_none() {
             self.halt = Some(halt);
         }
     }
 
     /// Why the run was given up, if it was.
-    pub fn halt(&self) -> Option<Halt> {
+    pub fn halt(&self) -> Option<Halt>
+        ensures { result ≡ self.now.halt }
+    {
         self.halt
     }
 }

@@ -9,7 +9,7 @@ ghost use Rattle.swift_tasks.specs.Books.{IsJobOf};
 ghost use Rattle.swift_history.specs.Histories.{IsLegal};
 ghost use Rattle.swift_certificate.specs.Reports.{report_view};
 ghost use Rattle.swift_workers.specs.declared.fault.RunFault.TheVariants.{Workers};
-ghost use Rattle.swift_workers.specs.Crew.{AreAtSites, AreDesksOf, AreHandsOf};
+ghost use Rattle.swift_workers.specs.Crew.{AreAtSites, AreDesksOf, AreHandsOf, AreOthers};
 ghost use Rattle.swift_workers.specs.Leaves.{AreEndings, AreReplayed, KeepInvariants};
 
 use crate::crew::{Crew, Hand, open_all, others_of};
@@ -119,7 +119,9 @@ where
     G: Gate + Sync,
     requires sites { AreAtSites script.now execs.now }
     requires first { AreDesksOf execs.now first.desks.items }
+    requires worker { first.worker ≡ 0 }
     requires others { AreHandsOf execs.now others.items }
+    requires workers { AreOthers workers others.items }
     requires book { book.script ≡ script.now }
 {
     let mut jobs = Vec::new(alloc);
