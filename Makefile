@@ -35,10 +35,11 @@ prove:
 mutants:
 	@EDITS='$(EDITS)' tools/mutants.sh $(CRATES)
 
-# Runs each example, and compares what it prints with the text that stands beside it.
+# Runs each example, with the arguments that stand beside it, and compares what it prints with the text there.
 examples: $(PROGRAM)
 	@for script in examples/*.actors; do \
-		$(PROGRAM) < $$script | diff - $${script%.actors}.out || exit 1; \
+		given=$${script%.actors}.args; args=; [ ! -e $$given ] || args=$$(cat $$given); \
+		$(PROGRAM) $$args < $$script | diff - $${script%.actors}.out || exit 1; \
 		echo "$$script prints what it has to"; \
 	done
 
