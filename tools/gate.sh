@@ -7,12 +7,13 @@ crates=$(ls -d crates/*/src | wc -l)
 cat <<TXT
 This proves $crates crates from nothing, tries $edits planted bugs that the prover has to refuse, runs all tests and
 programs, the examples, and cases of the test program once for each of a sample of their allocations, with that one refused. It takes an
-hour on four cores, more on fewer, and prints little until its end.
+hour on two cores, and prints little until its end.
 TXT
 log=$(mktemp)
-# One core for each check, and four checks at once at most: on several cores a check takes more processor time (docs/DECISIONS.md).
+# One core for each check, and two checks at once at most: more cores or more checks take more processor time, and hardly less
+# of the clock's (docs/DECISIONS.md).
 cores=$(nproc)
-export RT_JOBS=${RT_JOBS:-$((cores < 4 ? cores : 4))}
+export RT_JOBS=${RT_JOBS:-$((cores < 2 ? cores : 2))}
 rt ci | tee "$log"
 status=${PIPESTATUS[0]}
 last=$(tail -n 1 "$log")
