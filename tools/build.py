@@ -4,9 +4,9 @@
     tools/build.py NAME [WORD..]
 
 It leaves crates/NAME/out/NAME. Where each crate has work of an earlier proof (out/incremental), they are proved over that, one
-after the other, and the program is run once with these words. Else `rt ci` proves them from nothing, each on one core, at most
-four at once, in a copy of what they need. What the prover writes goes to out/prove/. Status 0 where every crate is proved and the
-program is built.
+after the other, and the program is run once with these words. Else `rt ci` proves them from nothing, each on as many cores as are
+free, in a copy of what they need. What the prover writes goes to out/prove/. Status 0 where every crate is proved and the program is
+built.
 """
 import os
 import re
@@ -50,8 +50,7 @@ def from_nothing(name, names):
     path = os.path.join(LOGS, "ci.log")
     with tempfile.TemporaryDirectory(prefix="nuchapay-") as folder, open(path, "w", encoding="utf8") as log:
         copy_of(names, folder)
-        # One core for each check, as in tools/gate.sh.
-        with subprocess.Popen(["rt", "ci"], cwd=folder, env={"RT_JOBS": str(JOBS), **os.environ}, stdin=subprocess.DEVNULL, stdout=subprocess.PIPE, stderr=subprocess.STDOUT, text=True, errors="replace") as ran:
+        with subprocess.Popen(["rt", "ci"], cwd=folder, stdin=subprocess.DEVNULL, stdout=subprocess.PIPE, stderr=subprocess.STDOUT, text=True, errors="replace") as ran:
             for line in ran.stdout:
                 log.write(line)
                 ended = ENDED.match(line)
