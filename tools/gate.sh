@@ -7,7 +7,7 @@ crates=$(ls -d crates/*/src | wc -l)
 cat <<TXT
 This proves $crates crates from nothing, tries $edits planted bugs that the prover has to refuse, runs all tests and
 programs, the examples, and cases of the test program once for each of a sample of their allocations, with that one refused. It takes an
-hour on two cores, and prints little until its end.
+hour on four cores, two of which it uses at a time, more on fewer, and prints little until its end.
 TXT
 log=$(mktemp)
 # One core for each check, and two checks at once at most: more cores or more checks take more processor time, and hardly less
