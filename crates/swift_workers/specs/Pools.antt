@@ -1,5 +1,8 @@
 -- What the pool of tokens tells a worker, and why a run is given up (our own).
-use Rattle.std.specs.Prelude.{◌≡◌, ◌≢◌, ◌⊎◌, ◌+◌, Option, Some, None, Result, Ok, Err, Contains, length, min}
+use Rattle.std.specs.Prelude.{◌≡◌, ◌≢◌, ◌⊎◌, ◌+◌, ◌<◌, ◌++◌, ℕ, Option, Some, None, Result, Ok, Err, IsTrue, All, List, length, min, slice_get, take, drop}
+use Rattle.swift_types.specs.declared.id.ExecId.{ExecId}
+use Rattle.swift_script.specs.Scripts.{ScriptView, executor_kind}
+use Rattle.swift_executor.specs.Exec.{may_run}
 use Rattle.swift_workers.specs.declared.fault.Halt.{Halt}
 use Rattle.swift_workers.specs.declared.pool.Next.{Next}
 use Rattle.swift_workers.specs.declared.pool.Next.TheVariants.{Visit, Pause, Stop}
@@ -11,8 +14,26 @@ first_cause (Some halt) done = Some halt
 first_cause None (Ok u) = None
 first_cause None (Err halt) = Some halt
 
--- What a worker is told, and what is left. It stops where the run is given up, or where there is no token and no worker is under way.
-abbrev pub IsNext : Pool → Next → Pool → Type 0
-IsNext old (Visit on) new = (old.halt ≡ None) × Contains old.tokens.items on × (length new.tokens.items + 1 ≡ length old.tokens.items) × (new.under_way ≡ min (old.under_way + 1) 4294967295)
-IsNext old Pause new = (old.halt ≡ None) × (new.tokens.items ≡ old.tokens.items) × (new.under_way ≡ old.under_way)
-IsNext old Stop new = ((old.halt ≢ None) ⊎ ((length old.tokens.items ≡ 0) × (old.under_way ≡ 0))) × (new.tokens.items ≡ old.tokens.items) × (new.under_way ≡ old.under_way)
+-- a worker may run this executor, by its kind
+abbrev pub MayVisit : ScriptView → ℕ → ℕ → ExecId → Type 0
+MayVisit p workers worker on = (0 < workers) × IsTrue (may_run (executor_kind p on.0) workers worker)
+
+-- The token at this place was taken: the others stay in their order, and a worker more is under way.
+pub record IsTaken (old : Pool) (place : ℕ) (on : ExecId) (new : Pool) : Type 0 where
+  pub here : slice_get old.tokens.items place ≡ Some on
+  pub others : new.tokens.items ≡ take place old.tokens.items ++ drop (place + 1) old.tokens.items
+  pub under_way : new.under_way ≡ min (old.under_way + 1) 4294967295
+  pub halt : new.halt ≡ old.halt
+
+-- Nothing was taken.
+pub record IsKept (old new : Pool) : Type 0 where
+  pub tokens : new.tokens.items ≡ old.tokens.items
+  pub under_way : new.under_way ≡ old.under_way
+  pub halt : new.halt ≡ old.halt
+
+-- What a worker is told that may visit these executors, and what is left. It takes the oldest token of such a one. Where there is none, it
+-- stops if there is no token at all and no worker under way, and pauses if not. Where the run is given up, it stops.
+abbrev pub IsNext : (ExecId → Type 0) → Pool → Next → Pool → Type 0
+IsNext may old (Visit on) new = (old.halt ≡ None) × ((place : ℕ) × IsTaken old place on new × may on × All (λ t. may t → ⊥) (take place old.tokens.items))
+IsNext may old Pause new = (old.halt ≡ None) × All (λ t. may t → ⊥) old.tokens.items × ((length old.tokens.items ≢ 0) ⊎ (old.under_way ≢ 0)) × IsKept old new
+IsNext may old Stop new = ((old.halt ≢ None) ⊎ ((length old.tokens.items ≡ 0) × (old.under_way ≡ 0))) × IsKept old new

@@ -1,11 +1,7 @@
 //! The tokens of executors that have jobs.
 
-ghost use Rattle.std.specs.Prelude.{◌≡◌, ◌-◌, ◌++◌, ◌∷◌, [], Err, None, IsTrue, OnOk, OnErr};
-ghost use Rattle.swift_types.specs.declared.id.ExecId.{ExecId};
-ghost use Rattle.swift_script.specs.Scripts.{executor_kind};
-ghost use Rattle.swift_executor.specs.Exec.{may_run};
-ghost use Rattle.swift_workers.specs.declared.pool.Next.TheVariants.{Visit};
-ghost use Rattle.swift_workers.specs.Pools.{IsNext, first_cause};
+ghost use Rattle.std.specs.Prelude.{◌≡◌, ◌-◌, ◌<◌, ◌++◌, ◌∷◌, ◌↔◌, [], All, Err, None, IfNone, IfSome, IsSomeAnd, IsTrue, OnOk, OnErr, length, slice_get, take};
+ghost use Rattle.swift_workers.specs.Pools.{IsNext, IsTaken, MayVisit, first_cause};
 
 use crate::fault::Halt;
 use std::alloc::{AllocError, Global};
@@ -37,9 +33,24 @@ pub enum Next {
 
 // Whether an executor is one that this worker may run.
 fn is_for(script: &Script, workers: u32, worker: u32, on: ExecId) -> bool
-    ensures { IsTrue result → IsTrue (may_run (executor_kind script.now on.0) workers worker) }
+    ensures { IsTrue result ↔ MayVisit script.now workers worker on }
 {
     workers > 0 && may_run(script.executor_kind(on), workers, worker)
+}
+
+// The place of the oldest token that this worker may run.
+fn place_for(tokens: &VecDeque<ExecId>, script: &Script, workers: u32, worker: u32) -> Option<usize>
+    ensures none { IfNone result (All (λ t. MayVisit script.now workers worker t → ⊥) tokens.now.items) }
+    ensures within { IfSome result (λ place. place < length tokens.now.items) }
+    ensures here { IfSome result (λ place. IsSomeAnd (slice_get tokens.now.items place) (MayVisit script.now workers worker)) }
+    ensures before { IfSome result (λ place. All (λ t. MayVisit script.now workers worker t → ⊥) (take place tokens.now.items)) }
+{
+    for place in 0..tokens.len() {
+        if is_for(script, workers, worker, tokens[place]) {
+            return Some(place);
+        }
+    }
+    None
 }
 
 impl Pool {
@@ -56,22 +67,27 @@ impl Pool {
         }
     }
 
+    // Takes the token at this place.
+    fn take(&mut self, place: usize) -> ExecId
+        requires { place < length self.old.tokens.items }
+        ensures { IsTaken self.old place result self.new }
+    {
+        self.under_way = self.under_way.saturating_add(1);
+        match self.tokens.remove(place) {
+            Some(on) => on,
+            None => unreachable!(),
+        }
+    }
+
     /// Takes the oldest token that this worker may run.
     pub fn next(&mut self, script: &Script, workers: u32, worker: u32) -> Next
-        ensures next { IsNext self.old result self.new }
-        ensures mine { (on : ExecId) → result ≡ Visit on → IsTrue (may_run (executor_kind script.now on.0) workers worker) }
-        ensures halt { self.new.halt ≡ self.old.halt }
+        ensures { IsNext (MayVisit script.now workers worker) self.old result self.new }
     {
         if self.halt.is_some() {
             return Next::Stop;
         }
-        for place in 0..self.tokens.len() {
-            if place < self.tokens.len() && is_for(script, workers, worker, self.tokens[place]) {
-                if let Some(on) = self.tokens.remove(place) {
-                    self.under_way = self.under_way.saturating_add(1);
-                    return Next::Visit(on);
-                }
-            }
+        if let Some(place) = place_for(&self.tokens, script, workers, worker) {
+            return Next::Visit(self.take(place));
         }
         if self.tokens.is_empty() && self.under_way == 0 {
             Next::Stop
