@@ -1,5 +1,5 @@
 #!/usr/bin/env python3
-"""Proves a crate from nothing on one core, and says which of its functions and lemma files took longest.
+"""Proves a crate from nothing on one core, and says which of its functions and lemma files took longest, and which kinds of parts.
 
     tools/slowest.py NAME [COUNT]       the COUNT slowest (20)
 
@@ -15,7 +15,8 @@ import sys
 
 TOP = os.path.dirname(os.path.dirname(os.path.abspath(__file__)))
 # What the prover makes of one function. `Lts` is its code; `Layout` is the layout of its types.
-PARTS = r"\.(decls|Lts(-\w+)?|Layout|Kinds|Named|Tie|Proof|Answers|Goals|Invariants|Reads|Given|Mir|Code|Symbol|Statement|TheLink|View|Met)$"
+KINDS = r"Lts|Layout|Kinds|Named|Tie|Proof|Answers|Goals|Invariants|Reads|Given|Mir|Code|Symbol|Statement|TheLink|View|Met"
+PARTS = rf"\.(decls|Lts-\w+|{KINDS})$"
 
 
 def written(folder):
@@ -35,6 +36,12 @@ def owner(part):
     return name.removeprefix("Rattle-")
 
 
+def kind(part):
+    """What kind of part it is."""
+    found = re.search(rf"\.({KINDS})(-\w+)?(\.decls)?$", part)
+    return found[1] if found else "all else"
+
+
 def main():
     if len(sys.argv) not in (2, 3):
         sys.exit(__doc__)
@@ -43,12 +50,13 @@ def main():
     shutil.rmtree(kept, ignore_errors=True)
     if subprocess.run(["rt", "check", "--jobs", "1"], cwd=folder, stdout=subprocess.DEVNULL, check=False).returncode:
         sys.exit(f"{sys.argv[1]} is not proved: run rt check there")
-    whole, code = collections.Counter(), collections.Counter()
+    whole, code, kinds = collections.Counter(), collections.Counter(), collections.Counter()
     for part, seconds in written(kept):
         whole[owner(part)] += seconds
+        kinds[kind(part)] += seconds
         if ".Lts" in part:
             code[owner(part)] += seconds
-    print(f"{sum(whole.values()):8.1f} s in all, {sum(code.values()):.1f} of them the code of functions")
+    print(f"{sum(whole.values()):8.1f} s in all: " + ", ".join(f"{name} {seconds:.1f}" for name, seconds in kinds.most_common(8)))
     for name, seconds in whole.most_common(int(sys.argv[2]) if len(sys.argv) == 3 else 20):
         print(f"{seconds:8.1f} s, code {code[name]:6.1f}  {name}")
 
