@@ -1,8 +1,12 @@
--- What the pool of tokens tells a worker, and why a run is given up (our own).
-use Rattle.std.specs.Prelude.{◌≡◌, ◌≢◌, ◌⊎◌, ◌+◌, ◌<◌, ◌++◌, ℕ, Option, Some, None, Result, Ok, Err, IsTrue, All, List, length, min, slice_get, take, drop}
+-- What the pool of tokens tells a worker, when a token goes back to it, and why a run is given up (our own).
+use Rattle.std.specs.Prelude.{◌≡◌, ◌≢◌, ◌⊎◌, ◌+◌, ◌<◌, ◌++◌, ℕ, Option, Some, None, Result, Ok, Err, IsTrue, All, length, min, slice_get, take, drop}
 use Rattle.swift_types.specs.declared.id.ExecId.{ExecId}
 use Rattle.swift_script.specs.Scripts.{ScriptView, executor_kind}
 use Rattle.swift_executor.specs.Exec.{may_run}
+use Rattle.swift_executor.specs.declared.ran.Ran.{Ran}
+use Rattle.swift_executor.specs.declared.ran.Ran.TheVariants as ran
+use Rattle.swift_word.specs.declared.word.Left.{Left}
+use Rattle.swift_word.specs.declared.word.Left.TheVariants.{Idle}
 use Rattle.swift_workers.specs.declared.fault.Halt.{Halt}
 use Rattle.swift_workers.specs.declared.pool.Next.{Next}
 use Rattle.swift_workers.specs.declared.pool.Next.TheVariants.{Visit, Pause, Stop}
@@ -37,3 +41,10 @@ abbrev pub IsNext : (ExecId → Type 0) → Pool → Next → Pool → Type 0
 IsNext may old (Visit on) new = (old.halt ≡ None) × ((place : ℕ) × IsTaken old place on new × may on × All (λ t. may t → ⊥) (take place old.tokens.items))
 IsNext may old Pause new = (old.halt ≡ None) × All (λ t. may t → ⊥) old.tokens.items × ((length old.tokens.items ≢ 0) ⊎ (old.under_way ≢ 0)) × IsKept old new
 IsNext may old Stop new = ((old.halt ≢ None) ⊎ ((length old.tokens.items ≡ 0) × (old.under_way ≡ 0))) × IsKept old new
+
+-- Whether the token of an executor goes back after this visit: as the visit said. Where another worker holds the executor, that one
+-- says so when it ends.
+abbrev pub left_after : Ran → Left
+left_after (ran.Turn task left) = left
+left_after (ran.Nothing left) = left
+left_after ran.Busy = Idle

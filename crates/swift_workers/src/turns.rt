@@ -4,6 +4,7 @@ ghost use Rattle.std.specs.Prelude.{◌≡◌, [], OnOk};
 ghost use Rattle.std.specs.List.{AllByRecursion};
 ghost use Rattle.swift_tasks.specs.Books.{IsJobOf};
 ghost use Rattle.swift_workers.specs.Crew.{AreAtSites, AreDesksOf};
+ghost use Rattle.swift_workers.specs.Pools.{left_after};
 
 use crate::crew::{Crew, Hand};
 use crate::fault::Halt;
@@ -21,7 +22,9 @@ use swift_types::ExecId;
 use swift_word::Left;
 
 // How much is pending after a visit. Where another worker holds the executor, that one says so when it ends.
-fn left_of(ran: Ran) -> Left {
+fn left_of(ran: Ran) -> Left
+    ensures { result ≡ left_after ran }
+{
     match ran {
         Ran::Turn(_, left) | Ran::Nothing(left) => left,
         Ran::Busy => Left::Idle,

@@ -1,6 +1,6 @@
 //! Whole runs.
 
-ghost use Rattle.std.specs.Prelude.{◌≡◌, ◌⊎◌, ◌↔◌, ◌<◌, Err, length, IfOk};
+ghost use Rattle.std.specs.Prelude.{◌≡◌, ◌⊎◌, ◌↔◌, ◌<◌, Err, length, IfNone, IfOk, IfSome};
 ghost use Rattle.std.specs.Arc.{arc_value};
 ghost use Rattle.std.specs.List.{AllByRecursion};
 ghost use Rattle.swift_types.specs.declared.limits.TheConstants.{WORKERS};
@@ -145,7 +145,10 @@ where
 }
 
 // The first cause that is there.
-fn first_of(halt: Option<Halt>, played: Result<(), Halt>) -> Result<(), Halt> {
+fn first_of(halt: Option<Halt>, played: Result<(), Halt>) -> Result<(), Halt>
+    ensures given_up { IfSome halt (λ h. result ≡ Err h) }
+    ensures played { IfNone halt (result ≡ played) }
+{
     match halt {
         Some(halt) => Err(halt),
         None => played,
