@@ -14,12 +14,12 @@ use Rattle.script_names.specs.Directory.{Directory, has_method, method_place, ar
 use Rattle.script_names.specs.Scope.{Scope, meaning_of}
 use Rattle.script_names.specs.Rules.{earlier, at_name, target_error, call_error, awaited_error, wait_error, value_error, make_error, action_error, head_error, stmt_error, block_error, scope_after, scope_within, past, past_head, past_block, past_stmt, past_awaited, expressions_error, optional_error, expression_error}
 use Rattle.script_code.specs.Tree as code
-use Rattle.script_code.specs.Tree.{Term, Target, Wanted, Deed, Code, followed, end, act, choice, loop}
+use Rattle.script_code.specs.Tree.{Term, Target, Wanted, Operation, Code, followed, end, act, choice, loop}
 use Rattle.script_code.specs.declared.instruction.Place.{Place}
 use Rattle.script_code.specs.declared.instruction.Place.TheVariants.{Variable, Field}
 use Rattle.script_lowering.specs.Plan.{Plan}
 use Rattle.script_lowering.specs.Lowered.{lowered, lowered_if, numbers_in, handles_in, place_named, target_of, task_named, wanted_of, wait_to, set_at, value_to, make_to, action_code, headed_code, stmt_code, block_code}
-use Rattle.script_compiler.specs.Waiting.{deeds_in}
+use Rattle.script_compiler.specs.Waiting.{operations_in}
 use Rattle.script_compiler.specs.Calls.{target_wanted, target_in}
 use Rattle.script_compiler.proofs.Membership.{Has, has_left, has_right, has_cases}
 
@@ -37,7 +37,7 @@ IsTargetNamed d t = IsNamed d t.actor t.method (length t.args)
 
 -- each call of some statements does
 abbrev pub AreNamed : Directory → Code → Type 0
-AreNamed d c = (e : Deed) → Has (deeds_in c) e → (t : Target) → target_in e ≡ Some t → IsTargetNamed d t
+AreNamed d c = (e : Operation) → Has (operations_in c) e → (t : Target) → target_in e ≡ Some t → IsTargetNamed d t
 
 pub earlier_none : (f g : Option NameError) → earlier f g ≡ None → (f ≡ None) × (g ≡ None)
 earlier_none None g e = (refl, e)
@@ -63,33 +63,33 @@ call_named p s at c h =
 named_end : (d : Directory) → AreNamed d end
 named_end d = λ e h t g. absurd h
 
-named_act : (d : Directory) (e : Deed) (c : Code) → ((t : Target) → target_in e ≡ Some t → IsTargetNamed d t) → AreNamed d c → AreNamed d (act e c)
+named_act : (d : Directory) (e : Operation) (c : Code) → ((t : Target) → target_in e ≡ Some t → IsTargetNamed d t) → AreNamed d c → AreNamed d (act e c)
 named_act d e c one more = λ f h t g. elim h [ inl s ↦ one t (ap target_in s ∙ g) | inr n ↦ more f n t g ]
 
 named_choice : (d : Directory) (x : Term) (a b c : Code) → AreNamed d a → AreNamed d b → AreNamed d c → AreNamed d (choice x a b c)
-named_choice d x a b c na nb nc = λ f h t g. elim (has_cases (deeds_in a) (deeds_in b ++ deeds_in c) f h) [
+named_choice d x a b c na nb nc = λ f h t g. elim (has_cases (operations_in a) (operations_in b ++ operations_in c) f h) [
   | inl i ↦ na f i t g
-  | inr i ↦ elim (has_cases (deeds_in b) (deeds_in c) f i) [ inl j ↦ nb f j t g | inr j ↦ nc f j t g ]
+  | inr i ↦ elim (has_cases (operations_in b) (operations_in c) f i) [ inl j ↦ nb f j t g | inr j ↦ nc f j t g ]
 ]
 
 named_loop : (d : Directory) (x : Term) (a c : Code) → AreNamed d a → AreNamed d c → AreNamed d (loop x a c)
-named_loop d x a c na nc = λ f h t g. elim (has_cases (deeds_in a) (deeds_in c) f h) [ inl i ↦ na f i t g | inr i ↦ nc f i t g ]
+named_loop d x a c na nc = λ f h t g. elim (has_cases (operations_in a) (operations_in c) f h) [ inl i ↦ na f i t g | inr i ↦ nc f i t g ]
 
 named_then : (d : Directory) (a b : Code) → AreNamed d a → AreNamed d b → AreNamed d (followed a b)
 named_then d end b na nb = nb
 named_then d (act e rest) b na nb = named_act d e (followed rest b) (λ t g. na e (inl refl) t g) (named_then d rest b (λ f h. na f (inr h)) nb)
 named_then d (choice x y z rest) b na nb =
     named_choice d x y z (followed rest b)
-    (λ f h. na f (has_left (deeds_in y) (deeds_in z ++ deeds_in rest) f h))
-    (λ f h. na f (has_right (deeds_in y) (deeds_in z ++ deeds_in rest) f (has_left (deeds_in z) (deeds_in rest) f h)))
-    (named_then d rest b (λ f h. na f (has_right (deeds_in y) (deeds_in z ++ deeds_in rest) f (has_right (deeds_in z) (deeds_in rest) f h))) nb)
+    (λ f h. na f (has_left (operations_in y) (operations_in z ++ operations_in rest) f h))
+    (λ f h. na f (has_right (operations_in y) (operations_in z ++ operations_in rest) f (has_left (operations_in z) (operations_in rest) f h)))
+    (named_then d rest b (λ f h. na f (has_right (operations_in y) (operations_in z ++ operations_in rest) f (has_right (operations_in z) (operations_in rest) f h))) nb)
 named_then d (loop x y rest) b na nb =
     named_loop d x y (followed rest b)
-    (λ f h. na f (has_left (deeds_in y) (deeds_in rest) f h))
-    (named_then d rest b (λ f h. na f (has_right (deeds_in y) (deeds_in rest) f h)) nb)
+    (λ f h. na f (has_left (operations_in y) (operations_in rest) f h))
+    (named_then d rest b (λ f h. na f (has_right (operations_in y) (operations_in rest) f h)) nb)
 
--- a deed that calls nothing
-quiet : (d : Directory) (e : Deed) (c : Code) → target_in e ≡ None → AreNamed d c → AreNamed d (act e c)
+-- an operation that calls nothing
+quiet : (d : Directory) (e : Operation) (c : Code) → target_in e ≡ None → AreNamed d c → AreNamed d (act e c)
 quiet d e c none more = named_act d e c (λ t g. absurd (none-some t (sym none ∙ g))) more
 
 task_quiet : (s : Scope) (name : List ℕ) (o : Option NameKind) → target_wanted (task_named s name o) ≡ None

@@ -22,7 +22,7 @@ use Rattle.script_lowering.specs.Plan.{Plan, plan_of}
 use Rattle.script_lowering.specs.Lowered.{block_code}
 use Rattle.script_printing.specs.Script.{script_in}
 use Rattle.script_compiler.specs.Compiled.{MethodView, RootView, method_of, methods_from, root_of, compiled_by}
-use Rattle.script_compiler.specs.Waiting.{deeds_in}
+use Rattle.script_compiler.specs.Waiting.{operations_in}
 use Rattle.script_compiler.specs.Calls.{CallsAreThere, RootsAreThere, CheckedCalls, CheckedRoots}
 use Rattle.script_compiler.proofs.Membership.{Has, has_cases, has_contained}
 use Rattle.script_compiler.proofs.ByKinds.{same_plan}
@@ -189,7 +189,7 @@ is_there p decls actor number count ok n =
 calls_there : (decls : List DeclTree) → names_error decls ≡ None → CallsAreThere (compiled_by (plan_of decls) (script_in decls))
 calls_there decls ok m i d j t g =
     let p = plan_of decls in
-    let named = decls_named p (record { places = []; locals = []; roots = []; executors = 0; actors = 0 }) 0 decls ok m (has_contained _ m i) d (has_contained (deeds_in m.code) d j) t g in
+    let named = decls_named p (record { places = []; locals = []; roots = []; executors = 0; actors = 0 }) 0 decls ok m (has_contained _ m i) d (has_contained (operations_in m.code) d j) t g in
     let r = is_there p decls t.actor t.method (length t.args) ok named in
     record { method = r.method; there = r.there; of_actor = r.of_actor; as_many = r.as_many }
 

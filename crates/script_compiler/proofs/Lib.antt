@@ -1,7 +1,7 @@
 pub mod Steps
 pub mod Starting
 pub mod Membership
-pub mod Deeds
+pub mod Operations
 pub mod WaitsSame
 pub mod ExecutorsMade
 pub mod ByKinds

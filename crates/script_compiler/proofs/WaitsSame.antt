@@ -6,46 +6,46 @@ use Rattle.script_waits.specs.declared.first.Edge.{Edge}
 use Rattle.script_waits.specs.declared.first.Wait.{Wait}
 use Rattle.script_waits.specs.Waits.{Leads, WaitsForLater, NoneBefore, NoneWaits}
 use Rattle.script_waits.specs.Waits.Leads.{here, on}
-use Rattle.script_code.specs.Tree.{Deed}
+use Rattle.script_code.specs.Tree.{Operation}
 use Rattle.script_code.specs.declared.instruction.Instruction.{Instruction}
 use Rattle.script_compiler.specs.declared.compiled.CompiledMethod.{CompiledMethod}
 use Rattle.script_compiler.specs.declared.compiled.CompiledRoot.{CompiledRoot}
 use Rattle.script_compiler.specs.declared.compiled.Compiled.{Compiled}
 use Rattle.script_compiler.specs.Compiled.{MethodView, RootView, CompiledView}
 use Rattle.script_compiler.specs.IsCompiled.{IsMethod, IsCompiled, root_view}
-use Rattle.script_compiler.specs.Waiting.{deeds_in, made_by, edges_made, waits_made, edges_of, waits_of, root_methods}
-use Rattle.script_compiler.specs.Acts.{deed_of, made_if, made_along, made_through}
+use Rattle.script_compiler.specs.Waiting.{operations_in, made_by, edges_made, waits_made, edges_of, waits_of, root_methods}
+use Rattle.script_compiler.specs.Acts.{operation_of, made_if, made_along, made_through}
 use Rattle.script_compiler.proofs.Membership.{Has, has_left, has_right, has_cases, flat_within, has_contained, contains_had}
-use Rattle.script_compiler.proofs.Deeds.{deeds_along, deed_list, along_in, in_along}
+use Rattle.script_compiler.proofs.Operations.{operations_along, operation_list, along_in, in_along}
 
-made_listed : {A : Type 0} (made : Deed → List A) (o : Option Deed) (rest : List A) (ds : List Deed) → rest ≡ flat_map made ds → made_if made o ++ rest ≡ flat_map made (deed_list o ++ ds)
+made_listed : {A : Type 0} (made : Operation → List A) (o : Option Operation) (rest : List A) (ds : List Operation) → rest ≡ flat_map made ds → made_if made o ++ rest ≡ flat_map made (operation_list o ++ ds)
 made_listed made None rest ds e = e
 made_listed made (Some d) rest ds e = ap (λ xs. made d ++ xs) e
 
-along_is : {A : Type 0} (made : Deed → List A) (lines : List Instruction) → made_along made lines ≡ flat_map made (deeds_along lines)
+along_is : {A : Type 0} (made : Operation → List A) (lines : List Instruction) → made_along made lines ≡ flat_map made (operations_along lines)
 along_is made [] = refl
-along_is made (x ∷ others) = made_listed made (deed_of x.act) (made_along made others) (deeds_along others) (along_is made others)
+along_is made (x ∷ others) = made_listed made (operation_of x.act) (made_along made others) (operations_along others) (along_is made others)
 
 -- what instructions make is made by the code, and the other way round
-pub through_by : {A : Type 0} (made : ℕ → Deed → List A) (m : ℕ) (ms : List CompiledMethod) (vs : List MethodView) → AllZip IsMethod ms vs → (x : A) → Has (made_through made m ms) x → Has (made_by made m vs) x
+pub through_by : {A : Type 0} (made : ℕ → Operation → List A) (m : ℕ) (ms : List CompiledMethod) (vs : List MethodView) → AllZip IsMethod ms vs → (x : A) → Has (made_through made m ms) x → Has (made_by made m vs) x
 through_by made m [] [] z x h = h
 through_by made m [] (v ∷ vs) z x h = absurd z
 through_by made m (c ∷ ms) [] z x h = absurd z
 through_by made m (c ∷ ms) (v ∷ vs) z x h =
     let lines = c.instructions.items in
     elim (has_cases (made_along (made m) lines) (made_through made (suc m) ms) x h) [
-      | inl g ↦ has_left (flat_map (made m) (deeds_in v.code)) (made_by made (suc m) vs) x (flat_within (made m) (deeds_along lines) (deeds_in v.code) (along_in lines v.code z.0.stands) x (subst (λ xs. Has xs x) (along_is (made m) lines) g))
-      | inr g ↦ has_right (flat_map (made m) (deeds_in v.code)) (made_by made (suc m) vs) x (through_by made (suc m) ms vs z.1 x g)
+      | inl g ↦ has_left (flat_map (made m) (operations_in v.code)) (made_by made (suc m) vs) x (flat_within (made m) (operations_along lines) (operations_in v.code) (along_in lines v.code z.0.stands) x (subst (λ xs. Has xs x) (along_is (made m) lines) g))
+      | inr g ↦ has_right (flat_map (made m) (operations_in v.code)) (made_by made (suc m) vs) x (through_by made (suc m) ms vs z.1 x g)
     ]
 
-pub by_through : {A : Type 0} (made : ℕ → Deed → List A) (m : ℕ) (ms : List CompiledMethod) (vs : List MethodView) → AllZip IsMethod ms vs → (x : A) → Has (made_by made m vs) x → Has (made_through made m ms) x
+pub by_through : {A : Type 0} (made : ℕ → Operation → List A) (m : ℕ) (ms : List CompiledMethod) (vs : List MethodView) → AllZip IsMethod ms vs → (x : A) → Has (made_by made m vs) x → Has (made_through made m ms) x
 by_through made m [] [] z x h = h
 by_through made m [] (v ∷ vs) z x h = absurd z
 by_through made m (c ∷ ms) [] z x h = absurd z
 by_through made m (c ∷ ms) (v ∷ vs) z x h =
     let lines = c.instructions.items in
-    elim (has_cases (flat_map (made m) (deeds_in v.code)) (made_by made (suc m) vs) x h) [
-      | inl g ↦ has_left (made_along (made m) lines) (made_through made (suc m) ms) x (subst (λ xs. Has xs x) (sym (along_is (made m) lines)) (flat_within (made m) (deeds_in v.code) (deeds_along lines) (in_along lines v.code z.0.stands) x g))
+    elim (has_cases (flat_map (made m) (operations_in v.code)) (made_by made (suc m) vs) x h) [
+      | inl g ↦ has_left (made_along (made m) lines) (made_through made (suc m) ms) x (subst (λ xs. Has xs x) (sym (along_is (made m) lines)) (flat_within (made m) (operations_in v.code) (operations_along lines) (in_along lines v.code z.0.stands) x g))
       | inr g ↦ has_right (made_along (made m) lines) (made_through made (suc m) ms) x (by_through made (suc m) ms vs z.1 x g)
     ]
 
@@ -53,10 +53,10 @@ by_through made m (c ∷ ms) (v ∷ vs) z x h =
 abbrev pub Within : {A : Type 0} → List A → List A → Type 0
 Within {A} xs ys = (x : A) → Contains xs x → Contains ys x
 
-pub compiled_within : {A : Type 0} (made : ℕ → Deed → List A) (ms : List CompiledMethod) (vs : List MethodView) (xs : List A) → AllZip IsMethod ms vs → xs ≡ made_through made 0 ms → Within xs (made_by made 0 vs)
+pub compiled_within : {A : Type 0} (made : ℕ → Operation → List A) (ms : List CompiledMethod) (vs : List MethodView) (xs : List A) → AllZip IsMethod ms vs → xs ≡ made_through made 0 ms → Within xs (made_by made 0 vs)
 compiled_within made ms vs xs z e x c = contains_had (made_by made 0 vs) x (through_by made 0 ms vs z x (subst (λ ys. Has ys x) e (has_contained xs x c)))
 
-pub within_compiled : {A : Type 0} (made : ℕ → Deed → List A) (ms : List CompiledMethod) (vs : List MethodView) (xs : List A) → AllZip IsMethod ms vs → xs ≡ made_through made 0 ms → Within (made_by made 0 vs) xs
+pub within_compiled : {A : Type 0} (made : ℕ → Operation → List A) (ms : List CompiledMethod) (vs : List MethodView) (xs : List A) → AllZip IsMethod ms vs → xs ≡ made_through made 0 ms → Within (made_by made 0 vs) xs
 within_compiled made ms vs xs z e x c = contains_had xs x (subst (λ ys. Has ys x) (sym e) (by_through made 0 ms vs z x (has_contained (made_by made 0 vs) x c)))
 
 leads_within : (es fs : List Edge) → Within es fs → {m n : ℕ} → Leads es m n → Leads fs m n

@@ -3,18 +3,18 @@ use Rattle.std.specs.Prelude.{◌≡◌, Option, Some, None, List, length, slice
 use Rattle.script_grammar.specs.Tree.{DeclTree}
 use Rattle.script_names.specs.Rules.{names_error}
 use Rattle.script_code.specs.Tree as code
-use Rattle.script_code.specs.Tree.{Target, Wanted, Deed}
+use Rattle.script_code.specs.Tree.{Target, Wanted, Operation}
 use Rattle.script_printing.specs.Script.{script_in}
 use Rattle.script_compiler.specs.Compiled.{MethodView, RootView, CompiledView, compiled_of}
-use Rattle.script_compiler.specs.Waiting.{deeds_in}
+use Rattle.script_compiler.specs.Waiting.{operations_in}
 
 -- the call that is waited for
 abbrev pub target_wanted : Wanted → Option Target
 target_wanted (code.call t) = Some t
 target_wanted _ = None
 
--- what a deed calls, spawns, detaches or adds
-abbrev pub target_in : Deed → Option Target
+-- what an operation calls, spawns, detaches or adds
+abbrev pub target_in : Operation → Option Target
 target_in (code.wait w) = target_wanted w
 target_in (code.spawn t p h) = Some t
 target_in (code.detach t p h) = Some t
@@ -36,7 +36,7 @@ pub record IsStartable (c : CompiledView) (r : RootView) : Type 0 where
 
 -- so does what each method calls, spawns, detaches or adds
 abbrev pub CallsAreThere : CompiledView → Type 0
-CallsAreThere c = (m : MethodView) → Contains c.methods m → (d : Deed) → Contains (deeds_in m.code) d → (t : Target) → target_in d ≡ Some t → IsCallable c t
+CallsAreThere c = (m : MethodView) → Contains c.methods m → (d : Operation) → Contains (operations_in m.code) d → (t : Target) → target_in d ≡ Some t → IsCallable c t
 
 -- and each root
 abbrev pub RootsAreThere : CompiledView → Type 0

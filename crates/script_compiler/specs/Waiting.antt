@@ -1,19 +1,19 @@
--- Which roots wait for themselves or for a later root: what is named by the deeds of a method counts, whether they are
+-- Which roots wait for themselves or for a later root: what is named by the operations of a method counts, whether they are
 -- reached or not. (Own.)
 use Rattle.std.specs.Prelude.{ℕ, suc, Option, Some, None, List, [], ◌∷◌, ◌++◌, map}
 use Rattle.std.specs.List.{flat_map}
 use Rattle.script_waits.specs.declared.first.Edge.{Edge}
 use Rattle.script_waits.specs.declared.first.Wait.{Wait}
 use Rattle.script_code.specs.Tree as code
-use Rattle.script_code.specs.Tree.{Wanted, Deed, Code, end, act, choice, loop}
+use Rattle.script_code.specs.Tree.{Wanted, Operation, Code, end, act, choice, loop}
 use Rattle.script_compiler.specs.Compiled.{MethodView, CompiledView}
 
--- all deeds that stand in statements
-abbrev pub deeds_in : Code → List Deed
-deeds_in end = []
-deeds_in (act d rest) = d ∷ deeds_in rest
-deeds_in (choice t a b rest) = deeds_in a ++ (deeds_in b ++ deeds_in rest)
-deeds_in (loop t a rest) = deeds_in a ++ deeds_in rest
+-- all operations that stand in statements
+abbrev pub operations_in : Code → List Operation
+operations_in end = []
+operations_in (act d rest) = d ∷ operations_in rest
+operations_in (choice t a b rest) = operations_in a ++ (operations_in b ++ operations_in rest)
+operations_in (loop t a rest) = operations_in a ++ operations_in rest
 
 -- the method whose call is waited for
 abbrev pub method_wanted : Wanted → Option ℕ
@@ -25,16 +25,16 @@ abbrev pub root_wanted : Wanted → Option ℕ
 root_wanted (code.root r) = Some r
 root_wanted _ = None
 
--- the method that a deed calls, spawns, detaches or adds
-abbrev pub method_called : Deed → Option ℕ
+-- the method that an operation calls, spawns, detaches or adds
+abbrev pub method_called : Operation → Option ℕ
 method_called (code.wait w) = method_wanted w
 method_called (code.spawn t p h) = Some t.method
 method_called (code.detach t p h) = Some t.method
 method_called (code.add g unless t p) = Some t.method
 method_called _ = None
 
--- the root that a deed waits for
-abbrev pub root_awaited : Deed → Option ℕ
+-- the root that an operation waits for
+abbrev pub root_awaited : Operation → Option ℕ
 root_awaited (code.wait w) = root_wanted w
 root_awaited _ = None
 
@@ -48,17 +48,17 @@ abbrev pub wait_for : ℕ → Option ℕ → List Wait
 wait_for m None = []
 wait_for m (Some r) = record { method = m; root = r } ∷ []
 
--- the edges that a deed of a method makes, and the waits
-abbrev pub edges_made : ℕ → Deed → List Edge
+-- the edges that an operation of a method makes, and the waits
+abbrev pub edges_made : ℕ → Operation → List Edge
 edges_made m d = edge_to m (method_called d)
 
-abbrev pub waits_made : ℕ → Deed → List Wait
+abbrev pub waits_made : ℕ → Operation → List Wait
 waits_made m d = wait_for m (root_awaited d)
 
--- what each deed makes of methods from number m on
-abbrev pub made_by : {A : Type 0} → (ℕ → Deed → List A) → ℕ → List MethodView → List A
+-- what each operation makes of methods from number m on
+abbrev pub made_by : {A : Type 0} → (ℕ → Operation → List A) → ℕ → List MethodView → List A
 made_by made m [] = []
-made_by made m (x ∷ others) = flat_map (made m) (deeds_in x.code) ++ made_by made (suc m) others
+made_by made m (x ∷ others) = flat_map (made m) (operations_in x.code) ++ made_by made (suc m) others
 
 abbrev pub edges_of : CompiledView → List Edge
 edges_of c = made_by edges_made 0 c.methods

@@ -6,7 +6,7 @@ ghost use Rattle.script_code.specs.Tree.{wanted_of};
 ghost use Rattle.script_compiler.specs.Compiled.{CompiledView};
 ghost use Rattle.script_compiler.specs.IsCompiled.{root_view, IsCompiled};
 ghost use Rattle.script_compiler.specs.Waiting.{method_wanted, root_wanted, edge_to, wait_for, edges_made, waits_made, edges_of, waits_of, root_methods};
-ghost use Rattle.script_compiler.specs.Acts.{deed_of, made_if, made_along, made_through};
+ghost use Rattle.script_compiler.specs.Acts.{operation_of, made_if, made_along, made_through};
 
 use crate::compiled::{Compiled, CompiledMethod, CompiledRoot};
 use crate::number::to_u32;
@@ -41,7 +41,7 @@ fn root_wanted(awaited: &Awaited) -> Option<u32>
 
 // The method that an act calls, spawns, detaches or adds.
 fn method_called(act: &Act) -> Option<u32>
-    ensures { (m : ℕ) → edge_to m result ≡ made_if (edges_made m) (deed_of act.now) }
+    ensures { (m : ℕ) → edge_to m result ≡ made_if (edges_made m) (operation_of act.now) }
 {
     match act {
         Act::Wait(awaited) => method_wanted(awaited),
@@ -54,7 +54,7 @@ fn method_called(act: &Act) -> Option<u32>
 
 // The root that an act waits for.
 fn root_awaited(act: &Act) -> Option<u32>
-    ensures { (m : ℕ) → wait_for m result ≡ made_if (waits_made m) (deed_of act.now) }
+    ensures { (m : ℕ) → wait_for m result ≡ made_if (waits_made m) (operation_of act.now) }
 {
     match act {
         Act::Wait(awaited) => root_wanted(awaited),

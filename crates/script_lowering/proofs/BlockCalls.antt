@@ -16,7 +16,7 @@ use Rattle.script_code.specs.Tree as code
 use Rattle.script_code.specs.Tree.{Term, Code, end, act}
 use Rattle.script_lowering.specs.Plan.{Plan, executor_at}
 use Rattle.script_lowering.specs.Lowered.{numbers_in, handles_in, place_named, lowered, target_of, task_named, wanted_of, wait_to, set_at, value_to, make_to, action_code, headed_code, stmt_code, block_code}
-use Rattle.script_lowering.specs.Calls.{IsCallable, TargetFits, WantedFits, DeedFits, TargetsFit}
+use Rattle.script_lowering.specs.Calls.{IsCallable, TargetFits, WantedFits, OperationFits, TargetsFit}
 use Rattle.script_lowering.proofs.Clear.{earlier_none}
 use Rattle.script_lowering.proofs.Joined.{each_then}
 use Rattle.script_lowering.proofs.Callable.{callable}
@@ -41,7 +41,7 @@ wanted_fits p s at (NextOf n) e = tt
 wait_fits : (p : Plan) (s : Scope) (at : ℕ) (place : Option Place) (w : WaitTree) → wait_error s at w ≡ None → TargetsFit s.directory (wait_to p s place w)
 wait_fits p s at place w e = (wanted_fits p s at w.for (earlier_none (awaited_error s at w.for) _ e).0, (tt, tt))
 
-set_fits : (d : Directory) (place : Place) (t : Term) → DeedFits d (set_at place t)
+set_fits : (d : Directory) (place : Place) (t : Term) → OperationFits d (set_at place t)
 set_fits d (Variable x) t = tt
 set_fits d (Field p) t = tt
 
@@ -49,7 +49,7 @@ value_fits : (p : Plan) (s : Scope) (at : ℕ) (place : Place) (v : ValueTree) �
 value_fits p s at place (Computed t) e = (set_fits s.directory place (lowered p s t), tt)
 value_fits p s at place (Waited w) e = wait_fits p s at (Some place) w e
 
-make_fits : (p : Plan) (s : Scope) (at : ℕ) (handle : Option ℕ) (m : MakeTree) → make_error s at m ≡ None → DeedFits s.directory (make_to p s handle m)
+make_fits : (p : Plan) (s : Scope) (at : ℕ) (handle : Option ℕ) (m : MakeTree) → make_error s at m ≡ None → OperationFits s.directory (make_to p s handle m)
 make_fits p s at handle (Spawned x given) e = target_fits p s at x e
 make_fits p s at handle (Detached x given) e = target_fits p s at x e
 
@@ -69,8 +69,8 @@ action_fits p s at Yield e = (tt, tt)
 headed_fits : (d : Directory) (p : Plan) (s : Scope) (h : HeadTree) (inner : Code) → TargetsFit d inner → TargetsFit d (headed_code p s h inner)
 headed_fits d p s (If t) inner k = (tt, k, tt, tt)
 headed_fits d p s (While t) inner k = (tt, k, tt)
-headed_fits d p s (Bind n t) inner k = (tt, each_then (DeedFits d) (λ _. Unit {0}) inner (act code.unbind end) k (tt, tt))
-headed_fits d p s (Group n) inner k = (tt, each_then (DeedFits d) (λ _. Unit {0}) inner (act code.close_group end) k (tt, tt))
+headed_fits d p s (Bind n t) inner k = (tt, each_then (OperationFits d) (λ _. Unit {0}) inner (act code.unbind end) k (tt, tt))
+headed_fits d p s (Group n) inner k = (tt, each_then (OperationFits d) (λ _. Unit {0}) inner (act code.close_group end) k (tt, tt))
 headed_fits d p s (Assume n) inner k =
     cond_both (executor_at p (place_of s.directory.actors n) == executor_at p s.actor) (act code.assume inner) (act code.isolated end) (TargetsFit d) (λ _. (tt, k)) (λ _. (tt, tt))
 
@@ -101,7 +101,7 @@ mutual
   block_fits nothing p s d at same e = tt
   block_fits (first_then x xs) p s d at same e =
       let parts = earlier_none (stmt_error s at x) _ e in
-      each_then (DeedFits d) (λ _. Unit {0}) (stmt_code p s x) (block_code p (scope_after s x) xs)
+      each_then (OperationFits d) (λ _. Unit {0}) (stmt_code p s x) (block_code p (scope_after s x) xs)
       (stmt_fits x p s d at same parts.0)
       (block_fits xs p (scope_after s x) d (past_stmt x at) (after_directory s x ∙ same) parts.1)
 

@@ -11,11 +11,11 @@ use Rattle.script_names.specs.Rules.{past, past_head, past_stmt, past_block, at_
 use Rattle.script_code.specs.declared.instruction.Place.{Place}
 use Rattle.script_code.specs.declared.instruction.Place.TheVariants.{Variable, Field}
 use Rattle.script_code.specs.Tree as code
-use Rattle.script_code.specs.Tree.{Term, Deed, Code, followed, end, act, choice, loop}
+use Rattle.script_code.specs.Tree.{Term, Operation, Code, followed, end, act, choice, loop}
 use Rattle.script_code.proofs.Layouts.{then_end}
 use Rattle.script_lowering.specs.Plan.{Plan, executor_at}
 use Rattle.script_lowering.specs.Lowered.{numbers_in, handles_in, handle_place, place_named, lowered, lowered_if, target_of, task_named, wanted_of, wait_to, set_at, value_to, make_to, cancelled_named, action_code, headed_code, stmt_code, block_code}
-use Rattle.script_lowering.specs.Handles.{Held, held_after, WantedMatches, CancelledMatches, DeedMatches, HandlesMatch}
+use Rattle.script_lowering.specs.Handles.{Held, held_after, WantedMatches, CancelledMatches, OperationMatches, HandlesMatch}
 use Rattle.script_lowering.proofs.Clear.{earlier_none, at_name_none, or_else_none, is_group}
 use Rattle.script_lowering.proofs.Agreed.{Agrees, one_number, one_handle, one_less, before_statement, holds_named}
 
@@ -31,9 +31,9 @@ join_joined (choice t x y rest) b c = ap (choice t x y) (join_joined rest b c)
 join_joined (loop t x rest) b c = ap (loop t x) (join_joined rest b c)
 
 -- a statement, after which names of other kinds stand
-deed_first : (d : Deed) (n : ℕ) (ks ks' : List NameKind) (c : Code) → ((held : Held) → Agrees held ks → DeedMatches held d × Agrees (held_after d held) ks') → Fine n ks' c → (j : ℕ) → j ≤ n → (held : Held) → Agrees held ks → HandlesMatch j held (act d c)
-deed_first d n ks ks' c one rest zero l held g = tt
-deed_first d n ks ks' c one rest (suc j) l held g = ((one held g).0, rest j (omega (arith, l)) (held_after d held) (one held g).1)
+operation_first : (d : Operation) (n : ℕ) (ks ks' : List NameKind) (c : Code) → ((held : Held) → Agrees held ks → OperationMatches held d × Agrees (held_after d held) ks') → Fine n ks' c → (j : ℕ) → j ≤ n → (held : Held) → Agrees held ks → HandlesMatch j held (act d c)
+operation_first d n ks ks' c one rest zero l held g = tt
+operation_first d n ks ks' c one rest (suc j) l held g = ((one held g).0, rest j (omega (arith, l)) (held_after d held) (one held g).1)
 
 choice_first : (t : Term) (a b : Code) (n : ℕ) (ks : List NameKind) (c : Code) → Fine n ks (followed a c) → Fine n ks (followed b c) → (j : ℕ) → j ≤ n → (held : Held) → Agrees held ks → HandlesMatch j held (choice t a b c)
 choice_first t a b n ks c h k zero l held g = tt
@@ -48,8 +48,8 @@ loop_first t a n ks c inner rest (suc m) small (suc j) l held g =
     (inner m (loop t a c) (loop_first t a n ks c inner rest m (omega (arith, small))) j (omega (arith, l)) held g, rest j (omega (arith, l, small)) held g)
 
 set_first : (place : Place) (t : Term) (n : ℕ) (ks : List NameKind) (c : Code) → Fine n ks c → Fine n ks (act (set_at place t) c)
-set_first (Variable x) t n ks c rest = deed_first (code.set_variable x t) n ks ks c (λ held g. (tt, g)) rest
-set_first (Field p) t n ks c rest = deed_first (code.set_field p t) n ks ks c (λ held g. (tt, g)) rest
+set_first (Variable x) t n ks c rest = operation_first (code.set_variable x t) n ks ks c (λ held g. (tt, g)) rest
+set_first (Field p) t n ks c rest = operation_first (code.set_field p t) n ks ks c (λ held g. (tt, g)) rest
 
 task_matches : (held : Held) (s : Scope) (name : List ℕ) (o : Option NameKind) → (o ≡ Some kind.Task → held (handle_place s name) ≡ Some kind.Task) → WantedMatches held (task_named s name o)
 task_matches held s name None h = tt
@@ -74,8 +74,8 @@ wait_first : (p : Plan) (s : Scope) (at : ℕ) (place : Option Place) (w : WaitT
 wait_first p s at place w n c e rest =
     let for = (earlier_none (awaited_error s at w.for) _ e).0 in
     let answer = code.receive place (lowered_if p s w.other) in
-    deed_first (code.wait (wanted_of p s w.for)) n s.kinds s.kinds (act answer c) (λ held g. (wanted_matches p s at w.for held for g, g))
-    (deed_first answer n s.kinds s.kinds c (λ held g. (tt, g)) rest)
+    operation_first (code.wait (wanted_of p s w.for)) n s.kinds s.kinds (act answer c) (λ held g. (wanted_matches p s at w.for held for g, g))
+    (operation_first answer n s.kinds s.kinds c (λ held g. (tt, g)) rest)
 
 value_first : (p : Plan) (s : Scope) (at : ℕ) (place : Place) (v : ValueTree) (n : ℕ) (c : Code) → value_error s at v ≡ None → Fine n s.kinds c → Fine n s.kinds (followed (value_to p s place v) c)
 value_first p s at place (Computed t) n c e rest = set_first place (lowered p s t) n s.kinds c rest
@@ -83,12 +83,12 @@ value_first p s at place (Waited w) n c e rest = wait_first p s at (Some place) 
 
 -- a task that is made, and is not kept or is
 make_first : (p : Plan) (s : Scope) (m : MakeTree) (n : ℕ) (c : Code) → Fine n s.kinds c → Fine n s.kinds (act (make_to p s None m) c)
-make_first p s (Spawned x given) n c rest = deed_first (code.spawn (target_of p s x) given None) n s.kinds s.kinds c (λ held g. (tt, g)) rest
-make_first p s (Detached x given) n c rest = deed_first (code.detach (target_of p s x) given None) n s.kinds s.kinds c (λ held g. (tt, g)) rest
+make_first p s (Spawned x given) n c rest = operation_first (code.spawn (target_of p s x) given None) n s.kinds s.kinds c (λ held g. (tt, g)) rest
+make_first p s (Detached x given) n c rest = operation_first (code.detach (target_of p s x) given None) n s.kinds s.kinds c (λ held g. (tt, g)) rest
 
 keep_first : (p : Plan) (s : Scope) (m : MakeTree) (n : ℕ) (c : Code) → Fine n (s.kinds ++ kind.Task ∷ []) c → Fine n s.kinds (act (make_to p s (Some (handles_in s)) m) c)
-keep_first p s (Spawned x given) n c rest = deed_first (code.spawn (target_of p s x) given (Some (handles_in s))) n s.kinds (s.kinds ++ kind.Task ∷ []) c (λ held g. (tt, one_handle held s.kinds kind.Task g)) rest
-keep_first p s (Detached x given) n c rest = deed_first (code.detach (target_of p s x) given (Some (handles_in s))) n s.kinds (s.kinds ++ kind.Task ∷ []) c (λ held g. (tt, one_handle held s.kinds kind.Task g)) rest
+keep_first p s (Spawned x given) n c rest = operation_first (code.spawn (target_of p s x) given (Some (handles_in s))) n s.kinds (s.kinds ++ kind.Task ∷ []) c (λ held g. (tt, one_handle held s.kinds kind.Task g)) rest
+keep_first p s (Detached x given) n c rest = operation_first (code.detach (target_of p s x) given (Some (handles_in s))) n s.kinds (s.kinds ++ kind.Task ∷ []) c (λ held g. (tt, one_handle held s.kinds kind.Task g)) rest
 
 action_first : (p : Plan) (s : Scope) (at : ℕ) (a : ActionTree) (n : ℕ) (c : Code) → action_error s at a ≡ None → Fine n (scope_after s (Do a)).kinds c → Fine n s.kinds (followed (action_code p s a) c)
 action_first p s at (Let name v) n c e rest =
@@ -100,14 +100,14 @@ action_first p s at (Makes m) n c e rest = make_first p s m n c rest
 action_first p s at (Adds a) n c e rest =
     let named = (earlier_none (at_name at (or_else (group_fault (meaning_of s a.group)) (bind_fault s a.group))) _ e).0 in
     let group = is_group (meaning_of s a.group) (or_else_none _ _ (at_name_none at _ named)) in
-    deed_first (code.add (handle_place s a.group) a.unless (target_of p s a.call) a.priority) n s.kinds s.kinds c (λ held g. (holds_named held s a.group kind.Group g refl group, g)) rest
+    operation_first (code.add (handle_place s a.group) a.unless (target_of p s a.call) a.priority) n s.kinds s.kinds c (λ held g. (holds_named held s a.group kind.Group g refl group, g)) rest
 action_first p s at (Cancel name) n c e rest =
-    deed_first (code.cancel (cancelled_named s name (meaning_of s name))) n s.kinds s.kinds c
+    operation_first (code.cancel (cancelled_named s name (meaning_of s name))) n s.kinds s.kinds c
     (λ held g. (cancelled_matches held s name (meaning_of s name) (holds_named held s name kind.Task g refl) (holds_named held s name kind.Group g refl), g)) rest
-action_first p s at (Return t) n c e rest = deed_first (code.return (lowered p s t)) n s.kinds s.kinds c (λ held g. (tt, g)) rest
-action_first p s at (Throw t) n c e rest = deed_first (code.throw (lowered p s t)) n s.kinds s.kinds c (λ held g. (tt, g)) rest
-action_first p s at Check n c e rest = deed_first code.check n s.kinds s.kinds c (λ held g. (tt, g)) rest
-action_first p s at Yield n c e rest = deed_first code.yield n s.kinds s.kinds c (λ held g. (tt, g)) rest
+action_first p s at (Return t) n c e rest = operation_first (code.return (lowered p s t)) n s.kinds s.kinds c (λ held g. (tt, g)) rest
+action_first p s at (Throw t) n c e rest = operation_first (code.throw (lowered p s t)) n s.kinds s.kinds c (λ held g. (tt, g)) rest
+action_first p s at Check n c e rest = operation_first code.check n s.kinds s.kinds c (λ held g. (tt, g)) rest
+action_first p s at Yield n c e rest = operation_first code.yield n s.kinds s.kinds c (λ held g. (tt, g)) rest
 
 -- the statements of a block, which may be followed by others
 abbrev Inner : List NameKind → Code → Type 0
@@ -117,18 +117,18 @@ headed_first : (p : Plan) (s : Scope) (h : HeadTree) (a : Code) (n : ℕ) (c : C
 headed_first p s (If t) a n c inner rest = choice_first (lowered p s t) a end n s.kinds c (inner n c rest) rest
 headed_first p s (While t) a n c inner rest = loop_first (lowered p s t) a n s.kinds c inner rest n (omega arith)
 headed_first p s (Bind name t) a n c inner rest =
-    let whole = inner n (act code.unbind c) (deed_first code.unbind n s.kinds s.kinds c (λ held g. (tt, g)) rest) in
-    deed_first (code.bind (place_of p.directory.locals name) (lowered p s t)) n s.kinds s.kinds (followed (followed a (act code.unbind end)) c) (λ held g. (tt, g))
+    let whole = inner n (act code.unbind c) (operation_first code.unbind n s.kinds s.kinds c (λ held g. (tt, g)) rest) in
+    operation_first (code.bind (place_of p.directory.locals name) (lowered p s t)) n s.kinds s.kinds (followed (followed a (act code.unbind end)) c) (λ held g. (tt, g))
     (subst (Fine n s.kinds) (sym (join_joined a (act code.unbind end) c)) whole)
 headed_first p s (Group name) a n c inner rest =
     let ks = s.kinds ++ kind.Group ∷ [] in
-    let whole = inner n (act code.close_group c) (deed_first code.close_group n ks s.kinds c (λ held g. (tt, one_less held s.kinds kind.Group g)) rest) in
-    deed_first (code.open_group (handles_in s)) n s.kinds ks (followed (followed a (act code.close_group end)) c) (λ held g. (tt, one_handle held s.kinds kind.Group g))
+    let whole = inner n (act code.close_group c) (operation_first code.close_group n ks s.kinds c (λ held g. (tt, one_less held s.kinds kind.Group g)) rest) in
+    operation_first (code.open_group (handles_in s)) n s.kinds ks (followed (followed a (act code.close_group end)) c) (λ held g. (tt, one_handle held s.kinds kind.Group g))
     (subst (Fine n ks) (sym (join_joined a (act code.close_group end) c)) whole)
 headed_first p s (Assume name) a n c inner rest =
     cond_both (executor_at p (place_of s.directory.actors name) == executor_at p s.actor) (act code.assume a) (act code.isolated end) (λ x. Fine n s.kinds (followed x c))
-    (λ _. deed_first code.assume n s.kinds s.kinds (followed a c) (λ held g. (tt, g)) (inner n c rest))
-    (λ _. deed_first code.isolated n s.kinds s.kinds c (λ held g. (tt, g)) rest)
+    (λ _. operation_first code.assume n s.kinds s.kinds (followed a c) (λ held g. (tt, g)) (inner n c rest))
+    (λ _. operation_first code.isolated n s.kinds s.kinds c (λ held g. (tt, g)) rest)
 
 mutual
   stmt_first : (x : StmtTree) (p : Plan) (s : Scope) (at n : ℕ) (c : Code) → stmt_error s at x ≡ None → Fine n (scope_after s x).kinds c → Fine n s.kinds (followed (stmt_code p s x) c)

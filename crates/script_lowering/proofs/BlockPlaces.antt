@@ -17,7 +17,7 @@ use Rattle.script_lowering.specs.declared.counts.Counts.{Counts}
 use Rattle.script_lowering.specs.Plan.{Plan, executor_at}
 use Rattle.script_lowering.specs.Lowered.{numbers_in, handles_in, handle_place, place_named, term_at, lowered, lowered_if, target_of, task_named, wanted_of, wait_to, set_at, value_to, make_to, cancelled_named, action_code, headed_code, stmt_code, block_code}
 use Rattle.script_lowering.specs.Counts.{counts_of, counts_after, counts_within, most_in, most_of}
-use Rattle.script_lowering.specs.Places.{TermBelow, PlaceBelow, TargetBelow, WantedBelow, CancelledBelow, DeedBelow, PlacesBelow, HoldsNoField}
+use Rattle.script_lowering.specs.Places.{TermBelow, PlaceBelow, TargetBelow, WantedBelow, CancelledBelow, OperationBelow, PlacesBelow, HoldsNoField}
 use Rattle.script_lowering.proofs.Clear.{earlier_none, at_name_none, or_else_none, is_group}
 use Rattle.script_lowering.proofs.Joined.{each_then}
 use Rattle.script_lowering.proofs.Counted.{AtMost, same, still, first_at_most, second_at_most, grows_of, after_counted, within_counted}
@@ -81,7 +81,7 @@ wait_below p s c h at place w k e =
     let parts = earlier_none (awaited_error s at w.for) _ e in
     (wanted_below p s c h at w.for parts.0, ((k, other_below p s c h (past_awaited w.for at) w.other parts.1), tt))
 
-set_below : (c : Counts) (place : Place) (t : code.Term) → PlaceBelow c place → TermBelow c t → DeedBelow c (set_at place t)
+set_below : (c : Counts) (place : Place) (t : code.Term) → PlaceBelow c place → TermBelow c t → OperationBelow c (set_at place t)
 set_below c (Variable x) t h k = (h, k)
 set_below c (Field p) t h k = k
 
@@ -89,7 +89,7 @@ value_below : (p : Plan) (s : Scope) (c : Counts) → Has s c → (at : ℕ) (pl
 value_below p s c h at place (Computed t) k e = (set_below c place (lowered p s t) k (term_below p s c h at t e), tt)
 value_below p s c h at place (Waited w) k e = wait_below p s c h at (Some place) w k e
 
-make_below : (p : Plan) (s : Scope) (c : Counts) → Has s c → (at : ℕ) (handle : Option ℕ) (m : MakeTree) → IfSome handle (λ x. x < c.handles) → make_error s at m ≡ None → DeedBelow c (make_to p s handle m)
+make_below : (p : Plan) (s : Scope) (c : Counts) → Has s c → (at : ℕ) (handle : Option ℕ) (m : MakeTree) → IfSome handle (λ x. x < c.handles) → make_error s at m ≡ None → OperationBelow c (make_to p s handle m)
 make_below p s c h at handle (Spawned x given) k e = (target_below p s c h at x e, k)
 make_below p s c h at handle (Detached x given) k e = (target_below p s c h at x e, k)
 
@@ -116,8 +116,8 @@ headed_below p s c h at (If t) inner few e k = (term_below p s c h at t e, k, tt
 headed_below p s c h at (While t) inner few e k = (term_below p s c h at t e, k, tt)
 headed_below p s c h at (Bind n t) inner few e k =
     let parts = earlier_none (at_name at (declared_fault s.directory.locals n)) _ e in
-    (term_below p s c h (suc at) t parts.1, each_then (DeedBelow c) (TermBelow c) inner (act code.unbind end) k (tt, tt))
-headed_below p s c h at (Group n) inner few e k = (omega (arith, few.few_handles), each_then (DeedBelow c) (TermBelow c) inner (act code.close_group end) k (tt, tt))
+    (term_below p s c h (suc at) t parts.1, each_then (OperationBelow c) (TermBelow c) inner (act code.unbind end) k (tt, tt))
+headed_below p s c h at (Group n) inner few e k = (omega (arith, few.few_handles), each_then (OperationBelow c) (TermBelow c) inner (act code.close_group end) k (tt, tt))
 headed_below p s c h at (Assume n) inner few e k =
     cond_both (executor_at p (place_of s.directory.actors n) == executor_at p s.actor) (act code.assume inner) (act code.isolated end) (PlacesBelow c) (λ _. (tt, k)) (λ _. (tt, tt))
 
@@ -152,7 +152,7 @@ mutual
       let others = second_at_most (most_in (counts_of s.kinds) x) (most_of (counts_after (counts_of s.kinds) x) xs) few in
       let after : AtMost (counts_after (counts_of s.kinds) x) c = still (grows_of _ xs) others in
       let rest : AtMost (most_of (counts_of (scope_after s x).kinds) xs) c = subst (λ n. AtMost (most_of n xs) c) (sym (after_counted s x)) others in
-      each_then (DeedBelow c) (TermBelow c) (stmt_code p s x) (block_code p (scope_after s x) xs)
+      each_then (OperationBelow c) (TermBelow c) (stmt_code p s x) (block_code p (scope_after s x) xs)
       (stmt_below x p s c at h one parts.0)
       (block_below xs p (scope_after s x) c (past_stmt x at) (has_after s c x h after) rest parts.1)
 

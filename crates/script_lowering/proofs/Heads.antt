@@ -15,7 +15,7 @@ use Rattle.script_grammar.specs.Tree.{ExprTree, HeadTree, If, While, Bind, Group
 use Rattle.script_lowering.specs.Plan.{Plan, executor_at}
 use Rattle.script_lowering.specs.Lowered.{lowered, headed_code}
 use Rattle.script_lowering.specs.Heads.{foot, HeadsAs, is_isolated, is_loop}
-use Rattle.script_lowering.proofs.Lines.{IsWritten, lines_then, start_then, deed_lines, deed_start, choice_lines, choice_start}
+use Rattle.script_lowering.proofs.Lines.{IsWritten, lines_then, start_then, operation_lines, operation_start, choice_lines, choice_start}
 
 -- What a block with its head becomes, where it is no loop and is run: its foot, its block, and an instruction of its head.
 pub record HasParts (p : Plan) (s : Scope) (h : HeadTree) (inner : Code) (a : Act) (l m n o : List Instruction) (q last first number : ℕ) : Type 0 where
@@ -37,16 +37,16 @@ if_written p s t inner a l m n o q last first number h =
       start = choice_start (lowered p s t) inner end l l n q number none lines h.head_number;
     }
 
--- a deed in front of a block
-deed_written : (p : Plan) (s : Scope) (h : HeadTree) (d : code.Deed) (inner : Code) (a : Act) (l m n o : List Instruction) (q last first number : ℕ)
+-- an operation in front of a block
+operation_written : (p : Plan) (s : Scope) (h : HeadTree) (d : code.Operation) (inner : Code) (a : Act) (l m n o : List Instruction) (q last first number : ℕ)
     → ((at : ℕ → Code) (next : ℕ) → first_by at a next q ≡ does d (at next))
     → HasParts p s h inner a l m n o q last first number → IsWritten (act d (followed inner (foot h))) l o q number
-deed_written p s h d inner a l m n o q last first number is k =
+operation_written p s h d inner a l m n o q last first number is k =
     let lines = lines_then inner (foot h) l m n q last k.foot_lines k.foot_start k.block_lines in
     let start = start_then inner (foot h) l m q last first k.foot_lines k.foot_start k.block_start in
     record {
-      lines = deed_lines d (followed inner (foot h)) _ l n o q first lines start (λ i at. is at first i) k.head_line;
-      start = deed_start d (followed inner (foot h)) l n q number lines k.head_number;
+      lines = operation_lines d (followed inner (foot h)) _ l n o q first lines start (λ i at. is at first i) k.head_line;
+      start = operation_start d (followed inner (foot h)) l n q number lines k.head_number;
     }
 
 assumed : (b : Bool) (inner : Code) → not b ≡ false → act code.assume inner ≡ (if b then act code.assume inner else act code.isolated end)
@@ -58,8 +58,8 @@ pub head_written : (p : Plan) (s : Scope) (h : HeadTree) (inner : Code) (a : Act
     → HasParts p s h inner a l m n o q last first number → IsWritten (headed_code p s h inner) l o q number
 head_written p s (If t) inner a l m n o q last first number x y k = if_written p s t inner a l m n o q last first number k
 head_written p s (While t) inner a l m n o q last first number x y k = absurd (cc)
-head_written p s (Bind name t) inner a l m n o q last first number x y k = deed_written p s (Bind name t) _ inner a l m n o q last first number (λ at next. k.heads at next q) k
-head_written p s (Group name) inner a l m n o q last first number x y k = deed_written p s (Group name) _ inner a l m n o q last first number (λ at next. k.heads at next q) k
+head_written p s (Bind name t) inner a l m n o q last first number x y k = operation_written p s (Bind name t) _ inner a l m n o q last first number (λ at next. k.heads at next q) k
+head_written p s (Group name) inner a l m n o q last first number x y k = operation_written p s (Group name) _ inner a l m n o q last first number (λ at next. k.heads at next q) k
 head_written p s (Assume name) inner a l m n o q last first number x y k =
-    let written_so = deed_written p s (Assume name) code.assume inner a l m n o q last first number (λ at next. k.heads at next q) k in
+    let written_so = operation_written p s (Assume name) code.assume inner a l m n o q last first number (λ at next. k.heads at next q) k in
     subst (λ (c : Code). IsWritten c l o q number) (ap (act code.assume) (then_end inner) ∙ assumed (executor_at p (place_of s.directory.actors name) == executor_at p s.actor) inner y) written_so

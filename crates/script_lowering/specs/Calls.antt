@@ -4,7 +4,7 @@ use Rattle.script_grammar.specs.Tree.{RootTree}
 use Rattle.script_names.specs.Texts.{place_of}
 use Rattle.script_names.specs.Methods.{method_key}
 use Rattle.script_names.specs.Directory.{Directory, method_place}
-use Rattle.script_code.specs.Tree.{Target, Wanted, call, Deed, wait, spawn, detach, add, Code}
+use Rattle.script_code.specs.Tree.{Target, Wanted, call, Operation, wait, spawn, detach, add, Code}
 use Rattle.script_lowering.specs.Parts.{EachPart}
 
 -- A call of a method of an actor, both by their numbers, with so many arguments: the actor is there, the method is one of
@@ -25,16 +25,16 @@ WantedFits d (call t) = TargetFits d t
 WantedFits d _ = Unit {0}
 
 -- So is the call that a statement makes: it waits for one, or makes a task or a child that runs one. No other makes any.
-abbrev pub DeedFits : Directory → Deed → Type 0
-DeedFits d (wait w) = WantedFits d w
-DeedFits d (spawn t given handle) = TargetFits d t
-DeedFits d (detach t given handle) = TargetFits d t
-DeedFits d (add group unless t given) = TargetFits d t
-DeedFits d _ = Unit {0}
+abbrev pub OperationFits : Directory → Operation → Type 0
+OperationFits d (wait w) = WantedFits d w
+OperationFits d (spawn t given handle) = TargetFits d t
+OperationFits d (detach t given handle) = TargetFits d t
+OperationFits d (add group unless t given) = TargetFits d t
+OperationFits d _ = Unit {0}
 
 -- Every call of the code is so.
 abbrev pub TargetsFit : Directory → Code → Type 0
-TargetsFit d body = EachPart (DeedFits d) (λ t. Unit {0}) body
+TargetsFit d body = EachPart (OperationFits d) (λ t. Unit {0}) body
 
 -- So is the call of a root.
 abbrev pub RootFits : Directory → RootTree → Type 0

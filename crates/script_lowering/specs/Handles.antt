@@ -4,7 +4,7 @@ use Rattle.script_names.specs.declared.scope.NameKind.{NameKind}
 use Rattle.script_names.specs.declared.scope.NameKind.TheVariants as kind
 use Rattle.script_code.specs.declared.instruction.Cancelled.{Cancelled}
 use Rattle.script_code.specs.declared.instruction.Cancelled.TheVariants as cancelled_one
-use Rattle.script_code.specs.Tree.{Wanted, task, next, Deed, wait, spawn, detach, add, cancel, open_group, Code}
+use Rattle.script_code.specs.Tree.{Wanted, task, next, Operation, wait, spawn, detach, add, cancel, open_group, Code}
 use Rattle.script_code.specs.Instructions.{NextAction, ends, does, tests, first}
 
 -- what each handle holds, if it holds anything yet: a task or a group
@@ -25,7 +25,7 @@ task_kept None held = held
 task_kept (Some h) held = held_at h kind.Task held
 
 -- what handles hold after a statement
-abbrev pub held_after : Deed → Held → Held
+abbrev pub held_after : Operation → Held → Held
 held_after (spawn t given handle) held = task_kept handle held
 held_after (detach t given handle) held = task_kept handle held
 held_after (open_group h) held = held_at h kind.Group held
@@ -44,16 +44,16 @@ CancelledMatches held (cancelled_one.Group h) = held h ≡ Some kind.Group
 CancelledMatches held (cancelled_one.Root r) = Unit {0}
 
 -- Each handle that a statement uses holds what it is used as.
-abbrev pub DeedMatches : Held → Deed → Type 0
-DeedMatches held (wait w) = WantedMatches held w
-DeedMatches held (add group unless t given) = held group ≡ Some kind.Group
-DeedMatches held (cancel x) = CancelledMatches held x
-DeedMatches held _ = Unit {0}
+abbrev pub OperationMatches : Held → Operation → Type 0
+OperationMatches held (wait w) = WantedMatches held w
+OperationMatches held (add group unless t given) = held group ≡ Some kind.Group
+OperationMatches held (cancel x) = CancelledMatches held x
+OperationMatches held _ = Unit {0}
 
 -- So it is of what is done next, and then of the rest, also after a test, whichever way it goes.
 abbrev pub NextMatches : (Held → Code → Type 0) → Held → NextAction → Type 0
 NextMatches Rest held ends = Unit {0}
-NextMatches Rest held (does d rest) = DeedMatches held d × Rest (held_after d held) rest
+NextMatches Rest held (does d rest) = OperationMatches held d × Rest (held_after d held) rest
 NextMatches Rest held (tests t a b) = Rest held a × Rest held b
 
 -- So it is of the next so many statements and tests of the code.

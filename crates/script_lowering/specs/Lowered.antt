@@ -13,7 +13,7 @@ use Rattle.script_code.specs.declared.instruction.Place.TheVariants.{Variable, F
 use Rattle.script_code.specs.declared.instruction.Cancelled.{Cancelled}
 use Rattle.script_code.specs.declared.instruction.Cancelled.TheVariants as cancelled_one
 use Rattle.script_code.specs.Tree as code
-use Rattle.script_code.specs.Tree.{Term, Target, Wanted, Deed, Code, followed, end, act, choice, loop}
+use Rattle.script_code.specs.Tree.{Term, Target, Wanted, Operation, Code, followed, end, act, choice, loop}
 use Rattle.script_lowering.specs.Plan.{Plan, executor_at, seat_of}
 
 -- whether what stands under a name is a number
@@ -95,7 +95,7 @@ abbrev pub wait_to : Plan → Scope → Option Place → WaitTree → Code
 wait_to p s place w = act (code.wait (wanted_of p s w.for)) (act (code.receive place (lowered_if p s w.other)) end)
 
 -- what is set to an expression: a variable or a field
-abbrev pub set_at : Place → Term → Deed
+abbrev pub set_at : Place → Term → Operation
 set_at (Variable k) t = code.set_variable k t
 set_at (Field f) t = code.set_field f t
 
@@ -104,7 +104,7 @@ value_to p s place (Computed t) = act (set_at place (lowered p s t)) end
 value_to p s place (Waited w) = wait_to p s (Some place) w
 
 -- a task that is made, whose number goes to a handle, if there is one
-abbrev pub make_to : Plan → Scope → Option ℕ → MakeTree → Deed
+abbrev pub make_to : Plan → Scope → Option ℕ → MakeTree → Operation
 make_to p s handle (Spawned c priority) = code.spawn (target_of p s c) priority handle
 make_to p s handle (Detached c priority) = code.detach (target_of p s c) priority handle
 

@@ -9,7 +9,7 @@ use Rattle.script_code.specs.declared.instruction.Place.{Place}
 use Rattle.script_code.specs.declared.instruction.Place.TheVariants.{Variable, Field}
 use Rattle.script_code.specs.declared.instruction.Cancelled.{Cancelled}
 use Rattle.script_code.specs.declared.instruction.Cancelled.TheVariants as cancelled_one
-use Rattle.script_code.specs.Tree.{Term, number, variable, field, local, priority, cancelled, opposite, denial, binary, Target, Wanted, call, root, task, next, Deed, set_variable, set_field, return, throw, check, yield, wait, receive, spawn, detach, add, cancel, open_group, close_group, bind, unbind, assume, isolated, Code}
+use Rattle.script_code.specs.Tree.{Term, number, variable, field, local, priority, cancelled, opposite, denial, binary, Target, Wanted, call, root, task, next, Operation, set_variable, set_field, return, throw, check, yield, wait, receive, spawn, detach, add, cancel, open_group, close_group, bind, unbind, assume, isolated, Code}
 use Rattle.script_lowering.specs.declared.counts.Counts.{Counts}
 use Rattle.script_lowering.specs.Parts.{EachPart}
 
@@ -48,29 +48,29 @@ CancelledBelow c (cancelled_one.Group h) = h < c.handles
 CancelledBelow c (cancelled_one.Root r) = Unit {0}
 
 -- All places of a statement are below: those that it reads, sets, uses and keeps.
-abbrev pub DeedBelow : Counts → Deed → Type 0
-DeedBelow c (set_variable x t) = (x < c.numbers) × TermBelow c t
-DeedBelow c (set_field p t) = TermBelow c t
-DeedBelow c (return t) = TermBelow c t
-DeedBelow c (throw t) = TermBelow c t
-DeedBelow c check = Unit {0}
-DeedBelow c yield = Unit {0}
-DeedBelow c (wait w) = WantedBelow c w
-DeedBelow c (receive place other) = IfSome place (PlaceBelow c) × IfSome other (TermBelow c)
-DeedBelow c (spawn t given handle) = TargetBelow c t × IfSome handle (λ h. h < c.handles)
-DeedBelow c (detach t given handle) = TargetBelow c t × IfSome handle (λ h. h < c.handles)
-DeedBelow c (add group unless t given) = (group < c.handles) × TargetBelow c t
-DeedBelow c (cancel x) = CancelledBelow c x
-DeedBelow c (open_group h) = h < c.handles
-DeedBelow c close_group = Unit {0}
-DeedBelow c (bind l t) = TermBelow c t
-DeedBelow c unbind = Unit {0}
-DeedBelow c assume = Unit {0}
-DeedBelow c isolated = Unit {0}
+abbrev pub OperationBelow : Counts → Operation → Type 0
+OperationBelow c (set_variable x t) = (x < c.numbers) × TermBelow c t
+OperationBelow c (set_field p t) = TermBelow c t
+OperationBelow c (return t) = TermBelow c t
+OperationBelow c (throw t) = TermBelow c t
+OperationBelow c check = Unit {0}
+OperationBelow c yield = Unit {0}
+OperationBelow c (wait w) = WantedBelow c w
+OperationBelow c (receive place other) = IfSome place (PlaceBelow c) × IfSome other (TermBelow c)
+OperationBelow c (spawn t given handle) = TargetBelow c t × IfSome handle (λ h. h < c.handles)
+OperationBelow c (detach t given handle) = TargetBelow c t × IfSome handle (λ h. h < c.handles)
+OperationBelow c (add group unless t given) = (group < c.handles) × TargetBelow c t
+OperationBelow c (cancel x) = CancelledBelow c x
+OperationBelow c (open_group h) = h < c.handles
+OperationBelow c close_group = Unit {0}
+OperationBelow c (bind l t) = TermBelow c t
+OperationBelow c unbind = Unit {0}
+OperationBelow c assume = Unit {0}
+OperationBelow c isolated = Unit {0}
 
 -- Every place that code names is below the number of places.
 abbrev pub PlacesBelow : Counts → Code → Type 0
-PlacesBelow c body = EachPart (DeedBelow c) (TermBelow c) body
+PlacesBelow c body = EachPart (OperationBelow c) (TermBelow c) body
 
 -- whether a kind is that of a field
 abbrev pub is_field : NameKind → Bool

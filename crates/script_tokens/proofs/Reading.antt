@@ -2,7 +2,7 @@
 use Rattle.std.proofs.Common.{◌≡◌, ◌≤◌, ◌<◌, ◌+◌, ◌-◌, min, ℕ, List, [], ◌∷◌, ◌++◌, length, Option, Some, None, refl, sym, arith, append_assoc, length-append}
 use Rattle.std.proofs.lemmas.List.{append-nil}
 use Rattle.script_tokens.specs.Lexes.{Lexes, front_of, at_end, separated, next_is}
-use Rattle.script_tokens.specs.Lines.{line_feeds, line_behind, line_of, feeds_at, BeginOn, none_left, none_here, one_here}
+use Rattle.script_tokens.specs.Lines.{line_feeds, line_after, line_of, feeds_at, BeginOn, none_left, none_here, one_here}
 use Rattle.script_tokens.specs.Pieces.{Piece}
 
 -- what completes the rest completes the whole
@@ -20,7 +20,7 @@ Begins o rest bs = let found : Option Piece × List ℕ = (o, rest) in found ≡
 pub begun : (text : List ℕ) (line : ℕ) → line ≡ 1 → Reading text text [] [] line
 begun text line e = record { tokens = λ tail d. d; lines = λ tail d. d; as_many = refl; line_is = omega arith; fewer = omega arith }
 
-next_line_is : (whole before here after line line' : ℕ) → line ≡ line_behind (whole - before) → line' ≡ min 4294967295 (line + here) → before ≤ whole → before ≡ here + after → line' ≡ line_behind (whole - after)
+next_line_is : (whole before here after line line' : ℕ) → line ≡ line_after (whole - before) → line' ≡ min 4294967295 (line + here) → before ≤ whole → before ≡ here + after → line' ≡ line_after (whole - after)
 next_line_is whole before here after line line' e e' le s = omega arith
 
 pub passed_by : {text rest after : List ℕ} {ps : List Piece} {ls : List ℕ} {line : ℕ} (line' : ℕ) → Reading text rest ps ls line → 0 < length rest → Begins None after rest → line_feeds rest ≡ feeds_at rest + line_feeds after → line' ≡ min 4294967295 (line + feeds_at rest) → Reading text after ps ls line'

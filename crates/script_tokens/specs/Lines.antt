@@ -17,12 +17,12 @@ feeds_at [] = 0
 feeds_at (b ∷ bs) = if is_line_feed b then 1 else 0
 
 -- the line that is open after so many line feeds: lines count from 1, and no further than a `u32` does
-abbrev pub line_behind : ℕ → ℕ
-line_behind feeds = min 4294967295 (1 + feeds)
+abbrev pub line_after : ℕ → ℕ
+line_after feeds = min 4294967295 (1 + feeds)
 
 -- the line on which `rest` begins, which is the end of `text`
 abbrev pub line_of : List ℕ → List ℕ → ℕ
-line_of text rest = line_behind (line_feeds text - line_feeds rest)
+line_of text rest = line_after (line_feeds text - line_feeds rest)
 
 -- Of `text`, the tokens of its end begin on these lines, in order.
 pub data BeginOn (text : List ℕ) : List ℕ → List ℕ → Type 0 where

@@ -2,7 +2,7 @@
 
 ghost use Rattle.std.specs.Prelude.{◌≡◌, ◌+◌, map, min, length, IfOk};
 ghost use Rattle.script_tokens.specs.Lexes.{Lexes};
-ghost use Rattle.script_tokens.specs.Lines.{line_feeds, line_behind, feeds_at, BeginOn};
+ghost use Rattle.script_tokens.specs.Lines.{line_feeds, line_after, feeds_at, BeginOn};
 ghost use Rattle.script_tokens.specs.Pieces.{piece};
 
 use crate::front::front;
@@ -30,7 +30,7 @@ pub fn tokens(alloc: Global, text: &[u8]) -> Result<Tokens, AllocError>
     // Each token has a line.
     ensures as_many { IfOk result (λ t. length t.lines.items ≡ length t.tokens.items) }
     // The text ends on this line.
-    ensures last_line { IfOk result (λ t. t.last_line ≡ line_behind (line_feeds text.now)) }
+    ensures last_line { IfOk result (λ t. t.last_line ≡ line_after (line_feeds text.now)) }
 {
     let mut found = Tokens {
         tokens: Vec::new(alloc),

@@ -7,7 +7,7 @@ use Rattle.swift_types.specs.declared.outcome.Fault.{Fault}
 use Rattle.swift_types.specs.declared.outcome.Fault.TheVariants.{Invariant, Turns}
 use Rattle.swift_types.specs.declared.outcome.Resume.{Resume}
 use Rattle.swift_types.specs.declared.outcome.Resume.TheVariants.{Start, Go, Value, Fault as Raise}
-use Rattle.script_code.specs.Tree.{Term, Deed, Wanted, Code}
+use Rattle.script_code.specs.Tree.{Term, Operation, Wanted, Code}
 use Rattle.script_code.specs.Tree as code
 use Rattle.script_code.specs.Value.{ev, evs}
 use Rattle.script_code.specs.Instructions.{NextAction, first, ends, does, tests}
@@ -74,7 +74,7 @@ cancel_on x handles (subject.Root r) = tt
 cancel_on x handles (subject.Task y) = tt
 cancel_on x handles (subject.Group y) = tt
 
-perform_steps : (g : Given) (d : Deed) (rest : Code) (s : State) → Step (standing g s) s.effects (perform g d rest s)
+perform_steps : (g : Given) (d : Operation) (rest : Code) (s : State) → Step (standing g s) s.effects (perform g d rest s)
 perform_steps g (code.set_variable x t) rest s = value_steps (standing g s) (ev t (scene g s)) s _ (λ v. inl refl)
 perform_steps g (code.set_field p t) rest s = value_steps (standing g s) (ev t (scene g s)) s _ (λ v. inl refl)
 perform_steps g (code.return t) rest s = value_steps (standing g s) (ev t (scene g s)) s _ (λ v. refl)

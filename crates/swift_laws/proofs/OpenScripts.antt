@@ -17,26 +17,26 @@ use Rattle.script_parser.specs.declared.limits.TheConstants.{NESTING}
 use Rattle.script_code.specs.declared.instruction.Place.{Place}
 use Rattle.script_code.specs.declared.instruction.Place.TheVariants.{Variable, Field}
 use Rattle.script_code.specs.Tree as code
-use Rattle.script_code.specs.Tree.{Term, Deed, Code, end, act, followed}
+use Rattle.script_code.specs.Tree.{Term, Operation, Code, end, act, followed}
 use Rattle.script_lowering.specs.Plan.{Plan}
 use Rattle.script_lowering.specs.Lowered.{numbers_in, handles_in, place_named, set_at, value_to, make_to, action_code, headed_code, stmt_code, block_code}
 use Rattle.script_compiler.specs.Compiled.{MethodView, plan_in, method_of, method_scope, methods_from}
 use Rattle.swift_script.specs.Scripts.{ScriptView, parts_of, no_method}
 use Rattle.swift_script.specs.Accepted.{WasAccepted}
-use Rattle.swift_laws.specs.Accepted.{after_deed, LeadsTo, ClosesGroups}
+use Rattle.swift_laws.specs.Accepted.{after_operation, LeadsTo, ClosesGroups}
 
 -- statements one after the other
 
-deed_map : (d : Deed) (P Q : ℕ → Type 0) → ((k : ℕ) → P k → Q k) → (n : ℕ) → after_deed d P n → after_deed d Q n
-deed_map (code.return t) P Q f n h = h
-deed_map (code.open_group x) P Q f n h = f (suc n) h
-deed_map code.close_group P Q f zero h = absurd h
-deed_map code.close_group P Q f (suc n) h = f n h
-deed_map d P Q f n h = f n h
+operation_map : (d : Operation) (P Q : ℕ → Type 0) → ((k : ℕ) → P k → Q k) → (n : ℕ) → after_operation d P n → after_operation d Q n
+operation_map (code.return t) P Q f n h = h
+operation_map (code.open_group x) P Q f n h = f (suc n) h
+operation_map code.close_group P Q f zero h = absurd h
+operation_map code.close_group P Q f (suc n) h = f n h
+operation_map d P Q f n h = f n h
 
 leads_followed : (a b : Code) (n k m : ℕ) → LeadsTo a n k → LeadsTo b k m → LeadsTo (followed a b) n m
 leads_followed end b n k m p q = subst (λ (j : ℕ). LeadsTo b j m) (sym p) q
-leads_followed (act d rest) b n k m p q = deed_map d (λ j. LeadsTo rest j k) (λ j. LeadsTo (followed rest b) j m) (λ j h. leads_followed rest b j k m h q) n p
+leads_followed (act d rest) b n k m p q = operation_map d (λ j. LeadsTo rest j k) (λ j. LeadsTo (followed rest b) j m) (λ j h. leads_followed rest b j k m h q) n p
 leads_followed (code.choice t x y rest) b n k m p q = (p.0, p.1, leads_followed rest b n k m p.2 q)
 leads_followed (code.loop t x rest) b n k m p q = (p.0, leads_followed rest b n k m p.1 q)
 

@@ -2,7 +2,7 @@
 use Rattle.std.specs.Prelude.{◌≡◌, ℕ, ◌<◌, zero, suc, length, Contains}
 use Rattle.swift_types.specs.declared.id.TaskId.{TaskId}
 use Rattle.swift_types.specs.declared.outcome.Resume.{Resume}
-use Rattle.script_code.specs.Tree.{Deed, return, open_group, close_group, Code, end, act, choice, loop}
+use Rattle.script_code.specs.Tree.{Operation, return, open_group, close_group, Code, end, act, choice, loop}
 use Rattle.swift_script.specs.Scripts.{ScriptView, method_code, root_count}
 use Rattle.swift_script.specs.Accepted.{WasAccepted}
 use Rattle.swift_events.specs.declared.event.Event.TheVariants.{Give}
@@ -11,17 +11,17 @@ use Rattle.swift_laws.specs.Laws.{TurnPlace, HasTurn, turns_of, ActorsHaveExecut
 
 -- What a statement asks for, with so many groups open: a `return` stands where none is, and the end of a group's block where one
 -- is. `rest` says what is asked of what follows, by how many are open there.
-abbrev pub after_deed : Deed → (ℕ → Type 0) → ℕ → Type 0
-after_deed (return t) rest n = n ≡ 0
-after_deed (open_group h) rest n = rest (suc n)
-after_deed close_group rest zero = ⊥
-after_deed close_group rest (suc n) = rest n
-after_deed d rest n = rest n
+abbrev pub after_operation : Operation → (ℕ → Type 0) → ℕ → Type 0
+after_operation (return t) rest n = n ≡ 0
+after_operation (open_group h) rest n = rest (suc n)
+after_operation close_group rest zero = ⊥
+after_operation close_group rest (suc n) = rest n
+after_operation d rest n = rest n
 
 -- Statements lead from so many open groups to so many, whichever way they are gone through.
 abbrev pub LeadsTo : Code → ℕ → ℕ → Type 0
 LeadsTo end n m = n ≡ m
-LeadsTo (act d rest) n m = after_deed d (λ k. LeadsTo rest k m) n
+LeadsTo (act d rest) n m = after_operation d (λ k. LeadsTo rest k m) n
 LeadsTo (choice t a b rest) n m = LeadsTo a n n × LeadsTo b n n × LeadsTo rest n m
 LeadsTo (loop t a rest) n m = LeadsTo a n n × LeadsTo rest n m
 

@@ -5,7 +5,7 @@ use Rattle.swift_types.specs.declared.limits.TheConstants.{BYTES}
 use Rattle.script_tokens.specs.declared.keyword.Keyword.TheVariants as key
 use Rattle.script_tokens.specs.Bytes.{is_text_byte}
 use Rattle.script_tokens.specs.Lexes.{Lexes}
-use Rattle.script_tokens.specs.Lines.{line_feeds, line_behind, BeginOn}
+use Rattle.script_tokens.specs.Lines.{line_feeds, line_after, BeginOn}
 use Rattle.script_tokens.specs.Pieces.{Piece, Name, Key}
 use Rattle.script_grammar.specs.Tree.{ActorTree, DeclTree}
 use Rattle.script_grammar.specs.Grammar.{IsScript}
@@ -24,7 +24,7 @@ use Rattle.swift_script.specs.Accepted.{first_false, RootWaits}
 
 -- the line on which a text ends
 abbrev pub last_line : List ℕ → ℕ
-last_line text = line_behind (line_feeds text)
+last_line text = line_after (line_feeds text)
 
 -- A text consists of these tokens, which begin on these lines, in order.
 pub record AreTokens (text : List ℕ) (pieces : List Piece) (lines : List ℕ) : Type 0 where
@@ -107,7 +107,7 @@ pub record RootStandsOn (text : List ℕ) (line : ℕ) : Type 0 where
 -- the line of a refusal, by its kind
 abbrev pub StandsOn : ScriptFaultKind → List ℕ → ℕ → Type 0
 -- the first byte outside text: the LFs before it count
-StandsOn kind.NotText text line = line ≡ line_behind (line_feeds (take_while is_text_byte text))
+StandsOn kind.NotText text line = line ≡ line_after (line_feeds (take_while is_text_byte text))
 StandsOn kind.Unexpected text line = TokenStandsOn text grammar.Unexpected line
 StandsOn kind.OutOfRange text line = TokenStandsOn text grammar.OutOfRange line
 StandsOn kind.NameTwice text line = NameStandsOn text names.Twice line

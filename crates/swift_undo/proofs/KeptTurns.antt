@@ -5,7 +5,7 @@ use Rattle.swift_types.specs.declared.outcome.Fault.{Fault}
 use Rattle.swift_types.specs.declared.outcome.Fault.TheVariants.{Thrown, Cancelled, Invariant, Overflow, Steps, Turns, Depth, Tasks, Empty, Isolation}
 use Rattle.swift_types.specs.declared.outcome.Resume.{Resume}
 use Rattle.swift_types.specs.declared.outcome.Resume.TheVariants.{Start, Go, Value, Fault as Raise}
-use Rattle.script_code.specs.Tree.{Term, Deed, Wanted, Code}
+use Rattle.script_code.specs.Tree.{Term, Operation, Wanted, Code}
 use Rattle.script_code.specs.Tree as code
 use Rattle.script_code.specs.Value.{ev, evs, holds}
 use Rattle.script_code.specs.Instructions.{NextAction, first, ends, does, tests}
@@ -89,7 +89,7 @@ wait_plain : (g : Given) (w : Wanted) (rest : Code) (s : State) → PlainNext (T
 wait_plain g (code.call c) rest s = invocation_plain (Turn.invoked c (evs c.args (scene g s))) s _ (λ i. tt)
 wait_plain g w rest s = tt
 
-perform_plain : (g : Given) (d : Deed) (rest : Code) (s : State) → PlainNext (perform g d rest s)
+perform_plain : (g : Given) (d : Operation) (rest : Code) (s : State) → PlainNext (perform g d rest s)
 perform_plain g (code.set_variable x t) rest s = value_plain (ev t (scene g s)) s _ (λ v. tt)
 perform_plain g (code.set_field p t) rest s = value_plain (ev t (scene g s)) s _ (λ v. tt)
 perform_plain g (code.return t) rest s = value_plain (ev t (scene g s)) s _ (λ v. tt)
