@@ -11,7 +11,7 @@ pub struct CompiledExecutor {
     pub name: Vec<u8>,
     /// How it takes its jobs: `Priority` for an actor's own executor.
     pub kind: ExecutorKind,
-    /// The actors that run on it, in text order. An actor's place here is its seat.
+    /// The actors that run on it, in text order.
     pub actors: Vec<ActorId>,
     /// The invariants of those of its actors that have one, in the same order (our own).
     pub invariants: Vec<Formula>,

@@ -14,7 +14,7 @@ use Rattle.script_code.specs.declared.instruction.Cancelled.{Cancelled}
 use Rattle.script_code.specs.declared.instruction.Cancelled.TheVariants as cancelled_one
 use Rattle.script_code.specs.Tree as code
 use Rattle.script_code.specs.Tree.{Term, Target, Wanted, Operation, Code, followed, end, act, choice, loop}
-use Rattle.script_lowering.specs.Plan.{Plan, executor_at, seat_of}
+use Rattle.script_lowering.specs.Plan.{Plan, executor_at, actor_place_of}
 
 -- whether what stands under a name is a number
 abbrev pub is_number : NameKind → Bool
@@ -44,9 +44,9 @@ number_place s name = count_by is_number (take (place_of s.names name) s.kinds)
 abbrev pub handle_place : Scope → List ℕ → ℕ
 handle_place s name = count_by is_handle (take (place_of s.names name) s.kinds)
 
--- the place of a field: the seat of its actor on its executor, and its place in the actor
+-- the place of a field: that of its actor among the actors of its executor, and its own in the actor
 abbrev pub field_place : Plan → Scope → List ℕ → FieldPlace
-field_place p s name = record { actor = seat_of p s.actor; field = place_of (fields_at s.directory s.actor) name }
+field_place p s name = record { actor = actor_place_of p s.actor; field = place_of (fields_at s.directory s.actor) name }
 
 -- the place that a name stands for: the field of that name, or else the variable
 unfoldable pub place_named : Plan → Scope → List ℕ → Place

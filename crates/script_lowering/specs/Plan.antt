@@ -38,13 +38,13 @@ executor_at p actor = unwrap_or (slice_get p.executors actor) 0
 
 -- the place of an actor among the actors of its executor, by the executor of each actor: how many of those stand before
 -- it
-abbrev pub seat_in : List ℕ → ℕ → ℕ
-seat_in executors actor = count_by (λ e. e == unwrap_or (slice_get executors actor) 0) (take actor executors)
+abbrev pub actor_place_in : List ℕ → ℕ → ℕ
+actor_place_in executors actor = count_by (λ e. e == unwrap_or (slice_get executors actor) 0) (take actor executors)
 
-abbrev pub seat_of : Plan → ℕ → ℕ
-seat_of p actor = seat_in p.executors actor
+abbrev pub actor_place_of : Plan → ℕ → ℕ
+actor_place_of p actor = actor_place_in p.executors actor
 
--- each actor's seat
-pub record AreSeats (executors seats : List ℕ) : Type 0 where
-  pub as_many : length seats ≡ length executors
-  pub each : (k : ℕ) → k < length seats → get_or seats k 0 ≡ seat_in executors k
+-- the place of each actor among those of its executor
+pub record AreActorPlaces (executors places : List ℕ) : Type 0 where
+  pub as_many : length places ≡ length executors
+  pub each : (k : ℕ) → k < length places → get_or places k 0 ≡ actor_place_in executors k

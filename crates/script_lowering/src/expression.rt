@@ -21,7 +21,7 @@ pub(crate) fn place(plan: &Plan, scope: &Standing<'_>, name: &[u8]) -> Result<Pl
 {
     match scope.field(name) {
         Some(field) => Ok(Place::Field(FieldPlace {
-            actor: plan.seat(scope.actor())?,
+            actor: plan.actor_place(scope.actor())?,
             field: to_u32(field)?,
         })),
         None => Ok(Place::Variable(scope.number_place(name))),

@@ -4,7 +4,7 @@ ghost use Rattle.std.specs.Prelude.{◌≡◌, ◌==◌, ℕ, pos, ◌∷◌, �
 ghost use Rattle.script_grammar.specs.Tree.{text_if, view_decl};
 ghost use Rattle.script_names.specs.Texts.{place_of};
 ghost use Rattle.script_names.specs.Directory.{directory_of, executors_in};
-ghost use Rattle.script_lowering.specs.Plan.{AreSeats, defaults_in, on_executor, executors_from, plan_of, executor_at, seat_in, seat_of};
+ghost use Rattle.script_lowering.specs.Plan.{AreActorPlaces, defaults_in, on_executor, executors_from, plan_of, executor_at, actor_place_in, actor_place_of};
 ghost use Rattle.script_lowering.specs.Lowered.{default_of};
 
 use crate::number::{declared, sum, to_u32};
@@ -15,12 +15,12 @@ use std::marker::Model;
 use swift_types::LocalId;
 
 /// What lowering knows of a whole script: what it declares, the defaults of its task locals, and for each actor its
-/// executor and its seat, which is its place among the actors of that executor.
+/// executor and its place among the actors of that executor.
 pub struct Plan {
     declared: Declared,
     defaults: Vec<i64>,
     executors: Vec<u32>,
-    seats: Vec<u32>,
+    actor_places: Vec<u32>,
 }
 
 impl Drop for Plan {
@@ -29,27 +29,27 @@ impl Drop for Plan {
             declared,
             defaults,
             executors,
-            seats,
+            actor_places,
         } = self;
         drop(declared);
         drop(defaults);
         drop(executors);
-        drop(seats);
+        drop(actor_places);
     }
 }
 
 impl Model for Plan {
-    ghost use Rattle.script_lowering.specs.Plan.{Plan, AreSeats};
+    ghost use Rattle.script_lowering.specs.Plan.{Plan, AreActorPlaces};
 
     ghost Value = { Plan };
 
     ghost view = { λ p. record { directory = p.declared; defaults = p.defaults.items; executors = p.executors.items } };
 
-    ghost invariant = { λ p. AreSeats p.executors.items p.seats.items };
+    ghost invariant = { λ p. AreActorPlaces p.executors.items p.actor_places.items };
 }
 
 impl Plan {
-    /// The plan of a script, from what it declares. Linear in the declarations, and for the seats in the pairs of actors,
+    /// The plan of a script, from what it declares. Linear in the declarations, and for these places in the pairs of actors,
     /// of which a script whose names are in order has 64 at most. `Err` says that there was no memory, that a place is
     /// numbered past 32 bits, or that two executors have one name.
     pub fn of(alloc: Global, declared: Declared, decls: &[Decl]) -> Result<Plan, AllocError>
@@ -57,12 +57,12 @@ impl Plan {
         requires { declared ≡ directory_of (map view_decl decls.now) }
         ensures { IfOk result (λ p. p ≡ plan_of (map view_decl decls.now)) }
     {
-        let (defaults, executors, seats) = places(alloc, declared.seed(), decls)?;
+        let (defaults, executors, actor_places) = places(alloc, declared.seed(), decls)?;
         Ok(Plan {
             declared,
             defaults,
             executors,
-            seats,
+            actor_places,
         })
     }
 
@@ -80,14 +80,14 @@ impl Plan {
         executor_at(&self.executors, actor)
     }
 
-    /// The seat of the actor at a place, in constant time. An actor that is not there would sit after all those of
+    /// The place of an actor among those of its executor, in constant time. One that is not there would come after all those of
     /// executor 0.
-    pub fn seat(&self, actor: usize) -> Result<u32, AllocError>
-        ensures { IfOk result (λ n. n ≡ seat_of self.now actor) }
+    pub fn actor_place(&self, actor: usize) -> Result<u32, AllocError>
+        ensures { IfOk result (λ n. n ≡ actor_place_of self.now actor) }
     {
-        match self.seats.get(actor) {
-            Some(seat) => Ok(*seat),
-            None => to_u32(seat_in(&self.executors, actor)),
+        match self.actor_places.get(actor) {
+            Some(place) => Ok(*place),
+            None => to_u32(actor_place_in(&self.executors, actor)),
         }
     }
 
@@ -103,7 +103,7 @@ impl Plan {
     }
 }
 
-// The defaults of the task locals, and of each actor its executor and its seat.
+// The defaults of the task locals, and of each actor its executor and its place there.
 fn places(
     alloc: Global,
     seed: Seed,
@@ -111,12 +111,12 @@ fn places(
 ) -> Result<(Vec<i64>, Vec<u32>, Vec<u32>), AllocError>
     ensures defaults { IfOk result (λ p. p.0.items ≡ defaults_in (map view_decl decls.now)) }
     ensures executors { IfOk result (λ p. p.1.items ≡ (plan_of (map view_decl decls.now)).executors) }
-    ensures seats { IfOk result (λ p. AreSeats p.1.items p.2.items) }
+    ensures actor_places { IfOk result (λ p. AreActorPlaces p.1.items p.2.items) }
 {
     let defaults = defaults(alloc, decls)?;
     let executors = executors_of(alloc, seed, decls)?;
-    let seats = seats(alloc, &executors)?;
-    Ok((defaults, executors, seats))
+    let actor_places = actor_places(alloc, &executors)?;
+    Ok((defaults, executors, actor_places))
 }
 
 fn executors_of(alloc: Global, seed: Seed, decls: &[Decl]) -> Result<Vec<u32>, AllocError>
@@ -193,14 +193,14 @@ fn executor_on(names: &Names, own: u32, on: &Option<Name>) -> Result<(u32, u32),
     }
 }
 
-fn seats(alloc: Global, executors: &[u32]) -> Result<Vec<u32>, AllocError>
-    ensures { IfOk result (λ v. AreSeats executors.now v.items) }
+fn actor_places(alloc: Global, executors: &[u32]) -> Result<Vec<u32>, AllocError>
+    ensures { IfOk result (λ v. AreActorPlaces executors.now v.items) }
 {
-    let mut seats = Vec::new(alloc);
+    let mut actor_places = Vec::new(alloc);
     for actor in 0..executors.len() {
-        seats.push(to_u32(seat_in(executors, actor))?)?;
+        actor_places.push(to_u32(actor_place_in(executors, actor))?)?;
     }
-    Ok(seats)
+    Ok(actor_places)
 }
 
 // The executor of the actor at a place, or 0 where there is no such actor.
@@ -217,8 +217,8 @@ fn count_of(executors: &[u32], own: u32) -> usize
     executors.iter().filter(|e| **e == own).count()
 }
 
-fn seat_in(executors: &[u32], actor: usize) -> usize
-    ensures { result ≡ seat_in executors.now actor }
+fn actor_place_in(executors: &[u32], actor: usize) -> usize
+    ensures { result ≡ actor_place_in executors.now actor }
 {
     let own = executor_at(executors, actor);
     count_of(&executors[..actor.min(executors.len())], own)

@@ -26,8 +26,8 @@ pub fn given_jobs_are_applied()
 {}
 
 /// Each turn in a journal of a legal report has begun at a point of the log with the priority that its task had there: the
-/// greatest of those given to tasks from which it is reached along children and waits (SE-0304). It was told there whether its
-/// task was cancelled.
+/// greatest of those given to tasks from which it is reached along children and waits (SE-0304). Its environment says whether its
+/// task was cancelled there.
 pub fn turns_have_their_priority()
     ensures { TurnsHaveTheirPriority }
 {}

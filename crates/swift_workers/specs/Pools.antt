@@ -1,4 +1,4 @@
--- What the pool of tokens tells a worker, when a token goes back to it, and why a run is given up (our own).
+-- What the pool of tokens tells a worker, what a visit's answer says of the executor's token, and why a run is given up (our own).
 use Rattle.std.specs.Prelude.{◌≡◌, ◌≢◌, ◌⊎◌, ◌+◌, ◌<◌, ◌++◌, ℕ, Option, Some, None, Result, Ok, Err, IsTrue, All, length, min, slice_get, take, drop}
 use Rattle.swift_types.specs.declared.id.ExecId.{ExecId}
 use Rattle.swift_script.specs.Scripts.{ScriptView, executor_kind}

@@ -1,7 +1,7 @@
 use Rattle.std.proofs.Common.{◌==◌, ℕ, ap, ◌∙◌, take}
 use Rattle.std.proofs.lemmas.List.{take_min}
 use Rattle.std.specs.Prelude.{count_by}
-use Rattle.script_lowering.proofs.plan.seat_in.Goals as goal
+use Rattle.script_lowering.proofs.plan.actor_place_in.Goals as goal
 
 pub returns : goal.returns
 returns c =
