@@ -5,6 +5,7 @@
 
 The prover writes a file for each part that it has checked, so the time between two files is that of the later part. It
 includes what that part was the first to load.
+The crates below are proved first, unless `rt check` or `rt lib` has done so in this tree: a gate is no help.
 """
 import collections
 import os
