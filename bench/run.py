@@ -25,7 +25,7 @@ TIME = "/usr/bin/time"
 
 
 class Outcome:
-    """What a process wrote, how long it took, and its peak memory in KB."""
+    """What a process wrote, how long it took, its processor time, and its peak memory in KB."""
 
     def __init__(self, words, script=None, statuses=(0,)):
         if os.path.exists(TIME):
@@ -36,6 +36,7 @@ class Outcome:
             complained = process.stderr.read()
             _, ended, used = os.wait4(process.pid, 0)
             self.seconds = time.perf_counter() - start
+            self.processor = used.ru_utime + used.ru_stime
             wrote.seek(0)
             self.wrote = wrote.read()
         process.returncode = os.waitstatus_to_exitcode(ended)
@@ -63,15 +64,41 @@ def idle(times):
     return min(best(3 * times, [PROGRAM, "--quiet"]), key=lambda outcome: outcome.seconds)
 
 
-def peer(case):
+# The case of a peer that has the same turns. Whether a task was there from the start makes no difference to it, nor do other actors.
+PEERS = {"spin": "spin", "spin_spawned": "spin", "shared64": "spin", "calls": "calls", "calls_spawned": "calls", "fan": "fan"}
+# Where Swift's compiler is: on the PATH, or in the root folder of a system of its own.
+SWIFT_ROOT = os.environ.get("SWIFT_ROOT", "")
+
+
+def microseconds(words):
+    return int(re.search(rb"(?m)^run (\d+) us$", Outcome(words).wrote)[1]) / 1e6
+
+
+def erlang(case, schedulers=1):
     """What runs the case's turns as Erlang processes and says how many seconds they took, or None where there is no such case or no
     Erlang."""
-    if case not in ("spin", "calls") or not shutil.which("erl") or not shutil.which("erlc"):
+    if case not in PEERS or not shutil.which("erl") or not shutil.which("erlc"):
         return None
     subprocess.run(["erlc", "-o", scripts.FOLDER, "bench/processes.erl"], cwd=TOP, check=True)
-    # One scheduler, since a run has one worker.
-    words = ["erl", "-noshell", "+S", "1", "-pa", scripts.FOLDER, "-run", "processes", "main", case]
-    return lambda: int(re.search(rb"(?m)^run (\d+) us$", Outcome(words).wrote)[1]) / 1e6
+    words = ["erl", "-noshell", "+S", str(schedulers), "-pa", scripts.FOLDER, "-run", "processes", "main", PEERS[case]]
+    return lambda: microseconds(words)
+
+
+def swift_program():
+    """The words that run bench/turns.swift, built once; none where there is no Swift."""
+    if not SWIFT_ROOT and not shutil.which("swiftc"):
+        return None
+    inside = "/tmp/nuchapay_turns" if SWIFT_ROOT else os.path.join(scripts.FOLDER, "turns")
+    enter = ["chroot", SWIFT_ROOT, "env", "LD_LIBRARY_PATH=/usr/libexec/swift/lib/swift/linux"] if SWIFT_ROOT else []
+    if not os.path.exists(SWIFT_ROOT + inside):
+        shutil.copy(os.path.join(TOP, "bench/turns.swift"), SWIFT_ROOT + inside + ".swift")
+        subprocess.run([*enter, "swiftc", "-O", "-parse-as-library", "-o", inside, inside + ".swift"], check=True)
+    return [*enter, inside]
+
+
+def swift(case, program):
+    """The same as Swift actors, with Swift's own pool of threads."""
+    return (lambda: microseconds([*program, PEERS[case]])) if program and case in PEERS else None
 
 
 def table(heads, rows):
@@ -86,23 +113,23 @@ def rate(count, seconds):
     return f"{count / seconds:,.0f}" if count is not None else "-"
 
 
-def whole_runs(times):
+def whole_runs(times, program):
     rows = []
     nothing = idle(times)
     for case, (_, steps) in scripts.SCRIPTS.items():
         script = scripts.path(case)
         # One after the other, so that a noisy moment meets each of them.
-        start_peer = peer(case)
-        runs, wholes, peers = [], [], []
+        others = [erlang(case), swift(case, program)]
+        runs, wholes, peers = [], [], [[], []]
         for _ in range(times):
             runs.append(Outcome([PROGRAM, "--quiet"], script))
             wholes.append(Outcome([PROGRAM], script))
-            if start_peer:
-                peers.append(start_peer())
+            for start_peer, seconds in zip(others, peers):
+                if start_peer:
+                    seconds.append(start_peer())
         report = wholes[0].wrote
         turns = sum(int(n) for n in re.findall(rb"(?m)^executor .* turns (\d+)$", report))
         run, whole = least(runs, nothing), least(wholes, nothing)
-        erlang = max(min(taken for taken in peers), 1e-6) if peers else None
         rows.append([
             case,
             f"{turns:,}",
@@ -115,15 +142,15 @@ def whole_runs(times):
             # Of few turns the peak says nothing.
             f"{(peak(runs) - nothing.kilobytes) * 1024 / turns:,.0f}" if turns >= 1000 else "-",
             f"{peak(wholes):,}",
-            f"{erlang:.4f}" if erlang else "-",
-            f"{run / erlang:.2f}" if erlang else "-",
+            *(f"{min(seconds):.4f}" if seconds else "-" for seconds in peers),
+            *(f"{run / max(min(seconds), 1e-6):.2f}" if seconds else "-" for seconds in peers),
         ])
-    table(
-        ["case", "turns", "quiet s", "turns/s", "steps/s", "with text s", "text bytes", "quiet KB", "B/turn", "KB", "Erlang s", "quiet s / Erlang s"],
-        rows,
-    )
+    heads = ["case", "turns", "quiet s", "turns/s", "steps/s", "with text s", "text bytes", "quiet KB", "B/turn", "KB"]
+    table([*heads, "Erlang s", "Swift s", "to Erlang", "to Swift"], rows)
     if not shutil.which("erl") or not shutil.which("erlc"):
-        print("No Erlang on this machine: no ratios.\n")
+        print("No Erlang on this machine: no ratios to it.\n")
+    if not program:
+        print("No Swift on this machine: no ratios to it.\n")
 
 
 def together(copies, script):
@@ -138,21 +165,30 @@ def together(copies, script):
     return time.perf_counter() - start
 
 
-def crews(times):
-    """Each case on one, two, four and eight workers; and what the machine gives four processes that share nothing."""
+def crews(times, program):
+    """Each case on one, two, four and eight workers, with the processor time of two and of eight; what the machine gives four processes
+    that share nothing; and the same turns as Erlang processes with four schedulers, and as Swift actors."""
     rows = []
     nothing = idle(times)
     for case in scripts.CREWS:
         script = scripts.path(case)
-        outcomes, apart = {workers: [] for workers in (1, 2, 4, 8)}, []
+        others = [erlang(case, 4), swift(case, program)]
+        outcomes, apart, peers = {workers: [] for workers in (1, 2, 4, 8)}, [], [[], []]
         for _ in range(times):
             for workers, found in outcomes.items():
                 found.append(Outcome([PROGRAM, "--quiet", "--workers", str(workers)], script))
             apart.append(together(4, script))
+            for start_peer, spent in zip(others, peers):
+                if start_peer:
+                    spent.append(start_peer())
         seconds = {workers: least(found, nothing) for workers, found in outcomes.items()}
+        processor = {workers: min(outcome.processor for outcome in found) for workers, found in outcomes.items()}
         ratios = [seconds[1] / seconds[w] for w in (2, 4, 8)] + [4 * seconds[1] / min(apart)]
-        rows.append([case, *(f"{seconds[w]:.4f}" for w in seconds), *(f"{ratio:.2f}" for ratio in ratios)])
-    table(["case", "1 worker s", "2", "4", "8", "times as fast with 2", "with 4", "with 8", "4 processes apart"], rows)
+        row = [case, *(f"{seconds[w]:.4f}" for w in seconds), *(f"{ratio:.2f}" for ratio in ratios)]
+        row += [f"{processor[w]:.3f}" for w in (1, 2, 8)]
+        rows.append(row + [f"{min(spent):.4f}" if spent else "-" for spent in peers])
+    heads = ["case", "1 worker s", "2", "4", "8", "times as fast with 2", "with 4", "with 8", "4 processes apart"]
+    table([*heads, "processor s of 1", "of 2", "of 8", "Erlang s, 4 schedulers", "Swift s"], rows)
 
 
 def growth(times):
@@ -228,15 +264,17 @@ def main():
     times = int(sys.argv[1]) if len(sys.argv) > 1 else 3
     subprocess.run(["make", "--no-print-directory", PROGRAM, CASES], cwd=TOP, check=True, stdin=subprocess.DEVNULL, stdout=sys.stderr)
     scripts.write()
+    program = swift_program()
     print(f"Best of {times}, of reading the best of {2 * times + 1}. Seconds are those of a whole process of `swiftrun`, above those of one that has nothing")
     print("to read and to run: it reads, runs, certifies and writes. `quiet s` is with `--quiet`, which leaves the journals' text out. `B/turn` is the")
-    print("peak of that above that of nothing. `Erlang s` is one scheduler, which keeps no journal and undoes nothing. `4 processes apart` is how many")
+    print("peak of that above that of nothing. `Erlang s` is one scheduler, and `Swift s` Swift's own runtime with a thread for each core; neither")
+    print("keeps a journal or undoes a turn. `processor s` are of all threads, of a whole process. `4 processes apart` is how many")
     print("times as much four runs of one worker do at once as one does alone: what the machine gives to threads that share nothing. A script that is")
     print("read has nothing to run, or next to nothing; its KB are those of its executors too. Calls of parts are lines of text, whose reading")
     print("and answer are in their time.\n")
-    whole_runs(times)
+    whole_runs(times, program)
     growth(times)
-    crews(times)
+    crews(times, program)
     split()
     reading(times)
     parts(times)

@@ -112,6 +112,83 @@ actor Group {
 }
 """
 
+# Tasks that one root makes, 16 a turn: as many turns as `spin` and `calls` have, and a short text.
+SPAWNED = """\
+actor Counter {
+    var turns = 0;
+    invariant turns >= 0;
+    func spin(left) {
+        while left > 0 { left = left - 1; turns = turns + 1; yield; }
+        return turns;
+    }
+    func start(rounds) {
+        let made = 0;
+        while rounds > 0 {
+            rounds = rounds - 1;
+            made = 0;
+            while made < 16 { made = made + 1; spawn Counter.spin(990); }
+            yield;
+        }
+    }
+}
+root all = Counter.start(63);
+"""
+
+CALLS_SPAWNED = """\
+actor Asker {
+    var answers = 0;
+    invariant answers >= 0;
+    func ask(left) {
+        let sum = 0;
+        while left > 0 { left = left - 1; sum = await Adder.gain(1); answers = answers + 1; }
+        return sum;
+    }
+    func start(rounds) {
+        let made = 0;
+        while rounds > 0 {
+            rounds = rounds - 1;
+            made = 0;
+            while made < 16 { made = made + 1; spawn Asker.ask(490); }
+            yield;
+        }
+    }
+}
+actor Adder {
+    var total = 0;
+    invariant total >= 0;
+    func gain(amount) { total = total + amount; return total; }
+}
+root all = Asker.start(63);
+"""
+
+# Each root has a group of 16 children, each of which calls another actor 60 times.
+FAN = """\
+actor Parent {
+    var sums = 0;
+    func child(left) {
+        let sum = 0;
+        let value = 0;
+        while left > 0 { left = left - 1; value = await Adder.gain(1); sum = sum + value; }
+        return sum;
+    }
+    func fan() {
+        let sum = 0;
+        let value = 0;
+        let made = 0;
+        group g {
+            while made < 16 { made = made + 1; add g Parent.child(60); }
+            while made > 0 { made = made - 1; value = await next g; sum = sum + value; }
+        }
+        return sum;
+    }
+}
+actor Adder {
+    var total = 0;
+    invariant total >= 0;
+    func gain(amount) { total = total + amount; return amount; }
+}
+"""
+
 METHOD = """\
     func method{m}(first, second) {{
         let third = first * {m} + second - (first - {a}) * 2;
@@ -140,6 +217,15 @@ def eight(text, call):
     """The same on eight executors."""
     actors = "".join(text.replace("Heavy", f"Heavy{k}").replace("Counter", f"Counter{k}") for k in range(8))
     return actors + "".join(f"root task{k} = {call.format(k)};\n" for k in range(8))
+
+
+def shared():
+    """The tasks of `spin_spawned`, on an executor with 63 actors beside theirs, each with four fields and an invariant."""
+    quiet = "".join(
+        f"actor Quiet{k} on Shared {{ var a = 0; var b = 1; var c = 2; var d = 3; invariant a + b >= 0; func first() {{ return a; }} }}\n"
+        for k in range(63)
+    )
+    return "executor Shared priority;\n" + SPAWNED.replace("actor Counter {", "actor Counter on Shared {", 1) + quiet
 
 
 def executors():
@@ -197,12 +283,19 @@ SCRIPTS = {
     # Each task yields 990 times; 1,000 jobs are ready at a time.
     "spin": (COUNTER + roots(1000, "Counter.spin(990)"), None),
     # The same, with 16 jobs ready at each of 64 executors.
+    # The same turns of a short text, by tasks that are made while it runs.
+    "spin_spawned": (SPAWNED, None),
+    # The same beside 63 other actors of the executor.
+    "shared64": (shared(), None),
     "sixteen": (sixteen(), None),
     # A group of 900 children, by a task that takes 964 turns.
     "group": (GROUP + roots(1, "Group.parent()"), None),
     "executors": (executors(), None),
     # Each task awaits a method of another actor 490 times.
     "calls": (ASKER + roots(1000, "Asker.ask(490)"), None),
+    "calls_spawned": (CALLS_SPAWNED, None),
+    # 60 groups of 16 children.
+    "fan": (FAN + roots(60, "Parent.fan()"), None),
     # Of each round: 3,300 times a test and two statements, a last test, and a test and three statements outside.
     # Before and after the rounds: a statement, a test and a statement.
     "steps": (WORKER + roots(8, "Worker.work(990)"), 8 * (990 * (3300 * 3 + 1 + 4) + 3)),
@@ -212,10 +305,17 @@ SCRIPTS = {
     "roots": (COUNTER + roots(1024, "Counter.once(7)"), None),
 }
 
-# What is run on some workers: eight executors with turns of some 900 steps, and of 4.
+# What is run on some workers: eight executors with turns of some 900 steps, of some 75 (a microsecond) and of 4; and scripts with one or two executors,
+# where all workers but one or two have nothing to do.
 CREWS = {
     "heavy": eight(HEAVY, "Heavy{}.work(990)"),
+    "microsecond": eight(HEAVY.replace("i < 300", "i < 25"), "Heavy{}.work(990)"),
     "light": eight(COUNTER, "Counter{}.spin(990)"),
+    "spin_spawned": SPAWNED,
+    "calls": SCRIPTS["calls"][0],
+    "calls_spawned": CALLS_SPAWNED,
+    "fan": SCRIPTS["fan"][0],
+    "shared64": SCRIPTS["shared64"][0],
 }
 
 # What is taken apart: 16 jobs are ready at a time.
