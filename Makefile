@@ -3,12 +3,11 @@ PROGRAM = crates/swiftrun/out/swiftrun
 CASES = crates/test_cases/out/test_cases
 SOURCES = $(shell find crates -name out -prune -o \( -name '*.rt' -o -name '*.antt' \) -print)
 
-# Runs a script without a proof: make try SCRIPT=examples/account.actors ARGS="--workers 4". Status 0 also where a task ended with a
-# fault.
+# Runs scripts without a proof: make try SCRIPTS="examples/account.actors examples/group.actors" ARGS="--workers 4". Status 0 also where a
+# script was refused or a task ended with a fault.
+SCRIPTS = $(SCRIPT)
 try:
-	@echo 'make try: nothing is proved by this; make run proves first' >&2
-	@said=$$(mktemp); (cd crates/swiftrun && rt try --steps 1 -- $(ARGS)) < $(SCRIPT) 2> $$said; status=$$?; \
-	if [ $$status -gt 1 ]; then cat $$said >&2; fi; rm $$said; [ $$status -le 1 ]
+	@tools/try.py $(SCRIPTS) -- $(ARGS) || true
 
 # Proves a program and what it stands on, and builds it.
 define program
@@ -18,9 +17,9 @@ endef
 $(eval $(call program,swiftrun))
 $(eval $(call program,test_cases))
 
-# Runs a script with the proved program. Status 0 also where a task ended with a fault.
+# Runs a script with the proved program. Status 0 also where the script was refused or a task ended with a fault.
 run: $(PROGRAM)
-	@$(PROGRAM) $(ARGS) < $(SCRIPT) || test $$? -eq 1
+	@if [ -r $(SCRIPT) ]; then $(PROGRAM) $(ARGS) < $(SCRIPT) || true; else echo 'make run: $(SCRIPT) cannot be read' >&2; fi
 
 # The gate.
 test:
@@ -51,8 +50,12 @@ refusals: $(CASES)
 links:
 	@tools/links.py
 
+# Whether the README says how many definitions the text of a run rests on.
+believe:
+	@tools/believe.py --check && echo "the README says on how many definitions the text of a run rests"
+
 # Measures, and asserts nothing: builds both programs, and prints tables.
 bench: $(PROGRAM) $(CASES)
 	@python3 bench/run.py
 
-.PHONY: try run test prove mutants examples refusals links bench
+.PHONY: try run test prove mutants examples refusals links believe bench

@@ -1,0 +1,204 @@
+#!/usr/bin/env python3
+"""Prints the definitions that a definition rests on, in order, with their files, and how many they are.
+
+    tools/believe.py                    those of IsRunOf of swift_tool, which says what a text of a run is
+    tools/believe.py CRATE NAME         those of another definition
+    tools/believe.py --check            whether the README gives the numbers of the first form
+
+A reader who believes these definitions, and the toolchain, knows what the theorem says. A definition is one of specs/, or a type of
+src/ that contracts see: its declaration or, where contracts see it as another value, the type of that value, whose making from the
+declared one is nothing to believe. Definitions of the kit are not counted.
+"""
+import os
+import re
+import sys
+
+TOP = os.path.dirname(os.path.dirname(os.path.abspath(__file__)))
+CRATES = os.path.join(TOP, "crates")
+FIRST = ("swift_tool", "IsRunOf")
+# A name, or one of another module through an alias of that. Parts of operators count as names, too.
+NAME = r"[^\W\d][\w'-]*(?:\.[^\W\d][\w'-]*)*|[◌\w]*◌\S*◌[◌\w]*"
+HEAD = r"(?:(?:pub|abbrev|unfoldable|opaque|unfold|data|record)\s+)*([^\s:(){}=|]+)"
+
+
+def lines_of(path):
+    with open(path, encoding="utf8") as file:
+        return file.read().split("\n")
+
+
+class Part:
+    """A definition: its place, its lines, and the names that it may mean."""
+
+    def __init__(self, path, line, name):
+        self.path, self.line, self.name, self.lines, self.made = path, line, name, [], []
+
+    def text(self):
+        return "\n".join(re.sub(r"--.*|//.*", "", line) for line in self.lines)
+
+
+def imported(text, names, aliases):
+    """Adds what `use M.{a, b as c}` and `use M as d` bring."""
+    for module, listed, alias in re.findall(r"use\s+([\w.+]+?)(?:\.\{([^}]*)\}|\s+as\s+(\w+)|\.(?=;))", text):
+        for entry in filter(None, (it.strip() for it in listed.split(","))):
+            name, _, other = entry.partition(" as ")
+            names[(other or name).strip()] = (module, name.strip())
+        if alias:
+            aliases[alias] = module
+
+
+class Specs:
+    """A file of definitions."""
+
+    def __init__(self, path, module):
+        self.parts, self.names, self.aliases, self.module = {}, {}, {}, module
+        part = None
+        for number, line in enumerate(lines_of(path), 1):
+            bare = re.sub(r"--.*", "", line).rstrip()
+            if bare.startswith("use "):
+                imported(bare, self.names, self.aliases)
+                continue
+            if re.match(r"\s*(pub )?mod |module ", bare):
+                part = None
+                continue
+            head = re.match(r"(?:  )?" + HEAD, bare) if re.match(r"(  )?[^\s}\])]", bare) else None
+            is_inner = bare.startswith("  ") and part is not None and re.match(r"(pub )?(record|data)\b|.*\b(record|data)\b", part.lines[0])
+            if head and not is_inner and (part is None or head[1] != part.name):
+                fresh = re.match(r"(?:  )?(?:pub|abbrev|unfoldable|opaque|data|record)\b", bare) or re.match(r"(?:  )?[^\s=]+\s*:", bare)
+                if fresh:
+                    part = self.parts.setdefault(head[1], Part(path, number, head[1]))
+            if part is not None and bare.strip():
+                part.lines.append(line)
+                constructor = re.match(r"  ([^\s:]+)\s*:", bare)
+                if constructor and re.search(r"\bdata\b", part.lines[0]):
+                    part.made.append(constructor[1])
+        self.owner = {made: part for part in self.parts.values() for made in part.made}
+
+
+class Source:
+    """A file of code: its types, and how contracts see them."""
+
+    def __init__(self, path):
+        self.parts, self.names, self.aliases = {}, {}, {}
+        text = "\n".join(lines_of(path))
+        imported(text, self.names, self.aliases)
+        for kept in re.finditer(r"(?m)^(?:pub(?:\([^)]*\))? )?(?:struct|enum) (\w+)[^;{]*(?:;|\{)", text):
+            end = text.find("\n}", kept.end()) + 2 if kept[0].endswith("{") else kept.end()
+            self.add(path, text, kept.start(), end, kept[1])
+        for model in re.finditer(r"(?m)^impl(?:<[^{]*?>)? Model for (\w+)[^{]*\{", text):
+            value = re.compile(r"(?m)^    ghost Value = .*").search(text, model.end(), text.find("\n}", model.end()))
+            if value is None:
+                continue
+            self.parts.pop(model[1], None)
+            self.add(path, text, value.start(), value.end(), model[1])
+        for item in re.finditer(r"(?m)^use ([\w:]+)::(?:\{([^}]*)\}|(\w+));", text):
+            for name in (item[2] or item[3]).split(","):
+                self.names.setdefault(name.strip(), ("::" + item[1], name.strip()))
+
+    def add(self, path, text, start, end, name):
+        part = self.parts.setdefault(name, Part(path, text.count("\n", 0, start) + 1, name))
+        part.lines += [line for line in text[start:end].split("\n") if line.strip() and not line.strip().startswith("//")]
+
+
+def load():
+    specs, sources = {}, {}
+    for crate in sorted(os.listdir(CRATES)):
+        for at, folders, files in os.walk(os.path.join(CRATES, crate)):
+            folders[:] = [it for it in folders if it not in ("out", "proofs")]
+            for file in files:
+                path = os.path.join(at, file)
+                inside = os.path.relpath(path, os.path.join(CRATES, crate))
+                if inside.startswith("specs/") and file.endswith(".antt"):
+                    module = f"Rattle.{crate}." + inside[: -len(".antt")].replace("/", ".")
+                    specs[module] = Specs(path, module)
+                elif inside.startswith("src/") and file.endswith(".rt"):
+                    sources.setdefault(crate, []).append(Source(path))
+    return specs, sources
+
+
+class Closure:
+    def __init__(self):
+        self.specs, self.sources = load()
+        self.found = {}
+
+    def in_source(self, crate, name):
+        for source in self.sources.get(crate, []):
+            if name in source.parts:
+                return source, source.parts[name]
+        return None
+
+    def meant(self, module, name):
+        """The definition of a name of a module."""
+        if module.startswith("::"):
+            crate = module[2:].split("::")[0]
+            return self.in_source(crate, name)
+        declared = re.match(r"Rattle\.(\w+)\.specs\.declared\.(.*)", module)
+        if declared:
+            # A type, its variants, or the constants of a file.
+            parts = declared[2].split(".")
+            kind = parts[-2] if parts[-1] == "TheVariants" else parts[-1]
+            return self.in_source(declared[1], kind)
+        file = self.specs.get(module)
+        if file is None:
+            return None
+        part = file.parts.get(name) or file.owner.get(name)
+        return (file, part) if part else None
+
+    def named_in(self, file, part):
+        for name in re.findall(NAME, part.text()):
+            front, _, rest = name.partition(".")
+            if front in file.aliases:
+                yield self.meant(file.aliases[front], rest.split(".")[0])
+            elif name in file.names or front in file.names:
+                yield self.meant(*file.names.get(name, file.names.get(front)))
+            elif isinstance(file, Specs) and (front in file.parts or front in file.owner):
+                yield file, file.parts.get(front) or file.owner[front]
+            elif isinstance(file, Source) and front in file.parts:
+                yield file, file.parts[front]
+
+    def follow(self, file, part):
+        work = [(file, part)]
+        while work:
+            file, part = work.pop()
+            if (part.path, part.name) in self.found:
+                continue
+            self.found[part.path, part.name] = part
+            work += [it for it in self.named_in(file, part) if it is not None]
+
+
+def rests_on(crate, name):
+    closure = Closure()
+    for module, file in closure.specs.items():
+        if module.startswith(f"Rattle.{crate}.") and name in file.parts:
+            closure.follow(file, file.parts[name])
+    return sorted(closure.found.values(), key=lambda part: (part.path, part.line))
+
+
+def numbers(parts):
+    files = {part.path for part in parts}
+    return len(parts), len(files), sum(len(part.lines) for part in parts)
+
+
+def check():
+    definitions, files, lines = numbers(rests_on(*FIRST))
+    said = f"{definitions} definitions in {files} files, {lines:,} lines"
+    with open(os.path.join(TOP, "README.md"), encoding="utf8") as readme:
+        if said in " ".join(readme.read().split()):
+            return
+    sys.exit(f"README.md should say: {said}")
+
+
+def main():
+    words = sys.argv[1:]
+    if words == ["--check"]:
+        return check()
+    if len(words) not in (0, 2) or any(word.startswith("-") for word in words):
+        sys.exit(__doc__)
+    parts = rests_on(*(words or FIRST))
+    if not parts:
+        sys.exit(f"no definition {words[1]} in crates/{words[0]}/specs")
+    for part in parts:
+        print(f"{os.path.relpath(part.path, TOP)}:{part.line}: {part.name}")
+    print("{} definitions in {} files, {:,} lines".format(*numbers(parts)))
+
+
+main()
