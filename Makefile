@@ -34,13 +34,9 @@ prove:
 mutants:
 	@EDITS='$(EDITS)' tools/mutants.sh $(CRATES)
 
-# Runs each example, with the arguments that stand beside it, and compares what it prints with the text there.
+# Runs each example, and compares what it prints, what it says on standard error and its status with what stands beside it.
 examples: $(PROGRAM)
-	@for script in examples/*.actors; do \
-		given=$${script%.actors}.args; args=; [ ! -e $$given ] || args=$$(cat $$given); \
-		$(PROGRAM) $$args < $$script | diff - $${script%.actors}.out || exit 1; \
-		echo "$$script prints what it has to"; \
-	done
+	@tools/examples.py $(PROGRAM)
 
 # Runs cases of the test program once for each allocation of a sample, with that one refused: make refusals EACH=each (all of them).
 refusals: $(CASES)
