@@ -8,9 +8,11 @@ use Rattle.swift_interpreter.specs.Turn.{InvocationView, EffectView}
 use Rattle.swift_interpreter.specs.declared.effect.Invocation.{Invocation}
 use Rattle.swift_interpreter.specs.declared.effect.Effect.{Effect}
 use Rattle.swift_journal.specs.EffectWords.{invocation_of, skip_args, stored_invocation, bound_of, skip_bound, bound_words, effect_of, skip_effect, effect_words, effects_words, effects_of, skip_effects}
+use Rattle.swift_journal.specs.TailInside.{since}
 use Rattle.swift_journal.specs.Words.{ReadsBack, AreNarrow, pair_words, bindings_of, skip_bindings}
 use Rattle.swift_journal.specs.declared.stored.StoredInvocation.{StoredInvocation}
 use Rattle.swift_journal.specs.declared.stored.StoredEffect.{StoredEffect}
+use Rattle.swift_journal.proofs.Gained.{since_same}
 use Rattle.swift_journal.proofs.Pairs.{pairs_back, length-pair_words}
 
 -- a function of what was read
@@ -48,6 +50,11 @@ bound_reads_back i s bs n e count fit =
           ∙ ap (λ (x : List (ℕ × ℤ)). (invocation_view i, x)) (ap (bindings_of n) (ki.leaves (pair_words (reverse bs) ++ rest)) ∙ kb.reads rest);
       leaves = λ rest. ap (skip_bound s n) (cut rest) ∙ ap (skip_bindings n) (ki.leaves (pair_words (reverse bs) ++ rest)) ∙ kb.leaves rest;
     }
+
+-- no effect
+pub none_read_back : (es : List StoredEffect) → ReadsBack (List EffectView) (effects_of (since es es)) (skip_effects (since es es)) [] []
+none_read_back es =
+    subst (λ (s : List StoredEffect). ReadsBack (List EffectView) (effects_of s) (skip_effects s) [] []) (sym (since_same es)) (record { reads = λ rest. refl; leaves = λ rest. refl })
 
 -- one effect more
 effects_of_push : (es : List StoredEffect) (e : StoredEffect) (ws : List ℤ) → effects_of (es ++ e ∷ []) ws ≡ effects_of es ws ++ effect_of e (skip_effects es ws) ∷ []

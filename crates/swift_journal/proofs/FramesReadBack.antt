@@ -1,5 +1,5 @@
 -- What is written of a frame reads back.
-use Rattle.std.proofs.Common.{◌≡◌, ℕ, ℤ, pos, ◌+◌, Option, List, ◌++◌, length, map, reverse, take, drop, sym, ap, subst, ◌∙◌, append_assoc}
+use Rattle.std.proofs.Common.{◌≡◌, ℕ, ℤ, pos, ◌+◌, Option, List, ◌++◌, length, map, reverse, take, drop, sym, ap, ◌∙◌, append_assoc}
 use Rattle.std.proofs.lemmas.List.{drop_at, take_at, length-map}
 use Rattle.swift_types.specs.declared.outcome.Fault.{Fault}
 use Rattle.script_code.specs.Seen.{pair_of, pairs_of}
@@ -77,7 +77,7 @@ lists_read_back : (f : Frame) (h : FrameHead) → h.method ≡ f.method → h.li
 lists_read_back f h em el ek handles_fit own_fit groups_fit =
     let c = frame_counts f in
     let pend : (rest : List ℤ) → pending_of h.pending (pending_words f.pending ++ rest) ≡ f.pending =
-    λ rest. ap (λ (k : Option StoredFault). pending_of k (pending_words f.pending ++ rest)) ek ∙ (pending_reads_back f.pending).reads rest in
+    λ rest. ap (λ (k : StoredFault). pending_of k (pending_words f.pending ++ rest)) ek ∙ (pending_reads_back f.pending).reads rest in
     record {
       reads = λ rest. let at = cut f rest in let ws = (list_words f ++ pending_words f.pending) ++ rest in
           sym (frame_same h f.variables.items c ws f.handles.items f.own.items f.groups.items f.pending
@@ -88,10 +88,10 @@ lists_read_back f h em el ek handles_fit own_fit groups_fit =
           (sym (ap (pending_of h.pending) at.pending ∙ pend rest)))
           ∙ ap (λ m. record (frame_view f) { method = m.0; line = h.line }) em ∙ ap (λ (l : ℕ). record (frame_view f) { line = l }) el;
       leaves = λ rest. ap (skip_pending h.pending) (cut f rest).pending
-          ∙ ap (λ (k : Option StoredFault). skip_pending k (pending_words f.pending ++ rest)) ek ∙ (pending_reads_back f.pending).leaves rest;
+          ∙ ap (λ (k : StoredFault). skip_pending k (pending_words f.pending ++ rest)) ek ∙ (pending_reads_back f.pending).leaves rest;
     }
 
-frame_reads_back : (f : Frame) (h : FrameHead) → h.method ≡ f.method → h.line ≡ f.line → h.variables ≡ length f.variables.items → h.pending ≡ pending_kind f.pending
+pub frame_reads_back : (f : Frame) (h : FrameHead) → h.method ≡ f.method → h.line ≡ f.line → h.variables ≡ length f.variables.items → h.pending ≡ pending_kind f.pending
     → ReadsBack Counts (counts_of h.counted) (skip_counts h.counted) (counts_words h.counted (frame_counts f)) (frame_counts f)
     → numbers_of (map pos f.handles.items) ≡ f.handles.items → AreNarrow (map pair_of f.own.items) → numbers_of (map pos f.groups.items) ≡ f.groups.items
     → ReadsBack FrameView (frame_of h) (skip_frame h) (frame_words h.counted f) (frame_view f)
@@ -105,11 +105,3 @@ frame_reads_back f h em el ev ek counts handles_fit own_fit groups_fit =
     (λ c ws. frame_from h f.variables.items c ws) (λ c ws. skip_pending h.pending (skip_groups c ws))
     (list_words f ++ pending_words f.pending) (frame_view f)
     counts (lists_read_back f h em el ek handles_fit own_fit groups_fit))
-
--- the same of counts that are the frame's
-pub frame_reads_back_by : (f : Frame) (h : FrameHead) (n : Counts) → n ≡ frame_counts f → h.method ≡ f.method → h.line ≡ f.line → h.variables ≡ length f.variables.items → h.pending ≡ pending_kind f.pending
-    → ReadsBack Counts (counts_of h.counted) (skip_counts h.counted) (counts_words h.counted n) n
-    → numbers_of (map pos f.handles.items) ≡ f.handles.items → AreNarrow (map pair_of f.own.items) → numbers_of (map pos f.groups.items) ≡ f.groups.items
-    → ReadsBack FrameView (frame_of h) (skip_frame h) (frame_words h.counted f) (frame_view f)
-frame_reads_back_by f h n en em el ev ek counts handles_fit own_fit groups_fit =
-    frame_reads_back f h em el ev ek (subst (λ (x : Counts). ReadsBack Counts (counts_of h.counted) (skip_counts h.counted) (counts_words h.counted x) x) en counts) handles_fit own_fit groups_fit

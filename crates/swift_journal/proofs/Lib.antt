@@ -1,8 +1,12 @@
 pub mod Ahead
 pub mod EffectsReadBack
 pub mod EndsReadBack
+pub mod FoldedReads
+pub mod FoldedStay
 pub mod FramesReadBack
+pub mod Gained
 pub mod Pairs
 pub mod RecordsReadBack
+pub mod RecordsStay
 pub mod Replayed
 pub mod TurnsStay

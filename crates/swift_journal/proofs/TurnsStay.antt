@@ -1,5 +1,5 @@
 -- Turns that are laid one after another stay as they are when one is put after them, and when the last ones are dropped.
-use Rattle.std.proofs.Common.{◌≡◌, ℕ, ℤ, ◌+◌, ◌-◌, ◌≤◌, ◌<◌, List, [], ◌∷◌, ◌++◌, length, map, reverse, take, drop, get_or, refl, sym, ap, subst, ◌∙◌, arith, append_assoc}
+use Rattle.std.proofs.Common.{◌≡◌, ℕ, ℤ, ◌+◌, ◌-◌, ◌≤◌, ◌<◌, List, [], ◌∷◌, ◌++◌, length, map, reverse, take, drop, get_or, refl, sym, ap, subst, ◌∙◌, arith, append_assoc, length-append}
 use Rattle.std.proofs.lemmas.List.{map-append, reverse-append, reverse-reverse, take-take, take_at, take_all, take-append-le, take-append-drop, take-map, drop-take, drop_at, drop_more, length_push, length-take-le, length-map}
 use Rattle.swift_journal.specs.Laid.{Span, AreLaid, read_at}
 use Rattle.swift_journal.specs.declared.stored.StoredEffect.{StoredEffect}
@@ -55,6 +55,18 @@ pushed {V = V} span read hs hs' ws ws' dw es es' de h r eh ew ee start first siz
     ∙ ap (λ (x : List V). x ++ new h ∷ []) (sym old)
     ∙ ap (λ (x : V). map (read_at span read ws es) hs ++ x ∷ []) (last_reads span read ws dw es de h r start first size effects says)
 
+pub pushed_laid : {H : Type 0} (span : H → Span) (hs hs' : List H) (ws ws' dw : List ℤ) (es es' de : List StoredEffect) (h : H)
+    → hs' ≡ hs ++ h ∷ [] → ws' ≡ ws ++ dw → es' ≡ es ++ de
+    → (span h).start ≡ length ws → (span h).first_effect ≡ length es → (span h).size ≡ length dw → (span h).effects ≡ length de
+    → AreLaid span (reverse hs) (length ws) (length es) → AreLaid span (reverse hs') (length ws') (length es')
+pushed_laid {H = H} span hs hs' ws ws' dw es es' de h eh ew ee start first size effects laid =
+    let w = ap length ew ∙ length-append ws dw in
+    let e = ap length ee ∙ length-append es de in
+    let older : AreLaid span (reverse hs) (span h).start (span h).first_effect =
+    subst (λ (n : ℕ). AreLaid span (reverse hs) n (span h).first_effect) (sym start) (subst (λ (m : ℕ). AreLaid span (reverse hs) (length ws) m) (sym first) laid) in
+    subst (λ (x : List H). AreLaid span x (length ws') (length es')) (sym (ap reverse eh ∙ reverse-append hs (h ∷ [])))
+    (omega (arith, w, start, size), omega (arith, e, first, effects), older)
+
 -- the older turns end where a turn begins
 pub record EndBefore (H : Type 0) (span : H → Span) (older : List H) (h : H) (n m : ℕ) : Type 0 where
   pub laid : AreLaid span older (span h).start (span h).first_effect
@@ -74,12 +86,12 @@ turned_round : {H : Type 0} (kept dropped : List H) (h : H) → reverse (kept ++
 turned_round kept dropped h =
     reverse-append kept (h ∷ dropped) ∙ ap (λ s. s ++ reverse kept) (reverse-append (h ∷ []) dropped) ∙ append_assoc (reverse dropped) (h ∷ []) (reverse kept)
 
-cut_before : {H : Type 0} (span : H → Span) (hs kept dropped : List H) (h : H) (n m : ℕ) → hs ≡ kept ++ h ∷ dropped → AreLaid span (reverse hs) n m → EndBefore H span (reverse kept) h n m
+pub cut_before : {H : Type 0} (span : H → Span) (hs kept dropped : List H) (h : H) (n m : ℕ) → hs ≡ kept ++ h ∷ dropped → AreLaid span (reverse hs) n m → EndBefore H span (reverse kept) h n m
 cut_before {H = H} span hs kept dropped h n m eh laid =
     end_before span (reverse dropped) (reverse kept) h n m (subst (λ (x : List H). AreLaid span x n m) (ap reverse eh ∙ turned_round kept dropped h) laid)
 
 -- the turns from one on are dropped
-dropped_from : {H V : Type 0} (span : H → Span) (read : H → List ℤ → List StoredEffect → V) (hs kept dropped : List H) (h : H) (ws ws' : List ℤ) (es es' : List StoredEffect)
+pub dropped_from : {H V : Type 0} (span : H → Span) (read : H → List ℤ → List StoredEffect → V) (hs kept dropped : List H) (h : H) (ws ws' : List ℤ) (es es' : List StoredEffect)
     → hs ≡ kept ++ h ∷ dropped → ws' ≡ take (span h).start ws → es' ≡ take (span h).first_effect es
     → AreLaid span (reverse hs) (length ws) (length es) → map (read_at span read ws' es') kept ≡ take (length kept) (map (read_at span read ws es) hs)
 dropped_from span read hs kept dropped h ws ws' es es' eh ew ee laid =
@@ -90,7 +102,7 @@ dropped_from span read hs kept dropped h ws ws' es es' eh ew ee laid =
     ∙ sym (take-map (read_at span read ws es) (length kept) hs)
 
 -- those that are left end where the words and the effects now end
-laid_before : {H : Type 0} (span : H → Span) (hs kept dropped : List H) (h : H) (ws ws' : List ℤ) (es es' : List StoredEffect)
+pub laid_before : {H : Type 0} (span : H → Span) (hs kept dropped : List H) (h : H) (ws ws' : List ℤ) (es es' : List StoredEffect)
     → hs ≡ kept ++ h ∷ dropped → ws' ≡ take (span h).start ws → es' ≡ take (span h).first_effect es
     → AreLaid span (reverse hs) (length ws) (length es) → AreLaid span (reverse kept) (length ws') (length es')
 laid_before span hs kept dropped h ws ws' es es' eh ew ee laid =
@@ -110,22 +122,5 @@ retracted {V = V} span read hs hs' ws ws' es es' h v eh ew ee laid is =
     let size : length hs' ≡ length v - 1 = omega (arith, long, more, same) in
     dropped_from span read hs hs' [] h ws ws' es es' eh ew ee laid ∙ ap (take (length hs')) is ∙ ap (λ (n : ℕ). take n v) size
 
-split_at : {X : Type 0} (xs : List X) (n : ℕ) (x : X) → n < length xs → x ≡ get_or xs n x → xs ≡ take n xs ++ x ∷ drop (n + 1) xs
+pub split_at : {X : Type 0} (xs : List X) (n : ℕ) (x : X) → n < length xs → x ≡ get_or xs n x → xs ≡ take n xs ++ x ∷ drop (n + 1) xs
 split_at {X = X} xs n x lt is = sym (take-append-drop n xs) ∙ ap (λ s. take n xs ++ s) (drop_more xs n x lt ∙ ap (λ (y : X). y ∷ drop (n + 1) xs) (sym is))
-
--- so many turns are left
-pub truncated : {H V : Type 0} (span : H → Span) (read : H → List ℤ → List StoredEffect → V) (hs hs' : List H) (n : ℕ) (h : H) (ws ws' : List ℤ) (es es' : List StoredEffect) (v : List V)
-    → n < length hs → h ≡ get_or hs n h → hs' ≡ take n hs → ws' ≡ take (span h).start ws → es' ≡ take (span h).first_effect es
-    → AreLaid span (reverse hs) (length ws) (length es) → map (read_at span read ws es) hs ≡ v → map (read_at span read ws' es') hs' ≡ take n v
-truncated span read hs hs' n h ws ws' es es' v lt at eh ew ee laid is =
-    ap (map (read_at span read ws' es')) eh
-    ∙ dropped_from span read hs (take n hs) (drop (n + 1) hs) h ws ws' es es' (split_at hs n h lt at) ew ee laid
-    ∙ ap (λ (m : ℕ). take m (map (read_at span read ws es) hs)) (length-take-le n hs (omega (arith, lt)))
-    ∙ ap (take n) is
-
-pub truncated_laid : {H : Type 0} (span : H → Span) (hs hs' : List H) (n : ℕ) (h : H) (ws ws' : List ℤ) (es es' : List StoredEffect)
-    → n < length hs → h ≡ get_or hs n h → hs' ≡ take n hs → ws' ≡ take (span h).start ws → es' ≡ take (span h).first_effect es
-    → AreLaid span (reverse hs) (length ws) (length es) → AreLaid span (reverse hs') (length ws') (length es')
-truncated_laid {H = H} span hs hs' n h ws ws' es es' lt at eh ew ee laid =
-    subst (λ (x : List H). AreLaid span (reverse x) (length ws') (length es')) (sym eh)
-    (laid_before span hs (take n hs) (drop (n + 1) hs) h ws ws' es es' (split_at hs n h lt at) ew ee laid)

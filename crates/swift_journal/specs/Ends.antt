@@ -1,13 +1,14 @@
 -- Faults, resumes and exits as they are stored. Only proofs use these.
-use Rattle.std.specs.Prelude.{ℕ, ℤ, Option, Some, None, List, [], ◌∷◌, take, drop, length}
+use Rattle.std.specs.Prelude.{◌≡◌, ℕ, ℤ, pos, Option, Some, None, List, [], ◌∷◌, take, drop, length}
 use Rattle.swift_types.specs.declared.outcome.Fault.{Fault}
 use Rattle.swift_types.specs.declared.outcome.Fault.TheVariants as fault
 use Rattle.swift_types.specs.declared.outcome.Resume.{Resume}
 use Rattle.swift_types.specs.declared.outcome.Resume.TheVariants as resume
-use Rattle.swift_interpreter.specs.Turn.{ExitView, calling, waiting, asking_next, closing, yielding, returning, failing}
+use Rattle.swift_interpreter.specs.Turn.{ExitView, InvocationView, calling, waiting, asking_next, closing, yielding, returning, failing}
+use Rattle.swift_interpreter.specs.declared.effect.TaskName.TheVariants as name
 use Rattle.swift_interpreter.specs.declared.exit.Exit.{Exit}
 use Rattle.swift_interpreter.specs.declared.exit.Exit.TheVariants as exit
-use Rattle.swift_journal.specs.Words.{first_word}
+use Rattle.swift_journal.specs.Words.{first_word, narrowed, number_at}
 use Rattle.swift_journal.specs.declared.stored.StoredFault.{StoredFault}
 use Rattle.swift_journal.specs.declared.stored.StoredFault.TheVariants as kind
 use Rattle.swift_journal.specs.declared.stored.StoredResume.{StoredResume}
@@ -15,8 +16,9 @@ use Rattle.swift_journal.specs.declared.stored.StoredResume.TheVariants as start
 use Rattle.swift_journal.specs.declared.stored.StoredExit.{StoredExit}
 use Rattle.swift_journal.specs.declared.stored.StoredExit.TheVariants as end
 
--- the fault of a kind, with the value that a throw has
+-- the fault of a kind, with the value that a throw has; where there is none, it is not asked
 abbrev pub fault_of : StoredFault → ℤ → Fault
+fault_of kind.Absent v = fault.Cancelled
 fault_of kind.Thrown v = fault.Thrown v
 fault_of kind.Cancelled v = fault.Cancelled
 fault_of kind.Invariant v = fault.Invariant
@@ -49,24 +51,20 @@ fault_size kind.Thrown = 1
 fault_size _ = 0
 
 -- the same of a fault that may be pending
-abbrev pub pending_of : Option StoredFault → List ℤ → Option Fault
-pending_of None ws = None
-pending_of (Some k) ws = Some (fault_of k (first_word ws))
+abbrev pub pending_of : StoredFault → List ℤ → Option Fault
+pending_of kind.Absent ws = None
+pending_of k ws = Some (fault_of k (first_word ws))
 
-abbrev pub pending_kind : Option Fault → Option StoredFault
-pending_kind None = None
-pending_kind (Some f) = Some (fault_kind f)
+abbrev pub pending_kind : Option Fault → StoredFault
+pending_kind None = kind.Absent
+pending_kind (Some f) = fault_kind f
 
 abbrev pub pending_words : Option Fault → List ℤ
 pending_words None = []
 pending_words (Some f) = fault_words f
 
-abbrev pub pending_size : Option StoredFault → ℕ
-pending_size None = 0
-pending_size (Some k) = fault_size k
-
-abbrev pub skip_pending : Option StoredFault → List ℤ → List ℤ
-skip_pending k ws = drop (pending_size k) ws
+abbrev pub skip_pending : StoredFault → List ℤ → List ℤ
+skip_pending k ws = drop (fault_size k) ws
 
 -- the same of what a turn begins with
 abbrev pub resume_of : StoredResume → List ℤ → Resume
@@ -94,38 +92,58 @@ resume_size _ = 0
 abbrev pub skip_resume : StoredResume → List ℤ → List ℤ
 skip_resume k ws = drop (resume_size k) ws
 
+-- what is called, with its arguments
+abbrev pub call_of : List ℤ → InvocationView
+call_of ws = record { actor = number_at ws 0; method = number_at ws 1; args = take (number_at ws 2) (drop 3 ws) }
+
 -- the same of how a turn ends
 abbrev pub exit_of : StoredExit → List ℤ → ExitView
-exit_of (end.Call a m n) ws = calling (record { actor = a.0; method = m.0; args = take n ws })
-exit_of (end.Wait t) ws = waiting t
-exit_of (end.Next g) ws = asking_next g
-exit_of (end.Close g k) ws = closing g (pending_of k ws)
+exit_of end.Call ws = calling (call_of ws)
+exit_of end.Root ws = waiting (name.Root (record { 0 = number_at ws 0 }))
+exit_of end.Own ws = waiting (name.Own (number_at ws 0))
+exit_of end.Next ws = asking_next (number_at ws 0)
+exit_of (end.Close k) ws = closing (number_at ws 0) (pending_of k (drop 1 ws))
 exit_of end.Yield ws = yielding
 exit_of end.Return ws = returning (first_word ws)
 exit_of (end.Fault k) ws = failing (fault_of k (first_word ws))
 
 abbrev pub exit_kind : Exit → StoredExit
-exit_kind (exit.Call i) = end.Call i.actor i.method (length i.args.items)
-exit_kind (exit.Wait t) = end.Wait t
-exit_kind (exit.Next g) = end.Next g
-exit_kind (exit.Close g f) = end.Close g (pending_kind f)
+exit_kind (exit.Call i) = end.Call
+exit_kind (exit.Wait (name.Root r)) = end.Root
+exit_kind (exit.Wait (name.Own n)) = end.Own
+exit_kind (exit.Next g) = end.Next
+exit_kind (exit.Close g f) = end.Close (pending_kind f)
 exit_kind exit.Yield = end.Yield
 exit_kind (exit.Return v) = end.Return
 exit_kind (exit.Fault f) = end.Fault (fault_kind f)
 
 abbrev pub exit_words : Exit → List ℤ
-exit_words (exit.Call i) = i.args.items
-exit_words (exit.Close g f) = pending_words f
+exit_words (exit.Call i) = pos i.actor.0 ∷ pos i.method.0 ∷ pos (length i.args.items) ∷ i.args.items
+exit_words (exit.Wait (name.Root r)) = pos r.0 ∷ []
+exit_words (exit.Wait (name.Own n)) = pos n ∷ []
+exit_words (exit.Next g) = pos g ∷ []
+exit_words (exit.Close g f) = pos g ∷ pending_words f
+exit_words exit.Yield = []
 exit_words (exit.Return v) = v ∷ []
 exit_words (exit.Fault f) = fault_words f
-exit_words _ = []
 
-abbrev pub exit_size : StoredExit → ℕ
-exit_size (end.Call a m n) = n
-exit_size (end.Close g k) = pending_size k
-exit_size end.Return = 1
-exit_size (end.Fault k) = fault_size k
-exit_size _ = 0
+-- the numbers that are written of how a turn ends have 32 bits
+abbrev pub IsNarrowExit : Exit → Type 0
+IsNarrowExit (exit.Call i) = (narrowed (pos i.actor.0) ≡ i.actor.0) × (narrowed (pos i.method.0) ≡ i.method.0) × (narrowed (pos (length i.args.items)) ≡ length i.args.items)
+IsNarrowExit (exit.Wait (name.Root r)) = narrowed (pos r.0) ≡ r.0
+IsNarrowExit (exit.Wait (name.Own n)) = narrowed (pos n) ≡ n
+IsNarrowExit (exit.Next g) = narrowed (pos g) ≡ g
+IsNarrowExit (exit.Close g f) = narrowed (pos g) ≡ g
+IsNarrowExit exit.Yield = Unit {0}
+IsNarrowExit (exit.Return v) = Unit {0}
+IsNarrowExit (exit.Fault f) = Unit {0}
 
 abbrev pub skip_exit : StoredExit → List ℤ → List ℤ
-skip_exit k ws = drop (exit_size k) ws
+skip_exit end.Call ws = drop (number_at ws 2) (drop 3 ws)
+skip_exit end.Root ws = drop 1 ws
+skip_exit end.Own ws = drop 1 ws
+skip_exit end.Next ws = drop 1 ws
+skip_exit (end.Close k) ws = skip_pending k (drop 1 ws)
+skip_exit end.Yield ws = ws
+skip_exit end.Return ws = drop 1 ws
+skip_exit (end.Fault k) ws = drop (fault_size k) ws

@@ -1,11 +1,11 @@
 -- What the fields of a journal say, and what they keep. No public clause names these.
-use Rattle.std.specs.Prelude.{ℤ, List, take, drop}
+use Rattle.std.specs.Prelude.{◌≡◌, ℕ, ℤ, List, [], ◌∷◌, ◌++◌, length, take, drop}
 use Rattle.swift_journal.specs.EffectWords.{effects_of}
 use Rattle.swift_journal.specs.Ends.{resume_of, skip_resume, exit_of, skip_exit}
 use Rattle.swift_journal.specs.FrameWords.{frame_of, skip_frame, frame_if_of, skip_frame_if}
 use Rattle.swift_journal.specs.Laid.{Span, read_at}
 use Rattle.swift_journal.specs.Records.{RecordView}
-use Rattle.swift_journal.specs.Words.{bindings_of, skip_bindings}
+use Rattle.swift_journal.specs.Words.{bindings_of}
 use Rattle.swift_journal.specs.declared.stored.FrameHead.{FrameHead}
 use Rattle.swift_journal.specs.declared.stored.StoredEffect.{StoredEffect}
 use Rattle.swift_journal.specs.declared.stored.StoredExit.{StoredExit}
@@ -20,7 +20,7 @@ abbrev pub outer_part : Head → List ℤ → List ℤ
 outer_part h ws = skip_frame h.frame (frame_part h ws)
 
 abbrev pub exit_part : Head → List ℤ → List ℤ
-exit_part h ws = skip_bindings h.outer (outer_part h ws)
+exit_part h ws = drop h.ended ws
 
 -- of the words from the exit on, those of the effects
 abbrev pub effect_part : StoredExit → FrameHead → List ℤ → List ℤ
@@ -53,3 +53,10 @@ effects_at effects h = take h.effects (drop h.first_effect effects)
 
 abbrev pub record_at : List ℤ → List StoredEffect → Head → RecordView
 record_at = read_at span_of record_of
+
+-- A turn was put after others: to their heads came one by which the words and the effects that begin at these places say the turn.
+pub record IsPut (old new : List Head) (start : ℕ) (words : List ℤ) (first_effect : ℕ) (effects : List StoredEffect) (turn : RecordView) : Type 0 where
+  pub head : Head
+  pub put : new ≡ old ++ head ∷ []
+  pub span : span_of head ≡ record { start = start; size = length words; first_effect = first_effect; effects = length effects }
+  pub says : record_of head words effects ≡ turn

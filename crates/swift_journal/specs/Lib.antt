@@ -7,4 +7,5 @@ pub mod JournalInside
 pub mod Laid
 pub mod Records
 pub mod Replay
+pub mod TailInside
 pub mod Words

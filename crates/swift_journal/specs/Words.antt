@@ -6,6 +6,10 @@ abbrev pub narrowed : ℤ → ℕ
 narrowed (pos n) = if nat_lt n (2 ^ 32) then n else 0
 narrowed (negsuc n) = 0
 
+-- the word at a place, as such a number
+abbrev pub number_at : List ℤ → ℕ → ℕ
+number_at ws k = narrowed (slice_index_or ws k (pos 0))
+
 abbrev pub numbers_of : List ℤ → List ℕ
 numbers_of = map narrowed
 

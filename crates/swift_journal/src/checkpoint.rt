@@ -15,8 +15,8 @@ use swift_types::TaskId;
 /// Where the replay of a journal begins: the fields of an executor's actors, and what is left of the turns that led there
 /// (our own). Contracts see both, and the turns for which there is room.
 ///
-/// A turn that was folded takes 56 bytes, and eight for each number of the frame after it, its arguments and its value: 64
-/// bytes where a frame of one variable goes on. Effects take a list of their own.
+/// A turn that was folded takes 32 bytes, and eight for each number of how it ended and of the frame after it: 40 bytes where
+/// a frame of one variable goes on after a yield. Effects take a list of their own.
 pub struct Checkpoint {
     fields: Vec<Vec<i64>>,
     // The turns that were folded, and after them those that are written ahead.

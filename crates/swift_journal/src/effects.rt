@@ -1,11 +1,13 @@
 //! Effects, written and read.
 
-ghost use Rattle.std.specs.Prelude.{◌≡◌, [], ◌++◌, IfOk, OnOk};
+ghost use Rattle.std.specs.Prelude.{◌≡◌, ◌++◌, IfOk, OnOk};
 ghost use Rattle.swift_interpreter.specs.Frames.{effect_view, effect_views, invocation_view};
 ghost use Rattle.swift_journal.specs.EffectWords.{skip_args as after_args, skip_bound as after_bound, skip_effect as after_effect, skip_effects as after_effects, bound_of, bound_words, effect_of, effect_words, effects_of, effects_words, invocation_of, stored_invocation};
+ghost use Rattle.swift_journal.specs.TailInside.{since};
 ghost use Rattle.swift_journal.specs.Words.{ReadsBack};
 
 use crate::stored::{StoredEffect, StoredInvocation};
+use crate::tail::Tail;
 use crate::words::{read_bindings, skip_bindings, split, write_bindings};
 use std::alloc::{AllocError, Global};
 use swift_interpreter::{Effect, Invocation};
@@ -13,13 +15,14 @@ use swift_locals::Bindings;
 
 // Appends the arguments of what is to run.
 fn write_invocation(
-    words: &mut Vec<i64>,
+    words: &mut Tail,
     invocation: &Invocation,
 ) -> Result<StoredInvocation, AllocError>
     ensures stored { IfOk result (λ stored. stored ≡ stored_invocation invocation.now) }
-    ensures words { OnOk result (words.new.items ≡ words.old.items ++ invocation.now.args.items) }
+    ensures before { words.new.before ≡ words.old.before }
+    ensures words { OnOk result (words.new.written ≡ words.old.written ++ invocation.now.args.items) }
 {
-    words.extend_from_slice(&invocation.args)?;
+    words.extend(&invocation.args)?;
     Ok(StoredInvocation {
         actor: invocation.actor,
         method: invocation.method,
@@ -29,11 +32,12 @@ fn write_invocation(
 
 // Appends the arguments of what is to run and its bindings, and counts those.
 fn write_bound(
-    words: &mut Vec<i64>,
+    words: &mut Tail,
     invocation: &Invocation,
     bindings: &Bindings,
 ) -> Result<(StoredInvocation, usize), AllocError>
-    ensures words { OnOk result (words.new.items ≡ words.old.items ++ bound_words invocation.now bindings.now) }
+    ensures before { words.new.before ≡ words.old.before }
+    ensures words { OnOk result (words.new.written ≡ words.old.written ++ bound_words invocation.now bindings.now) }
     ensures reads_back { IfOk result (λ s. ReadsBack _ (bound_of s.0 s.1) (after_bound s.0 s.1) (bound_words invocation.now bindings.now) (invocation_view invocation.now, bindings.now)) }
 {
     let stored = write_invocation(words, invocation)?;
@@ -42,8 +46,9 @@ fn write_bound(
 }
 
 // Appends the words of an effect, and says what is stored beside them.
-fn write_effect(words: &mut Vec<i64>, effect: &Effect) -> Result<StoredEffect, AllocError>
-    ensures words { OnOk result (words.new.items ≡ words.old.items ++ effect_words effect.now) }
+fn write_effect(words: &mut Tail, effect: &Effect) -> Result<StoredEffect, AllocError>
+    ensures before { words.new.before ≡ words.old.before }
+    ensures words { OnOk result (words.new.written ≡ words.old.written ++ effect_words effect.now) }
     ensures reads_back { IfOk result (λ s. ReadsBack _ (effect_of s) (after_effect s) (effect_words effect.now) (effect_view effect.now)) }
 {
     match effect {
@@ -65,15 +70,16 @@ fn write_effect(words: &mut Vec<i64>, effect: &Effect) -> Result<StoredEffect, A
     }
 }
 
-// Appends the words of effects, and fills an empty list with what is stored beside them.
+// Appends the words of effects, and to a list what is stored beside them.
 pub fn write_effects(
-    words: &mut Vec<i64>,
+    words: &mut Tail,
     list: &mut Vec<StoredEffect>,
     effects: &[Effect],
 ) -> Result<(), AllocError>
-    requires { list.old.items ≡ [] }
-    ensures words { OnOk result (words.new.items ≡ words.old.items ++ effects_words effects.now) }
-    ensures reads_back { OnOk result (ReadsBack _ (effects_of list.new.items) (after_effects list.new.items) (effects_words effects.now) (effect_views effects.now)) }
+    ensures before { words.new.before ≡ words.old.before }
+    ensures list { list.new.items ≡ list.old.items ++ since list.old.items list.new.items }
+    ensures words { OnOk result (words.new.written ≡ words.old.written ++ effects_words effects.now) }
+    ensures reads_back { OnOk result (ReadsBack _ (effects_of (since list.old.items list.new.items)) (after_effects (since list.old.items list.new.items)) (effects_words effects.now) (effect_views effects.now)) }
 {
     for effect in effects {
         let stored = write_effect(words, effect)?;

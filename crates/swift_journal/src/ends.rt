@@ -1,17 +1,19 @@
 //! Faults, resumes and exits, written and read.
 
-ghost use Rattle.std.specs.Prelude.{◌≡◌, ◌++◌, drop, IfOk, OnOk};
+ghost use Rattle.std.specs.Prelude.{◌≡◌, ◌++◌, drop, take, IfOk, OnOk};
+ghost use Rattle.swift_interpreter.specs.Frames.{invocation_view};
 ghost use Rattle.swift_interpreter.specs.TurnStates.{exit_view};
-ghost use Rattle.swift_journal.specs.Ends.{skip_exit as after_exit, skip_pending as after_pending, skip_resume as after_resume, exit_kind, exit_of, exit_words, fault_kind, fault_of, fault_size as size_of_fault, fault_words, pending_kind, pending_of, pending_words, resume_kind, resume_of, resume_words};
+ghost use Rattle.swift_journal.specs.Ends.{skip_exit as after_exit, skip_pending as after_pending, skip_resume as after_resume, IsNarrowExit, call_of, exit_kind, exit_of, exit_words, fault_kind, fault_of, fault_size as size_of_fault, fault_words, pending_kind, pending_of, pending_words, resume_kind, resume_of, resume_words};
 ghost use Rattle.swift_journal.specs.Records.{brief_of};
-ghost use Rattle.swift_journal.specs.Words.{first_word};
+ghost use Rattle.swift_journal.specs.Words.{first_word, number_at};
 
 use crate::brief::BriefExit;
 use crate::stored::{StoredExit, StoredFault, StoredResume};
-use crate::words::{short, split, word_at};
+use crate::tail::Tail;
+use crate::words::{number_at, short, split, word_at, write_number};
 use std::alloc::{AllocError, Global};
-use swift_interpreter::{Exit, Invocation};
-use swift_types::{Fault, Resume};
+use swift_interpreter::{Exit, Invocation, TaskName};
+use swift_types::{ActorId, Fault, MethodId, Resume, RootId};
 
 // Which fault it is.
 fn kind_of(fault: Fault) -> StoredFault
@@ -32,9 +34,10 @@ fn kind_of(fault: Fault) -> StoredFault
 }
 
 // Appends the value of a throw, and says which fault it is.
-fn write_fault(words: &mut Vec<i64>, fault: Fault) -> Result<StoredFault, AllocError>
+fn write_fault(words: &mut Tail, fault: Fault) -> Result<StoredFault, AllocError>
     ensures kind { IfOk result (λ kind. kind ≡ fault_kind fault) }
-    ensures words { OnOk result (words.new.items ≡ words.old.items ++ fault_words fault) }
+    ensures before { words.new.before ≡ words.old.before }
+    ensures words { OnOk result (words.new.written ≡ words.old.written ++ fault_words fault) }
 {
     if let Fault::Thrown(value) = fault {
         words.push(value)?;
@@ -43,23 +46,22 @@ fn write_fault(words: &mut Vec<i64>, fault: Fault) -> Result<StoredFault, AllocE
 }
 
 // The same of a fault that may be pending.
-pub fn write_pending(
-    words: &mut Vec<i64>,
-    pending: Option<Fault>,
-) -> Result<Option<StoredFault>, AllocError>
+pub fn write_pending(words: &mut Tail, pending: Option<Fault>) -> Result<StoredFault, AllocError>
     ensures kind { IfOk result (λ kind. kind ≡ pending_kind pending) }
-    ensures words { OnOk result (words.new.items ≡ words.old.items ++ pending_words pending) }
+    ensures before { words.new.before ≡ words.old.before }
+    ensures words { OnOk result (words.new.written ≡ words.old.written ++ pending_words pending) }
 {
     match pending {
-        Some(fault) => Ok(Some(write_fault(words, fault)?)),
-        None => Ok(None),
+        Some(fault) => write_fault(words, fault),
+        None => Ok(StoredFault::Absent),
     }
 }
 
 // The same of what a turn begins with.
-pub fn write_resume(words: &mut Vec<i64>, resume: Resume) -> Result<StoredResume, AllocError>
+pub fn write_resume(words: &mut Tail, resume: Resume) -> Result<StoredResume, AllocError>
     ensures kind { IfOk result (λ kind. kind ≡ resume_kind resume) }
-    ensures words { OnOk result (words.new.items ≡ words.old.items ++ resume_words resume) }
+    ensures before { words.new.before ≡ words.old.before }
+    ensures words { OnOk result (words.new.written ≡ words.old.written ++ resume_words resume) }
 {
     match resume {
         Resume::Start => Ok(StoredResume::Start),
@@ -72,17 +74,23 @@ pub fn write_resume(words: &mut Vec<i64>, resume: Resume) -> Result<StoredResume
     }
 }
 
-// The same of how a turn ends, with the arguments of a call.
-pub fn write_exit(words: &mut Vec<i64>, exit: &Exit) -> Result<StoredExit, AllocError>
+// The same of how a turn ends, with what it names and the arguments of a call.
+pub fn write_exit(words: &mut Tail, exit: &Exit) -> Result<StoredExit, AllocError>
     ensures kind { IfOk result (λ kind. kind ≡ exit_kind exit.now) }
-    ensures words { OnOk result (words.new.items ≡ words.old.items ++ exit_words exit.now) }
+    ensures before { words.new.before ≡ words.old.before }
+    ensures words { OnOk result (words.new.written ≡ words.old.written ++ exit_words exit.now) }
+    ensures narrow { OnOk result (IsNarrowExit exit.now) }
 {
     match exit {
         Exit::Call(invocation) => write_call(words, invocation),
-        Exit::Wait(task) => Ok(StoredExit::Wait(*task)),
-        Exit::Next(group) => Ok(StoredExit::Next(*group)),
+        Exit::Wait(task) => write_name(words, *task),
+        Exit::Next(group) => {
+            write_number(words, *group)?;
+            Ok(StoredExit::Next)
+        }
         Exit::Close(group, pending) => {
-            Ok(StoredExit::Close(*group, write_pending(words, *pending)?))
+            write_number(words, *group)?;
+            Ok(StoredExit::Close(write_pending(words, *pending)?))
         }
         Exit::Yield => Ok(StoredExit::Yield),
         Exit::Return(value) => {
@@ -93,22 +101,45 @@ pub fn write_exit(words: &mut Vec<i64>, exit: &Exit) -> Result<StoredExit, Alloc
     }
 }
 
-fn write_call(words: &mut Vec<i64>, invocation: &Invocation) -> Result<StoredExit, AllocError>
+fn write_call(words: &mut Tail, invocation: &Invocation) -> Result<StoredExit, AllocError>
     ensures kind { IfOk result (λ kind. kind ≡ exit_kind (Exit.Call invocation.now)) }
-    ensures words { OnOk result (words.new.items ≡ words.old.items ++ invocation.now.args.items) }
+    ensures before { words.new.before ≡ words.old.before }
+    ensures words { OnOk result (words.new.written ≡ words.old.written ++ exit_words (Exit.Call invocation.now)) }
+    ensures narrow { OnOk result (IsNarrowExit (Exit.Call invocation.now)) }
 {
     let count = short(invocation.args.len())?;
-    words.extend_from_slice(&invocation.args)?;
-    Ok(StoredExit::Call(invocation.actor, invocation.method, count))
+    write_number(words, invocation.actor.0)?;
+    write_number(words, invocation.method.0)?;
+    write_number(words, count)?;
+    words.extend(&invocation.args)?;
+    Ok(StoredExit::Call)
 }
 
-// A fault, with the value that a throw has.
+fn write_name(words: &mut Tail, task: TaskName) -> Result<StoredExit, AllocError>
+    ensures kind { IfOk result (λ kind. kind ≡ exit_kind (Exit.Wait task)) }
+    ensures before { words.new.before ≡ words.old.before }
+    ensures words { OnOk result (words.new.written ≡ words.old.written ++ exit_words (Exit.Wait task)) }
+    ensures narrow { OnOk result (IsNarrowExit (Exit.Wait task)) }
+{
+    match task {
+        TaskName::Root(root) => {
+            write_number(words, root.0)?;
+            Ok(StoredExit::Root)
+        }
+        TaskName::Own(number) => {
+            write_number(words, number)?;
+            Ok(StoredExit::Own)
+        }
+    }
+}
+
+// A fault, with the value that a throw has. What has none is never asked.
 fn fault(kind: StoredFault, words: &[i64]) -> Fault
     ensures { result ≡ fault_of kind (first_word words.now) }
 {
     match kind {
         StoredFault::Thrown => Fault::Thrown(word_at(words, 0)),
-        StoredFault::Cancelled => Fault::Cancelled,
+        StoredFault::Absent | StoredFault::Cancelled => Fault::Cancelled,
         StoredFault::Invariant => Fault::Invariant,
         StoredFault::Overflow => Fault::Overflow,
         StoredFault::Steps => Fault::Steps,
@@ -121,12 +152,12 @@ fn fault(kind: StoredFault, words: &[i64]) -> Fault
 }
 
 // The fault that is pending, if one is.
-pub fn pending(kind: Option<StoredFault>, words: &[i64]) -> Option<Fault>
+pub fn pending(kind: StoredFault, words: &[i64]) -> Option<Fault>
     ensures { result ≡ pending_of kind words.now }
 {
     match kind {
-        Some(kind) => Some(fault(kind, words)),
-        None => None,
+        StoredFault::Absent => None,
+        _ => Some(fault(kind, words)),
     }
 }
 
@@ -147,10 +178,16 @@ pub fn brief(kind: StoredExit, words: &[i64]) -> BriefExit
     ensures { result ≡ brief_of (exit_of kind words.now) }
 {
     match kind {
-        StoredExit::Call(actor, method, _) => BriefExit::Call(actor, method),
-        StoredExit::Wait(task) => BriefExit::Wait(task),
-        StoredExit::Next(group) => BriefExit::Next(group),
-        StoredExit::Close(group, kind) => BriefExit::Close(group, pending(kind, words)),
+        StoredExit::Call => BriefExit::Call(
+            ActorId(number_at(words, 0)),
+            MethodId(number_at(words, 1)),
+        ),
+        StoredExit::Root => BriefExit::Wait(TaskName::Root(RootId(number_at(words, 0)))),
+        StoredExit::Own => BriefExit::Wait(TaskName::Own(number_at(words, 0))),
+        StoredExit::Next => BriefExit::Next(number_at(words, 0)),
+        StoredExit::Close(kind) => {
+            BriefExit::Close(number_at(words, 0), pending(kind, split(words, 1).1))
+        }
         StoredExit::Yield => BriefExit::Yield,
         StoredExit::Return => BriefExit::Return(word_at(words, 0)),
         StoredExit::Fault(kind) => BriefExit::Fault(fault(kind, words)),
@@ -162,21 +199,37 @@ pub fn read_exit(alloc: Global, kind: StoredExit, words: &[i64]) -> Result<Exit,
     ensures { IfOk result (λ exit. exit_view exit ≡ exit_of kind words.now) }
 {
     match kind {
-        StoredExit::Call(actor, method, count) => {
-            let args = split(words, count as usize).0.to_vec(alloc)?;
-            Ok(Exit::Call(Invocation {
-                actor,
-                method,
-                args,
-            }))
-        }
-        StoredExit::Wait(task) => Ok(Exit::Wait(task)),
-        StoredExit::Next(group) => Ok(Exit::Next(group)),
-        StoredExit::Close(group, kind) => Ok(Exit::Close(group, pending(kind, words))),
+        StoredExit::Call => Ok(Exit::Call(read_call(alloc, words)?)),
+        StoredExit::Root => Ok(Exit::Wait(TaskName::Root(RootId(number_at(words, 0))))),
+        StoredExit::Own => Ok(Exit::Wait(TaskName::Own(number_at(words, 0)))),
+        StoredExit::Next => Ok(Exit::Next(number_at(words, 0))),
+        StoredExit::Close(kind) => Ok(Exit::Close(
+            number_at(words, 0),
+            pending(kind, split(words, 1).1),
+        )),
         StoredExit::Yield => Ok(Exit::Yield),
         StoredExit::Return => Ok(Exit::Return(word_at(words, 0))),
         StoredExit::Fault(kind) => Ok(Exit::Fault(fault(kind, words))),
     }
+}
+
+// What is called.
+fn read_call(alloc: Global, words: &[i64]) -> Result<Invocation, AllocError>
+    ensures { IfOk result (λ invocation. invocation_view invocation ≡ call_of words.now) }
+{
+    Ok(Invocation {
+        actor: ActorId(number_at(words, 0)),
+        method: MethodId(number_at(words, 1)),
+        args: call_args(words).0.to_vec(alloc)?,
+    })
+}
+
+// The arguments of what is called, and the words after them.
+fn call_args(words: &[i64]) -> (&[i64], &[i64])
+    ensures front { result.0.now ≡ take (number_at words.now 2) (drop 3 words.now) }
+    ensures back { result.1.now ≡ drop (number_at words.now 2) (drop 3 words.now) }
+{
+    split(split(words, 3).1, number_at(words, 2) as usize)
 }
 
 // How many words a fault has.
@@ -190,13 +243,10 @@ fn fault_size(kind: StoredFault) -> usize
 }
 
 // The words after a fault that may be pending.
-pub fn skip_pending(kind: Option<StoredFault>, words: &[i64]) -> &[i64]
+pub fn skip_pending(kind: StoredFault, words: &[i64]) -> &[i64]
     ensures { result.now ≡ after_pending kind words.now }
 {
-    match kind {
-        Some(kind) => split(words, fault_size(kind)).1,
-        None => words,
-    }
+    split(words, fault_size(kind)).1
 }
 
 // The words after what a turn begins with.
@@ -215,10 +265,10 @@ pub fn skip_exit(kind: StoredExit, words: &[i64]) -> &[i64]
     ensures { result.now ≡ after_exit kind words.now }
 {
     match kind {
-        StoredExit::Call(_, _, count) => split(words, count as usize).1,
-        StoredExit::Close(_, kind) => skip_pending(kind, words),
-        StoredExit::Return => split(words, 1).1,
+        StoredExit::Call => call_args(words).1,
+        StoredExit::Close(kind) => skip_pending(kind, split(words, 1).1),
+        StoredExit::Yield => words,
         StoredExit::Fault(kind) => split(words, fault_size(kind)).1,
-        _ => words,
+        _ => split(words, 1).1,
     }
 }

@@ -8,6 +8,7 @@ ghost use Rattle.script_code.specs.Seen.{pair_of};
 
 use crate::ends::{pending, skip_pending, write_pending};
 use crate::stored::{Counts, FrameHead};
+use crate::tail::Tail;
 use crate::words::{
     read_numbers, read_own, short, skip_bindings, split, word_at, write_numbers, write_own,
 };
@@ -39,11 +40,12 @@ fn is_counted(counts: &Counts) -> bool
 }
 
 // Appends all counts.
-fn write_all(words: &mut Vec<i64>, counts: &Counts) -> Result<(), AllocError>
-    ensures words { OnOk result (words.new.items ≡ words.old.items ++ counts_words true counts.now) }
+fn write_all(words: &mut Tail, counts: &Counts) -> Result<(), AllocError>
+    ensures before { words.new.before ≡ words.old.before }
+    ensures words { OnOk result (words.new.written ≡ words.old.written ++ counts_words true counts.now) }
     ensures reads { OnOk result (counts_of true (counts_words true counts.now) ≡ counts.now) }
 {
-    words.extend_from_slice(&[
+    words.extend(&[
         counts.made.cast_signed(),
         counts.opened.cast_signed(),
         (counts.handles as u64).cast_signed(),
@@ -52,22 +54,10 @@ fn write_all(words: &mut Vec<i64>, counts: &Counts) -> Result<(), AllocError>
     ])
 }
 
-// Appends the counts where one is not 0, and says whether one is not.
-fn write_counts(words: &mut Vec<i64>, counts: &Counts) -> Result<bool, AllocError>
-    ensures words { IfOk result (λ counted. words.new.items ≡ words.old.items ++ counts_words counted counts.now) }
-    ensures reads_back { IfOk result (λ counted. ReadsBack _ (counts_of counted) (after_counts counted) (counts_words counted counts.now) counts.now) }
-{
-    if is_counted(counts) {
-        write_all(words, counts)?;
-        Ok(true)
-    } else {
-        Ok(false)
-    }
-}
-
 // Appends the lists of a frame, its variables apart.
-fn write_lists(words: &mut Vec<i64>, frame: &Frame) -> Result<(), AllocError>
-    ensures words { OnOk result (words.new.items ≡ words.old.items ++ list_words frame.now) }
+fn write_lists(words: &mut Tail, frame: &Frame) -> Result<(), AllocError>
+    ensures before { words.new.before ≡ words.old.before }
+    ensures words { OnOk result (words.new.written ≡ words.old.written ++ list_words frame.now) }
     ensures handles { OnOk result (numbers_of (map pos frame.now.handles.items) ≡ frame.now.handles.items) }
     ensures own { OnOk result (AreNarrow (map pair_of frame.now.own.items)) }
     ensures groups { OnOk result (numbers_of (map pos frame.now.groups.items) ≡ frame.now.groups.items) }
@@ -77,16 +67,36 @@ fn write_lists(words: &mut Vec<i64>, frame: &Frame) -> Result<(), AllocError>
     write_numbers(words, &frame.groups)
 }
 
+// Appends the counts of a frame and its lists, its variables apart, where one of the counts is not 0, and says whether one
+// is not.
+fn write_counted(words: &mut Tail, frame: &Frame) -> Result<bool, AllocError>
+    ensures before { words.new.before ≡ words.old.before }
+    ensures words { IfOk result (λ counted. words.new.written ≡ words.old.written ++ (counts_words counted (frame_counts frame.now) ++ list_words frame.now)) }
+    ensures reads_back { IfOk result (λ counted. ReadsBack _ (counts_of counted) (after_counts counted) (counts_words counted (frame_counts frame.now)) (frame_counts frame.now)) }
+    ensures handles { OnOk result (numbers_of (map pos frame.now.handles.items) ≡ frame.now.handles.items) }
+    ensures own { OnOk result (AreNarrow (map pair_of frame.now.own.items)) }
+    ensures groups { OnOk result (numbers_of (map pos frame.now.groups.items) ≡ frame.now.groups.items) }
+{
+    let counts = counts(frame);
+    if is_counted(&counts) {
+        write_all(words, &counts)?;
+        write_lists(words, frame)?;
+        Ok(true)
+    } else {
+        Ok(false)
+    }
+}
+
 // Appends the words of a frame, and gives its head.
-pub fn write_frame(words: &mut Vec<i64>, frame: &Frame) -> Result<FrameHead, AllocError>
-    ensures words { IfOk result (λ h. words.new.items ≡ words.old.items ++ frame_words h.counted frame.now) }
+pub fn write_frame(words: &mut Tail, frame: &Frame) -> Result<FrameHead, AllocError>
+    ensures before { words.new.before ≡ words.old.before }
+    ensures words { IfOk result (λ h. words.new.written ≡ words.old.written ++ frame_words h.counted frame.now) }
     ensures reads_back { IfOk result (λ h. ReadsBack _ (frame_of h) (after_frame h) (frame_words h.counted frame.now) (frame_view frame.now)) }
     ensures stands { IfOk result (λ h. h.stands ≡ true) }
 {
     let variables = short(frame.variables.len())?;
-    words.extend_from_slice(&frame.variables)?;
-    let counted = write_counts(words, &counts(frame))?;
-    write_lists(words, frame)?;
+    words.extend(&frame.variables)?;
+    let counted = write_counted(words, frame)?;
     Ok(FrameHead {
         method: frame.method,
         line: frame.line,

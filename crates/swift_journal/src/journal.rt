@@ -1,15 +1,17 @@
 //! The journal of an executor.
 
-ghost use Rattle.std.specs.Prelude.{◌≡◌, [], ◌∷◌, ◌++◌, ◌-◌, ◌<◌, length, take, slice_index_or, IfOk, IsTrue, OnOk, OnErr};
+ghost use Rattle.std.specs.Prelude.{◌≡◌, ℤ, List, [], ◌∷◌, ◌++◌, ◌-◌, ◌<◌, length, take, slice_index_or, IfOk, IsTrue, OnOk, OnErr};
 ghost use Rattle.swift_journal.specs.JournalInside.{record_of};
+ghost use Rattle.swift_journal.specs.declared.stored.StoredEffect.{StoredEffect};
 
 use crate::brief::BriefExit;
-use crate::draft::Draft;
 use crate::ends::{brief, resume};
 use crate::folded::Folded;
 use crate::parts::{effects_of, env_of, exit_part, read_ended, read_record, words_of};
 use crate::record::{OwnedRecord, Record};
 use crate::stored::{FrameHead, Head, StoredEffect, StoredExit};
+use crate::tail::Tail;
+use crate::written::write_turn;
 use script_code::Env;
 use std::alloc::{AllocError, Global};
 use std::marker::Model;
@@ -17,16 +19,15 @@ use swift_types::{MethodId, Resume, TaskId};
 
 /// The turns that an executor has run, in order (our own). Contracts see a list of records.
 ///
-/// A turn takes 96 bytes, and eight for each number of its frames, bindings, arguments and values: 112 bytes where its
+/// A turn takes 88 bytes, and eight for each number of its frames, bindings, exit, arguments and values: 104 bytes where its
 /// frame has one variable and goes on. Effects take a list of their own. A journal allocates where one of its lists grows,
 /// and nowhere else.
 pub struct Journal {
     heads: Vec<Head>,
     // The words of each turn, in the order of turns.
-    words: Vec<i64>,
+    words: Tail,
     // The effects of each turn, in the order of turns.
     effects: Vec<StoredEffect>,
-    draft: Draft,
 }
 
 impl Drop for Journal {
@@ -35,12 +36,10 @@ impl Drop for Journal {
             heads,
             words,
             effects,
-            draft,
         } = self;
         drop(heads);
         drop(words);
         drop(effects);
-        drop(draft);
     }
 }
 
@@ -49,12 +48,13 @@ impl Model for Journal {
     ghost use Rattle.swift_journal.specs.JournalInside.{record_at, span_of};
     ghost use Rattle.swift_journal.specs.Laid.{AreLaid};
     ghost use Rattle.swift_journal.specs.Records.{RecordView};
+    ghost use Rattle.swift_journal.specs.TailInside.{whole};
 
     ghost Value = { List RecordView };
 
-    ghost view = { λ j. map (record_at j.words.items j.effects.items) j.heads.items };
+    ghost view = { λ j. map (record_at (whole j.words) j.effects.items) j.heads.items };
 
-    ghost invariant = { λ j. AreLaid span_of (reverse j.heads.items) (length j.words.items) (length j.effects.items) };
+    ghost invariant = { λ j. AreLaid span_of (reverse j.heads.items) (length (whole j.words)) (length j.effects.items) };
 }
 
 impl Journal {
@@ -68,9 +68,8 @@ impl Journal {
     {
         Journal {
             heads: Vec::new(alloc),
-            words: Vec::new(alloc),
+            words: Tail::new(alloc),
             effects: Vec::new(alloc),
-            draft: Draft::new(alloc),
         }
     }
 
@@ -88,16 +87,13 @@ impl Journal {
         ensures ok { OnOk result (self.new ≡ self.old ++ record_view turn.now ∷ []) }
         ensures err { OnErr result (self.new ≡ self.old) }
     {
-        let start = self.words.len();
+        self.words.begin();
         let first_effect = self.effects.len();
-        let head = self.draft.write(turn, start, first_effect)?;
-        append(
-            &mut self.heads,
-            &mut self.words,
-            &mut self.effects,
-            &self.draft,
-            head,
-        )?;
+        if write_turn(&mut self.heads, &mut self.words, &mut self.effects, turn).is_err() {
+            self.words.cut();
+            self.effects.truncate(first_effect);
+            return Err(AllocError);
+        }
         Ok(())
     }
 
@@ -117,7 +113,7 @@ impl Journal {
         ensures { self.new ≡ [] }
     {
         self.heads.clear();
-        self.words.clear();
+        self.words.truncate(0);
         self.effects.clear();
     }
 
@@ -132,7 +128,7 @@ impl Journal {
             number: head.number,
             exit: head.exit,
             after: head.after,
-            words: exit_part(head, words_of(&self.words, head)),
+            words: exit_part(head, words_of(self.words.all(), head)),
             effects: effects_of(&self.effects, head),
         }
     }
@@ -175,7 +171,7 @@ impl Journal {
         ensures { (d : RecordView) → result ≡ (slice_index_or self.now place d).resume }
     {
         let head = &self.heads[place];
-        resume(head.resume, words_of(&self.words, head))
+        resume(head.resume, words_of(self.words.all(), head))
     }
 
     /// What it was given.
@@ -186,13 +182,13 @@ impl Journal {
         env_of(&self.heads[place])
     }
 
-    /// How it ended, without the arguments of a call. In time by the size of its frame.
+    /// How it ended, without the arguments of a call.
     pub fn exit(&self, place: usize) -> BriefExit
         requires { place < length self.now }
         ensures { (d : RecordView) → result ≡ brief_of (slice_index_or self.now place d).exit }
     {
         let head = &self.heads[place];
-        brief(head.exit, exit_part(head, words_of(&self.words, head)))
+        brief(head.exit, exit_part(head, words_of(self.words.all(), head)))
     }
 
     /// The whole turn, in time and memory by its size. An `Err` says that a growth was refused.
@@ -201,7 +197,7 @@ impl Journal {
         ensures { IfOk result (λ turn. (d : RecordView) → owned_view turn ≡ slice_index_or self.now place d) }
     {
         let head = &self.heads[place];
-        let words = words_of(&self.words, head);
+        let words = words_of(self.words.all(), head);
         read_record(alloc, head, words, effects_of(&self.effects, head))
     }
 
@@ -214,8 +210,8 @@ impl Journal {
         read_ended(alloc, self.ended(place))
     }
 
-    /// Whether the turn at a place is this one, in time by its size. It is written in the room of another journal first,
-    /// whose own turns stay. An `Err` says that a growth was refused, or that the turn has more than 2^32 - 1 numbers or
+    /// Whether the turn at a place is this one, in time by its size. It is put to another journal first, and taken back
+    /// there, so the turns of that one stay. An `Err` says that a growth was refused, or that the turn has more than 2^32 - 1 numbers or
     /// effects.
     pub fn has(
         &self,
@@ -227,57 +223,52 @@ impl Journal {
         ensures same { IfOk result (λ yes. IsTrue yes → (d : RecordView) → slice_index_or self.now place d ≡ record_view turn.now) }
         ensures scratch { scratch.new ≡ scratch.old }
     {
+        scratch.push(turn)?;
         let head = &self.heads[place];
-        let written = scratch.draft.write(turn, head.start, head.first_effect)?;
-        let words = words_of(&self.words, head);
-        let effects = effects_of(&self.effects, head);
-        Ok(is_written(head, words, effects, &written, &scratch.draft))
+        let words = words_of(self.words.all(), head);
+        let same = scratch.ends_with(head, words, effects_of(&self.effects, head));
+        scratch.retract();
+        Ok(same)
+    }
+
+    // Whether the last turn has this head but for its places, these words and these effects.
+    fn ends_with(&self, head: &Head, words: &[i64], effects: &[StoredEffect]) -> bool
+        requires { 0 < length self.now }
+        ensures { IsTrue result → (d : RecordView) → slice_index_or self.now (length self.now - 1) d ≡ record_of head.now words.now effects.now }
+    {
+        let last = &self.heads[self.heads.len() - 1];
+        is_same_head(last, head)
+            && are_same_words(words_of(self.words.all(), last), words)
+            && are_same(effects_of(&self.effects, last), effects)
     }
 }
 
-// Whether a turn was written with this head, these words and these effects.
-fn is_written(
-    head: &Head,
-    words: &[i64],
-    effects: &[StoredEffect],
-    written: &Head,
-    draft: &Draft,
-) -> bool
-    ensures { IsTrue result → record_of written.now draft.now.words.items draft.now.effects.items ≡ record_of head.now words.now effects.now }
-{
-    is_same_head(written, head)
-        && are_same_words(&draft.words, words)
-        && are_same(&draft.effects, effects)
-}
-
+// Whether they say the same turn with the same words and the same effects.
 fn is_same_head(head: &Head, other: &Head) -> bool
-    ensures { IsTrue result → head.now ≡ other.now }
+    ensures { IsTrue result → (words : List ℤ) (effects : List StoredEffect) → record_of head.now words effects ≡ record_of other.now words effects }
 {
-    is_same_span(head, other)
-        && is_same_turn(head, other)
+    is_same_turn(head, other)
+        && is_same_cut(head, other)
         && is_same_env(head, other)
         && is_same_frame(&head.frame, &other.frame)
         && is_same_frame(&head.after, &other.after)
         && is_same_end(head, other)
 }
 
-// Whether they say that the words and the effects are at the same places.
-fn is_same_span(head: &Head, other: &Head) -> bool
-    ensures { IsTrue result → (head.now.start ≡ other.now.start) × (head.now.first_effect ≡ other.now.first_effect) × (head.now.size ≡ other.now.size) × (head.now.effects ≡ other.now.effects) }
-{
-    if head.start != other.start || head.first_effect != other.first_effect {
-        return false;
-    }
-    head.size == other.size && head.effects == other.effects
-}
-
 fn is_same_turn(head: &Head, other: &Head) -> bool
-    ensures { IsTrue result → (head.now.task ≡ other.now.task) × (head.now.number ≡ other.now.number) × (head.now.worker ≡ other.now.worker) × (head.now.outer ≡ other.now.outer) }
+    ensures { IsTrue result → (head.now.task ≡ other.now.task) × (head.now.number ≡ other.now.number) × (head.now.worker ≡ other.now.worker) }
 {
     if head.task != other.task || head.number != other.number {
         return false;
     }
-    head.worker == other.worker && head.outer == other.outer
+    head.worker == other.worker
+}
+
+// Whether they say that the outer bindings and the end stand at the same places.
+fn is_same_cut(head: &Head, other: &Head) -> bool
+    ensures { IsTrue result → (head.now.outer ≡ other.now.outer) × (head.now.ended ≡ other.now.ended) }
+{
+    head.outer == other.outer && head.ended == other.ended
 }
 
 fn is_same_env(head: &Head, other: &Head) -> bool
@@ -337,34 +328,4 @@ pub struct Ended<'a> {
     pub after: FrameHead,
     pub words: &'a [i64],
     pub effects: &'a [StoredEffect],
-}
-
-// Appends a turn to the lists of a journal. Where a growth is refused they are as they were.
-fn append(
-    heads: &mut Vec<Head>,
-    words: &mut Vec<i64>,
-    effects: &mut Vec<StoredEffect>,
-    draft: &Draft,
-    head: Head,
-) -> Result<(), AllocError>
-    ensures heads { OnOk result (heads.new.items ≡ heads.old.items ++ head ∷ []) }
-    ensures words { OnOk result (words.new.items ≡ words.old.items ++ draft.now.words.items) }
-    ensures effects { OnOk result (effects.new.items ≡ effects.old.items ++ draft.now.effects.items) }
-    ensures same_heads { OnErr result (heads.new.items ≡ heads.old.items) }
-    ensures same_words { OnErr result (words.new.items ≡ words.old.items) }
-    ensures same_effects { OnErr result (effects.new.items ≡ effects.old.items) }
-{
-    let start = words.len();
-    let first_effect = effects.len();
-    words.extend_from_slice(&draft.words)?;
-    if effects.extend_from_slice(&draft.effects).is_err() {
-        words.truncate(start);
-        return Err(AllocError);
-    }
-    if heads.push(head).is_err() {
-        words.truncate(start);
-        effects.truncate(first_effect);
-        return Err(AllocError);
-    }
-    Ok(())
 }

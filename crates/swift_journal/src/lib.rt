@@ -4,7 +4,6 @@
 
 mod brief;
 mod checkpoint;
-mod draft;
 mod effects;
 mod ends;
 mod folded;
@@ -15,8 +14,10 @@ pub mod laws;
 mod parts;
 mod record;
 mod stored;
+mod tail;
 mod turns;
 mod words;
+mod written;
 
 pub use brief::BriefExit;
 pub use checkpoint::Checkpoint;

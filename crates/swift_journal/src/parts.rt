@@ -14,7 +14,7 @@ use crate::frames::{read_frame, skip_frame};
 use crate::journal::Ended;
 use crate::record::OwnedRecord;
 use crate::stored::{FrameHead, Head, StoredEffect, StoredExit};
-use crate::words::{read_bindings, skip_bindings, split};
+use crate::words::{read_bindings, split};
 use script_code::Env;
 use std::alloc::{AllocError, Global};
 use swift_interpreter::Frame;
@@ -62,11 +62,11 @@ fn outer_part<'a>(head: &Head, words: &'a [i64]) -> &'a [i64]
     skip_frame(&head.frame, frame_part(head, words))
 }
 
-// The words from the exit on.
+// The words from the exit on. Constant time.
 pub fn exit_part<'a>(head: &Head, words: &'a [i64]) -> &'a [i64]
     ensures { result.now ≡ exit_of head.now words.now }
 {
-    skip_bindings(outer_part(head, words), head.outer as usize)
+    split(words, head.ended as usize).1
 }
 
 // Of the words from the exit on, those of the effects.

@@ -4,9 +4,10 @@ use std::mem::size_of;
 use swift_interpreter::TaskName;
 use swift_types::{ActorId, MethodId, Priority, TaskId};
 
-/// Which fault. The value of a throw stands among the numbers.
+/// Which fault, if there is one. The value of a throw stands among the numbers.
 #[derive(Clone, Copy, PartialEq, Eq)]
 pub enum StoredFault {
+    Absent,
     Thrown,
     Cancelled,
     Invariant,
@@ -28,13 +29,16 @@ pub enum StoredResume {
     Fault(StoredFault),
 }
 
-/// How a turn ends. Arguments, as many as are told, and values stand among the numbers.
+/// How a turn ends. What it names, how many arguments a call has, these arguments and values stand among the numbers.
 #[derive(Clone, Copy, PartialEq, Eq)]
 pub enum StoredExit {
-    Call(ActorId, MethodId, u32),
-    Wait(TaskName),
-    Next(u32),
-    Close(u32, Option<StoredFault>),
+    Call,
+    /// The task waits for a root's task.
+    Root,
+    /// The task waits for one that it has made.
+    Own,
+    Next,
+    Close(StoredFault),
     Yield,
     Return,
     Fault(StoredFault),
@@ -77,7 +81,7 @@ pub struct FrameHead {
     pub line: u32,
     /// How many variables it has.
     pub variables: u32,
-    pub pending: Option<StoredFault>,
+    pub pending: StoredFault,
     /// Whether its counts are stored.
     pub counted: bool,
     /// Whether there is such a frame.
@@ -104,6 +108,8 @@ pub struct Head {
     pub effects: u32,
     /// How many bindings stood when the frame began.
     pub outer: u32,
+    /// How many of its numbers come before those of how it ends.
+    pub ended: u32,
     pub exit: StoredExit,
     pub resume: StoredResume,
     pub priority: Priority,
@@ -111,23 +117,35 @@ pub struct Head {
 }
 
 // A turn takes no more than this beside its numbers.
-const _: () = prove!(size_of::<Head>() == 96);
+const _: () = prove!(size_of::<Head>() == 88);
 
-/// A turn that was folded, but for what stands among the numbers and among the effects.
+/// Whether a frame stands after a turn, and whether its counts are stored.
+#[derive(Clone, Copy, PartialEq, Eq)]
+pub enum StoredAfter {
+    Absent,
+    Plain,
+    Counted,
+}
+
+/// A turn that was folded, but for what stands among the numbers and among the effects. These end where those of the next turn
+/// begin.
 #[derive(Clone, Copy)]
 pub struct FoldedHead {
-    /// Where its numbers begin, and how many it has.
+    /// Where its numbers begin.
     pub start: u32,
-    pub size: u32,
-    /// Where its effects begin, and how many it has.
+    /// Where its effects begin.
     pub first_effect: u32,
-    pub effects: u32,
-    /// The frame after the turn. None stands where the frame is left.
-    pub after: FrameHead,
     pub task: TaskId,
     pub number: u32,
+    /// The method of the frame after the turn, its line, how many variables it has, and the fault that is pending. They mean
+    /// nothing where the frame is left.
+    pub method: MethodId,
+    pub line: u32,
+    pub variables: u32,
+    pub pending: StoredFault,
+    pub after: StoredAfter,
     pub exit: StoredExit,
 }
 
-// With the number of one variable it takes 64 bytes.
-const _: () = prove!(size_of::<FoldedHead>() == 56);
+// With the number of one variable it takes 40 bytes.
+const _: () = prove!(size_of::<FoldedHead>() == 32);

@@ -1,13 +1,14 @@
 //! Turns that are kept for a checkpoint.
 
-ghost use Rattle.std.specs.Prelude.{◌≡◌, [], ◌∷◌, ◌++◌, ◌<◌, length, take, slice_index_or, IfOk, OnOk, OnErr};
+ghost use Rattle.std.specs.Prelude.{◌≡◌, [], ◌∷◌, ◌++◌, ◌+◌, ◌<◌, drop, length, take, slice_index_or, IfOk, OnOk, OnErr};
+ghost use Rattle.swift_journal.specs.CheckpointInside.{after_kind, after_of as after_in, next_effect, next_start};
 
 use crate::brief::BriefExit;
 use crate::ends::brief;
 use crate::folded::Folded;
 use crate::journal::Ended;
 use crate::parts::{part, part_of_effects, read_ended};
-use crate::stored::{FoldedHead, StoredEffect};
+use crate::stored::{FoldedHead, FrameHead, StoredAfter, StoredEffect};
 use crate::words::short;
 use std::alloc::{AllocError, Global};
 use std::marker::Model;
@@ -25,15 +26,15 @@ pub struct Turns {
 
 impl Model for Turns {
     ghost use Rattle.std.specs.Prelude.{List, length, map, reverse};
-    ghost use Rattle.swift_journal.specs.CheckpointInside.{folded_at, folded_span};
+    ghost use Rattle.swift_journal.specs.CheckpointInside.{folded_at, placed, placed_span};
     ghost use Rattle.swift_journal.specs.Checkpoints.{FoldedView};
     ghost use Rattle.swift_journal.specs.Laid.{AreLaid};
 
     ghost Value = { List FoldedView };
 
-    ghost view = { λ t. map (folded_at t.words.items t.effects.items) t.heads.items };
+    ghost view = { λ t. map (folded_at t.words.items t.effects.items) (placed t.heads.items (length t.words.items) (length t.effects.items)) };
 
-    ghost invariant = { λ t. AreLaid folded_span (reverse t.heads.items) (length t.words.items) (length t.effects.items) };
+    ghost invariant = { λ t. AreLaid placed_span (reverse (placed t.heads.items (length t.words.items) (length t.effects.items))) (length t.words.items) (length t.effects.items) };
 }
 
 impl Turns {
@@ -65,12 +66,14 @@ impl Turns {
     {
         let head = FoldedHead {
             start: short(self.words.len())?,
-            size: short(turn.words.len())?,
             first_effect: short(self.effects.len())?,
-            effects: short(turn.effects.len())?,
-            after: turn.after,
             task: turn.task,
             number: turn.number,
+            method: turn.after.method,
+            line: turn.after.line,
+            variables: turn.after.variables,
+            pending: turn.after.pending,
+            after: kind_of_after(&turn.after),
             exit: turn.exit,
         };
         append(
@@ -95,50 +98,108 @@ impl Turns {
         }
     }
 
+    // What is kept of the turn at a place. Constant time.
+    pub fn at(&self, place: usize) -> Ended<'_>
+        requires { place < length self.now }
+        ensures { (d : FoldedView) → ended_view result ≡ slice_index_or self.now place d }
+    {
+        let head = &self.heads[place];
+        let start = head.start as usize;
+        let end = next_start(&self.heads, place, self.words.len());
+        let first_effect = head.first_effect as usize;
+        let last_effect = next_effect(&self.heads, place, self.effects.len());
+        Ended {
+            task: head.task,
+            number: head.number,
+            exit: head.exit,
+            after: after_of(head),
+            words: part(&self.words, start, end.saturating_sub(start)),
+            effects: part_of_effects(
+                &self.effects,
+                first_effect,
+                last_effect.saturating_sub(first_effect),
+            ),
+        }
+    }
+
     pub fn task(&self, place: usize) -> TaskId
         requires { place < length self.now }
         ensures { (d : FoldedView) → result.0 ≡ (slice_index_or self.now place d).task }
     {
-        self.heads[place].task
+        self.at(place).task
     }
 
     pub fn number(&self, place: usize) -> u32
         requires { place < length self.now }
         ensures { (d : FoldedView) → result ≡ (slice_index_or self.now place d).number }
     {
-        self.heads[place].number
+        self.at(place).number
     }
 
     pub fn exit(&self, place: usize) -> BriefExit
         requires { place < length self.now }
         ensures { (d : FoldedView) → result ≡ brief_of (slice_index_or self.now place d).exit }
     {
-        let head = &self.heads[place];
-        brief(
-            head.exit,
-            part(&self.words, head.start as usize, head.size as usize),
-        )
+        let turn = self.at(place);
+        brief(turn.exit, turn.words)
     }
 
     pub fn read(&self, alloc: Global, place: usize) -> Result<Folded, AllocError>
         requires { place < length self.now }
         ensures { IfOk result (λ turn. (d : FoldedView) → folded_view turn ≡ slice_index_or self.now place d) }
     {
-        let head = &self.heads[place];
-        let effects = part_of_effects(
-            &self.effects,
-            head.first_effect as usize,
-            head.effects as usize,
-        );
-        let turn = Ended {
-            task: head.task,
-            number: head.number,
-            exit: head.exit,
-            after: head.after,
-            words: part(&self.words, head.start as usize, head.size as usize),
-            effects,
-        };
-        read_ended(alloc, turn)
+        read_ended(alloc, self.at(place))
+    }
+}
+
+// Where the words of a turn end, of so many words.
+fn next_start(heads: &[FoldedHead], place: usize, words: usize) -> usize
+    requires { place < length heads.now }
+    ensures { result ≡ next_start (drop (place + 1) heads.now) words }
+{
+    if place + 1 < heads.len() {
+        heads[place + 1].start as usize
+    } else {
+        words
+    }
+}
+
+// Where the effects of a turn end, of so many effects.
+fn next_effect(heads: &[FoldedHead], place: usize, effects: usize) -> usize
+    requires { place < length heads.now }
+    ensures { result ≡ next_effect (drop (place + 1) heads.now) effects }
+{
+    if place + 1 < heads.len() {
+        heads[place + 1].first_effect as usize
+    } else {
+        effects
+    }
+}
+
+// Whether the frame after a turn stands, and whether its counts are stored.
+fn kind_of_after(after: &FrameHead) -> StoredAfter
+    ensures { result ≡ after_kind after.now.stands after.now.counted }
+{
+    if !after.stands {
+        StoredAfter::Absent
+    } else if after.counted {
+        StoredAfter::Counted
+    } else {
+        StoredAfter::Plain
+    }
+}
+
+// The frame after a turn.
+fn after_of(head: &FoldedHead) -> FrameHead
+    ensures { result ≡ after_in head.now }
+{
+    FrameHead {
+        method: head.method,
+        line: head.line,
+        variables: head.variables,
+        pending: head.pending,
+        counted: matches!(head.after, StoredAfter::Counted),
+        stands: !matches!(head.after, StoredAfter::Absent),
     }
 }
 

@@ -1,9 +1,10 @@
 //! Numbers, and what is written as numbers.
 
 ghost use Rattle.std.specs.Prelude.{◌≡◌, ℤ, pos, [], ◌∷◌, ◌++◌, map, reverse, drop, take, slice_index_or, IfOk, OnOk};
-ghost use Rattle.swift_journal.specs.Words.{skip_bindings as after_bindings, first_pair, narrowed, numbers_of, pair_words, pairs_from, AreNarrow, rounded};
+ghost use Rattle.swift_journal.specs.Words.{skip_bindings as after_bindings, first_pair, narrowed, number_at, numbers_of, pair_words, pairs_from, AreNarrow, rounded};
 ghost use Rattle.script_code.specs.Seen.{pair_of};
 
+use crate::tail::Tail;
 use script_code::Binding;
 use std::alloc::{AllocError, Global};
 use swift_locals::Bindings;
@@ -41,6 +42,13 @@ pub fn narrow(word: i64) -> u32
     }
 }
 
+// The word at a place, as a number of 32 bits.
+pub fn number_at(words: &[i64], place: usize) -> u32
+    ensures { result ≡ number_at words.now place }
+{
+    narrow(word_at(words, place))
+}
+
 // A length of 32 bits. A longer list counts as too large for memory.
 pub fn short(length: usize) -> Result<u32, AllocError>
     ensures { IfOk result (λ n. n ≡ length) }
@@ -52,9 +60,19 @@ pub fn short(length: usize) -> Result<u32, AllocError>
     }
 }
 
+// Appends a number of 32 bits.
+pub fn write_number(words: &mut Tail, number: u32) -> Result<(), AllocError>
+    ensures before { words.new.before ≡ words.old.before }
+    ensures words { OnOk result (words.new.written ≡ words.old.written ++ pos number ∷ []) }
+    ensures narrow { OnOk result (narrowed (pos number) ≡ number) }
+{
+    words.push(i64::from(number))
+}
+
 // Appends numbers of 32 bits.
-pub fn write_numbers(words: &mut Vec<i64>, numbers: &[u32]) -> Result<(), AllocError>
-    ensures words { OnOk result (words.new.items ≡ words.old.items ++ map pos numbers.now) }
+pub fn write_numbers(words: &mut Tail, numbers: &[u32]) -> Result<(), AllocError>
+    ensures before { words.new.before ≡ words.old.before }
+    ensures words { OnOk result (words.new.written ≡ words.old.written ++ map pos numbers.now) }
     ensures narrow { OnOk result (numbers_of (map pos numbers.now) ≡ numbers.now) }
 {
     for number in numbers {
@@ -64,8 +82,9 @@ pub fn write_numbers(words: &mut Vec<i64>, numbers: &[u32]) -> Result<(), AllocE
 }
 
 // Appends a local and a value.
-fn write_pair(words: &mut Vec<i64>, local: LocalId, value: i64) -> Result<(), AllocError>
-    ensures words { OnOk result (words.new.items ≡ words.old.items ++ pair_words ((local.0, value) ∷ [])) }
+fn write_pair(words: &mut Tail, local: LocalId, value: i64) -> Result<(), AllocError>
+    ensures before { words.new.before ≡ words.old.before }
+    ensures words { OnOk result (words.new.written ≡ words.old.written ++ pair_words ((local.0, value) ∷ [])) }
     ensures narrow { OnOk result (narrowed (pos local.0) ≡ local.0) }
 {
     words.push(i64::from(local.0))?;
@@ -81,8 +100,9 @@ fn read_pair(words: &[i64]) -> (LocalId, i64)
 }
 
 // Appends bindings, each as its local and its value.
-pub fn write_own(words: &mut Vec<i64>, own: &[Binding]) -> Result<(), AllocError>
-    ensures words { OnOk result (words.new.items ≡ words.old.items ++ pair_words (map pair_of own.now)) }
+pub fn write_own(words: &mut Tail, own: &[Binding]) -> Result<(), AllocError>
+    ensures before { words.new.before ≡ words.old.before }
+    ensures words { OnOk result (words.new.written ≡ words.old.written ++ pair_words (map pair_of own.now)) }
     ensures narrow { OnOk result (AreNarrow (map pair_of own.now)) }
 {
     for binding in own {
@@ -92,8 +112,9 @@ pub fn write_own(words: &mut Vec<i64>, own: &[Binding]) -> Result<(), AllocError
 }
 
 // Appends bindings, the outermost first.
-pub fn write_bindings(words: &mut Vec<i64>, bindings: &Bindings) -> Result<(), AllocError>
-    ensures words { OnOk result (words.new.items ≡ words.old.items ++ pair_words (reverse bindings.now)) }
+pub fn write_bindings(words: &mut Tail, bindings: &Bindings) -> Result<(), AllocError>
+    ensures before { words.new.before ≡ words.old.before }
+    ensures words { OnOk result (words.new.written ≡ words.old.written ++ pair_words (reverse bindings.now)) }
     ensures narrow { OnOk result (AreNarrow (reverse bindings.now)) }
 {
     for place in 0..bindings.depth() {

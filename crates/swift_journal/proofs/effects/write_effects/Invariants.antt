@@ -2,11 +2,16 @@ use Rattle.std.proofs.Common.{◌≡◌, List, ◌++◌, take}
 use Rattle.swift_interpreter.specs.Frames.{effect_views}
 use Rattle.swift_interpreter.specs.Turn.{EffectView}
 use Rattle.swift_journal.specs.EffectWords.{effects_of, skip_effects, effects_words}
+use Rattle.swift_journal.specs.TailInside.{since}
 use Rattle.swift_journal.specs.Words.{ReadsBack}
 use Rattle.swift_journal.proofs.effects.write_effects.Given as goal
 
 abbrev pub invariant-loop-effect : goal.invariant-loop-effect
-invariant-loop-effect l = record {
-  words : l.words.items ≡ l.initial.words.items ++ effects_words (take l.effect-index l.effects);
-  reads_back : ReadsBack (List EffectView) (effects_of l.list.items) (skip_effects l.list.items) (effects_words (take l.effect-index l.effects)) (effect_views (take l.effect-index l.effects));
-}
+invariant-loop-effect l =
+    let stored = since l.initial.list.items l.list.items in
+    record {
+      before : l.words.before ≡ l.initial.words.before;
+      list : l.list.items ≡ l.initial.list.items ++ stored;
+      words : l.words.written ≡ l.initial.words.written ++ effects_words (take l.effect-index l.effects);
+      reads_back : ReadsBack (List EffectView) (effects_of stored) (skip_effects stored) (effects_words (take l.effect-index l.effects)) (effect_views (take l.effect-index l.effects));
+    }

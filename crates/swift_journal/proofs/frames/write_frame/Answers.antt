@@ -1,6 +1,6 @@
 use Rattle.std.proofs.Common.{◌≡◌, true, length, refl, rules}
 use Rattle.swift_journal.specs.declared.stored.FrameHead.{FrameHead}
-use Rattle.swift_journal.proofs.FramesReadBack.{frame_reads_back_by}
+use Rattle.swift_journal.proofs.FramesReadBack.{frame_reads_back}
 use Rattle.swift_journal.proofs.frames.write_frame.Goals as goal
 
 pub returns-clause-reads_back : goal.returns-clause-reads_back
@@ -15,5 +15,5 @@ returns-clause-reads_back c =
       stands = true;
     } in
     let size : c.in_ok-variables.variables ≡ length f.variables.items = search rules in
-    let lists = c.in_ok-write_lists.ensures in
-    frame_reads_back_by f h c.counts.result c.counts.ensures refl refl size c.in_ok-write_pending.ensures.kind c.in_ok-counted.ensures.reads_back lists.handles lists.own lists.groups
+    let counted = c.in_ok-counted.ensures in
+    frame_reads_back f h refl refl size c.in_ok-write_pending.ensures.kind counted.reads_back counted.handles counted.own counted.groups

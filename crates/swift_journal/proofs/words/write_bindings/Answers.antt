@@ -13,9 +13,10 @@ loop-place-preserved c =
     let len = length-reverse c.args.bindings.now in
     let h : c.loop-place.place < length ps = omega arith in
     let at : get_or ps c.loop-place.place p ≡ p = c.entry-value.ensures p in
-    let written : c.write_pair.new.words.items ≡ c.loop-place.words.items ++ pair_words (p ∷ []) =
-    c.in_ok-write_pair.ensures.words ∙ ap (λ (z : ℤ). c.loop-place.words.items ++ pos p.0 ∷ z ∷ []) value in
+    let written : c.write_pair.new.words.written ≡ c.loop-place.words.written ++ pair_words (p ∷ []) =
+    c.in_ok-write_pair.ensures.words ∙ ap (λ (z : ℤ). c.loop-place.words.written ++ pos p.0 ∷ z ∷ []) value in
     record {
+      before = c.in_ok-write_pair.ensures.before ∙ c.loop-place.invariant.before;
       words = written_more _ _ _ ps c.loop-place.place p h at c.loop-place.invariant.words written;
       narrow = narrow_more ps c.loop-place.place p h at c.loop-place.invariant.narrow c.in_ok-write_pair.ensures.narrow;
     }
@@ -24,7 +25,7 @@ pub returns-clause-words : goal.returns-clause-words
 returns-clause-words c =
     let ps = reverse c.args.bindings.now in
     let len = length-reverse c.args.bindings.now in
-    c.loop-place.invariant.words ∙ ap (λ (qs : List (ℕ × ℤ)). c.args.words.now.items ++ pair_words qs) (take_all c.loop-place.place ps (omega arith))
+    c.loop-place.invariant.words ∙ ap (λ (qs : List (ℕ × ℤ)). c.args.words.now.written ++ pair_words qs) (take_all c.loop-place.place ps (omega arith))
 
 pub returns-clause-narrow : goal.returns-clause-narrow
 returns-clause-narrow c =

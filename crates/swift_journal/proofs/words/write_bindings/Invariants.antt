@@ -4,6 +4,7 @@ use Rattle.swift_journal.proofs.words.write_bindings.Given as goal
 
 abbrev pub invariant-loop-place : goal.invariant-loop-place
 invariant-loop-place l = record {
-  words : l.words.items ≡ l.initial.words.items ++ pair_words (take l.place (reverse l.bindings));
+  before : l.words.before ≡ l.initial.words.before;
+  words : l.words.written ≡ l.initial.words.written ++ pair_words (take l.place (reverse l.bindings));
   narrow : AreNarrow (take l.place (reverse l.bindings));
 }

@@ -1,11 +1,11 @@
-use Rattle.std.proofs.Common.{◌≡◌, ℕ, List, pos, ◌++◌, map, take, sym, ap, ◌∙◌, arith}
+use Rattle.std.proofs.Common.{◌≡◌, pos, ◌++◌, map, take, sym, ap, ◌∙◌, arith}
 use Rattle.std.proofs.lemmas.List.{take_all}
 use Rattle.swift_journal.specs.Words.{numbers_of}
 use Rattle.swift_journal.proofs.words.write_numbers.Goals as goal
 
 pub returns-clause-words : goal.returns-clause-words
 returns-clause-words c =
-    c.loop-number.invariant.words ∙ ap (λ ns. c.args.words.now.items ++ map pos ns) (take_all c.loop-number.number-index c.args.numbers.now (omega (arith, c.loop-number-test.false)))
+    c.loop-number.invariant.words ∙ ap (λ ns. c.args.words.now.written ++ map pos ns) (take_all c.loop-number.number-index c.args.numbers.now (omega (arith, c.loop-number-test.false)))
 
 pub returns-clause-narrow : goal.returns-clause-narrow
 returns-clause-narrow c =

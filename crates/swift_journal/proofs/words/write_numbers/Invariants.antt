@@ -4,6 +4,7 @@ use Rattle.swift_journal.proofs.words.write_numbers.Given as goal
 
 abbrev pub invariant-loop-number : goal.invariant-loop-number
 invariant-loop-number l = record {
-  words : l.words.items ≡ l.initial.words.items ++ map pos (take l.number-index l.numbers);
+  before : l.words.before ≡ l.initial.words.before;
+  words : l.words.written ≡ l.initial.words.written ++ map pos (take l.number-index l.numbers);
   narrow : numbers_of (map pos (take l.number-index l.numbers)) ≡ take l.number-index l.numbers;
 }

@@ -16,9 +16,10 @@ loop-binding-preserved c =
     let len = length-map own pair_of in
     let h : k < length ps = omega arith in
     let at : get_or ps k p ≡ p = get_or-map pair_of own k _ p (omega arith) in
-    let written : c.write_pair.new.words.items ≡ c.loop-binding.words.items ++ pair_words (p ∷ []) =
-    c.in_ok-write_pair.ensures.words ∙ ap (λ (z : ℤ). c.loop-binding.words.items ++ pos p.0 ∷ z ∷ []) value in
+    let written : c.write_pair.new.words.written ≡ c.loop-binding.words.written ++ pair_words (p ∷ []) =
+    c.in_ok-write_pair.ensures.words ∙ ap (λ (z : ℤ). c.loop-binding.words.written ++ pos p.0 ∷ z ∷ []) value in
     record {
+      before = c.in_ok-write_pair.ensures.before ∙ c.loop-binding.invariant.before;
       words = written_more _ _ _ ps k p h at c.loop-binding.invariant.words written;
       narrow = narrow_more ps k p h at c.loop-binding.invariant.narrow c.in_ok-write_pair.ensures.narrow;
     }
@@ -27,7 +28,7 @@ pub returns-clause-words : goal.returns-clause-words
 returns-clause-words c =
     let ps = map pair_of c.args.own.now in
     let len = length-map c.args.own.now pair_of in
-    c.loop-binding.invariant.words ∙ ap (λ (qs : List (ℕ × ℤ)). c.args.words.now.items ++ pair_words qs) (take_all c.loop-binding.binding-index ps (omega (arith, len, c.loop-binding-test.false)))
+    c.loop-binding.invariant.words ∙ ap (λ (qs : List (ℕ × ℤ)). c.args.words.now.written ++ pair_words qs) (take_all c.loop-binding.binding-index ps (omega (arith, len, c.loop-binding-test.false)))
 
 pub returns-clause-narrow : goal.returns-clause-narrow
 returns-clause-narrow c =

@@ -5,6 +5,7 @@ use Rattle.swift_journal.proofs.words.write_own.Given as goal
 
 abbrev pub invariant-loop-binding : goal.invariant-loop-binding
 invariant-loop-binding l = record {
-  words : l.words.items ≡ l.initial.words.items ++ pair_words (take l.binding-index (map pair_of l.own));
+  before : l.words.before ≡ l.initial.words.before;
+  words : l.words.written ≡ l.initial.words.written ++ pair_words (take l.binding-index (map pair_of l.own));
   narrow : AreNarrow (take l.binding-index (map pair_of l.own));
 }
