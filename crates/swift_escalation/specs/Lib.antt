@@ -1,5 +1,6 @@
 pub mod Levels
 pub mod GraphInside
+pub mod PlacesInside
 pub mod Waits
 pub mod WaitsInside
 pub mod Laws

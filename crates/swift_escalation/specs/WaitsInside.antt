@@ -1,8 +1,8 @@
 -- What the fields keep. No public clause names these.
-use Rattle.std.specs.Prelude.{◌≡◌, ℕ, ◌+◌, ◌≤◌, ◌<◌, List, Option, Some, length, slice_get, nat_eq, vec_len, vec_capacity}
-use Rattle.std.specs.HashMap.{get, spare}
+use Rattle.std.specs.Prelude.{◌≡◌, ℕ, ◌+◌, ◌≤◌, ◌<◌, List, Option, Some, length, slice_get, vec_len, vec_capacity}
 use Rattle.swift_types.specs.Priority.{rank}
 use Rattle.swift_types.specs.declared.id.TaskId.{TaskId}
+use Rattle.swift_escalation.specs.PlacesInside.{place_in, HasRoom}
 use Rattle.swift_escalation.specs.Levels.{level_of, edge_at, HasEdge}
 use Rattle.swift_escalation.specs.Waits.{tasks_of, IsGiven, Leads, Reaches}
 use Rattle.swift_types.specs.declared.priority.Priority.{Priority}
@@ -59,6 +59,6 @@ pub record AreOf (events : List Event) (place : TaskId → Option ℕ) (levels :
 
 -- what the fields keep: the graph is that of the events, and there is room for the reserved calls
 pub record IsWaits (w : Inside) : Type 0 where
-  pub are_of : AreOf w.events.items (λ t. get nat_eq w.places t.0) w.graph.levels w.graph.edges
+  pub are_of : AreOf w.events.items (λ t. place_in w.places t.0) w.graph.levels w.graph.edges
   pub events_room : vec_len w.events + w.graph.room ≤ vec_capacity w.events
-  pub places_room : w.graph.room ≤ spare w.places
+  pub places_room : HasRoom w.places w.graph.room

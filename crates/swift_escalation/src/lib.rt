@@ -4,6 +4,9 @@
 // Tasks by place, with their levels, which are raised along edges.
 mod graph;
 
+// Where each task stands there.
+mod places;
+
 // What holds of the definitions.
 pub mod laws;
 

@@ -3,8 +3,8 @@
 ghost use Rattle.std.specs.Prelude.{◌≡◌, ◌≢◌, ◌+◌, ◌-◌, ◌<◌, ◌≤◌, ◌↔◌, [], ◌∷◌, ◌++◌, max, OnOk, OnErr, Ok, Err, IsSome, IfSome, IfNone};
 
 use crate::graph::Graph;
+use crate::places::Places;
 use std::alloc::{AllocError, Global};
-use std::collections::HashMap;
 use std::fmt::{self, Display, Formatter, Write};
 use std::marker::Model;
 use swift_types::{Priority, TaskId};
@@ -63,7 +63,7 @@ impl From<AllocError> for WaitsFault {
 /// calls are sure to find memory.
 pub struct Waits {
     events: Vec<Event>,
-    places: HashMap<u32, usize>,
+    places: Places,
     graph: Graph,
 }
 
@@ -102,7 +102,7 @@ impl Waits {
     {
         Waits {
             events: Vec::new(alloc),
-            places: HashMap::new(alloc),
+            places: Places::new(alloc),
             graph: Graph::new(alloc),
         }
     }
@@ -142,7 +142,7 @@ impl Waits {
         ensures known { IsSome result ↔ IsKnown self.now.events task }
         ensures place { IfSome result (StandsAt self.now.events task) }
     {
-        self.places.get(&task.0).copied()
+        self.places.get(task.0)
     }
 
     /// Adds a task with a priority of its own, by this event.
@@ -174,9 +174,7 @@ impl Waits {
         let Ok(()) = self.events.push(event) else {
             unreachable!()
         };
-        let Ok(_) = self.places.insert(task.0, place) else {
-            unreachable!()
-        };
+        self.places.insert(task.0, place);
         self.graph.add(priority);
     }
 
@@ -191,9 +189,7 @@ impl Waits {
         let Ok(()) = self.events.push(Event::Child(task, parent, own)) else {
             unreachable!()
         };
-        let Ok(_) = self.places.insert(task.0, place) else {
-            unreachable!()
-        };
+        self.places.insert(task.0, place);
         self.graph.add_under(above, own);
     }
 
@@ -288,7 +284,7 @@ impl Waits {
         ensures known { IsSome result ↔ IsKnown self.now.events task }
         ensures priority { IfSome result (IsPriority self.now.events task) }
     {
-        let place = *self.places.get(&task.0)?;
+        let place = self.places.get(task.0)?;
         Some(self.graph.level(place))
     }
 }

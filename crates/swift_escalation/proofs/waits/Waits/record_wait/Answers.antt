@@ -1,13 +1,14 @@
 use Rattle.swift_types.specs.declared.id.TaskId.{TaskId}
-use Rattle.std.proofs.Common.{ℕ, ◌-◌, ◌<◌, List, [], ◌∷◌, ◌++◌, arith, subst, sym, ap, nat_eq, Option, ◌∙◌}
+use Rattle.std.proofs.Common.{ℕ, ◌<◌, List, [], ◌∷◌, ◌++◌, arith, subst, sym, ap, Option, ◌∙◌}
 use Rattle.std.proofs.lemmas.Option.{slice_get_within}
-use Rattle.std.specs.HashMap.{get}
+use Rattle.swift_escalation.specs.PlacesInside.{place_in}
 use Rattle.swift_escalation.specs.Levels.{GraphIs, Settling, level_of}
 use Rattle.swift_escalation.specs.Waits.{WaitsIs, tasks_of, with_event}
 use Rattle.swift_escalation.specs.WaitsInside.{StandsAt, AreOf}
 use Rattle.swift_escalation.specs.declared.graph.Edge.{Edge}
 use Rattle.swift_escalation.specs.declared.waits.Event.{Event}
 use Rattle.swift_escalation.specs.declared.waits.Event.TheVariants.{Wait}
+use Rattle.swift_escalation.proofs.PlaceLemmas.{room_for_fewer}
 use Rattle.swift_escalation.proofs.Record.{are_of_wait}
 use Rattle.swift_escalation.proofs.waits.Waits.record_wait.Goals as goal
 
@@ -20,7 +21,7 @@ invariant_of-self c =
     let room = ap (λ (w : WaitsIs). w.reserved) c.self.view_is in
     let from : StandsAt es c.args.waiter c.args.from = subst (λ (s : List Event). StandsAt s c.args.waiter c.args.from) (sym events) c.requires.from in
     let to : StandsAt es c.args.task c.args.to = subst (λ (s : List Event). StandsAt s c.args.task c.args.to) (sym events) c.requires.to in
-    let place : TaskId → Option ℕ = λ t. get nat_eq c.self.inside.places t.0 in
+    let place : TaskId → Option ℕ = λ t. place_in c.self.inside.places t.0 in
     let edges' : List Edge = g.edges ++ (record { from = c.args.from; to = c.args.to }) ∷ [] in
     let up : Settling edges' c.args.to (level_of g.levels c.args.from) g.levels c.join.new.self.levels = subst (λ (s : List Edge). Settling s c.args.to (level_of g.levels c.args.from) g.levels c.join.new.self.levels) c.join.ensures.edges c.join.ensures.settling in
     let more : AreOf (es ++ Wait c.args.waiter c.args.task ∷ []) place c.join.new.self.levels edges' = are_of_wait es place g.levels c.join.new.self.levels g.edges c.args.waiter c.args.task c.args.from c.args.to k from to c.join.ensures.len up in
@@ -31,7 +32,7 @@ invariant_of-self c =
       are_of = subst (λ (s : List Edge). AreOf c.push.new.self.items place c.join.new.self.levels s) (sym c.join.ensures.edges)
           (subst (λ (s : List Event). AreOf s place c.join.new.self.levels edges') (sym c.in-Ok.ensures.items) more);
       events_room = omega (arith, left, len, cap, er, rq, room);
-      places_room = omega (arith, left, pr, rq, room);
+      places_room = room_for_fewer c.self.inside.places g.room c.join.new.self.room (omega (arith, left, rq, room)) pr;
     }
 
 pub unreachable-requires : goal.unreachable-requires

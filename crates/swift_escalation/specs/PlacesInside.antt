@@ -1,0 +1,13 @@
+-- Where tasks stand, by their numbers. No public clause names these.
+use Rattle.std.specs.Prelude.{ℕ, ◌≤◌, ◌<◌, Option, None, nat_lt, nat_eq, if◌then◌else◌, slice_index_or, vec_len}
+use Rattle.std.specs.HashMap.{get, spare}
+use Rattle.swift_types.specs.declared.limits.TheConstants.{TASKS}
+use Rattle.swift_escalation.specs.declared.places.Places.{Places}
+
+-- the place of the task with a number: of a small one in the list, else in the map
+abbrev pub place_in : Places → ℕ → Option ℕ
+place_in p n = if nat_lt n TASKS then slice_index_or p.listed.items n None else get nat_eq p.mapped n
+
+-- so many more tasks find memory
+abbrev pub HasRoom : Places → ℕ → Type 0
+HasRoom p n = (n ≤ spare p.mapped) × (0 < n → TASKS ≤ vec_len p.listed)

@@ -1,0 +1,71 @@
+//! The places of tasks, by the tasks' numbers.
+
+ghost use Rattle.std.specs.Prelude.{◌≡◌, ℕ, ◌+◌, Some, OnOk, nat_eq, if◌then◌else◌};
+ghost use Rattle.swift_escalation.specs.PlacesInside.{place_in, HasRoom};
+
+use std::alloc::{AllocError, Global};
+use std::collections::HashMap;
+use swift_types::limits::TASKS;
+
+/// The place of each task that is known. The numbers of a run's tasks are below `TASKS`, and turns ask for them all the time:
+/// these have a list. Any other number is in a map.
+#[derive(Drop)]
+pub(crate) struct Places {
+    // Empty until room is made for the first time, then so long that each of these numbers is in it.
+    listed: Vec<Option<usize>>,
+    mapped: HashMap<u32, usize>,
+}
+
+impl Places {
+    /// No task is known. Takes no memory.
+    pub(crate) fn new(alloc: Global) -> Places
+        ensures none { (n : ℕ) → place_in result n ≡ None }
+        ensures room { HasRoom result 0 }
+    {
+        Places {
+            listed: Vec::new(alloc),
+            mapped: HashMap::new(alloc),
+        }
+    }
+
+    /// The place of the task with this number.
+    pub(crate) fn get(&self, number: u32) -> Option<usize>
+        ensures { result ≡ place_in self.now number }
+    {
+        if number as usize >= TASKS {
+            return self.mapped.get(&number).copied();
+        }
+        match self.listed.get(number as usize) {
+            Some(place) => *place,
+            None => None,
+        }
+    }
+
+    /// Makes room for this many calls of `insert`. Nothing else changes, also where there is no memory.
+    pub(crate) fn reserve(&mut self, calls: usize) -> Result<(), AllocError>
+        ensures same { (n : ℕ) → place_in self.new n ≡ place_in self.old n }
+        ensures room { (n : ℕ) → HasRoom self.old n → HasRoom self.new n }
+        ensures ok { OnOk result (HasRoom self.new calls) }
+    {
+        self.mapped.reserve(calls)?;
+        if self.listed.len() < TASKS {
+            self.listed.resize(TASKS, None)?;
+        }
+        Ok(())
+    }
+
+    /// The task with this number stands at a place from here on.
+    pub(crate) fn insert(&mut self, number: u32, place: usize)
+        requires { HasRoom self.old 1 }
+        ensures updates { (n : ℕ) → place_in self.new n ≡ (if nat_eq number n then Some place else place_in self.old n) }
+        ensures room { (n : ℕ) → HasRoom self.old (n + 1) → HasRoom self.new n }
+    {
+        if (number as usize) < TASKS {
+            self.listed[number as usize] = Some(place);
+            return;
+        }
+        let Ok(_) = self.mapped.insert(number, place) else {
+            unreachable!()
+        };
+    }
+}
