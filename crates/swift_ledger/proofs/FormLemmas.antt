@@ -32,6 +32,10 @@ made_below roots log t form made = elim (cases_lt t.0 (tasks_of roots log)) [
       false≢true (sym (ap is_some none) ∙ made))
 ]
 
+-- so its number is one that a run may have
+pub made_few : (roots : ℕ) (log : List Event) (t : TaskId) → IsWellFormed roots log → IsMade log t → t.0 < TASKS
+made_few roots log t form made = let below = made_below roots log t form made in let limit = form.limit in omega (arith, below, limit)
+
 some_later : {A : Type 0} (x y : Option A) → IsSome y → IsSome (later x y)
 some_later (Some x) y h = refl
 some_later None y h = h

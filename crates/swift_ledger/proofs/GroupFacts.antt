@@ -1,5 +1,5 @@
 -- What a log says of a group once one more event is written.
-use Rattle.std.proofs.Common.{◌≡◌, ℕ, ◌+◌, ◌≤◌, List, Option, None, Some, [], ◌∷◌, ◌++◌, Bool, true, false, ◌||◌, ◌&&◌, cond, eqb, refl, ap, sym, ◌∙◌, inl, inr, arith}
+use Rattle.std.proofs.Common.{◌≡◌, ℕ, ◌+◌, List, Option, None, Some, [], ◌∷◌, ◌++◌, Bool, true, false, ◌||◌, ◌&&◌, cond, eqb, refl, ap, sym, ◌∙◌, inl, inr, arith}
 use Rattle.std.proofs.lemmas.Bool.{cases_eq, cases_Bool, eq-eqb, ne_eqb}
 use Rattle.std.proofs.lemmas.List.{append-nil}
 use Rattle.std.specs.List.{filter_map, cons_option}
@@ -11,12 +11,14 @@ use Rattle.swift_events.specs.declared.event.Event.{Event}
 use Rattle.swift_events.specs.declared.event.Event.TheVariants.{Root, Begin, Apply, Free, Open, Child, Skip, CancelTask, CancelGroup, Wait, Next, Close, End, Give}
 use Rattle.swift_events.specs.declared.life.Origin.{Origin}
 use Rattle.swift_events.specs.declared.life.Life.{Life}
-use Rattle.swift_events.specs.Events.{task_of, events_of, tasks_of}
+use Rattle.swift_events.specs.Events.{task_of, events_of}
 use Rattle.swift_events.specs.Lives.{life_of, lived, origin_in}
 use Rattle.swift_events.specs.Relations.{opened_by, child_in, children_of, ending_among, endings_of, asks, asked_of, closes, is_closed, names_group, is_named_group, parent_of, parent_by}
 use Rattle.swift_events.proofs.LogLemmas.{opened_by-push_yes, opened_by-push_no, asked_of-push, asked_of-push_no, is_closed-push, is_closed-push_no, is_named_group-push, is_named_group-push_no, children_of-push, children_of-push_none, parent_of-push, parent_of-push_other, parent_of-push_child, life_of-push_same, unborn_without}
 use Rattle.swift_events.proofs.GroupLemmas.{endings_of-push_kept, endings_of-push_child, is_among-push, is_among-by}
 use Rattle.swift_ledger.specs.GroupIndexes.{facts_of, FitsGroups, is_child_of}
+use Rattle.swift_ledger.specs.WellFormed.{IsWellFormed}
+use Rattle.swift_ledger.proofs.FormLemmas.{made_few}
 use Rattle.swift_ledger.specs.Ledgers.{CanNote}
 
 -- each part by itself
@@ -190,18 +192,18 @@ pub child-of : (log : List Event) (t : TaskId) (u h : ℕ) (parent : Option (ℕ
 child-of log t u h parent old same = old t u h ∙ ap (is_child_of u h) (sym same)
 
 -- a ledger's event fits the groups, where nothing is said of numbers that are not taken
-pub fits-groups : (roots : ℕ) (log : List Event) (e : Event) → ((t : ℕ) → tasks_of roots log ≤ t → events_of t log ≡ []) → CanNote roots log e → FitsGroups log e
-fits-groups roots log (Root t p) none can = can.1
-fits-groups roots log (Free t by p detached) none can = none t.0 (let e = can.0 in omega (arith, e))
-fits-groups roots log (Open o g) none can = can.1
-fits-groups roots log (Child t o g p) none can = (none t.0 (let e = can.0 in omega (arith, e)), can.2)
-fits-groups roots log (CancelGroup o g) none can = can.1
-fits-groups roots log (Next o g) none can = can.1
-fits-groups roots log (Close o g) none can = can.1
-fits-groups roots log (End t ending) none can = can.1
-fits-groups roots log (Begin t n env) none can = tt
-fits-groups roots log (Apply t n) none can = tt
-fits-groups roots log (Skip o g) none can = tt
-fits-groups roots log (CancelTask t) none can = tt
-fits-groups roots log (Wait t awaited) none can = tt
-fits-groups roots log (Give t n resume) none can = tt
+pub fits-groups : (roots : ℕ) (log : List Event) (e : Event) → IsWellFormed roots log → CanNote roots log e → FitsGroups log e
+fits-groups roots log (Root t p) form can = can.1
+fits-groups roots log (Free t by p detached) form can = form.beyond t.0 (let e = can.0 in omega (arith, e))
+fits-groups roots log (Open o g) form can = (can.1, made_few roots log o form can.0)
+fits-groups roots log (Child t o g p) form can = (form.beyond t.0 (let e = can.0 in omega (arith, e)), can.2)
+fits-groups roots log (CancelGroup o g) form can = can.1
+fits-groups roots log (Next o g) form can = can.1
+fits-groups roots log (Close o g) form can = can.1
+fits-groups roots log (End t ending) form can = can.1
+fits-groups roots log (Begin t n env) form can = tt
+fits-groups roots log (Apply t n) form can = tt
+fits-groups roots log (Skip o g) form can = tt
+fits-groups roots log (CancelTask t) form can = tt
+fits-groups roots log (Wait t awaited) form can = tt
+fits-groups roots log (Give t n resume) form can = tt

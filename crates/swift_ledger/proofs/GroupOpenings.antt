@@ -3,10 +3,11 @@ use Rattle.std.proofs.Common.{◌≡◌, ℕ, ◌+◌, ◌<◌, ◌≤◌, List,
 use Rattle.std.proofs.lemmas.Bool.{cases_eq, cases_lt, cases_Bool, cond-true, cond-false, eq-eqb, ne_eqb, and_from, lt-ltb, le-ltb, true≢false}
 use Rattle.std.proofs.lemmas.List.{length_push}
 use Rattle.std.proofs.lemmas.Option.{slice_get_within}
-use Rattle.std.specs.Prelude.{is_some, nat_lt, unwrap_or, vec_len, vec_capacity}
+use Rattle.std.specs.Prelude.{is_some, nat_lt, vec_len, vec_capacity}
 use Rattle.std.specs.List.{slice_get}
 use Rattle.std.specs.Map.{lookup}
-use Rattle.std.specs.HashMap.{get, spare}
+use Rattle.std.specs.HashMap.{spare}
+use Rattle.swift_types.specs.declared.limits.TheConstants.{TASKS}
 use Rattle.swift_types.specs.declared.id.TaskId.{TaskId}
 use Rattle.swift_groups.specs.Groups.{GroupIs, GroupsIs, opened_by as new_group}
 use Rattle.swift_groups.proofs.Lists.{slice_get_old, slice_get_new}
@@ -17,21 +18,22 @@ use Rattle.swift_events.specs.Relations.{parent_by, opened_by}
 use Rattle.swift_events.proofs.LogLemmas.{opened_by-push, origin_of}
 use Rattle.swift_ledger.specs.declared.group_index.Held.{Held}
 use Rattle.swift_ledger.specs.declared.group_index.GroupIndex.{GroupIndex}
-use Rattle.swift_ledger.specs.GroupIndexes.{GroupFacts, facts_of, IsKept, AreGroupsOf, is_child_of, place_in, same_number, same_task}
+use Rattle.swift_ledger.specs.Counts.{count_at, HasPlaces}
+use Rattle.swift_ledger.specs.GroupIndexes.{GroupFacts, facts_of, IsKept, AreGroupsOf, is_child_of, place_in, same_number}
 use Rattle.swift_ledger.proofs.GroupFacts.{parents-push, facts-quiet, opened-own, opened-other}
 use Rattle.swift_ledger.proofs.KeptGroups.{kept_new}
 use Rattle.swift_ledger.proofs.GroupSteps.{both, kept_at}
 
 -- more room
 pub room-step : (w w' : GroupIndex) (log : List Event) → AreGroupsOf w log → w'.groups.groups ≡ w.groups.groups → ((o : TaskId) (g : ℕ) → place_in w' o g ≡ place_in w o g)
-    → ((o : TaskId) → get same_task w'.counts o ≡ get same_task w.counts o) → w'.held.items ≡ w.held.items
-    → w'.spare ≤ w'.groups.reserved → w'.spare ≤ spare w'.places → w'.spare ≤ spare w'.counts → vec_len w'.held + w'.spare ≤ vec_capacity w'.held → AreGroupsOf w' log
+    → ((t : ℕ) → count_at w'.counts t ≡ count_at w.counts t) → w'.held.items ≡ w.held.items
+    → w'.spare ≤ w'.groups.reserved → w'.spare ≤ spare w'.places → (0 < w'.spare → HasPlaces w'.counts) → vec_len w'.held + w'.spare ≤ vec_capacity w'.held → AreGroupsOf w' log
 room-step w w' log old groups places counts helds a b c d = record {
   opened = λ u h. ap is_some (places u h) ∙ old.opened u h;
   each = λ u h j there. let k = old.each u h j (sym (places u h) ∙ there) in
       record { found = k.found; held = k.held; group = ap (λ (s : List GroupIs). slice_get s j) groups ∙ k.group; beside = ap (λ (s : List Held). slice_get s j) helds ∙ k.beside; kept = k.kept };
   apart = λ u v h k j x y. old.apart u v h k j (sym (places u h) ∙ x) (sym (places v k) ∙ y);
-  counted = λ u. ap (λ (x : Option ℕ). unwrap_or x 0) (counts u) ∙ old.counted u;
+  counted = λ u. counts u.0 ∙ old.counted u;
   unopened = old.unopened;
   parents = old.parents;
   same = ap length helds ∙ old.same ∙ sym (ap length groups);
@@ -42,20 +44,20 @@ room-step w w' log old groups places counts helds a b c d = record {
 }
 
 -- no events
-pub none-step : (w : GroupIndex) → w.groups ≡ record { groups = []; reserved = 0 } → w.places.entries ≡ [] → w.counts.entries ≡ [] → w.held.items ≡ [] → w.spare ≡ 0 → vec_len w.held ≤ vec_capacity w.held → AreGroupsOf w []
+pub none-step : (w : GroupIndex) → w.groups ≡ record { groups = []; reserved = 0 } → w.places.entries ≡ [] → ((t : ℕ) → count_at w.counts t ≡ 0) → w.held.items ≡ [] → w.spare ≡ 0 → vec_len w.held ≤ vec_capacity w.held → AreGroupsOf w []
 none-step w groups places counts helds spares room =
     let nowhere : (o : TaskId) (g : ℕ) → place_in w o g ≡ None = λ o g. ap (λ es. lookup (same_number (o, g)) es) places in
     record {
       opened = λ o g. ap is_some (nowhere o g) ∙ sym (le-ltb g 0 (omega arith));
       each = λ o g i h. absurd (let n = nowhere o g in cc (n, h));
       apart = λ o u g h i a b. absurd (let n = nowhere o g in cc (n, a));
-      counted = λ o. ap (λ (x : Option ℕ). unwrap_or x 0) (ap (λ es. lookup (same_task o) es) counts);
+      counted = λ o. counts o.0;
       unopened = λ o g le. refl;
       parents = λ t o g. sym (ap (λ (x : Option Origin). is_child_of o g (parent_by x)) (origin_of t.0 []));
       same = ap length helds ∙ sym (ap (λ (v : GroupsIs). length v.groups) groups);
       groups_room = omega (arith, spares);
       places_room = omega (arith, spares);
-      counts_room = omega (arith, spares);
+      counts_room = λ some. absurd (omega (arith, some, spares));
       held_room = omega (arith, spares, room);
     }
 
@@ -65,14 +67,14 @@ lt_more h g ne = elim (cases_lt h g) [
   | inr ge ↦ le-ltb h g ge ∙ sym (le-ltb h (g + 1) (elim (cases_eq h g) [ inl q ↦ absurd (ne q) | inr d ↦ omega (arith, ge, d) ]))
 ]
 
-pub open-step : (w w' : GroupIndex) (log : List Event) (o : TaskId) (g n : ℕ) → AreGroupsOf w log → g ≡ opened_by o.0 log → n ≡ length w.groups.groups
+pub open-step : (w w' : GroupIndex) (log : List Event) (o : TaskId) (g n : ℕ) → AreGroupsOf w log → g ≡ opened_by o.0 log → o.0 < TASKS → n ≡ length w.groups.groups
     → w'.groups ≡ record { groups = w.groups.groups ++ new_group o ∷ []; reserved = w.groups.reserved - 1 }
     → ((u : TaskId) (h : ℕ) → place_in w' u h ≡ cond (eqb o.0 u.0 && eqb g h) (Some n) (place_in w u h))
-    → ((u : TaskId) → get same_task w'.counts u ≡ cond (eqb o.0 u.0) (Some (g + 1)) (get same_task w.counts u))
+    → ((t : ℕ) → count_at w'.counts t ≡ cond (eqb o.0 t) (g + 1) (count_at w.counts t))
     → w'.held.items ≡ w.held.items ++ record { asked = 0; ended = 0; is_closed = false; is_named = false; has_children = false } ∷ []
-    → w.spare ≡ w'.spare + 1 → spare w.places ≤ spare w'.places + 1 → spare w.counts ≤ spare w'.counts + 1 → vec_len w'.held ≡ vec_len w.held + 1 → vec_capacity w'.held ≡ vec_capacity w.held
+    → w.spare ≡ w'.spare + 1 → spare w.places ≤ spare w'.places + 1 → HasPlaces w'.counts → vec_len w'.held ≡ vec_len w.held + 1 → vec_capacity w'.held ≡ vec_capacity w.held
     → AreGroupsOf w' (log ++ Open o g ∷ [])
-open-step w w' log o g n old number place groups places counts helds spares room1 room2 len cap =
+open-step w w' log o g n old number small place groups places counts helds spares room1 room2 len cap =
     let e : Event = Open o g in
     let facts : (u h : ℕ) → facts_of u h (log ++ e ∷ []) ≡ facts_of u h log = λ u h. facts-quiet u h log e refl refl refl refl refl in
     let own = opened-own log o g in
@@ -139,18 +141,18 @@ open-step w w' log o g n old number place groups places counts helds spares room
       ];
       counted = λ u. elim (cases_eq o.0 u.0) [
         | inl s ↦
-            ap (λ (x : Option ℕ). unwrap_or x 0) (counts u ∙ cond-true (eqb o.0 u.0) (Some (g + 1)) (get same_task w.counts u) (eq-eqb o.0 u.0 s))
+            counts u.0 ∙ cond-true (eqb o.0 u.0) (g + 1) (count_at w.counts u.0) (eq-eqb o.0 u.0 s)
             ∙ ap (λ (m : ℕ). m + 1) number ∙ sym own ∙ ap (λ (m : ℕ). opened_by m (log ++ e ∷ [])) s
         | inr x ↦
-            ap (λ (y : Option ℕ). unwrap_or y 0) (counts u ∙ cond-false (eqb o.0 u.0) (Some (g + 1)) (get same_task w.counts u) (ne_eqb o.0 u.0 x))
+            counts u.0 ∙ cond-false (eqb o.0 u.0) (g + 1) (count_at w.counts u.0) (ne_eqb o.0 u.0 x)
             ∙ old.counted u ∙ sym (opened-other log o g u.0 x)
       ];
       unopened = λ u h le. facts u h ∙ old.unopened u h (let m = opened_by-push u log e in omega (arith, m, le));
-      parents = parents-push log e old.parents number;
+      parents = parents-push log e old.parents (number, small);
       same = ap length helds ∙ length_push w.held.items (record { asked = 0; ended = 0; is_closed = false; is_named = false; has_children = false }) ∙ ap (λ (m : ℕ). m + 1) old.same
           ∙ sym (ap length groups' ∙ length_push w.groups.groups (new_group o));
       groups_room = let r = old.groups_room in omega (arith, r, reserved, spares);
       places_room = let r = old.places_room in omega (arith, r, room1, spares);
-      counts_room = let r = old.counts_room in omega (arith, r, room2, spares);
+      counts_room = λ some. room2;
       held_room = let r = old.held_room in omega (arith, r, len, cap, spares);
     }

@@ -2,7 +2,7 @@
 use Rattle.std.proofs.Common.{◌≡◌, ℕ, suc, ◌+◌, ◌<◌, ◌≤◌, List, Option, None, Some, Ok, Err, [], ◌∷◌, ◌++◌, length, get_or, set, ◌-◌, Bool, true, false, not, ◌||◌, ◌&&◌, eqb, refl, ap, sym, ◌∙◌, subst, inl, inr, arith, length-set}
 use Rattle.std.proofs.lemmas.Bool.{cases_lt, cases_Bool, cond-false, eq-eqb, eqb-true, and_parts, and_from, not-true, ltb-true, ltb-false, true≢false}
 use Rattle.std.proofs.lemmas.Option.{slice_get_within, get_or_from_slice_get}
-use Rattle.std.specs.Prelude.{IsTrue, is_some, nat_lt, unwrap_or, vec_len, vec_capacity}
+use Rattle.std.specs.Prelude.{IsTrue, is_some, nat_lt, vec_len, vec_capacity}
 use Rattle.std.specs.List.{slice_get, filter_map, cons_option}
 use Rattle.std.proofs.lemmas.List.Sums.{count_by-le-length}
 use Rattle.std.specs.HashMap.{get, spare}
@@ -26,7 +26,8 @@ use Rattle.swift_events.proofs.LogLemmas.{opened_by-push_no, unborn_without}
 use Rattle.swift_events.proofs.GroupLemmas.{has_ended-unended}
 use Rattle.swift_ledger.specs.declared.group_index.Held.{Held}
 use Rattle.swift_ledger.specs.declared.group_index.GroupIndex.{GroupIndex}
-use Rattle.swift_ledger.specs.GroupIndexes.{GroupFacts, no_facts, facts_of, FitsGroups, IsKept, IsKeptAt, AreGroupsOf, CanEnd, ended_with, is_child_of, place_in, same_number, same_task}
+use Rattle.swift_ledger.specs.Counts.{count_at, HasPlaces}
+use Rattle.swift_ledger.specs.GroupIndexes.{GroupFacts, no_facts, facts_of, FitsGroups, IsKept, IsKeptAt, AreGroupsOf, CanEnd, ended_with, is_child_of, place_in, same_number}
 use Rattle.swift_ledger.proofs.GroupFacts.{parents-push, facts-quiet, facts-next, facts-close, facts-cancel, facts-child, facts-end}
 use Rattle.swift_ledger.proofs.KeptGroups.{kept_next, stage_kept, kept_child, kept_cancel, kept_close, kept_end}
 use Rattle.swift_ledger.proofs.GroupCalls.{open_at, live_open}
@@ -96,7 +97,7 @@ changed w w' log e o g i found held old fits here places counts groups helds roo
                 }
           ];
       apart = λ u v h k j a b. old.apart u v h k j (sym (at u h) ∙ a) (sym (at v k) ∙ b);
-      counted = λ u. ap (λ m. unwrap_or (get same_task m u) 0) counts ∙ old.counted u ∙ sym (count u.0);
+      counted = λ u. ap (λ m. count_at m u.0) counts ∙ old.counted u ∙ sym (count u.0);
       unopened = λ u h le. elim (cases_Bool (eqb o.0 u && eqb g h)) [
         | inl y ↦ let p = both o.0 u g h y in let c = count u in let c' : opened_by o.0 log ≡ opened_by u log = ap (λ (n : ℕ). opened_by n log) p.0 in let q = p.1 in absurd (omega (arith, le, c, c', was, q))
         | inr n ↦ others u h n ∙ old.unopened u h (let c = count u in omega (arith, le, c))
@@ -105,7 +106,7 @@ changed w w' log e o g i found held old fits here places counts groups helds roo
       same = ap length helds ∙ length-set w.held.items i held ∙ old.same ∙ sym (ap length groups ∙ length-set w.groups.groups i found);
       groups_room = room;
       places_room = subst (λ m. w'.spare ≤ spare m) (sym places) (let r = old.places_room in omega (arith, r, less));
-      counts_room = subst (λ m. w'.spare ≤ spare m) (sym counts) (let r = old.counts_room in omega (arith, r, less));
+      counts_room = λ some. subst (λ m. HasPlaces m) (sym counts) (old.counts_room (omega (arith, some, less)));
       held_room = beside;
     }
 
@@ -315,7 +316,7 @@ end-alone w log t x old alive none = kept-step w log (End t x) old alive
     (λ u h. facts-quiet u h log (End t x) refl (cond-false (is_among (children_of u h log) t) (Some (t, x)) None (old.parents t u h ∙ ap (is_child_of u h) none)) refl refl refl)
     (λ u. opened_by-push_no u log (End t x) refl)
 
-plain-step : (w : GroupIndex) (log : List Event) (e : Event) → AreGroupsOf w log → FitsGroups log e
+pub plain-step : (w : GroupIndex) (log : List Event) (e : Event) → AreGroupsOf w log → FitsGroups log e
     → ((u h : ℕ) → child_in u h e ≡ None) → ((u h : ℕ) → ending_among (children_of u h log) e ≡ None) → ((u h : ℕ) → asks u h e ≡ false) → ((u h : ℕ) → closes u h e ≡ false) → ((u h : ℕ) → names_group u h e ≡ false) → ((u : ℕ) → opens u e ≡ false)
     → AreGroupsOf w (log ++ e ∷ [])
 plain-step w log e old fits a b c d n m = kept-step w log e old fits (λ u h. facts-quiet u h log e (a u h) (b u h) (c u h) (d u h) (n u h)) (λ u. opened_by-push_no u log e (m u))

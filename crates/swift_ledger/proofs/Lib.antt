@@ -1,3 +1,4 @@
+pub mod CountLemmas
 pub mod ListLemmas
 pub mod FormLemmas
 pub mod LivesLemmas
@@ -11,3 +12,4 @@ pub mod KeptGroups
 pub mod GroupCalls
 pub mod GroupSteps
 pub mod GroupOpenings
+pub mod TurnLemmas

@@ -38,7 +38,7 @@ made_is_open (Free t by p false) made = refl
 made_is_open (Child t o g p) made = refl
 made_is_open _ made = absurd (false≢true made)
 
-abbrev one_if : Bool → ℕ
+abbrev pub one_if : Bool → ℕ
 one_if b = cond b 1 0
 
 pub made_open : (roots : ℕ) (log : List Event) (e : Event) (total : ℕ) → IsWellFormed roots log → CanNote roots log e → is_made e ≡ true → total ≡ open_of roots log → total + 1 ≡ open_of roots (log ++ e ∷ [])

@@ -1,17 +1,21 @@
 -- The lists of a task's own tasks and waiters, and the groups, once one more event is written.
-use Rattle.std.proofs.Common.{◌≡◌, ◌≢◌, ℕ, ◌+◌, ◌≤◌, List, [], ◌∷◌, ◌++◌, length, refl, sym, ◌∙◌, arith, false, inl, inr, subst}
+use Rattle.std.proofs.Common.{◌≡◌, ◌≢◌, ℕ, ◌+◌, ◌<◌, ◌≤◌, List, [], ◌∷◌, ◌++◌, length, refl, sym, ◌∙◌, arith, false, inl, inr, subst}
 use Rattle.std.specs.Prelude.{Option, Some, None, slice_get, IfSome, All}
 use Rattle.std.specs.List.{filter_map, cons_option}
 use Rattle.std.proofs.lemmas.Bool.{cases_eq, false≢true}
 use Rattle.std.proofs.lemmas.Option.{slice_get_within, get_or_from_slice_get}
+use Rattle.swift_types.specs.declared.limits.TheConstants.{TASKS}
 use Rattle.swift_types.specs.declared.id.TaskId.{TaskId}
 use Rattle.swift_events.specs.declared.event.Event.{Event}
 use Rattle.swift_events.specs.declared.event.Event.TheVariants.{Free, Wait}
 use Rattle.swift_events.specs.Relations.{own_in, own_tasks, waiter_in, waiters_of}
 use Rattle.swift_events.proofs.LogLemmas.{own_tasks-push_none, own_tasks-push_same, own_tasks-push_other, waiters_of-push_none, waiters_of-push_same, waiters_of-push_other}
+use Rattle.swift_ledger.specs.Ledgers.{CanNote}
+use Rattle.swift_ledger.specs.WellFormed.{IsWellFormed}
 use Rattle.swift_ledger.specs.Lists.{pushed}
 use Rattle.swift_ledger.specs.Relatives.{own_pair, waiter_pair}
 use Rattle.swift_ledger.specs.GroupIndexes.{has_any}
+use Rattle.swift_ledger.proofs.FormLemmas.{made_few}
 use Rattle.swift_ledger.proofs.ListLemmas.{pushed_same, pushed_other}
 
 length-cons_option : {X : Type 0} (x : Option X) (xs : List X) → length (cons_option x xs) ≤ length xs + 1
@@ -61,6 +65,16 @@ waiter_none t _ is = refl
 
 pub waiter_same : (t : ℕ) (log : List Event) (e : Event) → waiter_pair e ≡ None → waiters_of t log ≡ waiters_of t (log ++ e ∷ [])
 waiter_same t log e is = sym (waiters_of-push_none t log e (waiter_none t e is))
+
+-- the task whose list gets longer has a number that a run may have
+
+pub own_known : (roots : ℕ) (log : List Event) (e : Event) (x : TaskId × TaskId) → IsWellFormed roots log → CanNote roots log e → own_pair e ≡ Some x → x.0.0 < TASKS
+own_known roots log (Free made by p d) x form can is = (let same : (by, made) ≡ x = cc in subst (λ (y : TaskId × TaskId). y.0.0 < TASKS) same (made_few roots log by form can.1))
+own_known roots log _ x form can is = absurd (cc)
+
+pub waiter_known : (roots : ℕ) (log : List Event) (e : Event) (x : TaskId × TaskId) → IsWellFormed roots log → CanNote roots log e → waiter_pair e ≡ Some x → x.0.0 < TASKS
+waiter_known roots log (Wait waiter awaited) x form can is = (let same : (awaited, waiter) ≡ x = cc in subst (λ (y : TaskId × TaskId). y.0.0 < TASKS) same (made_few roots log awaited form can.1))
+waiter_known roots log _ x form can is = absurd (cc)
 
 -- what holds of each holds of the one that is read
 pub all_read : (P : TaskId → Type 0) (xs : List TaskId) (i : ℕ) (r : Option TaskId) → All P xs → r ≡ slice_get xs i → IfSome r P

@@ -1,6 +1,7 @@
 -- What the index of groups keeps of a log.
-use Rattle.std.specs.Prelude.{◌≡◌, ℕ, ◌+◌, ◌≤◌, min, Bool, true, false, if◌then◌else◌, ◌==◌, ◌&&◌, nat_eq, nat_lt, nat_le, is_some, Option, Some, None, IsTrue, List, [], ◌∷◌, length, slice_get, unwrap_or, vec_len, vec_capacity}
+use Rattle.std.specs.Prelude.{◌≡◌, ℕ, ◌+◌, ◌<◌, ◌≤◌, min, Bool, true, false, if◌then◌else◌, ◌==◌, ◌&&◌, nat_eq, nat_lt, nat_le, is_some, Option, Some, None, IsTrue, List, [], ◌∷◌, length, slice_get, vec_len, vec_capacity}
 use Rattle.std.specs.HashMap.{get, spare}
+use Rattle.swift_types.specs.declared.limits.TheConstants.{TASKS}
 use Rattle.swift_types.specs.declared.id.TaskId.{TaskId}
 use Rattle.swift_types.specs.declared.outcome.Ending.{Ending}
 use Rattle.swift_groups.specs.Groups.{GroupIs, is_among, unfinished, unfinished_of, with_ending}
@@ -11,15 +12,16 @@ use Rattle.swift_events.specs.declared.event.Event.TheVariants.{Root, Free, Open
 use Rattle.swift_events.specs.Events.{events_of}
 use Rattle.swift_events.specs.Lives.{life_of}
 use Rattle.swift_events.specs.Relations.{opened_by, is_open_group, children_of, endings_of, asked_of, is_closed, is_named_group, stage_of, parent_of, of_parent}
+use Rattle.swift_ledger.specs.Counts.{count_at, HasPlaces}
 use Rattle.swift_ledger.specs.declared.group_index.Held.{Held}
 use Rattle.swift_ledger.specs.declared.group_index.GroupIndex.{GroupIndex}
 
 -- An event that fits the groups of a log: a task that is made has no events yet, or is a root that was not added; a group
--- that is named is open, or is the next one that its owner opens; a task that ends has not ended.
+-- that is named is open, or is the next one that its owner opens, whose number is that of a task; a task that ends has not ended.
 abbrev pub FitsGroups : List Event → Event → Type 0
 FitsGroups log (Root t p) = (life_of t.0 log).origin ≡ None
 FitsGroups log (Free t by p detached) = events_of t.0 log ≡ []
-FitsGroups log (Open o g) = g ≡ opened_by o.0 log
+FitsGroups log (Open o g) = (g ≡ opened_by o.0 log) × (o.0 < TASKS)
 FitsGroups log (Child t o g p) = (events_of t.0 log ≡ []) × IsTrue (is_open_group o.0 g log)
 FitsGroups log (CancelGroup o g) = IsTrue (is_open_group o.0 g log)
 FitsGroups log (Next o g) = IsTrue (is_open_group o.0 g log)
@@ -40,9 +42,6 @@ IsParentIn log _ parent = Unit {0}
 -- keys are the same where owner and number are
 abbrev pub same_number : TaskId × ℕ → TaskId × ℕ → Bool
 same_number x y = nat_eq x.0.0 y.0.0 && nat_eq x.1 y.1
-
-abbrev pub same_task : TaskId → TaskId → Bool
-same_task x y = nat_eq x.0 y.0
 
 -- what a log says of one group
 pub record GroupFacts : Type 0 where
@@ -99,13 +98,13 @@ pub record AreGroupsOf (index : GroupIndex) (log : List Event) : Type 0 where
   pub opened : (o : TaskId) (g : ℕ) → is_some (place_in index o g) ≡ nat_lt g (opened_by o.0 log)
   pub each : (o : TaskId) (g place : ℕ) → place_in index o g ≡ Some place → IsKeptAt index o (facts_of o.0 g log) place
   pub apart : (o u : TaskId) (g h place : ℕ) → place_in index o g ≡ Some place → place_in index u h ≡ Some place → (o.0 ≡ u.0) × (g ≡ h)
-  pub counted : (o : TaskId) → unwrap_or (get same_task index.counts o) 0 ≡ opened_by o.0 log
+  pub counted : (o : TaskId) → count_at index.counts o.0 ≡ opened_by o.0 log
   pub unopened : (o g : ℕ) → opened_by o log ≤ g → facts_of o g log ≡ no_facts
   pub parents : (t : TaskId) (o g : ℕ) → is_among (children_of o g log) t ≡ is_child_of o g (parent_of t.0 log)
   pub same : length index.held.items ≡ length index.groups.groups
   pub groups_room : index.spare ≤ index.groups.reserved
   pub places_room : index.spare ≤ spare index.places
-  pub counts_room : index.spare ≤ spare index.counts
+  pub counts_room : 0 < index.spare → HasPlaces index.counts
   pub held_room : vec_len index.held + index.spare ≤ vec_capacity index.held
 
 -- A group once a child of it has ended: closed anew where it is closed, and with one more result handed out where its owner

@@ -3,6 +3,7 @@ pub mod Levels
 pub mod WellFormed
 pub mod Lives
 pub mod Flags
+pub mod Counts
 pub mod Lists
 pub mod Relatives
 pub mod Links

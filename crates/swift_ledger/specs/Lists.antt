@@ -1,30 +1,25 @@
 -- What lists of tasks keep.
-use Rattle.std.specs.Prelude.{◌≡◌, ℕ, ◌≤◌, Bool, if◌then◌else◌, ◌==◌, ◌&&◌, nat_eq, Option, unwrap_or, List, [], ◌∷◌, ◌++◌, length, slice_get}
+use Rattle.std.specs.Prelude.{◌≡◌, ℕ, ◌<◌, ◌≤◌, Bool, if◌then◌else◌, ◌==◌, ◌&&◌, nat_eq, Option, List, [], ◌∷◌, ◌++◌, length, slice_get}
 use Rattle.std.specs.HashMap.{get, spare}
 use Rattle.swift_types.specs.declared.id.TaskId.{TaskId}
+use Rattle.swift_ledger.specs.Counts.{count_at, HasPlaces}
 use Rattle.swift_ledger.specs.declared.lists.Lists.{Lists}
-
-abbrev pub same_task : TaskId → TaskId → Bool
-same_task x y = nat_eq x.0 y.0
 
 abbrev pub same_place : TaskId × ℕ → TaskId × ℕ → Bool
 same_place x y = nat_eq x.0.0 y.0.0 && nat_eq x.1 y.1
 
 -- what is kept of each list: its length, and each element by its place
-pub record AreKept (count : TaskId → Option ℕ) (element : TaskId × ℕ → Option TaskId) (lists : ℕ → List TaskId) : Type 0 where
-  pub lengths : (t : TaskId) → unwrap_or (count t) 0 ≡ length (lists t.0)
+pub record AreKept (count : ℕ → ℕ) (element : TaskId × ℕ → Option TaskId) (lists : ℕ → List TaskId) : Type 0 where
+  pub lengths : (t : ℕ) → count t ≡ length (lists t)
   pub elements : (t : TaskId) (i : ℕ) → element (t, i) ≡ slice_get (lists t.0) i
 
 -- these are the lists
 abbrev pub AreLists : Lists → (ℕ → List TaskId) → Type 0
-AreLists l lists = AreKept (λ t. get same_task l.counts t) (λ p. get same_place l.tasks p) lists
-
-abbrev pub count_in : Lists → ℕ → ℕ
-count_in l t = unwrap_or (get same_task l.counts (record { 0 = t })) 0
+AreLists l lists = AreKept (λ t. count_at l.counts t) (λ p. get same_place l.tasks p) lists
 
 -- so many more elements find memory
 abbrev pub HasSpare : Lists → ℕ → Type 0
-HasSpare l n = (n ≤ spare l.counts) × (n ≤ spare l.tasks)
+HasSpare l n = (0 < n → HasPlaces l.counts) × (n ≤ spare l.tasks)
 
 -- one more element of one list
 abbrev pub pushed : (ℕ → List TaskId) → TaskId → TaskId → ℕ → List TaskId

@@ -1,6 +1,7 @@
 //! All groups of a log, each found by its owner and its number.
 
 ghost use Rattle.std.specs.Prelude.{◌≡◌, ℕ, ◌+◌, ◌<◌, ◌≤◌, [], ◌∷◌, ◌++◌, List, OnOk, IsTrue, Some, None, length, slice_set, slice_get};
+ghost use Rattle.swift_types.specs.declared.limits.TheConstants.{TASKS};
 ghost use Rattle.swift_types.specs.declared.priority.Priority.{Priority as Level};
 ghost use Rattle.swift_groups.specs.Groups.{GroupIs};
 ghost use Rattle.swift_groups.specs.Next.{next_of};
@@ -11,6 +12,7 @@ ghost use Rattle.swift_events.specs.Lives.{life_of};
 ghost use Rattle.swift_events.specs.Relations.{opened_by, is_open_group, is_named_group, children_of, group_of, parent_of};
 ghost use Rattle.swift_ledger.specs.GroupIndexes.{AreGroupsOf, FitsGroups, IsParentIn, CanEnd, has_any, place_in, ended_with};
 
+use crate::counts::Counts;
 use std::alloc::{AllocError, Global};
 use std::collections::HashMap;
 use swift_events::Event;
@@ -42,7 +44,7 @@ pub struct GroupIndex {
     // The places of groups, by owner and number within the owner.
     places: HashMap<(TaskId, u32), usize>,
     // How many groups each task has opened.
-    counts: HashMap<TaskId, usize>,
+    counts: Counts,
     // By a group's place.
     held: Vec<Held>,
     // How many more events find memory for sure.
@@ -58,7 +60,7 @@ impl GroupIndex {
         GroupIndex {
             groups: Groups::new(alloc),
             places: HashMap::new(alloc),
-            counts: HashMap::new(alloc),
+            counts: Counts::new(alloc),
             held: Vec::new(alloc),
             spare: 0,
         }
@@ -78,7 +80,7 @@ impl GroupIndex {
             return Err(AllocError);
         };
         self.places.reserve(events)?;
-        self.counts.reserve(events)?;
+        self.counts.reserve()?;
         self.held.reserve(events)?;
         self.spare = events;
         Ok(())
@@ -109,7 +111,7 @@ impl GroupIndex {
         requires { AreGroupsOf self.now log.now }
         ensures { result ≡ opened_by owner.0 log.now }
     {
-        self.counts.get(&owner).copied().unwrap_or(0)
+        self.counts.get(owner)
     }
 
     /// Whether a task has opened its group of this number, and not closed it.
@@ -202,6 +204,7 @@ impl GroupIndex {
     fn open_group(&mut self, log: &[Event], owner: TaskId, group: u32)
         requires groups { AreGroupsOf self.old log.now }
         requires number { group ≡ opened_by owner.0 log.now }
+        requires known { owner.0 < TASKS }
         requires spare { 0 < self.old.spare }
         ensures groups { AreGroupsOf self.new (log.now ++ Event.Open owner group ∷ []) }
         ensures spare { self.old.spare ≡ self.new.spare + 1 }
@@ -212,9 +215,7 @@ impl GroupIndex {
         let Ok(_) = self.places.insert((owner, group), id.0) else {
             unreachable!()
         };
-        let Ok(_) = self.counts.insert(owner, group as usize + 1) else {
-            unreachable!()
-        };
+        self.counts.set(owner, group as usize + 1);
         self.held.push_reserved(Held {
             asked: 0,
             ended: 0,

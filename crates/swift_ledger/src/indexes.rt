@@ -153,7 +153,8 @@ impl Indexes {
         }
     }
 
-    /// Follows the log by one event. A begin, an apply and a give take constant time and touch no map.
+    /// Follows the log by one event. Of a begin, an apply and a give no index but the lives has to know, which follow them by
+    /// calls of their own.
     pub(crate) fn note(&mut self, roots: usize, log: &[Event], event: Event)
         requires indexes { AreIndexes self.old roots log.now }
         requires log { IsWellFormed roots log.now }
@@ -175,8 +176,8 @@ impl Indexes {
             has_children,
         );
         self.groups.note(log, event, parent);
-        note_own(&mut self.own, log, event);
-        note_waiter(&mut self.waiters, log, event);
+        note_own(&mut self.own, roots, log, event);
+        note_waiter(&mut self.waiters, roots, log, event);
         note_link(&mut self.waits, roots, log, event);
         self.lives.note(roots, log, event);
     }

@@ -23,9 +23,13 @@ use std::marker::Model;
 use swift_events::{Event, Life};
 use swift_groups::{Close, Next};
 use swift_types::limits::{MADE, TASKS};
-use swift_types::{Priority, TaskId};
+use swift_types::{Priority, Resume, TaskId};
 
-/// The log of a run, and indexes by which each question below is answered in constant time (our own). Only `note` writes.
+// For how many events room is made at once, so that a turn seldom asks each index for some.
+const EVENTS_AT_ONCE: usize = 64;
+
+/// The log of a run, and indexes by which each question below is answered in constant time (our own). Only `note` writes, and the
+/// three calls that it makes for the events of a turn.
 pub struct Ledger {
     roots: usize,
     log: Vec<Event>,
@@ -241,29 +245,98 @@ impl Ledger {
     }
 
     /// Makes room, so that the next `events` calls of `note` find memory. Out of memory nothing else has changed. Where
-    /// so much is reserved already it takes constant time, else time that is linear in what is kept and in `events`.
+    /// so much is reserved already it takes constant time, else time that is linear in what is kept and in `events`; it
+    /// then makes room for 64 events at least, so that most calls find it.
     pub fn reserve(&mut self, events: usize) -> Result<(), AllocError>
         ensures same { self.new ≡ record self.old { spare = self.new.spare } }
         ensures ok { OnOk result (events ≤ self.new.spare) }
+        ensures more { self.old.spare ≤ self.new.spare }
     {
         if events <= self.spare {
             return Ok(());
         }
-        self.log.reserve(events)?;
-        self.indexes.reserve(events)?;
-        self.spare = events;
+        let room = events.max(EVENTS_AT_ONCE);
+        self.log.reserve(room)?;
+        self.indexes.reserve(room)?;
+        self.spare = room;
         Ok(())
     }
 
     /// Writes one event, and takes no memory. Constant time but for two kinds of events: a wait may raise priorities,
     /// as `Waits::wait` says, and a cancel of what was not cancelled goes over all tasks, which happens at most once
-    /// for each task and once for each group with children. A begin, an apply and a give touch no map.
+    /// for each task and once for each group with children. A begin, an apply and a give are written by the three calls below.
     pub fn note(&mut self, event: Event)
         requires fits { CanNote self.old.roots self.old.log event }
         requires spare { 0 < self.old.spare }
         ensures log { self.new ≡ record self.old { log = self.old.log ++ event ∷ []; spare = self.new.spare } }
         ensures spare { self.new.spare + 1 ≡ self.old.spare }
         // What is reserved changes by what the event's task has reserved.
+        ensures reserved { reserved_of self.new.roots self.new.log + room_held (life_of (task_of event) self.old.log) ≡ reserved_of self.old.roots self.old.log + room_held (life_of (task_of event) self.new.log) }
+    {
+        match event {
+            Event::Begin(task, number, env) => self.note_begin(task, number, env),
+            Event::Apply(task, number) => self.note_apply(task, number),
+            Event::Give(task, number, resume) => self.note_give(task, number, resume),
+            _ => self.note_other(event),
+        }
+    }
+
+    /// Writes that a turn of a task begins in an environment, whose room is reserved from here on (our own). Takes no memory,
+    /// and constant time.
+    pub fn note_begin(&mut self, task: TaskId, number: u32, env: Env)
+        requires fits { CanNote self.old.roots self.old.log (Event.Begin task number env) }
+        requires spare { 0 < self.old.spare }
+        ensures log { self.new ≡ record self.old { log = self.old.log ++ Event.Begin task number env ∷ []; spare = self.new.spare } }
+        ensures spare { self.new.spare + 1 ≡ self.old.spare }
+        // What is reserved changes by what the task has reserved.
+        ensures reserved { reserved_of self.new.roots self.new.log + room_held (life_of task.0 self.old.log) ≡ reserved_of self.old.roots self.old.log + room_held (life_of task.0 self.new.log) }
+    {
+        self.indexes
+            .lives
+            .begin(self.roots, &self.log, task, number, env);
+        self.log.push_reserved(Event::Begin(task, number, env));
+        self.spare -= 1;
+    }
+
+    /// Writes that a turn of a task has ended, whose room is free from here on (our own). Takes no memory, and constant time.
+    pub fn note_apply(&mut self, task: TaskId, number: u32)
+        requires fits { CanNote self.old.roots self.old.log (Event.Apply task number) }
+        requires spare { 0 < self.old.spare }
+        ensures log { self.new ≡ record self.old { log = self.old.log ++ Event.Apply task number ∷ []; spare = self.new.spare } }
+        ensures spare { self.new.spare + 1 ≡ self.old.spare }
+        // What is reserved changes by what the task has reserved.
+        ensures reserved { reserved_of self.new.roots self.new.log + room_held (life_of task.0 self.old.log) ≡ reserved_of self.old.roots self.old.log + room_held (life_of task.0 self.new.log) }
+    {
+        self.indexes
+            .lives
+            .apply(self.roots, &self.log, task, number);
+        self.log.push_reserved(Event::Apply(task, number));
+        self.spare -= 1;
+    }
+
+    /// Writes that a job is made for a turn of a task, and what the turn begins with (our own). Takes no memory, and constant
+    /// time.
+    pub fn note_give(&mut self, task: TaskId, number: u32, resume: Resume)
+        requires fits { CanNote self.old.roots self.old.log (Event.Give task number resume) }
+        requires spare { 0 < self.old.spare }
+        ensures log { self.new ≡ record self.old { log = self.old.log ++ Event.Give task number resume ∷ []; spare = self.new.spare } }
+        ensures spare { self.new.spare + 1 ≡ self.old.spare }
+        // What is reserved changes by what the task has reserved.
+        ensures reserved { reserved_of self.new.roots self.new.log + room_held (life_of task.0 self.old.log) ≡ reserved_of self.old.roots self.old.log + room_held (life_of task.0 self.new.log) }
+    {
+        self.indexes
+            .lives
+            .give(self.roots, &self.log, task, number, resume);
+        self.log.push_reserved(Event::Give(task, number, resume));
+        self.spare -= 1;
+    }
+
+    /// Writes an event that each index is asked about.
+    fn note_other(&mut self, event: Event)
+        requires fits { CanNote self.old.roots self.old.log event }
+        requires spare { 0 < self.old.spare }
+        ensures log { self.new ≡ record self.old { log = self.old.log ++ event ∷ []; spare = self.new.spare } }
+        ensures spare { self.new.spare + 1 ≡ self.old.spare }
         ensures reserved { reserved_of self.new.roots self.new.log + room_held (life_of (task_of event) self.old.log) ≡ reserved_of self.old.roots self.old.log + room_held (life_of (task_of event) self.new.log) }
     {
         self.levels

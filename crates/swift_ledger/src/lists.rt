@@ -2,8 +2,11 @@
 
 ghost use Rattle.std.specs.Prelude.{◌≡◌, ℕ, ◌+◌, ◌^◌, ◌<◌, List, [], length, slice_get, OnOk};
 ghost use Rattle.swift_types.specs.declared.id.TaskId.{TaskId};
-ghost use Rattle.swift_ledger.specs.Lists.{AreLists, HasSpare, count_in, pushed};
+ghost use Rattle.swift_types.specs.declared.limits.TheConstants.{TASKS};
+ghost use Rattle.swift_ledger.specs.Counts.{count_at};
+ghost use Rattle.swift_ledger.specs.Lists.{AreLists, HasSpare, pushed};
 
+use crate::counts::Counts;
 use std::alloc::{AllocError, Global};
 use std::collections::HashMap;
 use swift_types::TaskId;
@@ -11,8 +14,8 @@ use swift_types::TaskId;
 /// For each task a list of tasks. An element is read by the list's task and its place, in constant time.
 #[derive(Drop)]
 pub(crate) struct Lists {
-    // How many tasks there are in a task's list; nothing where it is empty.
-    counts: HashMap<TaskId, usize>,
+    // How many tasks there are in a task's list.
+    counts: Counts,
     // By a task and a place in its list, what is there.
     tasks: HashMap<(TaskId, usize), TaskId>,
 }
@@ -23,26 +26,26 @@ impl Lists {
         ensures { AreLists result (λ _. []) }
     {
         Lists {
-            counts: HashMap::new(alloc),
+            counts: Counts::new(alloc),
             tasks: HashMap::new(alloc),
         }
     }
 
     /// How many tasks there are in a task's list.
     pub(crate) fn len(&self, task: TaskId) -> usize
-        ensures count { result ≡ count_in self.now task.0 }
+        ensures count { result ≡ count_at self.now.counts task.0 }
         ensures lists { (lists : ℕ → List TaskId) → AreLists self.now lists → result ≡ length (lists task.0) }
     {
-        match self.counts.get(&task) {
-            Some(count) => *count,
-            None => 0,
-        }
+        self.counts.get(task)
     }
 
-    /// The task at a place of a task's list, if the list is so long.
+    /// The task at a place of a task's list, if the list is so long. The map is asked only then: most lists are empty.
     pub(crate) fn get(&self, task: TaskId, place: usize) -> Option<TaskId>
         ensures { (lists : ℕ → List TaskId) → AreLists self.now lists → result ≡ slice_get (lists task.0) place }
     {
+        if place >= self.len(task) {
+            return None;
+        }
         self.tasks.get(&(task, place)).copied()
     }
 
@@ -52,21 +55,20 @@ impl Lists {
         ensures spare { (n : ℕ) → HasSpare self.old n → HasSpare self.new n }
         ensures ok { OnOk result (HasSpare self.new calls) }
     {
-        self.counts.reserve(calls)?;
+        self.counts.reserve()?;
         self.tasks.reserve(calls)
     }
 
     /// Puts a task at the end of a task's list.
     pub(crate) fn push(&mut self, task: TaskId, element: TaskId)
         requires spare { HasSpare self.old 1 }
-        requires short { count_in self.old task.0 + 1 < 2 ^ 64 }
+        requires short { count_at self.old.counts task.0 + 1 < 2 ^ 64 }
+        requires known { task.0 < TASKS }
         ensures lists { (lists : ℕ → List TaskId) → AreLists self.old lists → AreLists self.new (pushed lists task element) }
         ensures spare { (n : ℕ) → HasSpare self.old (n + 1) → HasSpare self.new n }
     {
         let place = self.len(task);
-        let Ok(_) = self.counts.insert(task, place + 1) else {
-            unreachable!()
-        };
+        self.counts.set(task, place + 1);
         let Ok(_) = self.tasks.insert((task, place), element) else {
             unreachable!()
         };

@@ -10,9 +10,10 @@ ghost use Rattle.swift_ledger.specs.Ledgers.{CanNote};
 ghost use Rattle.swift_ledger.specs.WellFormed.{IsWellFormed};
 ghost use Rattle.swift_ledger.specs.Lives.{AreLives, HasSpare};
 
+use script_code::Env;
 use std::alloc::{AllocError, Global};
-use swift_events::{Event, Life};
-use swift_types::TaskId;
+use swift_events::{Event, Given, Life, Stage};
+use swift_types::{Resume, TaskId};
 
 /// What the log says of each task, how many of them are open, and the room that is reserved for their turns.
 #[derive(Drop)]
@@ -142,5 +143,53 @@ impl Lives {
         self.lives[place] = after;
         self.open_tasks = self.open_tasks + share(&after) - share(&before);
         self.reserved = self.reserved - before.room() + after.room();
+    }
+
+    /// Follows the log by the beginning of a turn, whose room is reserved.
+    pub(crate) fn begin(&mut self, roots: usize, log: &[Event], task: TaskId, number: u32, env: Env)
+        requires lives { AreLives self.old roots log.now }
+        requires log { IsWellFormed roots log.now }
+        requires fits { CanNote roots log.now (Event.Begin task number env) }
+        ensures lives { AreLives self.new roots (log.now ++ Event.Begin task number env ∷ []) }
+        ensures spare { (n : ℕ) → HasSpare self.old n → HasSpare self.new n }
+    {
+        let place = task.0 as usize;
+        self.reserved = self.reserved - self.lives[place].room() + env.room;
+        self.lives[place].stage = Some(Stage::Begun(env));
+    }
+
+    /// Follows the log by the end of a turn, whose room is free.
+    pub(crate) fn apply(&mut self, roots: usize, log: &[Event], task: TaskId, number: u32)
+        requires lives { AreLives self.old roots log.now }
+        requires log { IsWellFormed roots log.now }
+        requires fits { CanNote roots log.now (Event.Apply task number) }
+        ensures lives { AreLives self.new roots (log.now ++ Event.Apply task number ∷ []) }
+        ensures spare { (n : ℕ) → HasSpare self.old n → HasSpare self.new n }
+    {
+        let place = task.0 as usize;
+        self.reserved -= self.lives[place].room();
+        self.lives[place].stage = Some(Stage::Applied);
+    }
+
+    /// Follows the log by a job that is made.
+    pub(crate) fn give(
+        &mut self,
+        roots: usize,
+        log: &[Event],
+        task: TaskId,
+        number: u32,
+        resume: Resume,
+    )
+        requires lives { AreLives self.old roots log.now }
+        requires log { IsWellFormed roots log.now }
+        requires fits { CanNote roots log.now (Event.Give task number resume) }
+        ensures lives { AreLives self.new roots (log.now ++ Event.Give task number resume ∷ []) }
+        ensures spare { (n : ℕ) → HasSpare self.old n → HasSpare self.new n }
+    {
+        let place = task.0 as usize;
+        self.reserved -= self.lives[place].room();
+        let life = &mut self.lives[place];
+        life.given = Some(Given { number, resume });
+        life.stage = Some(Stage::Given);
     }
 }

@@ -3,6 +3,8 @@
 
 ghost use Rattle.std.specs.Prelude.{◌≡◌, ℕ, ◌+◌, ◌^◌, ◌<◌, ◌∷◌, [], ◌++◌, length};
 ghost use Rattle.swift_events.specs.Relations.{own_tasks, waiters_of};
+ghost use Rattle.swift_ledger.specs.Ledgers.{CanNote};
+ghost use Rattle.swift_ledger.specs.WellFormed.{IsWellFormed};
 ghost use Rattle.swift_ledger.specs.Lists.{AreLists, HasSpare};
 ghost use Rattle.swift_ledger.specs.Relatives.{own_pair, waiter_pair};
 
@@ -55,8 +57,10 @@ fn waiter_pair(event: Event) -> Option<(TaskId, TaskId)>
 }
 
 /// Keeps the tasks that each task has spawned or detached, by one event.
-pub(crate) fn note_own(own: &mut Lists, log: &[Event], event: Event)
+pub(crate) fn note_own(own: &mut Lists, roots: usize, log: &[Event], event: Event)
     requires own { AreLists own.old (λ t. own_tasks t log.now) }
+    requires log { IsWellFormed roots log.now }
+    requires fits { CanNote roots log.now event }
     requires short { length log.now + 1 < 2 ^ 64 }
     requires spare { HasSpare own.old 1 }
     ensures own { AreLists own.new (λ t. own_tasks t (log.now ++ event ∷ [])) }
@@ -68,8 +72,10 @@ pub(crate) fn note_own(own: &mut Lists, log: &[Event], event: Event)
 }
 
 /// Keeps the tasks that have waited for each task, by one event.
-pub(crate) fn note_waiter(waiters: &mut Lists, log: &[Event], event: Event)
+pub(crate) fn note_waiter(waiters: &mut Lists, roots: usize, log: &[Event], event: Event)
     requires waiters { AreLists waiters.old (λ t. waiters_of t log.now) }
+    requires log { IsWellFormed roots log.now }
+    requires fits { CanNote roots log.now event }
     requires short { length log.now + 1 < 2 ^ 64 }
     requires spare { HasSpare waiters.old 1 }
     ensures waiters { AreLists waiters.new (λ t. waiters_of t (log.now ++ event ∷ [])) }

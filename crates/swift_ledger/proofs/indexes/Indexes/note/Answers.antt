@@ -40,7 +40,7 @@ note-requires-2-clause-groups c = c.requires.indexes.groups
 
 pub note-requires-2-clause-fits : goal.note-requires-2-clause-fits
 note-requires-2-clause-fits c =
-    fits-groups c.args.roots c.args.log.now c.args.event c.requires.log.beyond c.requires.fits
+    fits-groups c.args.roots c.args.log.now c.args.event c.requires.log c.requires.fits
 
 pub note-requires-2-clause-parent : goal.note-requires-2-clause-parent
 note-requires-2-clause-parent c = c.parent_in-parent.ensures
@@ -51,6 +51,12 @@ note-requires-2-clause-spare c = c.requires.spare.groups
 pub note_own-requires-clause-own : goal.note_own-requires-clause-own
 note_own-requires-clause-own c = c.requires.indexes.own
 
+pub note_own-requires-clause-log : goal.note_own-requires-clause-log
+note_own-requires-clause-log c = c.requires.log
+
+pub note_own-requires-clause-fits : goal.note_own-requires-clause-fits
+note_own-requires-clause-fits c = c.requires.fits
+
 pub note_own-requires-clause-short : goal.note_own-requires-clause-short
 note_own-requires-clause-short c = c.requires.short
 
@@ -59,6 +65,12 @@ note_own-requires-clause-spare c = c.requires.spare.own
 
 pub note_waiter-requires-clause-waiters : goal.note_waiter-requires-clause-waiters
 note_waiter-requires-clause-waiters c = c.requires.indexes.waiters
+
+pub note_waiter-requires-clause-log : goal.note_waiter-requires-clause-log
+note_waiter-requires-clause-log c = c.requires.log
+
+pub note_waiter-requires-clause-fits : goal.note_waiter-requires-clause-fits
+note_waiter-requires-clause-fits c = c.requires.fits
 
 pub note_waiter-requires-clause-short : goal.note_waiter-requires-clause-short
 note_waiter-requires-clause-short c = c.requires.short

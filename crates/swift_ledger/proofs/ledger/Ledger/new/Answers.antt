@@ -1,4 +1,4 @@
-use Rattle.std.proofs.Common.{List, subst, sym, arith}
+use Rattle.std.proofs.Common.{◌<◌, List, subst, sym, arith}
 use Rattle.swift_events.specs.declared.event.Event.{Event}
 use Rattle.swift_ledger.specs.WellFormed.{IsWellFormed}
 use Rattle.swift_ledger.specs.Indexes.{AreIndexes}
@@ -13,8 +13,8 @@ invariant_of-result c = record {
   indexes_room = record {
     lives = omega arith;
     flags = omega arith;
-    own = (omega arith, omega arith);
-    waiters = (omega arith, omega arith);
+    own = (λ (some : 0 < 0). absurd (omega (arith, some)), omega arith);
+    waiters = (λ (some : 0 < 0). absurd (omega (arith, some)), omega arith);
     waits = omega arith;
     groups = omega arith;
   };

@@ -8,7 +8,7 @@ use Rattle.swift_ledger.specs.WellFormed.{IsWellFormed}
 use Rattle.swift_ledger.specs.Indexes.{AreIndexes, HasSpare}
 use Rattle.swift_ledger.specs.LevelsInside.{KeepsLevels}
 use Rattle.swift_ledger.proofs.FormLemmas.{form_push, reserved_push}
-use Rattle.swift_ledger.proofs.ledger.Ledger.note.Goals as goal
+use Rattle.swift_ledger.proofs.ledger.Ledger.note_other.Goals as goal
 
 pub invariant_of-self : goal.invariant_of-self
 invariant_of-self c =

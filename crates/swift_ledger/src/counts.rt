@@ -1,0 +1,59 @@
+//! A count for each task, by the task's number.
+
+ghost use Rattle.std.specs.Prelude.{◌≡◌, ℕ, ◌<◌, ◌==◌, OnOk, if◌then◌else◌};
+ghost use Rattle.swift_types.specs.declared.limits.TheConstants.{TASKS};
+ghost use Rattle.swift_ledger.specs.Counts.{count_at, HasPlaces};
+
+use std::alloc::{AllocError, Global};
+use swift_types::TaskId;
+use swift_types::limits::TASKS;
+
+/// A count for each task that a run may have, 0 until it is set.
+#[derive(Drop)]
+pub(crate) struct Counts {
+    // Empty until room is made for the first time, then so long that each number of a task is in it.
+    counts: Vec<usize>,
+}
+
+impl Counts {
+    /// Each count is 0. Takes no memory.
+    pub(crate) fn new(alloc: Global) -> Counts
+        ensures { (t : ℕ) → count_at result t ≡ 0 }
+    {
+        Counts {
+            counts: Vec::new(alloc),
+        }
+    }
+
+    /// The count of a task.
+    pub(crate) fn get(&self, task: TaskId) -> usize
+        ensures { result ≡ count_at self.now task.0 }
+    {
+        match self.counts.get(task.0 as usize) {
+            Some(count) => *count,
+            None => 0,
+        }
+    }
+
+    /// Makes a place for each task. The counts stay as they are, also where there is no memory.
+    pub(crate) fn reserve(&mut self) -> Result<(), AllocError>
+        ensures same { (t : ℕ) → count_at self.new t ≡ count_at self.old t }
+        ensures places { HasPlaces self.old → HasPlaces self.new }
+        ensures ok { OnOk result (HasPlaces self.new) }
+    {
+        if self.counts.len() < TASKS {
+            self.counts.resize(TASKS, 0)?;
+        }
+        Ok(())
+    }
+
+    /// Sets the count of a task.
+    pub(crate) fn set(&mut self, task: TaskId, count: usize)
+        requires places { HasPlaces self.old }
+        requires known { task.0 < TASKS }
+        ensures updates { (t : ℕ) → count_at self.new t ≡ (if task.0 == t then count else count_at self.old t) }
+        ensures places { HasPlaces self.new }
+    {
+        self.counts[task.0 as usize] = count;
+    }
+}
