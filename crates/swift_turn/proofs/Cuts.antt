@@ -1,5 +1,5 @@
 -- Bindings that are dropped again.
-use Rattle.std.proofs.Common.{◌≡◌, ℕ, ◌+◌, ◌-◌, ◌≤◌, List, ◌++◌, length, drop, arith, length-append, sym, ap, ◌∙◌, subst}
+use Rattle.std.proofs.Common.{◌≡◌, ◌-◌, ◌≤◌, List, ◌++◌, length, drop, arith, length-append, ap, ◌∙◌}
 use Rattle.std.proofs.Math.Seq.{drop-append_seam}
 
 -- what stands behind others is at most as long as all

@@ -1,5 +1,5 @@
 -- What callers see of a body, and what its calls do to it (SE-0304 for tasks, SE-0306 for calls, SE-0311 for bindings).
-use Rattle.std.specs.Prelude.{◌≡◌, ℕ, ◌+◌, ◌-◌, ◌<◌, nat_lt, if◌then◌else◌, ◌++◌, drop, replicate, ℤ, pos, Bool, true, Option, Some, None, List, [], ◌∷◌, length}
+use Rattle.std.specs.Prelude.{◌≡◌, ℕ, ◌-◌, ◌<◌, nat_lt, if◌then◌else◌, ◌++◌, drop, replicate, ℤ, pos, Bool, true, Option, Some, None, List, [], ◌∷◌, length}
 use Rattle.futures.specs.declared.task.Poll.{Poll}
 use Rattle.futures.specs.declared.task.Poll.TheVariants.{Ready, Pending}
 use Rattle.swift_types.specs.declared.limits.TheConstants.{FRAMES, STEPS}
@@ -10,6 +10,7 @@ use Rattle.swift_types.specs.declared.outcome.Resume.{Resume}
 use Rattle.swift_types.specs.declared.outcome.Resume.TheVariants.{Start, Go, Value as GivenValue, Fault as Raise}
 use Rattle.script_code.specs.declared.env.Env.{Env}
 use Rattle.script_code.specs.Layout.{code_at}
+use Rattle.script_code.specs.Tree.{Term}
 use Rattle.swift_script.specs.Scripts.{ScriptView, method_actor, method_code, method_count, method_numbers, method_handles, actor_executor, executor_invariants}
 use Rattle.swift_interpreter.specs.Frames.{FrameView, state_in}
 use Rattle.swift_interpreter.specs.Turn.{InvocationView, EffectView, ExitView, calling, waiting, asking_next, closing, yielding, returning, failing, State, Played, kept}
@@ -45,11 +46,15 @@ pub record BodyView : Type 0 where
 abbrev pub state_at : ScriptView → FrameView → List (List ℤ) → List EffectView → ℕ → State
 state_at script p = state_in (code_at (method_code script p.method)) p
 
+-- the invariants of the actors that run on the executor of a frame's actor
+abbrev pub invariants_at : ScriptView → FrameView → List Term
+invariants_at script p = executor_invariants script (actor_executor script (method_actor script p.method))
+
 -- the kept turn of a frame, by the bindings that stood when it began, the fields of its executor's actors, its resume and
 -- its environment
 abbrev pub kept_turn : ScriptView → FrameView → List (ℕ × ℤ) → List (List ℤ) → Resume → Env → Played
 kept_turn script p outer fields resume env =
-    kept (record { outer = outer; env = env }) STEPS (executor_invariants script (actor_executor script (method_actor script p.method))) (state_at script p fields [] env.room) resume
+    kept (record { outer = outer; env = env }) STEPS (invariants_at script p) (state_at script p fields [] env.room) resume
 
 -- After the poll of a turn the frame that runs and the phase are those of its kept turn; out of memory, the frame is as
 -- before and the fields are handed back.

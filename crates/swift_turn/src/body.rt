@@ -1,6 +1,6 @@
 //! A task's frames, as a future.
 
-ghost use Rattle.std.specs.Prelude.{◌≡◌, ◌+◌, ◌<◌, ◌⊎◌, ◌↔◌, ◌∷◌, true, false, [], IsTrue, IfOk, OnOk, IfErr, OnErr, Some, length};
+ghost use Rattle.std.specs.Prelude.{◌≡◌, ℕ, ◌+◌, ◌<◌, ◌≤◌, ◌⊎◌, ◌↔◌, ◌∷◌, true, false, [], IsTrue, IfOk, OnOk, IfErr, OnErr, None, Some, is_some, length};
 ghost use Rattle.std.specs.Arc.{arc_value};
 ghost use Rattle.futures.specs.Poll.{IfReady, OnPending};
 ghost use Rattle.futures.specs.Task.{Covers, Keeps};
@@ -9,9 +9,10 @@ ghost use Rattle.swift_script.specs.Scripts.{method_actor, method_count};
 ghost use Rattle.swift_interpreter.specs.Frames.{effect_views, frame_view, invocation_view};
 ghost use Rattle.swift_interpreter.specs.TurnStates.{exit_view};
 ghost use Rattle.swift_interpreter.specs.Turn.{calling};
-ghost use Rattle.swift_turn.specs.Body.{AdvancesTo, BeginsFrame, BeginsToWait, CanAdvance, GoesOn, Hands, IfRunning, IsPolled, IsRunning, KeepsSlot, Polls, Registers, WaitsIn, Resumes, answer_of, at_rest, callers_of, ending_if, ends_with, entered, idle, kept_turn, opening, out_of_memory, state_at};
+ghost use Rattle.swift_turn.specs.Body.{AdvancesTo, BeginsFrame, BeginsToWait, CanAdvance, GoesOn, Hands, IfRunning, IsPolled, IsRunning, KeepsSlot, Polls, Registers, WaitsIn, Resumes, answer_of, at_rest, callers_of, ending_if, ends_with, entered, idle, invariants_at, kept_turn, left, opening, out_of_memory, poll_of, state_at};
+ghost use Rattle.swift_undo.specs.Rows.{AreSpared};
 
-use crate::opening::{callee_of, copy_of, opening_of};
+use crate::opening::{copy_of, opening_of};
 use crate::outer::{begin_over, unbind_all};
 use crate::phase::Phase;
 use crate::stack::Stack;
@@ -28,7 +29,7 @@ use swift_locals::Bindings;
 use swift_script::Script;
 use swift_types::limits::{FRAMES, STEPS};
 use swift_types::{ActorId, Ending, Fault, MethodId, Resume};
-use swift_undo::{Undo, play_kept};
+use swift_undo::{Undo, play_kept_from};
 
 /// A task: its script, its frames, the bindings that stand in it, and the turn that is under way (SE-0304). A turn is
 /// entered with the fields of the actors of its executor, polled once, and left; then `advance` says what comes next.
@@ -159,11 +160,7 @@ impl Future for Body {
             return cx.yield_now();
         };
         inside.waker = None;
-        match last_ending(&inside.callers, exit) {
-            Some(ending) => Poll::Ready(ending),
-            None if waits(exit) => cx.register(&inside.source, &mut inside.waker),
-            None => cx.yield_now(),
-        }
+        answer(cx, &inside.callers, &inside.source, &mut inside.waker, exit)
     }
 }
 
@@ -188,22 +185,49 @@ fn waits(exit: &Exit) -> bool
     matches!(exit, Exit::Wait(_) | Exit::Next(_) | Exit::Close(_, _))
 }
 
-// The kept turn of a frame of a script.
+// What a poll answers after a turn that ended so, whose slot is empty: a turn that waits leaves a waker there, and any
+// other that does not end the task asks for the next poll.
+fn answer(
+    cx: &mut Context<'_>,
+    callers: &Stack,
+    source: &Source,
+    waker: &mut Option<Waker>,
+    exit: &Exit,
+) -> Poll<Ending>
+    requires { waker.old ≡ None }
+    ensures answer { result ≡ poll_of (ending_if callers.now (exit_view exit.now)) }
+    ensures registered { OnPending result (Covers cx.new (λ s. Registers (exit_view exit.now) × (s ≡ source.now.id))) }
+    ensures kept { Keeps cx.old cx.new }
+    ensures waits { Registers (exit_view exit.now) → (cx.new.lacks_waker ≡ true) ⊎ (is_some waker.new ≡ true) }
+    ensures yields { OnPending result ((Registers (exit_view exit.now) → ⊥) → cx.new.is_woken ≡ true) }
+    ensures slot { is_some waker.new ≡ true → Registers (exit_view exit.now) }
+{
+    match last_ending(callers, exit) {
+        Some(ending) => Poll::Ready(ending),
+        None if waits(exit) => cx.register(source, waker),
+        None => cx.yield_now(),
+    }
+}
+
+// The kept turn of a frame of a script. `rows` has the rows of those invariants that are tested only where the turn sets their row.
 fn play(
     alloc: Global,
     script: &Script,
+    rows: &[u32],
     outer: &Bindings,
     turn: &mut TurnState,
     undo: &mut Undo,
     resume: Resume,
     env: &Env,
 ) -> Result<Exit, AllocError>
-    requires { turn.old.frame.method.0 < method_count script.now }
+    requires method { turn.old.frame.method.0 < method_count script.now }
+    requires spared { AreSpared rows.now (invariants_at script.now (frame_view turn.old.frame)) (rows_of turn.old.fields.items) }
     ensures kept { IfOk result (λ exit. let k = kept_turn script.now (frame_view turn.old.frame) outer.now (rows_of turn.old.fields.items) resume env.now in
         record { state = state_at script.now (frame_view turn.new.frame) (rows_of turn.new.fields.items) (effect_views turn.new.effects.items) k.state.room; exit = exit_view exit } ≡ k) }
     ensures frame { OnErr result (frame_view turn.new.frame ≡ frame_view turn.old.frame) }
     ensures fields { OnErr result (rows_of turn.new.fields.items ≡ rows_of turn.old.fields.items) }
     ensures method { turn.new.frame.method ≡ turn.old.frame.method }
+    ensures before { OnOk result (frame_view undo.new.frame ≡ frame_view turn.old.frame) }
 {
     let method = turn.frame.method;
     let executor = script.actor_executor(script.method_actor(method));
@@ -213,7 +237,7 @@ fn play(
         outer,
         env,
     };
-    play_kept(alloc, given, turn, undo, resume, STEPS)
+    play_kept_from(alloc, given, rows, turn, undo, resume, STEPS)
 }
 
 impl Body {
@@ -327,6 +351,23 @@ impl Body {
         }
     }
 
+    /// Follows an exit as `advance` does, and takes it: the arguments of a call become the variables of the frame that it
+    /// begins, with no copy. After an error the exit is gone too.
+    pub fn advance_with(&mut self, exit: Exit) -> Result<Step, AllocError>
+        requires running { IsRunning self.old }
+        requires call { CanAdvance self.old.script (exit_view exit) }
+        ensures ok { IfOk result (λ step. AdvancesTo self.old.script self.old.task.frames self.old.task.outer (exit_view exit) (record { task = self.new.task; step = step })) }
+        ensures rest { self.new ≡ record self.old { task = self.new.task } }
+        ensures running { IfOk result (λ step. GoesOn step → IsRunning self.new) }
+        ensures err { OnErr result (self.new ≡ self.old) }
+        ensures memory { OnErr result (BeginsFrame self.old.task.frames (exit_view exit)) }
+    {
+        match exit {
+            Exit::Call(invocation) => self.call_with(invocation),
+            other => self.advance(&other),
+        }
+    }
+
     /// Whether the task has not ended. What asks for a frame that runs can be called where it has not: all but `poll`
     /// and `leave`.
     pub fn is_running(&self) -> bool
@@ -426,6 +467,7 @@ impl Body {
         let played = play(
             inside.alloc,
             &inside.script,
+            &[],
             &inside.outer,
             &mut inside.turn,
             &mut inside.undo,
@@ -438,6 +480,70 @@ impl Body {
         };
     }
 
+    // Plays a turn of the frame that runs on these fields in place, and polls as `poll` does. The frame from before it and its
+    // effects go into buffers of the caller's.
+    pub(crate) fn play_in_place(
+        &mut self,
+        cx: &mut Context<'_>,
+        rows: &[u32],
+        fields: &mut Vec<Vec<i64>>,
+        resume: Resume,
+        env: Env,
+        before: &mut Frame,
+        effects: &mut Vec<Effect>,
+    ) -> Result<Exit, AllocError>
+        requires running { IsRunning self.old }
+        requires spared { IfRunning self.old.task.frames (λ p. AreSpared rows.now (invariants_at self.old.script p) (rows_of fields.old.items)) }
+        ensures turn { IfOk result (λ exit. Polls self.old.script self.old.task.outer self.old.task.frames (entered (rows_of fields.old.items) resume env)
+            self.new.task.frames (left (rows_of fields.new.items) (effect_views effects.new.items) (exit_view exit))) }
+        ensures before { OnOk result (IfRunning self.old.task.frames (λ p. p ≡ frame_view before.new)) }
+        ensures method { OnOk result (before.new.method.0 < method_count self.old.script) }
+        ensures rest { OnOk result (self.new ≡ record self.old { task = record self.old.task { frames = self.new.task.frames }; phase = idle; armed = self.new.armed }) }
+        ensures waits { IfOk result (λ exit. Registers (exit_view exit) → (cx.new.lacks_waker ≡ true) ⊎ (self.new.armed ≡ true)) }
+        ensures yields { IfOk result (λ exit. ending_if (callers_of self.old.task.frames) (exit_view exit) ≡ None → (Registers (exit_view exit) → ⊥) → cx.new.is_woken ≡ true) }
+        ensures slot { IfOk result (λ exit. self.new.armed ≡ true → Registers (exit_view exit)) }
+        ensures err { OnErr result (self.new ≡ at_rest self.old) }
+        ensures back { OnErr result (rows_of fields.new.items ≡ rows_of fields.old.items) }
+        ensures kept { Keeps cx.old cx.new }
+    {
+        let inside = &mut *self.inside;
+        inside.phase = Phase::Idle;
+        mem::swap(&mut inside.turn.fields, fields);
+        mem::swap(&mut inside.turn.effects, effects);
+        let played = play(
+            inside.alloc,
+            &inside.script,
+            rows,
+            &inside.outer,
+            &mut inside.turn,
+            &mut inside.undo,
+            resume,
+            &env,
+        );
+        mem::swap(&mut inside.turn.fields, fields);
+        mem::swap(&mut inside.turn.effects, effects);
+        let exit = played?;
+        inside.undo.swap_frame(before);
+        inside.waker = None;
+        let _ = answer(
+            cx,
+            &inside.callers,
+            &inside.source,
+            &mut inside.waker,
+            &exit,
+        );
+        Ok(exit)
+    }
+
+    // Whether a call begins no frame.
+    fn is_full(&self) -> bool
+        requires { IsRunning self.now }
+        ensures { IsTrue result ↔ (FRAMES ≤ length self.now.task.frames) }
+    {
+        self.inside.callers.len() >= FRAMES - 1
+    }
+
+    // A call that is copied.
     fn call(&mut self, invocation: &Invocation) -> Result<Step, AllocError>
         requires running { IsRunning self.old }
         requires call { invocation.now.method.0 < method_count self.old.script }
@@ -447,18 +553,61 @@ impl Body {
         ensures err { OnErr result (self.new ≡ self.old) }
         ensures memory { OnErr result (length self.old.task.frames < FRAMES) }
     {
-        if self.inside.callers.len() >= FRAMES - 1 {
+        if self.is_full() {
             return Ok(Step::Run(self.actor(), Resume::Fault(Fault::Depth)));
         }
+        let args = invocation.args.to_vec(self.inside.alloc)?;
+        self.begin(invocation.method, args)
+    }
+
+    // A call whose arguments become variables.
+    fn call_with(&mut self, invocation: Invocation) -> Result<Step, AllocError>
+        requires running { IsRunning self.old }
+        requires call { invocation.method.0 < method_count self.old.script }
+        ensures ok { IfOk result (λ step. AdvancesTo self.old.script self.old.task.frames self.old.task.outer (calling (invocation_view invocation)) (record { task = self.new.task; step = step })) }
+        ensures rest { self.new ≡ record self.old { task = self.new.task } }
+        ensures running { OnOk result (IsRunning self.new) }
+        ensures err { OnErr result (self.new ≡ self.old) }
+        ensures memory { OnErr result (length self.old.task.frames < FRAMES) }
+    {
+        if self.is_full() {
+            return Ok(Step::Run(self.actor(), Resume::Fault(Fault::Depth)));
+        }
+        let Invocation {
+            actor: _,
+            method,
+            args,
+        } = invocation;
+        self.begin(method, args)
+    }
+
+    // A frame for a method begins, for which there is room.
+    fn begin(&mut self, method: MethodId, args: Vec<i64>) -> Result<Step, AllocError>
+        requires running { IsRunning self.old }
+        requires method { method.0 < method_count self.old.script }
+        requires room { length self.old.task.frames < FRAMES }
+        ensures ok { IfOk result (λ step. (actor : ℕ) → AdvancesTo self.old.script self.old.task.frames self.old.task.outer (calling (record { actor = actor; method = method.0; args = args.items })) (record { task = self.new.task; step = step })) }
+        ensures rest { self.new ≡ record self.old { task = self.new.task } }
+        ensures running { OnOk result (IsRunning self.new) }
+        ensures err { OnErr result (self.new ≡ self.old) }
+    {
         let inside = &mut *self.inside;
-        let callee = callee_of(inside.alloc, &inside.script, invocation, &inside.turn.frame)?;
+        let caller = &inside.turn.frame;
+        let callee = opening_of(
+            inside.alloc,
+            &inside.script,
+            method,
+            args,
+            caller.made,
+            caller.opened,
+        )?;
         begin_over(
             &mut inside.callers,
             &mut inside.turn.frame,
             &mut inside.outer,
             callee,
         )?;
-        Ok(Step::Run(inside.script.method_actor(invocation.method), Resume::Start))
+        Ok(Step::Run(inside.script.method_actor(method), Resume::Start))
     }
 
     fn resume_caller(&mut self, resume: Resume, ending: Ending) -> Step

@@ -6,7 +6,7 @@ ghost use Rattle.swift_interpreter.specs.Frames.{frame_view};
 ghost use Rattle.swift_turn.specs.Body.{opening, padded};
 
 use std::alloc::{AllocError, Global};
-use swift_interpreter::{Frame, Invocation};
+use swift_interpreter::Frame;
 use swift_script::Script;
 use swift_types::MethodId;
 
@@ -48,28 +48,6 @@ fn variables_of(args: Vec<i64>, numbers: usize) -> Result<Vec<i64>, AllocError>
         variables.resize(numbers, 0)?;
     }
     Ok(variables)
-}
-
-// The frame that a call begins.
-pub fn callee_of(
-    alloc: Global,
-    script: &Script,
-    invocation: &Invocation,
-    caller: &Frame,
-) -> Result<Frame, AllocError>
-    requires { invocation.now.method.0 < method_count script.now }
-    ensures parts { IfOk result (λ f. frame_view f ≡ opening script.now invocation.now.method.0 invocation.now.args.items caller.now.made caller.now.opened) }
-    ensures method { IfOk result (λ f. f.method ≡ invocation.now.method) }
-{
-    let args = invocation.args.to_vec(alloc)?;
-    opening_of(
-        alloc,
-        script,
-        invocation.method,
-        args,
-        caller.made,
-        caller.opened,
-    )
 }
 
 // The same frame again.

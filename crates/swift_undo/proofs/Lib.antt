@@ -1,2 +1,4 @@
 pub mod Keeping
 pub mod KeptTurns
+pub mod Spared
+pub mod ReadRows

@@ -1,17 +1,20 @@
 //! A whole turn, and what is kept of it.
 
-ghost use Rattle.std.specs.Prelude.{◌≡◌, ℕ, IfOk, OnErr};
+ghost use Rattle.std.specs.Prelude.{◌≡◌, ℕ, true, false, drop, IfOk, OnErr, OnOk, Some};
 ghost use Rattle.swift_interpreter.specs.Frames.{frame_view};
 ghost use Rattle.swift_interpreter.specs.Turn.{all_hold as all_hold_in, kept, undoes as undoes_turn};
 ghost use Rattle.swift_interpreter.specs.TurnStates.{beginning, exit_view, given_of, played_of, state_of};
 ghost use Rattle.script_code.specs.Instructions.{Follows};
 ghost use Rattle.script_code.specs.Seen.{rows_of};
-ghost use Rattle.script_code.specs.Tree.{Code, terms_of};
+ghost use Rattle.script_code.specs.Tree.{Code, term_of, terms_of};
+ghost use Rattle.script_code.specs.Value.{holds as it_holds};
+ghost use Rattle.swift_undo.specs.Rows.{AreSpared};
+ghost use Rattle.swift_undo.specs.RowsInside.{OthersHold, is_tested};
 
 use crate::undo::Undo;
 use script_code::{Formula, holds};
 use std::alloc::{AllocError, Global};
-use swift_interpreter::{Exit, Given, TurnState, leave_frame, play_whole};
+use swift_interpreter::{Exit, Given, SavedRows, TurnState, leave_frame, play_whole};
 use swift_types::{Fault, Resume};
 
 /// Plays the turn of a frame that begins with a resume, of at most `limit` steps, and leaves in `turn` what is kept of
@@ -22,10 +25,12 @@ use swift_types::{Fault, Resume};
 /// of the executor's actors false, with the fault `invariant`: all is as before it, has no effects, and the frame is left
 /// with that fault. Where the instructions stand for statements, what is kept is that of the statements.
 ///
+/// What undoes the turn then holds the frame from before it (`Undo::swap_frame`), whether the turn was undone or not.
+///
 /// Where memory runs out, the frame and the fields are as before.
 ///
-/// It costs the steps, a copy of the frame, a copy of each row of fields that it changes, and all invariants. It takes
-/// memory only where a list grows.
+/// It costs the steps, a copy of the frame (two where the turn is undone), a copy of each row of fields that it changes,
+/// and all invariants. It takes memory only where a list grows.
 pub fn play_kept(
     alloc: Global,
     given: Given<'_>,
@@ -40,6 +45,31 @@ pub fn play_kept(
     ensures frame { OnErr result (frame_view turn.new.frame ≡ frame_view turn.old.frame) }
     ensures fields { OnErr result (rows_of turn.new.fields.items ≡ rows_of turn.old.fields.items) }
     ensures method { turn.new.frame.method ≡ turn.old.frame.method }
+    ensures before { OnOk result (frame_view undo.new.frame ≡ frame_view turn.old.frame) }
+{
+    play_kept_from(alloc, given, &[], turn, undo, resume, limit)
+}
+
+/// Plays the same turn, and tests only those invariants that it can have made false: of the first ones, beside each of which `rows`
+/// has the row that it reads (`rows_of_invariants`), and which hold before the turn, those whose row the turn has set; and the others.
+/// In place of all invariants it costs those, and for each other one a look at the rows that were set.
+pub fn play_kept_from(
+    alloc: Global,
+    given: Given<'_>,
+    rows: &[u32],
+    turn: &mut TurnState,
+    undo: &mut Undo,
+    resume: Resume,
+    limit: u32,
+) -> Result<Exit, AllocError>
+    requires { AreSpared rows.now (terms_of given.invariants.now) (rows_of turn.old.fields.items) }
+    ensures kept { IfOk result (λ exit. (code : Code) → (at : ℕ → Code) → Follows given.entry.instructions.now code at
+        → played_of (state_of at turn.new) exit
+        ≡ kept (given_of given.entry) limit (terms_of given.entry.invariants.now) (beginning at given.entry.env.now turn.old) resume) }
+    ensures frame { OnErr result (frame_view turn.new.frame ≡ frame_view turn.old.frame) }
+    ensures fields { OnErr result (rows_of turn.new.fields.items ≡ rows_of turn.old.fields.items) }
+    ensures method { turn.new.frame.method ≡ turn.old.frame.method }
+    ensures before { OnOk result (frame_view undo.new.frame ≡ frame_view turn.old.frame) }
 {
     let room = given.env.room;
     undo.begin(turn, room)?;
@@ -48,26 +78,50 @@ pub fn play_kept(
         return Err(AllocError);
     };
     if undoes(&exit) {
-        undo.put_back(turn, room);
-        return Ok(leave_frame(turn, exit));
+        return undo.leave(turn, room, exit);
     }
-    if !all_hold(alloc, given.invariants, &turn.fields) {
-        undo.put_back(turn, room);
-        return Ok(leave_frame(turn, Exit::Fault(Fault::Invariant)));
+    if !all_hold(alloc, given.invariants, rows, &undo.saved, &turn.fields) {
+        return undo.leave(turn, room, Exit::Fault(Fault::Invariant));
     }
     Ok(leave_frame(turn, exit))
 }
 
-// Whether each of the invariants holds.
-fn all_hold(alloc: Global, invariants: &[Formula], fields: &[Vec<i64>]) -> bool
+// Whether each of the invariants holds, as each does that is not tested.
+fn all_hold(
+    alloc: Global,
+    invariants: &[Formula],
+    rows: &[u32],
+    saved: &SavedRows,
+    fields: &[Vec<i64>],
+) -> bool
+    requires { OthersHold (terms_of invariants.now) rows.now saved.now (rows_of fields.now) }
     ensures { result ≡ all_hold_in (terms_of invariants.now) (rows_of fields.now) }
 {
-    for invariant in invariants {
-        if !holds(alloc, Some(invariant), fields) {
+    for (place, invariant) in invariants.iter().enumerate() {
+        let tested = must_test(rows, place, saved);
+        if !still_holds(alloc, invariant, tested, fields) {
             return false;
         }
     }
     true
+}
+
+// Whether the invariant at a place is tested: its row was saved, or none stands beside it.
+fn must_test(rows: &[u32], place: usize, saved: &SavedRows) -> bool
+    ensures { result ≡ is_tested (drop place rows.now) saved.now }
+{
+    match rows.get(place) {
+        Some(row) => saved.has(*row),
+        None => true,
+    }
+}
+
+// Whether an invariant holds, as it does if it is not tested.
+fn still_holds(alloc: Global, invariant: &Formula, tested: bool, fields: &[Vec<i64>]) -> bool
+    requires { tested ≡ false → it_holds (Some (term_of invariant.now)) (rows_of fields.now) ≡ true }
+    ensures { result ≡ it_holds (Some (term_of invariant.now)) (rows_of fields.now) }
+{
+    !tested || holds(alloc, Some(invariant), fields)
 }
 
 // Whether an exit undoes its turn.

@@ -3,7 +3,9 @@
 
 mod kept;
 pub mod laws;
+mod rows;
 mod undo;
 
-pub use kept::play_kept;
+pub use kept::{play_kept, play_kept_from};
+pub use rows::rows_of_invariants;
 pub use undo::Undo;

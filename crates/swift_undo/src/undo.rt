@@ -1,16 +1,17 @@
 //! Undoing a turn.
 
-ghost use Rattle.std.specs.Prelude.{◌≡◌, ◌≤◌, [], OnOk, vec_capacity, vec_len};
+ghost use Rattle.std.specs.Prelude.{◌≡◌, ◌≤◌, [], IfOk, OnErr, OnOk, vec_capacity, vec_len};
 ghost use Rattle.swift_interpreter.specs.Frames.{blank_frame, frame_view, state_in};
-ghost use Rattle.swift_interpreter.specs.TurnStates.{fields_before, state_of};
+ghost use Rattle.swift_interpreter.specs.Turn.{exits};
+ghost use Rattle.swift_interpreter.specs.TurnStates.{exit_view, fields_before, played_of, state_of};
 ghost use Rattle.script_code.specs.Seen.{rows_of};
 
 use std::alloc::{AllocError, Global};
 use std::mem;
-use swift_interpreter::{Frame, SavedRows, TurnState};
+use swift_interpreter::{Exit, Frame, SavedRows, TurnState, leave_frame};
 
 /// What undoes a turn: a copy of its frame, and the rows of fields that it has changed (our own). It may serve any
-/// turn, and its buffers are used again from one to the next.
+/// turn, and its buffers are used again from one to the next. After a turn the copy is still there, and can be taken.
 pub struct Undo {
     pub(crate) frame: Frame,
     pub(crate) saved: SavedRows,
@@ -83,5 +84,34 @@ impl Undo {
         self.saved.put_back(&mut turn.fields);
         turn.effects.clear();
         turn.room = room;
+    }
+
+    /// Gives the frame that it holds, and keeps another for its buffers. It costs nothing. It may be called between turns only.
+    pub fn swap_frame(&mut self, frame: &mut Frame)
+        ensures given { frame.new ≡ self.old.frame }
+        ensures taken { self.new.frame ≡ frame.old }
+        ensures saved { self.new.saved ≡ self.old.saved }
+    {
+        mem::swap(&mut self.frame, frame);
+    }
+
+    // The turn under way is undone, and its frame is left as the exit says. The frame from before it is still held. After
+    // an error the frame is not left.
+    pub(crate) fn leave(
+        &mut self,
+        turn: &mut TurnState,
+        room: u32,
+        exit: Exit,
+    ) -> Result<Exit, AllocError>
+        ensures left { IfOk result (λ last. (at : _) → played_of (state_of at turn.new) last
+            ≡ exits (state_in at (frame_view self.old.frame) (fields_before self.old.saved turn.old) [] room) (exit_view exit)) }
+        ensures before { OnOk result (frame_view self.new.frame ≡ frame_view self.old.frame) }
+        ensures frame { OnErr result (frame_view turn.new.frame ≡ frame_view self.old.frame) }
+        ensures fields { OnErr result (rows_of turn.new.fields.items ≡ fields_before self.old.saved turn.old) }
+        ensures method { turn.new.frame.method ≡ self.old.frame.method }
+    {
+        self.put_back(turn, room);
+        self.frame.copy_from(&turn.frame)?;
+        Ok(leave_frame(turn, exit))
     }
 }

@@ -1,0 +1,103 @@
+-- Invariants whose rows have not changed still hold.
+use Rattle.std.proofs.Common.{◌≡◌, ℕ, zero, suc, ◌+◌, ◌<◌, ℤ, Bool, true, false, if◌then◌else◌, Option, Some, None, List, [], ◌∷◌, ◌==◌, length, drop, set, get_or, refl, sym, ap, subst, ◌∙◌, inl, inr, arith}
+use Rattle.std.specs.Prelude.{neg_ℤ, slice_get}
+use Rattle.std.proofs.lemmas.Bool.{cases_eq, cond-false, ne_eqb, eq-eqb, eqb-true}
+use Rattle.std.proofs.lemmas.List.{get_or-set_other, drop_more, drop-drop}
+use Rattle.std.proofs.Math.Seq.{drop-nil}
+use Rattle.std.proofs.lemmas.Option.{unwrap_or-slice_get}
+use Rattle.script_code.specs.Tree.{Term, number, variable, field, local, priority, cancelled, opposite, denial, binary, term_of, terms_of}
+use Rattle.script_code.specs.Value.{ev, and_then, within, flag, is_zero, is_met, number_at, joined, only_fields, holds}
+use Rattle.script_code.specs.declared.formula.Formula.{Formula}
+use Rattle.swift_interpreter.specs.Saved.{restored, is_saved}
+use Rattle.swift_interpreter.specs.Turn.{all_hold}
+use Rattle.swift_undo.specs.Laws.{AllHold}
+use Rattle.swift_undo.specs.Rows.{reads_only, AreSpared, HaveRows}
+use Rattle.swift_undo.specs.RowsInside.{is_tested, other_rows, OthersHold}
+
+-- a row that was not saved is as before
+row_stays : (saved : List (ℕ × List ℤ)) (fields : List (List ℤ)) (row : ℕ) → is_saved saved row ≡ false → get_or (restored saved fields) row [] ≡ get_or fields row []
+row_stays [] fields row h = refl
+row_stays (p ∷ older) fields row h = elim (cases_eq p.0 row) [
+  | inl same ↦
+      let is : (if p.0 == row then true else is_saved older row) ≡ true = ap (λ (b : Bool). if b then true else is_saved older row) (eq-eqb p.0 row same) in
+      let never : true ≡ false = sym is ∙ h in
+      absurd (cc)
+  | inr other ↦
+      let further : is_saved older row ≡ false = sym (cond-false (p.0 == row) true (is_saved older row) (ne_eqb p.0 row other)) ∙ h in
+      row_stays older (set fields p.0 p.1) row further ∙ get_or-set_other fields p.0 row p.1 [] (λ e. other (sym e))
+]
+
+both : (x y : Bool) → (if x then y else false) ≡ true → (x ≡ true) × (y ≡ true)
+both true y h = (refl, h)
+both false y h = absurd (cc)
+
+-- an expression that reads one row alone has the same value where that row is the same
+reads_same : (t : Term) (row : ℕ) (f f' : List (List ℤ)) → reads_only row t ≡ true → get_or f row [] ≡ get_or f' row [] → ev t (only_fields f) ≡ ev t (only_fields f')
+reads_same (number n) row f f' reads same = refl
+reads_same (variable x) row f f' reads same = refl
+reads_same (field p) row f f' reads same =
+    let at : get_or f p.actor [] ≡ get_or f' p.actor [] = subst (λ (k : ℕ). get_or f k [] ≡ get_or f' k []) (sym (eqb-true p.actor row reads)) same in
+    ap (λ (xs : List ℤ). Some (number_at xs p.field)) (unwrap_or-slice_get f p.actor [] ∙ (at ∙ sym (unwrap_or-slice_get f' p.actor [])))
+reads_same (local l d) row f f' reads same = refl
+reads_same priority row f f' reads same = refl
+reads_same cancelled row f f' reads same = refl
+reads_same (opposite t) row f f' reads same = ap (λ (v : Option ℤ). and_then v (λ x. within (neg_ℤ x))) (reads_same t row f f' reads same)
+reads_same (denial t) row f f' reads same = ap (λ (v : Option ℤ). and_then v (λ x. Some (flag (is_zero x)))) (reads_same t row f f' reads same)
+reads_same (binary op a b) row f f' reads same =
+    let parts = both (reads_only row a) (reads_only row b) reads in
+    ap (λ (v : Option ℤ). and_then v (λ x. joined op x (ev b (only_fields f)))) (reads_same a row f f' parts.0 same)
+    ∙ ap (λ (v : Option ℤ). and_then (ev a (only_fields f')) (λ x. joined op x v)) (reads_same b row f f' parts.1 same)
+
+-- an invariant that is not tested after a turn holds, since it did before
+pub others_hold : (invariants : List Term) (rows : List ℕ) (saved : List (ℕ × List ℤ)) (fields before : List (List ℤ)) → restored saved fields ≡ before → AreSpared rows invariants before → OthersHold invariants rows saved fields
+others_hold [] rows saved fields before is spared = tt
+others_hold (t ∷ ts) [] saved fields before is spared = ((λ never. absurd (cc)), others_hold ts [] saved fields before is tt)
+others_hold (t ∷ ts) (row ∷ rows) saved fields before is spared = (
+  (λ unsaved.
+      let stays : get_or fields row [] ≡ get_or before row [] = sym (row_stays saved fields row unsaved) ∙ ap (λ (f : List (List ℤ)). get_or f row []) is in
+      ap is_met (reads_same t row fields before spared.0.0 stays) ∙ spared.0.1),
+  others_hold ts rows saved fields before is spared.1,
+)
+
+-- where all hold, those that have rows may be spared
+pub spared : (rows : List ℕ) (invariants : List Term) (fields : List (List ℤ)) → HaveRows rows invariants → AllHold invariants fields → AreSpared rows invariants fields
+spared [] ts fields have all = tt
+spared (row ∷ rows) [] fields have all = tt
+spared (row ∷ rows) (t ∷ ts) fields have all =
+    ((have.0, all t (0, (omega arith), refl)), spared rows ts fields have.1 (λ u is. all u (suc is.0, (omega (arith, is.1)), is.2)))
+
+-- the first of the invariants that are left
+pub others_here : (xs : List Formula) (i : ℕ) (x : Formula) (rows : List ℕ) (saved : List (ℕ × List ℤ)) (fields : List (List ℤ)) → i < length xs → x ≡ get_or xs i x
+    → OthersHold (terms_of (drop i xs)) rows saved fields → OthersHold (term_of x ∷ terms_of (drop (i + 1) xs)) rows saved fields
+others_here xs i x rows saved fields within is hold =
+    subst (λ (ys : List Formula). OthersHold (terms_of ys) rows saved fields) (drop_more xs i x within ∙ ap (λ (y : Formula). y ∷ drop (i + 1) xs) (sym is)) hold
+
+other_is : (rows : List ℕ) → other_rows rows ≡ drop 1 rows
+other_is [] = refl
+other_is (row ∷ rows) = refl
+
+other_rows-drop : (rows : List ℕ) (i : ℕ) → other_rows (drop i rows) ≡ drop (i + 1) rows
+other_rows-drop rows i = other_is (drop i rows) ∙ drop-drop 1 i rows
+
+-- and those after it
+pub others_after : (xs : List Formula) (i : ℕ) (x : Formula) (rows : List ℕ) (saved : List (ℕ × List ℤ)) (fields : List (List ℤ)) → i < length xs → x ≡ get_or xs i x
+    → OthersHold (terms_of (drop i xs)) (drop i rows) saved fields → OthersHold (terms_of (drop (i + 1) xs)) (drop (i + 1) rows) saved fields
+others_after xs i x rows saved fields within is hold =
+    let here = others_here xs i x (drop i rows) saved fields within is hold in
+    subst (λ (left : List ℕ). OthersHold (terms_of (drop (i + 1) xs)) left saved fields) (other_rows-drop rows i) here.1
+
+-- whether all that are left hold, by the first of them
+pub all_from : (xs : List Formula) (i : ℕ) (x : Formula) (fields : List (List ℤ)) → i < length xs → x ≡ get_or xs i x
+    → all_hold (terms_of (drop i xs)) fields ≡ (if holds (Some (term_of x)) fields then all_hold (terms_of (drop (i + 1) xs)) fields else false)
+all_from xs i x fields within is = ap (λ (ys : List Formula). all_hold (terms_of ys) fields) (drop_more xs i x within ∙ ap (λ (y : Formula). y ∷ drop (i + 1) xs) (sym is))
+
+-- a row that stands at a place is saved, or none stands there
+pub tested_row : (rows : List ℕ) (i row : ℕ) (saved : List (ℕ × List ℤ)) → slice_get rows i ≡ Some row → is_tested (drop i rows) saved ≡ is_saved saved row
+tested_row [] i row saved is = absurd (cc)
+tested_row (r ∷ rs) zero row saved is = ap (is_saved saved) (cc)
+tested_row (r ∷ rs) (suc i) row saved is = tested_row rs i row saved is
+
+pub tested_past : (rows : List ℕ) (i : ℕ) (saved : List (ℕ × List ℤ)) → slice_get rows i ≡ None → is_tested (drop i rows) saved ≡ true
+tested_past [] i saved is = ap (λ (left : List ℕ). is_tested left saved) (drop-nil i)
+tested_past (r ∷ rs) zero saved is = absurd (cc)
+tested_past (r ∷ rs) (suc i) saved is = tested_past rs i saved is
