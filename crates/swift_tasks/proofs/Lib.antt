@@ -5,6 +5,7 @@ pub mod EmptyBook
 pub mod Endings
 pub mod FinishedTurn
 pub mod Fitting
+pub mod GoesOn
 pub mod Grows
 pub mod HeldJobs
 pub mod HeldTaken

@@ -1,6 +1,7 @@
 -- While a turn is applied. No public clause names these.
 use Rattle.std.specs.Prelude.{◌≡◌, ℕ, ◌+◌, ◌-◌, ◌<◌, ◌≤◌, ◌^◌, IsTrue, Bool, true, if◌then◌else◌, Option, Some, None, List, [], ◌∷◌, ◌++◌, length, map, drop, replicate}
 use Rattle.swift_types.specs.declared.limits.TheConstants.{TASKS}
+use Rattle.swift_types.specs.declared.id.TaskId.{TaskId}
 use Rattle.swift_types.specs.declared.priority.Priority.{Priority}
 use Rattle.script_code.specs.declared.env.Env.{Env}
 use Rattle.swift_types.specs.declared.outcome.Resume.{Resume}
@@ -14,7 +15,7 @@ use Rattle.swift_turn.specs.declared.step.Step.{Step}
 use Rattle.swift_turn.specs.declared.step.Step.TheVariants.{Await}
 use Rattle.swift_turn.specs.Body.{BodyView, TaskView, IsRunning, GoesOn}
 use Rattle.swift_events.specs.declared.event.Event.{Event}
-use Rattle.swift_events.specs.declared.event.Event.TheVariants.{Apply, Child, Skip}
+use Rattle.swift_events.specs.declared.event.Event.TheVariants.{Apply, Child, Skip, Give}
 use Rattle.swift_events.specs.declared.life.Stage.TheVariants.{Begun}
 use Rattle.swift_events.specs.Events.{tasks_of}
 use Rattle.swift_events.specs.Lives.{life_of, is_open}
@@ -23,12 +24,13 @@ use Rattle.swift_events.specs.Room.{reserved_of}
 use Rattle.swift_ledger.specs.Ledgers.{IsMade, HasRoom}
 use Rattle.swift_history.specs.Checks.{counters, fits_turn}
 use Rattle.swift_history.specs.Histories.{begun_priority}
-use Rattle.swift_history.specs.TurnEnds.{JobView, HeldView, Follows, TurnEnd, turn_end, log_after, exit_events, followed, task}
+use Rattle.swift_history.specs.TurnEnds.{JobView, HeldView, Follows, TurnEnd, turn_end, log_after, exit_events, followed, resume_at, task}
 use Rattle.swift_tasks.specs.declared.held.Held.{Held}
 use Rattle.swift_tasks.specs.Bodies.{AreBodiesOf}
 use Rattle.swift_tasks.specs.BookInvariant.{held_views}
-use Rattle.swift_tasks.specs.Books.{job_view, HoldsWaiting}
+use Rattle.swift_tasks.specs.Books.{BookView, job_view, HoldsWaiting}
 use Rattle.swift_tasks.specs.Counted.{UnopenedAreNotClosed}
+use Rattle.swift_tasks.specs.Refusals.{refusal_of_apply}
 
 -- a task that is named is there
 abbrev pub CanName : ℕ → List Event → TaskName → Type 0
@@ -74,6 +76,23 @@ pub record CanTakeAll (roots t : ℕ) (log : List Event) (es : List EffectView) 
 -- the tasks that wait, and the jobs that are made, as the code keeps them
 abbrev pub follows_of : List (Option Held) → List (JobIs BodyView) → Follows
 follows_of held jobs = record { held = held_views held; jobs = map job_view jobs }
+
+-- a job whose turn may be applied to a book, with these effects and this exit
+pub record CanApply (b : BookView) (es : List EffectView) (exit : ExitView) (j : JobIs BodyView) : Type 0 where
+  pub fits : refusal_of_apply b.script b.log j es exit ≡ None
+  pub running : IsRunning j.body
+  pub same : j.body.script ≡ b.script
+  pub made : IsMade b.log j.task
+  pub known : j.task.0 < tasks_of (root_count b.script) b.log
+  pub small : j.number + 1 < 2 ^ 32
+
+-- the log after a turn that has made nothing, and whose task goes on with this
+abbrev pub went_on : List Event → TaskId → ℕ → Resume → List Event
+went_on log t n next = (log ++ Apply t n ∷ []) ++ Give t (n + 1) (resume_at (n + 1) next) ∷ []
+
+-- and the job of its next turn
+abbrev pub next_of : TaskId → ℕ → Resume → BodyView → JobIs BodyView
+next_of t n next body = record { task = t; number = n + 1; resume = resume_at (n + 1) next; body = body }
 
 -- each of these jobs is of a task that was made
 abbrev pub AreMade : List Event → List JobView → Type 0

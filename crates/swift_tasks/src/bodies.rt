@@ -47,7 +47,8 @@ fn body_of(alloc: Global, script: &Arc<Script>, effect: &Effect) -> Result<Optio
     }
 }
 
-/// The bodies of the tasks that effects make, a place for each effect. They have copies of what the effects say.
+/// The bodies of the tasks that effects make, a place for each effect. They have copies of what the effects say. Without effects
+/// it takes no memory.
 pub fn bodies_of(
     alloc: Global,
     script: &Arc<Script>,
@@ -56,6 +57,10 @@ pub fn bodies_of(
     requires { AllByRecursion (CanStart (arc_value script.now)) (effect_views effects.now) }
     ensures { IfOk result (λ bodies. AreBodiesOf (arc_value script.now) (effect_views effects.now) bodies.items) }
 {
+    // Most turns have none.
+    if effects.is_empty() {
+        return Ok(Vec::new(alloc));
+    }
     let mut bodies = Vec::with_capacity(alloc, effects.len())?;
     for effect in effects {
         bodies.push(body_of(alloc, script, effect)?)?;

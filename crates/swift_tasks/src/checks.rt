@@ -6,7 +6,6 @@ ghost use Rattle.swift_script.specs.Scripts.{ScriptView};
 ghost use Rattle.swift_interpreter.specs.Frames.{invocation_view, effect_view, effect_views};
 ghost use Rattle.swift_interpreter.specs.TurnStates.{exit_view};
 ghost use Rattle.swift_history.specs.Checks.{can_run, can_name, can_use, fits_effect, counted, fits_exit, fits_turn, counters};
-ghost use Rattle.swift_events.specs.Lives.{life_of};
 ghost use Rattle.swift_tasks.specs.Refusals.{fits_begun};
 ghost use Rattle.swift_tasks.specs.Counted.{counters_of, UnopenedAreNotClosed};
 
@@ -147,23 +146,9 @@ pub fn turn_fits(
     leaves(script, ledger, task, counts, exit)
 }
 
-/// Whether the turn of a task has begun, and its effects and its exit fit.
+/// Whether a turn at this stage of its task has begun, and its effects and its exit fit. It asks what the task has made before only
+/// where an effect, or the exit, may name such a thing.
 pub fn begun_fits(
-    script: &Script,
-    ledger: &Ledger,
-    task: TaskId,
-    effects: &[Effect],
-    exit: &Exit,
-) -> bool
-    requires { UnopenedAreNotClosed ledger.now.log }
-    ensures { (other : ScriptView) → fits_begun script.now ledger.now.log task.0 other (effect_views effects.now) (exit_view exit.now) (life_of task.0 ledger.now.log).stage ≡ (result && same_scripts script.now other) }
-{
-    let stage = ledger.life(task).stage;
-    stage_fits(script, ledger, task, stage, effects, exit)
-}
-
-// The same of a task at this stage.
-fn stage_fits(
     script: &Script,
     ledger: &Ledger,
     task: TaskId,
@@ -175,12 +160,32 @@ fn stage_fits(
     ensures { (other : ScriptView) → fits_begun script.now ledger.now.log task.0 other (effect_views effects.now) (exit_view exit.now) stage ≡ (result && same_scripts script.now other) }
 {
     match stage {
-        Some(Stage::Begun(env)) => {
-            let counts = counts_of(ledger, task, env.room);
-            turn_fits(script, ledger, task, counts, effects, exit)
-        }
+        Some(Stage::Begun(env)) => fits_room(script, ledger, task, env.room, effects, exit),
         _ => false,
     }
+}
+
+// Whether the effects and the exit of a turn that may make so many tasks fit.
+fn fits_room(
+    script: &Script,
+    ledger: &Ledger,
+    task: TaskId,
+    room: u32,
+    effects: &[Effect],
+    exit: &Exit,
+) -> bool
+    requires { UnopenedAreNotClosed ledger.now.log }
+    ensures { result ≡ fits_turn script.now task.0 ledger.now.log (counters task.0 ledger.now.log room) (effect_views effects.now) (exit_view exit.now) }
+{
+    if effects.is_empty() {
+        match exit {
+            Exit::Call(invocation) => return runs(script, invocation),
+            Exit::Yield | Exit::Return(_) | Exit::Fault(_) => return true,
+            Exit::Wait(_) | Exit::Next(_) | Exit::Close(_, _) => {}
+        }
+    }
+    let counts = counts_of(ledger, task, room);
+    turn_fits(script, ledger, task, counts, effects, exit)
 }
 
 // What a task has made before its turn, which may make so many tasks.

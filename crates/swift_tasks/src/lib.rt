@@ -2,6 +2,8 @@
 //! log and the tasks that wait; what a call writes and makes is defined over these alone (crate `swift_history`).
 #![tactic(auto)]
 
+// What a turn did is taken.
+mod applying;
 // The bodies of the tasks that a turn makes.
 mod bodies;
 // The book.

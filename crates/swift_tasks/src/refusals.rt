@@ -1,6 +1,6 @@
 //! Which turns may begin and be applied.
 
-ghost use Rattle.std.specs.Prelude.{◌≡◌, ◌+◌, ◌<◌, ◌^◌, [], ◌∷◌, ◌++◌, None, false, IfOk, IfErr, OnErr, MatchResult, IsTrue};
+ghost use Rattle.std.specs.Prelude.{◌≡◌, ◌+◌, ◌<◌, ◌^◌, [], ◌∷◌, ◌++◌, None, true, false, is_some, IfOk, IfErr, OnErr, MatchResult, IsTrue};
 ghost use Rattle.swift_script.specs.Scripts.{root_count};
 ghost use Rattle.swift_ledger.specs.Ledgers.{IsMade};
 ghost use Rattle.swift_events.specs.Events.{tasks_of};
@@ -8,7 +8,7 @@ ghost use Rattle.swift_events.specs.Lives.{life_of, is_waiting};
 ghost use Rattle.swift_events.specs.Room.{IsEnv};
 ghost use Rattle.swift_history.specs.Checks.{same_fault, same_resume, was_given, is_under_way, is_current};
 ghost use Rattle.swift_script.specs.SameScripts.{same_scripts};
-ghost use Rattle.swift_tasks.specs.Refusals.{IsRefusal, refusal_unless_open, refusal_of_turn, refusal_of_begin, refusal_of_apply};
+ghost use Rattle.swift_tasks.specs.Refusals.{IsRefusal, refused_unless, refusal_unless_open, refusal_of_begin, refusal_of_apply};
 ghost use Rattle.swift_interpreter.specs.Frames.{effect_views};
 ghost use Rattle.swift_interpreter.specs.TurnStates.{exit_view};
 
@@ -90,26 +90,24 @@ pub(crate) fn unless_open(life: Life) -> Option<BookFault>
     None
 }
 
-impl Book {
-    // Why a turn may not begin.
-    fn refusal_of_turn(&self, task: TaskId, number: u32, resume: Resume) -> Option<BookFault>
-        ensures cause { result ≡ refusal_of_turn self.now.log task.0 number resume }
-        ensures made { result ≡ None → IsMade self.now.log task }
-        ensures small { result ≡ None → number + 1 < 2 ^ 32 }
-        ensures goes { result ≡ None → is_waiting (life_of task.0 self.now.log) ≡ false }
-        ensures known { result ≡ None → task.0 < tasks_of (root_count self.now.script) self.now.log }
-    {
-        let life = self.ledger.life(task);
-        if let Some(fault) = unless_open(life) {
-            return Some(fault);
-        }
-        if current(life, number, resume) {
-            None
-        } else {
-            Some(BookFault::Refused)
-        }
+// Why a turn may not begin, of a task of which this is known.
+fn unless_current(life: Life, number: u32, resume: Resume) -> Option<BookFault>
+    ensures cause { result ≡ refused_unless (refusal_unless_open life) (is_current life number resume) }
+    ensures made { result ≡ None → is_some life.origin ≡ true }
+    ensures small { result ≡ None → number + 1 < 2 ^ 32 }
+    ensures goes { result ≡ None → is_waiting life ≡ false }
+{
+    if let Some(fault) = unless_open(life) {
+        return Some(fault);
     }
+    if current(life, number, resume) {
+        None
+    } else {
+        Some(BookFault::Refused)
+    }
+}
 
+impl Book {
     // Whether a job is of the book's script. Where that is not known, it compares the printed forms of two scripts.
     fn is_of_script(&self, job: &Job<Body>, known: bool) -> bool
         requires { IsTrue known → job.now.body.script ≡ self.now.script }
@@ -126,15 +124,14 @@ impl Book {
         ensures made { result ≡ None → IsMade self.now.log job.now.task }
         ensures goes { result ≡ None → is_waiting (life_of job.now.task.0 self.now.log) ≡ false }
     {
-        match self.refusal_of_turn(job.task(), job.number(), job.resume()) {
-            Some(fault) => Some(fault),
-            None => {
-                if self.is_of_script(job, known) {
-                    None
-                } else {
-                    Some(BookFault::Refused)
-                }
-            }
+        let life = self.ledger.life(job.task());
+        if let Some(fault) = unless_current(life, job.number(), job.resume()) {
+            return Some(fault);
+        }
+        if self.is_of_script(job, known) {
+            None
+        } else {
+            Some(BookFault::Refused)
         }
     }
 
@@ -150,7 +147,7 @@ impl Book {
             return Err(BookFault::Memory);
         };
         let env = self.ledger.env(task);
-        self.ledger.note(Event::Begin(task, number, env));
+        self.ledger.note_begin(task, number, env);
         Ok(env)
     }
 
@@ -199,17 +196,22 @@ impl Book {
         ensures known { result ≡ None → job.now.task.0 < tasks_of (root_count self.now.script) self.now.log }
         ensures same { result ≡ None → job.now.body.script ≡ self.now.script }
     {
-        match self.refusal_of_turn(job.task(), job.number(), job.resume()) {
-            Some(fault) => Some(fault),
-            None => {
-                if begun_fits(&self.script, &self.ledger, job.task(), effects, exit)
-                    && self.is_of_script(job, known)
-                {
-                    None
-                } else {
-                    Some(BookFault::Refused)
-                }
-            }
+        let life = self.ledger.life(job.task());
+        if let Some(fault) = unless_current(life, job.number(), job.resume()) {
+            return Some(fault);
+        }
+        if begun_fits(
+            &self.script,
+            &self.ledger,
+            job.task(),
+            life.stage,
+            effects,
+            exit,
+        ) && self.is_of_script(job, known)
+        {
+            None
+        } else {
+            Some(BookFault::Refused)
         }
     }
 }

@@ -166,7 +166,7 @@ fn note_root(ledger: &mut Ledger, script: &Script, root: RootId)
     let task = TaskId(root.0);
     let priority = script.root_priority(root);
     ledger.note(Event::Root(task, priority));
-    ledger.note(Event::Give(task, 0, Resume::Start));
+    ledger.note_give(task, 0, Resume::Start);
 }
 
 // The priority of a task that was made.

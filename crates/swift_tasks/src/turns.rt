@@ -1,7 +1,6 @@
 //! The end of a turn.
 
-ghost use Rattle.std.specs.Prelude.{◌≡◌, ℕ, ◌+◌, ◌-◌, ◌<◌, ◌≤◌, ◌^◌, [], ◌∷◌, ◌++◌, List, Option, Some, None, IfOk, OnOk, OnErr, IfErr, MatchResult, take, drop, length, map, replicate, vec_len, vec_capacity};
-ghost use Rattle.std.specs.Arc.{arc_value};
+ghost use Rattle.std.specs.Prelude.{◌≡◌, ◌+◌, ◌-◌, ◌<◌, ◌≤◌, ◌^◌, [], ◌∷◌, ◌++◌, List, Option, Some, None, OnOk, IfErr, take, drop, length, map, replicate, vec_len, vec_capacity};
 ghost use Rattle.std.specs.List.{AllByRecursion};
 ghost use Rattle.swift_script.specs.Scripts.{ScriptView, root_count};
 ghost use Rattle.swift_interpreter.specs.Turn.{EffectView, ExitView};
@@ -9,7 +8,6 @@ ghost use Rattle.swift_interpreter.specs.Frames.{effect_views};
 ghost use Rattle.swift_interpreter.specs.TurnStates.{exit_view};
 ghost use Rattle.swift_turn.specs.Body.{BodyView, IsRunning, GoesOn};
 ghost use Rattle.swift_ledger.specs.Ledgers.{IsMade};
-ghost use Rattle.swift_events.specs.Events.{tasks_of};
 ghost use Rattle.swift_events.specs.Lives.{life_of};
 ghost use Rattle.swift_events.specs.Relations.{waiters_of};
 ghost use Rattle.swift_history.specs.Histories.{begun_priority};
@@ -19,13 +17,9 @@ ghost use Rattle.swift_tasks.specs.Bodies.{AreBodiesOf};
 ghost use Rattle.swift_tasks.specs.BookInvariant.{FitsScript, held_views};
 ghost use Rattle.swift_tasks.specs.Books.{job_view, IsJobOf, HoldsWaiting, IsEndOf};
 ghost use Rattle.swift_tasks.specs.Counted.{UnopenedAreNotClosed};
-ghost use Rattle.swift_tasks.specs.Refusals.{IsRefusal, refusal_of_apply};
 
-use crate::bodies::bodies_of;
-use crate::book::Book;
 use crate::effects::note_effect;
 use crate::exits::note_exit;
-use crate::fault::BookFault;
 use crate::held::Held;
 use crate::waking::follow;
 use std::alloc::AllocError;
@@ -57,7 +51,7 @@ fn note_apply(ledger: &mut Ledger, task: TaskId, number: u32)
     ensures take { (script : ScriptView) (es : List EffectView) (bodies : List (Option BodyView)) (exit : ExitView) → TurnFits script ledger.old.roots ledger.old.log task.0 es bodies exit → CanTakeAll ledger.new.roots task.0 ledger.new.log es bodies exit }
 {
     let _limit = ledger.tasks();
-    ledger.note(Event::Apply(task, number));
+    ledger.note_apply(task, number);
 }
 
 // The effects of a turn are written in order, and the first jobs of the tasks that they make are made of their bodies.
@@ -84,6 +78,9 @@ fn note_effects(
     ensures few { vec_len jobs.new ≤ vec_len jobs.old + length effects.now }
     ensures capacity { vec_capacity jobs.new ≡ vec_capacity jobs.old }
 {
+    if effects.is_empty() {
+        return;
+    }
     let mut bodies = bodies;
     bodies.reverse();
     for effect in effects {
@@ -102,8 +99,7 @@ fn note_gives(ledger: &mut Ledger, jobs: &[Job<Body>])
     ensures log { ledger.new.log ≡ ledger.old.log ++ gives (map job_view jobs.now) }
 {
     for job in jobs {
-        let given = Event::Give(job.task(), job.number(), job.resume());
-        ledger.note(given);
+        ledger.note_give(job.task(), job.number(), job.resume());
     }
 }
 
@@ -122,7 +118,7 @@ fn grow_held(held: &mut Vec<Option<Held>>, tasks: usize)
 
 // Makes the memory that the end of a turn takes: for events, for tasks that it makes, and for the jobs that follow. Out of
 // memory nothing has changed.
-fn make_room(
+pub fn make_room(
     ledger: &mut Ledger,
     held: &mut Vec<Option<Held>>,
     spare: &mut Vec<Job<Body>>,
@@ -294,7 +290,7 @@ fn end_turn(
 
 // Follows the exit of a job's turn, which fits, and ends the turn. Where the body finds no memory, nothing has changed and the
 // job comes back.
-fn take_turn(
+pub fn take_turn(
     ledger: &mut Ledger,
     held: &mut Vec<Option<Held>>,
     jobs: &mut Vec<Job<Body>>,
@@ -327,106 +323,5 @@ fn take_turn(
             Ok(())
         }
         Err(_) => Err(Job::new(task, number, resume, body)),
-    }
-}
-
-impl Book {
-    // Takes a turn that fits.
-    fn apply_fitting(
-        &mut self,
-        job: Job<Body>,
-        exit: &Exit,
-        effects: Vec<Effect>,
-        jobs: &mut Vec<Job<Body>>,
-    ) -> Result<(), (Job<Body>, Vec<Effect>, BookFault)>
-        requires running { IsRunning job.body }
-        requires fits { refusal_of_apply self.old.script self.old.log job (effect_views effects.items) (exit_view exit.now) ≡ None }
-        requires small { job.number + 1 < 2 ^ 32 }
-        requires known { job.task.0 < tasks_of (root_count self.old.script) self.old.log }
-        requires same { job.body.script ≡ self.old.script }
-        ensures ok { OnOk result (IsEndOf self.old (map job_view jobs.old.items) job (effect_views effects.items) (exit_view exit.now) self.new.log self.new.held (map job_view jobs.new.items)) }
-        ensures script { self.new.script ≡ self.old.script }
-        ensures bodies { AllByRecursion (IsJobOf self.old.script) jobs.old.items → AllByRecursion (IsJobOf self.old.script) jobs.new.items }
-        ensures err { IfErr result (λ e. (self.new ≡ self.old) × (jobs.new.items ≡ jobs.old.items) × (e.0 ≡ job) × (effect_views e.1.items ≡ effect_views effects.items) × (e.2 ≡ BookFault.Memory)) }
-    {
-        let Ok(bodies) = bodies_of(self.alloc, &self.script, &effects) else {
-            return Err((job, effects, BookFault::Memory));
-        };
-        let Ok(()) = make_room(
-            &mut self.ledger,
-            &mut self.held,
-            &mut self.spare,
-            jobs,
-            job.task(),
-            effects.len(),
-        ) else {
-            return Err((job, effects, BookFault::Memory));
-        };
-        if let Err(job) = take_turn(
-            &mut self.ledger,
-            &mut self.held,
-            jobs,
-            job,
-            &effects,
-            bodies,
-            exit,
-        ) {
-            return Err((job, effects, BookFault::Memory));
-        }
-        Ok(())
-    }
-
-    /// Takes what a turn of a job did: its effects, in order, and its exit (SE-0304, SE-0306). The events and the jobs that
-    /// follow are those of `end_of_turn`; the jobs come behind those that `jobs` has: for the tasks that were made, in order of
-    /// effects, for the task's own next turn, and for those that have waited for its end. It writes three events and takes no more
-    /// memory for a turn that only gives way; else it takes time linear in the effects and in the jobs, and what `Ledger::note` says of
-    /// a wait and of a cancel.
-    ///
-    /// A refusal is `Unknown`, `Completed`, `Refused` or `Memory`, the first of these that stands: nothing has changed, and the
-    /// job and the effects come back. Where nothing else is refused, it compares the printed forms of two scripts; `apply_known`
-    /// does not.
-    pub fn apply(
-        &mut self,
-        job: Job<Body>,
-        exit: &Exit,
-        effects: Vec<Effect>,
-        jobs: &mut Vec<Job<Body>>,
-    ) -> Result<(), (Job<Body>, Vec<Effect>, BookFault)>
-        requires running { IsRunning job.body }
-        ensures ok { OnOk result (IsEndOf self.old (map job_view jobs.old.items) job (effect_views effects.items) (exit_view exit.now) self.new.log self.new.held (map job_view jobs.new.items)) }
-        ensures same { OnOk result (job.body.script ≡ self.old.script) }
-        ensures script { self.new.script ≡ self.old.script }
-        ensures bodies { AllByRecursion (IsJobOf self.old.script) jobs.old.items → AllByRecursion (IsJobOf self.old.script) jobs.new.items }
-        ensures err { IfErr result (λ e. (self.new ≡ self.old) × (jobs.new.items ≡ jobs.old.items) × (e.0 ≡ job) × (effect_views e.1.items ≡ effect_views effects.items)) }
-        ensures refused { MatchResult result (λ _. refusal_of_apply self.old.script self.old.log job (effect_views effects.items) (exit_view exit.now) ≡ None)
-            (λ e. IsRefusal (refusal_of_apply self.old.script self.old.log job (effect_views effects.items) (exit_view exit.now)) e.2) }
-    {
-        if let Some(fault) = self.refusal_to_apply(&job, exit, &effects, false) {
-            return Err((job, effects, fault));
-        }
-        self.apply_fitting(job, exit, effects, jobs)
-    }
-
-    /// `apply` for a job that is known to be of an equal script; its refusals, and what they leave, are those of `apply`.
-    pub fn apply_known(
-        &mut self,
-        job: Job<Body>,
-        exit: &Exit,
-        effects: Vec<Effect>,
-        jobs: &mut Vec<Job<Body>>,
-    ) -> Result<(), (Job<Body>, Vec<Effect>, BookFault)>
-        requires running { IsRunning job.body }
-        requires known { job.body.script ≡ self.old.script }
-        ensures ok { OnOk result (IsEndOf self.old (map job_view jobs.old.items) job (effect_views effects.items) (exit_view exit.now) self.new.log self.new.held (map job_view jobs.new.items)) }
-        ensures script { self.new.script ≡ self.old.script }
-        ensures bodies { AllByRecursion (IsJobOf self.old.script) jobs.old.items → AllByRecursion (IsJobOf self.old.script) jobs.new.items }
-        ensures err { IfErr result (λ e. (self.new ≡ self.old) × (jobs.new.items ≡ jobs.old.items) × (e.0 ≡ job) × (effect_views e.1.items ≡ effect_views effects.items)) }
-        ensures refused { MatchResult result (λ _. refusal_of_apply self.old.script self.old.log job (effect_views effects.items) (exit_view exit.now) ≡ None)
-            (λ e. IsRefusal (refusal_of_apply self.old.script self.old.log job (effect_views effects.items) (exit_view exit.now)) e.2) }
-    {
-        if let Some(fault) = self.refusal_to_apply(&job, exit, &effects, true) {
-            return Err((job, effects, fault));
-        }
-        self.apply_fitting(job, exit, effects, jobs)
     }
 }

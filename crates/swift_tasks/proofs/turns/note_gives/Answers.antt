@@ -27,15 +27,15 @@ loop-job-preserved c =
     ap (λ (t : TaskId). Give t c.number.result c.resume.result) c.task.ensures
     ∙ ap (λ (n : ℕ). Give (task j.task) n c.resume.result) c.number.ensures
     ∙ ap (λ (r : Resume). Give (task j.task) j.number r) c.resume.ensures in
-    let more : c.note.new.self.log ≡ log ++ g ∷ [] = ap (λ (l : LedgerView). l.log) c.note.ensures.log ∙ ap (λ (e : Event). log ++ e ∷ []) event in
+    let more : c.note_give.new.self.log ≡ log ++ g ∷ [] = ap (λ (l : LedgerView). l.log) c.note_give.ensures.log ∙ ap (λ (e : Event). log ++ e ∷ []) event in
     let made = subst (AreMade log) at c.loop-job.invariant.made in
     record {
-      roots = ap (λ (l : LedgerView). l.roots) c.note.ensures.log ∙ c.loop-job.invariant.roots;
-      made = subst (AreMade c.note.new.self.log) (sym one) (subst (λ (l : List Event). AreMade l next) (sym more) (made_on log (log ++ g ∷ []) next (λ t h. made-push t log g h) made.1));
-      log = ap (λ (vs : List JobView). c.note.new.self.log ++ gives vs) one
+      roots = ap (λ (l : LedgerView). l.roots) c.note_give.ensures.log ∙ c.loop-job.invariant.roots;
+      made = subst (AreMade c.note_give.new.self.log) (sym one) (subst (λ (l : List Event). AreMade l next) (sym more) (made_on log (log ++ g ∷ []) next (λ t h. made-push t log g h) made.1));
+      log = ap (λ (vs : List JobView). c.note_give.new.self.log ++ gives vs) one
           ∙ ap (λ (l : List Event). l ++ gives next) more
           ∙ append_assoc log (g ∷ []) (gives next)
           ∙ sym (ap (λ (vs : List JobView). log ++ gives vs) at)
           ∙ c.loop-job.invariant.log;
-      spare = (let a = c.loop-job.invariant.spare in let d = c.note.ensures.spare in omega (arith, a, d));
+      spare = (let a = c.loop-job.invariant.spare in let d = c.note_give.ensures.spare in omega (arith, a, d));
     }
