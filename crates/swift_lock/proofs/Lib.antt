@@ -1,0 +1,3 @@
+pub mod LockCalls
+pub mod LockLaws
+pub mod LockSteps
