@@ -1,0 +1,5 @@
+use Rattle.swift_shared_book.proofs.RuleKept.{learns}
+use Rattle.swift_shared_book.proofs.shared.BookLock.close.Goals as goal
+
+pub close-requires-clause-rule : goal.close-requires-clause-rule
+close-requires-clause-rule c = learns _

@@ -1,0 +1,36 @@
+//! A book that was taken from its lock.
+
+use crate::known::Known;
+use crate::shelf::Shelf;
+use std::marker::Model;
+use swift_lock::Seat;
+use swift_tasks::Book;
+
+/// A book that was taken from its lock. It can't be dropped: `BookLock::unlock` gives it back.
+pub struct OpenBook {
+    pub book: Box<Book>,
+    /// The right to give it back.
+    pub seat: OpenSeat,
+}
+
+/// A seat that has taken the book of its lock. It has no bytes. In a clause it is its lock, what it knows, and the book as
+/// it was when it was taken.
+#[derive(Drop)]
+pub struct OpenSeat {
+    pub(crate) seat: Seat<Shelf, Known>,
+}
+
+impl Model for OpenSeat {
+    ghost use Rattle.std.specs.Prelude.{IsSome};
+    ghost use Rattle.std.specs.Coded.{codes};
+    ghost use Rattle.swift_script.specs.Codes.{expression_code, statement_code, block_code};
+    ghost use Rattle.swift_shared_book.specs.Shared.{OpenSeatIs};
+
+    ghost Value = { OpenSeatIs };
+
+    ghost coded = { Prim.hlevel (codes, expression_code, statement_code (block_code (Prim.hlevel (codes, expression_code)) (Prim.hlevel (codes, expression_code)))) };
+
+    ghost view = { λ s. record { lock = s.seat.lock; known = s.seat.known; taken = s.seat.held } };
+
+    ghost invariant = { λ s. IsSome s.seat.held };
+}
