@@ -22,7 +22,15 @@ use Rattle.swift_executor.specs.contracts.exec.Spare as spare
 use Rattle.swift_executor.specs.contracts.exec.Exec as exec
 use Rattle.swift_executor.specs.contracts.desk.Desk as desk
 use Rattle.atomic_table.proofs.shared.Seat.TheSendSync as Seat
+use Rattle.atomic_table.proofs.badge.Badge.TheSendSync as Badge
 use Rattle.swift_word.proofs.word.Word.TheSendSync as Word
+use Rattle.swift_ledger.proofs.ledger.Ledger.TheSendSync as Ledger
+use Rattle.swift_tasks.specs.contracts.held.Held as waiting
+use Rattle.swift_tasks.specs.contracts.book.Book as book
+use Rattle.swift_lock.proofs.lock.Lock.TheSendSync as Lock
+use Rattle.swift_shared_book.specs.contracts.seat.BookSeat as book_seat
+use Rattle.swift_shared_book.specs.contracts.shelf.Shelf as shelf
+use Rattle.swift_shared_book.specs.contracts.shared.BookLock as book_lock
 
 -- what is made of types that were shown before
 ruleset plain = (Crossing.crosses, sendable)
@@ -36,8 +44,11 @@ chosen_send = search (plain, body_send) depth 60 fits 20000
 state_send : IsSend state.the_row
 state_send = search (plain, script_send, script_sync, body_send, chosen_send, ReadyTasks.the_send, Journal.the_send, Checkpoint.the_send) depth 60 fits 20000
 
+pub book_seat_send : IsSend book_seat.the_row
+book_seat_send = search (plain, Badge.the_send) depth 60 fits 20000
+
 held_send : IsSend (held.the_field).row
-held_send = search (plain, state_send, pass_send) depth 60 fits 20000
+held_send = search (plain, state_send, pass_send, book_seat_send) depth 60 fits 20000
 
 resting_send : IsSend resting.the_row
 resting_send = search (plain, held_send) depth 60 fits 20000
@@ -50,3 +61,19 @@ exec_sync = search (plain, resting_send, inbox_sync, spare_sync, Word.the_sync) 
 
 pub desk_send : IsSend desk.the_row
 desk_send = search (plain, resting_send, pass_send, Seat.the_send) depth 60 fits 20000
+
+waiting_send : IsSend (waiting.the_field).row
+waiting_send = search (plain, body_send) depth 60 fits 20000
+
+book_send : IsSend book.the_row
+book_send = search (plain, script_send, script_sync, body_send, waiting_send, Ledger.the_send) depth 60 fits 20000
+
+shelf_send : IsSend (shelf.the_field).row
+shelf_send = search (plain, book_send) depth 60 fits 20000
+
+-- the book as threads share it
+pub book_lock_sync : IsSync book_lock.the_row
+book_lock_sync = search (plain, shelf_send, Lock.the_sync) depth 60 fits 20000
+
+pub book_lock_send : IsSend book_lock.the_row
+book_lock_send = search (plain, shelf_send, Lock.the_send) depth 60 fits 20000

@@ -4,8 +4,10 @@ pub mod AccountKept
 pub mod Removed
 pub mod ReadyKept
 pub mod Counting
+pub mod ChosenJob
 pub mod StateKept
 pub mod TurnKept
 pub mod Turned
+pub mod Ended
 pub mod Picked
 pub mod Rows

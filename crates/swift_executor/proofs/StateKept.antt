@@ -1,5 +1,5 @@
 -- What an executor keeps at each of its calls.
-use Rattle.std.proofs.Common.{◌≡◌, ◌≢◌, ℕ, ◌+◌, ℤ, Option, Some, None, IfSome, MatchOption, List, [], ◌∷◌, ◌++◌, length, map, Contains, refl, ap, sym, subst, ◌∙◌, inl, inr, arith}
+use Rattle.std.proofs.Common.{◌≡◌, ◌≢◌, ℕ, ◌+◌, ℤ, Option, Some, None, IfSome, List, [], ◌∷◌, ◌++◌, length, map, Contains, refl, ap, sym, subst, ◌∙◌, inl, inr, arith}
 use Rattle.std.proofs.lemmas.Bool.{cases_eq}
 use Rattle.std.proofs.lemmas.List.{length-append}
 use Rattle.std.proofs.lemmas.List.Elements.{All-cons, All-head, All-nil, All-push, All-tail, All-weaker, Contains-append_left, Contains-append_right, Contains-push}
@@ -13,17 +13,9 @@ use Rattle.swift_turn.specs.Body.{BodyView, HasFirst, IsTurnOf, left}
 use Rattle.swift_queue.specs.Job.{JobIs}
 use Rattle.swift_history.specs.TurnEnds.{JobView}
 use Rattle.swift_tasks.specs.Books.{job_view}
-use Rattle.std.specs.declared.vec.Vec.{Vec}
-use Rattle.std.specs.declared.alloc.Global.{Global}
-use Rattle.swift_executor.specs.declared.chosen.Stage.{Stage}
-use Rattle.swift_executor.specs.declared.chosen.Stage.TheVariants.{Picked, Begun, Played}
-use Rattle.swift_executor.specs.declared.chosen.Chosen.{Chosen}
 use Rattle.swift_tasks.specs.declared.fault.BookFault.{BookFault}
 use Rattle.swift_tasks.specs.Refusals.{IsRefusal as BookRefusal}
 use Rattle.swift_executor.specs.Refusals.{IsRefusal, fault_of}
-use Rattle.swift_executor.specs.Playing.{HasJob}
-use Rattle.swift_executor.specs.StateInside.{chosen_of, chosen_view, stage_of}
-use Rattle.std.proofs.lemmas.Option.{same_Some}
 use Rattle.swift_executor.specs.Ready.{Adds, CanRestore, IsClear, ReadyIs, ReadyJob, ready_job}
 use Rattle.swift_executor.specs.State.{BelongsTo, ChosenView, ExecView, HasPlayed, IsChosen, IsExecutor, IsPicked, StageView, before_turn, begun, chosen_count, leaders, picked, played}
 
@@ -222,27 +214,11 @@ accept_keeps s job ready' is at belongs (inr h) =
       chosen = subst (λ (x : Option ChosenView). IfSome x (IsChosen (record s { ready = ready' }))) (sym at) tt;
     }
 
--- what was played does not say which job was chosen
-pub same_before : (next next' : List (Vec ℤ Global)) (stage : Stage) (j : JobIs BodyView) → before_turn (stage_of next stage) j ≡ before_turn (stage_of next' stage) j
-same_before next next' Picked j = refl
-same_before next next' (Begun worker env) j = refl
-same_before next next' (Played worker env p) j = refl
-
 -- its turn has not begun
 pub stage_picked : (stage : StageView) → IsPicked stage → stage ≡ picked
 stage_picked picked is = refl
 stage_picked (begun worker env) is = absurd is
 stage_picked (played worker env frame fields effects exit) is = absurd is
-
--- a chosen job whose turn has not begun
-pub picked_job : (next : List (Vec ℤ Global)) (place : Option Chosen) → (c : ChosenView) × (chosen_of next place ≡ Some c) × IsPicked c.stage → HasJob place (λ c. c.stage ≡ Picked)
-picked_job next None has = absurd (subst (λ (o : Option ChosenView). MatchOption o (Unit {0}) (λ _. ⊥)) has.1 tt)
-picked_job next (Some c) has = (c, refl, by c.stage (subst (λ (v : ChosenView). IsPicked v.stage) (sym (same_Some (chosen_view next c) has.0 has.1)) has.2))
-  where
-    by : (stage : Stage) → IsPicked (stage_of next stage) → stage ≡ Picked
-    by Picked is = refl
-    by (Begun worker env) is = absurd is
-    by (Played worker env p) is = absurd is
 
 -- where the book refuses, the executor does
 pub refused_so : (o : Option BookFault) (cause : BookFault) → BookRefusal o cause → IsRefusal o (fault_of cause)

@@ -23,8 +23,9 @@ use Rattle.swift_journal.specs.Records.{RecordView}
 use Rattle.swift_journal.proofs.Replayed.{lawful-append, replay-append}
 use Rattle.swift_journal.specs.Replay.{AreLawful, IsAfter, IsLawfulRecord, InvariantsStay, LawfulGrows, RunOn, StandsFor, fields_after, replay}
 use Rattle.swift_executor.specs.Ready.{Forwards, ReadyIs, ReadyJob, ready_job}
-use Rattle.swift_executor.specs.Playing.{AppliesTurn, HasFoldRoom, Settles, WritesRecord}
-use Rattle.swift_executor.specs.StateInside.{stage_of}
+use Rattle.swift_executor.specs.Playing.{Applied, HasFoldRoom, Settles, WritesRecord}
+use Rattle.swift_executor.specs.StateInside.{chosen_view, stage_of}
+use Rattle.swift_executor.specs.declared.chosen.Played.{Played as Kept}
 use Rattle.swift_executor.specs.declared.chosen.Stage.{Stage}
 use Rattle.swift_executor.specs.declared.chosen.Stage.TheVariants.{Picked, Begun, Played as PlayedStage}
 use Rattle.swift_tasks.specs.Books.{BookView}
@@ -224,18 +225,18 @@ pub record Done (book book' : BookView) (jobs jobs' : List JobView) (s new : Exe
   pub keeps : IsExecutor new
   pub journals : Journals book book' jobs jobs' s new c
 
-pub journalled : (book book' : BookView) (jobs jobs' : List JobView) (s : ExecView) (next : List (Vec ℤ Global)) (job : JobIs BodyView) (arrival : ℕ) (stage : Stage) (j1 j' : List RecordView) (copy : Option (Vec (Vec ℤ Global) Global)) (room room' : CheckpointRoom) (ready' : ReadyIs BodyView)
+pub journalled : (book book' : BookView) (jobs jobs' : List JobView) (s : ExecView) (p : Kept) (job : JobIs BodyView) (arrival : ℕ) (stage : Stage) (j1 j' : List RecordView) (copy : Option (Vec (Vec ℤ Global) Global)) (room room' : CheckpointRoom) (ready' : ReadyIs BodyView)
     → ((script : ScriptView) (fields : List (List ℤ)) (rs : List RecordView) (r : RecordView) → LawfulGrows script fields rs r) → InvariantsStay
-    → IsExecutor s → s.chosen ≡ Some (record { job = job; arrival = arrival; stage = stage_of next stage }) → IsPlayed (stage_of next stage) → WritesRecord stage job s.journal j1 → room.view ≡ s.checkpoint → HasFoldRoom copy room j1 (rows_of next)
-    → Settles copy j1 j' room room' → Forwards s.ready job.task ready' → AppliesTurn book book' job (stage_of [] stage) jobs jobs'
-    → Done book book' jobs jobs' s (record s { ready = ready'; chosen = None; journal = j'; checkpoint = room'.view; fields = rows_of next }) (record { job = job; arrival = arrival; stage = stage_of next stage })
-journalled book book' jobs jobs' s next job arrival Picked j1 j' copy room room' ready' grows stays is at was wrote view has settles forwards applied = absurd was
-journalled book book' jobs jobs' s next job arrival (Begun worker env) j1 j' copy room room' ready' grows stays is at was wrote view has settles forwards applied = absurd was
-journalled book book' jobs jobs' s next job arrival (PlayedStage worker env p) j1 j' copy room room' ready' grows stays is at was wrote view has settles forwards applied =
+    → IsExecutor s → s.chosen ≡ Some (chosen_view p arrival stage job) → IsPlayed (stage_of p stage) → WritesRecord p stage job s.journal j1 → room.view ≡ s.checkpoint → HasFoldRoom copy room j1 (rows_of p.fields.items)
+    → Settles copy j1 j' room room' → Forwards s.ready job.task ready' → Applied book book' job (effect_views p.effects.items) (exit_view p.exit) jobs jobs'
+    → Done book book' jobs jobs' s (record s { ready = ready'; chosen = None; journal = j'; checkpoint = room'.view; fields = rows_of p.fields.items }) (chosen_view p arrival stage job)
+journalled book book' jobs jobs' s p job arrival Picked j1 j' copy room room' ready' grows stays is at was wrote view has settles forwards applied = absurd was
+journalled book book' jobs jobs' s p job arrival (Begun worker env) j1 j' copy room room' ready' grows stays is at was wrote view has settles forwards applied = absurd was
+journalled book book' jobs jobs' s p job arrival (PlayedStage worker env) j1 j' copy room room' ready' grows stays is at was wrote view has settles forwards applied =
     let frame = frame_view p.frame in
     let effects = effect_views p.effects.items in
     let exit = exit_view p.exit in
-    let rows = rows_of next in
+    let rows = rows_of p.fields.items in
     let r = record_by job worker env frame effects exit in
     let c : ChosenView = record { job = job; arrival = arrival; stage = played worker env frame rows effects exit } in
     let chosen : IsChosen s c = subst (λ (o : Option ChosenView). IfSome o (IsChosen s)) at is.chosen in
@@ -267,10 +268,10 @@ journalled book book' jobs jobs' s next job arrival (PlayedStage worker env p) j
     }
 
 -- a record that was written and taken back
-pub retracted : (next : List (Vec ℤ Global)) (stage : Stage) (job : JobIs BodyView) (old new : List RecordView) → IsPlayed (stage_of next stage) → WritesRecord stage job old new → take (length new - 1) new ≡ old
-retracted next Picked job old new was wrote = absurd was
-retracted next (Begun worker env) job old new was wrote = absurd was
-retracted next (PlayedStage worker env p) job old new was wrote =
+pub retracted : (p : Kept) (stage : Stage) (job : JobIs BodyView) (old new : List RecordView) → IsPlayed (stage_of p stage) → WritesRecord p stage job old new → take (length new - 1) new ≡ old
+retracted p Picked job old new was wrote = absurd was
+retracted p (Begun worker env) job old new was wrote = absurd was
+retracted p (PlayedStage worker env) job old new was wrote =
     let r = record_by job worker env (frame_view p.frame) (effect_views p.effects.items) (exit_view p.exit) in
     let len = length-append old (r ∷ []) in
     ap (λ (xs : List RecordView). take (length xs - 1) xs) wrote ∙ take_at old (r ∷ []) (length (old ++ r ∷ []) - 1) (omega (arith, len))

@@ -1,7 +1,6 @@
 -- What a turn that was played leaves.
-use Rattle.std.proofs.Common.{◌≡◌, ◌<◌, ℕ, ℤ, List, [], ◌∷◌, ap, sym, subst, ◌∙◌}
-use Rattle.std.specs.declared.vec.Vec.{Vec}
-use Rattle.std.specs.declared.alloc.Global.{Global}
+use Rattle.std.proofs.Common.{◌≡◌, ◌<◌, ℕ, ℤ, Some, List, [], ◌∷◌, ap, sym, subst, ◌∙◌}
+use Rattle.script_code.specs.Seen.{rows_of}
 use Rattle.script_code.specs.declared.env.Env.{Env}
 use Rattle.swift_types.specs.declared.id.TaskId.{TaskId}
 use Rattle.swift_types.specs.declared.outcome.Resume.{Resume}
@@ -13,10 +12,11 @@ use Rattle.swift_turn.specs.Body.{BodyView, HasFirst, IsTurnOf, Polls, TaskView,
 use Rattle.swift_queue.specs.Job.{JobIs}
 use Rattle.swift_tasks.specs.Books.{job_view}
 use Rattle.swift_executor.specs.Playing.{JobTurned, JobUnturned}
-use Rattle.swift_executor.specs.StateInside.{stage_of}
+use Rattle.std.proofs.lemmas.Option.{same_Some}
+use Rattle.swift_executor.specs.StateInside.{chosen_view, stage_of}
 use Rattle.swift_executor.specs.declared.chosen.Stage.{Stage}
 use Rattle.swift_executor.specs.declared.chosen.Stage.TheVariants.{Picked, Begun, Played as PlayedStage}
-use Rattle.swift_executor.specs.State.{BelongsTo, HasPlayed, IsBegun, before_turn, played}
+use Rattle.swift_executor.specs.State.{BelongsTo, ChosenView, ExecView, HasChosen, HasPlayed, IsBegun, PutsBack, before_turn, played}
 use Rattle.swift_executor.specs.declared.chosen.Played.{Played}
 
 -- the frames of a task that has had a turn
@@ -39,14 +39,15 @@ frames_played script executor outer fields rows resume env frame effects exit (f
     }
 
 -- what is known of a job that has had its turn
-pub record IsTurned (script : ScriptView) (executor : ℕ) (fields rows : List (List ℤ)) (env : Env) (worker : ℕ) (old new : JobIs BodyView) (p : Played) : Type 0 where
-  pub plays : HasPlayed script fields new (played worker env (frame_view p.frame) rows (effect_views p.effects.items) (exit_view p.exit))
-  pub same_job : before_turn (played worker env (frame_view p.frame) rows (effect_views p.effects.items) (exit_view p.exit)) new ≡ job_view old
+pub record IsTurned (script : ScriptView) (executor : ℕ) (fields : List (List ℤ)) (env : Env) (worker : ℕ) (old new : JobIs BodyView) (p : Played) : Type 0 where
+  pub plays : HasPlayed script fields new (played worker env (frame_view p.frame) (rows_of p.fields.items) (effect_views p.effects.items) (exit_view p.exit))
+  pub same_job : before_turn (played worker env (frame_view p.frame) (rows_of p.fields.items) (effect_views p.effects.items) (exit_view p.exit)) new ≡ job_view old
   pub belongs : BelongsTo script executor new
 
-pub turned : (script : ScriptView) (executor : ℕ) (fields rows : List (List ℤ)) (env : Env) (worker : ℕ) (old new : JobIs BodyView) (p : Played) → BelongsTo script executor old → JobTurned old new fields env rows p
-    → IsTurned script executor fields rows env worker old new p
-turned script executor fields rows env worker old new p belongs is =
+pub turned : (script : ScriptView) (executor : ℕ) (fields : List (List ℤ)) (env : Env) (worker : ℕ) (old new : JobIs BodyView) (p : Played) → BelongsTo script executor old → JobTurned old new fields env p
+    → IsTurned script executor fields env worker old new p
+turned script executor fields env worker old new p belongs is =
+    let rows = rows_of p.fields.items in
     let frame = frame_view p.frame in
     let effects = effect_views p.effects.items in
     let exit = exit_view p.exit in
@@ -74,7 +75,28 @@ unturned script executor old new belongs is = record {
 }
 
 -- nothing was played where a turn has only begun
-pub begun_plays : (script : ScriptView) (fields : List (List ℤ)) (j : JobIs BodyView) (next next' : List (Vec ℤ Global)) (stage : Stage) → IsBegun (stage_of next stage) → HasPlayed script fields j (stage_of next' stage)
-begun_plays script fields j next next' Picked is = absurd is
-begun_plays script fields j next next' (Begun worker env) is = tt
-begun_plays script fields j next next' (PlayedStage worker env p) is = absurd is
+pub begun_plays : (script : ScriptView) (fields : List (List ℤ)) (j : JobIs BodyView) (p p' : Played) (stage : Stage) → IsBegun (stage_of p stage) → HasPlayed script fields j (stage_of p' stage)
+begun_plays script fields j p p' Picked is = absurd is
+begun_plays script fields j p p' (Begun worker env) is = tt
+begun_plays script fields j p p' (PlayedStage worker env) is = absurd is
+
+-- such a job is seen as it was
+unturned_view : (j j' : JobIs BodyView) → JobUnturned j j' → job_view j' ≡ job_view j
+unturned_view j j' is =
+    ap (λ (t : TaskId). record { task = t.0; number = j'.number; resume = j'.resume; frames = j'.body.task }) is.task
+    ∙ ap (λ (n : ℕ). record { task = j.task.0; number = n; resume = j'.resume; frames = j'.body.task }) is.number
+    ∙ ap (λ (r : Resume). record { task = j.task.0; number = j.number; resume = r; frames = j'.body.task }) is.resume
+    ∙ ap (λ (t : TaskView). record { task = j.task.0; number = j.number; resume = j.resume; frames = t }) is.body.task
+
+unturned_before : (p p' : Played) (stage : Stage) (j j' : JobIs BodyView) → IsBegun (stage_of p stage) → JobUnturned j j' → before_turn (stage_of p' stage) j' ≡ before_turn (stage_of p stage) j
+unturned_before p p' Picked j j' begun is = absurd begun
+unturned_before p p' (Begun worker env) j j' begun is = unturned_view j j' is
+unturned_before p p' (PlayedStage worker env) j j' begun is = absurd begun
+
+-- a job that has had no turn goes back as it was chosen
+pub back_unturned : (s new : ExecView) (p p' : Played) (arrival : ℕ) (stage : Stage) (j j' : JobIs BodyView) → s.chosen ≡ Some (chosen_view p arrival stage j) → IsBegun (stage_of p stage) → JobUnturned j j'
+    → HasChosen (record s { chosen = Some (chosen_view p' arrival stage j') }) (PutsBack (record s { chosen = Some (chosen_view p' arrival stage j') }) new) → HasChosen s (PutsBack s new)
+back_unturned s new p p' arrival stage j j' at begun is back =
+    let mid : ExecView = record s { chosen = Some (chosen_view p' arrival stage j') } in
+    let h : PutsBack mid new (chosen_view p' arrival stage j') = subst (λ (v : ChosenView). PutsBack mid new v) (sym (same_Some (chosen_view p' arrival stage j') back.0 back.1)) back.2 in
+    (chosen_view p arrival stage j, at, record { job = h.job; same_job = h.same_job ∙ unturned_before p p' stage j j' begun is; front = h.front; same = h.same })

@@ -10,6 +10,7 @@ use Rattle.swift_inbox.specs.Sent.{job_view}
 use Rattle.swift_inbox.specs.Site.{Site}
 use Rattle.swift_queue.specs.Job.{JobIs}
 use Rattle.swift_script.specs.Scripts.{ScriptView}
+use Rattle.swift_shared_book.specs.Shared.{BookLockIs, BookSeatIs}
 use Rattle.swift_tasks.specs.Books.{BookView}
 use Rattle.swift_types.specs.declared.id.TaskId.{TaskId}
 use Rattle.swift_tasks.specs.declared.fault.BookFault.{BookFault}
@@ -23,29 +24,35 @@ use Rattle.swift_executor.specs.declared.ran.Ran.{Ran}
 use Rattle.swift_executor.specs.declared.ran.Ran.TheVariants.{Turn, Busy, Nothing}
 use Rattle.swift_executor.specs.declared.state_name.StateName.{StateName}
 
--- Which executor it is: the word of its state, its inbox with its script and number, and how many workers there are.
+-- Which executor it is: the word of its state, its inbox with its script and number, its book, and how many workers there are.
 pub record ExecIs : Type 0 where
   pub word : TableId
   pub inbox : InboxIs
+  pub book : TableId
   pub workers : ℕ
 
--- A desk: of which executor it is, the jobs that were sent by it, the oldest first, how many turns were run by it, and how many
+-- the lock of the executor's book, which is of its script
+abbrev pub book_of : ExecIs → BookLockIs
+book_of e = record { id = e.book; script = e.inbox.site.script }
+
+-- A desk: of which executor it is, and of which book, the jobs that were sent by it, the oldest first, how many turns were run by it, and how many
 -- jobs may still be sent.
 pub record DeskIs : Type 0 where
   pub word : TableId
   pub inbox : TableId
   pub site : Option Site
+  pub book : Option TableId
   pub sent : List JobView
   pub finished : ℕ
   pub allowance : ℕ
 
 -- the desk is of this executor
 abbrev pub IsDeskOf : ExecIs → DeskIs → Type 0
-IsDeskOf e d = (d.word ≡ e.word) × (d.inbox ≡ e.inbox.id) × (d.site ≡ Some e.inbox.site)
+IsDeskOf e d = (d.word ≡ e.word) × (d.inbox ≡ e.inbox.id) × (d.site ≡ Some e.inbox.site) × (d.book ≡ Some e.book)
 
 -- the desk that an executor is made with
 abbrev pub first_desk : ExecIs → DeskIs
-first_desk e = record { word = e.word; inbox = e.inbox.id; site = Some e.inbox.site; sent = []; finished = 0; allowance = 2 ^ 60 }
+first_desk e = record { word = e.word; inbox = e.inbox.id; site = Some e.inbox.site; book = Some e.book; sent = []; finished = 0; allowance = 2 ^ 60 }
 
 -- one job more was sent by the desk
 abbrev pub has_sent : DeskIs → JobIs BodyView → DeskIs
@@ -74,13 +81,18 @@ site_of s = record { script = s.script; executor = s.executor }
 abbrev pub IsOf : PassIs → ExecView → Type 0
 IsOf p s = (p.site ≡ Some (site_of s)) × (p.pushed ≡ []) × HasTaken p.taken s
 
--- what a word knows of a state: whose it is, and from which inbox it takes its jobs
-abbrev pub state_name : Site → TableId → StateName
-state_name site inbox = record { site = site; inbox = record { inbox = inbox } }
+-- what a word knows of a state: whose it is, from which inbox it takes its jobs, and which book it applies them to
+abbrev pub state_name : Site → TableId → TableId → StateName
+state_name site inbox book = record { site = site; inbox = record { inbox = inbox }; book = record { book = book } }
+
+-- the book of a state's name
+abbrev pub book_in : Option StateName → Option TableId
+book_in None = None
+book_in (Some name) = Some name.book.book
 
 -- a seat of the executor's word
 abbrev pub IsSeatAt : ExecIs → SeatIs StateName → Type 0
-IsSeatAt e s = (s.word ≡ e.word) × (s.name ≡ Some (state_name e.inbox.site e.inbox.id))
+IsSeatAt e s = (s.word ≡ e.word) × (s.name ≡ Some (state_name e.inbox.site e.inbox.id e.book))
 
 -- what a visit leaves of the seat that held the state
 abbrev pub seat_after : Ran → SeatIs StateName → SeatIs StateName
@@ -126,10 +138,11 @@ may_run kind.Fifo workers worker = true
 abbrev pub IsRunFault : ExecFault → Type 0
 IsRunFault fault = (fault ≡ Memory) ⊎ ((cause : BookFault) × (fault ≡ Refused cause))
 
--- a state while no worker holds it, with the pass by which its jobs come
+-- a state while no worker holds it, with the pass by which its jobs come, and the seat by which it takes the book
 pub record RestingIs : Type 0 where
   pub state : ExecView
   pub pass : PassIs
+  pub seat : BookSeatIs
 
 -- the state of this executor, with a pass of its inbox
 abbrev pub IsAt : InboxIs → PassIs → ExecView → Type 0

@@ -23,14 +23,15 @@ use Rattle.swift_interpreter.specs.Turn.{EffectView, ExitView}
 use Rattle.swift_history.specs.TurnEnds.{JobView}
 use Rattle.swift_tasks.specs.Books.{BookView, IsEndOf}
 use Rattle.swift_types.specs.declared.id.TaskId.{TaskId}
-use Rattle.swift_executor.specs.State.{StageView, played, record_by}
-use Rattle.swift_executor.specs.StateInside.{chosen_view, stage_of}
+use Rattle.swift_tasks.specs.Refusals.{refusal_of_apply}
+use Rattle.swift_tasks.specs.declared.fault.BookFault.{BookFault}
+use Rattle.swift_executor.specs.State.{record_by}
 
--- a body has had a turn: what is left of it is that of the frame that ran
-pub record HasTurned (old new : BodyView) (rows : List (List ℤ)) (resume : Resume) (env : Env) (rows' : List (List ℤ)) (p : Played) : Type 0 where
+-- a body has had a turn on these fields: what is left of it is that of the frame that ran
+pub record HasTurned (old new : BodyView) (rows : List (List ℤ)) (resume : Resume) (env : Env) (p : Played) : Type 0 where
   pub frame : HasFirst old.task.frames (λ f. f ≡ frame_view p.frame)
   pub method : p.frame.method.0 < method_count old.script
-  pub turn : Polls old.script old.task.outer old.task.frames (entered rows resume env) new.task.frames (left rows' (effect_views p.effects.items) (exit_view p.exit))
+  pub turn : Polls old.script old.task.outer old.task.frames (entered rows resume env) new.task.frames (left (rows_of p.fields.items) (effect_views p.effects.items) (exit_view p.exit))
   pub script : new.script ≡ old.script
   pub outer : new.task.outer ≡ old.task.outer
 
@@ -40,8 +41,8 @@ pub record IsUnturned (old new : BodyView) : Type 0 where
   pub task : new.task ≡ old.task
 
 -- the same of a job, whose other parts stay
-pub record JobTurned (old new : JobIs BodyView) (rows : List (List ℤ)) (env : Env) (rows' : List (List ℤ)) (p : Played) : Type 0 where
-  pub body : HasTurned old.body new.body rows old.resume env rows' p
+pub record JobTurned (old new : JobIs BodyView) (rows : List (List ℤ)) (env : Env) (p : Played) : Type 0 where
+  pub body : HasTurned old.body new.body rows old.resume env p
   pub task : new.task ≡ old.task
   pub number : new.number ≡ old.number
   pub resume : new.resume ≡ old.resume
@@ -53,14 +54,14 @@ pub record JobUnturned (old new : JobIs BodyView) : Type 0 where
   pub resume : new.resume ≡ old.resume
 
 -- a job whose frame may go back
-abbrev pub CanGoBack : JobIs BodyView → Stage → Type 0
-CanGoBack j (stage.Played worker env p) = p.frame.method.0 < method_count j.body.script
-CanGoBack j _ = Unit {0}
+abbrev pub CanGoBack : JobIs BodyView → Played → Stage → Type 0
+CanGoBack j p (stage.Played worker env) = p.frame.method.0 < method_count j.body.script
+CanGoBack j p _ = Unit {0}
 
 -- the record of the chosen job, where it was played
-abbrev pub WritesRecord : Stage → JobIs BodyView → List RecordView → List RecordView → Type 0
-WritesRecord (stage.Played worker env p) j old new = new ≡ old ++ record_by j worker env (frame_view p.frame) (effect_views p.effects.items) (exit_view p.exit) ∷ []
-WritesRecord _ j old new = new ≡ old
+abbrev pub WritesRecord : Played → Stage → JobIs BodyView → List RecordView → List RecordView → Type 0
+WritesRecord p (stage.Played worker env) j old new = new ≡ old ++ record_by j worker env (frame_view p.frame) (effect_views p.effects.items) (exit_view p.exit) ∷ []
+WritesRecord p _ j old new = new ≡ old
 
 -- there is room for a fold where the journal is full, with the fields that it takes
 abbrev pub HasFoldRoom : Option (Vec (Vec ℤ Global) Global) → CheckpointRoom → List RecordView → List (List ℤ) → Type 0
@@ -68,7 +69,7 @@ HasFoldRoom None c journal rows = length journal < FOLD
 HasFoldRoom (Some copy) c journal rows = (FOLD ≤ length journal) × (rows_of copy.items ≡ rows) × (c.room ≡ map folded_of journal)
 
 abbrev pub StageIsPlayed : Stage → Type 0
-StageIsPlayed (stage.Played worker env p) = Unit {0}
+StageIsPlayed (stage.Played worker env) = Unit {0}
 StageIsPlayed _ = ⊥
 
 -- the book has taken the turn, and the jobs that it makes come behind others
@@ -76,52 +77,51 @@ pub record Applied (book book' : BookView) (j : JobIs BodyView) (effects : List 
   pub script_is : book'.script ≡ book.script
   pub ends : IsEndOf book jobs j effects exit book'.log book'.held jobs'
 
-abbrev pub AppliesTurn : BookView → BookView → JobIs BodyView → StageView → List JobView → List JobView → Type 0
-AppliesTurn book book' j (played worker env frame fields effects exit) jobs jobs' = Applied book book' j effects exit jobs jobs'
-AppliesTurn book book' j _ jobs jobs' = Unit {0}
-
--- there is a chosen job, of which this holds
-abbrev pub HasJob : Option Chosen → (Chosen → Type 0) → Type 0
-HasJob place P = (c : Chosen) × (place ≡ Some c) × P c
+-- there is a job in this place, of which this holds
+abbrev pub HasJob : Option (JobIs BodyView) → (JobIs BodyView → Type 0) → Type 0
+HasJob place P = (j : JobIs BodyView) × (place ≡ Some j) × P j
 
 -- the book has begun its turn on a worker
-pub record BeginsJob (book book' : BookView) (worker : ℕ) (new : Option Chosen) (c : Chosen) : Type 0 where
+pub record BeginsJob (book book' : BookView) (worker : ℕ) (old new : Chosen) (j : JobIs BodyView) : Type 0 where
   pub env : Env
-  pub given : IsEnv (root_count book.script) c.job.task book.log env
-  pub book_is : book' ≡ record book { log = book.log ++ Begin c.job.task c.job.number env ∷ [] }
-  pub new_is : new ≡ Some (record { job = c.job; arrival = c.arrival; stage = stage.Begun worker env })
+  pub given : IsEnv (root_count book.script) j.task book.log env
+  pub book_is : book' ≡ record book { log = book.log ++ Begin j.task j.number env ∷ [] }
+  pub new_is : new ≡ record old { stage = stage.Begun worker env }
 
 abbrev pub StageIsBegun : Stage → Type 0
 StageIsBegun (stage.Begun worker env) = Unit {0}
 StageIsBegun _ = ⊥
 
--- its turn was played on these fields, and gave those
-pub record PlaysJob (rows rows' : List (List ℤ)) (new : Option Chosen) (c : Chosen) : Type 0 where
+-- its turn was played on these fields, and has left this
+pub record PlaysJob (rows : List (List ℤ)) (old new : Chosen) (p : Played) (j : JobIs BodyView) : Type 0 where
   pub worker : ℕ
   pub env : Env
-  pub was : c.stage ≡ stage.Begun worker env
+  pub was : old.stage ≡ stage.Begun worker env
   pub job : JobIs BodyView
-  pub left_by : Played
-  pub turned : JobTurned c.job job rows env rows' left_by
-  pub new_is : new ≡ Some (record { job = job; arrival = c.arrival; stage = stage.Played worker env left_by })
+  pub turned : JobTurned j job rows env p
+  pub new_is : new ≡ record old { job = Some job; stage = stage.Played worker env }
 
 -- it has had no turn
-pub record KeepsJob (new : Option Chosen) (c : Chosen) : Type 0 where
+pub record KeepsJob (old new : Chosen) (j : JobIs BodyView) : Type 0 where
   pub job : JobIs BodyView
-  pub unturned : JobUnturned c.job job
-  pub new_is : new ≡ Some (record { job = job; arrival = c.arrival; stage = c.stage })
+  pub unturned : JobUnturned j job
+  pub new_is : new ≡ record old { job = Some job }
 
 -- the book has taken its turn
-pub record AppliesJob (book book' : BookView) (jobs jobs' : List JobView) (task : TaskId) (new : Option Chosen) (c : Chosen) : Type 0 where
-  pub applied : AppliesTurn book book' c.job (stage_of [] c.stage) jobs jobs'
-  pub gone : new ≡ None
-  pub task_is : task ≡ c.job.task
+pub record AppliesJob (book book' : BookView) (p : Played) (jobs jobs' : List JobView) (task : TaskId) (j : JobIs BodyView) : Type 0 where
+  pub applied : Applied book book' j (effect_views p.effects.items) (exit_view p.exit) jobs jobs'
+  pub task_is : task ≡ j.task
 
--- it is seen as it was
-pub record SeemsJob (new : Option Chosen) (c : Chosen) : Type 0 where
-  pub now : Chosen
-  pub new_is : new ≡ Some now
-  pub same : (next : List (Vec ℤ Global)) → chosen_view next now ≡ chosen_view next c
+-- some book of an equal script has taken its turn
+pub record IsTaken (p : Played) (jobs jobs' : List JobView) (task : TaskId) (j : JobIs BodyView) : Type 0 where
+  pub book : BookView
+  pub book_after : BookView
+  pub book_of : book.script ≡ j.body.script
+  pub takes : AppliesJob book book_after p jobs jobs' task j
+
+-- why the book does not take what a turn has left
+abbrev pub refusal_of_left : BookView → JobIs BodyView → Played → Option BookFault
+refusal_of_left book j p = refusal_of_apply book.script book.log j (effect_views p.effects.items) (exit_view p.exit)
 
 -- a journal for which there is room is folded, another stays
 abbrev pub Settles : Option (Vec (Vec ℤ Global) Global) → List RecordView → List RecordView → CheckpointRoom → CheckpointRoom → Type 0

@@ -264,6 +264,13 @@ pub record Journals (book book' : BookView) (jobs jobs' : List JobView) (old new
     fields = fields;
   }
 
+-- The turn of the chosen job is journalled, and a book of an equal script has taken it.
+pub record EndsTurn (jobs jobs' : List JobView) (old new : ExecView) : Type 0 where
+  pub book : BookView
+  pub book_after : BookView
+  pub book_of : book.script ≡ old.script
+  pub turn : HasChosen old (Journals book book_after jobs jobs' old new)
+
 -- the fields of an actor, among those of these actors
 abbrev pub fields_at : List ℕ → List (List ℤ) → ℕ → List ℤ
 fields_at [] rows actor = []

@@ -1,23 +1,30 @@
--- How the fields of an executor are seen. No public clause names these.
-use Rattle.std.specs.Prelude.{ℤ, Option, Some, None, List}
+-- How the chosen job of an executor is seen. No public clause names these.
+use Rattle.std.specs.Prelude.{ℕ, Option, Some, None}
 use Rattle.script_code.specs.Seen.{rows_of}
-use Rattle.std.specs.declared.vec.Vec.{Vec}
-use Rattle.std.specs.declared.alloc.Global.{Global}
 use Rattle.swift_interpreter.specs.Frames.{frame_view, effect_views}
 use Rattle.swift_interpreter.specs.TurnStates.{exit_view}
+use Rattle.swift_queue.specs.Job.{JobIs}
+use Rattle.swift_turn.specs.Body.{BodyView}
 use Rattle.swift_executor.specs.declared.chosen.Chosen.{Chosen}
+use Rattle.swift_executor.specs.declared.chosen.Played.{Played}
 use Rattle.swift_executor.specs.declared.chosen.Stage.{Stage}
-use Rattle.swift_executor.specs.declared.chosen.Stage.TheVariants.{Picked, Begun, Played}
+use Rattle.swift_executor.specs.declared.chosen.Stage.TheVariants.{Picked, Begun, Played as PlayedStage}
 use Rattle.swift_executor.specs.State.{ChosenView, StageView, picked, begun, played}
 
-abbrev pub stage_of : List (Vec ℤ Global) → Stage → StageView
-stage_of next Picked = picked
-stage_of next (Begun worker env) = begun worker env
-stage_of next (Played worker env p) = played worker env (frame_view p.frame) (rows_of next) (effect_views p.effects.items) (exit_view p.exit)
+-- how far it is, with what its turn has left where it was played
+abbrev pub stage_of : Played → Stage → StageView
+stage_of p Picked = picked
+stage_of p (Begun worker env) = begun worker env
+stage_of p (PlayedStage worker env) = played worker env (frame_view p.frame) (rows_of p.fields.items) (effect_views p.effects.items) (exit_view p.exit)
 
-abbrev pub chosen_view : List (Vec ℤ Global) → Chosen → ChosenView
-chosen_view next c = record { job = c.job; arrival = c.arrival; stage = stage_of next c.stage }
+-- a job with what is kept beside it
+abbrev pub chosen_view : Played → ℕ → Stage → JobIs BodyView → ChosenView
+chosen_view p arrival stage job = record { job = job; arrival = arrival; stage = stage_of p stage }
 
-abbrev pub chosen_of : List (Vec ℤ Global) → Option Chosen → Option ChosenView
-chosen_of next None = None
-chosen_of next (Some c) = Some (chosen_view next c)
+-- the job of a place, where there is one
+abbrev pub chosen_at : Played → ℕ → Stage → Option (JobIs BodyView) → Option ChosenView
+chosen_at p arrival stage None = None
+chosen_at p arrival stage (Some job) = Some (chosen_view p arrival stage job)
+
+abbrev pub chosen_of : Played → Chosen → Option ChosenView
+chosen_of p c = chosen_at p c.arrival c.stage c.job

@@ -1,70 +1,115 @@
-//! The job that was chosen.
+//! The job that was chosen, and what its turn has left.
 
-ghost use Rattle.std.specs.Prelude.{◌≡◌, None, Some};
-ghost use Rattle.swift_executor.specs.Playing.{HasJob};
+ghost use Rattle.std.specs.Prelude.{◌≡◌, None, Some, IsSome};
 
 use script_code::Env;
+use std::alloc::Global;
 use std::mem;
 use swift_interpreter::{Effect, Exit, Frame};
 use swift_queue::Job;
 use swift_turn::Body;
 
 /// How far the chosen job is.
-#[derive(Drop)]
+#[derive(Clone, Copy)]
 pub enum Stage {
     /// Its turn has not begun.
     Picked,
     /// Its turn has begun on this worker, and was given this.
     Begun(u32, Env),
-    /// Its turn was played. The fields that it gave are kept by the executor.
-    Played(u32, Env, Played),
+    /// Its turn was played on this worker, and was given this. What it has left is kept beside.
+    Played(u32, Env),
 }
 
-/// What a turn has left beside its fields.
-#[derive(Drop)]
-pub struct Played {
-    /// The frame as it was before.
-    pub frame: Frame,
-    pub effects: Vec<Effect>,
-    pub exit: Exit,
-}
-
-/// The job that was chosen, with the number of its arrival.
+/// The job that was chosen. Where there is none, the rest means nothing.
 pub struct Chosen {
-    pub job: Job<Body>,
+    // In an option of its own, which the book empties where it takes the turn.
+    pub job: Option<Job<Body>>,
+    /// The number of its arrival.
     pub arrival: u64,
     pub stage: Stage,
 }
 
+/// What the turn that was played last has left. Its buffers are kept from turn to turn.
+pub struct Played {
+    /// The frame as it was before.
+    pub frame: Frame,
+    /// The fields after it.
+    pub fields: Vec<Vec<i64>>,
+    pub effects: Vec<Effect>,
+    pub exit: Exit,
+}
+
+// By hand, so that it is not taken apart in each proof of a function that drops one.
+impl Drop for Played {
+    fn drop(self) {
+        let Played {
+            frame,
+            fields,
+            effects,
+            exit,
+        } = self;
+        drop(frame);
+        drop(fields);
+        drop(effects);
+        drop(exit);
+    }
+}
+
+impl Chosen {
+    /// No job.
+    pub fn none() -> Self
+        ensures { result.job ≡ None }
+    {
+        Chosen {
+            job: None,
+            arrival: 0,
+            stage: Stage::Picked,
+        }
+    }
+
+    /// Keeps a job as the chosen one, where none was. Its turn has not begun.
+    pub fn pick(&mut self, job: Job<Body>, arrival: u64)
+        requires { self.old.job ≡ None }
+        ensures { self.new ≡ record { job = Some job; arrival = arrival; stage = Stage.Picked } }
+    {
+        fill(&mut self.job, job);
+        self.arrival = arrival;
+        self.stage = Stage::Picked;
+    }
+}
+
+impl Played {
+    /// What stands there before the first turn, with buffers for the fields. It takes no memory.
+    pub fn new(alloc: Global, fields: Vec<Vec<i64>>) -> Self
+        ensures { result.fields ≡ fields }
+    {
+        Played {
+            frame: Frame::new(alloc),
+            fields,
+            effects: Vec::new(alloc),
+            exit: Exit::Yield,
+        }
+    }
+}
+
 /// Takes the chosen job out of its place.
-pub fn take_out(place: &mut Option<Chosen>) -> (Job<Body>, u64, Stage)
-    requires { HasJob place.old (λ _. Unit {0}) }
-    ensures was { place.old ≡ Some (record { job = result.0; arrival = result.1; stage = result.2 }) }
+pub fn take_out(place: &mut Option<Job<Body>>) -> Job<Body>
+    requires { IsSome place.old }
+    ensures was { place.old ≡ Some result }
     ensures gone { place.new ≡ None }
 {
     match place.take() {
-        Some(
-            Chosen {
-                job,
-                arrival,
-                stage,
-            },
-        ) => (job, arrival, stage),
+        Some(job) => job,
         None => unreachable!(),
     }
 }
 
-/// Keeps a job as the chosen one, where none was.
-pub fn fill(place: &mut Option<Chosen>, job: Job<Body>, arrival: u64, stage: Stage)
+/// Puts a job into a place where none is.
+pub fn fill(place: &mut Option<Job<Body>>, job: Job<Body>)
     requires { place.old ≡ None }
-    ensures { place.new ≡ Some (record { job = job; arrival = arrival; stage = stage }) }
+    ensures { place.new ≡ Some job }
 {
-    let chosen = Chosen {
-        job,
-        arrival,
-        stage,
-    };
-    match mem::replace(place, Some(chosen)) {
+    match mem::replace(place, Some(job)) {
         None => {}
         Some(_before) => unreachable!(),
     }

@@ -5,6 +5,7 @@ ghost use Rattle.std.specs.Arc.{arc_value};
 ghost use Rattle.swift_inbox.specs.Inbox.{IsDrained};
 ghost use Rattle.swift_inbox.specs.Site.{CanRunAt};
 ghost use Rattle.swift_executor.specs.Exec.{IsAt, IsDeskOf, first_desk, has_sent, site_of};
+ghost use Rattle.swift_shared_book.specs.Shared.{KnowsScriptOf};
 
 use crate::desk::Desk;
 use crate::fault::ExecFault;
@@ -18,6 +19,7 @@ use std::sync::{Arc, Wait};
 use swift_inbox::{ExecutorSite, Inbox, Pass};
 use swift_queue::Job;
 use swift_script::Script;
+use swift_shared_book::BookSeat;
 use swift_turn::Body;
 use swift_types::ExecId;
 use swift_word::{Was, Word};
@@ -26,7 +28,7 @@ use swift_word::{Was, Word};
 /// sends jobs and runs turns with a `Desk` of its own. One turn runs at a time, since a worker takes the state out of the
 /// word before it, and puts it back after. No call waits for a turn that another thread runs.
 ///
-/// In a clause it is its word, its inbox, with its script and number, and how many workers the run has. No clause knows
+/// In a clause it is its word, its inbox, with its script and number, its book, and how many workers the run has. No clause knows
 /// the state, since other threads may change it at any moment: what holds of it is said by its type, `ExecState`. Where an
 /// executor is dropped, its jobs are spent.
 pub struct Exec {
@@ -81,9 +83,9 @@ impl Model for Exec {
 
     ghost coded = { Prim.hlevel (codes, expression_code, statement_code (block_code (Prim.hlevel (codes, expression_code)) (Prim.hlevel (codes, expression_code)))) };
 
-    ghost view = { λ e. record { word = e.word.id; inbox = e.inbox; workers = e.workers } };
+    ghost view = { λ e. record { word = e.word.id; inbox = e.inbox; book = e.word.name.book.book; workers = e.workers } };
 
-    ghost invariant = { λ e. (e.word.name ≡ state_name e.inbox.site e.inbox.id) × (0 < e.workers) × (e.spare.list.items ≡ []) × (e.inbox.room ≤ vec_capacity e.spare.list) };
+    ghost invariant = { λ e. (e.word.name ≡ state_name e.inbox.site e.inbox.id e.word.name.book.book) × (0 < e.workers) × (e.spare.list.items ≡ []) × (e.inbox.room ≤ vec_capacity e.spare.list) };
 }
 
 /// What is left of an executor.
@@ -104,15 +106,17 @@ fn first_state(
     site: &ExecutorSite,
     pass: Pass,
     room: usize,
+    seat: BookSeat,
 ) -> Result<Resting, AllocError>
     requires site { pass.site ≡ Some site.now }
     requires unused { (pass.pushed ≡ []) × (pass.taken ≡ []) }
-    ensures { IfOk result (λ r. (site_of r.state ≡ site.now) × (r.pass ≡ pass)) }
+    requires book { KnowsScriptOf site.now.script seat }
+    ensures { IfOk result (λ r. (site_of r.state ≡ site.now) × (r.pass ≡ pass) × (r.seat ≡ seat)) }
 {
     new_has_taken_none();
     let script = Arc::clone(site.script())?;
     let state = ExecState::new(alloc, script, site.executor(), room)?;
-    let held = Held { state, pass };
+    let held = Held { state, pass, seat };
     match Box::new(alloc, held) {
         Ok(held) => Ok(Resting::new(held)),
         Err(refused) => {
@@ -124,7 +128,8 @@ fn first_state(
 
 impl Exec {
     /// An executor of a script, by its number, that has run no turn, with room for so many jobs in its inbox, at least 1, and as
-    /// many that are ready; and its first desk, by which 2^60 jobs may be sent. A run of so many workers, at least 1. The number is
+    /// many that are ready; and its first desk, by which 2^60 jobs may be sent. Its turns are applied to the book that the seat
+    /// takes, which is of the same script. A run of so many workers, at least 1. The number is
     /// not looked at: at one that the script lacks no job can run. Out of memory nothing remains, and a room of 2^60 or more is
     /// refused so. The room is not touched before it is used, but for a mark at each place of the inbox.
     pub fn new(
@@ -133,11 +138,14 @@ impl Exec {
         executor: ExecId,
         workers: u32,
         room: usize,
+        seat: BookSeat,
     ) -> Result<(Exec, Desk), AllocError>
         requires workers { 0 < workers }
         requires room { 0 < room }
+        requires book { KnowsScriptOf (arc_value script) seat }
         ensures site { IfOk result (λ r. r.0.inbox.site ≡ record { script = arc_value script; executor = executor.0 }) }
         ensures room { IfOk result (λ r. r.0.inbox.room ≡ room) }
+        ensures book { IfOk result (λ r. r.0.book ≡ seat.lock) }
         ensures workers { IfOk result (λ r. r.0.workers ≡ workers) }
         ensures desk { IfOk result (λ r. r.1 ≡ first_desk r.0) }
     {
@@ -147,7 +155,7 @@ impl Exec {
         let list = Vec::with_capacity(alloc, room)?;
         let spare = Spare { list };
         let taking = pass.split(&inbox);
-        let state = first_state(alloc, &own, taking, room)?;
+        let state = first_state(alloc, &own, taking, room, seat)?;
         match Word::open(alloc, state) {
             Ok((word, seat)) => Ok((
                 Exec {

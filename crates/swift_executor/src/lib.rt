@@ -19,6 +19,8 @@ mod pick;
 mod playing;
 // A turn of the chosen job.
 mod turns;
+// The end of a turn, where threads share the book.
+mod ending;
 // The account of an executor.
 pub mod laws;
 

@@ -6,7 +6,6 @@ ghost use Rattle.swift_executor.specs.Ready.{Adds, HasRoom, level_at};
 ghost use Rattle.swift_executor.specs.State.{BelongsTo, Chooses, HasNone, LacksTask, takes_by_arrival};
 ghost use Rattle.swift_ledger.specs.Levels.{AreLevels};
 
-use crate::chosen::{Stage, fill};
 use crate::fault::ExecFault;
 use crate::state::ExecState;
 use script_grammar::ExecutorKind;
@@ -53,7 +52,7 @@ impl ExecState {
             self.ready.restore(job, arrival);
             return Err(ExecFault::Refused(BookFault::Unknown));
         }
-        fill(&mut self.chosen, job, arrival, Stage::Picked);
+        self.chosen.pick(job, arrival);
         Ok(Some(task))
     }
 }

@@ -10,18 +10,19 @@ ghost use Rattle.swift_tasks.specs.Books.{job_view};
 ghost use Rattle.swift_interpreter.specs.Frames.{frame_view};
 ghost use Rattle.swift_script.specs.Scripts.{method_count};
 ghost use Rattle.swift_turn.specs.Body.{IsRunning, callers_of};
-ghost use Rattle.swift_executor.specs.Playing.{CanGoBack, HasFoldRoom, HasTurned, IsUnturned, JobTurned, JobUnturned, Settles, WritesRecord};
+ghost use Rattle.swift_executor.specs.Playing.{CanGoBack, HasFoldRoom, HasJob, HasTurned, IsUnturned, JobTurned, JobUnturned, Settles, WritesRecord};
 ghost use Rattle.swift_executor.specs.State.{before_turn, frame_after};
 ghost use Rattle.swift_executor.specs.StateInside.{stage_of};
 
-use crate::chosen::{Played, Stage};
+use crate::chosen::{Played, Stage, fill, take_out};
 use futures::task::Context;
 use script_code::Env;
 use std::alloc::{AllocError, Global};
+use std::mem;
 use swift_interpreter::{Exit, Frame};
 use swift_journal::{Checkpoint, Journal, Record};
 use swift_queue::Job;
-use swift_turn::{Body, run_turn};
+use swift_turn::{Body, play_turn};
 use swift_types::Resume;
 use swift_types::limits::FOLD;
 
@@ -62,50 +63,48 @@ fn copy_row(row: &mut Vec<i64>, from: &[i64]) -> Result<(), AllocError>
     row.extend_from_slice(from)
 }
 
-// Runs a turn of a body on these fields. Where there is no memory for it, the fields come back as rows that mean nothing.
+// Runs a turn of a body on the fields that `played` has, and leaves there what it gives. Where there is no memory for it, what
+// is there means nothing, and the body has had no turn.
 fn play_body(
     body: &mut Body,
     cx: &mut Context<'_>,
-    fields: Vec<Vec<i64>>,
     resume: Resume,
     env: Env,
-) -> Result<(Vec<Vec<i64>>, Played), Vec<Vec<i64>>>
+    played: &mut Played,
+) -> Result<(), AllocError>
     requires { IsRunning body.old }
-    ensures ok { IfOk result (λ r. HasTurned body.old body.new (rows_of fields.items) resume env (rows_of r.0.items) r.1) }
+    ensures ok { OnOk result (HasTurned body.old body.new (rows_of played.old.fields.items) resume env played.new) }
     ensures err { OnErr result (IsUnturned body.old body.new) }
     ensures kept { Keeps cx.old cx.new }
 {
-    let Ok(frame) = body.frame() else {
-        return Err(fields);
-    };
-    match run_turn(body, cx, fields, resume, env) {
-        Ok((fields, effects, exit)) => Ok((
-            fields,
-            Played {
-                frame,
-                effects,
-                exit,
-            },
-        )),
-        Err((fields, _)) => Err(fields),
-    }
+    played.exit = play_turn(
+        body,
+        cx,
+        &mut played.fields,
+        resume,
+        env,
+        &mut played.frame,
+        &mut played.effects,
+    )?;
+    Ok(())
 }
 
-/// Runs the turn of a job on these fields. Where there is no memory for it, the job has had none.
+/// Runs the turn of the job in its place, on the fields that `played` has. Where there is no memory for it, the job has had none.
 pub fn play_job(
-    job: Job<Body>,
+    place: &mut Option<Job<Body>>,
     cx: &mut Context<'_>,
-    fields: Vec<Vec<i64>>,
     env: Env,
-) -> (Job<Body>, Result<(Vec<Vec<i64>>, Played), Vec<Vec<i64>>>)
-    requires { IsRunning job.body }
-    ensures ok { IfOk result.1 (λ r. JobTurned job result.0 (rows_of fields.items) env (rows_of r.0.items) r.1) }
-    ensures err { OnErr result.1 (JobUnturned job result.0) }
+    played: &mut Played,
+) -> Result<(), AllocError>
+    requires { HasJob place.old (λ j. IsRunning j.body) }
+    ensures ok { OnOk result (HasJob place.old (λ old. HasJob place.new (λ new. JobTurned old new (rows_of played.old.fields.items) env played.new))) }
+    ensures err { OnErr result (HasJob place.old (λ old. HasJob place.new (JobUnturned old))) }
     ensures kept { Keeps cx.old cx.new }
 {
-    let (task, number, resume, mut body) = job.spend();
-    let played = play_body(&mut body, cx, fields, resume, env);
-    (Job::new(task, number, resume, body), played)
+    let (task, number, resume, mut body) = take_out(place).spend();
+    let turned = play_body(&mut body, cx, resume, env, played);
+    fill(place, Job::new(task, number, resume, body));
+    turned
 }
 
 /// The job with this frame in place of the one that runs.
@@ -120,21 +119,17 @@ pub fn with_frame(job: Job<Body>, frame: Frame) -> Job<Body>
     Job::new(task, number, resume, body)
 }
 
-/// The job as it was when it was chosen.
-pub fn as_chosen(job: Job<Body>, stage: Stage) -> Job<Body>
+/// The job as it was when it was chosen. The frame that was kept for this goes back, and then it means nothing.
+pub fn as_chosen(alloc: Global, job: Job<Body>, stage: Stage, played: &mut Played) -> Job<Body>
     requires running { IsRunning job.body }
-    requires frame { CanGoBack job stage }
-    ensures job { job_view result ≡ before_turn (stage_of [] stage) job }
+    requires frame { CanGoBack job played.old stage }
+    ensures job { job_view result ≡ before_turn (stage_of played.old stage) job }
     ensures script { result.body.script ≡ job.body.script }
 {
     match stage {
         Stage::Picked | Stage::Begun(_, _) => job,
-        Stage::Played(_, _, played) => {
-            let Played {
-                frame,
-                effects: _,
-                exit: _,
-            } = played;
+        Stage::Played(_, _) => {
+            let frame = mem::replace(&mut played.frame, Frame::new(alloc));
             with_frame(job, frame)
         }
     }
@@ -152,22 +147,27 @@ fn after<'a>(body: &'a Body, exit: &Exit) -> Option<&'a Frame>
 }
 
 /// Writes the record of a turn that was played.
-pub fn write_record(journal: &mut Journal, job: &Job<Body>, stage: &Stage) -> Result<(), AllocError>
+pub fn write_record(
+    journal: &mut Journal,
+    job: &Job<Body>,
+    stage: Stage,
+    played: &Played,
+) -> Result<(), AllocError>
     requires { IsRunning job.now.body }
-    ensures ok { OnOk result (WritesRecord stage.now job.now journal.old journal.new) }
+    ensures ok { OnOk result (WritesRecord played.now stage job.now journal.old journal.new) }
     ensures err { OnErr result (journal.new ≡ journal.old) }
 {
-    let Stage::Played(worker, env, played) = stage else {
+    let Stage::Played(worker, env) = stage else {
         return Ok(());
     };
     journal.push(&Record {
         task: job.task(),
         number: job.number(),
-        worker: *worker,
+        worker,
         frame: &played.frame,
         outer: job.body().outer(),
         resume: job.resume(),
-        env: *env,
+        env,
         exit: &played.exit,
         effects: &played.effects,
         after: after(job.body(), &played.exit),

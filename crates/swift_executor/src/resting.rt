@@ -2,19 +2,23 @@
 
 ghost use Rattle.std.specs.Prelude.{◌≡◌, None};
 ghost use Rattle.swift_executor.specs.Exec.{IsOf};
+ghost use Rattle.swift_shared_book.specs.Shared.{KnowsScriptOf};
 
 use crate::state::ExecState;
 use crate::state_name::StateName;
 use std::marker::Model;
 use swift_inbox::Pass;
 use swift_queue::Job;
+use swift_shared_book::BookSeat;
 use swift_turn::Body;
 use swift_word::Named;
 
-/// What a worker holds of an executor: its state, and the pass by which its jobs come out of the inbox.
+/// What a worker holds of an executor: its state, the pass by which its jobs come out of the inbox, and the seat by which it
+/// takes the book.
 pub struct Held {
     pub state: ExecState,
     pub pass: Pass,
+    pub seat: BookSeat,
 }
 
 /// The state of an executor while no worker holds it: no job is chosen. Where it is dropped, its jobs are spent.
@@ -27,14 +31,15 @@ impl Model for Resting {
     ghost use Rattle.std.specs.Coded.{codes};
     ghost use Rattle.swift_script.specs.Codes.{expression_code, statement_code, block_code};
     ghost use Rattle.swift_executor.specs.Exec.{IsOf, RestingIs};
+    ghost use Rattle.swift_shared_book.specs.Shared.{KnowsScriptOf};
 
     ghost Value = { RestingIs };
 
     ghost coded = { Prim.hlevel (codes, expression_code, statement_code (block_code (Prim.hlevel (codes, expression_code)) (Prim.hlevel (codes, expression_code)))) };
 
-    ghost view = { λ r. record { state = r.held.value.state; pass = r.held.value.pass } };
+    ghost view = { λ r. record { state = r.held.value.state; pass = r.held.value.pass; seat = r.held.value.seat } };
 
-    ghost invariant = { λ r. (r.held.value.state.chosen ≡ None) × IsOf r.held.value.pass r.held.value.state };
+    ghost invariant = { λ r. (r.held.value.state.chosen ≡ None) × IsOf r.held.value.pass r.held.value.state × KnowsScriptOf r.held.value.state.script r.held.value.seat };
 }
 
 impl Named for Resting {
@@ -42,7 +47,7 @@ impl Named for Resting {
 
     ghost use Rattle.swift_executor.specs.Exec.{state_name, site_of};
 
-    ghost name = { λ r. state_name (site_of r.state) r.pass.inbox };
+    ghost name = { λ r. state_name (site_of r.state) r.pass.inbox r.seat.lock };
 }
 
 impl Resting {
@@ -50,16 +55,18 @@ impl Resting {
     pub fn new(held: Box<Held>) -> Resting
         requires free { held.value.state.chosen ≡ None }
         requires is_of { IsOf held.value.pass held.value.state }
-        ensures { result ≡ record { state = held.value.state; pass = held.value.pass } }
+        requires book { KnowsScriptOf held.value.state.script held.value.seat }
+        ensures { result ≡ record { state = held.value.state; pass = held.value.pass; seat = held.value.seat } }
     {
         Resting { held }
     }
 
     /// The state, for the worker that holds it.
     pub fn into_held(self) -> Box<Held>
-        ensures same { (result.value.state ≡ self.state) × (result.value.pass ≡ self.pass) }
+        ensures same { (result.value.state ≡ self.state) × (result.value.pass ≡ self.pass) × (result.value.seat ≡ self.seat) }
         ensures free { result.value.state.chosen ≡ None }
         ensures is_of { IsOf result.value.pass result.value.state }
+        ensures book { KnowsScriptOf result.value.state.script result.value.seat }
     {
         let Resting { held } = self;
         held
@@ -72,7 +79,11 @@ impl Resting {
         ensures is_of { IsOf result.1 result.0 }
     {
         let held = Box::into_inner(self.into_held());
-        let Held { state, pass } = held;
+        let Held {
+            state,
+            pass,
+            seat: _,
+        } = held;
         (state, pass)
     }
 }
@@ -89,7 +100,11 @@ pub fn spend_all(mut jobs: Vec<Job<Body>>) {
 pub fn spend_held(held: Held)
     requires { held.state.chosen ≡ None }
 {
-    let Held { state, pass: _ } = held;
+    let Held {
+        state,
+        pass: _,
+        seat: _,
+    } = held;
     let (jobs, _journal, _fields, _checkpoint) = state.into_parts();
     spend_all(jobs);
 }

@@ -6,7 +6,8 @@ ghost use Rattle.futures.specs.Task.{Keeps};
 ghost use Rattle.swift_script.specs.Scripts.{executor_kind};
 ghost use Rattle.swift_tasks.specs.Books.{IsJobOf, job_view};
 ghost use Rattle.swift_executor.specs.Account.{HasTaken};
-ghost use Rattle.swift_executor.specs.Exec.{IfNoTurn, IfTurn, IsMadeBy, chosen_task, IsAt, IsDeskOf, IsRunFault, IsSeatAt, after_run, may_run, seat_after, site_of};
+ghost use Rattle.swift_executor.specs.Exec.{IfNoTurn, IfTurn, IsMadeBy, chosen_task, IsAt, IsDeskOf, IsRunFault, IsSeatAt, after_run, book_of, may_run, seat_after, site_of};
+ghost use Rattle.swift_shared_book.specs.Shared.{IsSeatOf};
 ghost use Rattle.swift_word.specs.Seat.{ended, left};
 ghost use Rattle.swift_executor.specs.State.{HasChosen, IsBegun, IsPicked, IsPlayed};
 
@@ -19,10 +20,10 @@ use crate::ran::Ran;
 use crate::resting::{Held, Resting};
 use futures::task::Context;
 use script_grammar::ExecutorKind;
-use std::sync::{Mutex, Wait};
+use std::sync::Wait;
 use swift_inbox::Inbox;
 use swift_queue::Job;
-use swift_tasks::Book;
+use swift_shared_book::BookLock;
 use swift_turn::Body;
 use swift_types::{ExecId, TaskId};
 use swift_word::{Begun, Left, Seat};
@@ -41,14 +42,16 @@ pub fn may_run(kind: ExecutorKind, workers: u32, worker: u32) -> bool
     }
 }
 
-// Takes the oldest job of the inbox, where there is one, and room for it.
+// Takes the oldest job of the inbox, where there is one, and room for it. Where the inbox was just found empty, it is not asked
+// for a job, which takes longer.
 fn accept_one<R: Wait>(rt: &R, inbox: &Inbox, held: &mut Held) -> bool
     requires at { IsAt inbox.now held.old.pass held.old.state }
     requires free { held.old.state.chosen ≡ None }
     ensures at { IsAt inbox.now held.new.pass held.new.state }
     ensures free { held.new.state.chosen ≡ None }
+    ensures seat { held.new.seat ≡ held.old.seat }
 {
-    if !held.state.has_room() {
+    if inbox.is_empty_now(&mut held.pass) || !held.state.has_room() {
         return false;
     }
     match inbox.take(rt, &mut held.pass) {
@@ -67,6 +70,7 @@ fn accept_all<R: Wait>(rt: &R, inbox: &Inbox, held: &mut Held)
     requires free { held.old.state.chosen ≡ None }
     ensures at { IsAt inbox.now held.new.pass held.new.state }
     ensures free { held.new.state.chosen ≡ None }
+    ensures seat { held.new.seat ≡ held.old.seat }
 {
     for _ in 0..inbox.room() {
         if !accept_one(rt, inbox, held) {
@@ -79,18 +83,22 @@ fn accept_all<R: Wait>(rt: &R, inbox: &Inbox, held: &mut Held)
 fn choose_one<R: Wait>(
     rt: &R,
     held: &mut Held,
-    book: &Mutex<Book>,
+    book: &BookLock,
 ) -> Result<Option<TaskId>, ExecFault>
     requires free { held.old.state.chosen ≡ None }
+    requires seat { IsSeatOf book.now held.old.seat }
     ensures same { (held.new.pass ≡ held.old.pass) × (site_of held.new.state ≡ site_of held.old.state) }
+    ensures seat { IsSeatOf book.now held.new.seat }
     ensures taken { HasTaken held.old.pass.taken held.old.state → HasTaken held.new.pass.taken held.new.state }
     ensures some { IfOk result (λ picked. IfSome picked (λ task. HasChosen held.new.state (λ c. IsPicked c.stage) × (chosen_task held.new.state.chosen ≡ Some task))) }
     ensures none { IfOk result (λ picked. IfNone picked (held.new.state.chosen ≡ None)) }
     ensures free { OnErr result (held.new.state.chosen ≡ None) }
     ensures err { IfErr result IsRunFault }
 {
-    let mut book = book.lock(rt);
-    held.state.choose(book.levels())
+    let mut open = book.lock(rt, &mut held.seat);
+    let picked = held.state.choose(open.book.levels());
+    book.unlock(&mut held.seat, open);
+    picked
 }
 
 // Begins the turn of the chosen job.
@@ -98,10 +106,13 @@ fn start_one<R: Wait>(
     rt: &R,
     held: &mut Held,
     worker: u32,
-    book: &Mutex<Book>,
+    book: &BookLock,
 ) -> Result<(), ExecFault>
     requires picked { HasChosen held.old.state (λ c. IsPicked c.stage) }
+    requires seat { IsSeatOf book.now held.old.seat }
+    requires script { book.now.script ≡ held.old.state.script }
     ensures same { (held.new.pass ≡ held.old.pass) × (site_of held.new.state ≡ site_of held.old.state) }
+    ensures seat { IsSeatOf book.now held.new.seat }
     ensures taken { HasTaken held.old.pass.taken held.old.state → HasTaken held.new.pass.taken held.new.state }
     ensures ok { OnOk result (HasChosen held.new.state (λ c. IsBegun c.stage) × (chosen_task held.new.state.chosen ≡ chosen_task held.old.state.chosen)) }
     ensures free { OnErr result (held.new.state.chosen ≡ None) }
@@ -109,14 +120,17 @@ fn start_one<R: Wait>(
 {
     start_loses_none();
     refusal_loses_none();
-    let mut book = book.lock(rt);
-    held.state.start(worker, &mut book)
+    let mut open = book.lock(rt, &mut held.seat);
+    let begun = held.state.start(worker, &mut open.book);
+    book.unlock(&mut held.seat, open);
+    begun
 }
 
 // Plays the turn that has begun.
 fn play_one(held: &mut Held, cx: &mut Context<'_>) -> Result<(), ExecFault>
     requires begun { HasChosen held.old.state (λ c. IsBegun c.stage) }
     ensures same { (held.new.pass ≡ held.old.pass) × (site_of held.new.state ≡ site_of held.old.state) }
+    ensures seat { held.new.seat ≡ held.old.seat }
     ensures taken { HasTaken held.old.pass.taken held.old.state → HasTaken held.new.pass.taken held.new.state }
     ensures ok { OnOk result (HasChosen held.new.state (λ c. IsPlayed c.stage) × (chosen_task held.new.state.chosen ≡ chosen_task held.old.state.chosen)) }
     ensures free { OnErr result (held.new.state.chosen ≡ None) }
@@ -132,11 +146,14 @@ fn play_one(held: &mut Held, cx: &mut Context<'_>) -> Result<(), ExecFault>
 fn end_one<R: Wait>(
     rt: &R,
     held: &mut Held,
-    book: &Mutex<Book>,
+    book: &BookLock,
     jobs: &mut Vec<Job<Body>>,
 ) -> Result<(), ExecFault>
     requires played { HasChosen held.old.state (λ c. IsPlayed c.stage) }
+    requires seat { IsSeatOf book.now held.old.seat }
+    requires script { book.now.script ≡ held.old.state.script }
     ensures same { (held.new.pass ≡ held.old.pass) × (site_of held.new.state ≡ site_of held.old.state) }
+    ensures seat { IsSeatOf book.now held.new.seat }
     ensures taken { HasTaken held.old.pass.taken held.old.state → HasTaken held.new.pass.taken held.new.state }
     ensures free { held.new.state.chosen ≡ None }
     ensures made { OnOk result (IsMadeBy held.old.state.script (chosen_task held.old.state.chosen) (map job_view jobs.old.items) (map job_view jobs.new.items)) }
@@ -144,8 +161,7 @@ fn end_one<R: Wait>(
     ensures bodies { OnOk result (AllByRecursion (IsJobOf held.old.state.script) jobs.old.items → AllByRecursion (IsJobOf held.old.state.script) jobs.new.items) }
     ensures err { IfErr result IsRunFault }
 {
-    let mut book = book.lock(rt);
-    held.state.turn(&mut book, jobs)
+    held.state.turn_locked(rt, book, &mut held.seat, jobs)
 }
 
 // Runs a turn of the job that comes first. None where no job is ready.
@@ -154,7 +170,7 @@ fn turn_one<R, G>(
     held: &mut Held,
     executor: ExecId,
     worker: u32,
-    book: &Mutex<Book>,
+    book: &BookLock,
     cx: &mut Context<'_>,
     jobs: &mut Vec<Job<Body>>,
     gate: &G,
@@ -163,7 +179,10 @@ where
     R: Wait,
     G: Gate,
     requires free { held.old.state.chosen ≡ None }
+    requires seat { IsSeatOf book.now held.old.seat }
+    requires script { book.now.script ≡ held.old.state.script }
     ensures same { (held.new.pass ≡ held.old.pass) × (site_of held.new.state ≡ site_of held.old.state) }
+    ensures seat { IsSeatOf book.now held.new.seat }
     ensures taken { HasTaken held.old.pass.taken held.old.state → HasTaken held.new.pass.taken held.new.state }
     ensures free { held.new.state.chosen ≡ None }
     ensures made { IfOk result (λ ran. IfSome ran (λ task. IsMadeBy held.old.state.script (Some task) (map job_view jobs.old.items) (map job_view jobs.new.items))) }
@@ -191,6 +210,7 @@ impl Exec {
         requires found { IsSomeAnd seat.old.holding (λ found. 0 < found) }
         requires at { IsAt self.now.inbox held.value.pass held.value.state }
         requires free { held.value.state.chosen ≡ None }
+        requires book { IsSeatOf (book_of self.now) held.value.seat }
         ensures { seat.new ≡ ended seat.old }
     {
         self.word.end(seat, Resting::new(held))
@@ -202,6 +222,7 @@ impl Exec {
         requires found { IsSome seat.old.holding }
         requires at { IsAt self.now.inbox held.value.pass held.value.state }
         requires free { held.value.state.chosen ≡ None }
+        requires book { IsSeatOf (book_of self.now) held.value.seat }
         ensures { seat.new ≡ left seat.old }
     {
         self.word.leave(seat, Resting::new(held))
@@ -215,7 +236,7 @@ impl Exec {
         found: u64,
         mut held: Box<Held>,
         worker: u32,
-        book: &Mutex<Book>,
+        book: &BookLock,
         cx: &mut Context<'_>,
         jobs: &mut Vec<Job<Body>>,
         gate: &G,
@@ -227,6 +248,8 @@ impl Exec {
         requires found { seat.old.holding ≡ Some found }
         requires at { IsAt self.now.inbox held.value.pass held.value.state }
         requires free { held.value.state.chosen ≡ None }
+        requires book { IsSeatOf (book_of self.now) held.value.seat }
+        requires lock { book.now ≡ book_of self.now }
         ensures seat { IfOk result (λ ran. seat.new ≡ seat_after ran seat.old) }
         ensures kept { OnErr result (seat.new ≡ left seat.old) }
         ensures free { (seat.new.name ≡ seat.old.name) × (seat.new.holding ≡ None) }
@@ -256,6 +279,8 @@ impl Exec {
     /// begins and while it is journalled, and not while it is played. The jobs that the turn makes come behind those that `jobs` has; they
     /// are of an equal script and their bodies have not ended. `Busy` where another worker holds the executor.
     ///
+    /// The book is the executor's own: it is of the same script, so no scripts are compared.
+    ///
     /// It waits for the lock of the book, and for another thread that is between two steps of a call of the inbox. It takes no
     /// memory but what `ExecState::play` and `ExecState::turn` say.
     ///
@@ -270,7 +295,7 @@ impl Exec {
         rt: &R,
         desk: &mut Desk,
         worker: u32,
-        book: &Mutex<Book>,
+        book: &BookLock,
         cx: &mut Context<'_>,
         jobs: &mut Vec<Job<Body>>,
         gate: &G,
@@ -278,7 +303,8 @@ impl Exec {
     where
         R: Wait,
         G: Gate,
-        requires { IsDeskOf self.now desk.old }
+        requires desk { IsDeskOf self.now desk.old }
+        requires book { book.now ≡ book_of self.now }
         ensures desk { IfOk result (λ ran. desk.new ≡ after_run ran desk.old) }
         ensures kept { OnErr result (desk.new ≡ desk.old) }
         ensures made { IfOk result (IfTurn (λ task. IsMadeBy self.now.inbox.site.script (Some task) (map job_view jobs.old.items) (map job_view jobs.new.items))) }

@@ -11,7 +11,7 @@ ghost use Rattle.swift_script.specs.Scripts.{executor_actors, executor_invariant
 ghost use Rattle.swift_executor.specs.Ready.{HasRoom, tasks_in, times};
 ghost use Rattle.swift_executor.specs.State.{IsExecutor, chosen_count, fields_at, new_executor};
 
-use crate::chosen::Chosen;
+use crate::chosen::{Chosen, Played};
 use crate::ready::Ready;
 use std::alloc::{AllocError, Global};
 use std::marker::Model;
@@ -38,12 +38,13 @@ pub struct ExecState {
     pub(crate) script: Arc<Script>,
     pub(crate) executor: ExecId,
     pub(crate) ready: Ready<Body>,
-    pub(crate) chosen: Option<Chosen>,
+    // It changes in its place: a turn moves it as little as it can.
+    pub(crate) chosen: Chosen,
     pub(crate) journal: Journal,
     pub(crate) checkpoint: Checkpoint,
     pub(crate) fields: Vec<Vec<i64>>,
-    // The fields after a turn that was played and is not journalled yet. At other times they mean nothing.
-    pub(crate) next: Vec<Vec<i64>>,
+    // What a turn that was played and is not journalled yet has left. At other times it means nothing.
+    pub(crate) played: Played,
 }
 
 impl Model for ExecState {
@@ -59,9 +60,9 @@ impl Model for ExecState {
 
     ghost use Rattle.swift_executor.specs.StateInside.{chosen_of};
 
-    ghost view = { λ s. record { script = arc_value s.script; executor = s.executor.0; ready = s.ready; chosen = chosen_of s.next.items s.chosen; journal = s.journal; checkpoint = s.checkpoint.view; fields = rows_of s.fields.items } };
+    ghost view = { λ s. record { script = arc_value s.script; executor = s.executor.0; ready = s.ready; chosen = chosen_of s.played s.chosen; journal = s.journal; checkpoint = s.checkpoint.view; fields = rows_of s.fields.items } };
 
-    ghost invariant = { λ s. IsExecutor (record { script = arc_value s.script; executor = s.executor.0; ready = s.ready; chosen = chosen_of s.next.items s.chosen; journal = s.journal; checkpoint = s.checkpoint.view; fields = rows_of s.fields.items }) };
+    ghost invariant = { λ s. IsExecutor (record { script = arc_value s.script; executor = s.executor.0; ready = s.ready; chosen = chosen_of s.played s.chosen; journal = s.journal; checkpoint = s.checkpoint.view; fields = rows_of s.fields.items }) };
 }
 
 impl ExecState {
@@ -84,11 +85,11 @@ impl ExecState {
             script,
             executor,
             ready,
-            chosen: None,
+            chosen: Chosen::none(),
             journal: Journal::new(alloc),
             checkpoint: Checkpoint::new(alloc, start),
             fields,
-            next,
+            played: Played::new(alloc, next),
         })
     }
 
@@ -107,7 +108,7 @@ impl ExecState {
     pub fn has_room(&self) -> bool
         ensures { IsTrue result ↔ HasRoom self.now.ready (chosen_count self.now.chosen) }
     {
-        let taken = if self.chosen.is_some() { 1 } else { 0 };
+        let taken = if self.chosen.job.is_some() { 1 } else { 0 };
         self.ready.has_room(taken)
     }
 
@@ -154,13 +155,17 @@ impl ExecState {
             script: _,
             executor: _,
             ready,
-            chosen,
+            chosen: Chosen {
+                job,
+                arrival: _,
+                stage: _,
+            },
             journal,
             checkpoint,
             fields,
-            next: _,
+            played: _,
         } = self;
-        match chosen {
+        match job {
             None => (ready.into_jobs(), journal, fields, checkpoint),
             Some(_) => unreachable!(),
         }

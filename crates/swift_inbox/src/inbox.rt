@@ -136,6 +136,16 @@ impl Inbox {
         }
     }
 
+    /// Whether the inbox was empty at one moment of the call: two loads, and it never waits. A thread that finds it empty need
+    /// not `take`; what comes in later is seen by whoever asks next. No clause says when it is true, since no clause knows what is
+    /// inside.
+    pub fn is_empty_now(&self, pass: &mut Pass) -> bool
+        requires { IsPassOf self.now pass.old }
+        ensures { pass.new ≡ pass.old }
+    {
+        self.queue.is_empty_as::<Takes>(&mut pass.raw)
+    }
+
     /// Gives the inbox up: what is inside goes onto a list, the oldest first. It takes no memory.
     ///
     /// With the list comes the pass by which the jobs were taken out: its account is what came onto the list. That pass is

@@ -4,11 +4,12 @@ use Rattle.std.specs.Prelude.{Option, slice_get, slice_set, take, unwrap_or}
 use Rattle.std.proofs.lemmas.Option.{none-some, same_Some, slice_get_read}
 use Rattle.swift_script.specs.Scripts.{ScriptView}
 use Rattle.swift_inbox.specs.Site.{Site}
-use Rattle.swift_executor.specs.Exec.{ExecIs, DeskIs, IsDeskOf, after_run}
+use Rattle.swift_executor.specs.Exec.{ExecIs, DeskIs, IsDeskOf, after_run, book_of}
 use Rattle.swift_executor.specs.declared.ran.Ran.{Ran}
 use Rattle.swift_executor.specs.declared.ran.Ran.TheVariants.{Turn, Busy, Nothing}
 use Rattle.swift_workers.specs.declared.crew.Hand.{Hand}
-use Rattle.swift_workers.specs.Crew.{AreAtSites, AreDesksOf, AreHandsOf}
+use Rattle.swift_shared_book.specs.Shared.{BookLockIs}
+use Rattle.swift_workers.specs.Crew.{AreAtSites, AreDesksOf, AreHandsOf, AreOfBook}
 
 abbrev Each : List ExecIs → List DeskIs → Type 0
 Each execs desks = (k : ℕ) (e : ExecIs) (d : DeskIs) → slice_get execs k ≡ Some e → slice_get desks k ≡ Some d → IsDeskOf e d
@@ -77,9 +78,24 @@ site_push p execs e are is =
     λ k f at. subst (λ n. f.inbox.site ≡ record { script = p; executor = n }) (to k)
     (sites_from p 0 execs e (λ i g there. subst (λ n. g.inbox.site ≡ record { script = p; executor = n }) (sym (to i)) (are i g there)) (subst (λ n. e.inbox.site ≡ record { script = p; executor = n }) (sym (to (length execs))) is) k f at)
 
+-- one executor more of the same book
+pub book_push : (b : BookLockIs) (execs : List ExecIs) (e : ExecIs) → AreOfBook b execs → b ≡ book_of e → AreOfBook b (execs ++ e ∷ [])
+book_push b [] e are is zero f at = subst (λ (z : ExecIs). b ≡ book_of z) (same_Some e f at) is
+book_push b [] e are is (suc k) f at = absurd (cc at)
+book_push b (x ∷ xs) e are is zero f at = are zero f at
+book_push b (x ∷ xs) e are is (suc k) f at = book_push b xs e (λ i g there. are (suc i) g there) is k f at
+
+-- the book of the executor at a place
+pub book_at : (b : BookLockIs) (execs : List ExecIs) (k : ℕ) (e : ExecIs) → AreOfBook b execs → k < length execs → e ≡ get_or execs k e → b ≡ book_of e
+book_at b execs k e are lt at = are k e (slice_get_read execs (length execs) k e refl lt at)
+
 at_end : (xs rest : List ExecIs) (e : ExecIs) → slice_get (xs ++ e ∷ rest) (length xs) ≡ Some e
 at_end [] rest e = refl
 at_end (x ∷ xs) rest e = at_end xs rest e
+
+-- the site of the executor at a place
+pub site_at : (p : ScriptView) (execs : List ExecIs) (k : ℕ) (e : ExecIs) → AreAtSites p execs → k < length execs → e ≡ get_or execs k e → e.inbox.site ≡ record { script = p; executor = k }
+site_at p execs k e are lt at = are k e (slice_get_read execs (length execs) k e refl lt at)
 
 -- the script of the executor at a place
 pub site_script : (p : ScriptView) (execs : List ExecIs) (k : ℕ) (e : ExecIs) → AreAtSites p execs → k < length execs → e ≡ get_or execs k e → e.inbox.site.script ≡ p

@@ -4,11 +4,16 @@ use Rattle.std.specs.List.{AllByRecursion}
 use Rattle.swift_workers.specs.declared.crew.Hand.{Hand}
 use Rattle.swift_workers.specs.Leaves.{EachFrom}
 use Rattle.swift_script.specs.Scripts.{ScriptView}
-use Rattle.swift_executor.specs.Exec.{ExecIs, DeskIs, IsDeskOf}
+use Rattle.swift_executor.specs.Exec.{ExecIs, DeskIs, IsDeskOf, book_of}
+use Rattle.swift_shared_book.specs.Shared.{BookLockIs}
 
 -- the kth executor is that of the script with the number k
 abbrev pub AreAtSites : ScriptView → List ExecIs → Type 0
 AreAtSites p execs = (k : ℕ) (e : ExecIs) → slice_get execs k ≡ Some e → e.inbox.site ≡ record { script = p; executor = k }
+
+-- each executor is of this book
+abbrev pub AreOfBook : BookLockIs → List ExecIs → Type 0
+AreOfBook b execs = (k : ℕ) (e : ExecIs) → slice_get execs k ≡ Some e → b ≡ book_of e
 
 -- the kth desk is of the kth executor
 pub record AreDesksOf (execs : List ExecIs) (desks : List DeskIs) : Type 0 where

@@ -1,3 +1,4 @@
+pub mod BellInside
 pub mod Crew
 pub mod Leaves
 pub mod PartsInside

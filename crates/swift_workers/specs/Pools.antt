@@ -1,5 +1,5 @@
 -- What the pool of tokens tells a worker, what a visit's answer says of the executor's token, and why a run is given up (our own).
-use Rattle.std.specs.Prelude.{◌≡◌, ◌≢◌, ◌⊎◌, ◌+◌, ◌<◌, ◌++◌, ℕ, Option, Some, None, Result, Ok, Err, IsTrue, All, length, min, slice_get, take, drop}
+use Rattle.std.specs.Prelude.{◌≡◌, ◌≢◌, ◌⊎◌, ◌+◌, ◌-◌, ◌<◌, ◌++◌, ℕ, Option, Some, None, Result, Ok, Err, List, IsTrue, All, length, min, slice_get, take, drop}
 use Rattle.swift_types.specs.declared.id.ExecId.{ExecId}
 use Rattle.swift_script.specs.Scripts.{ScriptView, executor_kind}
 use Rattle.swift_executor.specs.Exec.{may_run}
@@ -8,6 +8,7 @@ use Rattle.swift_executor.specs.declared.ran.Ran.TheVariants as ran
 use Rattle.swift_word.specs.declared.word.Left.{Left}
 use Rattle.swift_word.specs.declared.word.Left.TheVariants.{Idle}
 use Rattle.swift_workers.specs.declared.fault.Halt.{Halt}
+use Rattle.swift_workers.specs.declared.fault.Halt.TheVariants.{Memory}
 use Rattle.swift_workers.specs.declared.pool.Next.{Next}
 use Rattle.swift_workers.specs.declared.pool.Next.TheVariants.{Visit, Pause, Stop}
 use Rattle.swift_workers.specs.declared.pool.Pool.{Pool}
@@ -41,6 +42,24 @@ abbrev pub IsNext : (ExecId → Type 0) → Pool → Next → Pool → Type 0
 IsNext may old (Visit on) new = (old.halt ≡ None) × ((place : ℕ) × IsTaken old place on new × may on × All (λ t. may t → ⊥) (take place old.tokens.items))
 IsNext may old Pause new = (old.halt ≡ None) × All (λ t. may t → ⊥) old.tokens.items × ((length old.tokens.items ≢ 0) ⊎ (old.under_way ≢ 0)) × IsKept old new
 IsNext may old Stop new = ((old.halt ≢ None) ⊎ ((length old.tokens.items ≡ 0) × (old.under_way ≡ 0))) × IsKept old new
+
+-- A worker has finished what followed from its token, and these tokens stand behind the others.
+pub record IsPut (old : Pool) (put : List ExecId) (done : Result (Unit {0}) Halt) (new : Pool) : Type 0 where
+  pub tokens : new.tokens.items ≡ old.tokens.items ++ put
+  pub under_way : new.under_way ≡ old.under_way - 1
+  pub halt : new.halt ≡ first_cause old.halt done
+
+-- The same where memory was refused for a token: those before it were put, and the run is given up.
+pub record IsCutShort (old : Pool) (put : List ExecId) (done : Result (Unit {0}) Halt) (new : Pool) : Type 0 where
+  pub many : ℕ
+  pub within : many < length put
+  pub tokens : new.tokens.items ≡ old.tokens.items ++ take many put
+  pub under_way : new.under_way ≡ old.under_way - 1
+  pub halt : new.halt ≡ first_cause (first_cause old.halt done) (Err Memory)
+
+-- The turn of a worker is over, and it had these tokens to put.
+abbrev pub IsOver : Pool → List ExecId → Result (Unit {0}) Halt → Pool → Type 0
+IsOver old put done new = IsPut old put done new ⊎ IsCutShort old put done new
 
 -- Whether the token of an executor goes back after this visit: as the visit said. Where another worker holds the executor, that one
 -- says so when it ends.

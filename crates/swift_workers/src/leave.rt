@@ -134,13 +134,13 @@ fn parts_of<R: Wait>(rt: &R, alloc: Global, execs: Vec<Exec>) -> Result<Parts, H
     Ok(parts)
 }
 
-/// The report of a run that was played, or was given up.
+/// The report of a run that was played, or was given up. A book that was not given back is `Unfinished`.
 pub fn report_of<R: Wait>(
     rt: &R,
     alloc: Global,
     script: &Script,
     execs: Vec<Exec>,
-    book: Book,
+    book: Option<Book>,
     played: Result<(), Halt>,
 ) -> Result<Report, Halt>
     requires sites { AreAtSites script.now execs.items }
@@ -152,6 +152,10 @@ pub fn report_of<R: Wait>(
     ensures fields { IfOk result (λ r. length r.fields.items ≡ length execs.items) }
     ensures endings { IfOk result (λ r. AreEndings (root_count script.now) r.log.items r.endings.items) }
 {
+    let Some(book) = book else {
+        played?;
+        return Err(Halt::Unfinished);
+    };
     let endings = endings_of(alloc, script, &book);
     let (log, waiting) = book.close();
     give_all_up(waiting);

@@ -1,6 +1,9 @@
 //! Runs a script to its end on one to eight threads, over the executors and the book of tasks.
 #![tactic(auto)]
 
+// Where one worker waits.
+mod bell;
+
 // The executors of a script, and the desks of each worker.
 mod crew;
 
@@ -15,6 +18,9 @@ mod pool;
 
 // Jobs on their way to executors.
 mod sending;
+
+// The pool as workers share it.
+mod shared_pool;
 
 // The turns of one worker.
 mod turns;

@@ -1,7 +1,8 @@
 //! The tokens of executors that have jobs.
 
-ghost use Rattle.std.specs.Prelude.{◌≡◌, ◌-◌, ◌<◌, ◌++◌, ◌∷◌, ◌↔◌, [], All, Err, None, IfNone, IfSome, IsSomeAnd, IsTrue, OnOk, OnErr, length, slice_get, take};
-ghost use Rattle.swift_workers.specs.Pools.{IsNext, IsTaken, MayVisit, first_cause};
+ghost use Rattle.std.specs.Prelude.{◌≡◌, ℕ, ◌-◌, ◌<◌, ◌++◌, ◌∷◌, ◌↔◌, [], All, Err, None, IfNone, IfSome, IsSomeAnd, IsTrue, OnOk, OnErr, length, slice_get, take};
+ghost use Rattle.swift_workers.specs.declared.pool.Pool.{Pool};
+ghost use Rattle.swift_workers.specs.Pools.{IsNext, IsOver, IsTaken, MayVisit, first_cause};
 
 use crate::fault::Halt;
 use std::alloc::{AllocError, Global};
@@ -31,8 +32,8 @@ pub enum Next {
     Stop,
 }
 
-// Whether an executor is one that this worker may run.
-fn is_for(script: &Script, workers: u32, worker: u32, on: ExecId) -> bool
+/// Whether an executor is one that this worker may run.
+pub fn is_for(script: &Script, workers: u32, worker: u32, on: ExecId) -> bool
     ensures { IsTrue result ↔ MayVisit script.now workers worker on }
 {
     workers > 0 && may_run(script.executor_kind(on), workers, worker)
@@ -51,6 +52,16 @@ fn place_for(tokens: &VecDeque<ExecId>, script: &Script, workers: u32, worker: u
         }
     }
     None
+}
+
+// Whether the oldest token is one that this worker may run.
+fn is_first_for(tokens: &VecDeque<ExecId>, script: &Script, workers: u32, worker: u32) -> bool
+    ensures { IsTrue result → IsSomeAnd (slice_get tokens.now.items 0) (MayVisit script.now workers worker) }
+{
+    match tokens.front() {
+        Some(on) => is_for(script, workers, worker, *on),
+        None => false,
+    }
 }
 
 impl Pool {
@@ -73,7 +84,12 @@ impl Pool {
         ensures { IsTaken self.old place result self.new }
     {
         self.under_way = self.under_way.saturating_add(1);
-        match self.tokens.remove(place) {
+        let taken = if place == 0 {
+            self.tokens.pop_front()
+        } else {
+            self.tokens.remove(place)
+        };
+        match taken {
             Some(on) => on,
             None => unreachable!(),
         }
@@ -86,6 +102,19 @@ impl Pool {
         if self.halt.is_some() {
             return Next::Stop;
         }
+        // Nearly always so.
+        if is_first_for(&self.tokens, script, workers, worker) {
+            return Next::Visit(self.take(0));
+        }
+        self.next_by_place(script, workers, worker)
+    }
+
+    // The same where the run is not given up, by a look at each token.
+    #[inline(never)]
+    fn next_by_place(&mut self, script: &Script, workers: u32, worker: u32) -> Next
+        requires { self.old.halt ≡ None }
+        ensures { IsNext (MayVisit script.now workers worker) self.old result self.new }
+    {
         if let Some(place) = place_for(&self.tokens, script, workers, worker) {
             return Next::Visit(self.take(place));
         }
@@ -94,6 +123,13 @@ impl Pool {
         } else {
             Next::Pause
         }
+    }
+
+    /// How many tokens there are.
+    pub fn token_count(&self) -> usize
+        ensures { result ≡ length self.now.tokens.items }
+    {
+        self.tokens.len()
     }
 
     /// Puts a token behind the others. After an error there is none more.
@@ -107,6 +143,19 @@ impl Pool {
         Ok(())
     }
 
+    /// Puts these tokens behind the others, in order. After an error there are some of the first ones more.
+    pub fn put_all(&mut self, tokens: &[ExecId]) -> Result<(), AllocError>
+        ensures ok { OnOk result (self.new.tokens.items ≡ self.old.tokens.items ++ tokens.now) }
+        ensures err { OnErr result ((put : ℕ) × (put < length tokens.now) × (self.new.tokens.items ≡ self.old.tokens.items ++ take put tokens.now)) }
+        ensures under_way { self.new.under_way ≡ self.old.under_way }
+        ensures halt { self.new.halt ≡ self.old.halt }
+    {
+        for on in tokens {
+            self.put(*on)?;
+        }
+        Ok(())
+    }
+
     /// A worker has finished what followed from its token. Where it was refused, the run is given up.
     pub fn finish(&mut self, done: Result<(), Halt>)
         ensures tokens { self.new.tokens.items ≡ self.old.tokens.items }
@@ -117,6 +166,32 @@ impl Pool {
         if let Err(halt) = done {
             self.give_up(halt);
         }
+    }
+
+    // A worker has finished what followed from its token, and these tokens go behind the others. Out of memory the run is given up.
+    fn end_turn(&mut self, tokens: &[ExecId], done: Result<(), Halt>)
+        ensures { IsOver self.old tokens.now done self.new }
+    {
+        self.finish(done);
+        if self.put_all(tokens).is_err() {
+            self.give_up(Halt::Memory);
+        }
+    }
+
+    /// The end of a worker's turn, and what it does next, in one: it puts these tokens behind the others, in order, it has
+    /// finished, and it takes the oldest token that it may run. Where it was refused, or a token was refused memory, the run is given up.
+    pub fn turn_over(
+        &mut self,
+        tokens: &[ExecId],
+        done: Result<(), Halt>,
+        script: &Script,
+        workers: u32,
+        worker: u32,
+    ) -> Next
+        ensures { (mid : Pool) × IsOver self.old tokens.now done mid × IsNext (MayVisit script.now workers worker) mid result self.new }
+    {
+        self.end_turn(tokens, done);
+        self.next(script, workers, worker)
     }
 
     /// The run is given up, for the first cause that is told.

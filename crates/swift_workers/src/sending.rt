@@ -5,7 +5,7 @@ ghost use Rattle.std.specs.List.{AllByRecursion};
 ghost use Rattle.swift_tasks.specs.Books.{IsJobOf};
 ghost use Rattle.swift_workers.specs.Crew.{AreAtSites, AreDesksOf};
 
-use crate::crew::Crew;
+use crate::crew::{Crew, Hand};
 use crate::fault::Halt;
 use std::sync::Wait;
 use swift_executor::{Desk, Exec, Gate};
@@ -61,43 +61,45 @@ fn put<R: Wait, G: Gate>(
     }
 }
 
-// Sends a job to the executor of its actor. Where that was idle, its token goes behind the others.
+// Sends a job to the executor of its actor. Where that was idle, its token goes behind those that the worker has to put.
 fn send<R: Wait, G: Gate>(
     rt: &R,
     crew: Crew<'_>,
-    desks: &mut Vec<Desk>,
+    hand: &mut Hand,
     job: Job<Body>,
     gate: &G,
 ) -> Result<(), Halt>
     requires sites { AreAtSites crew.script.now crew.execs.now }
-    requires desks { AreDesksOf crew.execs.now desks.old.items }
+    requires desks { AreDesksOf crew.execs.now hand.old.desks.items }
     requires job { IsJobOf crew.script.now job }
-    ensures desks { AreDesksOf crew.entry.execs.now desks.new.items }
+    ensures desks { AreDesksOf crew.entry.execs.now hand.new.desks.items }
 {
-    let (on, was) = put(rt, crew.script, crew.execs, desks, job, gate)?;
+    let (on, was) = put(rt, crew.script, crew.execs, &mut hand.desks, job, gate)?;
     if was == Was::Idle {
-        crew.pool.lock(rt).put(on)?;
+        // Where there is no memory for it the token is lost, and the run is given up: no executor is visited any more.
+        hand.tokens.push(on)?;
     }
     Ok(())
 }
 
-/// Sends each of these jobs to the executor of its actor, in order. After a refusal those that are left stand in the list.
+/// Sends each of these jobs to the executor of its actor, in order. The tokens of executors that were idle go behind those that the
+/// worker has to put, in this order. After a refusal the jobs that are left stand in the list.
 pub fn send_all<R: Wait, G: Gate>(
     rt: &R,
     crew: Crew<'_>,
-    desks: &mut Vec<Desk>,
+    hand: &mut Hand,
     jobs: &mut Vec<Job<Body>>,
     gate: &G,
 ) -> Result<(), Halt>
     requires sites { AreAtSites crew.script.now crew.execs.now }
-    requires desks { AreDesksOf crew.execs.now desks.old.items }
+    requires desks { AreDesksOf crew.execs.now hand.old.desks.items }
     requires jobs { AllByRecursion (IsJobOf crew.script.now) jobs.old.items }
-    ensures desks { AreDesksOf crew.entry.execs.now desks.new.items }
+    ensures desks { AreDesksOf crew.entry.execs.now hand.new.desks.items }
     ensures sent { OnOk result (jobs.new.items ≡ []) }
 {
     jobs.reverse();
     while let Some(job) = jobs.pop() {
-        send(rt, crew, desks, job, gate)?;
+        send(rt, crew, hand, job, gate)?;
     }
     Ok(())
 }
@@ -107,6 +109,7 @@ pub fn add_roots(script: &Script, book: &mut Book, jobs: &mut Vec<Job<Body>>) ->
     requires book { book.old.script ≡ script.now }
     requires jobs { AllByRecursion (IsJobOf script.now) jobs.old.items }
     ensures jobs { AllByRecursion (IsJobOf script.now) jobs.new.items }
+    ensures script { book.new.script ≡ script.now }
 {
     script.facts();
     jobs.reserve(script.root_count())?;

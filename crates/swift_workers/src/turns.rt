@@ -3,14 +3,13 @@
 ghost use Rattle.std.specs.Prelude.{◌≡◌, [], OnOk};
 ghost use Rattle.std.specs.List.{AllByRecursion};
 ghost use Rattle.swift_tasks.specs.Books.{IsJobOf};
-ghost use Rattle.swift_workers.specs.Crew.{AreAtSites, AreDesksOf};
+ghost use Rattle.swift_workers.specs.Crew.{AreAtSites, AreDesksOf, AreOfBook};
 ghost use Rattle.swift_workers.specs.Pools.{left_after};
 
 use crate::crew::{Crew, Hand};
 use crate::fault::Halt;
 use crate::pool::Next;
 use crate::sending::{give_all_up, send_all};
-use crossbeam_utils::Backoff;
 use futures::task::{Context, Doorbell, Solo};
 use std::alloc::AllocGlobal;
 use std::random::RandomSource;
@@ -42,6 +41,7 @@ fn visit<R: Wait, G: Gate>(
     gate: &G,
 ) -> Result<Left, Halt>
     requires sites { AreAtSites crew.script.now crew.execs.now }
+    requires book { AreOfBook crew.book.now crew.execs.now }
     requires desks { AreDesksOf crew.execs.now hand.old.desks.items }
     requires jobs { jobs.old.items ≡ [] }
     ensures desks { AreDesksOf crew.entry.execs.now hand.new.desks.items }
@@ -59,8 +59,9 @@ fn visit<R: Wait, G: Gate>(
     Ok(left_of(ran))
 }
 
-// A turn at the executor whose token this is. The token goes behind the others where more is pending there, and then the
-// jobs that the turn made are sent. After a refusal those of them that were not sent stand in `jobs`.
+// A turn at the executor whose token this is, and then the jobs that the turn made are sent. The tokens that have to be put
+// stand in the hand: first this one, where more is pending there, and then those of executors that were idle. After a refusal the jobs
+// that were not sent stand in `jobs`.
 fn turn_at<R: Wait, G: Gate>(
     rt: &R,
     cx: &mut Context<'_>,
@@ -71,19 +72,26 @@ fn turn_at<R: Wait, G: Gate>(
     gate: &G,
 ) -> Result<(), Halt>
     requires sites { AreAtSites crew.script.now crew.execs.now }
+    requires book { AreOfBook crew.book.now crew.execs.now }
     requires desks { AreDesksOf crew.execs.now hand.old.desks.items }
     requires jobs { jobs.old.items ≡ [] }
     ensures desks { AreDesksOf crew.entry.execs.now hand.new.desks.items }
     ensures sent { OnOk result (jobs.new.items ≡ []) }
 {
+    // Those of the turn before have been put.
+    hand.tokens.clear();
     let left = visit(rt, cx, crew, hand, jobs, on, gate)?;
     if left == Left::More {
-        crew.pool.lock(rt).put(on)?;
+        hand.tokens.push(on)?;
     }
-    send_all(rt, crew, &mut hand.desks, jobs, gate)
+    send_all(rt, crew, hand, jobs, gate)
 }
 
 // Runs turns until the pool says that there are none left. After a refusal jobs that were made may stand in `jobs`.
+//
+// Each token that a turn takes or makes is in the pool again at its end, or the run has been given up: the one that is taken is put
+// back where more is pending, unless the visit is refused; and one more is put for each executor that was idle, unless memory is. What a
+// turn has to put is put after a refusal too.
 fn drain<R: Wait, G: Gate>(
     rt: &R,
     cx: &mut Context<'_>,
@@ -93,25 +101,31 @@ fn drain<R: Wait, G: Gate>(
     gate: &G,
 )
     requires sites { AreAtSites crew.script.now crew.execs.now }
+    requires book { AreOfBook crew.book.now crew.execs.now }
     requires desks { AreDesksOf crew.execs.now hand.old.desks.items }
     requires jobs { jobs.old.items ≡ [] }
 {
-    let mut backoff = Backoff::new();
+    let Crew {
+        script,
+        pool,
+        workers,
+        ..
+    } = crew;
+    let worker = hand.worker;
+    let mut next = pool.next(rt, script, workers, worker);
     for _ in 0..u64::MAX {
-        let next = crew
-            .pool
-            .lock(rt)
-            .next(crew.script, crew.workers, hand.worker);
         match next {
             Next::Stop => return,
-            Next::Pause => backoff.snooze(),
+            Next::Pause => {
+                pool.wait(rt, worker);
+                next = pool.next(rt, script, workers, worker);
+            }
             Next::Visit(on) => {
                 let done = turn_at(rt, cx, crew, hand, jobs, on, gate);
-                crew.pool.lock(rt).finish(done);
+                next = pool.turn_over(rt, &hand.tokens, done, script, workers, worker);
                 if done.is_err() {
                     return;
                 }
-                backoff.reset();
             }
         }
     }
@@ -123,10 +137,11 @@ where
     R: RandomSource + AllocGlobal + Wait,
     G: Gate,
     requires sites { AreAtSites crew.script.now crew.execs.now }
+    requires book { AreOfBook crew.book.now crew.execs.now }
     requires desks { AreDesksOf crew.execs.now hand.desks.items }
 {
     let Ok(solo) = Solo::new(rt, Doorbell::spinning()) else {
-        crew.pool.lock(rt).give_up(Halt::Memory);
+        crew.pool.give_up(rt, Halt::Memory);
         return;
     };
     let mut cx = solo.begin();

@@ -9,18 +9,19 @@ ghost use Rattle.swift_tasks.specs.Books.{IsJobOf};
 ghost use Rattle.swift_history.specs.Histories.{IsLegal};
 ghost use Rattle.swift_certificate.specs.Reports.{report_view};
 ghost use Rattle.swift_workers.specs.declared.fault.RunFault.TheVariants.{Workers};
-ghost use Rattle.swift_workers.specs.Crew.{AreAtSites, AreDesksOf, AreHandsOf, AreOthers};
+ghost use Rattle.swift_shared_book.specs.Shared.{IsSeatOf};
+ghost use Rattle.swift_workers.specs.Crew.{AreAtSites, AreDesksOf, AreHandsOf, AreOfBook, AreOthers};
 ghost use Rattle.swift_workers.specs.Leaves.{AreEndings, AreReplayed, KeepInvariants};
 
 use crate::crew::{Crew, Hand, open_all, others_of};
 use crate::fault::{Halt, RunFault};
 use crate::leave::report_of;
-use crate::pool::Pool;
 use crate::sending::{add_roots, give_all_up, send_all};
+use crate::shared_pool::SharedPool;
 use crate::turns::work;
 use std::alloc::{AllocGlobal, Global};
 use std::random::RandomSource;
-use std::sync::{Arc, Mutex, Wait};
+use std::sync::{Arc, Wait};
 use std::thread;
 use std::thread::Threads;
 use swift_certificate::legal_if_replayed;
@@ -28,6 +29,7 @@ use swift_executor::{Exec, Gate};
 use swift_queue::Job;
 use swift_report::Report;
 use swift_script::Script;
+use swift_shared_book::{BookLock, BookSeat};
 use swift_tasks::Book;
 use swift_turn::Body;
 use swift_types::limits::WORKERS;
@@ -38,8 +40,8 @@ use swift_types::limits::WORKERS;
 /// their fields are what these give. This takes one thread, time and memory linear in the log, the journals and the endings.
 ///
 /// An executor with jobs has a token, until a worker takes it. A worker takes the oldest token of an executor that it may run,
-/// runs one turn there, puts the token behind the others where more is pending, and then sends the jobs that the turn made; an
-/// executor that was idle gets a token. A pinned executor is run by one worker alone. A worker that finds no such token pauses
+/// runs one turn there, and sends the jobs that the turn made. Then the token goes behind the others where more is pending, and
+/// after it one for each executor that was idle. A pinned executor is run by one worker alone. A worker that finds no such token sleeps
 /// while a token is left or another worker is under way, and else stops. It stops, too, once the run is given up. The roots' jobs
 /// are sent first, as the text declares them; then the workers start. With one worker a run is determined. `run` returns when
 /// each thread that it made has ended.
@@ -92,14 +94,54 @@ where
     ensures endings { IfOk result (λ r. AreEndings (root_count (arc_value script.now)) r.log.items r.endings.items) }
 {
     let alloc = rt.alloc();
-    let (execs, mut desks) = open_all(alloc, script, workers)?;
+    let (book, mut seat) = shared_book(alloc, script)?;
+    let (execs, mut desks) = open_all(alloc, script, workers, &book, &mut seat)?;
     let others = others_of(alloc, &execs, &mut desks, workers)?;
-    let first = Hand { worker: 0, desks };
-    let book = Book::new(alloc, Arc::clone(script)?)?;
-    let (book, played) = play(
-        rt, alloc, script, &execs, first, others, book, workers, gate,
+    let first = Hand {
+        worker: 0,
+        desks,
+        tokens: Vec::new(alloc),
+    };
+    let played = play(
+        rt, alloc, script, &execs, first, others, &book, &mut seat, workers, gate,
     );
-    report_of(rt, alloc, script, execs, book, played)
+    report_of(rt, alloc, script, execs, book.close(seat), played)
+}
+
+// A book without tasks, as threads share it, and its first seat.
+fn shared_book(alloc: Global, script: &Arc<Script>) -> Result<(BookLock, BookSeat), Halt>
+    ensures script { IfOk result (λ r. r.0.script ≡ arc_value script.now) }
+    ensures seat { IfOk result (λ r. IsSeatOf r.0 r.1) }
+{
+    let book = Book::new(alloc, Arc::clone(script)?)?;
+    match BookLock::new(alloc, book) {
+        Ok(shared) => Ok(shared),
+        Err((book, _)) => {
+            let (_log, waiting) = book.close();
+            give_all_up(waiting);
+            Err(Halt::Memory)
+        }
+    }
+}
+
+// Adds the roots to the book. Their jobs come onto the list.
+fn add_all_roots<R: Wait>(
+    rt: &R,
+    script: &Script,
+    book: &BookLock,
+    seat: &mut BookSeat,
+    jobs: &mut Vec<Job<Body>>,
+) -> Result<(), Halt>
+    requires seat { IsSeatOf book.now seat.old }
+    requires book { book.now.script ≡ script.now }
+    requires jobs { AllByRecursion (IsJobOf script.now) jobs.old.items }
+    ensures seat { IsSeatOf book.now seat.new }
+    ensures jobs { AllByRecursion (IsJobOf script.now) jobs.new.items }
+{
+    let mut open = book.lock(rt, seat);
+    let added = add_roots(script, &mut open.book, jobs);
+    book.unlock(seat, open);
+    added
 }
 
 // Adds the roots to a book without tasks, sends their jobs by the first hand, and has the workers run until no token is left.
@@ -110,10 +152,11 @@ fn play<R, G>(
     execs: &[Exec],
     first: Hand,
     others: Vec<Hand>,
-    mut book: Book,
+    book: &BookLock,
+    seat: &mut BookSeat,
     workers: u32,
     gate: &G,
-) -> (Book, Result<(), Halt>)
+) -> Result<(), Halt>
 where
     R: RandomSource + AllocGlobal + Threads + Wait + Sync,
     G: Gate + Sync,
@@ -122,16 +165,18 @@ where
     requires worker { first.worker ≡ 0 }
     requires others { AreHandsOf execs.now others.items }
     requires workers { AreOthers workers others.items }
-    requires book { book.script ≡ script.now }
+    requires seat { IsSeatOf book.now seat.old }
+    requires book { book.now.script ≡ script.now }
+    requires of_book { AreOfBook book.now execs.now }
+    ensures { IsSeatOf book.now seat.new }
 {
     let mut jobs = Vec::new(alloc);
-    let added = add_roots(script, &mut book, &mut jobs);
-    let book = Mutex::new(book);
-    let pool = Mutex::new(Pool::new(alloc));
+    let added = add_all_roots(rt, script, book, seat, &mut jobs);
+    let pool = SharedPool::new(alloc);
     let crew = Crew {
         script,
         execs,
-        book: &book,
+        book,
         pool: &pool,
         workers,
     };
@@ -140,8 +185,7 @@ where
         Err(halt) => Err(halt),
     };
     give_all_up(jobs);
-    let halt = pool.into_inner().halt();
-    (book.into_inner(), first_of(halt, played))
+    first_of(pool.into_halt(), played)
 }
 
 // The first cause that is there.
@@ -168,11 +212,13 @@ where
     R: RandomSource + AllocGlobal + Threads + Wait + Sync,
     G: Gate + Sync,
     requires sites { AreAtSites crew.script.now crew.execs.now }
+    requires book { AreOfBook crew.book.now crew.execs.now }
     requires first { AreDesksOf crew.execs.now first.desks.items }
     requires others { AreHandsOf crew.execs.now others.items }
     requires jobs { AllByRecursion (IsJobOf crew.script.now) jobs.old.items }
 {
-    send_all(rt, crew, &mut first.desks, jobs, gate)?;
+    send_all(rt, crew, &mut first, jobs, gate)?;
+    crew.pool.put_first(rt, &first.tokens)?;
     start(rt, crew, first, others, gate);
     Ok(())
 }
@@ -183,6 +229,7 @@ where
     R: RandomSource + AllocGlobal + Threads + Wait + Sync,
     G: Gate + Sync,
     requires sites { AreAtSites crew.script.now crew.execs.now }
+    requires book { AreOfBook crew.book.now crew.execs.now }
     requires first { AreDesksOf crew.execs.now first.desks.items }
     requires others { AreHandsOf crew.execs.now others.items }
 {
@@ -191,6 +238,7 @@ where
         rt,
         |scope| -> ()
             requires sites { AreAtSites crew.script.now crew.execs.now }
+            requires book { AreOfBook crew.book.now crew.execs.now }
             requires first { AreDesksOf crew.execs.now first.desks.items }
             requires others { AreHandsOf crew.execs.now others.items }
         {
@@ -198,11 +246,12 @@ where
                 let spawned = scope.spawn(
                     move || -> ()
                         requires sites { AreAtSites crew.script.now crew.execs.now }
+                        requires book { AreOfBook crew.book.now crew.execs.now }
                         requires desks { AreDesksOf crew.execs.now hand.desks.items }
                     { work(rt, crew, hand, gate) },
                 );
                 if spawned.is_err() {
-                    crew.pool.lock(rt).give_up(Halt::Memory);
+                    crew.pool.give_up(rt, Halt::Memory);
                 }
             }
             work(rt, crew, first, gate);

@@ -6,7 +6,7 @@ use Rattle.swift_inbox.proofs.CrossesThreads.{body_send, inbox_send, pass_send, 
 use Rattle.swift_journal.proofs.journal.Journal.TheSendSync as Journal
 use Rattle.swift_journal.proofs.checkpoint.Checkpoint.TheSendSync as Checkpoint
 use Rattle.swift_executor.proofs.tasks.ReadyTasks.TheSendSync as ReadyTasks
-use Rattle.swift_executor.proofs.CrossesThreads.{desk_send, exec_sync}
+use Rattle.swift_executor.proofs.CrossesThreads.{book_lock_send, book_lock_sync, book_seat_send, desk_send, exec_sync}
 use Rattle.swift_executor.specs.contracts.chosen.Chosen as chosen
 use Rattle.swift_executor.specs.contracts.state.ExecState as state
 use Rattle.swift_executor.specs.contracts.resting.Held as held
@@ -28,7 +28,7 @@ state_send : IsSend state.the_row
 state_send = search (plain, script_send, script_sync, body_send, chosen_send, ReadyTasks.the_send, Journal.the_send, Checkpoint.the_send) depth 60 fits 20000
 
 held_send : IsSend (held.the_field).row
-held_send = search (plain, state_send, pass_send) depth 60 fits 20000
+held_send = search (plain, state_send, pass_send, book_seat_send) depth 60 fits 20000
 
 resting_send : IsSend resting.the_row
 resting_send = search (plain, held_send) depth 60 fits 20000
@@ -40,7 +40,7 @@ exec_send : IsSend exec.the_row
 exec_send = search (plain, resting_send, inbox_send, spare_send, Word.the_send) depth 60 fits 20000
 
 pub door_send : IsSend door.the_row
-door_send = search (plain, exec_send, exec_sync, desk_send) depth 60 fits 20000
+door_send = search (plain, exec_send, exec_sync, desk_send, book_lock_send, book_lock_sync) depth 60 fits 20000
 
 jobs_field_send : IsSend (jobs.the_field).row
 jobs_field_send = search (plain, body_send) depth 60 fits 20000

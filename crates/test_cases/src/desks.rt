@@ -1,6 +1,8 @@
 //! What calls on executors work with: a script, an executor with a desk of it, a book of tasks, jobs, and what an executor leaves.
 //! Each may be dropped at any time, and is dropped in one place.
 
+// A book, with a right to take it.
+mod booked;
 // An executor, with a right to use it.
 mod door;
 // Jobs that are kept.
@@ -11,7 +13,7 @@ mod leavings;
 mod poller;
 // The script of a case.
 mod setting;
-// A book that is closed where it is dropped.
+// A book of tasks that desks share.
 mod tasks;
 
 pub use door::Door;

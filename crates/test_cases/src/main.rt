@@ -62,8 +62,9 @@
 //!   foreign ROOT as NUMBER the same, with a body of a script that was read from another text
 //!   enqueue TASK by DESK   sends the oldest job that is kept of that task
 //!   run WORKER by DESK     a visit of a worker; the jobs that it makes are kept
-//!   run_unknown WORKER by DESK
-//!                          the same with a book of the same script that has no tasks
+//!   run_unknown WORKER by EXECUTOR
+//!                          a visit to an executor of that number whose book, of the same script, has no tasks; the first turn of
+//!                          root 0 was sent there
 //!   cancel TASK, ending TASK
 //!   allowance DESK         how many jobs may still be sent by it
 //!   split DESK             a new desk of the same executor

@@ -1,44 +1,47 @@
 //! An executor, with a right to use it.
 
-ghost use Rattle.std.specs.Prelude.{IsTrue};
+ghost use Rattle.std.specs.Prelude.{IsTrue, ◌≡◌};
 ghost use Rattle.std.specs.Arc.{arc_value};
 ghost use Rattle.swift_inbox.specs.Site.{CanRunAt};
-ghost use Rattle.swift_executor.specs.Exec.{IsDeskOf};
+ghost use Rattle.swift_executor.specs.Exec.{IsDeskOf, book_of};
 
 use crate::desks::jobs::Jobs;
 use crate::desks::poller::Poller;
-use crate::desks::tasks::Tasks;
 use std::alloc::AllocError;
 use std::marker::Model;
 use std::sync::{Arc, Wait};
 use swift_executor::{Desk, Exec, ExecFault, Gate, Ran};
 use swift_queue::Job;
+use swift_shared_book::BookLock;
 use swift_turn::Body;
 use swift_word::Was;
 
-/// An executor, with one of its desks.
+/// An executor, with one of its desks and its book.
 pub struct Door {
     exec: Arc<Exec>,
     desk: Desk,
+    book: Arc<BookLock>,
 }
 
 impl Drop for Door {
     fn drop(self) {
-        let Door { exec, desk } = self;
+        let Door { exec, desk, book } = self;
         drop(desk);
         drop(exec);
+        drop(book);
     }
 }
 
 impl Model for Door {
     ghost use Rattle.std.specs.Arc.{arc_value};
-    ghost use Rattle.swift_executor.specs.Exec.{IsDeskOf};
+    ghost use Rattle.std.specs.Prelude.{◌≡◌};
+    ghost use Rattle.swift_executor.specs.Exec.{IsDeskOf, book_of};
 
     ghost Value = { Unit {0} };
 
     ghost view = { λ _. tt };
 
-    ghost invariant = { λ d. IsDeskOf (arc_value d.exec) d.desk };
+    ghost invariant = { λ d. IsDeskOf (arc_value d.exec) d.desk × (arc_value d.book ≡ book_of (arc_value d.exec)) };
 }
 
 // Whether a job can run at an executor.
@@ -50,18 +53,20 @@ fn can_run(exec: &Exec, job: &Job<Body>) -> bool
 }
 
 impl Door {
-    /// An executor, with a desk of it.
-    pub fn new(exec: Arc<Exec>, desk: Desk) -> Door
-        requires { IsDeskOf (arc_value exec) desk }
+    /// An executor, with a desk of it, and its book.
+    pub fn new(exec: Arc<Exec>, desk: Desk, book: Arc<BookLock>) -> Door
+        requires desk { IsDeskOf (arc_value exec) desk }
+        requires book { arc_value book ≡ book_of (arc_value exec) }
     {
-        Door { exec, desk }
+        Door { exec, desk, book }
     }
 
     /// Another desk of the same executor.
     pub fn split(&mut self) -> Result<Door, AllocError> {
         let exec = Arc::clone(&self.exec)?;
+        let book = Arc::clone(&self.book)?;
         let desk = self.desk.split(&exec);
-        Ok(Door { exec, desk })
+        Ok(Door { exec, desk, book })
     }
 
     /// How many jobs may still be sent by it.
@@ -90,7 +95,6 @@ impl Door {
         &mut self,
         rt: &R,
         worker: u32,
-        tasks: &Tasks,
         poller: &Poller,
         jobs: &mut Jobs,
         gate: &G,
@@ -100,14 +104,18 @@ impl Door {
         let desk = &mut self.desk;
         let ran = self
             .exec
-            .run_one(rt, desk, worker, &tasks.book, &mut cx, list, gate);
+            .run_one(rt, desk, worker, &self.book, &mut cx, list, gate);
         cx.cancel();
         ran
     }
 
     // The executor, where no other desk of it is left.
     pub(crate) fn into_exec(self) -> Option<Exec> {
-        let Door { exec, desk: _ } = self;
+        let Door {
+            exec,
+            desk: _,
+            book: _,
+        } = self;
         Arc::into_inner(exec)
     }
 }

@@ -1,17 +1,15 @@
 //! The script of a case.
 
-use crate::desks::door::Door;
 use crate::desks::tasks::Tasks;
 use crate::fault::CaseFault;
-use std::alloc::{AllocError, Global};
+use std::alloc::Global;
 use std::sync::Arc;
-use swift_executor::Exec;
 use swift_locals::Bindings;
 use swift_queue::Job;
 use swift_script::{Script, read};
 use swift_tasks::BookFault;
 use swift_turn::Body;
-use swift_types::{ExecId, Resume, RootId, TaskId};
+use swift_types::{Resume, RootId, TaskId};
 
 /// A script.
 pub struct Setting {
@@ -41,22 +39,6 @@ impl Setting {
     /// A book without tasks.
     pub fn tasks(&self, alloc: Global) -> Result<Tasks, BookFault> {
         Tasks::new(alloc, &self.script)
-    }
-
-    /// The executor of this number, made for so many workers and with this room, and its first desk. 0 workers are made 1, and
-    /// so is a room of 0.
-    pub fn open(
-        &self,
-        alloc: Global,
-        executor: u32,
-        workers: u32,
-        room: usize,
-    ) -> Result<Door, AllocError> {
-        let script = Arc::clone(&self.script)?;
-        let executor = ExecId(executor);
-        let (exec, desk) = Exec::new(alloc, script, executor, workers.max(1), room.max(1))?;
-        let exec = Arc::new(alloc, exec)?;
-        Ok(Door::new(exec, desk))
     }
 
     /// A job that no book gave: the turn of this number of a root's task, at the start of its method.

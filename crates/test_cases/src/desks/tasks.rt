@@ -1,48 +1,62 @@
-//! A book that is closed where it is dropped.
+//! A book of tasks that desks share.
 
+use crate::desks::booked::Booked;
+use crate::desks::door::Door;
 use crate::desks::jobs::Jobs;
+use crate::fault::CaseFault;
 use std::alloc::Global;
 use std::sync::{Arc, Mutex, Wait};
 use swift_script::Script;
-use swift_tasks::{Book, BookFault};
-use swift_types::{Ending, RootId, TaskId};
+use swift_tasks::BookFault;
+use swift_types::{Ending, TaskId};
 
-/// A book of tasks. Where it is dropped, it is closed, and the jobs of tasks that wait are spent.
+/// A book of tasks. Once it and the doors of its executors are dropped, the jobs of tasks that wait are spent.
 pub struct Tasks {
-    pub book: Mutex<Book>,
+    booked: Mutex<Booked>,
 }
 
 impl Drop for Tasks {
     fn drop(self) {
-        let Tasks { book } = self;
-        let (_log, list) = book.into_inner().close();
-        drop(Jobs { list });
+        let Tasks { booked } = self;
+        drop(booked);
     }
 }
 
 impl Tasks {
     /// A book without tasks.
     pub fn new(alloc: Global, script: &Arc<Script>) -> Result<Tasks, BookFault> {
-        let book = Book::new(alloc, Arc::clone(script)?)?;
+        let booked = Booked::new(alloc, Arc::clone(script)?)?;
         Ok(Tasks {
-            book: Mutex::new(book),
+            booked: Mutex::new(booked),
         })
+    }
+
+    /// The executor of this number, made for so many workers and with this room, and its first desk. 0 workers are made 1, and
+    /// so is a room of 0.
+    pub fn open(
+        &mut self,
+        alloc: Global,
+        executor: u32,
+        workers: u32,
+        room: usize,
+    ) -> Result<Door, CaseFault> {
+        Ok(self.booked.get_mut().open(alloc, executor, workers, room)?)
     }
 
     /// Adds a root, and its job to these.
     pub fn add_root<R: Wait>(&self, rt: &R, root: u32, jobs: &mut Jobs) -> Result<(), BookFault> {
-        let job = self.book.lock(rt).add_root(RootId(root))?;
+        let job = self.booked.lock(rt).add_root(rt, root)?;
         jobs.keep(job);
         Ok(())
     }
 
     /// Cancels a task.
     pub fn cancel<R: Wait>(&self, rt: &R, task: u32) -> Result<(), BookFault> {
-        self.book.lock(rt).cancel(TaskId(task))
+        self.booked.lock(rt).cancel(rt, TaskId(task))
     }
 
     /// How a task has ended.
     pub fn ending<R: Wait>(&self, rt: &R, task: u32) -> Option<Ending> {
-        self.book.lock(rt).ending(TaskId(task))
+        self.booked.lock(rt).ending(rt, TaskId(task))
     }
 }

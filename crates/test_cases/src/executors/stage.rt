@@ -49,21 +49,14 @@ impl Stage {
             let Ok(executor) = u32::try_from(place) else {
                 return Err(CaseFault::Form);
             };
-            let door = self.setting.open(alloc, executor, workers, room as usize)?;
+            let door = self.tasks.open(alloc, executor, workers, room as usize)?;
             self.doors.push(Mutex::new(door))?;
         }
         Ok(())
     }
 
     // A visit of a worker. The jobs that it makes are kept.
-    fn run<R, G>(
-        &self,
-        rt: &R,
-        call: Call,
-        tasks: &Tasks,
-        gate: &G,
-        out: &mut String,
-    ) -> Result<(), CaseFault>
+    fn run<R, G>(&self, rt: &R, call: Call, gate: &G, out: &mut String) -> Result<(), CaseFault>
     where
         R: Wait + RandomSource + AllocGlobal,
         G: Gate,
@@ -73,12 +66,36 @@ impl Stage {
         };
         let poller = Poller::new(rt)?;
         let mut made = Jobs::with_room(rt.alloc(), JOBS)?;
-        let ran = door
-            .lock(rt)
-            .run(rt, call.first, tasks, &poller, &mut made, gate);
+        let ran = door.lock(rt).run(rt, call.first, &poller, &mut made, gate);
         let told = tell_visit(ran, &made.list, out);
         self.jobs.lock(rt).keep_all(made);
         told
+    }
+
+    // A visit of a worker to an executor of its own, of a book without tasks, which has the job of the first root.
+    fn run_unknown<R, G>(
+        &self,
+        rt: &R,
+        call: Call,
+        gate: &G,
+        out: &mut String,
+    ) -> Result<(), CaseFault>
+    where
+        R: Wait + RandomSource + AllocGlobal,
+        G: Gate,
+    {
+        let alloc = rt.alloc();
+        let poller = Poller::new(rt)?;
+        let mut made = Jobs::with_room(alloc, JOBS)?;
+        let mut unknown = self.setting.tasks(alloc)?;
+        let mut door = unknown.open(alloc, call.second, 1, 1)?;
+        let job = self.setting.job(alloc, 0, 0)?;
+        if let Err((job, _fault)) = door.enqueue(rt, job, gate) {
+            made.keep(job);
+            return Err(CaseFault::Form);
+        }
+        let ran = door.run(rt, call.first, &poller, &mut made, gate);
+        tell_visit(ran, &made.list, out)
     }
 }
 
@@ -98,8 +115,8 @@ impl<R: Wait + RandomSource + AllocGlobal> Callee<R> for Stage {
                 keep(rt, &self.jobs, call, &other, out)
             }
             Verb::Enqueue => enqueue(rt, &self.doors, &self.jobs, call, gate, out),
-            Verb::Run => self.run(rt, call, &self.tasks, gate, out),
-            Verb::RunUnknown => self.run(rt, call, &self.setting.tasks(rt.alloc())?, gate, out),
+            Verb::Run => self.run(rt, call, gate, out),
+            Verb::RunUnknown => self.run_unknown(rt, call, gate, out),
             Verb::Cancel => tell_booked(self.tasks.cancel(rt, call.first), out),
             Verb::Ending => tell_ending(self.tasks.ending(rt, call.first), out),
             Verb::Allowance => allowance(rt, &self.doors, call.first, out),

@@ -38,14 +38,14 @@ fn send<R: Wait, G: Gate>(
 }
 
 // A visit of a worker. None where it was refused.
-fn visit<R, G>(rt: &R, door: &mut Door, worker: u32, tasks: &Tasks, gate: &G) -> Option<Ran>
+fn visit<R, G>(rt: &R, door: &mut Door, worker: u32, gate: &G) -> Option<Ran>
 where
     R: Wait + RandomSource + AllocGlobal,
     G: Gate,
 {
     let poller = Poller::new(rt).ok()?;
     let mut jobs = Jobs::new(rt.alloc());
-    door.run(rt, worker, tasks, &poller, &mut jobs, gate).ok()
+    door.run(rt, worker, &poller, &mut jobs, gate).ok()
 }
 
 // Whether the thread that sends is held, and not the one that visits.
@@ -73,14 +73,13 @@ fn in_sender<R: Wait>(
 fn in_visitor<R: Wait + RandomSource + AllocGlobal>(
     rt: &R,
     mut door: Door,
-    tasks: &Tasks,
     hold: &Hold,
     moment: &str,
 ) -> Option<Ran> {
     if is_sender_held(moment) {
         hold.wait();
     }
-    let ran = visit(rt, &mut door, 0, tasks, &Holding { hold, moment });
+    let ran = visit(rt, &mut door, 0, &Holding { hold, moment });
     hold.let_go();
     ran
 }
@@ -91,7 +90,6 @@ fn by_two_threads<R>(
     first: Door,
     second: Door,
     jobs: Jobs,
-    tasks: &Tasks,
     hold: &Hold,
     moment: &str,
 ) -> (Option<Was>, Option<Ran>)
@@ -101,7 +99,7 @@ where
     thread::join(
         rt,
         move || in_sender(rt, first, jobs, hold, moment),
-        move || in_visitor(rt, second, tasks, hold, moment),
+        move || in_visitor(rt, second, hold, moment),
     )
 }
 
@@ -121,7 +119,7 @@ where
     tasks.add_root(rt, 1, &mut jobs).ok()?;
     send(rt, door, &mut jobs, 0, &Open);
     let (first, second) = (door.split().ok()?, door.split().ok()?);
-    Some(by_two_threads(rt, first, second, jobs, tasks, hold, moment))
+    Some(by_two_threads(rt, first, second, jobs, hold, moment))
 }
 
 // The calls of two threads, and the visits of another worker that come then.
@@ -137,8 +135,8 @@ where
 {
     let hold = Hold::new();
     let answers = play_roots(rt, door, tasks, &hold, moment);
-    let next = visit(rt, door, 1, tasks, &Open);
-    let last = visit(rt, door, 1, tasks, &Open);
+    let next = visit(rt, door, 1, &Open);
+    let last = visit(rt, door, 1, &Open);
     writeln!(out, "  sent and visited: {answers:?}")?;
     writeln!(out, "  next: {next:?}\n  last: {last:?}")?;
     if hold.is_too_long() {
@@ -168,8 +166,8 @@ where
 {
     let alloc = rt.alloc();
     let setting = Setting::read(alloc, TEXT)?;
-    let mut door = setting.open(alloc, 0, 2, 2)?;
-    let tasks = setting.tasks(alloc)?;
+    let mut tasks = setting.tasks(alloc)?;
+    let mut door = tasks.open(alloc, 0, 2, 2)?;
     play_visits(rt, &mut door, &tasks, moment, out)?;
     drop(tasks);
     close(rt, &setting, door, out)

@@ -3,16 +3,16 @@ use Rattle.swift_executor.proofs.Visits.{is_free, is_none, is_picked, same_site,
 use Rattle.swift_executor.proofs.run.choose_one.Goals as goal
 
 pub returns-clause-same : goal.returns-clause-same
-returns-clause-same g c = (refl, same_site _ _ _ _ c.levels.ensures.levels c.requires.free _ c.choose.result c.choose.ensures.some c.choose.ensures.none c.choose.ensures.err)
+returns-clause-same g c = (refl, same_site _ _ _ _ c.levels.ensures.levels c.requires.free _ c.choose-picked.result c.choose-picked.ensures.some c.choose-picked.ensures.none c.choose-picked.ensures.err)
 
 pub returns-clause-taken : goal.returns-clause-taken
-returns-clause-taken g c = same_taken _ _ _ _ c.levels.ensures.levels c.requires.free _ _ c.choose.result c.choose.ensures.some c.choose.ensures.none c.choose.ensures.err
+returns-clause-taken g c = same_taken _ _ _ _ c.levels.ensures.levels c.requires.free _ _ c.choose-picked.result c.choose-picked.ensures.some c.choose-picked.ensures.none c.choose-picked.ensures.err
 
 pub returns-clause-some : goal.returns-clause-some
-returns-clause-some g c = is_picked _ _ _ _ c.levels.ensures.levels c.requires.free c.choose.result c.choose.ensures.some
+returns-clause-some g c = is_picked _ _ _ _ c.levels.ensures.levels c.requires.free c.choose-picked.result c.choose-picked.ensures.some
 
 pub returns-clause-none : goal.returns-clause-none
-returns-clause-none g c = is_none _ _ _ _ c.levels.ensures.levels c.requires.free c.choose.result c.choose.ensures.none
+returns-clause-none g c = is_none _ _ _ _ c.levels.ensures.levels c.requires.free c.choose-picked.result c.choose-picked.ensures.none
 
 pub returns-clause-free : goal.returns-clause-free
-returns-clause-free g c = is_free _ _ _ _ c.levels.ensures.levels c.requires.free _ c.choose.result c.choose.ensures.err
+returns-clause-free g c = is_free _ _ _ _ c.levels.ensures.levels c.requires.free _ c.choose-picked.result c.choose-picked.ensures.err

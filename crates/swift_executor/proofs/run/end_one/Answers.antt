@@ -4,6 +4,6 @@ use Rattle.swift_executor.proofs.run.end_one.Goals as goal
 
 pub returns-clause-taken : goal.returns-clause-taken
 returns-clause-taken g c was =
-    either c.turn.result _
-    (map_ok c.turn.result _ _ (turned _ _ _ _ _ _ _ was) c.turn.ensures.ok)
-    (map_err c.turn.result _ _ (put_back _ _ _ was) c.turn.ensures.back)
+    either c.turn_locked.result _
+    (map_ok c.turn_locked.result _ _ (λ e. turned _ _ _ _ _ _ _ was e.turn) c.turn_locked.ensures.ok)
+    (map_err c.turn_locked.result _ _ (put_back _ _ _ was) c.turn_locked.ensures.back)

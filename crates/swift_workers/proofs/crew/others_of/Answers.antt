@@ -11,7 +11,7 @@ loop-worker-preserved c =
     let execs = c.args.execs.now in
     let hands = c.loop-worker.hands.items in
     let many = c.loop-worker.invariant.many in
-    let next : Hand = record { worker = c.loop-worker.worker; desks = c.in_ok-desks.desks } in
+    let next : Hand = record { worker = c.loop-worker.worker; desks = c.in_ok-desks.desks; tokens = c.new-tokens.result } in
     let longer = ap length c.in_ok-push.ensures.items in
     let by_one = one_longer hands next (length hands) refl in
     record {

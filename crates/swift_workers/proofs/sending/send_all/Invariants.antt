@@ -6,7 +6,7 @@ use Rattle.swift_workers.proofs.sending.send_all.Given as goal
 
 abbrev pub invariant-loop-job : goal.invariant-loop-job
 invariant-loop-job g l = record {
-  desks : AreDesksOf l.crew.execs.now l.desks.items;
+  desks : AreDesksOf l.crew.execs.now l.hand.desks.items;
   jobs : AllByRecursion (IsJobOf l.crew.script.now) l.jobs.items;
 }
 

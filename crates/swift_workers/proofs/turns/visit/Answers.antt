@@ -1,12 +1,18 @@
-use Rattle.std.proofs.Common.{◌<◌, List, length, sym, subst, ap, ◌∙◌, arith}
+use Rattle.std.proofs.Common.{◌≡◌, ◌<◌, List, length, sym, subst, ap, ◌∙◌, arith}
 use Rattle.std.specs.List.{AllByRecursion}
 use Rattle.swift_queue.specs.Job.{JobIs}
 use Rattle.swift_script.specs.Scripts.{ScriptView}
 use Rattle.swift_turn.specs.Body.{BodyView}
 use Rattle.swift_tasks.specs.Books.{IsJobOf}
-use Rattle.swift_executor.specs.Exec.{ExecIs, IsDeskOf}
-use Rattle.swift_workers.proofs.Desks.{desk_at, desk_ran, desk_set, site_script}
+use Rattle.swift_executor.specs.Exec.{ExecIs, IsDeskOf, book_of}
+use Rattle.swift_workers.proofs.Desks.{book_at, desk_at, desk_ran, desk_set, site_script}
 use Rattle.swift_workers.proofs.turns.visit.Goals as goal
+
+pub run_one-requires-clause-book : goal.run_one-requires-clause-book
+run_one-requires-clause-book g c =
+    let lt : c.args.on.0 < length c.args.crew.execs.now = omega (arith, c.if-place-crew.false) in
+    subst (λ (x : ExecIs). c.args.crew.book.now ≡ book_of x) c.index-crew-place.is
+    (book_at c.args.crew.book.now c.args.crew.execs.now c.args.on.0 c.index-crew-place.result c.requires.book lt c.index-crew-place.is)
 
 pub returns-clause-desks : goal.returns-clause-desks
 returns-clause-desks g c =

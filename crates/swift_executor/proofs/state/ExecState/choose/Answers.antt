@@ -19,7 +19,7 @@ use Rattle.swift_executor.proofs.state.ExecState.choose.Goals as goal
 pub invariant_of-self : goal.invariant_of-self
 invariant_of-self c =
     let x = c.self.inside in
-    let s : ExecView = record { script = arc_value x.script; executor = x.executor.0; ready = x.ready; chosen = chosen_of x.next.items x.chosen; journal = x.journal; checkpoint = x.checkpoint.view; fields = rows_of x.fields.items } in
+    let s : ExecView = record { script = arc_value x.script; executor = x.executor.0; ready = x.ready; chosen = chosen_of x.played x.chosen; journal = x.journal; checkpoint = x.checkpoint.view; fields = rows_of x.fields.items } in
     let free : s.chosen ≡ None = ap (λ (v : ExecView). v.chosen) c.self.view_is ∙ c.requires.free in
     let same = c.in_default.ensures.none.1 in
     let perm = subst (λ (r : ReadyIs BodyView). IsPermutation s.ready.front r.front) (sym same) c.count.ensures.front in
@@ -28,7 +28,7 @@ invariant_of-self c =
 pub returns-in_default-clause-none : goal.returns-in_default-clause-none
 returns-in_default-clause-none c = λ log are.
     let x = c.self.inside in
-    let s : ExecView = record { script = arc_value x.script; executor = x.executor.0; ready = x.ready; chosen = chosen_of x.next.items x.chosen; journal = x.journal; checkpoint = x.checkpoint.view; fields = rows_of x.fields.items } in
+    let s : ExecView = record { script = arc_value x.script; executor = x.executor.0; ready = x.ready; chosen = chosen_of x.played x.chosen; journal = x.journal; checkpoint = x.checkpoint.view; fields = rows_of x.fields.items } in
     let free : s.chosen ≡ None = ap (λ (v : ExecView). v.chosen) c.self.view_is ∙ c.requires.free in
     let one = c.count.new.self in
     let two = c.take.new.self in
@@ -50,7 +50,7 @@ returns-in_default-clause-none c = λ log are.
 pub invariant_of-self-then-not-is_known : goal.invariant_of-self-then-not-is_known
 invariant_of-self-then-not-is_known c =
     let x = c.self.inside in
-    let s : ExecView = record { script = arc_value x.script; executor = x.executor.0; ready = x.ready; chosen = chosen_of x.next.items x.chosen; journal = x.journal; checkpoint = x.checkpoint.view; fields = rows_of x.fields.items } in
+    let s : ExecView = record { script = arc_value x.script; executor = x.executor.0; ready = x.ready; chosen = chosen_of x.played x.chosen; journal = x.journal; checkpoint = x.checkpoint.view; fields = rows_of x.fields.items } in
     let free : s.chosen ≡ None = ap (λ (v : ExecView). v.chosen) c.self.view_is ∙ c.requires.free in
     let one = c.count.new.self in
     let two = c.take.new.self in
@@ -65,7 +65,7 @@ returns-then-not-is_known-clause-err c = (
   refl,
   λ log are.
       let x = c.self.inside in
-      let s : ExecView = record { script = arc_value x.script; executor = x.executor.0; ready = x.ready; chosen = chosen_of x.next.items x.chosen; journal = x.journal; checkpoint = x.checkpoint.view; fields = rows_of x.fields.items } in
+      let s : ExecView = record { script = arc_value x.script; executor = x.executor.0; ready = x.ready; chosen = chosen_of x.played x.chosen; journal = x.journal; checkpoint = x.checkpoint.view; fields = rows_of x.fields.items } in
       let one = c.count.new.self in
       let two = c.take.new.self in
       let three = c.restore.new.self in
@@ -93,24 +93,24 @@ returns-then-not-is_known-clause-err c = (
 pub invariant_of-self-2 : goal.invariant_of-self-2
 invariant_of-self-2 c =
     let x = c.self.inside in
-    let s : ExecView = record { script = arc_value x.script; executor = x.executor.0; ready = x.ready; chosen = chosen_of x.next.items x.chosen; journal = x.journal; checkpoint = x.checkpoint.view; fields = rows_of x.fields.items } in
+    let s : ExecView = record { script = arc_value x.script; executor = x.executor.0; ready = x.ready; chosen = chosen_of x.played x.chosen; journal = x.journal; checkpoint = x.checkpoint.view; fields = rows_of x.fields.items } in
     let free : s.chosen ≡ None = ap (λ (v : ExecView). v.chosen) c.self.view_is ∙ c.requires.free in
     let one = c.count.new.self in
     let two = c.take.new.self in
     let x0 = ready_job c.in-Some.job c.in-Some.arrival in
     let perm = IsPermutation-trans s.ready.front one.front (x0 ∷ two.front) c.count.ensures.front c.in-Some.ensures.rest in
     let same = c.in-Some.ensures.same ∙ ap (λ (r : ReadyIs BodyView). record r { front = two.front }) c.count.ensures.rest in
-    subst (λ (o : Option Chosen). IsExecutor (record s { ready = two; chosen = chosen_of x.next.items o })) (sym c.fill.ensures)
+    subst (λ (o : Chosen). IsExecutor (record s { ready = two; chosen = chosen_of x.played o })) (sym c.pick.ensures)
     (choose_keeps s c.in-Some.job c.in-Some.arrival two c.self.invariant free perm (ap (λ (r : ReadyIs BodyView). r.behind) same) (ap (λ (r : ReadyIs BodyView). r.arrived) same) c.in-Some.ensures.restorable)
 
 pub returns-clause-some : goal.returns-clause-some
 returns-clause-some c = λ log are.
     let x = c.self.inside in
-    let s : ExecView = record { script = arc_value x.script; executor = x.executor.0; ready = x.ready; chosen = chosen_of x.next.items x.chosen; journal = x.journal; checkpoint = x.checkpoint.view; fields = rows_of x.fields.items } in
+    let s : ExecView = record { script = arc_value x.script; executor = x.executor.0; ready = x.ready; chosen = chosen_of x.played x.chosen; journal = x.journal; checkpoint = x.checkpoint.view; fields = rows_of x.fields.items } in
     let one = c.count.new.self in
     let two = c.take.new.self in
     let x0 = ready_job c.in-Some.job c.in-Some.arrival in
-    let new : ExecView = record s { ready = two; chosen = chosen_of x.next.items c.fill.new.place } in
+    let new : ExecView = record s { ready = two; chosen = chosen_of x.played c.pick.new.self } in
     let levels : two.levels ≡ one.levels = ap (λ (r : ReadyIs BodyView). r.levels) c.in-Some.ensures.same in
     let ready = two_steps s.ready one two c.count.ensures.rest c.in-Some.ensures.same in
     subst (λ (v : ExecView). Chooses log v new c.task-task.result) c.self.view_is (record {
@@ -126,5 +126,5 @@ returns-clause-some c = λ log are.
       task_is = sym c.task-task.ensures;
       known = ltb-true 0 (level_at c.args.given.now c.task-task.result) (sym c.if-not-is_known.ensures);
       rest = IsPermutation-trans s.ready.front one.front (x0 ∷ two.front) c.count.ensures.front c.in-Some.ensures.rest;
-      same = ap (λ (r : ReadyIs BodyView). record s { ready = r; chosen = new.chosen }) ready ∙ ap (λ (o : Option Chosen). record s { ready = record s.ready { front = two.front; levels = two.levels }; chosen = chosen_of x.next.items o }) c.fill.ensures;
+      same = ap (λ (r : ReadyIs BodyView). record s { ready = r; chosen = new.chosen }) ready ∙ ap (λ (o : Chosen). record s { ready = record s.ready { front = two.front; levels = two.levels }; chosen = chosen_of x.played o }) c.pick.ensures;
     })

@@ -1,21 +1,74 @@
-use Rattle.std.proofs.Common.{◌≡◌, ℕ, [], Some, Option, IfSome, ap, sym, subst, ◌∙◌}
+use Rattle.std.proofs.Common.{◌≡◌, ℕ, IsSome, Some, None, Option, IfSome, lit<, refl, ap, sym, subst, ◌∙◌}
 use Rattle.std.specs.Arc.{arc_value}
 use Rattle.script_code.specs.Seen.{rows_of}
+use Rattle.swift_queue.specs.Job.{JobIs}
+use Rattle.swift_turn.specs.Body.{BodyView}
 use Rattle.swift_history.specs.TurnEnds.{JobView}
-use Rattle.swift_executor.specs.State.{ChosenView, ExecView, IsChosen, IsExecutor}
-use Rattle.swift_executor.specs.StateInside.{chosen_of, chosen_view}
-use Rattle.swift_executor.specs.declared.chosen.Chosen.{Chosen}
-use Rattle.swift_executor.proofs.StateKept.{back_keeps, belongs_back, same_before, same_task}
+use Rattle.swift_types.specs.declared.id.TaskId.{TaskId}
+use Rattle.swift_executor.specs.Ready.{CanRestore}
+use Rattle.swift_executor.specs.State.{ChosenView, ExecView, HasChosen, IsChosen, IsExecutor, PutsBack}
+use Rattle.swift_executor.specs.StateInside.{chosen_at, chosen_of, chosen_view}
+use Rattle.swift_executor.proofs.ChosenJob.{can_go, runs, seen}
+use Rattle.swift_executor.proofs.StateKept.{back_keeps, belongs_back, same_task}
 use Rattle.swift_executor.proofs.state.ExecState.put_back.Goals as goal
+
+pub take_out-job-requires : goal.take_out-job-requires
+take_out-job-requires c =
+    let x = c.self.inside in
+    let s : ExecView = record { script = arc_value x.script; executor = x.executor.0; ready = x.ready; chosen = chosen_of x.played x.chosen; journal = x.journal; checkpoint = x.checkpoint.view; fields = rows_of x.fields.items } in
+    let has : HasChosen s (λ _. Unit {0}) = subst (λ (v : ExecView). HasChosen v (λ _. Unit {0})) (sym c.self.view_is) c.requires in
+    subst (λ (o : Option (JobIs BodyView)). IsSome o) (sym (seen x.played x.chosen.arrival x.chosen.stage x.chosen.job has.0 has.1).job) refl
+
+pub as_chosen-job-requires : goal.as_chosen-job-requires
+as_chosen-job-requires c =
+    let x = c.self.inside in
+    let s : ExecView = record { script = arc_value x.script; executor = x.executor.0; ready = x.ready; chosen = chosen_of x.played x.chosen; journal = x.journal; checkpoint = x.checkpoint.view; fields = rows_of x.fields.items } in
+    let chosen = chosen_view x.played x.chosen.arrival x.chosen.stage c.take_out-job.result in
+    let at : s.chosen ≡ Some chosen = ap (chosen_at x.played x.chosen.arrival x.chosen.stage) c.take_out-job.ensures.was in
+    let was : IsChosen s chosen = subst (λ (o : Option ChosenView). IfSome o (IsChosen s)) at c.self.invariant.chosen in
+    record {
+      running = runs s.script s.executor chosen.job was.belongs;
+      frame = can_go s.script s.executor s.fields chosen.job x.played x.chosen.stage was.belongs was.plays;
+    }
+
+pub restore-requires : goal.restore-requires
+restore-requires c =
+    let x = c.self.inside in
+    let s : ExecView = record { script = arc_value x.script; executor = x.executor.0; ready = x.ready; chosen = chosen_of x.played x.chosen; journal = x.journal; checkpoint = x.checkpoint.view; fields = rows_of x.fields.items } in
+    let chosen = chosen_view x.played x.chosen.arrival x.chosen.stage c.take_out-job.result in
+    let at : s.chosen ≡ Some chosen = ap (chosen_at x.played x.chosen.arrival x.chosen.stage) c.take_out-job.ensures.was in
+    let was : IsChosen s chosen = subst (λ (o : Option ChosenView). IfSome o (IsChosen s)) at c.self.invariant.chosen in
+    let task : c.as_chosen-job.result.task ≡ chosen.job.task = ap (λ (n : ℕ). record { 0 = n }) (ap (λ (v : JobView). v.task) c.as_chosen-job.ensures.job ∙ same_task chosen.stage chosen.job) in
+    (lit< tt, subst (λ (t : TaskId). CanRestore s.ready t x.chosen.arrival) (sym task) was.restorable)
 
 pub invariant_of-self : goal.invariant_of-self
 invariant_of-self c =
     let x = c.self.inside in
-    let s : ExecView = record { script = arc_value x.script; executor = x.executor.0; ready = x.ready; chosen = chosen_of x.next.items x.chosen; journal = x.journal; checkpoint = x.checkpoint.view; fields = rows_of x.fields.items } in
-    let chosen : ChosenView = chosen_view x.next.items c.in-Some.field-0 in
-    let at : s.chosen ≡ Some chosen = ap (chosen_of x.next.items) (sym c.take.ensures.value ∙ c.in-Some.is) in
+    let s : ExecView = record { script = arc_value x.script; executor = x.executor.0; ready = x.ready; chosen = chosen_of x.played x.chosen; journal = x.journal; checkpoint = x.checkpoint.view; fields = rows_of x.fields.items } in
+    let chosen = chosen_view x.played x.chosen.arrival x.chosen.stage c.take_out-job.result in
+    let at : s.chosen ≡ Some chosen = ap (chosen_at x.played x.chosen.arrival x.chosen.stage) c.take_out-job.ensures.was in
     let was : IsChosen s chosen = subst (λ (o : Option ChosenView). IfSome o (IsChosen s)) at c.self.invariant.chosen in
-    let view = c.as_chosen.ensures.job ∙ same_before [] x.next.items c.in-Some.field-0.stage c.in-Some.field-0.job in
-    let belongs = belongs_back s.script s.executor s.fields chosen.stage chosen.job c.as_chosen.result was.belongs was.plays view c.as_chosen.ensures.script in
-    subst (λ (o : Option Chosen). IsExecutor (record s { ready = c.restore.new.self; chosen = chosen_of x.next.items o })) (sym c.take.ensures.after)
-    (back_keeps s chosen c.as_chosen.result c.restore.new.self c.self.invariant at belongs (ap (λ (n : ℕ). record { 0 = n }) (ap (λ (v : JobView). v.task) view ∙ same_task chosen.stage chosen.job)) c.restore.ensures.front c.restore.ensures.rest)
+    let view = c.as_chosen-job.ensures.job in
+    let belongs = belongs_back s.script s.executor s.fields chosen.stage chosen.job c.as_chosen-job.result was.belongs was.plays view c.as_chosen-job.ensures.script in
+    let task : c.as_chosen-job.result.task ≡ chosen.job.task = ap (λ (n : ℕ). record { 0 = n }) (ap (λ (v : JobView). v.task) view ∙ same_task chosen.stage chosen.job) in
+    subst (λ (o : Option (JobIs BodyView)). IsExecutor (record s { ready = c.restore.new.self; chosen = chosen_at c.as_chosen-job.new.played x.chosen.arrival x.chosen.stage o })) (sym c.take_out-job.ensures.gone)
+    (back_keeps s chosen c.as_chosen-job.result c.restore.new.self c.self.invariant at belongs task c.restore.ensures.front c.restore.ensures.rest)
+
+pub returns : goal.returns
+returns c =
+    let x = c.self.inside in
+    let s : ExecView = record { script = arc_value x.script; executor = x.executor.0; ready = x.ready; chosen = chosen_of x.played x.chosen; journal = x.journal; checkpoint = x.checkpoint.view; fields = rows_of x.fields.items } in
+    let chosen = chosen_view x.played x.chosen.arrival x.chosen.stage c.take_out-job.result in
+    let at : s.chosen ≡ Some chosen = ap (chosen_at x.played x.chosen.arrival x.chosen.stage) c.take_out-job.ensures.was in
+    let new : ExecView = record s { ready = c.restore.new.self; chosen = chosen_at c.as_chosen-job.new.played x.chosen.arrival x.chosen.stage c.take_out-job.new.place } in
+    subst (λ (v : ExecView). HasChosen v (PutsBack v new)) c.self.view_is (
+      chosen,
+      at,
+      record {
+        job = c.as_chosen-job.result;
+        same_job = c.as_chosen-job.ensures.job;
+        front = c.restore.ensures.front;
+        same = ap (λ (o : Option (JobIs BodyView)). record s { ready = c.restore.new.self; chosen = chosen_at c.as_chosen-job.new.played x.chosen.arrival x.chosen.stage o }) c.take_out-job.ensures.gone
+            ∙ ap (λ (r : _). record s { ready = r; chosen = None }) c.restore.ensures.rest;
+      },
+    )

@@ -12,4 +12,4 @@ spawn-spawned-requires-send-F g c κs within = search (sendable, crew_send, hand
 
 pub spawn-spawned-requires-after_bounds : goal.spawn-spawned-requires-after_bounds
 spawn-spawned-requires-after_bounds g c κs within =
-    (c.requires.sites, last_hand c.captures.crew.execs.now c.pop.new.self.items c.in-Some.hand (subst (λ (hs : List Hand). AreHandsOf c.captures.crew.execs.now hs) c.in-Some.ensures.items c.loop-hand.invariant))
+    (c.requires.sites, (c.requires.book, last_hand c.captures.crew.execs.now c.pop.new.self.items c.in-Some.hand (subst (λ (hs : List Hand). AreHandsOf c.captures.crew.execs.now hs) c.in-Some.ensures.items c.loop-hand.invariant)))

@@ -1,0 +1,58 @@
+-- An executor after a turn that the book has taken, or has refused, by what lies in its fields.
+use Rattle.std.proofs.Common.{◌≡◌, ℕ, ◌-◌, ℤ, Option, Some, None, List, length, take, ap, sym, subst, ◌∙◌}
+use Rattle.std.proofs.lemmas.Option.{same_Some}
+use Rattle.std.specs.declared.vec.Vec.{Vec}
+use Rattle.std.specs.declared.alloc.Global.{Global}
+use Rattle.script_code.specs.Seen.{rows_of}
+use Rattle.swift_history.specs.TurnEnds.{JobView}
+use Rattle.swift_interpreter.specs.Frames.{effect_views}
+use Rattle.swift_interpreter.specs.TurnStates.{exit_view}
+use Rattle.swift_journal.specs.Checkpoints.{CheckpointRoom, CheckpointView}
+use Rattle.swift_journal.specs.Records.{RecordView}
+use Rattle.swift_journal.specs.Replay.{InvariantsStay, LawfulGrows}
+use Rattle.swift_queue.specs.Job.{JobIs}
+use Rattle.swift_script.specs.Scripts.{ScriptView}
+use Rattle.swift_tasks.specs.Books.{BookView}
+use Rattle.swift_turn.specs.Body.{BodyView}
+use Rattle.swift_types.specs.declared.id.TaskId.{TaskId}
+use Rattle.swift_executor.specs.Playing.{Applied, HasFoldRoom, Settles, WritesRecord}
+use Rattle.swift_executor.specs.Ready.{Forwards, ReadyIs}
+use Rattle.swift_executor.specs.State.{ChosenView, ExecView, HasChosen, IsExecutor, IsPlayed, Journals}
+use Rattle.swift_executor.specs.StateInside.{chosen_at, chosen_view, stage_of}
+use Rattle.swift_executor.specs.declared.chosen.Played.{Played}
+use Rattle.swift_executor.specs.declared.chosen.Stage.{Stage}
+use Rattle.swift_executor.proofs.TurnKept.{Done, journalled, retracted}
+
+-- A turn was played of the job in its place, and its record was written.
+module _ (s : ExecView) (p p' : Played) (arrival : ℕ) (stage : Stage) (place place' : Option (JobIs BodyView)) (job : JobIs BodyView) (j1 : List RecordView)
+    (at : s.chosen ≡ chosen_at p arrival stage place) (is : place ≡ Some job) (has : HasChosen s (λ c. IsPlayed c.stage)) (wrote : WritesRecord p stage job s.journal j1) where
+  seen : s.chosen ≡ Some (chosen_view p arrival stage job)
+  seen = at ∙ ap (chosen_at p arrival stage) is
+
+  was : IsPlayed (stage_of p stage)
+  was = subst (λ (v : ChosenView). IsPlayed v.stage) (same_Some has.0 (chosen_view p arrival stage job) (sym has.1 ∙ seen)) has.2
+
+  -- the book has taken the turn, and what was made room for is done
+  pub ended : (book book' : BookView) (jobs jobs' : List JobView) (task : TaskId) (j' : List RecordView) (copy : Option (Vec (Vec ℤ Global) Global)) (room room' : CheckpointRoom) (ready' : ReadyIs BodyView) (fields' : Vec (Vec ℤ Global) Global)
+      → ((script : ScriptView) (fields : List (List ℤ)) (rs : List RecordView) (r : RecordView) → LawfulGrows script fields rs r) → InvariantsStay → IsExecutor s
+      → room.view ≡ s.checkpoint → HasFoldRoom copy room j1 (rows_of p.fields.items) → Settles copy j1 j' room room' → Forwards s.ready task ready' → task ≡ job.task
+      → Applied book book' job (effect_views p.effects.items) (exit_view p.exit) jobs jobs' → place' ≡ None → fields' ≡ p.fields
+      → Done book book' jobs jobs' s (record s { ready = ready'; chosen = chosen_at p' arrival stage place'; journal = j'; checkpoint = room'.view; fields = rows_of fields'.items }) (chosen_view p arrival stage job)
+  ended book book' jobs jobs' task j' copy room room' ready' fields' grows stays keeps view folds settles forwards of_task applied gone fields =
+      let d = journalled book book' jobs jobs' s p job arrival stage j1 j' copy room room' ready' grows stays keeps seen was wrote view folds settles (subst (λ (t : TaskId). Forwards s.ready t ready') of_task forwards) applied in
+      let same : record s { ready = ready'; chosen = None; journal = j'; checkpoint = room'.view; fields = rows_of p.fields.items } ≡ record s { ready = ready'; chosen = chosen_at p' arrival stage place'; journal = j'; checkpoint = room'.view; fields = rows_of fields'.items } =
+      ap (λ (v : Vec (Vec ℤ Global) Global). record s { ready = ready'; chosen = None; journal = j'; checkpoint = room'.view; fields = rows_of v.items }) (sym fields)
+      ∙ ap (λ (o : Option (JobIs BodyView)). record s { ready = ready'; chosen = chosen_at p' arrival stage o; journal = j'; checkpoint = room'.view; fields = rows_of fields'.items }) (sym gone) in
+      record {
+        keeps = subst (λ (v : ExecView). IsExecutor v) same d.keeps;
+        journals = subst (λ (v : ExecView). Journals book book' jobs jobs' s v (chosen_view p arrival stage job)) same d.journals;
+      }
+
+  -- the book has refused it, and its record was taken back
+  pub unchanged : (j' : List RecordView) (c' : CheckpointView) → place' ≡ place → j' ≡ take (length j1 - 1) j1 → c' ≡ s.checkpoint → record s { chosen = chosen_at p arrival stage place'; journal = j'; checkpoint = c' } ≡ s
+  unchanged j' c' back retracted_is view =
+      let chosen : chosen_at p arrival stage place' ≡ s.chosen = ap (chosen_at p arrival stage) back ∙ sym at in
+      let journal : j' ≡ s.journal = retracted_is ∙ retracted p stage job s.journal j1 was wrote in
+      ap (λ (o : Option ChosenView). record s { chosen = o; journal = j'; checkpoint = c' }) chosen
+      ∙ ap (λ (j : List RecordView). record s { journal = j; checkpoint = c' }) journal
+      ∙ ap (λ (v : CheckpointView). record s { checkpoint = v }) view
