@@ -1,0 +1,34 @@
+-- The checkpoints of a run that has not begun.
+use Rattle.std.proofs.Common.{◌≡◌, ℕ, ◌+◌, ◌<◌, ◌≤◌, zero, suc, List, [], ◌∷◌, map, length, refl, ap, ◌∙◌, arith}
+use Rattle.std.specs.Prelude.{Option, Some, None, slice_get, unwrap_or}
+use Rattle.std.specs.List.{range_with_len}
+use Rattle.swift_script.specs.Scripts.{ScriptView, executor_count, executor_start}
+use Rattle.swift_journal.specs.Checkpoints.{CheckpointView}
+use Rattle.swift_history.specs.Histories.{checkpoint_at, no_checkpoint}
+use Rattle.swift_course.specs.Course.{start_of, starts}
+
+from : {X : Type 0} (f : ℕ → X) (n a e : ℕ) → e < n → slice_get (map f (range_with_len a n)) e ≡ Some (f (a + e))
+from f zero a e lt = absurd (omega arith)
+from f (suc n) a zero lt = ap (λ k. Some (f k)) (omega arith)
+from f (suc n) a (suc e) lt = from f n (a + 1) e (omega arith) ∙ ap (λ k. Some (f k)) (omega arith)
+
+beyond : {X : Type 0} (xs : List X) (e : ℕ) → length xs ≤ e → slice_get xs e ≡ None
+beyond [] e le = refl
+beyond (x ∷ xs) zero le = absurd (omega arith)
+beyond (x ∷ xs) (suc e) le = beyond xs e (omega arith)
+
+many : {X : Type 0} (f : ℕ → X) (n a : ℕ) → length (map f (range_with_len a n)) ≡ n
+many f zero a = refl
+many f (suc n) a = ap suc (many f n (a + 1))
+
+pub start_is : (script : ScriptView) (e : ℕ) → e < executor_count script → checkpoint_at (starts script) e ≡ start_of script e
+start_is script e lt = ap (λ (o : Option CheckpointView). unwrap_or o no_checkpoint) (from (start_of script) (executor_count script) 0 e lt ∙ ap (λ k. Some (start_of script k)) (omega arith))
+
+pub start_fields : (script : ScriptView) (e : ℕ) → e < executor_count script → (checkpoint_at (starts script) e).fields ≡ executor_start script e
+start_fields script e lt = ap (λ (c : CheckpointView). c.fields) (start_is script e lt)
+
+pub none_at : (cps : List CheckpointView) (e : ℕ) → length cps ≤ e → checkpoint_at cps e ≡ no_checkpoint
+none_at cps e le = ap (λ (o : Option CheckpointView). unwrap_or o no_checkpoint) (beyond cps e le)
+
+pub many_starts : (script : ScriptView) → length (starts script) ≡ executor_count script
+many_starts script = many (start_of script) (executor_count script) 0

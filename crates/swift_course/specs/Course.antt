@@ -1,0 +1,84 @@
+-- The rule of a run that is under way: some history led to the book, and what the seats know of it is true (our own). A run has no
+-- folded block while it goes: which turns a checkpoint has is settled at its end.
+use Rattle.std.specs.Prelude.{◌≡◌, ℕ, ◌+◌, ◌<◌, ◌≤◌, ◌==◌, Bool, is_some, Option, Some, None, IfSome, List, [], All, count_by, sum_by, map, slice_index_or, cond}
+use Rattle.std.specs.List.{range_with_len}
+use mathlib.Core.Option.{some}
+use lib.ListN.{get_elem?}
+use Rattle.swift_script.specs.Scripts.{ScriptView, executor_count, executor_start, root_count}
+use Rattle.swift_events.specs.declared.life.Stage.TheVariants.{Begun}
+use Rattle.swift_events.specs.Events.{tasks_of}
+use Rattle.swift_events.specs.Lives.{life_of}
+use Rattle.swift_journal.specs.Checkpoints.{CheckpointView}
+use Rattle.swift_history.specs.Histories.{AllStand, Block, Standing, after_blocks, at_first, folded_of, records_of, roots_of}
+use Rattle.swift_history.specs.TurnEnds.{HeldView}
+use Rattle.swift_known.specs.Views.{Account, BookFacts, Maker, SeatView, Ticket}
+
+-- the checkpoints of a run that has not begun: the values that the fields start with, and no turn
+abbrev pub start_of : ScriptView → ℕ → CheckpointView
+start_of script e = record { fields = executor_start script e; folded = [] }
+
+abbrev pub starts : ScriptView → List CheckpointView
+starts script = map (start_of script) (range_with_len 0 (executor_count script))
+
+-- where a history leads
+abbrev pub standing : ScriptView → List Block → Standing
+standing script blocks = after_blocks script (at_first script) blocks
+
+-- the account has the records of its executor in this history
+abbrev pub IsIn : List Block → Account → Type 0
+IsIn blocks a = a.records ≡ records_of a.executor blocks
+
+-- the account is this seat's alone, and its executor is one of so many
+abbrev pub IsOwned : (ℕ → ℕ) → ℕ → ℕ → Account → Type 0
+IsOwned owner executors seat a = (owner a.executor ≡ seat) × (a.executor < executors)
+
+-- The history gives the ticket's job to its task, and where the turn has begun, it is under way in this environment.
+pub record IsGiven (s : Standing) (k : Ticket) : Type 0 where
+  pub job : s.jobs k.job.task ≡ Some k.job
+  pub begun : IfSome k.begun (λ env. (life_of k.job.task s.log).stage ≡ Some (Begun env))
+
+-- how many of a seat's tickets are for a task
+abbrev pub is_for : ℕ → Ticket → Bool
+is_for t k = t == k.job.task
+
+abbrev pub tickets_in : ℕ → SeatView → ℕ
+tickets_in t v = count_by (is_for t) v.tickets
+
+-- in how many ways a task can go on: by each ticket for it, and where it waits and is woken
+abbrev pub one_if : Bool → ℕ
+one_if b = cond b 1 0
+
+abbrev pub waits : ℕ → List (Option HeldView) → ℕ
+waits t held = one_if (is_some (slice_index_or held t None))
+
+abbrev pub ways : ℕ → BookFacts → List SeatView → ℕ
+ways t facts views = sum_by (tickets_in t) views + waits t facts.held
+
+-- What a seat knows is true. No other seat has its accounts, and no other opens accounts and adds roots if it does.
+pub record SeatIsRight (script : ScriptView) (blocks : List Block) (owner : ℕ → ℕ) (maker : Maker) (maker_seat seat : ℕ) (v : SeatView) : Type 0 where
+  pub script_is : IfSome v.script (λ known. script ≡ known)
+  pub accounts : All (IsIn blocks) v.accounts
+  pub owns : All (IsOwned owner maker.executors seat) v.accounts
+  pub tickets : All (IsGiven (standing script blocks)) v.tickets
+  pub maker_is : IfSome v.maker (λ known. (known ≡ maker) × (maker_seat ≡ seat))
+
+-- The rule: what holds of the book and of what all seats know, between any two steps of threads.
+pub record IsCourse (facts : BookFacts) (views : List SeatView) : Type 0 where
+  -- Some history, each block of which may stand where it stands, led to what the book has, and folded no turn.
+  pub blocks : List Block
+  pub stand : AllStand facts.script (starts facts.script) [] blocks
+  pub none_folded : (e : ℕ) → folded_of e blocks ≡ []
+  pub log_is : facts.log ≡ (standing facts.script blocks).log
+  pub held_is : facts.held ≡ (standing facts.script blocks).held
+  -- how many accounts and roots there are, which seat makes them, and whose each account is
+  pub maker : Maker
+  pub maker_seat : ℕ
+  pub owner : ℕ → ℕ
+  pub few : maker.executors ≤ executor_count facts.script
+  pub none_else : (e : ℕ) → maker.executors ≤ e → records_of e blocks ≡ []
+  pub roots : roots_of blocks ≡ range_with_len 0 maker.roots
+  -- A task can go on in one way at most: it has a ticket, or waits; and in none where it was not made.
+  pub single : (t : ℕ) → ways t facts views ≤ 1
+  pub unadded : (t : ℕ) → maker.roots ≤ t → t < root_count facts.script → ways t facts views ≡ 0
+  pub unmade : (t : ℕ) → tasks_of (root_count facts.script) facts.log ≤ t → ways t facts views ≡ 0
+  pub seats : (seat : ℕ) (v : SeatView) → get_elem? views seat ≡ some v → SeatIsRight facts.script blocks owner maker maker_seat seat v

@@ -1,0 +1,6 @@
+pub mod Course
+pub mod Steps
+pub mod Seats
+pub mod Reports
+pub mod Frames
+pub mod Rule

@@ -1,0 +1,96 @@
+-- What the holder of a book may do to it, and what its seat knows then: a root is added, a turn begins, a turn is applied (our own).
+use Rattle.std.specs.Prelude.{◌≡◌, ℕ, ◌+◌, true, nat_lt, Some, None, List, [], ◌∷◌, ◌++◌, map, set}
+use mathlib.Core.Option.{some}
+use lib.ListN.{get_elem?}
+use Rattle.script_code.specs.declared.env.Env.{Env}
+use Rattle.swift_script.specs.Scripts.{ScriptView, actor_executor, executor_start, method_actor, root_count}
+use Rattle.swift_turn.specs.Body.{HasFirst, advanced, callers_of}
+use Rattle.swift_events.specs.declared.event.Event.TheVariants.{Begin}
+use Rattle.swift_events.specs.declared.life.Stage.TheVariants.{Begun}
+use Rattle.swift_events.specs.Lives.{life_of}
+use Rattle.swift_events.specs.Room.{IsEnv}
+use Rattle.swift_journal.specs.Records.{RecordView}
+use Rattle.swift_journal.specs.Replay.{IsLawfulRecord, replay}
+use Rattle.swift_history.specs.Checks.{counters, fits_turn, is_current}
+use Rattle.swift_history.specs.Histories.{begun_priority, left_as}
+use Rattle.swift_history.specs.TurnEnds.{JobView, TurnEnd, root_events, root_job, task, turn_end}
+use Rattle.swift_course.specs.Course.{IsCourse}
+use Rattle.swift_known.specs.Views.{Account, BookFacts, Maker, SeatView, Ticket}
+
+-- Whatever else is known, a seat that knows v may give back this for what it took, and knows this then.
+abbrev pub MayGive : SeatView → BookFacts → BookFacts → SeatView → Type 0
+MayGive v taken given known = (views : List SeatView) (seat : ℕ) → IsCourse taken views → get_elem? views seat ≡ some v → (w : SeatView) × IsCourse given (set views seat w) × (w ≡ known)
+
+-- the ticket of a job whose turn has not begun
+abbrev pub fresh : JobView → Ticket
+fresh job = record { job = job; begun = None }
+
+-- the next root is added
+
+abbrev pub with_root : BookFacts → ℕ → BookFacts
+with_root facts r = record facts { log = facts.log ++ root_events facts.script r }
+
+abbrev pub knowing_root : ScriptView → Maker → SeatView → SeatView
+knowing_root script m v = record v { tickets = v.tickets ++ fresh (root_job script m.roots) ∷ []; maker = Some (record m { roots = m.roots + 1 }) }
+
+-- A seat that adds roots may add the next one, where the script has one more and it was not added.
+abbrev pub RootsMayBeAdded : Type 0
+RootsMayBeAdded = (v : SeatView) (taken : BookFacts) (m : Maker) → v.maker ≡ Some m
+    → nat_lt m.roots (root_count taken.script) ≡ true → (life_of m.roots taken.log).origin ≡ None
+    → MayGive v taken (with_root taken m.roots) (knowing_root taken.script m v)
+
+-- a turn begins
+
+abbrev pub with_begin : BookFacts → JobView → Env → BookFacts
+with_begin facts j env = record facts { log = facts.log ++ Begin (task j.task) j.number env ∷ [] }
+
+abbrev pub knowing_begin : Ticket → List Ticket → Env → SeatView → SeatView
+knowing_begin k rest env v = record v { tickets = record k { begun = Some env } ∷ rest }
+
+-- A seat may begin the turn of its first ticket, where it is the task's current one, in the environment of the log. It may have
+-- begun before.
+abbrev pub TurnsMayBegin : Type 0
+TurnsMayBegin = (v : SeatView) (taken : BookFacts) (k : Ticket) (rest : List Ticket) (env : Env) → v.tickets ≡ k ∷ rest
+    → is_current (life_of k.job.task taken.log) k.job.number k.job.resume ≡ true → IsEnv (root_count taken.script) (task k.job.task) taken.log env
+    → MayGive v taken (with_begin taken k.job env) (knowing_begin k rest env v)
+
+-- a turn is applied
+
+-- the end of the turn of a job, as a record has it: what it leaves of a book, and the jobs that it makes
+abbrev pub end_of : BookFacts → JobView → RecordView → TurnEnd
+end_of facts j r =
+    turn_end facts.script facts.log facts.held j.task j.number (begun_priority (life_of j.task facts.log).stage) r.effects r.exit
+    (advanced facts.script (left_as r.frame r.effects r.after) (callers_of j.frames.frames) j.frames.outer r.exit)
+
+abbrev pub with_turn : BookFacts → JobView → RecordView → BookFacts
+with_turn facts j r = record facts { log = (end_of facts j r).log; held = (end_of facts j r).held }
+
+abbrev pub with_record : RecordView → Account → Account
+with_record r a = record a { records = a.records ++ r ∷ [] }
+
+abbrev pub knowing_turn : BookFacts → Account → Ticket → List Ticket → RecordView → SeatView → SeatView
+knowing_turn taken a k rest r v = record v { accounts = with_record r a ∷ []; tickets = map fresh (end_of taken k.job r).jobs ++ rest }
+
+-- The record is of the job of a ticket whose turn has begun, on the executor of an account. The turn is the task's current one, its
+-- effects and its exit fit what was written since it has begun, and it is lawful after the turns of the account.
+pub record IsTurn (facts : BookFacts) (a : Account) (k : Ticket) (r : RecordView) : Type 0 where
+  pub task_is : r.task ≡ k.job.task
+  pub number_is : r.number ≡ k.job.number
+  pub resume_is : r.resume ≡ k.job.resume
+  pub outer_is : r.outer ≡ k.job.frames.outer
+  pub begun : k.begun ≡ Some r.env
+  pub runs : HasFirst k.job.frames.frames (λ p. p ≡ r.frame)
+  pub on : actor_executor facts.script (method_actor facts.script r.frame.method) ≡ a.executor
+  pub current : is_current (life_of k.job.task facts.log) k.job.number k.job.resume ≡ true
+  pub fits : (env : Env) → (life_of k.job.task facts.log).stage ≡ Some (Begun env) → fits_turn facts.script k.job.task facts.log (counters k.job.task facts.log env.room) r.effects r.exit ≡ true
+  pub lawful : IsLawfulRecord facts.script (replay facts.script (executor_start facts.script a.executor) a.records) r
+
+-- A seat of one account may apply the turn of its first ticket. Then the account has the record, and for the ticket come those of
+-- the jobs that the turn makes.
+abbrev pub TurnsMayBeApplied : Type 0
+TurnsMayBeApplied = (v : SeatView) (taken : BookFacts) (a : Account) (k : Ticket) (rest : List Ticket) (r : RecordView) → v.accounts ≡ a ∷ [] → v.tickets ≡ k ∷ rest
+    → IsTurn taken a k r → MayGive v taken (with_turn taken k.job r) (knowing_turn taken a k rest r v)
+
+-- A seat may give back what it took.
+abbrev pub BooksMayStay : Type 0
+BooksMayStay = (v : SeatView) (taken : BookFacts) → MayGive v taken taken v

@@ -1,0 +1,82 @@
+//! What holds of runs that are under way. A call costs nothing; its contract is the law.
+
+ghost use Rattle.swift_course.specs.Frames.{FramesGoOn};
+ghost use Rattle.swift_course.specs.Reports.{RunsAreLegal, SeatsLearn};
+ghost use Rattle.swift_course.specs.Rule.{GivesAreKept, JoinsAreKept, PartsAreKept, SeatsLearnOf};
+ghost use Rattle.swift_course.specs.Seats.{AccountsMayBeOpened, RunsBegin, SeatsMayBeGathered, TicketsMayBeParted};
+ghost use Rattle.swift_course.specs.Steps.{BooksMayStay, RootsMayBeAdded, TurnsMayBeApplied, TurnsMayBegin};
+
+/// The rule holds of a run that has not begun, with one seat (our own).
+pub fn runs_begin()
+    ensures { RunsBegin }
+{}
+
+/// What a seat knows of the book is true (our own).
+pub fn seats_learn()
+    ensures { SeatsLearn }
+{}
+
+/// A book that is given back unchanged keeps the rule (our own).
+pub fn books_may_stay()
+    ensures { BooksMayStay }
+{}
+
+/// The next root, added by the seat that adds roots, keeps the rule (our own).
+pub fn roots_may_be_added()
+    ensures { RootsMayBeAdded }
+{}
+
+/// The turn of a seat's ticket that begins keeps the rule (our own).
+pub fn turns_may_begin()
+    ensures { TurnsMayBegin }
+{}
+
+/// The turn of a seat's ticket that is applied, with its record in the seat's account, keeps the rule (our own).
+pub fn turns_may_be_applied()
+    ensures { TurnsMayBeApplied }
+{}
+
+/// A ticket that gets a seat of its own keeps the rule (our own).
+pub fn tickets_may_be_parted()
+    ensures { TicketsMayBeParted }
+{}
+
+/// A seat for the next executor keeps the rule (our own).
+pub fn accounts_may_be_opened()
+    ensures { AccountsMayBeOpened }
+{}
+
+/// A seat that takes in another keeps the rule (our own).
+pub fn seats_may_be_gathered()
+    ensures { SeatsMayBeGathered }
+{}
+
+/// The report of a run whose accounts are all in one seat is legal (our own).
+pub fn runs_are_legal()
+    ensures { RunsAreLegal }
+{}
+
+/// What follows from a turn is the same by the frame that has had it, which is in the job, as by the record of the turn (our own).
+pub fn frames_go_on()
+    ensures { FramesGoOn }
+{}
+
+/// What a seat of the lock knows of the book is true (our own).
+pub fn seats_of_locks_learn()
+    ensures { SeatsLearnOf }
+{}
+
+/// What a step of the run leaves may be given back to the lock (our own).
+pub fn gives_are_kept()
+    ensures { GivesAreKept }
+{}
+
+/// A seat of the lock may be parted as the run allows (our own).
+pub fn parts_are_kept()
+    ensures { PartsAreKept }
+{}
+
+/// A seat of the lock may take in another as the run allows (our own).
+pub fn joins_are_kept()
+    ensures { JoinsAreKept }
+{}
