@@ -112,7 +112,8 @@ actor Group {
 }
 """
 
-# Tasks that one root makes, 16 a turn: as many turns as `spin` and `calls` have, and a short text.
+# 992 tasks that one root makes, 16 a turn: as many turns as `spin` and `calls` have, and a short text. With the room that other turns may
+# reserve these are the most.
 SPAWNED = """\
 actor Counter {
     var turns = 0;
@@ -131,7 +132,7 @@ actor Counter {
         }
     }
 }
-root all = Counter.start(63);
+root all = Counter.start(62);
 """
 
 CALLS_SPAWNED = """\
@@ -158,7 +159,7 @@ actor Adder {
     invariant total >= 0;
     func gain(amount) { total = total + amount; return total; }
 }
-root all = Asker.start(63);
+root all = Asker.start(62);
 """
 
 # Each root has a group of 16 children, each of which calls another actor 60 times.
@@ -213,10 +214,10 @@ def sixteen():
     return actors + "".join(f"root task{k} = Counter{k % 64}.spin(990);\n" for k in range(1024))
 
 
-def eight(text, call):
-    """The same on eight executors."""
+def eight(text, call, tasks):
+    """So many tasks, on eight executors."""
     actors = "".join(text.replace("Heavy", f"Heavy{k}").replace("Counter", f"Counter{k}") for k in range(8))
-    return actors + "".join(f"root task{k} = {call.format(k)};\n" for k in range(8))
+    return actors + "".join(f"root task{k} = {call.format(k % 8)};\n" for k in range(tasks))
 
 
 def shared():
@@ -308,9 +309,9 @@ SCRIPTS = {
 # What is run on some workers: eight executors with turns of some 900 steps, of some 75 (a microsecond) and of 4; and scripts with one or two executors,
 # where all workers but one or two have nothing to do.
 CREWS = {
-    "heavy": eight(HEAVY, "Heavy{}.work(990)"),
-    "microsecond": eight(HEAVY.replace("i < 300", "i < 25"), "Heavy{}.work(990)"),
-    "light": eight(COUNTER, "Counter{}.spin(990)"),
+    "heavy": eight(HEAVY, "Heavy{}.work(990)", 64),
+    "microsecond": eight(HEAVY.replace("i < 300", "i < 25"), "Heavy{}.work(990)", 512),
+    "light": eight(COUNTER, "Counter{}.spin(990)", 512),
     "spin_spawned": SPAWNED,
     "calls": SCRIPTS["calls"][0],
     "calls_spawned": CALLS_SPAWNED,
