@@ -29,10 +29,11 @@ test:
 prove:
 	@tools/prove.py
 
-# Tries the planted bugs that the gate leaves out: make mutants CRATES="swift_turn script_names" (all), those of them whose names match:
-# EDITS="advance__* poll__*" (all).
+# Tries the planted bugs, those that the gate leaves out too: make mutants CRATES="swift_turn script_names" (all), those of them whose names
+# match: EDITS="advance__* poll__*" (all).
+EDITS = *
 mutants:
-	@EDITS='$(EDITS)' tools/mutants.sh $(CRATES)
+	@tools/mutants.py $(CRATES) --edits $(foreach edit,$(EDITS),'$(edit)')
 
 # Runs each example, and compares what it prints, what it says on standard error and its status with what stands beside it.
 examples: $(PROGRAM)

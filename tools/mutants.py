@@ -1,0 +1,192 @@
+#!/usr/bin/env python3
+"""Tries the planted bugs in crates/NAME/mutants/ and must-fail/: the prover has to refuse each.
+
+    tools/mutants.py [--edits PATTERN..] [NAME..]       of these crates (all), those whose names match (all)
+
+Edits of different functions of a crate are planted together, in a copy of it, and judged by one check, which says of each function whether
+it is proved. An edit is named FUNCTION__WHAT.edit; it is refused where a function of that name, in a file that it changes, is not proved.
+One that changes anything but code is tried alone. Where edits that are planted together do not compile, each half of them is tried. The
+crates below are proved first, and the crate itself, unless rt check or rt lib has done so in this tree.
+"""
+import argparse
+import fnmatch
+import os
+import re
+import shutil
+import subprocess
+import sys
+import tempfile
+import time
+
+sys.dont_write_bytecode = True
+TOP = os.path.dirname(os.path.dirname(os.path.abspath(__file__)))
+sys.path.insert(0, os.path.join(TOP, "tools"))
+import prove
+
+KIT = os.path.dirname(subprocess.run(["rt", "doc"], capture_output=True, text=True, check=True).stdout.strip())
+# How many are planted together at most.
+MANY = 24
+
+
+class Edit:
+    """A planted bug: its name, the function that it is in, and of each file what stands there and what comes in its place."""
+
+    def __init__(self, path):
+        self.name = os.path.basename(path)[: -len(".edit")]
+        self.function = self.name.split("__")[0]
+        self.pairs, file, old = [], None, None
+        with open(path, encoding="utf8") as lines:
+            for line in lines:
+                kind, _, text = line.rstrip("\n").partition(": ")
+                if kind == "file":
+                    file = text.strip()
+                elif kind == "old":
+                    old = text
+                elif kind == "new" or line.startswith("new:"):
+                    self.pairs.append((file, old, text))
+
+    def is_code(self):
+        return all(file.startswith("src/") for file, _, _ in self.pairs) and not any("laws.rt" in file for file, _, _ in self.pairs)
+
+
+def planted(folder, edits):
+    """The files with these edits, or None where two of them meet or a text does not stand there once."""
+    texts = {}
+    for edit in edits:
+        for file, old, new in edit.pairs:
+            if file not in texts:
+                with open(os.path.join(folder, file), encoding="utf8") as text:
+                    texts[file] = text.read()
+            if texts[file].count(old) != 1:
+                return None
+            texts[file] = texts[file].replace(old, new)
+    return texts
+
+
+def together(folder, edits):
+    """Lists of edits, each of different functions, that can be planted together."""
+    lists = []
+    for edit in edits:
+        for found in lists:
+            apart = len(found) < MANY and all(other.function != edit.function for other in found)
+            if edit.is_code() and found[0].is_code() and apart and planted(folder, [*found, edit]) is not None:
+                found.append(edit)
+                break
+        else:
+            lists.append([edit])
+    return lists
+
+
+def words_of(name):
+    """The prover's words for a crate, without its sources."""
+    listed = {}
+    with open(os.path.join(TOP, "crates.txt"), encoding="utf8") as lines:
+        for line in lines:
+            head, _, below = line.split("#")[0].partition(":")
+            if head.strip():
+                listed[head.split()[0]] = below.split()
+    words = ["--extern", f"std={KIT}/rlibs/std.rlib", "-L", f"dependency={KIT}/rlibs"]
+    for below in listed[name]:
+        place = f"{TOP}/crates/{below}/out/rlib" if below in listed else f"{KIT}/rlibs"
+        words += ["--extern", f"{below}={place}/{below}.rlib"]
+    for below in prove.in_order(prove.graph(), [name])[:-1]:
+        words += ["-L", f"dependency={TOP}/crates/{below}/out/rlib"]
+    return words + ["--antt-project", f"{KIT}/rattle/logic/antt-project.json", "--logic-built", f"{KIT}/logic_built", "--links", f"{name}="]
+
+
+class Crate:
+    def __init__(self, name, room):
+        self.name, self.folder, self.room = name, os.path.join(TOP, "crates", name), room
+        self.kept = os.path.join(room, "kept")
+        seed = os.path.join(self.folder, "out/incremental")
+        if os.path.isdir(seed):
+            shutil.copytree(seed, self.kept)
+        self.root = "src/lib.rt" if os.path.exists(os.path.join(self.folder, "src/lib.rt")) else "src/main.rt"
+        self.words = words_of(name)
+
+    def check(self, texts):
+        """What the prover says of the crate with these files in place of its own."""
+        copy = os.path.join(self.room, "crate")
+        shutil.rmtree(copy, ignore_errors=True)
+        for part in ("src", "specs", "proofs"):
+            if os.path.isdir(os.path.join(self.folder, part)):
+                shutil.copytree(os.path.join(self.folder, part), os.path.join(copy, part))
+        for file, text in texts.items():
+            with open(os.path.join(copy, file), "w", encoding="utf8") as out:
+                out.write(text)
+        words = [f"{KIT}/bin/rattle", "check", "--crate-name", self.name, self.root, *self.words, "--jobs", "1", "--incremental", self.kept]
+        how = {"stdout": subprocess.PIPE, "stderr": subprocess.STDOUT, "text": True, "errors": "replace"}
+        return subprocess.run(words, cwd=copy, check=False, **how).stdout
+
+    def judge(self, edits):
+        """Of each edit, what came of it."""
+        texts = planted(self.folder, edits)
+        if texts is None:
+            return {edits[0]: "BAD EDIT: its text does not stand there once"} if len(edits) == 1 else self.halves(edits)
+        said = self.check(texts)
+        if not re.search(r"(?m)^logic=(proved|not-proved)", said):
+            if len(edits) > 1:
+                return self.halves(edits)
+            first = next((line for line in said.split("\n") if "error" in line), "the prover gave no verdict")
+            return {edits[0]: f"BAD EDIT: {first[:160]}"}
+        if len(edits) == 1:
+            return {edits[0]: "refused" if "\nlogic=not-proved" in said else "NOT REFUSED"}
+        unproved = {name.rsplit("::", 1)[-1].strip("<>") for name in re.findall(r"(?m)^fn (\S+): (?:not proved|no proof|could not tell)", said)}
+        return {edit: "refused" if edit.function in unproved else "NOT REFUSED" for edit in edits}
+
+    def halves(self, edits):
+        half = len(edits) // 2
+        return {**self.judge(edits[:half]), **self.judge(edits[half:])}
+
+
+def edits_of(name, patterns):
+    found = []
+    for kind in ("must-fail", "mutants"):
+        folder = os.path.join(TOP, "crates", name, kind)
+        for file in sorted(os.listdir(folder)) if os.path.isdir(folder) else []:
+            if file.endswith(".edit") and any(fnmatch.fnmatch(file[: -len(".edit")], it) for it in patterns):
+                found.append(Edit(os.path.join(folder, file)))
+    return found
+
+
+def tried(name, edits):
+    """Tries the edits of a crate. How many were not refused."""
+    logs = os.path.join(TOP, "out", "prove")
+    os.makedirs(logs, exist_ok=True)
+    for below in prove.in_order(prove.graph(), [name]):
+        status, _ = prove.prove(below, logs, prove.JOBS)
+        if status:
+            sys.exit(f"{below} is not proved: see out/prove/{below}.log")
+    bad = 0
+    with tempfile.TemporaryDirectory() as room:
+        crate = Crate(name, room)
+        lists = together(crate.folder, edits)
+        began = time.monotonic()
+        for found in lists:
+            verdicts = crate.judge(found)
+            # What is planted beside others and passes is tried alone before it is called so.
+            for edit, verdict in verdicts.items():
+                if verdict == "NOT REFUSED" and len(found) > 1:
+                    verdict = crate.judge([edit])[edit]
+                bad += verdict != "refused"
+                print(f"{name}/{edit.name}: {verdict}", flush=True)
+        print(f"{name}: {len(edits)} edits in {len(lists)} lists, {time.monotonic() - began:.0f} s", flush=True)
+    return bad
+
+
+def main():
+    words = argparse.ArgumentParser(description="Tries planted bugs.")
+    words.add_argument("names", nargs="*", metavar="NAME")
+    words.add_argument("--edits", nargs="+", default=["*"])
+    given = words.parse_args()
+    names = given.names or [name for name in prove.graph() if edits_of(name, ["*"])]
+    bad = 0
+    for name in names:
+        edits = edits_of(name, given.edits)
+        if edits:
+            bad += tried(name, edits)
+    print(f"{bad} edits were not refused")
+    sys.exit(1 if bad else 0)
+
+
+main()
