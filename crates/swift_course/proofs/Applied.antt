@@ -16,8 +16,8 @@ use Rattle.swift_history.specs.Checks.{counters, fits_turn, is_current}
 use Rattle.swift_history.specs.Histories.{ran, RecordStands, Standing, after_block, at_first, begun_priority, fields_of, folded_in, frames_applied, job_applied, left_as, record_in, records_of, root_in, taken, with_jobs}
 use Rattle.swift_history.specs.TurnEnds.{HeldView, JobView, TurnEnd, turn_end}
 use Rattle.swift_course.specs.Course.{IsGiven, IsIn, IsOwned, is_for, one_if, ways, standing, starts, tickets_in, waits}
-use Rattle.swift_course.specs.Steps.{IsTurn, TurnsMayBeApplied, end_of, fresh, knowing_turn, with_record}
-use Rattle.swift_known.specs.Views.{Account, BookFacts, SeatView, Ticket}
+use Rattle.swift_course.specs.Steps.{IsTurn, TurnsMayBeApplied, end_of, knowing_turn, with_record}
+use Rattle.swift_known.specs.Views.{Account, BookFacts, SeatView, Ticket, fresh}
 use Rattle.swift_course.proofs.Blocks.{after_push, filter_none, filter_some, stand_push}
 use Rattle.swift_course.proofs.Lists.{count_append, count_cons, equal, if_some, no_one, one, total_set, unequal}
 use Rattle.swift_course.proofs.Seats.{given_fresh, other_counts, others, others_and, rest_counts, seats_after, tickets_stay}

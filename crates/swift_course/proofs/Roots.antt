@@ -13,8 +13,8 @@ use Rattle.swift_events.specs.Lives.{life_of}
 use Rattle.swift_history.specs.Histories.{added, Standing, after_block, at_first, folded_in, record_in, root_in}
 use Rattle.swift_history.specs.TurnEnds.{root_events, root_job}
 use Rattle.swift_course.specs.Course.{IsCourse, IsGiven, IsIn, is_for, one_if, ways, standing, starts, tickets_in}
-use Rattle.swift_course.specs.Steps.{RootsMayBeAdded, fresh, knowing_root, with_root}
-use Rattle.swift_known.specs.Views.{BookFacts, Maker, SeatView, Ticket}
+use Rattle.swift_course.specs.Steps.{RootsMayBeAdded, knowing_root, with_root}
+use Rattle.swift_known.specs.Views.{BookFacts, Maker, SeatView, Ticket, fresh}
 use Rattle.swift_course.proofs.Blocks.{after_push, filter_none, filter_some, range_next, stand_push}
 use Rattle.swift_course.proofs.Lists.{all_each, count_append, count_cons, equal, if_some, no_one, one, total_most, total_set, unequal}
 use Rattle.swift_course.proofs.Seats.{given_fresh, seats_after, tickets_stay}

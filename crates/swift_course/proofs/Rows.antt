@@ -13,8 +13,8 @@ use Rattle.swift_events.specs.Lives.{life}
 use Rattle.swift_journal.specs.Records.{RecordView}
 use Rattle.swift_history.specs.TurnEnds.{HeldView, JobView, task}
 use Rattle.swift_course.specs.Course.{ways}
-use Rattle.swift_course.specs.Steps.{fresh, knowing_begin, knowing_turn, with_begin, with_turn}
-use Rattle.swift_known.specs.Views.{Account, BookFacts, SeatView, Ticket, no_view}
+use Rattle.swift_course.specs.Steps.{knowing_begin, knowing_turn, with_begin, with_turn}
+use Rattle.swift_known.specs.Views.{Account, BookFacts, SeatView, Ticket, no_view, fresh}
 
 abbrev job : FrameView → JobView
 job p = record { task = 0; number = 0; resume = resume.Start; frames = record { frames = p ∷ []; outer = [] } }

@@ -1,4 +1,5 @@
 -- A task that goes on has one job, or waits.
+use Rattle.swift_known.specs.Views.{fresh}
 use Rattle.std.proofs.Common.{◌≡◌, ◌≢◌, ℕ, zero, suc, ◌+◌, ◌≤◌, ◌==◌, Bool, true, false, List, [], ◌∷◌, ◌++◌, get_or, set, replicate, map, count_by, if◌then◌else◌, refl, ap, ◌∙◌, arith, inl, inr}
 use Rattle.std.specs.Prelude.{Option, Some, None, is_some}
 use Rattle.std.specs.List.{AllByRecursion}
@@ -21,7 +22,6 @@ use Rattle.swift_events.specs.Relations.{group_of, parent_of, waiters_of}
 use Rattle.swift_history.specs.Histories.{with_jobs}
 use Rattle.swift_history.specs.TurnEnds.{Follows, HeldView, JobView, followed, resume_at, resume_of, wake, wake_all, wake_closing, wake_each, wake_owner, wake_parent, woken}
 use Rattle.swift_course.specs.Course.{is_for, one_if, waits}
-use Rattle.swift_course.specs.Steps.{fresh}
 use Rattle.swift_course.proofs.Lists.{count_cons, equal, no_one, one}
 
 -- how many jobs are of this task

@@ -15,15 +15,11 @@ use Rattle.swift_history.specs.Checks.{counters, fits_turn, is_current}
 use Rattle.swift_history.specs.Histories.{begun_priority, left_as}
 use Rattle.swift_history.specs.TurnEnds.{JobView, TurnEnd, root_events, root_job, task, turn_end}
 use Rattle.swift_course.specs.Course.{IsCourse}
-use Rattle.swift_known.specs.Views.{Account, BookFacts, Maker, SeatView, Ticket}
+use Rattle.swift_known.specs.Views.{Account, BookFacts, Maker, SeatView, Ticket, fresh}
 
 -- Whatever else is known, a seat that knows v may give back this for what it took, and knows this then.
 abbrev pub MayGive : SeatView → BookFacts → BookFacts → SeatView → Type 0
 MayGive v taken given known = (views : List SeatView) (seat : ℕ) → IsCourse taken views → get_elem? views seat ≡ some v → (w : SeatView) × IsCourse given (set views seat w) × (w ≡ known)
-
--- the ticket of a job whose turn has not begun
-abbrev pub fresh : JobView → Ticket
-fresh job = record { job = job; begun = None }
 
 -- the next root is added
 

@@ -41,3 +41,7 @@ no_view = record { script = None; accounts = []; tickets = []; maker = None }
 -- the book of a run that has not begun
 abbrev pub first_facts : ScriptView → BookFacts
 first_facts script = record { script = script; log = []; held = replicate (root_count script) None }
+
+-- the ticket of a job whose turn has not begun
+abbrev pub fresh : JobView → Ticket
+fresh job = record { job = job; begun = None }
