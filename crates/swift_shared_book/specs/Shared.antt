@@ -1,43 +1,95 @@
--- The book as threads share it, and its seats, as callers see them.
-use Rattle.std.specs.Prelude.{◌≡◌, Option, Some, List, [], ◌∷◌}
+-- The book as threads share it, its seats, and the jobs that it gave, as callers see them (our own).
+use Rattle.std.specs.Prelude.{◌≡◌, ◌-◌, Bool, true, false, Option, Some, None, List, [], ◌∷◌, drop, length, map, slice_get, IsPermutation}
 use Rattle.atomic_table.specs.Seated.{TableId}
+use Rattle.script_code.specs.declared.env.Env.{Env}
 use Rattle.swift_script.specs.Scripts.{ScriptView}
-use Rattle.swift_tasks.specs.Books.{BookView}
-use Rattle.swift_shared_book.specs.declared.image.BookImage.{BookImage}
-use Rattle.swift_shared_book.specs.declared.known.Known.{Known}
+use Rattle.swift_queue.specs.Job.{JobIs}
+use Rattle.swift_turn.specs.Body.{BodyView}
+use Rattle.swift_history.specs.TurnEnds.{JobView}
+use Rattle.swift_journal.specs.Records.{RecordView}
+use Rattle.swift_known.specs.Views.{Account, BookFacts, SeatView, Ticket, fresh, no_view}
+use Rattle.swift_known.specs.declared.known.BookImage.{BookImage}
+use Rattle.swift_known.specs.declared.known.Known.{Known}
+use Rattle.swift_course.specs.Steps.{knowing_begin, with_record}
+use Rattle.swift_book_steps.specs.Calls.{IsPlayed}
+use Rattle.swift_tasks.specs.Books.{job_view}
 
 -- which lock it is, and the script of its book
 pub record BookLockIs : Type 0 where
   pub id : TableId
   pub script : ScriptView
 
--- a seat: its lock, and what it knows; nothing while the book is out by it
+-- A seat: its lock, whether it is there, and what it knows. It is not there while the book is out by it, and knows nothing then.
 pub record BookSeatIs : Type 0 where
   pub lock : TableId
-  pub knows : List Known
+  pub here : Bool
+  pub knows : SeatView
 
 -- a seat that has taken the book: its lock, what it knows, and the book as it was then
 pub record OpenSeatIs : Type 0 where
   pub lock : TableId
-  pub known : Known
-  pub taken : Option BookImage
+  pub knows : SeatView
+  pub taken : Option BookFacts
 
--- what a seat knows of a book of this script
-abbrev pub knowing : ScriptView → Known
-knowing script = record { script = Some script }
+-- what is seen of the views of a badge, and of what a seat has taken
+abbrev pub is_there : List Known → Bool
+is_there [] = false
+is_there (known ∷ others) = true
 
--- the book that the seat takes is of this script
-abbrev pub KnowsScriptOf : ScriptView → BookSeatIs → Type 0
-KnowsScriptOf script s = s.knows ≡ knowing script ∷ []
+abbrev pub view_in : List Known → SeatView
+view_in [] = no_view
+view_in (known ∷ others) = known.view
 
--- the seat is of this lock, and knows its script
+abbrev pub facts_in : Option BookImage → Option BookFacts
+facts_in None = None
+facts_in (Some image) = Some image.facts
+
+-- a seat of this lock, which knows this
+abbrev pub seat_of : BookLockIs → SeatView → BookSeatIs
+seat_of l v = record { lock = l.id; here = true; knows = v }
+
+-- the same seat, which now knows this
+abbrev pub knowing : SeatView → BookSeatIs → BookSeatIs
+knowing v s = record s { knows = v }
+
+-- The seat is of this lock, is there, and knows the script.
 abbrev pub IsSeatOf : BookLockIs → BookSeatIs → Type 0
-IsSeatOf l s = (s.lock ≡ l.id) × KnowsScriptOf l.script s
+IsSeatOf l s = (s.lock ≡ l.id) × (s.here ≡ true) × (s.knows.script ≡ Some l.script)
 
--- the seat has taken the book of this lock, and knows its script
-abbrev pub IsOpenOf : BookLockIs → OpenSeatIs → Type 0
-IsOpenOf l s = (s.lock ≡ l.id) × (s.known ≡ knowing l.script)
+-- there is a ticket for this job, and these are the others, in some order
+abbrev pub HasTicket : JobView → List Ticket → Type 0
+HasTicket j tickets = (k : Ticket) × (rest : List Ticket) × IsPermutation tickets (k ∷ rest) × (k.job ≡ j)
 
--- the seat has taken this book
-abbrev pub HasTaken : BookView → OpenSeatIs → Type 0
-HasTaken b s = s.taken ≡ Some (record { book = b })
+-- The turn of the ticket's job has begun in this environment: the ticket says so, and comes first.
+abbrev pub BeginsTicket : JobView → Env → SeatView → SeatView → Type 0
+BeginsTicket j env v w = (k : Ticket) × (rest : List Ticket) × IsPermutation v.tickets (k ∷ rest) × (k.job ≡ j) × (w ≡ knowing_begin k rest env v)
+
+-- the newest record of a journal
+abbrev pub newest : List RecordView → Option RecordView
+newest rs = slice_get rs (length rs - 1)
+
+-- The turn of the job was played after the turns of the seat's one account, by its first ticket, and this is its record.
+pub record HasPlayed (script : ScriptView) (v : SeatView) (j : JobIs BodyView) (r : RecordView) : Type 0 where
+  pub account : Account
+  pub ticket : Ticket
+  pub rest : List Ticket
+  pub accounts : v.accounts ≡ account ∷ []
+  pub tickets : v.tickets ≡ ticket ∷ rest
+  pub plays : IsPlayed script account ticket j r
+
+-- what a seat knows once that turn was applied, and the tickets of the jobs that it makes were handed out
+abbrev pub after_turn : RecordView → SeatView → SeatView
+after_turn r v = record v { accounts = map (with_record r) v.accounts; tickets = drop 1 v.tickets }
+
+-- what a seat knows that has taken in the ticket of a job
+abbrev pub with_ticket : JobView → SeatView → SeatView
+with_ticket j v = record v { tickets = fresh j ∷ v.tickets }
+
+-- jobs with their tickets: the lock of the book that gave them, and the jobs, the oldest first
+pub record TicketedJobsIs : Type 0 where
+  pub book : TableId
+  pub jobs : List (JobIs BodyView)
+
+-- what a seat knows that has the tickets of these jobs alone
+abbrev pub tickets_view : Option ScriptView → List (JobIs BodyView) → SeatView
+tickets_view script jobs = record { script = script; accounts = []; tickets = map (λ j. fresh (job_view j)) jobs; maker = None }

@@ -1,12 +1,12 @@
-//! The book of a run, as threads share it: a lock with a rule, by which each seat knows the script of the book without
-//! looking at it (our own).
+//! The book of a run, as threads share it: a lock with a rule. The rule says that some history of the script led to the book, which
+//! has the turns that the seats of executors know, and gives the jobs whose tickets are out (our own).
 #![tactic(auto)]
 
-// What the lock's rule knows of a book.
-mod image;
+// The calls of the book under its lock.
+mod calls;
 
-// What a seat knows of the book.
-mod known;
+// Jobs with their tickets.
+mod jobs;
 
 // A book that was taken from its lock.
 mod opened;
@@ -23,8 +23,7 @@ mod shared;
 // The book where it lies in its lock.
 mod shelf;
 
-pub use image::BookImage;
-pub use known::Known;
+pub use jobs::TicketedJobs;
 pub use opened::{OpenBook, OpenSeat};
 pub use seat::BookSeat;
 pub use shared::BookLock;

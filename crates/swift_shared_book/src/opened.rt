@@ -1,12 +1,12 @@
 //! A book that was taken from its lock.
 
-use crate::known::Known;
 use crate::shelf::Shelf;
 use std::marker::Model;
+use swift_known::known::Known;
 use swift_lock::Seat;
 use swift_tasks::Book;
 
-/// A book that was taken from its lock. It can't be dropped: `BookLock::unlock` gives it back.
+/// A book that was taken from its lock. It can't be dropped: a call of the lock gives it back.
 pub struct OpenBook {
     pub book: Box<Book>,
     /// The right to give it back.
@@ -24,13 +24,13 @@ impl Model for OpenSeat {
     ghost use Rattle.std.specs.Prelude.{IsSome};
     ghost use Rattle.std.specs.Coded.{codes};
     ghost use Rattle.swift_script.specs.Codes.{expression_code, statement_code, block_code};
-    ghost use Rattle.swift_shared_book.specs.Shared.{OpenSeatIs};
+    ghost use Rattle.swift_shared_book.specs.Shared.{OpenSeatIs, facts_in};
 
     ghost Value = { OpenSeatIs };
 
     ghost coded = { Prim.hlevel (codes, expression_code, statement_code (block_code (Prim.hlevel (codes, expression_code)) (Prim.hlevel (codes, expression_code)))) };
 
-    ghost view = { λ s. record { lock = s.seat.lock; known = s.seat.known; taken = s.seat.held } };
+    ghost view = { λ s. record { lock = s.seat.lock; knows = s.seat.known.view; taken = facts_in s.seat.held } };
 
     ghost invariant = { λ s. IsSome s.seat.held };
 }

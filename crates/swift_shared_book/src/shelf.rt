@@ -2,7 +2,8 @@
 
 ghost use Rattle.std.specs.Prelude.{◌≡◌};
 
-use crate::image::BookImage;
+use std::marker::Model;
+use swift_known::known::BookImage;
 use swift_lock::Locked;
 use swift_queue::Job;
 use swift_tasks::Book;
@@ -17,7 +18,9 @@ pub struct Shelf {
 impl Locked for Shelf {
     type Image = BookImage;
 
-    ghost image = { λ s. record { book = s.book.value } };
+    ghost use Rattle.swift_book_steps.specs.Calls.{facts_of};
+
+    ghost image = { λ s. record { facts = facts_of s.book.value } };
 }
 
 impl Drop for Shelf {
@@ -42,7 +45,8 @@ fn spend(book: Book) {
     spend_all(waiting);
 }
 
-fn spend_all(mut jobs: Vec<Job<Body>>) {
+/// Spends these jobs.
+pub fn spend_all(mut jobs: Vec<Job<Body>>) {
     while let Some(job) = jobs.pop() {
         let (_task, _number, _resume, _body) = job.spend();
     }
