@@ -53,29 +53,29 @@ module _ {X : Type 0} where
       IsPermutation-trans (e ∷ (xs ++ ys)) ((xs ++ e ∷ []) ++ ys) (ys ++ (xs ++ e ∷ [])) (at_end xs ys e) (IsPermutation-append_comm (xs ++ e ∷ []) ys)
 
 -- a job in front
-abbrev front_job : ReadyJob BodyView → JobView
+abbrev pub front_job : ReadyJob BodyView → JobView
 front_job x = job_view x.job
 
 -- one job more in front
-front_more : (r new : ReadyIs BodyView) (x : ReadyJob BodyView) → IsPermutation (x ∷ r.front) new.front → new.behind ≡ r.behind → IsPermutation (front_job x ∷ ready_jobs r) (ready_jobs new)
+pub front_more : (r new : ReadyIs BodyView) (x : ReadyJob BodyView) → IsPermutation (x ∷ r.front) new.front → new.behind ≡ r.behind → IsPermutation (front_job x ∷ ready_jobs r) (ready_jobs new)
 front_more r new x perm same =
     subst (λ (js : List (JobIs BodyView)). IsPermutation (front_job x ∷ ready_jobs r) (map front_job new.front ++ map job_view js)) (sym same)
     (IsPermutation-append_left (map job_view r.behind) (map front_job (x ∷ r.front)) (map front_job new.front) (IsPermutation-map front_job (x ∷ r.front) new.front perm))
 
 -- one job less in front
-front_less : (r new : ReadyIs BodyView) (x : ReadyJob BodyView) → IsPermutation r.front (x ∷ new.front) → new.behind ≡ r.behind → IsPermutation (ready_jobs r) (front_job x ∷ ready_jobs new)
+pub front_less : (r new : ReadyIs BodyView) (x : ReadyJob BodyView) → IsPermutation r.front (x ∷ new.front) → new.behind ≡ r.behind → IsPermutation (ready_jobs r) (front_job x ∷ ready_jobs new)
 front_less r new x perm same =
     subst (λ (js : List (JobIs BodyView)). IsPermutation (ready_jobs r) (front_job x ∷ (map front_job new.front ++ map job_view js))) (sym same)
     (IsPermutation-append_left (map job_view r.behind) (map front_job r.front) (map front_job (x ∷ new.front)) (IsPermutation-map front_job r.front (x ∷ new.front) perm))
 
 -- those in front in another order
-front_moved : (r new : ReadyIs BodyView) → IsPermutation r.front new.front → new.behind ≡ r.behind → IsPermutation (ready_jobs r) (ready_jobs new)
+pub front_moved : (r new : ReadyIs BodyView) → IsPermutation r.front new.front → new.behind ≡ r.behind → IsPermutation (ready_jobs r) (ready_jobs new)
 front_moved r new perm same =
     subst (λ (js : List (JobIs BodyView)). IsPermutation (ready_jobs r) (map front_job new.front ++ map job_view js)) (sym same)
     (IsPermutation-append_left (map job_view r.behind) (map front_job r.front) (map front_job new.front) (IsPermutation-map front_job r.front new.front perm))
 
 -- a job that is added
-added : (r : ReadyIs BodyView) (job : JobIs BodyView) (new : ReadyIs BodyView) → Adds r job new → IsPermutation (job_view job ∷ ready_jobs r) (ready_jobs new)
+pub added : (r : ReadyIs BodyView) (job : JobIs BodyView) (new : ReadyIs BodyView) → Adds r job new → IsPermutation (job_view job ∷ ready_jobs r) (ready_jobs new)
 added r job new (inl h) = front_more r new (ready_job job r.arrived) h.1 (ap (λ (x : ReadyIs BodyView). x.behind) h.2)
 added r job new (inr h) =
     let at : ready_jobs new ≡ map front_job r.front ++ (map job_view r.behind ++ job_view job ∷ []) =
@@ -83,7 +83,7 @@ added r job new (inr h) =
     subst (IsPermutation (job_view job ∷ ready_jobs r)) (sym at) (at_last (map front_job r.front) (map job_view r.behind) (job_view job))
 
 -- a job from behind may come to the front
-forwarded : (r : ReadyIs BodyView) (task : TaskId) (new : ReadyIs BodyView) → Forwards r task new → IsPermutation (ready_jobs r) (ready_jobs new)
+pub forwarded : (r : ReadyIs BodyView) (task : TaskId) (new : ReadyIs BodyView) → Forwards r task new → IsPermutation (ready_jobs r) (ready_jobs new)
 forwarded r task new (inl h) = subst (λ (x : ReadyIs BodyView). IsPermutation (ready_jobs r) (ready_jobs x)) (sym h.1) (IsPermutation-refl (ready_jobs r))
 forwarded r task new (inr h) =
     let before = h.0 in

@@ -11,3 +11,6 @@ pub mod Turned
 pub mod Ended
 pub mod Picked
 pub mod Rows
+pub mod Cancelled
+pub mod SeatKept
+pub mod SeatTurns

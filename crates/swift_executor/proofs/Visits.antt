@@ -1,5 +1,6 @@
 -- What a visit to an executor leaves, by what its calls have answered.
 use Rattle.std.proofs.Common.{◌≡◌, ℕ, Option, Some, None, Result, Ok, Err, IfOk, IfErr, IfSome, IfNone, OnOk, OnErr, List, ap, ◌∙◌}
+use Rattle.atomic_table.specs.Seated.{TableId}
 use Rattle.swift_types.specs.declared.id.TaskId.{TaskId}
 use Rattle.swift_events.specs.declared.event.Event.{Event}
 use Rattle.swift_history.specs.TurnEnds.{JobView}
@@ -8,7 +9,10 @@ use Rattle.swift_executor.specs.declared.fault.ExecFault.{ExecFault}
 use Rattle.swift_executor.specs.Account.{HasTaken}
 use Rattle.swift_executor.specs.Exec.{chosen_task, site_of}
 use Rattle.swift_executor.specs.State.{Chooses, ExecView, HasChosen, HasNone, IsPicked, LacksTask}
+use Rattle.swift_executor.specs.Seats.{IsSeatFor}
+use Rattle.swift_shared_book.specs.Shared.{BookSeatIs}
 use Rattle.swift_executor.proofs.AccountKept.{chose, had_none, lacked}
+use Rattle.swift_executor.proofs.SeatKept.{chose_knows, lacked_knows, none_knows}
 
 -- what holds after each answer holds
 pub either : {A E : Type 0} (r : Result A E) (P : Type 0) → OnOk r P → OnErr r P → P
@@ -35,15 +39,20 @@ module _ (given : List ℕ) (old new : ExecView) where
   FaultIs F r = IfErr r (λ fault. F fault × ((log : List Event) → AreLevels log given → LacksTask log old new))
 
   module _ (log : List Event) (levels : AreLevels log given) (free : old.chosen ≡ None) where
-    pub same_site : (F : ExecFault → Type 0) (r : Result (Option TaskId) ExecFault) → SomeIs r → NoneIs r → FaultIs F r → site_of new ≡ site_of old
-    same_site F (Ok (Some task)) some none err = ap site_of (some log levels).same
-    same_site F (Ok None) some none err = ap site_of (none log levels).same
-    same_site F (Err fault) some none err = ap site_of (err.1 log levels).same
+    pub same_site : (lock : TableId) (F : ExecFault → Type 0) (r : Result (Option TaskId) ExecFault) → SomeIs r → NoneIs r → FaultIs F r → site_of lock new ≡ site_of lock old
+    same_site lock F (Ok (Some task)) some none err = ap (site_of lock) (some log levels).same
+    same_site lock F (Ok None) some none err = ap (site_of lock) (none log levels).same
+    same_site lock F (Err fault) some none err = ap (site_of lock) (err.1 log levels).same
 
     pub same_taken : (F : ExecFault → Type 0) (taken : List JobView) (r : Result (Option TaskId) ExecFault) → SomeIs r → NoneIs r → FaultIs F r → HasTaken taken old → HasTaken taken new
     same_taken F taken (Ok (Some task)) some none err was = chose taken log task old new was free (some log levels)
     same_taken F taken (Ok None) some none err was = had_none taken log old new was (none log levels)
     same_taken F taken (Err fault) some none err was = lacked taken log old new was (err.1 log levels)
+
+    pub same_known : (F : ExecFault → Type 0) (seat : BookSeatIs) (r : Result (Option TaskId) ExecFault) → SomeIs r → NoneIs r → FaultIs F r → IsSeatFor old seat → IsSeatFor new seat
+    same_known F seat (Ok (Some task)) some none err was = chose_knows log task old new seat was free (some log levels)
+    same_known F seat (Ok None) some none err was = none_knows log old new seat was free (none log levels)
+    same_known F seat (Err fault) some none err was = lacked_knows log old new seat was free (err.1 log levels)
 
     pub is_picked : (r : Result (Option TaskId) ExecFault) → SomeIs r → IfOk r (λ picked. IfSome picked (λ task. HasChosen new (λ c. IsPicked c.stage) × (chosen_task new.chosen ≡ Some task)))
     is_picked (Ok (Some task)) some =

@@ -6,17 +6,17 @@ use Rattle.script_grammar.specs.declared.declaration.ExecutorKind.{ExecutorKind}
 use Rattle.script_grammar.specs.declared.declaration.ExecutorKind.TheVariants as kind
 use Rattle.swift_history.specs.TurnEnds.{JobView}
 use Rattle.swift_inbox.specs.Inbox.{InboxIs, PassIs}
-use Rattle.swift_inbox.specs.Sent.{job_view}
 use Rattle.swift_inbox.specs.Site.{Site}
 use Rattle.swift_queue.specs.Job.{JobIs}
 use Rattle.swift_script.specs.Scripts.{ScriptView}
 use Rattle.swift_shared_book.specs.Shared.{BookLockIs, BookSeatIs}
-use Rattle.swift_tasks.specs.Books.{BookView}
+use Rattle.swift_tasks.specs.Books.{BookView, job_view}
 use Rattle.swift_types.specs.declared.id.TaskId.{TaskId}
 use Rattle.swift_tasks.specs.declared.fault.BookFault.{BookFault}
 use Rattle.swift_turn.specs.Body.{BodyView}
 use Rattle.swift_word.specs.Seat.{SeatIs, ended, left}
 use Rattle.swift_executor.specs.Account.{HasTaken}
+use Rattle.swift_executor.specs.Seats.{IsSeatFor}
 use Rattle.swift_executor.specs.State.{ChosenView, ExecView, HasChosen, Journals}
 use Rattle.swift_executor.specs.declared.fault.ExecFault.{ExecFault}
 use Rattle.swift_executor.specs.declared.fault.ExecFault.TheVariants.{Memory, Refused}
@@ -24,35 +24,33 @@ use Rattle.swift_executor.specs.declared.ran.Ran.{Ran}
 use Rattle.swift_executor.specs.declared.ran.Ran.TheVariants.{Turn, Busy, Nothing}
 use Rattle.swift_executor.specs.declared.state_name.StateName.{StateName}
 
--- Which executor it is: the word of its state, its inbox with its script and number, its book, and how many workers there are.
+-- Which executor it is: the word of its state, its inbox with its script, number and book, and how many workers there are.
 pub record ExecIs : Type 0 where
   pub word : TableId
   pub inbox : InboxIs
-  pub book : TableId
   pub workers : ℕ
 
--- the lock of the executor's book, which is of its script
-abbrev pub book_of : ExecIs → BookLockIs
-book_of e = record { id = e.book; script = e.inbox.site.script }
+-- the lock is that of the executor's book, which is of its script
+abbrev pub IsBookOf : ExecIs → BookLockIs → Type 0
+IsBookOf e b = (e.inbox.site.book ≡ Some b.id) × (b.script ≡ e.inbox.site.script)
 
--- A desk: of which executor it is, and of which book, the jobs that were sent by it, the oldest first, how many turns were run by it, and how many
+-- A desk: of which executor it is, the jobs that were sent by it, the oldest first, how many turns were run by it, and how many
 -- jobs may still be sent.
 pub record DeskIs : Type 0 where
   pub word : TableId
   pub inbox : TableId
   pub site : Option Site
-  pub book : Option TableId
   pub sent : List JobView
   pub finished : ℕ
   pub allowance : ℕ
 
 -- the desk is of this executor
 abbrev pub IsDeskOf : ExecIs → DeskIs → Type 0
-IsDeskOf e d = (d.word ≡ e.word) × (d.inbox ≡ e.inbox.id) × (d.site ≡ Some e.inbox.site) × (d.book ≡ Some e.book)
+IsDeskOf e d = (d.word ≡ e.word) × (d.inbox ≡ e.inbox.id) × (d.site ≡ Some e.inbox.site)
 
 -- the desk that an executor is made with
 abbrev pub first_desk : ExecIs → DeskIs
-first_desk e = record { word = e.word; inbox = e.inbox.id; site = Some e.inbox.site; book = Some e.book; sent = []; finished = 0; allowance = 2 ^ 60 }
+first_desk e = record { word = e.word; inbox = e.inbox.id; site = Some e.inbox.site; sent = []; finished = 0; allowance = 2 ^ 60 }
 
 -- one job more was sent by the desk
 abbrev pub has_sent : DeskIs → JobIs BodyView → DeskIs
@@ -72,27 +70,22 @@ after_run (Turn task left) d = record d { finished = d.finished + 1 }
 after_run Busy d = d
 after_run (Nothing left) d = d
 
--- the executor whose state it is
-abbrev pub site_of : ExecView → Site
-site_of s = record { script = s.script; executor = s.executor }
+-- the executor whose state it is, of the book of this lock
+abbrev pub site_of : TableId → ExecView → Site
+site_of lock s = record { script = s.script; executor = s.executor; book = Some lock }
 
 -- The state of the executor that a pass takes jobs for; none was sent through the pass, and what came out of the inbox through it
--- is ready, chosen or journalled, each once.
-abbrev pub IsOf : PassIs → ExecView → Type 0
-IsOf p s = (p.site ≡ Some (site_of s)) × (p.pushed ≡ []) × HasTaken p.taken s
+-- is ready, chosen or journalled, each once. The seat by which it takes the book is the executor's.
+abbrev pub IsOf : PassIs → BookSeatIs → ExecView → Type 0
+IsOf p seat s = (p.site ≡ Some (site_of seat.lock s)) × (p.pushed ≡ []) × HasTaken p.taken s × IsSeatFor s seat
 
--- what a word knows of a state: whose it is, from which inbox it takes its jobs, and which book it applies them to
-abbrev pub state_name : Site → TableId → TableId → StateName
-state_name site inbox book = record { site = site; inbox = record { inbox = inbox }; book = record { book = book } }
-
--- the book of a state's name
-abbrev pub book_in : Option StateName → Option TableId
-book_in None = None
-book_in (Some name) = Some name.book.book
+-- what a word knows of a state: whose it is, and from which inbox it takes its jobs
+abbrev pub state_name : Site → TableId → StateName
+state_name site inbox = record { site = site; inbox = record { inbox = inbox } }
 
 -- a seat of the executor's word
 abbrev pub IsSeatAt : ExecIs → SeatIs StateName → Type 0
-IsSeatAt e s = (s.word ≡ e.word) × (s.name ≡ Some (state_name e.inbox.site e.inbox.id e.book))
+IsSeatAt e s = (s.word ≡ e.word) × (s.name ≡ Some (state_name e.inbox.site e.inbox.id))
 
 -- what a visit leaves of the seat that held the state
 abbrev pub seat_after : Ran → SeatIs StateName → SeatIs StateName
@@ -144,6 +137,6 @@ pub record RestingIs : Type 0 where
   pub pass : PassIs
   pub seat : BookSeatIs
 
--- the state of this executor, with a pass of its inbox
-abbrev pub IsAt : InboxIs → PassIs → ExecView → Type 0
-IsAt i p s = (p.inbox ≡ i.id) × (site_of s ≡ i.site) × IsOf p s
+-- the state of this executor, with a pass of its inbox and its seat
+abbrev pub IsAt : InboxIs → PassIs → BookSeatIs → ExecView → Type 0
+IsAt i p seat s = (p.inbox ≡ i.id) × (site_of seat.lock s ≡ i.site) × IsOf p seat s

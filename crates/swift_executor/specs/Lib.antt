@@ -4,6 +4,7 @@ pub mod Playing
 pub mod Ready
 pub mod ReadyInside
 pub mod Refusals
+pub mod Seats
 pub mod State
 pub mod StateInside
 pub mod Tasks

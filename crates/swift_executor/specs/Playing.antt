@@ -6,7 +6,6 @@ use Rattle.script_code.specs.Seen.{rows_of}
 use Rattle.script_code.specs.declared.env.Env.{Env}
 use Rattle.swift_types.specs.declared.limits.TheConstants.{FOLD}
 use Rattle.swift_types.specs.declared.outcome.Resume.{Resume}
-use Rattle.swift_script.specs.Scripts.{method_count, root_count}
 use Rattle.swift_interpreter.specs.Frames.{effect_views, frame_view}
 use Rattle.swift_interpreter.specs.TurnStates.{exit_view}
 use Rattle.swift_turn.specs.Body.{BodyView, HasFirst, Polls, entered, left}
@@ -21,7 +20,10 @@ use Rattle.swift_executor.specs.declared.chosen.Stage.{Stage}
 use Rattle.swift_executor.specs.declared.chosen.Stage.TheVariants as stage
 use Rattle.swift_interpreter.specs.Turn.{EffectView, ExitView}
 use Rattle.swift_history.specs.TurnEnds.{JobView}
-use Rattle.swift_tasks.specs.Books.{BookView, IsEndOf}
+use Rattle.swift_known.specs.Views.{SeatView}
+use Rattle.swift_script.specs.Scripts.{ScriptView, method_count, root_count}
+use Rattle.swift_shared_book.specs.Shared.{BeginsTicket}
+use Rattle.swift_tasks.specs.Books.{BookView, IsEndOf, job_view}
 use Rattle.swift_types.specs.declared.id.TaskId.{TaskId}
 use Rattle.swift_tasks.specs.Refusals.{refusal_of_apply}
 use Rattle.swift_tasks.specs.declared.fault.BookFault.{BookFault}
@@ -91,6 +93,15 @@ pub record BeginsJob (book book' : BookView) (worker : ℕ) (old new : Chosen) (
 abbrev pub StageIsBegun : Stage → Type 0
 StageIsBegun (stage.Begun worker env) = Unit {0}
 StageIsBegun _ = ⊥
+
+-- some book of this script has begun its turn on a worker, and its ticket says so and comes first
+pub record BeginsShared (script : ScriptView) (worker : ℕ) (old new : Chosen) (knows knows' : SeatView) (j : JobIs BodyView) : Type 0 where
+  pub book : BookView
+  pub book_of : book.script ≡ script
+  pub env : Env
+  pub given : IsEnv (root_count book.script) j.task book.log env
+  pub new_is : new ≡ record old { stage = stage.Begun worker env }
+  pub ticket : BeginsTicket (job_view j) env knows knows'
 
 -- its turn was played on these fields, and has left this
 pub record PlaysJob (rows : List (List ℤ)) (old new : Chosen) (p : Played) (j : JobIs BodyView) : Type 0 where

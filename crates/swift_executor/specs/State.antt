@@ -199,6 +199,13 @@ pub record Begins (book book' : BookView) (worker : ℕ) (old new : ExecView) (c
   pub book_is : book' ≡ record book { log = book.log ++ Begin c.job.task c.job.number env ∷ [] }
   pub same : new ≡ record old { chosen = Some (record c { stage = begun worker env }) }
 
+-- The turn of the chosen job has begun on this worker, in a book of an equal script.
+pub record BeginsTurn (worker : ℕ) (old new : ExecView) : Type 0 where
+  pub book : BookView
+  pub book_after : BookView
+  pub book_of : book.script ≡ old.script
+  pub turn : HasChosen old (Begins book book_after worker old new)
+
 -- The turn was played: what is kept of it is the kept turn of the frame that ran, and the rest of the job is as it was.
 pub record Plays (old new : ExecView) (c : ChosenView) : Type 0 where
   pub worker : ℕ

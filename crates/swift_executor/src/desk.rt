@@ -14,7 +14,7 @@ use swift_word::Seat;
 /// it knows.
 ///
 /// It has an allowance, how many jobs may still be sent by it: all those of an executor together began as 2^60. In a clause a
-/// desk is its executor and that one's book, the jobs that were sent by it, the oldest first, how many turns were run by it, and its allowance.
+/// desk is its executor, the jobs that were sent by it, the oldest first, how many turns were run by it, and its allowance.
 /// By its type no job has come out of the inbox through a desk: jobs are taken with the state in hand alone. A desk that is
 /// dropped takes its allowance with it.
 pub struct Desk {
@@ -34,15 +34,15 @@ impl Model for Desk {
     ghost use Rattle.std.specs.Prelude.{◌≡◌, [], Some, None, IfSome};
     ghost use Rattle.std.specs.Coded.{codes};
     ghost use Rattle.swift_script.specs.Codes.{expression_code, statement_code, block_code};
-    ghost use Rattle.swift_executor.specs.Exec.{DeskIs, book_in, state_name};
+    ghost use Rattle.swift_executor.specs.Exec.{DeskIs, state_name};
 
     ghost Value = { DeskIs };
 
     ghost coded = { Prim.hlevel (codes, expression_code, statement_code (block_code (Prim.hlevel (codes, expression_code)) (Prim.hlevel (codes, expression_code)))) };
 
-    ghost view = { λ d. record { word = d.seat.word; inbox = d.pass.inbox; site = d.pass.site; book = book_in d.seat.name; sent = d.pass.pushed; finished = d.seat.finished; allowance = d.seat.allowance } };
+    ghost view = { λ d. record { word = d.seat.word; inbox = d.pass.inbox; site = d.pass.site; sent = d.pass.pushed; finished = d.seat.finished; allowance = d.seat.allowance } };
 
-    ghost invariant = { λ d. IfSome d.pass.site (λ site. IfSome d.seat.name (λ name. name ≡ state_name site d.pass.inbox name.book.book)) × (d.seat.holding ≡ None) × (d.pass.taken ≡ []) };
+    ghost invariant = { λ d. IfSome d.pass.site (λ site. d.seat.name ≡ Some (state_name site d.pass.inbox)) × (d.seat.holding ≡ None) × (d.pass.taken ≡ []) };
 }
 
 impl Desk {

@@ -1,53 +1,126 @@
-//! The end of a turn, where threads share the book.
+//! A turn that begins, and one that ends, where threads share the book.
 
-ghost use Rattle.std.specs.Prelude.{◌≡◌, None, map, IfErr, IfOk, OnErr, OnOk};
+ghost use Rattle.std.specs.Prelude.{◌≡◌, None, Some, map, IfErr, IfOk, OnErr, OnOk};
 ghost use Rattle.std.specs.List.{AllByRecursion};
-ghost use Rattle.swift_shared_book.specs.Shared.{IsSeatOf};
+ghost use Rattle.swift_interpreter.specs.Frames.{effect_views};
+ghost use Rattle.swift_interpreter.specs.TurnStates.{exit_view};
+ghost use Rattle.swift_shared_book.specs.Shared.{BeginsTicket, HasPlayed, HasTicket, IsSeatOf, after_turn, knowing, newest};
 ghost use Rattle.swift_tasks.specs.Books.{IsJobOf, job_view};
 ghost use Rattle.swift_turn.specs.Body.{IsRunning};
+ghost use Rattle.swift_journal.specs.Records.{RecordView};
 ghost use Rattle.swift_executor.specs.Exec.{IsRunFault};
-ghost use Rattle.swift_executor.specs.Playing.{HasJob, IsTaken};
-ghost use Rattle.swift_executor.specs.State.{EndsTurn, HasChosen, IsPlayed, PutsBack};
+ghost use Rattle.swift_executor.specs.Playing.{BeginsShared, HasJob, IsTaken};
+ghost use Rattle.swift_executor.specs.Seats.{IsSeatFor};
+ghost use Rattle.swift_executor.specs.State.{BeginsTurn, EndsTurn, HasChosen, IsPicked, IsPlayed, PutsBack};
 
-use crate::chosen::Played;
+use crate::chosen::{Chosen, Played, Stage};
 use crate::fault::ExecFault;
 use crate::playing::settle;
 use crate::state::ExecState;
-use crate::turns::{apply_chosen, prepare};
+use crate::turns::prepare;
 use std::mem;
 use std::sync::Wait;
+use swift_journal::Journal;
 use swift_journal::laws::{invariants_stay, lawful_grows};
 use swift_queue::Job;
-use swift_shared_book::{BookLock, BookSeat};
+use swift_shared_book::{BookLock, BookSeat, TicketedJobs};
 use swift_tasks::BookFault;
 use swift_turn::Body;
 use swift_types::TaskId;
 
-// Locks the book, and lets it take the turn of a job that was played. Where it refuses, the job is as before.
+// Locks the book, and begins the turn of a job that was picked, by its ticket.
+fn begin_locked<R: Wait>(
+    rt: &R,
+    chosen: &mut Chosen,
+    worker: u32,
+    book: &BookLock,
+    seat: &mut BookSeat,
+) -> Result<(), BookFault>
+    requires seat { IsSeatOf book.now seat.old }
+    requires job { HasJob chosen.old.job (λ j. (j.body.script ≡ book.now.script) × HasTicket (job_view j) seat.old.knows.tickets) }
+    ensures ok { OnOk result (HasJob chosen.old.job (BeginsShared book.now.script worker chosen.old chosen.new seat.old.knows seat.new.knows)) }
+    ensures seat { (seat.new.lock ≡ seat.old.lock) × (seat.new.here ≡ seat.old.here) }
+    ensures err { OnErr result ((chosen.new ≡ chosen.old) × (seat.new ≡ seat.old)) }
+{
+    let Some(job) = &chosen.job else {
+        unreachable!()
+    };
+    match book.begin(rt, seat, job) {
+        Ok(env) => {
+            chosen.stage = Stage::Begun(worker, env);
+            Ok(())
+        }
+        Err(fault) => Err(fault),
+    }
+}
+
+// Locks the book, and lets it take the turn of a job that was played, whose record is the newest of this journal. Where it refuses,
+// the job is as before.
 fn apply_locked<R: Wait>(
     rt: &R,
     place: &mut Option<Job<Body>>,
     played: &Played,
+    journal: &Journal,
     book: &BookLock,
     seat: &mut BookSeat,
-    jobs: &mut Vec<Job<Body>>,
+    jobs: &mut TicketedJobs,
 ) -> Result<TaskId, BookFault>
     requires job { HasJob place.old (λ j. IsRunning j.body × (j.body.script ≡ book.now.script)) }
     requires seat { IsSeatOf book.now seat.old }
-    ensures seat { IsSeatOf book.now seat.new }
-    ensures ok { IfOk result (λ task. HasJob place.old (IsTaken played.now (map job_view jobs.old.items) (map job_view jobs.new.items) task)) }
+    requires jobs { jobs.old.book ≡ book.now.id }
+    requires plays { HasJob place.old (λ j. (r : RecordView) × (newest journal.now ≡ Some r) × (r.exit ≡ exit_view played.now.exit) × (r.effects ≡ effect_views played.now.effects.items) × HasPlayed book.now.script seat.old.knows j r) }
+    ensures ok { IfOk result (λ task. HasJob place.old (IsTaken played.now (map job_view jobs.old.jobs) (map job_view jobs.new.jobs) task)) }
+    ensures seat { OnOk result ((r : RecordView) × (newest journal.now ≡ Some r) × (seat.new ≡ knowing (after_turn r seat.old.knows) seat.old)) }
     ensures gone { OnOk result (place.new ≡ None) }
-    ensures bodies { AllByRecursion (IsJobOf book.now.script) jobs.old.items → AllByRecursion (IsJobOf book.now.script) jobs.new.items }
-    ensures same { OnErr result (place.new ≡ place.old) }
-    ensures err { OnErr result (jobs.new.items ≡ jobs.old.items) }
+    ensures bodies { AllByRecursion (IsJobOf book.now.script) jobs.old.jobs → AllByRecursion (IsJobOf book.now.script) jobs.new.jobs }
+    ensures lock { jobs.new.book ≡ jobs.old.book }
+    ensures same { OnErr result ((place.new ≡ place.old) × (seat.new ≡ seat.old)) }
+    ensures err { OnErr result (jobs.new ≡ jobs.old) }
 {
-    let mut open = book.lock(rt, seat);
-    let taken = apply_chosen(place, played, &mut open.book, jobs);
-    book.unlock(seat, open);
-    taken
+    let Some(job) = &*place else { unreachable!() };
+    let task = job.task();
+    match book.apply(
+        rt,
+        seat,
+        place,
+        journal,
+        &played.exit,
+        &played.effects,
+        jobs,
+    ) {
+        Ok(()) => Ok(task),
+        Err(fault) => Err(fault),
+    }
 }
 
 impl ExecState {
+    /// `start` where threads share the book: its lock is held only while it begins the turn.
+    pub(crate) fn start_locked<R: Wait>(
+        &mut self,
+        rt: &R,
+        worker: u32,
+        book: &BookLock,
+        seat: &mut BookSeat,
+    ) -> Result<(), ExecFault>
+        requires picked { HasChosen self.old (λ c. IsPicked c.stage) }
+        requires seat { IsSeatOf book.now seat.old }
+        requires script { book.now.script ≡ self.old.script }
+        requires known { IsSeatFor self.old seat.old }
+        ensures seat { IsSeatOf book.now seat.new }
+        ensures known { IsSeatFor self.new seat.new }
+        ensures ok { OnOk result (BeginsTurn worker self.old self.new) }
+        ensures back { OnErr result (HasChosen self.old (PutsBack self.old self.new)) }
+        ensures refused { IfErr result IsRunFault }
+    {
+        match begin_locked(rt, &mut self.chosen, worker, book, seat) {
+            Ok(()) => Ok(()),
+            Err(fault) => {
+                self.put_back();
+                Err(ExecFault::from(fault))
+            }
+        }
+    }
+
     /// `turn` where threads share the book. Its lock is held only while it takes the turn: the record of the turn, and room for a
     /// fold, are made before, and the journal is folded after.
     pub(crate) fn turn_locked<R: Wait>(
@@ -55,16 +128,20 @@ impl ExecState {
         rt: &R,
         book: &BookLock,
         seat: &mut BookSeat,
-        jobs: &mut Vec<Job<Body>>,
+        jobs: &mut TicketedJobs,
     ) -> Result<(), ExecFault>
         requires played { HasChosen self.old (λ c. IsPlayed c.stage) }
         requires seat { IsSeatOf book.now seat.old }
         requires script { book.now.script ≡ self.old.script }
+        requires known { IsSeatFor self.old seat.old }
+        requires jobs { jobs.old.book ≡ book.now.id }
         ensures seat { IsSeatOf book.now seat.new }
-        ensures ok { OnOk result (EndsTurn (map job_view jobs.old.items) (map job_view jobs.new.items) self.old self.new) }
-        ensures bodies { AllByRecursion (IsJobOf self.old.script) jobs.old.items → AllByRecursion (IsJobOf self.old.script) jobs.new.items }
+        ensures known { IsSeatFor self.new seat.new }
+        ensures ok { OnOk result (EndsTurn (map job_view jobs.old.jobs) (map job_view jobs.new.jobs) self.old self.new) }
+        ensures bodies { AllByRecursion (IsJobOf self.old.script) jobs.old.jobs → AllByRecursion (IsJobOf self.old.script) jobs.new.jobs }
+        ensures lock { jobs.new.book ≡ jobs.old.book }
         ensures back { OnErr result (HasChosen self.old (PutsBack self.old self.new)) }
-        ensures err { OnErr result (jobs.new.items ≡ jobs.old.items) }
+        ensures err { OnErr result (jobs.new ≡ jobs.old) }
         ensures refused { IfErr result IsRunFault }
     {
         let Ok(copy) = prepare(
@@ -77,7 +154,15 @@ impl ExecState {
             self.put_back();
             return Err(ExecFault::Memory);
         };
-        match apply_locked(rt, &mut self.chosen.job, &self.played, book, seat, jobs) {
+        match apply_locked(
+            rt,
+            &mut self.chosen.job,
+            &self.played,
+            &self.journal,
+            book,
+            seat,
+            jobs,
+        ) {
             Ok(task) => {
                 settle(&mut self.journal, &mut self.checkpoint, copy);
                 lawful_grows();

@@ -5,12 +5,12 @@ ghost use Rattle.std.specs.Arc.{arc_value};
 ghost use Rattle.swift_inbox.specs.Inbox.{IsDrained};
 ghost use Rattle.swift_inbox.specs.Site.{CanRunAt};
 ghost use Rattle.swift_executor.specs.Exec.{IsAt, IsDeskOf, first_desk, has_sent, site_of};
-ghost use Rattle.swift_shared_book.specs.Shared.{KnowsScriptOf};
+ghost use Rattle.swift_executor.specs.Seats.{IsOpened};
 
 use crate::desk::Desk;
 use crate::fault::ExecFault;
 use crate::gate::{Gate, Moment};
-use crate::laws::new_has_taken_none;
+use crate::laws::{new_has_taken_none, new_knows_no_turn};
 use crate::resting::{Held, Resting, spend_all, spend_held};
 use crate::state::ExecState;
 use std::alloc::{AllocError, Global};
@@ -20,6 +20,7 @@ use swift_inbox::{ExecutorSite, Inbox, Pass};
 use swift_queue::Job;
 use swift_script::Script;
 use swift_shared_book::BookSeat;
+use swift_ticket::TicketedJob;
 use swift_turn::Body;
 use swift_types::ExecId;
 use swift_word::{Was, Word};
@@ -28,7 +29,7 @@ use swift_word::{Was, Word};
 /// sends jobs and runs turns with a `Desk` of its own. One turn runs at a time, since a worker takes the state out of the
 /// word before it, and puts it back after. No call waits for a turn that another thread runs.
 ///
-/// In a clause it is its word, its inbox, with its script and number, its book, and how many workers the run has. No clause knows
+/// In a clause it is its word, its inbox, with its script, number and book, and how many workers the run has. No clause knows
 /// the state, since other threads may change it at any moment: what holds of it is said by its type, `ExecState`. Where an
 /// executor is dropped, its jobs are spent.
 pub struct Exec {
@@ -83,17 +84,18 @@ impl Model for Exec {
 
     ghost coded = { Prim.hlevel (codes, expression_code, statement_code (block_code (Prim.hlevel (codes, expression_code)) (Prim.hlevel (codes, expression_code)))) };
 
-    ghost view = { λ e. record { word = e.word.id; inbox = e.inbox; book = e.word.name.book.book; workers = e.workers } };
+    ghost view = { λ e. record { word = e.word.id; inbox = e.inbox; workers = e.workers } };
 
-    ghost invariant = { λ e. (e.word.name ≡ state_name e.inbox.site e.inbox.id e.word.name.book.book) × (0 < e.workers) × (e.spare.list.items ≡ []) × (e.inbox.room ≤ vec_capacity e.spare.list) };
+    ghost invariant = { λ e. (e.word.name ≡ state_name e.inbox.site e.inbox.id) × (0 < e.workers) × (e.spare.list.items ≡ []) × (e.inbox.room ≤ vec_capacity e.spare.list) };
 }
 
 /// What is left of an executor.
 pub struct Closed {
     /// How many jobs were counted and not run.
     pub pending: u64,
-    /// Its state, with the pass by which its jobs came out of the inbox; none where a desk held it.
-    pub state: Option<(ExecState, Pass)>,
+    /// Its state, with the pass by which its jobs came out of the inbox, and the seat by which it took the book; none where a desk
+    /// held it.
+    pub state: Option<(ExecState, Pass, BookSeat)>,
     /// The jobs that were in the inbox, the oldest first.
     pub inbox: Vec<Job<Body>>,
     /// The pass by which these came out of it.
@@ -110,10 +112,12 @@ fn first_state(
 ) -> Result<Resting, AllocError>
     requires site { pass.site ≡ Some site.now }
     requires unused { (pass.pushed ≡ []) × (pass.taken ≡ []) }
-    requires book { KnowsScriptOf site.now.script seat }
-    ensures { IfOk result (λ r. (site_of r.state ≡ site.now) × (r.pass ≡ pass) × (r.seat ≡ seat)) }
+    requires book { site.now.book ≡ Some seat.lock }
+    requires seat { IsOpened site.now.script site.now.executor seat }
+    ensures { IfOk result (λ r. (site_of r.seat.lock r.state ≡ site.now) × (r.pass ≡ pass) × (r.seat ≡ seat)) }
 {
     new_has_taken_none();
+    new_knows_no_turn();
     let script = Arc::clone(site.script())?;
     let state = ExecState::new(alloc, script, site.executor(), room)?;
     let held = Held { state, pass, seat };
@@ -128,10 +132,8 @@ fn first_state(
 
 impl Exec {
     /// An executor of a script, by its number, that has run no turn, with room for so many jobs in its inbox, at least 1, and as
-    /// many that are ready; and its first desk, by which 2^60 jobs may be sent. Its turns are applied to the book that the seat
-    /// takes, which is of the same script. A run of so many workers, at least 1. The number is
-    /// not looked at: at one that the script lacks no job can run. Out of memory nothing remains, and a room of 2^60 or more is
-    /// refused so. The room is not touched before it is used, but for a mark at each place of the inbox.
+    /// many that are ready; and its first desk, by which 2^60 jobs may be sent. The seat is the one that the lock of its book has opened
+    /// for it. A run of so many workers, at least 1. Out of memory nothing remains, and a room of 2^60 or more is refused so. The room is not touched before it is used, but for a mark at each place of the inbox.
     pub fn new(
         alloc: Global,
         script: Arc<Script>,
@@ -142,15 +144,14 @@ impl Exec {
     ) -> Result<(Exec, Desk), AllocError>
         requires workers { 0 < workers }
         requires room { 0 < room }
-        requires book { KnowsScriptOf (arc_value script) seat }
-        ensures site { IfOk result (λ r. r.0.inbox.site ≡ record { script = arc_value script; executor = executor.0 }) }
+        requires seat { IsOpened (arc_value script) executor.0 seat }
+        ensures site { IfOk result (λ r. r.0.inbox.site ≡ record { script = arc_value script; executor = executor.0; book = Some seat.lock }) }
         ensures room { IfOk result (λ r. r.0.inbox.room ≡ room) }
-        ensures book { IfOk result (λ r. r.0.book ≡ seat.lock) }
         ensures workers { IfOk result (λ r. r.0.workers ≡ workers) }
         ensures desk { IfOk result (λ r. r.1 ≡ first_desk r.0) }
     {
-        let site = ExecutorSite::new(script, executor);
-        let own = ExecutorSite::new(Arc::clone(site.script())?, executor);
+        let site = ExecutorSite::of_book(script, executor, seat.name());
+        let own = ExecutorSite::of_book(Arc::clone(site.script())?, executor, seat.name());
         let (inbox, mut pass) = Inbox::new(alloc, site, room)?;
         let list = Vec::with_capacity(alloc, room)?;
         let spare = Spare { list };
@@ -182,22 +183,22 @@ impl Exec {
     /// too. It takes no memory, and constant time where no other thread is
     /// in the way. The gate is called between the two steps, and after them.
     ///
-    /// For a job that can run here: its body is of an equal script and has not ended, and its running frame is of an actor of this
-    /// executor (SE-0392). A refusal is `Full`, where the inbox was found full or the desk has no allowance left; the job comes
-    /// back, and nothing has changed.
+    /// For a job that can run here: its body is of an equal script and has not ended, its running frame is of an actor of this
+    /// executor (SE-0392), and the executor's book gave it. A refusal is `Full`, where the inbox was found full or the desk has no
+    /// allowance left; the job comes back, and nothing has changed.
     pub fn enqueue<R, G>(
         &self,
         rt: &R,
         desk: &mut Desk,
-        job: Job<Body>,
+        job: TicketedJob,
         gate: &G,
-    ) -> Result<Was, (Job<Body>, ExecFault)>
+    ) -> Result<Was, (TicketedJob, ExecFault)>
     where
         R: Wait,
         G: Gate,
         requires desk { IsDeskOf self.now desk.old }
         requires job { CanRunAt self.now.inbox.site job }
-        ensures ok { OnOk result (desk.new ≡ has_sent desk.old job) }
+        ensures ok { OnOk result (desk.new ≡ has_sent desk.old job.job) }
         ensures allowed { OnOk result (0 < desk.old.allowance) }
         ensures back { IfErr result (λ e. (e.0 ≡ job) × (e.1 ≡ ExecFault.Full)) }
         ensures kept { OnErr result (desk.new ≡ desk.old) }
@@ -206,7 +207,7 @@ impl Exec {
             return Err((job, ExecFault::Full));
         }
         let executor = self.inbox.site().executor();
-        let task = job.task();
+        let task = job.job().task();
         if let Err(job) = self.inbox.put(rt, &mut desk.pass, job) {
             return Err((job, ExecFault::Full));
         }
@@ -220,11 +221,11 @@ impl Exec {
         }
     }
 
-    /// Gives the executor up. The state comes where no desk holds it, with no job chosen; and what was in the inbox comes,
-    /// with the pass whose account says so. It takes no memory. It waits only for a thread that stands between two steps of
-    /// a call of its own.
+    /// Gives the executor up. The state comes where no desk holds it, with no job chosen, and the seat whose account has its turns; and
+    /// what was in the inbox comes, with the pass whose account says so. The tickets of these jobs are given up. It takes no memory. It
+    /// waits only for a thread that stands between two steps of a call of its own.
     pub fn close<R: Wait>(self, rt: &R) -> Closed
-        ensures state { IfSome result.state (λ s. IsAt self.inbox s.1 s.0 × (s.0.chosen ≡ None)) }
+        ensures state { IfSome result.state (λ s. IsAt self.inbox s.1 s.2 s.0 × (s.0.chosen ≡ None)) }
         ensures inbox { IsDrained self.inbox [] result.inbox.items result.drained }
     {
         let Exec {

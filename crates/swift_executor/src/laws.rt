@@ -1,6 +1,6 @@
 //! The account of an executor: a job that it has taken is ready, chosen or journalled, exactly one of these, once. That is said of
-//! the whole job: what it begins with, its frames and its bindings. Each function's contract is a law on what the calls of
-//! `ExecState` ensure; the functions do nothing.
+//! the whole job: what it begins with, its frames and its bindings. And what the seat of an executor knows: all its turns, and the
+//! tickets of its jobs. Each function's contract is a law on what the calls of `ExecState` ensure; the functions do nothing.
 
 ghost use Rattle.std.specs.Prelude.{◌≡◌, ℕ, List, [], ◌∷◌, ◌++◌, None, map};
 ghost use Rattle.std.specs.List.Sorted.{IsPermutation};
@@ -13,6 +13,8 @@ ghost use Rattle.swift_types.specs.declared.id.TaskId.{TaskId};
 ghost use Rattle.swift_tasks.specs.Books.{BookView, job_view};
 ghost use Rattle.swift_executor.specs.Account.{AreTaken, HasTaken};
 ghost use Rattle.swift_executor.specs.Ready.{Adds};
+ghost use Rattle.swift_executor.specs.Seats.{IsOpened, IsSeatFor};
+ghost use Rattle.swift_shared_book.specs.Shared.{BookSeatIs, knowing, with_ticket};
 ghost use Rattle.std.specs.Thread.{IsSend, IsSync};
 ghost use Rattle.swift_executor.specs.contracts.desk.Desk as desk;
 ghost use Rattle.swift_executor.specs.contracts.exec.Exec as exec;
@@ -72,6 +74,39 @@ pub fn parts_are_what_was_taken()
     ensures { (taken : List JobView) (s : ExecView) (jobs : List (JobIs BodyView)) → HasTaken taken s → s.chosen ≡ None
         → IsPermutation (map (λ x. x.job) s.ready.front ++ s.ready.behind) jobs
         → AreTaken taken (map job_view jobs) s.journal s.checkpoint }
+{}
+
+/// The seat that is opened for a new executor knows that it has run no turn and has no job (our own).
+pub fn new_knows_no_turn()
+    ensures { (script : ScriptView) (executor room : ℕ) (seat : BookSeatIs) → IsOpened script executor seat → IsSeatFor (new_executor script executor room) seat }
+{}
+
+/// A seat that takes the ticket of a job that is accepted is still that of the executor (our own).
+pub fn accept_knows_its_ticket()
+    ensures { (job : JobIs BodyView) (old new : ExecView) (seat : BookSeatIs) → IsSeatFor old seat → old.chosen ≡ None
+        → Adds old.ready job new.ready → new ≡ record old { ready = new.ready }
+        → IsSeatFor new (knowing (with_ticket (job_view job) seat.knows) seat) }
+{}
+
+/// Whatever a book says, to choose a job leaves the seat that of the executor: where one is chosen, where its task was not made,
+/// and where none is ready (our own).
+pub fn choose_keeps_tickets()
+    ensures some { (log : List Event) (task : TaskId) (old new : ExecView) (seat : BookSeatIs) → IsSeatFor old seat
+        → old.chosen ≡ None → Chooses log old new task → IsSeatFor new seat }
+    ensures err { (log : List Event) (old new : ExecView) (seat : BookSeatIs) → IsSeatFor old seat
+        → old.chosen ≡ None → LacksTask log old new → IsSeatFor new seat }
+    ensures none { (log : List Event) (old new : ExecView) (seat : BookSeatIs) → IsSeatFor old seat
+        → old.chosen ≡ None → HasNone log old new → IsSeatFor new seat }
+{}
+
+/// A turn that is played leaves the seat that of the executor (our own).
+pub fn play_keeps_tickets()
+    ensures { (old new : ExecView) (seat : BookSeatIs) → IsSeatFor old seat → HasChosen old (Plays old new) → IsSeatFor new seat }
+{}
+
+/// After a refusal the seat is still that of the executor (our own).
+pub fn refusal_keeps_tickets()
+    ensures { (old new : ExecView) (seat : BookSeatIs) → IsSeatFor old seat → HasChosen old (PutsBack old new) → IsSeatFor new seat }
 {}
 
 /// Threads may share an executor (our own).

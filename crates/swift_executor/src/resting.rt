@@ -2,7 +2,6 @@
 
 ghost use Rattle.std.specs.Prelude.{◌≡◌, None};
 ghost use Rattle.swift_executor.specs.Exec.{IsOf};
-ghost use Rattle.swift_shared_book.specs.Shared.{KnowsScriptOf};
 
 use crate::state::ExecState;
 use crate::state_name::StateName;
@@ -31,7 +30,6 @@ impl Model for Resting {
     ghost use Rattle.std.specs.Coded.{codes};
     ghost use Rattle.swift_script.specs.Codes.{expression_code, statement_code, block_code};
     ghost use Rattle.swift_executor.specs.Exec.{IsOf, RestingIs};
-    ghost use Rattle.swift_shared_book.specs.Shared.{KnowsScriptOf};
 
     ghost Value = { RestingIs };
 
@@ -39,7 +37,7 @@ impl Model for Resting {
 
     ghost view = { λ r. record { state = r.held.value.state; pass = r.held.value.pass; seat = r.held.value.seat } };
 
-    ghost invariant = { λ r. (r.held.value.state.chosen ≡ None) × IsOf r.held.value.pass r.held.value.state × KnowsScriptOf r.held.value.state.script r.held.value.seat };
+    ghost invariant = { λ r. (r.held.value.state.chosen ≡ None) × IsOf r.held.value.pass r.held.value.seat r.held.value.state };
 }
 
 impl Named for Resting {
@@ -47,15 +45,14 @@ impl Named for Resting {
 
     ghost use Rattle.swift_executor.specs.Exec.{state_name, site_of};
 
-    ghost name = { λ r. state_name (site_of r.state) r.pass.inbox r.seat.lock };
+    ghost name = { λ r. state_name (site_of r.seat.lock r.state) r.pass.inbox };
 }
 
 impl Resting {
     /// The state that a worker has held.
     pub fn new(held: Box<Held>) -> Resting
         requires free { held.value.state.chosen ≡ None }
-        requires is_of { IsOf held.value.pass held.value.state }
-        requires book { KnowsScriptOf held.value.state.script held.value.seat }
+        requires is_of { IsOf held.value.pass held.value.seat held.value.state }
         ensures { result ≡ record { state = held.value.state; pass = held.value.pass; seat = held.value.seat } }
     {
         Resting { held }
@@ -65,26 +62,21 @@ impl Resting {
     pub fn into_held(self) -> Box<Held>
         ensures same { (result.value.state ≡ self.state) × (result.value.pass ≡ self.pass) × (result.value.seat ≡ self.seat) }
         ensures free { result.value.state.chosen ≡ None }
-        ensures is_of { IsOf result.value.pass result.value.state }
-        ensures book { KnowsScriptOf result.value.state.script result.value.seat }
+        ensures is_of { IsOf result.value.pass result.value.seat result.value.state }
     {
         let Resting { held } = self;
         held
     }
 
-    /// The state, and the pass by which its jobs came.
-    pub fn into_parts(self) -> (ExecState, Pass)
-        ensures same { (result.0 ≡ self.state) × (result.1 ≡ self.pass) }
+    /// The state, the pass by which its jobs came, and the seat by which it took the book.
+    pub fn into_parts(self) -> (ExecState, Pass, BookSeat)
+        ensures same { (result.0 ≡ self.state) × (result.1 ≡ self.pass) × (result.2 ≡ self.seat) }
         ensures free { result.0.chosen ≡ None }
-        ensures is_of { IsOf result.1 result.0 }
+        ensures is_of { IsOf result.1 result.2 result.0 }
     {
         let held = Box::into_inner(self.into_held());
-        let Held {
-            state,
-            pass,
-            seat: _,
-        } = held;
-        (state, pass)
+        let Held { state, pass, seat } = held;
+        (state, pass, seat)
     }
 }
 

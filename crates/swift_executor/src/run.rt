@@ -6,7 +6,8 @@ ghost use Rattle.futures.specs.Task.{Keeps};
 ghost use Rattle.swift_script.specs.Scripts.{executor_kind};
 ghost use Rattle.swift_tasks.specs.Books.{IsJobOf, job_view};
 ghost use Rattle.swift_executor.specs.Account.{HasTaken};
-ghost use Rattle.swift_executor.specs.Exec.{IfNoTurn, IfTurn, IsMadeBy, chosen_task, IsAt, IsDeskOf, IsRunFault, IsSeatAt, after_run, book_of, may_run, seat_after, site_of};
+ghost use Rattle.swift_executor.specs.Exec.{IfNoTurn, IfTurn, IsMadeBy, chosen_task, IsAt, IsBookOf, IsDeskOf, IsRunFault, IsSeatAt, after_run, may_run, seat_after, site_of};
+ghost use Rattle.swift_executor.specs.Seats.{IsSeatFor};
 ghost use Rattle.swift_shared_book.specs.Shared.{IsSeatOf};
 ghost use Rattle.swift_word.specs.Seat.{ended, left};
 ghost use Rattle.swift_executor.specs.State.{HasChosen, IsBegun, IsPicked, IsPlayed};
@@ -15,16 +16,16 @@ use crate::desk::Desk;
 use crate::exec::Exec;
 use crate::fault::ExecFault;
 use crate::gate::{Gate, Moment};
-use crate::laws::{accept_takes_one, play_loses_none, refusal_loses_none, start_loses_none};
+use crate::laws::{
+    accept_knows_its_ticket, accept_takes_one, play_loses_none, refusal_loses_none, start_loses_none,
+};
 use crate::ran::Ran;
 use crate::resting::{Held, Resting};
 use futures::task::Context;
 use script_grammar::ExecutorKind;
 use std::sync::Wait;
 use swift_inbox::Inbox;
-use swift_queue::Job;
-use swift_shared_book::BookLock;
-use swift_turn::Body;
+use swift_shared_book::{BookLock, TicketedJobs};
 use swift_types::{ExecId, TaskId};
 use swift_word::{Begun, Left, Seat};
 
@@ -42,22 +43,25 @@ pub fn may_run(kind: ExecutorKind, workers: u32, worker: u32) -> bool
     }
 }
 
-// Takes the oldest job of the inbox, where there is one, and room for it. Where the inbox was just found empty, it is not asked
-// for a job, which takes longer.
-fn accept_one<R: Wait>(rt: &R, inbox: &Inbox, held: &mut Held) -> bool
-    requires at { IsAt inbox.now held.old.pass held.old.state }
+// Takes the oldest job of the inbox, where there is one, and room for it; the seat takes its ticket. Where the inbox was just found
+// empty, it is not asked for a job, which takes longer.
+fn accept_one<R: Wait>(rt: &R, inbox: &Inbox, held: &mut Held, book: &BookLock) -> bool
+    requires at { IsAt inbox.now held.old.pass held.old.seat held.old.state }
     requires free { held.old.state.chosen ≡ None }
-    ensures at { IsAt inbox.now held.new.pass held.new.state }
+    requires lock { held.old.seat.lock ≡ book.now.id }
+    ensures at { IsAt inbox.now held.new.pass held.new.seat held.new.state }
     ensures free { held.new.state.chosen ≡ None }
-    ensures seat { held.new.seat ≡ held.old.seat }
+    ensures lock { held.new.seat.lock ≡ held.old.seat.lock }
 {
     if inbox.is_empty_now(&mut held.pass) || !held.state.has_room() {
         return false;
     }
     match inbox.take(rt, &mut held.pass) {
-        Some(job) => {
+        Some(sent) => {
+            let job = book.accept(&mut held.seat, sent);
             held.state.accept(job);
             accept_takes_one();
+            accept_knows_its_ticket();
             true
         }
         None => false,
@@ -65,15 +69,16 @@ fn accept_one<R: Wait>(rt: &R, inbox: &Inbox, held: &mut Held) -> bool
 }
 
 // Takes what is in the inbox, as far as there is room.
-fn accept_all<R: Wait>(rt: &R, inbox: &Inbox, held: &mut Held)
-    requires at { IsAt inbox.now held.old.pass held.old.state }
+fn accept_all<R: Wait>(rt: &R, inbox: &Inbox, held: &mut Held, book: &BookLock)
+    requires at { IsAt inbox.now held.old.pass held.old.seat held.old.state }
     requires free { held.old.state.chosen ≡ None }
-    ensures at { IsAt inbox.now held.new.pass held.new.state }
+    requires lock { held.old.seat.lock ≡ book.now.id }
+    ensures at { IsAt inbox.now held.new.pass held.new.seat held.new.state }
     ensures free { held.new.state.chosen ≡ None }
-    ensures seat { held.new.seat ≡ held.old.seat }
+    ensures lock { held.new.seat.lock ≡ held.old.seat.lock }
 {
     for _ in 0..inbox.room() {
-        if !accept_one(rt, inbox, held) {
+        if !accept_one(rt, inbox, held, book) {
             return;
         }
     }
@@ -87,8 +92,10 @@ fn choose_one<R: Wait>(
 ) -> Result<Option<TaskId>, ExecFault>
     requires free { held.old.state.chosen ≡ None }
     requires seat { IsSeatOf book.now held.old.seat }
-    ensures same { (held.new.pass ≡ held.old.pass) × (site_of held.new.state ≡ site_of held.old.state) }
+    requires known { IsSeatFor held.old.state held.old.seat }
+    ensures same { (held.new.pass ≡ held.old.pass) × (site_of book.now.id held.new.state ≡ site_of book.now.id held.old.state) }
     ensures seat { IsSeatOf book.now held.new.seat }
+    ensures known { IsSeatFor held.new.state held.new.seat }
     ensures taken { HasTaken held.old.pass.taken held.old.state → HasTaken held.new.pass.taken held.new.state }
     ensures some { IfOk result (λ picked. IfSome picked (λ task. HasChosen held.new.state (λ c. IsPicked c.stage) × (chosen_task held.new.state.chosen ≡ Some task))) }
     ensures none { IfOk result (λ picked. IfNone picked (held.new.state.chosen ≡ None)) }
@@ -97,7 +104,7 @@ fn choose_one<R: Wait>(
 {
     let mut open = book.lock(rt, &mut held.seat);
     let picked = held.state.choose(open.book.levels());
-    book.unlock(&mut held.seat, open);
+    book.leave(&mut held.seat, open);
     picked
 }
 
@@ -111,8 +118,10 @@ fn start_one<R: Wait>(
     requires picked { HasChosen held.old.state (λ c. IsPicked c.stage) }
     requires seat { IsSeatOf book.now held.old.seat }
     requires script { book.now.script ≡ held.old.state.script }
-    ensures same { (held.new.pass ≡ held.old.pass) × (site_of held.new.state ≡ site_of held.old.state) }
+    requires known { IsSeatFor held.old.state held.old.seat }
+    ensures same { (held.new.pass ≡ held.old.pass) × (site_of book.now.id held.new.state ≡ site_of book.now.id held.old.state) }
     ensures seat { IsSeatOf book.now held.new.seat }
+    ensures known { IsSeatFor held.new.state held.new.seat }
     ensures taken { HasTaken held.old.pass.taken held.old.state → HasTaken held.new.pass.taken held.new.state }
     ensures ok { OnOk result (HasChosen held.new.state (λ c. IsBegun c.stage) × (chosen_task held.new.state.chosen ≡ chosen_task held.old.state.chosen)) }
     ensures free { OnErr result (held.new.state.chosen ≡ None) }
@@ -120,17 +129,16 @@ fn start_one<R: Wait>(
 {
     start_loses_none();
     refusal_loses_none();
-    let mut open = book.lock(rt, &mut held.seat);
-    let begun = held.state.start(worker, &mut open.book);
-    book.unlock(&mut held.seat, open);
-    begun
+    held.state.start_locked(rt, worker, book, &mut held.seat)
 }
 
 // Plays the turn that has begun.
 fn play_one(held: &mut Held, cx: &mut Context<'_>) -> Result<(), ExecFault>
     requires begun { HasChosen held.old.state (λ c. IsBegun c.stage) }
-    ensures same { (held.new.pass ≡ held.old.pass) × (site_of held.new.state ≡ site_of held.old.state) }
+    requires known { IsSeatFor held.old.state held.old.seat }
+    ensures same { (held.new.pass ≡ held.old.pass) × (site_of held.new.seat.lock held.new.state ≡ site_of held.old.seat.lock held.old.state) }
     ensures seat { held.new.seat ≡ held.old.seat }
+    ensures known { IsSeatFor held.new.state held.new.seat }
     ensures taken { HasTaken held.old.pass.taken held.old.state → HasTaken held.new.pass.taken held.new.state }
     ensures ok { OnOk result (HasChosen held.new.state (λ c. IsPlayed c.stage) × (chosen_task held.new.state.chosen ≡ chosen_task held.old.state.chosen)) }
     ensures free { OnErr result (held.new.state.chosen ≡ None) }
@@ -147,18 +155,22 @@ fn end_one<R: Wait>(
     rt: &R,
     held: &mut Held,
     book: &BookLock,
-    jobs: &mut Vec<Job<Body>>,
+    jobs: &mut TicketedJobs,
 ) -> Result<(), ExecFault>
     requires played { HasChosen held.old.state (λ c. IsPlayed c.stage) }
     requires seat { IsSeatOf book.now held.old.seat }
     requires script { book.now.script ≡ held.old.state.script }
-    ensures same { (held.new.pass ≡ held.old.pass) × (site_of held.new.state ≡ site_of held.old.state) }
+    requires known { IsSeatFor held.old.state held.old.seat }
+    requires jobs { jobs.old.book ≡ book.now.id }
+    ensures same { (held.new.pass ≡ held.old.pass) × (site_of book.now.id held.new.state ≡ site_of book.now.id held.old.state) }
     ensures seat { IsSeatOf book.now held.new.seat }
+    ensures known { IsSeatFor held.new.state held.new.seat }
+    ensures lock { jobs.new.book ≡ jobs.old.book }
     ensures taken { HasTaken held.old.pass.taken held.old.state → HasTaken held.new.pass.taken held.new.state }
     ensures free { held.new.state.chosen ≡ None }
-    ensures made { OnOk result (IsMadeBy held.old.state.script (chosen_task held.old.state.chosen) (map job_view jobs.old.items) (map job_view jobs.new.items)) }
-    ensures jobs { OnErr result (jobs.new.items ≡ jobs.old.items) }
-    ensures bodies { OnOk result (AllByRecursion (IsJobOf held.old.state.script) jobs.old.items → AllByRecursion (IsJobOf held.old.state.script) jobs.new.items) }
+    ensures made { OnOk result (IsMadeBy held.old.state.script (chosen_task held.old.state.chosen) (map job_view jobs.old.jobs) (map job_view jobs.new.jobs)) }
+    ensures jobs { OnErr result (jobs.new ≡ jobs.old) }
+    ensures bodies { OnOk result (AllByRecursion (IsJobOf held.old.state.script) jobs.old.jobs → AllByRecursion (IsJobOf held.old.state.script) jobs.new.jobs) }
     ensures err { IfErr result IsRunFault }
 {
     held.state.turn_locked(rt, book, &mut held.seat, jobs)
@@ -172,7 +184,7 @@ fn turn_one<R, G>(
     worker: u32,
     book: &BookLock,
     cx: &mut Context<'_>,
-    jobs: &mut Vec<Job<Body>>,
+    jobs: &mut TicketedJobs,
     gate: &G,
 ) -> Result<Option<TaskId>, ExecFault>
 where
@@ -181,14 +193,18 @@ where
     requires free { held.old.state.chosen ≡ None }
     requires seat { IsSeatOf book.now held.old.seat }
     requires script { book.now.script ≡ held.old.state.script }
-    ensures same { (held.new.pass ≡ held.old.pass) × (site_of held.new.state ≡ site_of held.old.state) }
+    requires known { IsSeatFor held.old.state held.old.seat }
+    requires jobs { jobs.old.book ≡ book.now.id }
+    ensures same { (held.new.pass ≡ held.old.pass) × (site_of book.now.id held.new.state ≡ site_of book.now.id held.old.state) }
     ensures seat { IsSeatOf book.now held.new.seat }
+    ensures known { IsSeatFor held.new.state held.new.seat }
+    ensures lock { jobs.new.book ≡ jobs.old.book }
     ensures taken { HasTaken held.old.pass.taken held.old.state → HasTaken held.new.pass.taken held.new.state }
     ensures free { held.new.state.chosen ≡ None }
-    ensures made { IfOk result (λ ran. IfSome ran (λ task. IsMadeBy held.old.state.script (Some task) (map job_view jobs.old.items) (map job_view jobs.new.items))) }
-    ensures none { IfOk result (λ ran. IfNone ran (jobs.new.items ≡ jobs.old.items)) }
-    ensures jobs { OnErr result (jobs.new.items ≡ jobs.old.items) }
-    ensures bodies { AllByRecursion (IsJobOf held.old.state.script) jobs.old.items → AllByRecursion (IsJobOf held.old.state.script) jobs.new.items }
+    ensures made { IfOk result (λ ran. IfSome ran (λ task. IsMadeBy held.old.state.script (Some task) (map job_view jobs.old.jobs) (map job_view jobs.new.jobs))) }
+    ensures none { IfOk result (λ ran. IfNone ran (jobs.new ≡ jobs.old)) }
+    ensures jobs { OnErr result (jobs.new ≡ jobs.old) }
+    ensures bodies { AllByRecursion (IsJobOf held.old.state.script) jobs.old.jobs → AllByRecursion (IsJobOf held.old.state.script) jobs.new.jobs }
     ensures err { IfErr result IsRunFault }
     ensures kept { Keeps cx.old cx.new }
 {
@@ -208,9 +224,8 @@ impl Exec {
     fn end_turn(&self, seat: &mut Seat<Resting>, held: Box<Held>) -> Left
         requires seat { IsSeatAt self.now seat.old }
         requires found { IsSomeAnd seat.old.holding (λ found. 0 < found) }
-        requires at { IsAt self.now.inbox held.value.pass held.value.state }
+        requires at { IsAt self.now.inbox held.value.pass held.value.seat held.value.state }
         requires free { held.value.state.chosen ≡ None }
-        requires book { IsSeatOf (book_of self.now) held.value.seat }
         ensures { seat.new ≡ ended seat.old }
     {
         self.word.end(seat, Resting::new(held))
@@ -220,9 +235,8 @@ impl Exec {
     fn leave(&self, seat: &mut Seat<Resting>, held: Box<Held>) -> Left
         requires seat { IsSeatAt self.now seat.old }
         requires found { IsSome seat.old.holding }
-        requires at { IsAt self.now.inbox held.value.pass held.value.state }
+        requires at { IsAt self.now.inbox held.value.pass held.value.seat held.value.state }
         requires free { held.value.state.chosen ≡ None }
-        requires book { IsSeatOf (book_of self.now) held.value.seat }
         ensures { seat.new ≡ left seat.old }
     {
         self.word.leave(seat, Resting::new(held))
@@ -238,7 +252,7 @@ impl Exec {
         worker: u32,
         book: &BookLock,
         cx: &mut Context<'_>,
-        jobs: &mut Vec<Job<Body>>,
+        jobs: &mut TicketedJobs,
         gate: &G,
     ) -> Result<Ran, ExecFault>
     where
@@ -246,18 +260,19 @@ impl Exec {
         G: Gate,
         requires seat { IsSeatAt self.now seat.old }
         requires found { seat.old.holding ≡ Some found }
-        requires at { IsAt self.now.inbox held.value.pass held.value.state }
+        requires at { IsAt self.now.inbox held.value.pass held.value.seat held.value.state }
         requires free { held.value.state.chosen ≡ None }
-        requires book { IsSeatOf (book_of self.now) held.value.seat }
-        requires lock { book.now ≡ book_of self.now }
+        requires lock { IsBookOf self.now book.now }
+        requires jobs { jobs.old.book ≡ book.now.id }
         ensures seat { IfOk result (λ ran. seat.new ≡ seat_after ran seat.old) }
         ensures kept { OnErr result (seat.new ≡ left seat.old) }
         ensures free { (seat.new.name ≡ seat.old.name) × (seat.new.holding ≡ None) }
-        ensures made { IfOk result (IfTurn (λ task. IsMadeBy self.now.inbox.site.script (Some task) (map job_view jobs.old.items) (map job_view jobs.new.items))) }
-        ensures jobs { IfOk result (IfNoTurn (jobs.new.items ≡ jobs.old.items)) }
-        ensures none { OnErr result (jobs.new.items ≡ jobs.old.items) }
-        ensures bodies { AllByRecursion (IsJobOf self.now.inbox.site.script) jobs.old.items → AllByRecursion (IsJobOf self.now.inbox.site.script) jobs.new.items }
+        ensures made { IfOk result (IfTurn (λ task. IsMadeBy self.now.inbox.site.script (Some task) (map job_view jobs.old.jobs) (map job_view jobs.new.jobs))) }
+        ensures jobs { IfOk result (IfNoTurn (jobs.new ≡ jobs.old)) }
+        ensures none { OnErr result (jobs.new ≡ jobs.old) }
+        ensures bodies { AllByRecursion (IsJobOf self.now.inbox.site.script) jobs.old.jobs → AllByRecursion (IsJobOf self.now.inbox.site.script) jobs.new.jobs }
         ensures err { IfErr result IsRunFault }
+        ensures lock { jobs.new.book ≡ jobs.old.book }
         ensures context { Keeps cx.old cx.new }
     {
         if found == 0 {
@@ -276,10 +291,11 @@ impl Exec {
 
     /// Visits the executor (SE-0306): a worker takes its state, makes the jobs ready that are in the inbox, and runs a turn of the
     /// one that comes first (`ExecState::choose`), where a job is pending. The book is locked while that job is chosen, while its turn
-    /// begins and while it is journalled, and not while it is played. The jobs that the turn makes come behind those that `jobs` has; they
-    /// are of an equal script and their bodies have not ended. `Busy` where another worker holds the executor.
+    /// begins and while it is journalled, and not while it is played. The jobs that the turn makes come behind those that `jobs` has, with
+    /// their tickets; they are of an equal script and their bodies have not ended. `Busy` where another worker holds the executor.
     ///
-    /// The book is the executor's own: it is of the same script, so no scripts are compared.
+    /// The book is the executor's own: it is of the same script, so no scripts are compared, and the seat in the state knows the turns
+    /// that it has taken from this executor. `jobs` are of that book.
     ///
     /// It waits for the lock of the book, and for another thread that is between two steps of a call of the inbox. It takes no
     /// memory but what `ExecState::play` and `ExecState::turn` say.
@@ -297,22 +313,24 @@ impl Exec {
         worker: u32,
         book: &BookLock,
         cx: &mut Context<'_>,
-        jobs: &mut Vec<Job<Body>>,
+        jobs: &mut TicketedJobs,
         gate: &G,
     ) -> Result<Ran, ExecFault>
     where
         R: Wait,
         G: Gate,
         requires desk { IsDeskOf self.now desk.old }
-        requires book { book.now ≡ book_of self.now }
+        requires book { IsBookOf self.now book.now }
+        requires jobs { jobs.old.book ≡ book.now.id }
         ensures desk { IfOk result (λ ran. desk.new ≡ after_run ran desk.old) }
         ensures kept { OnErr result (desk.new ≡ desk.old) }
-        ensures made { IfOk result (IfTurn (λ task. IsMadeBy self.now.inbox.site.script (Some task) (map job_view jobs.old.items) (map job_view jobs.new.items))) }
-        ensures jobs { IfOk result (IfNoTurn (jobs.new.items ≡ jobs.old.items)) }
-        ensures none { OnErr result (jobs.new.items ≡ jobs.old.items) }
-        ensures bodies { AllByRecursion (IsJobOf self.now.inbox.site.script) jobs.old.items → AllByRecursion (IsJobOf self.now.inbox.site.script) jobs.new.items }
+        ensures made { IfOk result (IfTurn (λ task. IsMadeBy self.now.inbox.site.script (Some task) (map job_view jobs.old.jobs) (map job_view jobs.new.jobs))) }
+        ensures jobs { IfOk result (IfNoTurn (jobs.new ≡ jobs.old)) }
+        ensures none { OnErr result (jobs.new ≡ jobs.old) }
+        ensures bodies { AllByRecursion (IsJobOf self.now.inbox.site.script) jobs.old.jobs → AllByRecursion (IsJobOf self.now.inbox.site.script) jobs.new.jobs }
         ensures err { IfErr result (λ fault. (fault ≡ ExecFault.Worker) ⊎ IsRunFault fault) }
         ensures worker { (result ≡ Err ExecFault.Worker) ↔ (may_run (executor_kind self.now.inbox.site.script self.now.inbox.site.executor) self.now.workers worker ≡ false) }
+        ensures lock { jobs.new.book ≡ jobs.old.book }
         ensures context { Keeps cx.old cx.new }
     {
         let site = self.inbox.site();
@@ -326,7 +344,7 @@ impl Exec {
             Begun::Run(found, resting) => {
                 gate.at(Moment::Began(executor, worker));
                 let mut held = resting.into_held();
-                accept_all(rt, &self.inbox, &mut held);
+                accept_all(rt, &self.inbox, &mut held, book);
                 gate.at(Moment::Accepted(executor, worker));
                 let seat = &mut desk.seat;
                 let ran = self.run_held(rt, seat, found, held, worker, book, cx, jobs, gate);

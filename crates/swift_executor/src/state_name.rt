@@ -16,20 +16,8 @@ impl Model for InboxName {
     ghost also_owns = { λ _. ftrue };
 }
 
-/// Which book it is, by its lock. No value of it is made.
-pub struct BookName {
-    pub ghost book: { TableId } by { table_id_coded },
-}
-
-impl Model for BookName {
-    ghost use base.Fml.{ftrue};
-
-    ghost also_owns = { λ _. ftrue };
-}
-
-/// Whose state it is, from which inbox it takes its jobs, and which book it applies them to. No value of it is made.
+/// Whose state it is, and from which inbox it takes its jobs. No value of it is made.
 pub struct StateName {
     pub site: ExecutorSite,
     pub inbox: InboxName,
-    pub book: BookName,
 }

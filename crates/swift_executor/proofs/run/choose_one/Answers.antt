@@ -1,9 +1,9 @@
 use Rattle.std.proofs.Common.{refl}
-use Rattle.swift_executor.proofs.Visits.{is_free, is_none, is_picked, same_site, same_taken}
+use Rattle.swift_executor.proofs.Visits.{is_free, is_none, is_picked, same_known, same_site, same_taken}
 use Rattle.swift_executor.proofs.run.choose_one.Goals as goal
 
 pub returns-clause-same : goal.returns-clause-same
-returns-clause-same g c = (refl, same_site _ _ _ _ c.levels.ensures.levels c.requires.free _ c.choose-picked.result c.choose-picked.ensures.some c.choose-picked.ensures.none c.choose-picked.ensures.err)
+returns-clause-same g c = (refl, same_site _ _ _ _ _ c.levels.ensures.levels c.requires.free _ c.choose-picked.result c.choose-picked.ensures.some c.choose-picked.ensures.none c.choose-picked.ensures.err)
 
 pub returns-clause-taken : goal.returns-clause-taken
 returns-clause-taken g c = same_taken _ _ _ _ c.levels.ensures.levels c.requires.free _ _ c.choose-picked.result c.choose-picked.ensures.some c.choose-picked.ensures.none c.choose-picked.ensures.err

@@ -1,4 +1,4 @@
-use Rattle.std.proofs.Common.{◌≡◌, Option, IfSome, map, refl, ap, sym, subst, ◌∙◌}
+use Rattle.std.proofs.Common.{◌≡◌, Some, Option, IfSome, map, refl, ap, sym, subst, ◌∙◌}
 use Rattle.std.proofs.lemmas.Option.{same_Some}
 use Rattle.std.specs.Arc.{arc_value}
 use Rattle.script_code.specs.Seen.{rows_of}
@@ -11,10 +11,13 @@ use Rattle.swift_script.specs.Scripts.{ScriptView}
 use Rattle.swift_tasks.specs.Books.{IsJobOf, job_view}
 use Rattle.swift_executor.specs.Playing.{Applied}
 use Rattle.swift_executor.specs.State.{ChosenView, EndsTurn, ExecView, HasChosen, IsChosen, IsExecutor, IsPlayed, PutsBack}
-use Rattle.swift_executor.specs.StateInside.{chosen_at, chosen_of, chosen_view}
+use Rattle.swift_executor.specs.Seats.{IsSeatFor}
+use Rattle.swift_executor.specs.StateInside.{chosen_at, chosen_of, chosen_view, stage_of}
 use Rattle.swift_executor.specs.declared.chosen.Played.{Played}
 use Rattle.swift_executor.proofs.ChosenJob.{played_stage, runs, seen}
 use Rattle.swift_executor.proofs.Ended.{ended, unchanged}
+use Rattle.swift_executor.proofs.SeatKept.{back_knows}
+use Rattle.swift_executor.proofs.SeatTurns.{applied as seat_applied, written}
 use Rattle.swift_executor.proofs.state.ExecState.turn_locked.Goals as goal
 
 pub prepare-requires : goal.prepare-requires
@@ -35,7 +38,17 @@ apply_locked-requires g c =
     let s : ExecView = record { script = arc_value x.script; executor = x.executor.0; ready = x.ready; chosen = chosen_of x.played x.chosen; journal = x.journal; checkpoint = x.checkpoint.view; fields = rows_of x.fields.items } in
     let w = c.in-Ok.ensures.written in
     let was : IsChosen s (chosen_view x.played x.chosen.arrival x.chosen.stage w.0) = subst (λ (o : Option ChosenView). IfSome o (IsChosen s)) (ap (chosen_at x.played x.chosen.arrival x.chosen.stage) w.1) c.self.invariant.chosen in
-    record { job = (w.0, w.1, (runs s.script s.executor w.0 was.belongs, was.belongs.script_is ∙ ap (λ (v : ExecView). v.script) c.self.view_is ∙ sym c.requires.script)); seat = c.requires.seat }
+    let has : HasChosen s (λ c. IsPlayed c.stage) = subst (λ (v : ExecView). HasChosen v (λ c. IsPlayed c.stage)) (sym c.self.view_is) c.requires.played in
+    let known : IsSeatFor s c.args.seat.now = subst (λ (v : ExecView). IsSeatFor v c.args.seat.now) (sym c.self.view_is) c.requires.known in
+    let seen_is : s.chosen ≡ Some (chosen_view x.played x.chosen.arrival x.chosen.stage w.0) = ap (chosen_at x.played x.chosen.arrival x.chosen.stage) w.1 in
+    let played_is : IsPlayed (stage_of x.played x.chosen.stage) = subst (λ (v : ChosenView). IsPlayed v.stage) (same_Some has.0 (chosen_view x.played x.chosen.arrival x.chosen.stage w.0) (sym has.1 ∙ seen_is)) has.2 in
+    let r = written s x.played x.chosen.arrival x.chosen.stage w.0 c.prepare.new.journal c.args.seat.now c.args.book.now.script c.self.invariant seen_is played_is w.2 known (c.requires.script ∙ sym (ap (λ (v : ExecView). v.script) c.self.view_is)) in
+    record {
+      job = (w.0, w.1, (runs s.script s.executor w.0 was.belongs, was.belongs.script_is ∙ ap (λ (v : ExecView). v.script) c.self.view_is ∙ sym c.requires.script));
+      seat = c.requires.seat;
+      jobs = c.requires.jobs;
+      plays = (w.0, w.1, (r.r, r.newest_is, r.exit, r.effects, r.plays));
+    }
 
 pub invariant_of-self-in-Ok-apply_locked : goal.invariant_of-self-in-Ok-apply_locked
 invariant_of-self-in-Ok-apply_locked g c =
@@ -47,8 +60,8 @@ invariant_of-self-in-Ok-apply_locked g c =
     let same : h.0 ≡ w.0 = same_Some h.0 w.0 (sym h.1 ∙ w.1) in
     let book = h.2.book in
     let book' = h.2.book_after in
-    let jobs = map job_view c.args.jobs.now.items in
-    let jobs' = map job_view c.apply_locked.new.jobs.items in
+    let jobs = map job_view c.args.jobs.now.jobs in
+    let jobs' = map job_view c.apply_locked.new.jobs.jobs in
     let applied : Applied book book' w.0 (effect_views x.played.effects.items) (exit_view x.played.exit) jobs jobs' =
     subst (λ (j : JobIs BodyView). Applied book book' j (effect_views x.played.effects.items) (exit_view x.played.exit) jobs jobs') same h.2.takes.applied in
     let p' : Played = record x.played { fields = c.swap.new.y } in
@@ -68,8 +81,8 @@ returns-in-Ok-apply_locked-clause-ok g c =
     let same : h.0 ≡ w.0 = same_Some h.0 w.0 (sym h.1 ∙ w.1) in
     let book = h.2.book in
     let book' = h.2.book_after in
-    let jobs = map job_view c.args.jobs.now.items in
-    let jobs' = map job_view c.apply_locked.new.jobs.items in
+    let jobs = map job_view c.args.jobs.now.jobs in
+    let jobs' = map job_view c.apply_locked.new.jobs.jobs in
     let applied : Applied book book' w.0 (effect_views x.played.effects.items) (exit_view x.played.exit) jobs jobs' =
     subst (λ (j : JobIs BodyView). Applied book book' j (effect_views x.played.effects.items) (exit_view x.played.exit) jobs jobs') same h.2.takes.applied in
     let p' : Played = record x.played { fields = c.swap.new.y } in
@@ -87,9 +100,42 @@ returns-in-Ok-apply_locked-clause-ok g c =
       turn = (chosen_view x.played x.chosen.arrival x.chosen.stage w.0, ap (chosen_at x.played x.chosen.arrival x.chosen.stage) w.1, d.journals);
     })
 
+pub returns-in-Ok-apply_locked-clause-known : goal.returns-in-Ok-apply_locked-clause-known
+returns-in-Ok-apply_locked-clause-known g c =
+    let x = c.self.inside in
+    let s : ExecView = record { script = arc_value x.script; executor = x.executor.0; ready = x.ready; chosen = chosen_of x.played x.chosen; journal = x.journal; checkpoint = x.checkpoint.view; fields = rows_of x.fields.items } in
+    let h = c.in-Ok-apply_locked.ensures.ok in
+    let w = c.in-Ok.ensures.written in
+    let has : HasChosen s (λ c. IsPlayed c.stage) = subst (λ (v : ExecView). HasChosen v (λ c. IsPlayed c.stage)) (sym c.self.view_is) c.requires.played in
+    let same : h.0 ≡ w.0 = same_Some h.0 w.0 (sym h.1 ∙ w.1) in
+    let book = h.2.book in
+    let book' = h.2.book_after in
+    let jobs = map job_view c.args.jobs.now.jobs in
+    let jobs' = map job_view c.apply_locked.new.jobs.jobs in
+    let applied : Applied book book' w.0 (effect_views x.played.effects.items) (exit_view x.played.exit) jobs jobs' =
+    subst (λ (j : JobIs BodyView). Applied book book' j (effect_views x.played.effects.items) (exit_view x.played.exit) jobs jobs') same h.2.takes.applied in
+    let p' : Played = record x.played { fields = c.swap.new.y } in
+    let d = ended s x.played p' x.chosen.arrival x.chosen.stage x.chosen.job c.apply_locked.new.place w.0 c.prepare.new.journal refl w.1 has w.2
+    book book' jobs jobs' c.in-Ok-apply_locked.task c.settle.new.journal c.in-Ok.copy c.prepare.new.checkpoint c.settle.new.checkpoint c.forward.new.self c.swap.new.x
+    c.lawful_grows.ensures c.invariants_stay.ensures c.self.invariant c.in-Ok.ensures.same c.in-Ok.ensures.room c.settle.ensures c.forward.ensures (h.2.takes.task_is ∙ ap (λ (j : JobIs BodyView). j.task) same)
+    applied c.in-Ok-apply_locked.ensures.gone c.swap.ensures.x_after in
+    let was : IsChosen s (chosen_view x.played x.chosen.arrival x.chosen.stage w.0) = subst (λ (o : Option ChosenView). IfSome o (IsChosen s)) (ap (chosen_at x.played x.chosen.arrival x.chosen.stage) w.1) c.self.invariant.chosen in
+    let new : ExecView = record s { ready = c.forward.new.self; chosen = chosen_at p' x.chosen.arrival x.chosen.stage c.apply_locked.new.place; journal = c.settle.new.journal; checkpoint = c.settle.new.checkpoint.view; fields = rows_of c.swap.new.x.items } in
+    let at : s.chosen ≡ Some (chosen_view x.played x.chosen.arrival x.chosen.stage w.0) = ap (chosen_at x.played x.chosen.arrival x.chosen.stage) w.1 in
+    let played_is : IsPlayed (stage_of x.played x.chosen.stage) = subst (λ (v : ChosenView). IsPlayed v.stage) (same_Some has.0 (chosen_view x.played x.chosen.arrival x.chosen.stage w.0) (sym has.1 ∙ at)) has.2 in
+    let known : IsSeatFor s c.args.seat.now = subst (λ (v : ExecView). IsSeatFor v c.args.seat.now) (sym c.self.view_is) c.requires.known in
+    let r = c.in-Ok-apply_locked.ensures.seat in
+    seat_applied s new x.played x.chosen.arrival x.chosen.stage w.0 c.prepare.new.journal c.args.seat.now c.apply_locked.new.seat r.0 book book' jobs jobs'
+    c.lawful_grows.ensures c.self.invariant at played_is w.2 known d.journals r.1 r.2
+
+pub returns-in-Ok-apply_locked-clause-seat : goal.returns-in-Ok-apply_locked-clause-seat
+returns-in-Ok-apply_locked-clause-seat g c =
+    let same = c.in-Ok-apply_locked.ensures.seat.2 in
+    (ap (λ x. x.lock) same ∙ c.requires.seat.0, ap (λ x. x.here) same ∙ c.requires.seat.1, ap (λ x. x.knows.script) same ∙ c.requires.seat.2)
+
 pub returns-in-Ok-apply_locked-clause-bodies : goal.returns-in-Ok-apply_locked-clause-bodies
 returns-in-Ok-apply_locked-clause-bodies g c =
-    subst (λ (p : ScriptView). AllByRecursion (IsJobOf p) c.args.jobs.now.items → AllByRecursion (IsJobOf p) c.apply_locked.new.jobs.items) c.requires.script c.in-Ok-apply_locked.ensures.bodies
+    subst (λ (p : ScriptView). AllByRecursion (IsJobOf p) c.args.jobs.now.jobs → AllByRecursion (IsJobOf p) c.apply_locked.new.jobs.jobs) c.requires.script c.in-Ok-apply_locked.ensures.bodies
 
 pub invariant_of-self-in-Err : goal.invariant_of-self-in-Err
 invariant_of-self-in-Err g c =
@@ -98,7 +144,7 @@ invariant_of-self-in-Err g c =
     let w = c.in-Ok.ensures.written in
     let has : HasChosen s (λ c. IsPlayed c.stage) = subst (λ (v : ExecView). HasChosen v (λ c. IsPlayed c.stage)) (sym c.self.view_is) c.requires.played in
     let same = unchanged s x.played x.played x.chosen.arrival x.chosen.stage x.chosen.job c.apply_locked.new.place w.0 c.prepare.new.journal refl w.1 has w.2
-    c.retract.new.self c.prepare.new.checkpoint.view c.in-Err.ensures.same c.retract.ensures c.in-Ok.ensures.same in
+    c.retract.new.self c.prepare.new.checkpoint.view c.in-Err.ensures.same.0 c.retract.ensures c.in-Ok.ensures.same in
     subst (λ (v : ExecView). IsExecutor v) (sym same) c.self.invariant
 
 pub returns-in-Err-clause-back : goal.returns-in-Err-clause-back
@@ -108,5 +154,16 @@ returns-in-Err-clause-back g c =
     let w = c.in-Ok.ensures.written in
     let has : HasChosen s (λ c. IsPlayed c.stage) = subst (λ (v : ExecView). HasChosen v (λ c. IsPlayed c.stage)) (sym c.self.view_is) c.requires.played in
     let same = unchanged s x.played x.played x.chosen.arrival x.chosen.stage x.chosen.job c.apply_locked.new.place w.0 c.prepare.new.journal refl w.1 has w.2
-    c.retract.new.self c.prepare.new.checkpoint.view c.in-Err.ensures.same c.retract.ensures c.in-Ok.ensures.same in
+    c.retract.new.self c.prepare.new.checkpoint.view c.in-Err.ensures.same.0 c.retract.ensures c.in-Ok.ensures.same in
     subst (λ (v : ExecView). HasChosen v (PutsBack v c.put_back-in-Err.new.self)) (same ∙ c.self.view_is) c.put_back-in-Err.ensures
+
+pub returns-in-Err-clause-known : goal.returns-in-Err-clause-known
+returns-in-Err-clause-known g c =
+    let x = c.self.inside in
+    let s : ExecView = record { script = arc_value x.script; executor = x.executor.0; ready = x.ready; chosen = chosen_of x.played x.chosen; journal = x.journal; checkpoint = x.checkpoint.view; fields = rows_of x.fields.items } in
+    let w = c.in-Ok.ensures.written in
+    let has : HasChosen s (λ c. IsPlayed c.stage) = subst (λ (v : ExecView). HasChosen v (λ c. IsPlayed c.stage)) (sym c.self.view_is) c.requires.played in
+    let same = unchanged s x.played x.played x.chosen.arrival x.chosen.stage x.chosen.job c.apply_locked.new.place w.0 c.prepare.new.journal refl w.1 has w.2
+    c.retract.new.self c.prepare.new.checkpoint.view c.in-Err.ensures.same.0 c.retract.ensures c.in-Ok.ensures.same in
+    let back = subst (λ (v : ExecView). HasChosen v (PutsBack v c.put_back-in-Err.new.self)) (same ∙ c.self.view_is) c.put_back-in-Err.ensures in
+    subst (λ seat. IsSeatFor c.put_back-in-Err.new.self seat) (sym c.in-Err.ensures.same.1) (back_knows c.args.self.now c.put_back-in-Err.new.self c.args.seat.now c.requires.known back)
