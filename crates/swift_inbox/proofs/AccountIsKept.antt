@@ -8,10 +8,8 @@ use Rattle.std.proofs.lemmas.List.Sorted.{IsPermutation-refl, IsPermutation-tran
 use mathlib.Core.Option.{some, some-injective, some-ne-none}
 use lib.ListN.{get_elem?}
 use Rattle.crossbeam_queue.specs.Fifo.{Pushes, Pops, Forks, Admits}
-use Rattle.swift_queue.specs.Job.{JobIs}
-use Rattle.swift_turn.specs.Body.{BodyView}
 use Rattle.swift_history.specs.TurnEnds.{JobView}
-use Rattle.swift_inbox.specs.Sent.{job_view}
+use Rattle.swift_ticket.specs.Tickets.{TicketedIs, job_view}
 use Rattle.swift_inbox.specs.declared.view.PassView.{PassView}
 use Rattle.swift_inbox.specs.Site.{Site, CanRunAt}
 use Rattle.swift_inbox.specs.Rule.{unused, blank, pushed_in, taken_in, FirstKnows, KnowsNoOther, InboxInvariant, with_pushed, with_taken, IsTaken}
@@ -81,24 +79,28 @@ all_blank_know site (u ∷ us) all =
 known_not_blank : (v : PassView) (site : Site) → v.site ≡ Some site → v ≡ blank → ⊥
 known_not_blank v site is none' = let e : Some site ≡ None = sym is ∙ ap (λ (x : PassView). x.site) none' in cc
 
+-- a job inside, as an account has it
+abbrev noted : TicketedIs → JobView
+noted t = job_view t.job
+
 -- a job is put in
-pub puts : (room pass : ℕ) (v : PassView) (site : Site) (x : JobIs BodyView) → v.site ≡ Some site → CanRunAt site x → Pushes InboxInvariant room pass v x (λ w. w ≡ with_pushed v x)
+pub puts : (room pass : ℕ) (v : PassView) (site : Site) (x : TicketedIs) → v.site ≡ Some site → CanRunAt site x → Pushes InboxInvariant room pass v x (λ w. w ≡ with_pushed v x.job)
 puts room pass v site x is can inside views less (inl new) at = absurd (known_not_blank v site is (all_at (λ v. v ≡ blank) views pass v new.all_blank at))
 puts room pass v site x is can inside views less (inr (here, k)) at =
-    let w = with_pushed v x in
+    let w = with_pushed v x.job in
     let mine = all_at (KnowsNoOther here) views pass v k.sites at in
     let same = none_more (λ u. u.taken) views pass v w at refl in
-    let more = one_more (λ u. u.pushed) views pass v w (job_view x) at refl in
-    let now : IsPermutation (pushed_in views ++ job_view x ∷ []) (taken_in views ++ (map job_view inside ++ job_view x ∷ [])) =
-    rw (← append_assoc (taken_in views) (map job_view inside) (job_view x ∷ []))
-    (IsPermutation-append_left (job_view x ∷ []) (pushed_in views) (taken_in views ++ map job_view inside) k.moves) in (
+    let more = one_more (λ u. u.pushed) views pass v w (job_view x.job) at refl in
+    let now : IsPermutation (pushed_in views ++ job_view x.job ∷ []) (taken_in views ++ (map noted inside ++ job_view x.job ∷ [])) =
+    rw (← append_assoc (taken_in views) (map noted inside) (job_view x.job ∷ []))
+    (IsPermutation-append_left (job_view x.job ∷ []) (pushed_in views) (taken_in views ++ map noted inside) k.moves) in (
       w,
       inr (
         here,
         record {
           first = first_set here views pass v w at refl k.first;
           sites = All-set (KnowsNoOther here) views pass w mine k.sites;
-          moves = rw (same, map-append job_view inside (x ∷ [])) (IsPermutation-trans _ _ _ (IsPermutation-sym _ _ more) now);
+          moves = rw (same, map-append noted inside (x ∷ [])) (IsPermutation-trans _ _ _ (IsPermutation-sym _ _ more) now);
           fits = All-push (CanRunAt here) inside x k.fits (subst (λ s. CanRunAt s x) (site_is v.site here site is mine) can);
         },
       ),
@@ -109,13 +111,13 @@ puts room pass v site x is can inside views less (inr (here, k)) at =
 pub takes : (pass : ℕ) (v : PassView) → Pops InboxInvariant pass v (IsTaken v)
 takes pass v x inside views (inl new) at = let none' : x ∷ inside ≡ [] = new.none_inside in cc
 takes pass v x inside views (inr (here, k)) at =
-    let w = with_taken v x in
+    let w = with_taken v x.job in
     let mine = all_at (KnowsNoOther here) views pass v k.sites at in
     let same = none_more (λ u. u.pushed) views pass v w at refl in
-    let more = one_more (λ u. u.taken) views pass v w (job_view x) at refl in
-    let left : IsPermutation (taken_in views ++ job_view x ∷ map job_view inside) (taken_in (set views pass w) ++ map job_view inside) =
-    rw (append_assoc (taken_in views) (job_view x ∷ []) (map job_view inside)) at
-    (IsPermutation-append_left (map job_view inside) (taken_in views ++ job_view x ∷ []) (taken_in (set views pass w)) more) in (
+    let more = one_more (λ u. u.taken) views pass v w (job_view x.job) at refl in
+    let left : IsPermutation (taken_in views ++ job_view x.job ∷ map noted inside) (taken_in (set views pass w) ++ map noted inside) =
+    rw (append_assoc (taken_in views) (job_view x.job ∷ []) (map noted inside)) at
+    (IsPermutation-append_left (map noted inside) (taken_in views ++ job_view x.job ∷ []) (taken_in (set views pass w)) more) in (
       w,
       inr (
         here,
@@ -193,18 +195,18 @@ admits inside views (inr (here, k)) =
 pub starts : InboxInvariant [] (blank ∷ [])
 starts = inl (record { none_inside = refl; all_blank = All-cons (λ v. v ≡ blank) blank [] refl (All-nil (λ v. v ≡ blank)) })
 
-pub none_lost : (inside : List (JobIs BodyView)) (views : List PassView) → InboxInvariant inside views → IsPermutation (pushed_in views) (taken_in views ++ map job_view inside)
+pub none_lost : (inside : List TicketedIs) (views : List PassView) → InboxInvariant inside views → IsPermutation (pushed_in views) (taken_in views ++ map (λ t. job_view t.job) inside)
 none_lost inside views (inl new) =
     rw (blank_have_none (λ u. u.pushed) views refl new.all_blank, blank_have_none (λ u. u.taken) views refl new.all_blank, new.none_inside) (IsPermutation-refl [])
 none_lost inside views (inr (here, k)) = k.moves
 
-pub each_can_run : (inside : List (JobIs BodyView)) (views : List PassView) → InboxInvariant inside views → (pass : ℕ) (v : PassView) (site : Site) → get_elem? views pass ≡ some v → v.site ≡ Some site
+pub each_can_run : (inside : List TicketedIs) (views : List PassView) → InboxInvariant inside views → (pass : ℕ) (v : PassView) (site : Site) → get_elem? views pass ≡ some v → v.site ≡ Some site
     → All (CanRunAt site) inside
 each_can_run inside views (inl new) pass v site at is = absurd (known_not_blank v site is (all_at (λ v. v ≡ blank) views pass v new.all_blank at))
 each_can_run inside views (inr (here, k)) pass v site at is =
     subst (λ s. All (CanRunAt s) inside) (sym (site_is v.site here site is (all_at (KnowsNoOther here) views pass v k.sites at))) k.fits
 
-pub one_site : (inside : List (JobIs BodyView)) (views : List PassView) → InboxInvariant inside views → (a b : ℕ) (v w : PassView) (s t : Site) → get_elem? views a ≡ some v → get_elem? views b ≡ some w
+pub one_site : (inside : List TicketedIs) (views : List PassView) → InboxInvariant inside views → (a b : ℕ) (v w : PassView) (s t : Site) → get_elem? views a ≡ some v → get_elem? views b ≡ some w
     → v.site ≡ Some s → w.site ≡ Some t → s ≡ t
 one_site inside views (inl new) a b v w s t at at' is is' = absurd (known_not_blank v s is (all_at (λ v. v ≡ blank) views a v new.all_blank at))
 one_site inside views (inr (here, k)) a b v w s t at at' is is' =

@@ -29,8 +29,9 @@ use Rattle.swift_turn.proofs.stack.Stack.TheSendSync as Stack
 use Rattle.futures.proofs.task.source.Source.TheSendSync as Source
 use Rattle.futures.proofs.task.waker.Waker.TheSendSync as Waker
 use Rattle.atomic_table.proofs.shared.Seat.TheSendSync as Seat
+use Rattle.atomic_table.proofs.badge.Badge.TheSendSync as Badge
 use Rattle.crossbeam_queue.proofs.array_queue.Slotted.TheSendSync as Slotted
-use Rattle.swift_inbox.specs.contracts.item.Item as item
+use Rattle.swift_ticket.specs.contracts.ticketed.TicketedJob as ticketed
 use Rattle.swift_inbox.specs.contracts.inbox.Inbox as inbox
 use Rattle.swift_inbox.specs.contracts.pass.Pass as pass
 use Rattle.swift_inbox.specs.contracts.site.ExecutorSite as site
@@ -328,14 +329,15 @@ site_sync = search (plain, script_send, script_sync) depth 60 fits 20000
 pub site_send : IsSend site.the_row
 site_send = search (plain, script_send, script_sync) depth 60 fits 20000
 
-pub item_send : IsSend item.the_row
-item_send = search (plain, body_send) depth 60 fits 20000
+-- a job with its ticket, which has no bytes
+pub ticketed_send : IsSend ticketed.the_row
+ticketed_send = search (plain, body_send, Badge.the_send) depth 60 fits 20000
 
 pub pass_send : IsSend pass.the_row
-pass_send = search (plain, item_send, Seat.the_send) depth 60 fits 20000
+pass_send = search (plain, ticketed_send, Seat.the_send) depth 60 fits 20000
 
 pub inbox_sync : IsSync inbox.the_row
-inbox_sync = search (plain, item_send, site_sync, Slotted.the_field_sync) depth 60 fits 20000
+inbox_sync = search (plain, ticketed_send, site_sync, Slotted.the_field_sync) depth 60 fits 20000
 
 pub inbox_send : IsSend inbox.the_row
-inbox_send = search (plain, item_send, site_send, Slotted.the_field_send) depth 60 fits 20000
+inbox_send = search (plain, ticketed_send, site_send, Slotted.the_field_send) depth 60 fits 20000

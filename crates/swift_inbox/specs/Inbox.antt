@@ -4,7 +4,7 @@ use Rattle.atomic_table.specs.Seated.{TableId}
 use Rattle.swift_queue.specs.Job.{JobIs}
 use Rattle.swift_turn.specs.Body.{BodyView}
 use Rattle.swift_history.specs.TurnEnds.{JobView}
-use Rattle.swift_inbox.specs.Sent.{job_view}
+use Rattle.swift_ticket.specs.Tickets.{job_view}
 use Rattle.swift_inbox.specs.Site.{Site}
 
 -- which inbox it is, for the jobs of which executor, and how many it has room for

@@ -1,4 +1,3 @@
 pub mod Inbox
 pub mod Rule
-pub mod Sent
 pub mod Site

@@ -5,7 +5,7 @@ use Rattle.std.specs.List.{flat_map}
 use Rattle.swift_queue.specs.Job.{JobIs}
 use Rattle.swift_turn.specs.Body.{BodyView}
 use Rattle.swift_history.specs.TurnEnds.{JobView}
-use Rattle.swift_inbox.specs.Sent.{job_view}
+use Rattle.swift_ticket.specs.Tickets.{TicketedIs, job_view}
 use Rattle.swift_inbox.specs.declared.view.PassView.{PassView}
 use Rattle.swift_inbox.specs.Site.{Site, CanRunAt}
 
@@ -36,19 +36,19 @@ KnowsNoOther site v = IfSome v.site (λ s. s ≡ site)
 
 -- An inbox of this executor, with these jobs inside, the oldest first, and these views of its passes: no pass knows another
 -- executor, each job inside can run there, and what was put in is what was taken out and what is inside, each as often.
-pub record KeepsAccount (site : Site) (inside : List (JobIs BodyView)) (views : List PassView) : Type 0 where
+pub record KeepsAccount (site : Site) (inside : List TicketedIs) (views : List PassView) : Type 0 where
   pub first : FirstKnows site views
   pub sites : All (KnowsNoOther site) views
-  pub moves : IsPermutation (pushed_in views) (taken_in views ++ map job_view inside)
+  pub moves : IsPermutation (pushed_in views) (taken_in views ++ map (λ t. job_view t.job) inside)
   pub fits : All (CanRunAt site) inside
 
 -- before its first pass knows the executor, nothing is inside, and nothing went through a pass
-pub record IsNew (inside : List (JobIs BodyView)) (views : List PassView) : Type 0 where
+pub record IsNew (inside : List TicketedIs) (views : List PassView) : Type 0 where
   pub none_inside : inside ≡ []
   pub all_blank : All (λ v. v ≡ blank) views
 
 -- what holds between any two steps of an inbox
-abbrev pub InboxInvariant : List (JobIs BodyView) → List PassView → Type 0
+abbrev pub InboxInvariant : List TicketedIs → List PassView → Type 0
 InboxInvariant inside views = IsNew inside views ⊎ ((site : Site) × KeepsAccount site inside views)
 
 -- a pass through which one job more was put in
@@ -60,5 +60,5 @@ abbrev pub with_taken : PassView → JobIs BodyView → PassView
 with_taken v j = record v { taken = v.taken ++ job_view j ∷ [] }
 
 -- what a take tells: the job went out through this pass, and it can run at the executor that the pass knows
-abbrev pub IsTaken : PassView → JobIs BodyView → PassView → Type 0
-IsTaken v j w = (w ≡ with_taken v j) × IfSome v.site (λ site. CanRunAt site j)
+abbrev pub IsTaken : PassView → TicketedIs → PassView → Type 0
+IsTaken v t w = (w ≡ with_taken v t.job) × IfSome v.site (λ site. CanRunAt site t)

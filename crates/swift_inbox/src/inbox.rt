@@ -3,6 +3,8 @@
 //! An inbox is the bounded queue of the kit's `crossbeam_queue`, under a rule. Each thread puts and takes through a `Pass`
 //! of its own, which keeps account of what went through it. The rule says that what was put in, through all passes, is
 //! what was taken out and what is inside, each job as often, and that each job inside can run at the inbox's executor.
+//! A job lies inside with its ticket, and comes out with the ticket with which it went in: the ticket is that of the job
+//! by its type, and the rule says which book gave it.
 
 ghost use Rattle.std.specs.Prelude.{◌≡◌, ◌<◌, ◌≤◌, ◌+◌, IfOk, IfErr, OnOk, OnErr, IfSome, IfNone, Some, vec_len, vec_capacity};
 ghost use Rattle.crossbeam_queue.specs.Passes.{view, IsPassOf as IsRawPassOf};
@@ -10,7 +12,6 @@ ghost use Rattle.swift_inbox.specs.Inbox.{IsPassOf, new_pass, has_pushed, has_ta
 ghost use Rattle.swift_inbox.specs.Rule.{blank, unused};
 ghost use Rattle.swift_inbox.specs.Site.{CanRunAt};
 
-use crate::item::Item;
 use crate::pass::{Pass, RawPass};
 use crate::rule::{InboxRule, Placed, Places, Puts, Takes};
 use crate::site::ExecutorSite;
@@ -20,10 +21,11 @@ use std::alloc::{AllocError, Global};
 use std::marker::{Brand, Model};
 use std::sync::Wait;
 use swift_queue::Job;
+use swift_ticket::TicketedJob;
 use swift_turn::Body;
 
 /// The queue of an inbox.
-pub(crate) type Queue = RuledArrayQueue<Item, PassView, InboxRule>;
+pub(crate) type Queue = RuledArrayQueue<TicketedJob, PassView, InboxRule>;
 
 /// The jobs that were sent to one executor and not yet taken: a bounded queue, first in, first out (SE-0392 for what may
 /// be enqueued on an executor; the bound is our own). Any number of threads share an inbox by reference; each puts and
@@ -31,9 +33,9 @@ pub(crate) type Queue = RuledArrayQueue<Item, PassView, InboxRule>;
 /// call of its own, and one that stops there for ever stops the others too. After more than 2^62 puts, `put` and `take`
 /// wait for ever.
 ///
-/// In a clause it is which inbox it is, the executor whose jobs it is for, and how many it has room for. No clause knows
-/// what is inside, since other threads may change it at any moment; what holds of it is said in `laws`. Where an inbox is
-/// dropped, the jobs inside are spent.
+/// A job comes out with the ticket with which it went in. In a clause an inbox is which one it is, the site whose jobs it
+/// is for, and how many it has room for. No clause knows what is inside, since other threads may change it at any moment;
+/// what holds of it is said in `laws`. Where an inbox is dropped, the jobs inside are spent, and their tickets are gone.
 pub struct Inbox {
     pub(crate) queue: Queue,
     site: ExecutorSite,
@@ -74,7 +76,7 @@ fn make_placed<K: Placed>(queue: &Queue, first: &mut RawPass, site: &ExecutorSit
 }
 
 impl Inbox {
-    /// An empty inbox for the jobs of this executor, with room for so many, at least 1, and its first pass. The only call that takes
+    /// An empty inbox for the jobs of this site, with room for so many, at least 1, and its first pass. The only call that takes
     /// memory: a place for each job and 8 bytes beside it, and each place is marked as empty. An `Err` says that a growth
     /// was refused, and a room of 2^60 or more is refused too.
     pub fn new(alloc: Global, site: ExecutorSite, room: usize) -> Result<(Inbox, Pass), AllocError>
@@ -88,7 +90,7 @@ impl Inbox {
         Ok((Inbox { queue, site }, Pass { raw }))
     }
 
-    /// The executor whose jobs it is for.
+    /// The site whose jobs it is for.
     pub fn site(&self) -> &ExecutorSite
         ensures { result.now ≡ self.now.site }
     {
@@ -106,34 +108,27 @@ impl Inbox {
     /// Puts a job in, as the newest. Where the inbox was found full, the job comes back, and nothing has changed. It takes no
     /// memory, and constant time where no other thread is in the way.
     ///
-    /// For a job that can run at the inbox's executor: its body is of that script and has not ended, and its running
-    /// frame is of an actor of that executor.
-    pub fn put<R: Wait>(&self, rt: &R, pass: &mut Pass, job: Job<Body>) -> Result<(), Job<Body>>
+    /// For a job that can run at the inbox's executor: its body is of that script and has not ended, its running frame is
+    /// of an actor of that executor, and the book of the inbox's site gave it, or none where that names none.
+    pub fn put<R: Wait>(&self, rt: &R, pass: &mut Pass, job: TicketedJob) -> Result<(), TicketedJob>
         requires pass { IsPassOf self.now pass.old }
         requires job { CanRunAt self.now.site job }
-        ensures ok { OnOk result (pass.new ≡ has_pushed pass.old job) }
+        ensures ok { OnOk result (pass.new ≡ has_pushed pass.old job.job) }
         ensures back { IfErr result (λ back. back ≡ job) }
         ensures kept { OnErr result (pass.new ≡ pass.old) }
     {
-        let item = Item::of(job);
-        match self.queue.push_as::<Puts, R>(rt, &mut pass.raw, item) {
-            Ok(()) => Ok(()),
-            Err(item) => Err(item.into_job()),
-        }
+        self.queue.push_as::<Puts, R>(rt, &mut pass.raw, job)
     }
 
-    /// Takes the oldest job out, which can run at the inbox's executor. Nothing where the inbox was empty at some moment
-    /// of the call. It takes no memory, and constant time where no other thread is in the way.
-    pub fn take<R: Wait>(&self, rt: &R, pass: &mut Pass) -> Option<Job<Body>>
+    /// Takes the oldest job out, which can run at the inbox's executor, with its ticket where a book gave it. Nothing where the
+    /// inbox was empty at some moment of the call. It takes no memory, and constant time where no other thread is in the way.
+    pub fn take<R: Wait>(&self, rt: &R, pass: &mut Pass) -> Option<TicketedJob>
         requires pass { IsPassOf self.now pass.old }
-        ensures some { IfSome result (λ job. pass.new ≡ has_taken pass.old job) }
-        ensures job { IfSome result (λ job. CanRunAt self.now.site job) }
+        ensures some { IfSome result (λ t. pass.new ≡ has_taken pass.old t.job) }
+        ensures job { IfSome result (λ t. CanRunAt self.now.site t) }
         ensures none { IfNone result (pass.new ≡ pass.old) }
     {
-        match self.queue.pop_as::<Takes, R>(rt, &mut pass.raw) {
-            Some(item) => Some(item.into_job()),
-            None => None,
-        }
+        self.queue.pop_as::<Takes, R>(rt, &mut pass.raw)
     }
 
     /// Whether the inbox was empty at one moment of the call: two loads, and it never waits. A thread that finds it empty need
@@ -146,7 +141,7 @@ impl Inbox {
         self.queue.is_empty_as::<Takes>(&mut pass.raw)
     }
 
-    /// Gives the inbox up: what is inside goes onto a list, the oldest first. It takes no memory.
+    /// Gives the inbox up: what is inside goes onto a list, the oldest first, and the tickets are given up. It takes no memory.
     ///
     /// With the list comes the pass by which the jobs were taken out: its account is what came onto the list. That pass is
     /// made here, so it knows no executor; a pass that threads share can't be kept in the inbox.
@@ -160,7 +155,7 @@ impl Inbox {
         let mut raw = queue.pass();
         'drain: for _ in 0..queue.capacity() {
             match queue.pop_as::<Takes, R>(rt, &mut raw) {
-                Some(item) => list.push_reserved(item.into_job()),
+                Some(job) => list.push_reserved(job.into_job()),
                 None => break,
             }
         }

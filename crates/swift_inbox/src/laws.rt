@@ -4,9 +4,7 @@
 ghost use Rattle.std.specs.Prelude.{◌≡◌, ℕ, List, ◌++◌, map, All, IsPermutation, Some};
 ghost use mathlib.Core.Option.{some};
 ghost use lib.ListN.{get_elem?};
-ghost use Rattle.swift_queue.specs.Job.{JobIs};
-ghost use Rattle.swift_turn.specs.Body.{BodyView};
-ghost use Rattle.swift_inbox.specs.Sent.{job_view};
+ghost use Rattle.swift_ticket.specs.Tickets.{TicketedIs, job_view};
 ghost use Rattle.swift_inbox.specs.declared.view.PassView.{PassView};
 ghost use Rattle.swift_inbox.specs.Site.{Site, CanRunAt};
 ghost use Rattle.swift_inbox.specs.Rule.{InboxInvariant, pushed_in, taken_in};
@@ -15,34 +13,34 @@ ghost use Rattle.swift_turn.specs.contracts.body.Body as body;
 ghost use Rattle.swift_inbox.specs.contracts.inbox.Inbox as inbox;
 ghost use Rattle.swift_inbox.specs.contracts.pass.Pass as pass;
 
-use crate::item::Item;
 use crate::rule::InboxRule;
 use crate::view::PassView;
 use crossbeam_queue::protocol::Protocol;
+use swift_ticket::TicketedJob;
 
 /// What the queue of an inbox keeps between any two steps is the rule (our own).
 pub fn inbox_keeps_its_rule()
-    ensures { (inside : List (JobIs BodyView)) (views : List PassView)
-        → ⟦<InboxRule as Protocol<Item, PassView>>⟧.holds inside views → InboxInvariant inside views }
+    ensures { (inside : List TicketedIs) (views : List PassView)
+        → ⟦<InboxRule as Protocol<TicketedJob, PassView>>⟧.holds inside views → InboxInvariant inside views }
 {}
 
 /// The jobs that were put in, through any pass, are those that were taken out and those inside, up to order: each as
 /// often as it was put in (our own).
 pub fn nothing_is_lost()
-    ensures { (inside : List (JobIs BodyView)) (views : List PassView) → InboxInvariant inside views
-        → IsPermutation (pushed_in views) (taken_in views ++ map job_view inside) }
+    ensures { (inside : List TicketedIs) (views : List PassView) → InboxInvariant inside views
+        → IsPermutation (pushed_in views) (taken_in views ++ map (λ t. job_view t.job) inside) }
 {}
 
 /// Each job inside can run at the executor that a pass knows (our own).
 pub fn each_inside_can_run()
-    ensures { (inside : List (JobIs BodyView)) (views : List PassView) → InboxInvariant inside views
+    ensures { (inside : List TicketedIs) (views : List PassView) → InboxInvariant inside views
         → (pass : ℕ) (v : PassView) (site : Site) → get_elem? views pass ≡ some v → v.site ≡ Some site
         → All (CanRunAt site) inside }
 {}
 
 /// All passes of an inbox that know an executor know the same (our own).
 pub fn one_executor()
-    ensures { (inside : List (JobIs BodyView)) (views : List PassView) → InboxInvariant inside views
+    ensures { (inside : List TicketedIs) (views : List PassView) → InboxInvariant inside views
         → (a b : ℕ) (v w : PassView) (s t : Site) → get_elem? views a ≡ some v → get_elem? views b ≡ some w
         → v.site ≡ Some s → w.site ≡ Some t → s ≡ t }
 {}

@@ -5,9 +5,6 @@
 // The inbox, and what its calls answer.
 mod inbox;
 
-// What lies in an inbox.
-mod item;
-
 // What holds between any two steps of an inbox.
 pub mod laws;
 

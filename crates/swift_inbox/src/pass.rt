@@ -4,13 +4,13 @@ ghost use Rattle.std.specs.Prelude.{◌≡◌};
 ghost use Rattle.swift_inbox.specs.Inbox.{IsPassOf, new_pass};
 
 use crate::inbox::Inbox;
-use crate::item::Item;
 use crate::rule::NewPass;
 use crate::view::PassView;
 use std::marker::Model;
+use swift_ticket::TicketedJob;
 
 /// What the queue calls a pass.
-pub(crate) type RawPass = crossbeam_queue::Pass<Item, PassView>;
+pub(crate) type RawPass = crossbeam_queue::Pass<TicketedJob, PassView>;
 
 /// A thread's right to put jobs into one inbox, and to take them out. An inbox is made with its first pass, and each
 /// further one is split from another. A pass may go to another thread, and can't be shared: each of its steps changes

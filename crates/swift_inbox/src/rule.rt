@@ -1,14 +1,14 @@
 //! The rule of an inbox, and what each kind of step tells its pass.
 
-use crate::item::Item;
 use crate::view::PassView;
 use crossbeam_queue::protocol::{Lesson, Outcome, Protocol, Split};
 use std::marker::{Brand, PhantomData};
+use swift_ticket::TicketedJob;
 
 /// The rule.
 pub struct InboxRule;
 
-impl Protocol<Item, PassView> for InboxRule {
+impl Protocol<TicketedJob, PassView> for InboxRule {
     ghost use Rattle.swift_inbox.specs.Rule.{InboxInvariant, blank};
 
     ghost holds = { InboxInvariant };
@@ -19,28 +19,28 @@ impl Protocol<Item, PassView> for InboxRule {
 /// A job is put in.
 pub struct Puts;
 
-impl Outcome<Item, PassView> for Puts {
+impl Outcome<TicketedJob, PassView> for Puts {
     ghost use Rattle.std.specs.Prelude.{◌≡◌};
     ghost use Rattle.swift_inbox.specs.Rule.{with_pushed};
 
-    ghost then = { λ v job w. w ≡ with_pushed v job };
+    ghost then = { λ v t w. w ≡ with_pushed v t.job };
 }
 
 /// The oldest job is taken out.
 pub struct Takes;
 
-impl Outcome<Item, PassView> for Takes {
+impl Outcome<TicketedJob, PassView> for Takes {
     ghost use Rattle.swift_inbox.specs.Rule.{IsTaken};
 
     ghost then = { IsTaken };
 }
 
 // No step learns what else is inside, since no pass knows what the others do.
-impl Lesson<Item, PassView> for Puts {
+impl Lesson<TicketedJob, PassView> for Puts {
     ghost fact = { λ _ _. Unit {0} };
 }
 
-impl Lesson<Item, PassView> for Takes {
+impl Lesson<TicketedJob, PassView> for Takes {
     ghost fact = { λ _ _. Unit {0} };
 }
 

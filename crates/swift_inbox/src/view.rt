@@ -1,22 +1,22 @@
 //! What a pass knows of its inbox. No value of these types is made.
 
-use crate::item::Item;
 use crate::site::ExecutorSite;
 use std::collections::LinkedList;
 use std::marker::Model;
+use swift_ticket::TicketedJob;
 
 /// A job that went through a pass: its task, number, resume and frames.
 pub struct NotedJob {
-    item: Item,
+    ticketed: TicketedJob,
 }
 
 impl Model for NotedJob {
     ghost use Rattle.swift_history.specs.TurnEnds.{JobView};
-    ghost use Rattle.swift_inbox.specs.Sent.{job_view};
+    ghost use Rattle.swift_ticket.specs.Tickets.{job_view};
 
     ghost Value = { JobView };
 
-    ghost view = { λ n. job_view n.item };
+    ghost view = { λ n. job_view n.ticketed.job };
 }
 
 /// A pass's view.

@@ -1,6 +1,6 @@
 use Rattle.std.proofs.Common.{rules, arith, ◌≡◌, length, ◌++◌, ◌∷◌, [], ◌+◌, refl, sym, ap, ◌∙◌, append-nil, length-append}
 use Rattle.std.proofs.lemmas.List.{map-append}
-use Rattle.swift_inbox.specs.Sent.{job_view}
+use Rattle.swift_ticket.specs.Tickets.{job_view}
 use Rattle.swift_inbox.specs.Inbox.{InboxIs}
 use Rattle.swift_inbox.proofs.AccountIsKept.{admits, takes, goes_on}
 use Rattle.swift_inbox.proofs.inbox.Inbox.drain.Goals as goal

@@ -1,6 +1,6 @@
 use Rattle.std.proofs.Common.{List, ◌≡◌, ◌++◌, length, map, vec_capacity, None, []}
 use Rattle.crossbeam_queue.specs.Passes.{view, IsPassOf as IsRawPassOf}
-use Rattle.swift_inbox.specs.Sent.{job_view}
+use Rattle.swift_ticket.specs.Tickets.{job_view}
 use Rattle.swift_queue.specs.Job.{JobIs}
 use Rattle.swift_turn.specs.Body.{BodyView}
 use Rattle.swift_inbox.proofs.inbox.Inbox.drain.Given as goal
