@@ -11,6 +11,7 @@ pub mod Roots
 pub mod Begins
 pub mod Applied
 pub mod Parts
+pub mod Ordered
 pub mod Folding
 pub mod Legal
 pub mod Frames

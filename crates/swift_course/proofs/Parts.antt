@@ -10,17 +10,17 @@ use Rattle.swift_script.specs.Scripts.{ScriptView, executor_count, root_count}
 use Rattle.swift_history.specs.Histories.{Block, records_of, roots_of}
 use Rattle.swift_course.specs.Course.{IsCourse, IsGiven, IsIn, IsOwned, SeatIsRight, is_for, one_if, standing, tickets_in, waits}
 use Rattle.swift_course.specs.Reports.{SeatsLearn}
-use Rattle.swift_course.specs.Seats.{AccountsMayBeOpened, RunsBegin, SeatsMayBeGathered, TicketsMayBeParted, account_parted, first_view, gathered, maker_left, number_of, one_more, ticket_left, ticket_parted}
+use Rattle.swift_course.specs.Seats.{AccountsMayBeOpened, RunsBegin, SeatsMayBeGathered, SomeTicketsMayBeParted, TicketsMayBeParted, account_parted, first_view, gathered, maker_left, number_of, one_more, some_left, some_parted}
 use Rattle.swift_course.specs.Steps.{BooksMayStay}
 use Rattle.swift_known.specs.Views.{Account, BookFacts, Maker, SeatView, Ticket, no_view}
 use Rattle.swift_course.proofs.Lists.{all_each, at_push, at_set, count_append, equal, if_some, set_again, set_else, total_set, unequal}
 
 -- each task can go on in as many ways as before
-record SameWays (facts : BookFacts) (views views' : List SeatView) : Type 0 where
-  sums : (x : ℕ) → sum_by (tickets_in x) views' ≡ sum_by (tickets_in x) views
+pub record SameWays (facts : BookFacts) (views views' : List SeatView) : Type 0 where
+  pub sums : (x : ℕ) → sum_by (tickets_in x) views' ≡ sum_by (tickets_in x) views
 
 -- the rule, with other seats, of the same history
-course_with : (facts : BookFacts) (views views' : List SeatView) (c : IsCourse facts views) (maker : Maker) (maker_seat : ℕ) (owner : ℕ → ℕ) → SameWays facts views views' → maker.roots ≡ c.maker.roots → c.maker.executors ≤ maker.executors → maker.executors ≤ executor_count facts.script
+pub course_with : (facts : BookFacts) (views views' : List SeatView) (c : IsCourse facts views) (maker : Maker) (maker_seat : ℕ) (owner : ℕ → ℕ) → SameWays facts views views' → maker.roots ≡ c.maker.roots → c.maker.executors ≤ maker.executors → maker.executors ≤ executor_count facts.script
     → ((seat : ℕ) (v : SeatView) → get_elem? views' seat ≡ some v → SeatIsRight facts.script c.blocks owner maker maker_seat seat v) → IsCourse facts views'
 course_with facts views views' c maker maker_seat owner same roots more few seats = record {
   blocks = c.blocks;
@@ -92,26 +92,26 @@ seat_learns v facts views seat c at =
 pub book_stays : BooksMayStay
 book_stays v taken views seat c at = (v, subst (IsCourse taken) (sym (set_again views seat v at)) c, refl)
 
--- a ticket gets a seat
+-- tickets get a seat
 
-tickets_cut : (x : ℕ) (ks : List Ticket) → count_by (is_for x) (take 1 ks) + count_by (is_for x) (drop 1 ks) ≡ count_by (is_for x) ks
-tickets_cut x ks = sum_by-take-drop (λ (k : Ticket). one_if (is_for x k)) ks 1
+tickets_cut : (x n : ℕ) (ks : List Ticket) → count_by (is_for x) (take n ks) + count_by (is_for x) (drop n ks) ≡ count_by (is_for x) ks
+tickets_cut x n ks = sum_by-take-drop (λ (k : Ticket). one_if (is_for x k)) ks n
 
-pub ticket_parts : TicketsMayBeParted
-ticket_parts v facts views seat c at =
-    let left = ticket_left v in
-    let right = ticket_parted v in
+pub tickets_part : SomeTicketsMayBeParted
+tickets_part v n facts views seat c at =
+    let left = some_left n v in
+    let right = some_parted n v in
     let front = set views seat left in
     let s = c.seats seat v at in
     let given = IsGiven (standing facts.script c.blocks) in
     let same : SameWays facts views (front ++ right ∷ []) =
-    record { sums = λ x. (let t = total_set (tickets_in x) views seat v left at in let p = sum_by_push (tickets_in x) front right in let cut = tickets_cut x v.tickets in omega (arith, t, p, cut)) }
+    record { sums = λ x. (let t = total_set (tickets_in x) views seat v left at in let p = sum_by_push (tickets_in x) front right in let cut = tickets_cut x n v.tickets in omega (arith, t, p, cut)) }
     in
     let left_right : SeatIsRight facts.script c.blocks c.owner c.maker c.maker_seat seat left =
-    record { script_is = s.script_is; accounts = s.accounts; owns = s.owns; tickets = All-drop given 1 v.tickets s.tickets; maker_is = s.maker_is }
+    record { script_is = s.script_is; accounts = s.accounts; owns = s.owns; tickets = All-drop given n v.tickets s.tickets; maker_is = s.maker_is }
     in
     let right_right : (j : ℕ) → SeatIsRight facts.script c.blocks c.owner c.maker c.maker_seat j right =
-    (λ j. record { script_is = s.script_is; accounts = All-nil (IsIn c.blocks); owns = All-nil (IsOwned c.owner c.maker.executors j); tickets = All-take given 1 v.tickets s.tickets; maker_is = tt })
+    (λ j. record { script_is = s.script_is; accounts = All-nil (IsIn c.blocks); owns = All-nil (IsOwned c.owner c.maker.executors j); tickets = All-take given n v.tickets s.tickets; maker_is = tt })
     in
     course_with facts views (front ++ right ∷ []) c c.maker c.maker_seat c.owner same refl (omega arith) c.few
     (λ j u there. elim (at_push front right u j there) [
@@ -121,6 +121,9 @@ ticket_parts v facts views seat c at =
       ]
       | inr x ↦ subst (SeatIsRight facts.script c.blocks c.owner c.maker c.maker_seat j) x.1 (right_right j)
     ])
+
+pub ticket_parts : TicketsMayBeParted
+ticket_parts v = tickets_part v 1
 
 -- a seat for the next executor
 

@@ -23,6 +23,16 @@ first_view script = record { script = Some script; accounts = []; tickets = []; 
 abbrev pub RunsBegin : Type 0
 RunsBegin = (script : ScriptView) → IsCourse (first_facts script) (first_view script ∷ [])
 
+-- the first tickets, so many, go to a seat of their own
+abbrev pub some_left : ℕ → SeatView → SeatView
+some_left n v = record v { tickets = drop n v.tickets }
+
+abbrev pub some_parted : ℕ → SeatView → SeatView
+some_parted n v = record { script = v.script; accounts = []; tickets = take n v.tickets; maker = None }
+
+abbrev pub SomeTicketsMayBeParted : Type 0
+SomeTicketsMayBeParted = (v : SeatView) (n : ℕ) → MayPart v (some_left n v) (some_parted n v)
+
 -- the first ticket goes to a seat of its own
 abbrev pub ticket_left : SeatView → SeatView
 ticket_left v = record v { tickets = drop 1 v.tickets }

@@ -1,5 +1,5 @@
 -- What the holder of a book may do to it, and what its seat knows then: a root is added, a turn begins, a turn is applied (our own).
-use Rattle.std.specs.Prelude.{◌≡◌, ℕ, ◌+◌, true, nat_lt, Some, None, List, [], ◌∷◌, ◌++◌, map, set}
+use Rattle.std.specs.Prelude.{◌≡◌, ℕ, ◌+◌, true, nat_lt, Some, None, List, [], ◌∷◌, ◌++◌, map, set, IsPermutation}
 use mathlib.Core.Option.{some}
 use lib.ListN.{get_elem?}
 use Rattle.script_code.specs.declared.env.Env.{Env}
@@ -90,3 +90,8 @@ TurnsMayBeApplied = (v : SeatView) (taken : BookFacts) (a : Account) (k : Ticket
 -- A seat may give back what it took.
 abbrev pub BooksMayStay : Type 0
 BooksMayStay = (v : SeatView) (taken : BookFacts) → MayGive v taken taken v
+
+-- What a seat may give back does not depend on the order of its tickets.
+abbrev pub TicketsMayBeOrdered : Type 0
+TicketsMayBeOrdered = (v : SeatView) (tickets : List Ticket) (taken given : BookFacts) (known : SeatView) → IsPermutation v.tickets tickets
+    → MayGive (record v { tickets = tickets }) taken given known → MayGive v taken given known

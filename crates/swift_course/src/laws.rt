@@ -3,8 +3,8 @@
 ghost use Rattle.swift_course.specs.Frames.{FramesGoOn};
 ghost use Rattle.swift_course.specs.Reports.{RunsAreLegal, SeatsLearn};
 ghost use Rattle.swift_course.specs.Rule.{GivesAreKept, JoinsAreKept, PartsAreKept, SeatsLearnOf};
-ghost use Rattle.swift_course.specs.Seats.{AccountsMayBeOpened, RunsBegin, SeatsMayBeGathered, TicketsMayBeParted};
-ghost use Rattle.swift_course.specs.Steps.{BooksMayStay, RootsMayBeAdded, TurnsMayBeApplied, TurnsMayBegin};
+ghost use Rattle.swift_course.specs.Seats.{AccountsMayBeOpened, RunsBegin, SeatsMayBeGathered, SomeTicketsMayBeParted, TicketsMayBeParted};
+ghost use Rattle.swift_course.specs.Steps.{BooksMayStay, RootsMayBeAdded, TicketsMayBeOrdered, TurnsMayBeApplied, TurnsMayBegin};
 
 /// The rule holds of a run that has not begun, with one seat (our own).
 pub fn runs_begin()
@@ -34,6 +34,16 @@ pub fn turns_may_begin()
 /// The turn of a seat's ticket that is applied, with its record in the seat's account, keeps the rule (our own).
 pub fn turns_may_be_applied()
     ensures { TurnsMayBeApplied }
+{}
+
+/// What a seat may do with its first ticket it may do with any other (our own).
+pub fn tickets_may_be_ordered()
+    ensures { TicketsMayBeOrdered }
+{}
+
+/// The first tickets of a seat, however many, that get a seat of their own keep the rule (our own).
+pub fn some_tickets_may_be_parted()
+    ensures { SomeTicketsMayBeParted }
 {}
 
 /// A ticket that gets a seat of its own keeps the rule (our own).
