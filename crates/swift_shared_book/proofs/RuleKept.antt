@@ -1,9 +1,8 @@
 -- The rule of a shared book, at each call.
-use Rattle.std.proofs.Common.{◌≡◌, ℕ, ◌+◌, true, List, [], ◌∷◌, ◌++◌, length, take, drop, map, refl, sym, ap, ◌∙◌, subst}
+use Rattle.std.proofs.Common.{◌≡◌, ℕ, ◌+◌, ◌≤◌, List, [], ◌∷◌, ◌++◌, length, drop, map, refl, sym, ap, ◌∙◌, subst, arith}
 use Rattle.std.specs.Prelude.{Option, Some, None, IfSome, IsSomeAnd}
-use Rattle.std.proofs.lemmas.List.{append-nil, drop-map, length-map, map-append}
+use Rattle.std.proofs.lemmas.List.{drop-map, length-append, length-map, map-append}
 use Rattle.std.proofs.lemmas.List.Sorted.{IsPermutation-to_front}
-use Rattle.std.proofs.lemmas.Option.{none-some}
 use Rattle.std.proofs.Math.Seq.{drop-append_seam}
 use Rattle.script_code.specs.declared.env.Env.{Env}
 use Rattle.swift_script.specs.Scripts.{ScriptView, root_count}
@@ -15,21 +14,21 @@ use Rattle.swift_events.specs.Room.{IsEnv}
 use Rattle.swift_journal.specs.Records.{RecordView}
 use Rattle.swift_history.specs.TurnEnds.{JobView, root_events, root_job}
 use Rattle.swift_lock.specs.Seat.{MayUnlock}
-use Rattle.swift_tasks.specs.Books.{BookView, IsEndOf, empty_book, job_view}
+use Rattle.swift_tasks.specs.Books.{BookView, IsEndOf, empty_book, end_of_turn, job_view}
 use Rattle.swift_tasks.specs.Refusals.{refusal_of_apply, refusal_of_begin, refusal_of_root}
 use Rattle.swift_known.specs.Views.{Account, BookFacts, Maker, SeatView, Ticket, fresh}
 use Rattle.swift_known.specs.declared.known.BookImage.{BookImage}
 use Rattle.swift_known.specs.declared.known.Known.{Known}
 use Rattle.swift_course.specs.Course.{IsCourse}
 use Rattle.swift_course.specs.Rule.{HoldsOf}
-use Rattle.swift_course.specs.Seats.{first_view}
+use Rattle.swift_course.specs.Seats.{first_view, gathered, some_parted}
 use Rattle.swift_course.specs.Steps.{MayGive, end_of, knowing_begin, knowing_turn, with_record}
 use Rattle.swift_course.proofs.Ordered.{known_ordered, tickets_ordered}
 use Rattle.swift_course.proofs.Parts.{book_stays, run_begins}
 use Rattle.swift_course.proofs.Rule.{gives}
 use Rattle.swift_book_steps.specs.Calls.{facts_of}
 use Rattle.swift_book_steps.proofs.Calls.{apply_keeps, begin_keeps, root_keeps}
-use Rattle.swift_shared_book.specs.Shared.{BeginsTicket, HasPlayed, HasTicket, facts_in}
+use Rattle.swift_shared_book.specs.Shared.{BeginsTicket, HasPlayed, HasTicket, facts_in, tickets_view}
 use Rattle.swift_shared_book.specs.Steps.{KnowsRoot, MayGiveBack, knowing_record}
 
 -- a lock is made
@@ -81,6 +80,19 @@ roots held v m b b' j is makes may ends job =
     let known : KnowsRoot v (facts_of b) w = subst (λ (o : Option Maker). IfSome o (λ n. w ≡ knowing_next (root_job b.script n.roots) n v)) (sym makes) refl in
     subst (λ (h : Option BookFacts). MayGiveBack v h (facts_of b') (KnowsRoot v)) (sym is) (w, known, give)
 
+pub roots_at : (held : Option BookFacts) (v : SeatView) (m : Maker) (n : ℕ) (b b' : BookView) (j : JobIs BodyView) → held ≡ Some (facts_of b) → v.maker ≡ Some m → m.roots ≡ n
+    → refusal_of_root b.script b.log n ≡ None → b' ≡ record b { log = b.log ++ root_events b.script n } → job_view j ≡ root_job b.script n → MayGiveBack v held (facts_of b') (KnowsRoot v)
+roots_at held v m n b b' j is makes same may ends job =
+    let back = sym same in
+    roots held v m b b' j is makes (subst (λ (x : ℕ). refusal_of_root b.script b.log x ≡ None) back may) (subst (λ (x : ℕ). b' ≡ record b { log = b.log ++ root_events b.script x }) back ends)
+    (subst (λ (x : ℕ). job_view j ≡ root_job b.script x) back job)
+
+-- its ticket, parted from the others
+pub root_parted : (v w : SeatView) (m : Maker) (n : ℕ) (taken : BookFacts) (j : JobIs BodyView) → v.maker ≡ Some m → m.roots ≡ n → KnowsRoot v taken w → job_view j ≡ root_job taken.script n → some_parted 1 w ≡ tickets_view v.script (j ∷ [])
+root_parted v w m n taken j makes same known job =
+    let is : w ≡ knowing_next (root_job taken.script m.roots) m v = subst (λ (o : Option Maker). IfSome o (λ x. w ≡ knowing_next (root_job taken.script x.roots) x v)) makes known in
+    ap (some_parted 1) is ∙ ap (λ (x : JobView). record { script = v.script; accounts = []; tickets = fresh x ∷ []; maker = None }) (ap (root_job taken.script) same ∙ sym job)
+
 -- a turn was applied
 
 made_are : (before after : List (JobIs BodyView)) (made : List JobView) → map job_view after ≡ map job_view before ++ made → map job_view (drop (length before) after) ≡ made
@@ -127,3 +139,34 @@ pub applies : (place : Option (JobIs BodyView)) (held : Option BookFacts) (v : S
 applies None held v script b b' newest effects exit before after is of_script played may ends same = absurd played
 applies (Some j) held v script b b' newest effects exit before after is of_script played may ends same =
     job_applies held v b b' newest effects exit before after j is (subst (λ (s : ScriptView). IsPlayedIn s v newest effects exit j) (sym of_script) played) may ends same
+
+-- the jobs of a list, after a turn that made some more
+
+pub jobs_made : (place : Option (JobIs BodyView)) (b b' : BookView) (effects : List EffectView) (exit : ExitView) (before after : List (JobIs BodyView))
+    → IsSomeAnd place (λ j. IsEndOf b (map job_view before) j effects exit b'.log b'.held (map job_view after)) → (made : List JobView) × (map job_view after ≡ map job_view before ++ made)
+jobs_made None b b' effects exit before after ends = absurd ends
+jobs_made (Some j) b b' effects exit before after ends = ((end_of_turn b j effects exit).jobs, ends.jobs_are)
+
+pub no_fewer : (before after : List (JobIs BodyView)) (made : List JobView) → map job_view after ≡ map job_view before ++ made → length before ≤ length after
+no_fewer before after made is =
+    let n : length (map job_view after) ≡ length (map job_view before ++ made) = ap length is in
+    omega (arith, n, length-map after job_view, length-map before job_view, length-append (map job_view before) made)
+
+two_maps : (l : List (JobIs BodyView)) → map (λ j. fresh (job_view j)) l ≡ map fresh (map job_view l)
+two_maps [] = refl
+two_maps (j ∷ l) = ap (λ (ks : List Ticket). fresh (job_view j) ∷ ks) (two_maps l)
+
+-- their tickets
+pub tickets_after : (script other : Option ScriptView) (before after : List (JobIs BodyView)) (made : List JobView) → map job_view after ≡ map job_view before ++ made
+    → gathered (tickets_view script (drop (length before) after)) (tickets_view other before) ≡ tickets_view script after
+tickets_after script other before after made is =
+    let ticket : JobIs BodyView → Ticket = λ j. fresh (job_view j) in
+    let more = drop (length before) after in
+    let same : map ticket before ++ map ticket more ≡ map ticket after =
+    ap (λ (l : List Ticket). l ++ map ticket more) (two_maps before)
+    ∙ ap (λ (l : List Ticket). map fresh (map job_view before) ++ l) (two_maps more ∙ ap (map fresh) (made_are before after made is))
+    ∙ sym (map-append fresh (map job_view before) made)
+    ∙ ap (map fresh) (sym is)
+    ∙ sym (two_maps after)
+    in
+    ap (λ (l : List Ticket). record { script = script; accounts = []; tickets = l; maker = None }) same

@@ -1,7 +1,6 @@
 -- What seats know, in the shapes that the calls give it.
-use Rattle.std.proofs.Common.{◌≡◌, true, List, [], ◌∷◌, ◌++◌, length, take, drop, map, reverse, refl, sym, ap, ◌∙◌, subst}
-use Rattle.std.specs.Prelude.{Option, Some, None, IfSome, IsSome, IsSomeAnd}
-use Rattle.std.specs.List.{AllByRecursion}
+use Rattle.std.proofs.Common.{◌≡◌, Bool, true, false, List, [], ◌∷◌, ◌++◌, length, take, drop, map, refl, sym, ap, ◌∙◌}
+use Rattle.std.specs.Prelude.{Option, Some, None, IfSome, IsSome}
 use Rattle.std.proofs.lemmas.Bool.{false≢true}
 use Rattle.std.proofs.lemmas.List.{append-nil, map-append}
 use Rattle.swift_script.specs.Scripts.{ScriptView}
@@ -13,7 +12,7 @@ use Rattle.swift_known.specs.Views.{Account, SeatView, Ticket, fresh}
 use Rattle.swift_known.specs.declared.known.Known.{Known}
 use Rattle.swift_course.specs.Seats.{gathered, some_left, some_parted}
 use Rattle.swift_shared_book.specs.Shared.{BookLockIs, BookSeatIs, after_turn, is_there, seat_of, tickets_view, view_in, with_ticket}
-use Rattle.swift_shared_book.specs.SharedInside.{IsOneAtMost}
+use Rattle.swift_shared_book.specs.SharedInside.{HasTicketsOf, IsOneAtMost, oldest_first}
 use Rattle.swift_shared_book.specs.Steps.{knowing_record}
 
 -- a badge that is there has one seat
@@ -51,3 +50,16 @@ append_is script other js made = ap (λ (l : List Ticket). record { script = scr
 -- a ticket is taken in
 pub accept_is : (v : SeatView) (script : Option ScriptView) (j : JobIs BodyView) → gathered v (tickets_view script (j ∷ [])) ≡ with_ticket (job_view j) v
 accept_is v script j = ap (λ (l : List Account). record v { accounts = l; tickets = fresh (job_view j) ∷ v.tickets }) (append-nil v.accounts)
+
+-- a seat that has taken in the tickets of more jobs
+pub has_tickets : (seat : BookSeatIs) (l : BookLockIs) (part other : SeatView) (script script' : Option ScriptView) (made jobs items : List (JobIs BodyView)) (is_reversed : Bool) → seat ≡ seat_of l (gathered part other)
+    → part ≡ tickets_view script made → other ≡ tickets_view script' jobs → gathered (tickets_view script made) (tickets_view script' jobs) ≡ tickets_view script items → is_reversed ≡ false → HasTicketsOf (oldest_first is_reversed items) seat
+has_tickets seat l part other script script' made jobs items is_reversed is parted others both way = (
+  ap (λ (s : BookSeatIs). s.here) is,
+  script,
+  ap (λ (s : BookSeatIs). s.knows) is
+  ∙ ap (λ (x : SeatView). gathered x other) parted
+  ∙ ap (gathered (tickets_view script made)) others
+  ∙ both
+  ∙ ap (λ (b : Bool). tickets_view script (oldest_first b items)) (sym way),
+)
