@@ -58,8 +58,8 @@ has_tickets seat l part other script script' made jobs items is_reversed is part
   ap (λ (s : BookSeatIs). s.here) is,
   script,
   ap (λ (s : BookSeatIs). s.knows) is
-  ∙ ap (λ (x : SeatView). gathered x other) parted
-  ∙ ap (gathered (tickets_view script made)) others
-  ∙ both
-  ∙ ap (λ (b : Bool). tickets_view script (oldest_first b items)) (sym way),
+      ∙ ap (λ (x : SeatView). gathered x other) parted
+      ∙ ap (gathered (tickets_view script made)) others
+      ∙ both
+      ∙ ap (λ (b : Bool). tickets_view script (oldest_first b items)) (sym way),
 )

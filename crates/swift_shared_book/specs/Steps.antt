@@ -1,5 +1,5 @@
 -- What the holder of a book may give back, and what its seat knows then (our own).
-use Rattle.std.specs.Prelude.{◌≡◌, ℕ, ◌+◌, Option, Some, None, IfSome, List, ◌∷◌, ◌++◌, map}
+use Rattle.std.specs.Prelude.{◌≡◌, ◌+◌, Option, Some, None, IfSome, List, ◌∷◌, ◌++◌, map}
 use Rattle.swift_journal.specs.Records.{RecordView}
 use Rattle.swift_history.specs.TurnEnds.{JobView, root_job}
 use Rattle.swift_known.specs.Views.{BookFacts, SeatView, fresh}

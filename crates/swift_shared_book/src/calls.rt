@@ -24,7 +24,7 @@ use std::sync::Wait;
 use swift_interpreter::{Effect, Exit};
 use swift_journal::Journal;
 use swift_queue::Job;
-use swift_tasks::{Book, BookFault};
+use swift_tasks::BookFault;
 use swift_turn::Body;
 use swift_types::RootId;
 
@@ -113,9 +113,10 @@ impl BookLock {
         }
     }
 
-    /// Adds the next root, by the seat that adds roots: the job of its first turn comes behind those of the list, with its ticket. The
-    /// refusals are those of `Book::add_root`, and `Memory` comes first where the list can't grow; they leave all as it was. It takes the book once, and time and
-    /// memory as `Book::add_root` does; where jobs were taken out of the list since the last call, time linear in those that are left.
+    /// Adds the next root, by the seat that adds roots: the job of its first turn comes behind those of the list, with its ticket
+    /// (SE-0304; that roots are added in order is our own). The refusals are those of `Book::add_root`, and `Memory` comes first where
+    /// the list can't grow; they leave all as it was. It takes the book once, and time and memory as `Book::add_root` does; where jobs
+    /// were taken out of the list since the last call, time linear in those that are left.
     pub fn add_root<R: Wait>(
         &self,
         rt: &R,

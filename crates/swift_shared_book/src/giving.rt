@@ -40,8 +40,7 @@ impl BookLock {
             book,
             seat: OpenSeat { seat: mut giving },
         } = given;
-        self.lock
-            .unlock::<Begins<K>>(&mut giving, Shelf { book });
+        self.lock.unlock::<Begins<K>>(&mut giving, Shelf { book });
         seat.put(giving);
     }
 
@@ -79,8 +78,7 @@ impl BookLock {
             book,
             seat: OpenSeat { seat: mut giving },
         } = given;
-        self.lock
-            .unlock::<Applies<K>>(&mut giving, Shelf { book });
+        self.lock.unlock::<Applies<K>>(&mut giving, Shelf { book });
         seat.put(giving);
     }
 

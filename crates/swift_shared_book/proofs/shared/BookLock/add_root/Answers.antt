@@ -1,8 +1,7 @@
 use Rattle.std.proofs.Common.{◌≡◌, Option, Some, List, [], ◌∷◌, ◌++◌, IfSome, sym, ap, ◌∙◌, subst}
 use Rattle.swift_turn.specs.Body.{BodyView}
 use Rattle.swift_queue.specs.Job.{JobIs}
-use Rattle.swift_known.specs.Views.{BookFacts, SeatView}
-use Rattle.swift_course.specs.Seats.{some_parted}
+use Rattle.swift_known.specs.Views.{BookFacts}
 use Rattle.swift_tasks.specs.Books.{BookView}
 use Rattle.swift_book_steps.specs.Calls.{facts_of}
 use Rattle.swift_shared_book.specs.Shared.{BookSeatIs, OpenSeatIs, tickets_view}

@@ -1,4 +1,4 @@
-use Rattle.std.proofs.Common.{◌≡◌, Some, rules, refl, sym, ap, ◌∙◌, subst}
+use Rattle.std.proofs.Common.{◌≡◌, Some, rules, sym, ap, ◌∙◌, subst}
 use Rattle.swift_known.specs.Views.{SeatView}
 use Rattle.swift_tasks.specs.Books.{BookView, job_view}
 use Rattle.swift_book_steps.specs.Calls.{facts_of}
