@@ -1,5 +1,5 @@
 -- What a visit to an executor leaves, by what its calls have answered.
-use Rattle.std.proofs.Common.{◌≡◌, ℕ, Option, Some, None, Result, Ok, Err, IfOk, IfErr, IfSome, IfNone, OnOk, OnErr, List, ap, ◌∙◌}
+use Rattle.std.proofs.Common.{◌≡◌, ℕ, Bool, true, sym, subst, [], ◌∷◌, ◌++◌, Option, Some, None, Result, Ok, Err, IfOk, IfErr, IfSome, IfNone, OnOk, OnErr, List, ap, ◌∙◌}
 use Rattle.atomic_table.specs.Seated.{TableId}
 use Rattle.swift_types.specs.declared.id.TaskId.{TaskId}
 use Rattle.swift_events.specs.declared.event.Event.{Event}
@@ -7,12 +7,17 @@ use Rattle.swift_history.specs.TurnEnds.{JobView}
 use Rattle.swift_ledger.specs.Levels.{AreLevels}
 use Rattle.swift_executor.specs.declared.fault.ExecFault.{ExecFault}
 use Rattle.swift_executor.specs.Account.{HasTaken}
-use Rattle.swift_executor.specs.Exec.{chosen_task, site_of}
+use Rattle.swift_inbox.specs.Inbox.{InboxIs, PassIs, has_taken}
+use Rattle.swift_queue.specs.Job.{JobIs}
+use Rattle.swift_tasks.specs.Books.{job_view}
+use Rattle.swift_turn.specs.Body.{BodyView}
+use Rattle.swift_executor.specs.Exec.{IsAt, chosen_task, site_of}
+use Rattle.swift_executor.specs.Ready.{Adds}
 use Rattle.swift_executor.specs.State.{Chooses, ExecView, HasChosen, HasNone, IsPicked, LacksTask}
 use Rattle.swift_executor.specs.Seats.{IsSeatFor}
-use Rattle.swift_shared_book.specs.Shared.{BookSeatIs}
-use Rattle.swift_executor.proofs.AccountKept.{chose, had_none, lacked}
-use Rattle.swift_executor.proofs.SeatKept.{chose_knows, lacked_knows, none_knows}
+use Rattle.swift_shared_book.specs.Shared.{BookLockIs, BookSeatIs, IsSeatOf, knowing, seat_of, with_ticket}
+use Rattle.swift_executor.proofs.AccountKept.{accepted, chose, had_none, lacked}
+use Rattle.swift_executor.proofs.SeatKept.{accepted_knows, chose_knows, lacked_knows, none_knows}
 
 -- what holds after each answer holds
 pub either : {A E : Type 0} (r : Result A E) (P : Type 0) → OnOk r P → OnErr r P → P
@@ -70,3 +75,19 @@ module _ (given : List ℕ) (old new : ExecView) where
     pub is_free : (F : ExecFault → Type 0) (r : Result (Option TaskId) ExecFault) → FaultIs F r → OnErr r (new.chosen ≡ None)
     is_free F (Ok picked) err = tt
     is_free F (Err fault) err = ap (λ (s : ExecView). s.chosen) (err.1 log levels).same ∙ free
+
+-- a seat that was taken and given back as it was is the same
+pub same_seat : (b : BookLockIs) (s : BookSeatIs) → IsSeatOf b s → seat_of b s.knows ≡ s
+same_seat b s is = ap (λ (id : TableId). record { lock = id; here = true; knows = s.knows }) (sym is.0) ∙ ap (λ (h : Bool). record s { here = h }) (sym is.1)
+
+-- a job that was taken out of the inbox is ready, and the seat has its ticket
+pub accepted_at : (i : InboxIs) (p p1 p2 : PassIs) (seat seat' : BookSeatIs) (s s' : ExecView) (sent job : JobIs BodyView) → IsAt i p seat s → s.chosen ≡ None → p2 ≡ has_taken p1 sent → p1 ≡ p → job ≡ sent
+    → seat' ≡ knowing (with_ticket (job_view sent) seat.knows) seat → Adds s.ready job s'.ready → s' ≡ record s { ready = s'.ready } → IsAt i p2 seat' s'
+accepted_at i p p1 p2 seat seat' s s' sent job at free took same_pass of_job takes adds rest =
+    let q : p2 ≡ has_taken p sent = took ∙ ap (λ (x : PassIs). has_taken x sent) same_pass in
+    let adds' : Adds s.ready sent s'.ready = subst (λ (j : JobIs BodyView). Adds s.ready j s'.ready) of_job adds in
+    let lock : seat'.lock ≡ seat.lock = ap (λ (x : BookSeatIs). x.lock) takes in
+    let site : site_of seat'.lock s' ≡ site_of seat.lock s = ap (λ (t : TableId). site_of t s') lock ∙ ap (site_of seat.lock) rest in
+    let has : HasTaken (p.taken ++ job_view sent ∷ []) s' = accepted p.taken sent s s' at.2.2 adds' rest in
+    let knows : IsSeatFor s' seat' = subst (λ (x : BookSeatIs). IsSeatFor s' x) (sym takes) (accepted_knows sent s s' seat at.2.3 free adds' rest) in
+    subst (λ (x : PassIs). IsAt i x seat' s') (sym q) (at.0, site ∙ at.1, (at.2.0 ∙ ap (λ x. Some x) (sym site), at.2.1, has, knows))

@@ -167,3 +167,12 @@ returns-in-Err-clause-known g c =
     c.retract.new.self c.prepare.new.checkpoint.view c.in-Err.ensures.same.0 c.retract.ensures c.in-Ok.ensures.same in
     let back = subst (λ (v : ExecView). HasChosen v (PutsBack v c.put_back-in-Err.new.self)) (same ∙ c.self.view_is) c.put_back-in-Err.ensures in
     subst (λ seat. IsSeatFor c.put_back-in-Err.new.self seat) (sym c.in-Err.ensures.same.1) (back_knows c.args.self.now c.put_back-in-Err.new.self c.args.seat.now c.requires.known back)
+
+pub returns-in_default-clause-known : goal.returns-in_default-clause-known
+returns-in_default-clause-known g c =
+    let x = c.self.inside in
+    let s : ExecView = record { script = arc_value x.script; executor = x.executor.0; ready = x.ready; chosen = chosen_of x.played x.chosen; journal = x.journal; checkpoint = x.checkpoint.view; fields = rows_of x.fields.items } in
+    let same : record s { journal = c.prepare.new.journal; checkpoint = c.prepare.new.checkpoint.view } ≡ c.args.self.now =
+    ap (λ j. record s { journal = j; checkpoint = c.prepare.new.checkpoint.view }) c.in_default.ensures.err ∙ ap (λ v. record s { checkpoint = v }) c.in_default.ensures.same ∙ c.self.view_is in
+    let back = subst (λ (v : ExecView). HasChosen v (PutsBack v c.put_back.new.self)) same c.put_back.ensures in
+    back_knows c.args.self.now c.put_back.new.self c.args.seat.now c.requires.known back
