@@ -14,7 +14,7 @@ use Rattle.swift_history.specs.TurnEnds.{JobView}
 use Rattle.swift_tasks.specs.Books.{BookView, job_view}
 use Rattle.swift_executor.specs.Account.{AreTaken, HasTaken, Seen, chosen_jobs, folded_named, job_named, job_seen, ready_jobs, record_seen}
 use Rattle.swift_executor.specs.Ready.{Adds, Forwards, ReadyIs, ReadyJob, ready_job}
-use Rattle.swift_executor.specs.State.{Begins, Chooses, ChosenView, ExecView, HasChosen, HasNone, Journals, LacksTask, Plays, PutsBack, StageView, picked, begun, played, before_turn, checkpoint_with, journal_with, record_by}
+use Rattle.swift_executor.specs.State.{Begins, Chooses, ChosenView, ExecView, HasChosen, HasNone, Journals, LacksTask, Plays, PutsBack, StageView, played, before_turn, record_by}
 
 module _ {X : Type 0} where
   -- one more was taken, and is ready

@@ -13,12 +13,12 @@ use Rattle.swift_interpreter.specs.Turn.{EffectView, ExitView, calling, waiting,
 use Rattle.swift_turn.specs.Body.{BodyView, HasFirst, IsTurnOf, left}
 use Rattle.swift_queue.specs.Job.{JobIs}
 use Rattle.swift_journal.proofs.Replayed.{replay-append}
-use Rattle.swift_journal.specs.Checkpoints.{CheckpointView, FoldedView, folded_of, folds}
+use Rattle.swift_journal.specs.Checkpoints.{FoldedView, folded_of, folds}
 use Rattle.swift_journal.specs.Records.{RecordView}
 use Rattle.swift_journal.specs.Replay.{IsLawfulRecord, LawfulGrows, fields_after, replay}
 use Rattle.swift_events.specs.declared.event.Event.{Event}
 use Rattle.swift_history.specs.TurnEnds.{JobView}
-use Rattle.swift_tasks.specs.Books.{BookView, job_view}
+use Rattle.swift_tasks.specs.Books.{job_view}
 use Rattle.swift_known.specs.Views.{Account, SeatView, Ticket, fresh}
 use Rattle.swift_course.specs.Frames.{kept_frame}
 use Rattle.swift_course.specs.Steps.{knowing_begin, with_record}
@@ -26,10 +26,10 @@ use Rattle.swift_book_steps.specs.Calls.{IsPlayed}
 use Rattle.swift_shared_book.specs.Shared.{BeginsTicket, BookSeatIs, HasPlayed, HasTicket, after_turn, knowing, with_ticket}
 use Rattle.swift_executor.specs.Account.{ready_jobs}
 use Rattle.swift_executor.specs.Ready.{Adds, ReadyIs, ready_job}
-use Rattle.swift_executor.specs.Seats.{AccountsFor, AreTicketsAt, AreTicketsOf, IsFirst, IsOpened, IsSeatFor, jobs_of, opened_view}
+use Rattle.swift_executor.specs.Seats.{AccountsFor, AreTicketsAt, AreTicketsOf, IsFirst, IsOpened, IsSeatFor, jobs_of}
 use Rattle.swift_executor.specs.State.{Chooses, ChosenView, ExecView, HasChosen, HasNone, IsChosen, IsExecutor, Journals, LacksTask, Plays, PutsBack, StageView, picked, begun, played, before_turn, checkpoint_with, frame_after, journal_with, new_executor, record_by}
 use Rattle.swift_executor.specs.State as state
-use Rattle.swift_executor.proofs.AccountKept.{added, forwarded, front_less, front_moved, front_more}
+use Rattle.swift_executor.proofs.AccountKept.{added, front_less, front_moved, front_more}
 use Rattle.swift_executor.proofs.Cancelled.{has_image, same_others}
 use Rattle.swift_executor.proofs.TurnKept.{recorded}
 

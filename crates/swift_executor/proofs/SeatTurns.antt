@@ -14,7 +14,7 @@ use Rattle.swift_turn.specs.Body.{BodyView}
 use Rattle.swift_shared_book.specs.Shared.{BookSeatIs, HasPlayed, after_turn, knowing, newest}
 use Rattle.swift_executor.specs.Playing.{WritesRecord}
 use Rattle.swift_executor.specs.Seats.{IsSeatFor}
-use Rattle.swift_executor.specs.State.{ChosenView, ExecView, IsExecutor, IsPlayed, Journals, StageView, picked, begun, played, record_by}
+use Rattle.swift_executor.specs.State.{ExecView, IsExecutor, IsPlayed, Journals, StageView, played, record_by}
 use Rattle.swift_executor.specs.StateInside.{chosen_view, stage_of}
 use Rattle.swift_executor.specs.declared.chosen.Played.{Played}
 use Rattle.swift_executor.specs.declared.chosen.Stage.{Stage}

@@ -17,7 +17,8 @@ use crate::exec::Exec;
 use crate::fault::ExecFault;
 use crate::gate::{Gate, Moment};
 use crate::laws::{
-    accept_knows_its_ticket, accept_takes_one, play_loses_none, refusal_loses_none, start_loses_none,
+    accept_knows_its_ticket, accept_takes_one, play_loses_none, refusal_loses_none,
+    start_loses_none,
 };
 use crate::ran::Ran;
 use crate::resting::{Held, Resting};

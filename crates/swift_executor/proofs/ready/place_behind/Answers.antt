@@ -1,9 +1,8 @@
-use Rattle.std.proofs.Common.{◌≢◌, sym, subst, rules}
+use Rattle.std.proofs.Common.{◌≢◌, subst, rules}
 use Rattle.std.proofs.lemmas.List.{take_all}
 use Rattle.std.proofs.lemmas.List.Elements.{All-more}
 use Rattle.std.specs.List.{All}
 use Rattle.swift_queue.specs.Job.{JobIs}
-use Rattle.swift_types.specs.declared.id.TaskId.{TaskId}
 use Rattle.swift_executor.proofs.ready.place_behind.Goals as goal
 
 pub loop-place-preserved : goal.loop-place-preserved

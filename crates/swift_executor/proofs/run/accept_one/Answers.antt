@@ -1,9 +1,3 @@
-use Rattle.std.proofs.Common.{◌≡◌, None, Some, List, ap, sym, subst, ◌∙◌}
-use Rattle.swift_history.specs.TurnEnds.{JobView}
-use Rattle.swift_executor.specs.Account.{HasTaken}
-use Rattle.swift_executor.specs.Exec.{IsAt, site_of}
-use Rattle.swift_executor.specs.Seats.{IsSeatFor}
-use Rattle.swift_executor.specs.State.{ExecView}
 use Rattle.swift_executor.proofs.Visits.{accepted_at}
 use Rattle.swift_executor.proofs.run.accept_one.Goals as goal
 

@@ -1,4 +1,4 @@
-use Rattle.std.proofs.Common.{◌≡◌, ◌+◌, ◌<◌, ◌≤◌, ℕ, List, [], ◌++◌, length, map, sym, subst, ap, ◌∙◌, arith}
+use Rattle.std.proofs.Common.{◌≡◌, ℕ, List, [], ◌++◌, length, map, sym, subst, ap, ◌∙◌, arith}
 use Rattle.swift_queue.specs.Job.{JobIs}
 use Rattle.swift_queue.specs.Queue.{QueueIs}
 use Rattle.swift_queue.specs.declared.waiting.Waiting.{Waiting}
