@@ -74,7 +74,7 @@ accounted_new v w s are replayed =
     let a : Account = record { executor = s.executor; records = are.past ++ s.journal } in
     record {
       past = are.past;
-      account = Contains-append_right v.accounts w.accounts a (subst (λ (as : List Account). Contains as a) (sym are.accounts) (only_one a));
+      account = Contains-append_right v.accounts w.accounts a (subst (λ (accounts : List Account). Contains accounts a) (sym are.accounts) (only_one a));
       folded = are.folded;
       replayed = are.replayed;
       fields_are = replayed;
@@ -92,7 +92,7 @@ pub one_longer : {X : Type 0} (xs : List X) (x : X) (n : ℕ) → length xs ≡ 
 one_longer xs x n is = omega (arith, is, length-append xs (x ∷ []))
 
 -- the parts of the executors of a prefix, and of the one after them, whose state this was, and whose seat was gathered
-pub parts_push : (p : ScriptView) (lock : TableId) (v w : SeatView) (many : ℕ) (old new : Parts) (s : ExecView) (c : CheckpointRoom) (f : Rows) → AreParts p v many old → site_of lock s ≡ record { script = p; executor = many; book = Some lock }
+parts_push : (p : ScriptView) (lock : TableId) (v w : SeatView) (many : ℕ) (old new : Parts) (s : ExecView) (c : CheckpointRoom) (f : Rows) → AreParts p v many old → site_of lock s ≡ record { script = p; executor = many; book = Some lock }
     → IsExecutor s → Keeps s.script s.executor s.fields → AccountsFor s w → c.view ≡ s.checkpoint → rows_of f.items ≡ s.fields → new.checkpoints.items ≡ old.checkpoints.items ++ c ∷ []
     → new.journals.items ≡ old.journals.items ++ s.journal ∷ [] → new.fields.items ≡ old.fields.items ++ f ∷ [] → AreParts p (gathered v w) (many + 1) new
 parts_push p lock v w many old new s c f are site is keeps known checkpoint fields cs js fs =
@@ -127,3 +127,10 @@ parts_push p lock v w many old new s c f are site is keeps known checkpoint fiel
       checkpoints = ap length cs ∙ one_longer old.checkpoints.items c many are.checkpoints;
       fields = ap length fs ∙ one_longer old.fields.items f many are.fields;
     }
+
+-- the same for a seat that knows what was gathered
+pub parts_gathered : (p : ScriptView) (lock : TableId) (v w u : SeatView) (many : ℕ) (old new : Parts) (s : ExecView) (c : CheckpointRoom) (f : Rows) → u ≡ gathered v w → AreParts p v many old → site_of lock s ≡ record { script = p; executor = many; book = Some lock }
+    → IsExecutor s → Keeps s.script s.executor s.fields → AccountsFor s w → c.view ≡ s.checkpoint → rows_of f.items ≡ s.fields → new.checkpoints.items ≡ old.checkpoints.items ++ c ∷ []
+    → new.journals.items ≡ old.journals.items ++ s.journal ∷ [] → new.fields.items ≡ old.fields.items ++ f ∷ [] → AreParts p u (many + 1) new
+parts_gathered p lock v w u many old new s c f same are site is keeps known checkpoint fields cs js fs =
+    subst (λ (x : SeatView). AreParts p x (many + 1) new) (sym same) (parts_push p lock v w many old new s c f are site is keeps known checkpoint fields cs js fs)

@@ -56,7 +56,10 @@ fn ending_of(book: &Book, roots: usize, task: TaskId) -> Result<(Origin, Ending)
         return Err(Halt::Unfinished);
     };
     let is_first = (task.0 as usize) < roots;
-    if is_root(origin) != is_first || !book.has_closed_all(task) {
+    if is_root(origin) != is_first {
+        return Err(Halt::Unfinished);
+    }
+    if !book.has_closed_all(task) {
         return Err(Halt::Unfinished);
     }
     Ok((origin, ending))
@@ -113,6 +116,27 @@ impl Drop for Parts {
         drop(journals);
         drop(checkpoints);
         drop(fields);
+    }
+}
+
+impl Parts {
+    // The report that has these parts, and what the book leaves.
+    fn into_report(self, log: Vec<Event>, endings: Vec<(Origin, Ending)>) -> Report
+        ensures parts { (result.journals ≡ self.journals) × (result.checkpoints ≡ self.checkpoints) × (result.fields ≡ self.fields) }
+        ensures ends { (result.log ≡ log) × (result.endings ≡ endings) }
+    {
+        let Parts {
+            journals,
+            checkpoints,
+            fields,
+        } = self;
+        Report {
+            journals,
+            checkpoints,
+            log,
+            endings,
+            fields,
+        }
     }
 }
 
@@ -227,16 +251,5 @@ pub fn report_of<R: Wait>(
         return Err(Halt::Unfinished);
     };
     let (log, endings) = ends_of(alloc, script, book)?;
-    let Parts {
-        journals,
-        checkpoints,
-        fields,
-    } = parts;
-    Ok(Report {
-        journals,
-        checkpoints,
-        log,
-        endings,
-        fields,
-    })
+    Ok(parts.into_report(log, endings))
 }

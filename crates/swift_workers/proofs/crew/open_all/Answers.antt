@@ -1,4 +1,4 @@
-use Rattle.std.proofs.Common.{◌≡◌, ℕ, List, [], ◌∷◌, ◌++◌, Some, length, refl, sym, subst, ap, ◌∙◌, arith}
+use Rattle.std.proofs.Common.{rules, ◌≡◌, ◌<◌, ℕ, List, [], ◌∷◌, ◌++◌, Some, length, refl, sym, subst, ap, ◌∙◌, arith}
 use Rattle.std.specs.Arc.{arc_value}
 use Rattle.atomic_table.specs.Seated.{TableId}
 use Rattle.swift_script.specs.Scripts.{ScriptView, executor_count}
@@ -15,15 +15,22 @@ open_account-own-requires-clause-seat c = opened_seat c.args.book.now c.args.sea
 
 pub open_account-own-requires-clause-next : goal.open_account-own-requires-clause-next
 open_account-own-requires-clause-next c =
-    let few : c.loop-place.place ≤ 0 = ? in
+    let few : c.loop-place.place < executor_count c.args.book.now.script =
+        subst (λ (p : ScriptView). c.loop-place.place < executor_count p) (sym c.requires.book) (omega (arith, c.loop-place-test.true, c.loop-place.invariant.end)) in
     (record { executors = c.loop-place.place; roots = 0 }, opened_maker c.args.seat.now c.loop-place.seat c.loop-place.place c.loop-place.invariant.seat, few)
 
-pub new-exec-requires-clause-seat : goal.new-exec-requires-clause-seat
-new-exec-requires-clause-seat c =
+pub new-requires-clause-seat : goal.new-requires-clause-seat
+new-requires-clause-seat c =
     opened_account c.args.book.now c.args.seat.now c.loop-place.seat c.open_account-own.result c.loop-place.place (arc_value c.in_ok-script.script) c.requires.seat (c.requires.book ∙ sym c.in_ok-script.ensures.cases) c.loop-place.invariant.seat c.open_account-own.ensures.new
 
 pub loop-place-init : goal.loop-place-init
-loop-place-init c = ?
+loop-place-init c = record {
+  sites = search rules;
+  seat = opened_first c.args.seat.now c.requires.maker;
+  desks = search rules;
+  many = search rules;
+  end = search rules;
+}
 
 pub loop-place-preserved : goal.loop-place-preserved
 loop-place-preserved c =

@@ -5,14 +5,15 @@ use Rattle.swift_script.specs.Scripts.{ScriptView}
 use Rattle.swift_turn.specs.Body.{BodyView}
 use Rattle.swift_tasks.specs.Books.{IsJobOf}
 use Rattle.swift_inbox.specs.Site.{Site}
-use Rattle.swift_executor.specs.Exec.{ExecIs, IsDeskOf}
+use Rattle.swift_executor.specs.Exec.{ExecIs, IsBookOf, IsDeskOf}
 use Rattle.swift_workers.proofs.Desks.{book_at, desk_at, desk_ran, desk_set, site_at}
 use Rattle.swift_workers.proofs.turns.visit.Goals as goal
 
 pub run_one-requires-clause-book : goal.run_one-requires-clause-book
 run_one-requires-clause-book g c =
     let lt : c.args.on.0 < length c.args.crew.execs.now = omega (arith, c.if-place-crew.false) in
-    book_at c.args.crew.book.now c.args.crew.execs.now c.args.on.0 c.index-crew-place.result c.requires.sites lt c.index-crew-place.is
+    subst (λ (x : ExecIs). IsBookOf x c.args.crew.book.now) c.index-crew-place.is
+    (book_at c.args.crew.book.now c.args.crew.execs.now c.args.on.0 c.index-crew-place.result c.requires.sites lt c.index-crew-place.is)
 
 pub returns-clause-desks : goal.returns-clause-desks
 returns-clause-desks g c =
@@ -30,6 +31,7 @@ returns-clause-jobs g c =
     let execs = c.args.crew.execs.now in
     let e = c.index-crew-place.result in
     let lt : c.args.on.0 < length execs = omega (arith, c.if-place-crew.false) in
-    let script : e.inbox.site.script ≡ c.args.crew.script.now = ap (λ (s : Site). s.script) (site_at b execs c.args.on.0 e c.requires.sites lt c.index-crew-place.is) ∙ c.requires.script in
+    let script =
+    ap (λ (x : ExecIs). x.inbox.site.script) (sym c.index-crew-place.is) ∙ ap (λ (s : Site). s.script) (site_at b execs c.args.on.0 e c.requires.sites lt c.index-crew-place.is) ∙ c.requires.script in
     let none : (p : ScriptView) → AllByRecursion (IsJobOf p) c.args.hand.now.jobs.jobs = λ p. subst (λ (xs : List (JobIs BodyView)). AllByRecursion (IsJobOf p) xs) (sym c.requires.hand.none) tt in
     subst (λ (p : ScriptView). AllByRecursion (IsJobOf p) c.run_one.new.jobs.jobs) script (c.in_ok-ran.ensures.bodies (none _))
