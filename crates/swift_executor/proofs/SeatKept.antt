@@ -229,8 +229,13 @@ module _ (s : ExecView) (seat : BookSeatIs) (c : ChosenView) (worker : ℕ) (env
       let tickets = subst (λ (ks : List Ticket). IsPermutation (jobs_of ks) (ready_jobs ready')) (sym rest) (IsPermutation-trans (jobs_of t.1) (ready_jobs s.ready) (ready_jobs ready') t.5 moved) in
       record { here = known.here; account = by (suc (length s.journal) == FOLD); tickets = tickets }
     where
+      r : RecordView
       r = record_by c.job worker env frame effects exit
+
+      a : AccountsFor s seat.knows
       a = known.account
+
+      start : List (List ℤ)
       start = executor_start s.script s.executor
 
       after : rows ≡ replay s.script s.checkpoint.fields (s.journal ++ r ∷ [])

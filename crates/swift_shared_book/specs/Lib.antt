@@ -1,2 +1,3 @@
-pub mod Rule
 pub mod Shared
+pub mod Steps
+pub mod SharedInside

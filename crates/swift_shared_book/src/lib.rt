@@ -5,6 +5,9 @@
 // The calls of the book under its lock.
 mod calls;
 
+// How what was done to the book is given back.
+mod giving;
+
 // Jobs with their tickets.
 mod jobs;
 

@@ -1,15 +1,14 @@
 //! What holds of the book and of what all seats know, and what the calls tell.
 
-ghost use Rattle.std.specs.Prelude.{◌≡◌, ℕ, Option, Some, IfSome, [], ◌∷◌, None, take, drop};
+ghost use Rattle.std.specs.Prelude.{◌≡◌, ℕ, Option, Some, None, IfSome};
 ghost use Rattle.script_code.specs.declared.env.Env.{Env};
 ghost use Rattle.swift_history.specs.TurnEnds.{JobView};
-ghost use Rattle.swift_journal.specs.Records.{RecordView};
-ghost use Rattle.swift_known.specs.Views.{no_view};
+ghost use Rattle.swift_known.specs.Views.{SeatView, no_view};
 ghost use Rattle.swift_course.specs.Reports.{Knows};
 ghost use Rattle.swift_course.specs.Rule.{HoldsOf};
 ghost use Rattle.swift_course.specs.Seats.{account_parted, first_view, gathered, maker_left, some_left, some_parted};
 ghost use Rattle.swift_shared_book.specs.Shared.{BeginsTicket};
-ghost use Rattle.swift_shared_book.specs.Steps.{AddsRoot, AppliesTurn};
+ghost use Rattle.swift_shared_book.specs.Steps.{KnowsRoot};
 
 use std::marker::{Brand, PhantomData};
 use swift_known::known::{BookImage, Known};
@@ -36,4 +35,89 @@ pub struct Stays;
 
 impl Outcome<BookImage, Known> for Stays {
     ghost then = { λ known _ _ known'. known'.view ≡ known.view };
+}
+
+/// Names the job whose turn has begun, and the environment of the turn, in proofs alone.
+pub trait Begun {
+    ghost job: { Option JobView };
+
+    ghost env: { Option Env };
+}
+
+impl Begun for Brand {
+    ghost job = { None };
+
+    ghost env = { None };
+}
+
+/// The turn of a ticket has begun.
+pub struct Begins<K> {
+    of: PhantomData<K>,
+}
+
+impl<K: Begun> Outcome<BookImage, Known> for Begins<K> {
+    ghost then = { λ known _ _ known'. IfSome K.job (λ job. IfSome K.env (λ env. BeginsTicket job env known.view known'.view)) };
+}
+
+/// Names what a seat knows after a turn, in proofs alone: the record of the turn is in its view, and the book does not have it.
+pub trait Told {
+    ghost view: { SeatView };
+}
+
+impl Told for Brand {
+    ghost view = { no_view };
+}
+
+/// A turn was applied.
+pub struct Applies<K> {
+    of: PhantomData<K>,
+}
+
+impl<K: Told> Outcome<BookImage, Known> for Applies<K> {
+    ghost then = { λ _ _ _ known'. known'.view ≡ K.view };
+}
+
+/// A root was added.
+pub struct AddsRoot;
+
+impl Outcome<BookImage, Known> for AddsRoot {
+    ghost then = { λ known taken _ known'. KnowsRoot known.view taken.facts known'.view };
+}
+
+/// Names how many tickets are parted off, in proofs alone.
+pub trait Counted {
+    ghost count: { ℕ };
+}
+
+impl Counted for Brand {
+    ghost count = { 0 };
+}
+
+/// The first tickets go to a seat of their own.
+pub struct PartsTickets<K> {
+    of: PhantomData<K>,
+}
+
+impl<K: Counted> Split<Known> for PartsTickets<K> {
+    ghost left = { λ known. record { view = some_left K.count known.view } };
+
+    ghost right = { λ known. record { view = some_parted K.count known.view } };
+}
+
+/// A seat for the next executor.
+pub struct OpensAccount;
+
+impl Split<Known> for OpensAccount {
+    ghost left = { λ known. record { view = maker_left known.view } };
+
+    ghost right = { λ known. record { view = account_parted known.view } };
+}
+
+/// A seat takes over the accounts and the tickets of another.
+pub struct Gathers;
+
+impl Join<Known> for Gathers {
+    ghost both = { λ known other. record { view = gathered known.view other.view } };
+
+    ghost spent = { record { view = no_view } };
 }

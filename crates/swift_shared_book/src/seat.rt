@@ -1,57 +1,99 @@
 //! A thread's right to take the book.
 
-ghost use Rattle.std.specs.Prelude.{◌≡◌, [], ◌∷◌};
-ghost use Rattle.swift_shared_book.specs.Shared.{IsSeatOf};
+ghost use Rattle.std.specs.Prelude.{◌≡◌, true, false, None, Some, [], ◌∷◌};
+ghost use Rattle.swift_known.specs.declared.known.Known.{Known as KnownIs};
+ghost use Rattle.swift_shared_book.specs.Shared.{BookSeatIs};
 
-use crate::image::BookImage;
-use crate::known::Known;
-use crate::rule::BothKnow;
-use crate::shared::BookLock;
 use crate::shelf::Shelf;
 use std::marker::Model;
+use swift_known::known::{BookImage, Known};
 use swift_lock::{Badge, Seat};
+use swift_ticket::BookName;
 
-/// A thread's right to take the book of one run. A lock is made with its first seat, and each further one is split from
-/// another. It has no bytes. A seat may go to another thread, and can't be shared.
+/// A thread's right to take the book of one run, and what it knows of the run: the turns of its executors, the tickets of jobs that it
+/// has, and for one seat of a lock, how many executors and roots there are (our own). A lock is made with its first seat, and each
+/// further one is split from another. It has no bytes. A seat may go to another thread, and can't be shared.
 ///
-/// In a clause it is its lock, and a list of what it knows: of one entry, or empty while the book that was taken by it is out.
+/// In a clause it is its lock, whether it is there, and what it knows. It is not there only while a call of the lock is under way.
 #[derive(Drop)]
 pub struct BookSeat {
-    pub(crate) badge: Badge<BookImage, Known>,
+    badge: Badge<BookImage, Known>,
 }
 
 impl Model for BookSeat {
     ghost use Rattle.std.specs.Coded.{codes};
     ghost use Rattle.swift_script.specs.Codes.{expression_code, statement_code, block_code};
-    ghost use Rattle.swift_shared_book.specs.Shared.{BookSeatIs};
+    ghost use Rattle.swift_shared_book.specs.Shared.{BookSeatIs, is_there, view_in};
+    ghost use Rattle.swift_shared_book.specs.SharedInside.{IsOneAtMost};
 
     ghost Value = { BookSeatIs };
 
     ghost coded = { Prim.hlevel (codes, expression_code, statement_code (block_code (Prim.hlevel (codes, expression_code)) (Prim.hlevel (codes, expression_code)))) };
 
-    ghost view = { λ s. record { lock = s.badge.lock; knows = s.badge.knows } };
+    ghost view = { λ s. record { lock = s.badge.lock; here = is_there s.badge.knows; knows = view_in s.badge.knows } };
+
+    ghost invariant = { λ s. IsOneAtMost s.badge.knows };
 }
 
 impl BookSeat {
+    /// The book that it is of, by its lock.
+    pub fn name(&self) -> BookName
+        ensures { self.now.here ≡ true → result ≡ Some self.now.lock }
+    {
+        BookName::of(&self.badge)
+    }
+
     // The seat of a lock that was just made, or one that was split off.
     pub(crate) fn of(seat: Seat<Shelf, Known>) -> BookSeat
         requires { seat.held ≡ None }
-        ensures { result ≡ record { lock = seat.lock; knows = seat.known ∷ [] } }
+        ensures { result ≡ record { lock = seat.lock; here = true; knows = seat.known.view } }
     {
         BookSeat {
             badge: seat.into_badge(),
         }
     }
 
-    /// A new seat of the same lock. It costs a load.
-    pub fn split(&mut self, lock: &BookLock) -> BookSeat
-        requires { IsSeatOf lock.now self.old }
-        ensures kept { IsSeatOf lock.now self.new }
-        ensures new { IsSeatOf lock.now result }
+    // The seat of a ticket.
+    pub(crate) fn of_ticket(badge: Badge<BookImage, Known>) -> BookSeat
+        requires { (known : KnownIs) × (badge.knows ≡ known ∷ []) }
+        ensures lock { (result.lock ≡ badge.lock) × (result.here ≡ true) }
+        ensures knows { badge.knows ≡ record { view = result.knows } ∷ [] }
     {
-        let mut seat = self.badge.take::<Shelf>();
-        let other = seat.split::<BothKnow, _>(&lock.lock);
-        self.badge = seat.into_badge();
-        BookSeat::of(other)
+        BookSeat { badge }
+    }
+
+    // Its badge.
+    pub(crate) fn into_badge(self) -> Badge<BookImage, Known>
+        requires { self.here ≡ true }
+        ensures lock { result.lock ≡ self.lock }
+        ensures knows { result.knows ≡ record { view = self.knows } ∷ [] }
+    {
+        let BookSeat { badge } = self;
+        badge
+    }
+
+    // What the lock takes for a seat.
+    pub(crate) fn into_seat(self) -> Seat<Shelf, Known>
+        requires { self.here ≡ true }
+        ensures { result ≡ record { lock = self.lock; known = record { view = self.knows }; held = None } }
+    {
+        self.into_badge().into_seat()
+    }
+
+    // The same, out of its place, which it leaves empty.
+    pub(crate) fn take(&mut self) -> Seat<Shelf, Known>
+        requires { self.old.here ≡ true }
+        ensures seat { result ≡ record { lock = self.old.lock; known = record { view = self.old.knows }; held = None } }
+        ensures out { self.new.here ≡ false }
+    {
+        self.badge.take()
+    }
+
+    // Puts a seat into its place.
+    pub(crate) fn put(&mut self, seat: Seat<Shelf, Known>)
+        requires { seat.held ≡ None }
+        ensures { self.new ≡ record { lock = seat.lock; here = true; knows = seat.known.view } }
+    {
+        *self = BookSeat::of(seat);
     }
 }

@@ -1,8 +1,8 @@
 //! Inboxes of the executors of one script, with two passes `a` and `b`: `PASS put ROOT NUMBER` for the turn of that number of
 //! a root's task, and `PASS take`. The first line of a case is the number of the executor and the room; at the end the
-//! inbox is drained. The line `two threads COUNT` has two threads that each put and take so many jobs.
+//! inbox is drained. The line `two threads COUNT` has two threads that each put and take so many jobs. No book gave these jobs.
 
-ghost use Rattle.std.specs.Prelude.{◌≡◌, IfOk};
+ghost use Rattle.std.specs.Prelude.{◌≡◌, IfOk, None};
 ghost use Rattle.std.specs.Arc.{arc_value};
 ghost use Rattle.swift_turn.specs.Body.{IsRunning};
 ghost use Rattle.swift_inbox.specs.Inbox.{IsPassOf, new_pass};
@@ -19,6 +19,7 @@ use swift_inbox::{ExecutorSite, Inbox, Pass};
 use swift_locals::Bindings;
 use swift_queue::Job;
 use swift_script::{Script, read};
+use swift_ticket::TicketedJob;
 use swift_turn::Body;
 use swift_types::{ExecId, Resume, RootId, TaskId};
 
@@ -51,12 +52,14 @@ fn job(
     site: &ExecutorSite,
     root: RootId,
     number: u32,
-) -> Result<Job<Body>, CaseFault>
-    ensures script { IfOk result (λ j. j.body.script ≡ site.now.script) }
-    ensures running { IfOk result (λ j. IsRunning j.body) }
+) -> Result<TicketedJob, CaseFault>
+    ensures script { IfOk result (λ t. t.job.body.script ≡ site.now.script) }
+    ensures running { IfOk result (λ t. IsRunning t.job.body) }
+    ensures book { IfOk result (λ t. t.book ≡ None) }
 {
     let body = body(alloc, site.script(), root)?;
-    Ok(Job::new(TaskId(root.0), number, Resume::Start, body))
+    let job = Job::new(TaskId(root.0), number, Resume::Start, body);
+    Ok(TicketedJob::without_book(job))
 }
 
 // The task and the number of a job, which is spent.
@@ -74,18 +77,19 @@ fn put<R: Wait>(
     root: RootId,
     number: u32,
 ) -> Result<&'static str, CaseFault>
-    requires { IsPassOf inbox.now pass.old }
+    requires pass { IsPassOf inbox.now pass.old }
+    requires book { inbox.now.site.book ≡ None }
     ensures { IsPassOf inbox.now pass.new }
 {
     let made = job(alloc, inbox.site(), root, number)?;
     if !inbox.site().can_run(&made) {
-        told(made);
+        told(made.into_job());
         return Ok("another executor");
     }
     match inbox.put(rt, pass, made) {
         Ok(()) => Ok("ok"),
         Err(back) => {
-            let is_same = told(back) == (root.0, number);
+            let is_same = told(back.into_job()) == (root.0, number);
             Ok(if is_same {
                 "full"
             } else {
@@ -103,7 +107,8 @@ fn answer<R: Wait>(
     pass: &mut Pass,
     words: &[&str],
 ) -> Result<String, CaseFault>
-    requires { IsPassOf inbox.now pass.old }
+    requires pass { IsPassOf inbox.now pass.old }
+    requires book { inbox.now.site.book ≡ None }
     ensures { IsPassOf inbox.now pass.new }
 {
     match *words {
@@ -118,11 +123,11 @@ fn answer<R: Wait>(
 }
 
 // What was taken, which is spent.
-fn shown(alloc: Global, taken: Option<Job<Body>>) -> Result<String, AllocError> {
+fn shown(alloc: Global, taken: Option<TicketedJob>) -> Result<String, AllocError> {
     match taken {
         None => String::from_str(alloc, "none"),
         Some(job) => {
-            let (task, number) = told(job);
+            let (task, number) = told(job.into_job());
             format!(in alloc; "task {task} turn {number}")
         }
     }
@@ -139,6 +144,7 @@ fn answer_by<R: Wait>(
 ) -> Result<String, CaseFault>
     requires a { IsPassOf inbox.now a.old }
     requires b { IsPassOf inbox.now b.old }
+    requires book { inbox.now.site.book ≡ None }
     ensures a { IsPassOf inbox.now a.new }
     ensures b { IsPassOf inbox.now b.new }
 {
@@ -159,7 +165,8 @@ fn calls<R: Wait>(
     lines: &str,
     out: &mut Vec<u8>,
 ) -> Result<(), CaseFault>
-    requires { IsPassOf inbox.now a }
+    requires pass { IsPassOf inbox.now a }
+    requires book { inbox.now.site.book ≡ None }
 {
     let mut b = a.split(inbox);
     for line in lines.split('\n') {
@@ -185,7 +192,8 @@ fn drained<R: Wait>(rt: &R, alloc: Global, inbox: Inbox) -> Result<Vec<(u32, u32
 
 // An inbox of an executor of the script.
 fn inbox_of(alloc: Global, executor: ExecId, room: usize) -> Result<(Inbox, Pass), CaseFault>
-    ensures { IfOk result (λ r. r.1 ≡ new_pass r.0) }
+    ensures pass { IfOk result (λ r. r.1 ≡ new_pass r.0) }
+    ensures book { IfOk result (λ r. r.0.site.book ≡ None) }
 {
     if room == 0 {
         return Err(CaseFault::Form);
@@ -223,7 +231,7 @@ fn tell_left(out: &mut Vec<u8>, left: &[(u32, u32)]) -> Result<(), CaseFault> {
 }
 
 // Puts a job in as soon as there is room.
-fn put_at_last<R: Wait>(rt: &R, inbox: &Inbox, pass: &mut Pass, job: Job<Body>)
+fn put_at_last<R: Wait>(rt: &R, inbox: &Inbox, pass: &mut Pass, job: TicketedJob)
     requires pass { IsPassOf inbox.now pass.old }
     requires job { CanRunAt inbox.now.site job }
     ensures { IsPassOf inbox.now pass.new }
@@ -246,7 +254,7 @@ fn take_at_last<R: Wait>(rt: &R, inbox: &Inbox, pass: &mut Pass) -> u32
 {
     for _ in rt.forever() {
         if let Some(job) = inbox.take(rt, pass) {
-            return told(job).1;
+            return told(job.into_job()).1;
         }
         thread::yield_now();
     }
@@ -262,7 +270,8 @@ fn put_and_take<R: Wait>(
     first: u32,
     count: u32,
 ) -> Result<u64, CaseFault>
-    requires { IsPassOf inbox.now pass }
+    requires pass { IsPassOf inbox.now pass }
+    requires book { inbox.now.site.book ≡ None }
 {
     let mut sum = 0u64;
     for place in 0..count {
@@ -280,12 +289,13 @@ fn put_and_take_one<R: Wait>(
     pass: &mut Pass,
     number: u32,
 ) -> Result<u32, CaseFault>
-    requires { IsPassOf inbox.now pass.old }
+    requires pass { IsPassOf inbox.now pass.old }
+    requires book { inbox.now.site.book ≡ None }
     ensures { IsPassOf inbox.now pass.new }
 {
     let made = job(alloc, inbox.site(), RootId(0), number)?;
     if !inbox.site().can_run(&made) {
-        told(made);
+        told(made.into_job());
         return Err(CaseFault::Form);
     }
     put_at_last(rt, inbox, pass, made);
@@ -303,14 +313,17 @@ fn by_two_threads<R: Threads + Wait + Sync>(
 ) -> (Result<u64, CaseFault>, Result<u64, CaseFault>)
     requires a { IsPassOf inbox.now a }
     requires b { IsPassOf inbox.now b }
+    requires book { inbox.now.site.book ≡ None }
 {
     thread::join(
         rt,
         move || -> Result<u64, CaseFault>
-            requires { IsPassOf inbox.now a }
+            requires pass { IsPassOf inbox.now a }
+            requires book { inbox.now.site.book ≡ None }
         { put_and_take(rt, alloc, inbox, a, 0, count) },
         move || -> Result<u64, CaseFault>
-            requires { IsPassOf inbox.now b }
+            requires pass { IsPassOf inbox.now b }
+            requires book { inbox.now.site.book ≡ None }
         { put_and_take(rt, alloc, inbox, b, count, count) },
     )
 }

@@ -1,4 +1,4 @@
-use Rattle.swift_shared_book.proofs.RuleKept.{learns}
+use Rattle.swift_course.proofs.Rule.{learns}
 use Rattle.swift_shared_book.proofs.shared.BookLock.close.Goals as goal
 
 pub close-requires-clause-rule : goal.close-requires-clause-rule

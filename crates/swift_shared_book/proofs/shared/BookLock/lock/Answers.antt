@@ -1,4 +1,4 @@
-use Rattle.swift_shared_book.proofs.RuleKept.{learns}
+use Rattle.swift_course.proofs.Rule.{learns}
 use Rattle.swift_shared_book.proofs.shared.BookLock.lock.Goals as goal
 
 pub lock-shelf-requires-clause-rule : goal.lock-shelf-requires-clause-rule

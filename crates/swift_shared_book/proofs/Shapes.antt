@@ -1,0 +1,65 @@
+-- What seats know, in the shapes that the calls give it.
+use Rattle.std.proofs.Common.{◌≡◌, Bool, true, false, List, [], ◌∷◌, ◌++◌, length, take, drop, map, refl, sym, ap, ◌∙◌}
+use Rattle.std.specs.Prelude.{Option, Some, None, IfSome, IsSome}
+use Rattle.std.proofs.lemmas.Bool.{false≢true}
+use Rattle.std.proofs.lemmas.List.{append-nil, map-append}
+use Rattle.swift_script.specs.Scripts.{ScriptView}
+use Rattle.swift_turn.specs.Body.{BodyView}
+use Rattle.swift_queue.specs.Job.{JobIs}
+use Rattle.swift_journal.specs.Records.{RecordView}
+use Rattle.swift_tasks.specs.Books.{job_view}
+use Rattle.swift_known.specs.Views.{Account, SeatView, Ticket, fresh}
+use Rattle.swift_known.specs.declared.known.Known.{Known}
+use Rattle.swift_course.specs.Seats.{gathered, some_left, some_parted}
+use Rattle.swift_shared_book.specs.Shared.{BookLockIs, BookSeatIs, after_turn, is_there, seat_of, tickets_view, view_in, with_ticket}
+use Rattle.swift_shared_book.specs.SharedInside.{HasTicketsOf, IsOneAtMost, oldest_first}
+use Rattle.swift_shared_book.specs.Steps.{knowing_record}
+
+-- a badge that is there has one seat
+pub one_there : (l : List Known) → IsOneAtMost l → is_there l ≡ true → l ≡ record { view = view_in l } ∷ []
+one_there [] one there = absurd (false≢true there)
+one_there (known ∷ []) one there = refl
+one_there (known ∷ l ∷ others) one there = absurd one
+
+-- a seat of a lock that is there, by what it knows
+pub whole : (l : BookLockIs) (s : BookSeatIs) → s.lock ≡ l.id → s.here ≡ true → seat_of l s.knows ≡ s
+whole l s lock here = ap (λ x. record { lock = x; here = true; knows = s.knows }) (sym lock) ∙ ap (λ x. record { lock = s.lock; here = x; knows = s.knows }) (sym here)
+
+-- the tickets of the jobs that a turn made, parted from the others
+
+take_made : (made : List (JobIs BodyView)) (rest : List Ticket) → take (length made) (map fresh (map job_view made) ++ rest) ≡ map (λ j. fresh (job_view j)) made
+take_made [] rest = refl
+take_made (j ∷ made) rest = ap (λ l. fresh (job_view j) ∷ l) (take_made made rest)
+
+drop_made : (made : List (JobIs BodyView)) (rest : List Ticket) → drop (length made) (map fresh (map job_view made) ++ rest) ≡ rest
+drop_made [] rest = refl
+drop_made (j ∷ made) rest = drop_made made rest
+
+pub parted_is : (newest : Option RecordView) (made : List (JobIs BodyView)) (v : SeatView) → IsSome newest → some_parted (length made) (knowing_record newest (map job_view made) v) ≡ tickets_view v.script made
+parted_is None made v some_one = absurd (false≢true some_one)
+parted_is (Some r) made v some_one = ap (λ (l : List Ticket). record { script = v.script; accounts = []; tickets = l; maker = None }) (take_made made (drop 1 v.tickets))
+
+pub left_is : (newest : Option RecordView) (made : List (JobIs BodyView)) (v : SeatView) → IfSome newest (λ r. some_left (length made) (knowing_record newest (map job_view made) v) ≡ after_turn r v)
+left_is None made v = tt
+left_is (Some r) made v = ap (λ (l : List Ticket). record (after_turn r v) { tickets = l }) (drop_made made (drop 1 v.tickets))
+
+-- tickets behind others
+pub append_is : (script other : Option ScriptView) (js made : List (JobIs BodyView)) → gathered (tickets_view script made) (tickets_view other js) ≡ tickets_view script (js ++ made)
+append_is script other js made = ap (λ (l : List Ticket). record { script = script; accounts = []; tickets = l; maker = None }) (sym (map-append (λ j. fresh (job_view j)) js made))
+
+-- a ticket is taken in
+pub accept_is : (v : SeatView) (script : Option ScriptView) (j : JobIs BodyView) → gathered v (tickets_view script (j ∷ [])) ≡ with_ticket (job_view j) v
+accept_is v script j = ap (λ (l : List Account). record v { accounts = l; tickets = fresh (job_view j) ∷ v.tickets }) (append-nil v.accounts)
+
+-- a seat that has taken in the tickets of more jobs
+pub has_tickets : (seat : BookSeatIs) (l : BookLockIs) (part other : SeatView) (script script' : Option ScriptView) (made jobs items : List (JobIs BodyView)) (is_reversed : Bool) → seat ≡ seat_of l (gathered part other)
+    → part ≡ tickets_view script made → other ≡ tickets_view script' jobs → gathered (tickets_view script made) (tickets_view script' jobs) ≡ tickets_view script items → is_reversed ≡ false → HasTicketsOf (oldest_first is_reversed items) seat
+has_tickets seat l part other script script' made jobs items is_reversed is parted others both way = (
+  ap (λ (s : BookSeatIs). s.here) is,
+  script,
+  ap (λ (s : BookSeatIs). s.knows) is
+      ∙ ap (λ (x : SeatView). gathered x other) parted
+      ∙ ap (gathered (tickets_view script made)) others
+      ∙ both
+      ∙ ap (λ (b : Bool). tickets_view script (oldest_first b items)) (sym way),
+)

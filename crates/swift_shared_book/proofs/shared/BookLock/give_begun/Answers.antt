@@ -1,0 +1,20 @@
+use Rattle.std.proofs.Common.{sym, subst, IfSome}
+use Rattle.swift_tasks.specs.Books.{job_view}
+use Rattle.swift_book_steps.specs.Calls.{facts_of}
+use Rattle.swift_shared_book.specs.Shared.{BeginsTicket, facts_in}
+use Rattle.swift_shared_book.specs.Steps.{MayGiveBack}
+use Rattle.swift_shared_book.specs.declared.opened.OpenBook.{OpenBook}
+use Rattle.swift_shared_book.proofs.RuleKept.{names_begun, unlocks}
+use Rattle.swift_shared_book.proofs.shared.BookLock.give_begun.Goals as goal
+
+pub unlock-requires-clause-rule : goal.unlock-requires-clause-rule
+unlock-requires-clause-rule g c =
+    let s = c.given.inside.0.1.0.seat in
+    let j = job_view c.args.job.now in
+    let env = c.args.env in
+    let named = g.K.Begun in
+    let may =
+    subst (λ (o : OpenBook). MayGiveBack o.seat.knows o.seat.taken (facts_of o.book.value) (λ _. BeginsTicket j env o.seat.knows)) (sym c.given.view_is) c.requires.gives
+    in
+    unlocks s.held s.known _ (λ _ w. IfSome named.job (λ x. IfSome named.env (λ y. BeginsTicket x y s.known.view w)))
+    (names_begun named.job named.env (facts_in s.held) s.known.view _ j env c.requires.name.0 c.requires.name.1 may)

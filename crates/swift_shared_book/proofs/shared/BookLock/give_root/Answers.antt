@@ -1,0 +1,12 @@
+use Rattle.std.proofs.Common.{sym, subst}
+use Rattle.swift_book_steps.specs.Calls.{facts_of}
+use Rattle.swift_shared_book.specs.Steps.{KnowsRoot, MayGiveBack}
+use Rattle.swift_shared_book.specs.declared.opened.OpenBook.{OpenBook}
+use Rattle.swift_shared_book.proofs.RuleKept.{unlocks}
+use Rattle.swift_shared_book.proofs.shared.BookLock.give_root.Goals as goal
+
+pub unlock-requires-clause-rule : goal.unlock-requires-clause-rule
+unlock-requires-clause-rule c =
+    let s = c.given.inside.0.1.0.seat in
+    unlocks s.held s.known _ (KnowsRoot s.known.view)
+    (subst (λ (o : OpenBook). MayGiveBack o.seat.knows o.seat.taken (facts_of o.book.value) (KnowsRoot o.seat.knows)) (sym c.given.view_is) c.requires.gives)

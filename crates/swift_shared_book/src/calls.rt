@@ -1,0 +1,154 @@
+//! The calls of the book under its lock.
+
+ghost use Rattle.std.specs.Prelude.{◌≡◌, ◌⊎◌, ◌+◌, ◌≤◌, [], ◌∷◌, ◌++◌, true, Some, None, IfOk, IfSome, IsSomeAnd, OnOk, OnErr, MatchResult, map, drop, vec_len};
+ghost use Rattle.std.specs.List.{AllByRecursion};
+ghost use Rattle.swift_script.specs.Scripts.{root_count};
+ghost use Rattle.swift_interpreter.specs.Frames.{effect_views};
+ghost use Rattle.swift_interpreter.specs.TurnStates.{exit_view};
+ghost use Rattle.swift_turn.specs.Body.{BodyView, IsRunning};
+ghost use Rattle.swift_queue.specs.Job.{JobIs};
+ghost use Rattle.swift_events.specs.Room.{IsEnv};
+ghost use Rattle.swift_journal.specs.Records.{RecordView};
+ghost use Rattle.swift_history.specs.TurnEnds.{root_job};
+ghost use Rattle.swift_known.specs.Views.{Maker};
+ghost use Rattle.swift_tasks.specs.Books.{BookView, IsEndOf, IsJobOf, job_view};
+ghost use Rattle.swift_tasks.specs.Refusals.{IsRefusal, refusal_of_apply, refusal_of_begin, refusal_of_root};
+ghost use Rattle.swift_shared_book.specs.Shared.{BeginsTicket, HasPlayed, HasTicket, IsSeatOf, after_turn, knowing, newest};
+
+use crate::jobs::{TicketedJobs, turn};
+use crate::seat::BookSeat;
+use crate::shared::BookLock;
+use script_code::Env;
+use std::marker::Brand;
+use std::sync::Wait;
+use swift_interpreter::{Effect, Exit};
+use swift_journal::Journal;
+use swift_queue::Job;
+use swift_tasks::BookFault;
+use swift_turn::Body;
+use swift_types::RootId;
+
+// The jobs past the first ones, so many.
+fn jobs_from(jobs: &Vec<Job<Body>>, from: usize) -> &[Job<Body>]
+    requires { from ≤ vec_len jobs.now }
+    ensures { result.now ≡ drop from jobs.now.items }
+{
+    &jobs[from..]
+}
+
+impl BookLock {
+    /// Begins the turn of a job, whose ticket the seat has: its environment comes back, and the ticket then says so, and comes first
+    /// (SE-0304). The refusals are those of `Book::begin`, and leave seat and book as they were. It takes the book once.
+    pub fn begin<R: Wait>(
+        &self,
+        rt: &R,
+        seat: &mut BookSeat,
+        job: &Job<Body>,
+    ) -> Result<Env, BookFault>
+        requires seat { IsSeatOf self.now seat.old }
+        requires job { job.now.body.script ≡ self.now.script }
+        requires ticket { HasTicket (job_view job.now) seat.old.knows.tickets }
+        ensures ok { IfOk result (λ env. BeginsTicket (job_view job.now) env seat.old.knows seat.new.knows) }
+        ensures given { IfOk result (λ env. (b : BookView) × (b.script ≡ self.now.script) × IsEnv (root_count b.script) job.now.task b.log env) }
+        ensures lock { (seat.new.lock ≡ seat.old.lock) × (seat.new.here ≡ true) }
+        ensures err { OnErr result (seat.new ≡ seat.old) }
+        ensures refused { MatchResult result (λ _. (b : BookView) × (b.script ≡ self.now.script) × (refusal_of_begin b.script b.log job.now ≡ None))
+            (λ fault. (b : BookView) × (b.script ≡ self.now.script) × IsRefusal (refusal_of_begin b.script b.log job.now) fault) }
+    {
+        let mut taken = self.lock(rt, seat);
+        match taken.book.begin_known(job) {
+            Ok(env) => {
+                self.give_begun::<Brand>(seat, taken, job, env);
+                Ok(env)
+            }
+            Err(fault) => {
+                self.leave(seat, taken);
+                Err(fault)
+            }
+        }
+    }
+
+    /// Applies the turn of the job in a place, by the seat's first ticket; the newest record of the journal is that of the turn, and
+    /// comes into the seat's account (SE-0304, SE-0306). The ticket is spent. The jobs that the turn makes come behind those of the
+    /// list, with their tickets, and the place is empty. The refusals are those of `Book::apply_in`, and leave all as it was. It takes
+    /// the book once, and time and memory as `Book::apply_in` does; where jobs were taken out of the list since the last call, time
+    /// linear in those that are left.
+    pub fn apply<R: Wait>(
+        &self,
+        rt: &R,
+        seat: &mut BookSeat,
+        place: &mut Option<Job<Body>>,
+        journal: &Journal,
+        exit: &Exit,
+        effects: &[Effect],
+        jobs: &mut TicketedJobs,
+    ) -> Result<(), BookFault>
+        requires seat { IsSeatOf self.now seat.old }
+        requires jobs { jobs.old.book ≡ self.now.id }
+        requires job { IsSomeAnd place.old (λ j. IsRunning j.body × (j.body.script ≡ self.now.script)) }
+        requires played { IsSomeAnd place.old (λ j. (r : RecordView) × (newest journal.now ≡ Some r) × (r.exit ≡ exit_view exit.now) × (r.effects ≡ effect_views effects.now) × HasPlayed self.now.script seat.old.knows j r) }
+        ensures ok { OnOk result (IsSomeAnd place.old (λ j. (b : BookView) × (b' : BookView) × (b.script ≡ self.now.script) × (b'.script ≡ b.script)
+            × IsEndOf b (map job_view jobs.old.jobs) j (effect_views effects.now) (exit_view exit.now) b'.log b'.held (map job_view jobs.new.jobs))) }
+        ensures seat { OnOk result (IfSome (newest journal.now) (λ r. seat.new ≡ knowing (after_turn r seat.old.knows) seat.old)) }
+        ensures gone { OnOk result (place.new ≡ None) }
+        ensures bodies { AllByRecursion (IsJobOf self.now.script) jobs.old.jobs → AllByRecursion (IsJobOf self.now.script) jobs.new.jobs }
+        ensures lock { jobs.new.book ≡ jobs.old.book }
+        ensures err { OnErr result ((seat.new ≡ seat.old) × (place.new ≡ place.old) × (jobs.new ≡ jobs.old)) }
+        ensures refused { MatchResult result (λ _. (b : BookView) × (b.script ≡ self.now.script) × IsSomeAnd place.old (λ j. refusal_of_apply b.script b.log j (effect_views effects.now) (exit_view exit.now) ≡ None))
+            (λ fault. (b : BookView) × (b.script ≡ self.now.script) × IsSomeAnd place.old (λ j. IsRefusal (refusal_of_apply b.script b.log j (effect_views effects.now) (exit_view exit.now)) fault)) }
+    {
+        turn(&mut jobs.jobs, &mut jobs.is_reversed, false);
+        let before = jobs.jobs.len();
+        let mut taken = self.lock(rt, seat);
+        match taken.book.apply_in(place, exit, effects, &mut jobs.jobs) {
+            Ok(()) => {
+                let made = jobs_from(&jobs.jobs, before);
+                self.give_turn(seat, taken, journal, made, &mut jobs.seat);
+                Ok(())
+            }
+            Err(fault) => {
+                self.leave(seat, taken);
+                Err(fault)
+            }
+        }
+    }
+
+    /// Adds the next root, by the seat that adds roots: the job of its first turn comes behind those of the list, with its ticket
+    /// (SE-0304; that roots are added in order is our own). The refusals are those of `Book::add_root`, and `Memory` comes first where
+    /// the list can't grow; they leave all as it was. It takes the book once, and time and memory as `Book::add_root` does; where jobs
+    /// were taken out of the list since the last call, time linear in those that are left.
+    pub fn add_root<R: Wait>(
+        &self,
+        rt: &R,
+        seat: &mut BookSeat,
+        root: RootId,
+        jobs: &mut TicketedJobs,
+    ) -> Result<(), BookFault>
+        requires seat { IsSeatOf self.now seat.old }
+        requires jobs { jobs.old.book ≡ self.now.id }
+        requires next { (m : Maker) × (seat.old.knows.maker ≡ Some m) × (m.roots ≡ root.0) }
+        ensures seat { OnOk result (IfSome seat.old.knows.maker (λ m. seat.new ≡ knowing (record seat.old.knows { maker = Some (record m { roots = m.roots + 1 }) }) seat.old)) }
+        ensures job { OnOk result ((j : JobIs BodyView) × (jobs.new ≡ record jobs.old { jobs = jobs.old.jobs ++ j ∷ [] }) × (job_view j ≡ root_job self.now.script root.0) × IsJobOf self.now.script j) }
+        ensures err { OnErr result ((seat.new ≡ seat.old) × (jobs.new ≡ jobs.old)) }
+        ensures refused { MatchResult result (λ _. (b : BookView) × (b.script ≡ self.now.script) × (refusal_of_root b.script b.log root.0 ≡ None))
+            (λ fault. (fault ≡ BookFault.Memory) ⊎ ((b : BookView) × (b.script ≡ self.now.script) × (refusal_of_root b.script b.log root.0 ≡ Some fault))) }
+    {
+        turn(&mut jobs.jobs, &mut jobs.is_reversed, false);
+        // Before the book changes: a refusal then leaves it as it was.
+        jobs.jobs.reserve(1)?;
+        let mut taken = self.lock(rt, seat);
+        match taken.book.add_root(root) {
+            Ok(job) => {
+                jobs.jobs.push_reserved(job);
+                self.give_root(seat, taken);
+                let ticket = self.part(seat, 1);
+                self.append(&mut jobs.seat, ticket);
+                Ok(())
+            }
+            Err(fault) => {
+                self.leave(seat, taken);
+                Err(fault)
+            }
+        }
+    }
+}
