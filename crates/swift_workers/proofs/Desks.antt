@@ -2,8 +2,11 @@
 use Rattle.std.proofs.Common.{◌≡◌, ℕ, zero, suc, ◌+◌, ◌<◌, Some, List, [], ◌∷◌, ◌++◌, length, get_or, refl, sym, subst, ap, ◌∙◌, arith, length-append}
 use Rattle.std.specs.Prelude.{Option, slice_get, slice_set, take, unwrap_or}
 use Rattle.std.proofs.lemmas.Option.{none-some, same_Some, slice_get_read}
-use Rattle.swift_inbox.specs.Site.{Site}
-use Rattle.swift_executor.specs.Exec.{ExecIs, DeskIs, IsBookOf, IsDeskOf, after_run}
+use Rattle.swift_queue.specs.Job.{JobIs}
+use Rattle.swift_turn.specs.Body.{BodyView}
+use Rattle.swift_ticket.specs.Tickets.{TicketedIs}
+use Rattle.swift_inbox.specs.Site.{CanRunAt, Site}
+use Rattle.swift_executor.specs.Exec.{ExecIs, DeskIs, IsBookOf, IsDeskOf, after_run, has_sent}
 use Rattle.swift_executor.specs.declared.ran.Ran.{Ran}
 use Rattle.swift_executor.specs.declared.ran.Ran.TheVariants.{Turn, Busy, Nothing}
 use Rattle.swift_workers.specs.declared.crew.Hand.{Hand}
@@ -38,6 +41,10 @@ desk_set execs desks k e d are lt at is = record {
   as_many = same_length desks k d ∙ are.as_many;
   each = each_set execs desks k e d are.each (slice_get_read execs (length execs) k e refl lt at) is;
 }
+
+-- a desk that has sent a job is of the same executor
+pub desk_sent : (e : ExecIs) (old new : DeskIs) (j : JobIs BodyView) → IsDeskOf e old → new ≡ has_sent old j → IsDeskOf e new
+desk_sent e old new j is same = subst (λ (d : DeskIs). IsDeskOf e d) (sym same) is
 
 -- a desk after a visit is of the same executor
 pub desk_ran : (e : ExecIs) (old new : DeskIs) (ran : Ran) → IsDeskOf e old → new ≡ after_run ran old → IsDeskOf e new
@@ -109,3 +116,7 @@ last_hand b execs (x ∷ xs) h are = last_hand b execs xs h are.1
 pub hand_push : (b : BookLockIs) (execs : List ExecIs) (hands : List Hand) (h : Hand) → AreHandsOf b execs hands → IsHandOf b execs h → AreHandsOf b execs (hands ++ h ∷ [])
 hand_push b execs [] h are is = (is, tt)
 hand_push b execs (x ∷ xs) h are is = (are.0, hand_push b execs xs h are.1 is)
+
+-- a job that may be sent to an executor of this site may be sent to the executor
+pub can_run : (e : ExecIs) (s : Site) (t : TicketedIs) → e.inbox.site ≡ s → CanRunAt s t → CanRunAt e.inbox.site t
+can_run e s t is can = subst (λ (x : Site). CanRunAt x t) (sym is) can
