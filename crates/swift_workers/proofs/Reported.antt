@@ -52,6 +52,9 @@ each_at P e n [] x are at = absurd (none-some x at)
 each_at P e zero (y ∷ ys) x are at = subst (λ i. P i x) (sym (add-zero e)) (subst (P e) (same_one y x at) are.0)
 each_at P e (suc n) (y ∷ ys) x are at = subst (λ i. P i x) (next_place e n) (each_at P (e + 1) n ys x are.1 at)
 
+ending_at : (roots : ℕ) (log : List Event) (endings : List (Origin × Ending)) (t : ℕ) (x : Origin × Ending) → EachFrom (IsEnding roots log) 0 endings → slice_get endings t ≡ Some x → IsEnding roots log t x
+ending_at roots log endings t x each at = subst (λ n. IsEnding roots log n x) (from_first t) (each_at (IsEnding roots log) 0 t endings x each at)
+
 some_at : {A : Type 0} (xs : List A) (n : ℕ) → n < length xs → (x : A) × (slice_get xs n ≡ Some x)
 some_at [] n lt = absurd (omega (arith, lt))
 some_at (y ∷ ys) zero lt = (y, refl)
@@ -72,16 +75,14 @@ reported facts v r parts are js cs fs log ends =
       log_is = log;
       executors = (ap (λ x. length x.items) js ∙ are.journals, as_many _ r.checkpoints.items ∙ ap (λ x. length x.items) cs ∙ are.checkpoints, as_many _ r.fields.items ∙ ap (λ x. length x.items) fs ∙ are.fields);
       each = λ e journal checkpoint fields at_j at_c at_f.
-      subst (λ (i : ℕ). IsAccountedFor p v i journal checkpoint fields) (from_first e)
-      (accounted_at p v 0 e parts.checkpoints.items parts.journals.items parts.fields.items journal checkpoint fields are.accounts
-      (ap (λ x. slice_get x.items e) (sym js) ∙ at_j) (ap (λ x. slice_get (map (λ (c : CheckpointRoom). c.view) x.items) e) (sym cs) ∙ at_c) (ap (λ x. slice_get (map (λ (rows : Rows). rows_of rows.items) x.items) e) (sym fs) ∙ at_f));
+          subst (λ (i : ℕ). IsAccountedFor p v i journal checkpoint fields) (from_first e)
+          (accounted_at p v 0 e parts.checkpoints.items parts.journals.items parts.fields.items journal checkpoint fields are.accounts
+          (ap (λ x. slice_get x.items e) (sym js) ∙ at_j) (ap (λ x. slice_get (map (λ (c : CheckpointRoom). c.view) x.items) e) (sym cs) ∙ at_c) (ap (λ x. slice_get (map (λ (rows : Rows). rows_of rows.items) x.items) e) (sym fs) ∙ at_f));
       tasks = ends.many;
-      endings = λ t x at.
-      (let is = each_at (IsEnding roots r.log.items) 0 t r.endings.items x ends.each at in
-      (subst (λ n. IsEnding roots r.log.items n x) (from_first t) is).origin, (subst (λ n. IsEnding roots r.log.items n x) (from_first t) (each_at (IsEnding roots r.log.items) 0 t r.endings.items x ends.each at)).ending);
+      endings = λ t x at. ((ending_at roots r.log.items r.endings.items t x ends.each at).origin, (ending_at roots r.log.items r.endings.items t x ends.each at).ending);
       groups = λ t g lt opened.
-      (let some = some_at r.endings.items t lt in
-      (subst (λ n. IsEnding roots r.log.items n some.0) (from_first t) (each_at (IsEnding roots r.log.items) 0 t r.endings.items some.0 ends.each some.1)).groups g opened);
+          (let some = some_at r.endings.items t lt in
+          (ending_at roots r.log.items r.endings.items t some.0 ends.each some.1).groups g opened);
     }
 
 -- Where all accounts are in one seat, which has added all roots, that report is legal.

@@ -86,13 +86,7 @@ fn turn_at<R: Wait, G: Gate>(
 // Each token that a turn takes or makes is in the pool again at its end, or the run has been given up: the one that is taken is put
 // back where more is pending, unless the visit is refused; and one more is put for each executor that was idle, unless memory is. What a
 // turn has to put is put after a refusal too.
-fn drain<R: Wait, G: Gate>(
-    rt: &R,
-    cx: &mut Context<'_>,
-    crew: Crew<'_>,
-    hand: &mut Hand,
-    gate: &G,
-)
+fn drain<R: Wait, G: Gate>(rt: &R, cx: &mut Context<'_>, crew: Crew<'_>, hand: &mut Hand, gate: &G)
     requires sites { AreAtSites crew.book.now crew.execs.now }
     requires script { crew.book.now.script ≡ crew.script.now }
     requires hand { IsHandOf crew.book.now crew.execs.now hand.old }

@@ -16,7 +16,7 @@ open_account-own-requires-clause-seat c = opened_seat c.args.book.now c.args.sea
 pub open_account-own-requires-clause-next : goal.open_account-own-requires-clause-next
 open_account-own-requires-clause-next c =
     let few : c.loop-place.place < executor_count c.args.book.now.script =
-        subst (λ (p : ScriptView). c.loop-place.place < executor_count p) (sym c.requires.book) (omega (arith, c.loop-place-test.true, c.loop-place.invariant.end)) in
+    subst (λ (p : ScriptView). c.loop-place.place < executor_count p) (sym c.requires.book) (omega (arith, c.loop-place-test.true, c.loop-place.invariant.end)) in
     (record { executors = c.loop-place.place; roots = 0 }, opened_maker c.args.seat.now c.loop-place.seat c.loop-place.place c.loop-place.invariant.seat, few)
 
 pub new-requires-clause-seat : goal.new-requires-clause-seat

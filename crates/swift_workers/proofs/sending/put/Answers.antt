@@ -13,7 +13,7 @@ enqueue-requires-clause-job g c =
     let k = c.actor_executor-on.result.0 in
     let lt : k < length execs = omega (arith, c.if-place-crew.false) in
     let site : e.inbox.site ≡ record { script = c.args.crew.script.now; executor = k; book = Some b.id } =
-        site_at b execs k e c.requires.sites lt c.index-crew-place.is ∙ ap (λ (p : ScriptView). record { script = p; executor = k; book = Some b.id }) c.requires.script in
+    site_at b execs k e c.requires.sites lt c.index-crew-place.is ∙ ap (λ (p : ScriptView). record { script = p; executor = k; book = Some b.id }) c.requires.script in
     subst (λ (x : ExecIs). CanRunAt x.inbox.site c.args.job) c.index-crew-place.is (can_run e (record { script = c.args.crew.script.now; executor = k; book = Some b.id }) c.args.job site (search rules))
 
 pub returns-in-Ok : goal.returns-in-Ok
