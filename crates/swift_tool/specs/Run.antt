@@ -77,12 +77,12 @@ abbrev pub IsRunning : List ℕ → ℕ → Type 0
 IsRunning bytes workers = IsCrew workers × ((script : ScriptView) × IsAccepted bytes script)
 
 -- Why a run of these bytes was refused: a number of workers other than 1 to 8, which is looked at first, or else, of a
--- script that is accepted, memory ran out, a task was left, the report was not legal, or an executor refused.
+-- script that is accepted, memory ran out, a task was left, or an executor refused. No run is refused for a report that is not legal.
 abbrev pub IsRunRefusal : List ℕ → ℕ → RunFault → Type 0
 IsRunRefusal bytes workers Workers = (workers ≡ 0) ⊎ (WORKERS < workers)
 IsRunRefusal bytes workers Memory = IsRunning bytes workers
 IsRunRefusal bytes workers Unfinished = IsRunning bytes workers
-IsRunRefusal bytes workers Illegal = IsRunning bytes workers
+IsRunRefusal bytes workers Illegal = ⊥
 IsRunRefusal bytes workers Executor = IsRunning bytes workers
 
 -- Why no run of these bytes gave a text: the script was refused, for the stated cause and on its line, or the run was.

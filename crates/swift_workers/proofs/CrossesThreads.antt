@@ -2,8 +2,9 @@
 use denote.Param.Send.{IsSend, IsSync, sendable}
 use denote.Ref.{NamedLft}
 use Rattle.std.proofs.Crossing as Crossing
-use Rattle.swift_inbox.proofs.CrossesThreads.{script_sync}
-use Rattle.swift_executor.proofs.CrossesThreads.{book_lock_sync, desk_send, exec_sync}
+use Rattle.swift_inbox.proofs.CrossesThreads.{body_send, script_sync}
+use Rattle.swift_executor.proofs.CrossesThreads.{book_lock_sync, book_seat_send, desk_send, exec_sync}
+use Rattle.swift_shared_book.specs.contracts.jobs.TicketedJobs as ticketed_jobs
 use Rattle.swift_workers.specs.contracts.crew.Crew as crew
 use Rattle.swift_workers.specs.contracts.crew.Hand as hand
 use Rattle.swift_workers.specs.contracts.pool.Pool as pool
@@ -22,8 +23,12 @@ bell_sync = search plain depth 60 fits 20000
 shared_pool_sync : IsSync (shared_pool.the_field).row
 shared_pool_sync = search (plain, pool_send, bell_sync) depth 60 fits 20000
 
+-- jobs with their tickets
+ticketed_jobs_send : IsSend ticketed_jobs.the_row
+ticketed_jobs_send = search (plain, body_send, book_seat_send) depth 60 fits 20000
+
 pub hand_send : IsSend (hand.the_field).row
-hand_send = search (plain, desk_send) depth 60 fits 20000
+hand_send = search (plain, desk_send, ticketed_jobs_send) depth 60 fits 20000
 
 pub crew_send : (α : NamedLft) → IsSend (crew.the_field α).row
 crew_send α = search (plain, script_sync, exec_sync, book_lock_sync, shared_pool_sync) depth 60 fits 20000

@@ -2,14 +2,16 @@
 use Rattle.std.proofs.Common.{◌≡◌, ℕ, zero, suc, ◌+◌, ◌<◌, Some, List, [], ◌∷◌, ◌++◌, length, get_or, refl, sym, subst, ap, ◌∙◌, arith, length-append}
 use Rattle.std.specs.Prelude.{Option, slice_get, slice_set, take, unwrap_or}
 use Rattle.std.proofs.lemmas.Option.{none-some, same_Some, slice_get_read}
-use Rattle.swift_script.specs.Scripts.{ScriptView}
-use Rattle.swift_inbox.specs.Site.{Site}
-use Rattle.swift_executor.specs.Exec.{ExecIs, DeskIs, IsDeskOf, after_run, book_of}
+use Rattle.swift_queue.specs.Job.{JobIs}
+use Rattle.swift_turn.specs.Body.{BodyView}
+use Rattle.swift_ticket.specs.Tickets.{TicketedIs}
+use Rattle.swift_inbox.specs.Site.{CanRunAt, Site}
+use Rattle.swift_executor.specs.Exec.{ExecIs, DeskIs, IsBookOf, IsDeskOf, after_run, has_sent}
 use Rattle.swift_executor.specs.declared.ran.Ran.{Ran}
 use Rattle.swift_executor.specs.declared.ran.Ran.TheVariants.{Turn, Busy, Nothing}
 use Rattle.swift_workers.specs.declared.crew.Hand.{Hand}
 use Rattle.swift_shared_book.specs.Shared.{BookLockIs}
-use Rattle.swift_workers.specs.Crew.{AreAtSites, AreDesksOf, AreHandsOf, AreOfBook}
+use Rattle.swift_workers.specs.Crew.{AreAtSites, AreDesksOf, AreHandsOf, IsHandOf}
 
 abbrev Each : List ExecIs → List DeskIs → Type 0
 Each execs desks = (k : ℕ) (e : ExecIs) (d : DeskIs) → slice_get execs k ≡ Some e → slice_get desks k ≡ Some d → IsDeskOf e d
@@ -40,6 +42,10 @@ desk_set execs desks k e d are lt at is = record {
   each = each_set execs desks k e d are.each (slice_get_read execs (length execs) k e refl lt at) is;
 }
 
+-- a desk that has sent a job is of the same executor
+pub desk_sent : (e : ExecIs) (old new : DeskIs) (j : JobIs BodyView) → IsDeskOf e old → new ≡ has_sent old j → IsDeskOf e new
+desk_sent e old new j is same = subst (λ (d : DeskIs). IsDeskOf e d) (sym same) is
+
 -- a desk after a visit is of the same executor
 pub desk_ran : (e : ExecIs) (old new : DeskIs) (ran : Ran) → IsDeskOf e old → new ≡ after_run ran old → IsDeskOf e new
 desk_ran e old new (Turn task left) is same = subst (λ (d : DeskIs). IsDeskOf e d) (sym same) is
@@ -61,49 +67,36 @@ desk_push execs desks e d are is = record {
   each = each_push execs desks e d are.as_many are.each is;
 }
 
-sites_from : (p : ScriptView) (n : ℕ) (execs : List ExecIs) (e : ExecIs) → ((k : ℕ) (f : ExecIs) → slice_get execs k ≡ Some f → f.inbox.site ≡ record { script = p; executor = n + k })
-    → e.inbox.site ≡ record { script = p; executor = n + length execs } → (k : ℕ) (f : ExecIs) → slice_get (execs ++ e ∷ []) k ≡ Some f → f.inbox.site ≡ record { script = p; executor = n + k }
-sites_from p n [] e are is zero f at = subst (λ (z : ExecIs). z.inbox.site ≡ record { script = p; executor = n + 0 }) (same_Some e f at) is
-sites_from p n [] e are is (suc k) f at = absurd (cc at)
-sites_from p n (x ∷ xs) e are is zero f at = are zero f at
-sites_from p n (x ∷ xs) e are is (suc k) f at =
+-- the site of the executor of this number, of the script and the book of this lock
+abbrev pub place_of : BookLockIs → ℕ → Site
+place_of b k = record { script = b.script; executor = k; book = Some b.id }
+
+sites_from : (b : BookLockIs) (n : ℕ) (execs : List ExecIs) (e : ExecIs) → ((k : ℕ) (f : ExecIs) → slice_get execs k ≡ Some f → f.inbox.site ≡ place_of b (n + k)) → e.inbox.site ≡ place_of b (n + length execs)
+    → (k : ℕ) (f : ExecIs) → slice_get (execs ++ e ∷ []) k ≡ Some f → f.inbox.site ≡ place_of b (n + k)
+sites_from b n [] e are is zero f at = subst (λ (x : ExecIs). x.inbox.site ≡ place_of b (n + 0)) (same_Some e f at) is
+sites_from b n [] e are is (suc k) f at = absurd (cc at)
+sites_from b n (x ∷ xs) e are is zero f at = are zero f at
+sites_from b n (x ∷ xs) e are is (suc k) f at =
     let move : (m : ℕ) → suc n + m ≡ n + suc m = λ m. omega arith in
-    subst (λ m. f.inbox.site ≡ record { script = p; executor = m }) (move k)
-    (sites_from p (suc n) xs e (λ i g there. subst (λ m. g.inbox.site ≡ record { script = p; executor = m }) (sym (move i)) (are (suc i) g there)) (subst (λ m. e.inbox.site ≡ record { script = p; executor = m }) (sym (move (length xs))) is) k f at)
+    subst (λ m. f.inbox.site ≡ place_of b m) (move k)
+    (sites_from b (suc n) xs e (λ i g there. subst (λ m. g.inbox.site ≡ place_of b m) (sym (move i)) (are (suc i) g there)) (subst (λ m. e.inbox.site ≡ place_of b m) (sym (move (length xs))) is) k f at)
 
 -- one executor more, at its place
-pub site_push : (p : ScriptView) (execs : List ExecIs) (e : ExecIs) → AreAtSites p execs → e.inbox.site ≡ record { script = p; executor = length execs } → AreAtSites p (execs ++ e ∷ [])
-site_push p execs e are is =
+pub site_push : (b : BookLockIs) (execs : List ExecIs) (e : ExecIs) → AreAtSites b execs → e.inbox.site ≡ place_of b (length execs) → AreAtSites b (execs ++ e ∷ [])
+site_push b execs e are is =
     let to : (n : ℕ) → 0 + n ≡ n = λ n. omega arith in
-    λ k f at. subst (λ n. f.inbox.site ≡ record { script = p; executor = n }) (to k)
-    (sites_from p 0 execs e (λ i g there. subst (λ n. g.inbox.site ≡ record { script = p; executor = n }) (sym (to i)) (are i g there)) (subst (λ n. e.inbox.site ≡ record { script = p; executor = n }) (sym (to (length execs))) is) k f at)
-
--- one executor more of the same book
-pub book_push : (b : BookLockIs) (execs : List ExecIs) (e : ExecIs) → AreOfBook b execs → b ≡ book_of e → AreOfBook b (execs ++ e ∷ [])
-book_push b [] e are is zero f at = subst (λ (z : ExecIs). b ≡ book_of z) (same_Some e f at) is
-book_push b [] e are is (suc k) f at = absurd (cc at)
-book_push b (x ∷ xs) e are is zero f at = are zero f at
-book_push b (x ∷ xs) e are is (suc k) f at = book_push b xs e (λ i g there. are (suc i) g there) is k f at
-
--- the book of the executor at a place
-pub book_at : (b : BookLockIs) (execs : List ExecIs) (k : ℕ) (e : ExecIs) → AreOfBook b execs → k < length execs → e ≡ get_or execs k e → b ≡ book_of e
-book_at b execs k e are lt at = are k e (slice_get_read execs (length execs) k e refl lt at)
-
-at_end : (xs rest : List ExecIs) (e : ExecIs) → slice_get (xs ++ e ∷ rest) (length xs) ≡ Some e
-at_end [] rest e = refl
-at_end (x ∷ xs) rest e = at_end xs rest e
+    λ k f at. subst (λ n. f.inbox.site ≡ place_of b n) (to k)
+    (sites_from b 0 execs e (λ i g there. subst (λ n. g.inbox.site ≡ place_of b n) (sym (to i)) (are i g there)) (subst (λ n. e.inbox.site ≡ place_of b n) (sym (to (length execs))) is) k f at)
 
 -- the site of the executor at a place
-pub site_at : (p : ScriptView) (execs : List ExecIs) (k : ℕ) (e : ExecIs) → AreAtSites p execs → k < length execs → e ≡ get_or execs k e → e.inbox.site ≡ record { script = p; executor = k }
-site_at p execs k e are lt at = are k e (slice_get_read execs (length execs) k e refl lt at)
+pub site_at : (b : BookLockIs) (execs : List ExecIs) (k : ℕ) (e : ExecIs) → AreAtSites b execs → k < length execs → e ≡ get_or execs k e → e.inbox.site ≡ place_of b k
+site_at b execs k e are lt at = are k e (slice_get_read execs (length execs) k e refl lt at)
 
--- the script of the executor at a place
-pub site_script : (p : ScriptView) (execs : List ExecIs) (k : ℕ) (e : ExecIs) → AreAtSites p execs → k < length execs → e ≡ get_or execs k e → e.inbox.site.script ≡ p
-site_script p execs k e are lt at = ap (λ (x : Site). x.script) (are k e (slice_get_read execs (length execs) k e refl lt at))
-
--- the executor after those of a prefix
-pub site_after : (p : ScriptView) (before rest execs : List ExecIs) (e : ExecIs) → AreAtSites p execs → before ++ e ∷ rest ≡ execs → e.inbox.site ≡ record { script = p; executor = length before }
-site_after p before rest execs e are is = are (length before) e (subst (λ (xs : List ExecIs). slice_get xs (length before) ≡ Some e) is (at_end before rest e))
+-- the book is that of the executor at a place
+pub book_at : (b : BookLockIs) (execs : List ExecIs) (k : ℕ) (e : ExecIs) → AreAtSites b execs → k < length execs → e ≡ get_or execs k e → IsBookOf e b
+book_at b execs k e are lt at =
+    let site = site_at b execs k e are lt at in
+    (ap (λ (x : Site). x.book) site, sym (ap (λ (x : Site). x.script) site))
 
 take_suc : (xs : List ExecIs) (n : ℕ) (x : ExecIs) → slice_get xs n ≡ Some x → take (suc n) xs ≡ take n xs ++ x ∷ []
 take_suc [] n x is = absurd (none-some x is)
@@ -116,10 +109,14 @@ one_more n = omega arith
 pub take_next : (xs : List ExecIs) (n : ℕ) (x : ExecIs) → slice_get xs n ≡ Some x → take (n + 1) xs ≡ take n xs ++ x ∷ []
 take_next xs n x is = ap (λ k. take k xs) (one_more n) ∙ take_suc xs n x is
 
-pub last_hand : (execs : List ExecIs) (hands : List Hand) (h : Hand) → AreHandsOf execs (hands ++ h ∷ []) → AreDesksOf execs h.desks.items
-last_hand execs [] h are = are.0
-last_hand execs (x ∷ xs) h are = last_hand execs xs h are.1
+pub last_hand : (b : BookLockIs) (execs : List ExecIs) (hands : List Hand) (h : Hand) → AreHandsOf b execs (hands ++ h ∷ []) → IsHandOf b execs h
+last_hand b execs [] h are = are.0
+last_hand b execs (x ∷ xs) h are = last_hand b execs xs h are.1
 
-pub hand_push : (execs : List ExecIs) (hands : List Hand) (h : Hand) → AreHandsOf execs hands → AreDesksOf execs h.desks.items → AreHandsOf execs (hands ++ h ∷ [])
-hand_push execs [] h are is = (is, tt)
-hand_push execs (x ∷ xs) h are is = (are.0, hand_push execs xs h are.1 is)
+pub hand_push : (b : BookLockIs) (execs : List ExecIs) (hands : List Hand) (h : Hand) → AreHandsOf b execs hands → IsHandOf b execs h → AreHandsOf b execs (hands ++ h ∷ [])
+hand_push b execs [] h are is = (is, tt)
+hand_push b execs (x ∷ xs) h are is = (are.0, hand_push b execs xs h are.1 is)
+
+-- a job that may be sent to an executor of this site may be sent to the executor
+pub can_run : (e : ExecIs) (s : Site) (t : TicketedIs) → e.inbox.site ≡ s → CanRunAt s t → CanRunAt e.inbox.site t
+can_run e s t is can = subst (λ (x : Site). CanRunAt x t) (sym is) can

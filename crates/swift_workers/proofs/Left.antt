@@ -1,17 +1,25 @@
 -- One executor more, and one task more, of what a run leaves.
-use Rattle.std.proofs.Common.{◌≡◌, ℕ, suc, ◌+◌, ℤ, List, [], ◌∷◌, ◌++◌, length, sym, subst, ap, ◌∙◌, arith, add-zero, length-append}
+use Rattle.std.proofs.Common.{◌≡◌, ℕ, suc, ◌+◌, ℤ, List, [], ◌∷◌, ◌++◌, Some, Contains, length, refl, sym, subst, ap, ◌∙◌, arith, add-zero, length-append}
+use Rattle.std.proofs.lemmas.List.Elements.{Contains-append_left, Contains-append_right}
+use Rattle.std.specs.Prelude.{slice_get}
 use Rattle.std.specs.declared.vec.Vec.{Vec}
 use Rattle.std.specs.declared.alloc.Global.{Global}
 use Rattle.script_code.specs.Seen.{rows_of}
-use Rattle.swift_script.specs.Scripts.{ScriptView}
-use Rattle.swift_journal.specs.Checkpoints.{CheckpointRoom, CheckpointView}
+use Rattle.swift_script.specs.Scripts.{ScriptView, executor_start}
+use Rattle.swift_journal.specs.Checkpoints.{CheckpointRoom, CheckpointView, folded_of}
 use Rattle.swift_journal.specs.Records.{RecordView}
+use Rattle.swift_journal.specs.Replay.{replay}
 use Rattle.swift_inbox.specs.Site.{Site}
+use Rattle.atomic_table.specs.Seated.{TableId}
+use Rattle.swift_known.specs.Views.{Account, SeatView}
+use Rattle.swift_course.specs.Reports.{IsAccountedFor}
+use Rattle.swift_course.specs.Seats.{gathered}
 use Rattle.swift_executor.specs.Exec.{site_of}
+use Rattle.swift_executor.specs.Seats.{AccountsFor}
 use Rattle.swift_executor.specs.State.{ExecView, IsExecutor}
 use Rattle.swift_workers.specs.declared.leave.Parts.{Parts}
 use Rattle.swift_workers.specs.Leaves.{AreReplayed, EachFrom, IsReplayed, KeepInvariants, Keeps}
-use Rattle.swift_workers.specs.PartsInside.{AreParts}
+use Rattle.swift_workers.specs.PartsInside.{AreAccountedFor, AreParts}
 
 abbrev Rows : Type 0
 Rows = Vec (Vec ℤ Global) Global
@@ -29,6 +37,49 @@ replayed_push p e (d ∷ cs) (k ∷ js) [] c j f are is = absurd are
 replayed_push p e (d ∷ cs) (k ∷ js) (g ∷ fs) c j f are is =
     (are.0, replayed_push p (e + 1) cs js fs c j f are.1 (subst (λ n. IsReplayed p n c.view j (rows_of f.items)) (next_place e (length cs)) is))
 
+accounted_push : (p : ScriptView) (v : SeatView) (e : ℕ) (cs : List CheckpointRoom) (js : List (List RecordView)) (fs : List Rows) (c : CheckpointRoom) (j : List RecordView) (f : Rows)
+    → AreAccountedFor p v e cs js fs → IsAccountedFor p v (e + length cs) j c.view (rows_of f.items) → AreAccountedFor p v e (cs ++ c ∷ []) (js ++ j ∷ []) (fs ++ f ∷ [])
+accounted_push p v e [] [] [] c j f are is = (subst (λ n. IsAccountedFor p v n j c.view (rows_of f.items)) (add-zero e) is, tt)
+accounted_push p v e [] [] (g ∷ fs) c j f are is = absurd are
+accounted_push p v e [] (k ∷ js) fs c j f are is = absurd are
+accounted_push p v e (d ∷ cs) [] fs c j f are is = absurd are
+accounted_push p v e (d ∷ cs) (k ∷ js) [] c j f are is = absurd are
+accounted_push p v e (d ∷ cs) (k ∷ js) (g ∷ fs) c j f are is =
+    (are.0, accounted_push p v (e + 1) cs js fs c j f are.1 (subst (λ n. IsAccountedFor p v n j c.view (rows_of f.items)) (next_place e (length cs)) is))
+
+accounted_more : (p : ScriptView) (v w : SeatView) (e : ℕ) (journal : List RecordView) (c : CheckpointView) (fields : List (List ℤ)) → IsAccountedFor p v e journal c fields → IsAccountedFor p (gathered v w) e journal c fields
+accounted_more p v w e journal c fields is = record {
+  past = is.past;
+  account = Contains-append_left v.accounts w.accounts (record { executor = e; records = is.past ++ journal }) is.account;
+  folded = is.folded;
+  replayed = is.replayed;
+  fields_are = is.fields_are;
+}
+
+-- what the accounts of a seat say stays so where it takes in another
+all_more : (p : ScriptView) (v w : SeatView) (e : ℕ) (cs : List CheckpointRoom) (js : List (List RecordView)) (fs : List Rows) → AreAccountedFor p v e cs js fs → AreAccountedFor p (gathered v w) e cs js fs
+all_more p v w e [] [] [] are = tt
+all_more p v w e [] [] (g ∷ fs) are = absurd are
+all_more p v w e [] (k ∷ js) fs are = absurd are
+all_more p v w e (d ∷ cs) [] fs are = absurd are
+all_more p v w e (d ∷ cs) (k ∷ js) [] are = absurd are
+all_more p v w e (d ∷ cs) (k ∷ js) (g ∷ fs) are = (accounted_more p v w e k d.view (rows_of g.items) are.0, all_more p v w (e + 1) cs js fs are.1)
+
+only_one : (a : Account) → Contains (a ∷ []) a
+only_one a = (0, omega arith, refl)
+
+-- The account of an executor's seat says what is left of the executor, once it is gathered.
+accounted_new : (v w : SeatView) (s : ExecView) → AccountsFor s w → s.fields ≡ replay s.script s.checkpoint.fields s.journal → IsAccountedFor s.script (gathered v w) s.executor s.journal s.checkpoint s.fields
+accounted_new v w s are replayed =
+    let a : Account = record { executor = s.executor; records = are.past ++ s.journal } in
+    record {
+      past = are.past;
+      account = Contains-append_right v.accounts w.accounts a (subst (λ (accounts : List Account). Contains accounts a) (sym are.accounts) (only_one a));
+      folded = are.folded;
+      replayed = are.replayed;
+      fields_are = replayed;
+    }
+
 -- one thing more, of each of which something holds
 pub each_push : {A : Type 0} (P : ℕ → A → Type 0) (n : ℕ) (xs : List A) (x : A) → EachFrom P n xs → P (n + length xs) x → EachFrom P n (xs ++ x ∷ [])
 each_push P n [] x are is = (subst (λ k. P k x) (add-zero n) is, tt)
@@ -40,28 +91,46 @@ zero_more n = omega arith
 pub one_longer : {X : Type 0} (xs : List X) (x : X) (n : ℕ) → length xs ≡ n → length (xs ++ x ∷ []) ≡ n + 1
 one_longer xs x n is = omega (arith, is, length-append xs (x ∷ []))
 
--- the parts of the executors of a prefix, and of the one after them, whose state this was
-pub parts_push : (p : ScriptView) (many : ℕ) (old new : Parts) (s : ExecView) (c : CheckpointRoom) (f : Rows) → AreParts p many old → site_of s ≡ record { script = p; executor = many } → IsExecutor s → Keeps s.script s.executor s.fields
-    → c.view ≡ s.checkpoint → rows_of f.items ≡ s.fields → new.checkpoints.items ≡ old.checkpoints.items ++ c ∷ [] → new.journals.items ≡ old.journals.items ++ s.journal ∷ [] → new.fields.items ≡ old.fields.items ++ f ∷ []
-    → AreParts p (many + 1) new
-parts_push p many old new s c f are site is keeps checkpoint fields cs js fs =
+-- the parts of the executors of a prefix, and of the one after them, whose state this was, and whose seat was gathered
+parts_push : (p : ScriptView) (lock : TableId) (v w : SeatView) (many : ℕ) (old new : Parts) (s : ExecView) (c : CheckpointRoom) (f : Rows) → AreParts p v many old → site_of lock s ≡ record { script = p; executor = many; book = Some lock }
+    → IsExecutor s → Keeps s.script s.executor s.fields → AccountsFor s w → c.view ≡ s.checkpoint → rows_of f.items ≡ s.fields → new.checkpoints.items ≡ old.checkpoints.items ++ c ∷ []
+    → new.journals.items ≡ old.journals.items ++ s.journal ∷ [] → new.fields.items ≡ old.fields.items ++ f ∷ [] → AreParts p (gathered v w) (many + 1) new
+parts_push p lock v w many old new s c f are site is keeps known checkpoint fields cs js fs =
+    let both : SeatView = gathered v w in
     let script : s.script ≡ p = ap (λ (x : Site). x.script) site in
     let executor : s.executor ≡ many = ap (λ (x : Site). x.executor) site in
+    let place : s.executor ≡ 0 + length old.checkpoints.items = executor ∙ sym are.checkpoints ∙ zero_more (length old.checkpoints.items) in
     let own : IsReplayed s.script s.executor s.checkpoint s.journal s.fields = record { past = is.past; lawful = is.lawful; runs = is.runs; replayed = is.replayed } in
     let of_script : IsReplayed p s.executor s.checkpoint s.journal s.fields = subst (λ (x : ScriptView). IsReplayed x s.executor s.checkpoint s.journal s.fields) script own in
-    let at_place : IsReplayed p (0 + length old.checkpoints.items) s.checkpoint s.journal s.fields = subst (λ n. IsReplayed p n s.checkpoint s.journal s.fields) (executor ∙ sym are.checkpoints ∙ zero_more (length old.checkpoints.items)) of_script in
+    let at_place : IsReplayed p (0 + length old.checkpoints.items) s.checkpoint s.journal s.fields = subst (λ n. IsReplayed p n s.checkpoint s.journal s.fields) place of_script in
     let with_view : IsReplayed p (0 + length old.checkpoints.items) c.view s.journal s.fields = subst (λ (x : CheckpointView). IsReplayed p (0 + length old.checkpoints.items) x s.journal s.fields) (sym checkpoint) at_place in
     let replayed : IsReplayed p (0 + length old.checkpoints.items) c.view s.journal (rows_of f.items) = subst (λ (x : List (List ℤ)). IsReplayed p (0 + length old.checkpoints.items) c.view s.journal x) (sym fields) with_view in
+    let said : IsAccountedFor s.script both s.executor s.journal s.checkpoint s.fields = accounted_new v w s known is.replayed in
+    let said_script : IsAccountedFor p both s.executor s.journal s.checkpoint s.fields = subst (λ (x : ScriptView). IsAccountedFor x both s.executor s.journal s.checkpoint s.fields) script said in
+    let said_place : IsAccountedFor p both (0 + length old.checkpoints.items) s.journal s.checkpoint s.fields = subst (λ n. IsAccountedFor p both n s.journal s.checkpoint s.fields) place said_script in
+    let said_view : IsAccountedFor p both (0 + length old.checkpoints.items) s.journal c.view s.fields = subst (λ (x : CheckpointView). IsAccountedFor p both (0 + length old.checkpoints.items) s.journal x s.fields) (sym checkpoint) said_place in
+    let accounted : IsAccountedFor p both (0 + length old.checkpoints.items) s.journal c.view (rows_of f.items) = subst (λ (x : List (List ℤ)). IsAccountedFor p both (0 + length old.checkpoints.items) s.journal c.view x) (sym fields) said_view in
     let keeps_script : Keeps p s.executor s.fields = subst (λ (x : ScriptView). Keeps x s.executor s.fields) script keeps in
     let keeps_place : Keeps p (0 + length old.fields.items) s.fields = subst (λ n. Keeps p n s.fields) (executor ∙ sym are.fields ∙ zero_more (length old.fields.items)) keeps_script in
     let kept : Keeps p (0 + length old.fields.items) (rows_of f.items) = subst (λ (x : List (List ℤ)). Keeps p (0 + length old.fields.items) x) (sym fields) keeps_place in
     let all = replayed_push p 0 old.checkpoints.items old.journals.items old.fields.items c s.journal f are.lawful replayed in
     let all_cs = subst (λ (x : List CheckpointRoom). AreReplayed p 0 x (old.journals.items ++ s.journal ∷ []) (old.fields.items ++ f ∷ [])) (sym cs) all in
     let all_js = subst (λ (x : List (List RecordView)). AreReplayed p 0 new.checkpoints.items x (old.fields.items ++ f ∷ [])) (sym js) all_cs in
+    let told = accounted_push p both 0 old.checkpoints.items old.journals.items old.fields.items c s.journal f (all_more p v w 0 old.checkpoints.items old.journals.items old.fields.items are.accounts) accounted in
+    let told_cs = subst (λ (x : List CheckpointRoom). AreAccountedFor p both 0 x (old.journals.items ++ s.journal ∷ []) (old.fields.items ++ f ∷ [])) (sym cs) told in
+    let told_js = subst (λ (x : List (List RecordView)). AreAccountedFor p both 0 new.checkpoints.items x (old.fields.items ++ f ∷ [])) (sym js) told_cs in
     record {
       lawful = subst (λ (x : List Rows). AreReplayed p 0 new.checkpoints.items new.journals.items x) (sym fs) all_js;
+      accounts = subst (λ (x : List Rows). AreAccountedFor p both 0 new.checkpoints.items new.journals.items x) (sym fs) told_js;
       invariants = subst (λ (x : List Rows). KeepInvariants p 0 x) (sym fs) (each_push (λ k (rows : Rows). Keeps p k (rows_of rows.items)) 0 old.fields.items f are.invariants kept);
       journals = ap length js ∙ one_longer old.journals.items s.journal many are.journals;
       checkpoints = ap length cs ∙ one_longer old.checkpoints.items c many are.checkpoints;
       fields = ap length fs ∙ one_longer old.fields.items f many are.fields;
     }
+
+-- the same for a seat that knows what was gathered
+pub parts_gathered : (p : ScriptView) (lock : TableId) (v w u : SeatView) (many : ℕ) (old new : Parts) (s : ExecView) (c : CheckpointRoom) (f : Rows) → u ≡ gathered v w → AreParts p v many old → site_of lock s ≡ record { script = p; executor = many; book = Some lock }
+    → IsExecutor s → Keeps s.script s.executor s.fields → AccountsFor s w → c.view ≡ s.checkpoint → rows_of f.items ≡ s.fields → new.checkpoints.items ≡ old.checkpoints.items ++ c ∷ []
+    → new.journals.items ≡ old.journals.items ++ s.journal ∷ [] → new.fields.items ≡ old.fields.items ++ f ∷ [] → AreParts p u (many + 1) new
+parts_gathered p lock v w u many old new s c f same are site is keeps known checkpoint fields cs js fs =
+    subst (λ (x : SeatView). AreParts p x (many + 1) new) (sym same) (parts_push p lock v w many old new s c f are site is keeps known checkpoint fields cs js fs)

@@ -1,4 +1,5 @@
-pub mod Certified
 pub mod CrossesThreads
 pub mod Desks
 pub mod Left
+pub mod Opening
+pub mod Reported

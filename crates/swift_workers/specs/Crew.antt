@@ -1,19 +1,15 @@
 -- The executors of a script, and the desks of each worker.
-use Rattle.std.specs.Prelude.{◌≡◌, ℕ, ◌-◌, List, Some, length, slice_get}
+use Rattle.std.specs.Prelude.{◌≡◌, ℕ, ◌-◌, List, [], Some, length, slice_get}
 use Rattle.std.specs.List.{AllByRecursion}
+use Rattle.swift_known.specs.Views.{SeatView}
+use Rattle.swift_executor.specs.Exec.{ExecIs, DeskIs, IsDeskOf}
+use Rattle.swift_shared_book.specs.Shared.{BookLockIs}
 use Rattle.swift_workers.specs.declared.crew.Hand.{Hand}
 use Rattle.swift_workers.specs.Leaves.{EachFrom}
-use Rattle.swift_script.specs.Scripts.{ScriptView}
-use Rattle.swift_executor.specs.Exec.{ExecIs, DeskIs, IsDeskOf, book_of}
-use Rattle.swift_shared_book.specs.Shared.{BookLockIs}
 
--- the kth executor is that of the script with the number k
-abbrev pub AreAtSites : ScriptView → List ExecIs → Type 0
-AreAtSites p execs = (k : ℕ) (e : ExecIs) → slice_get execs k ≡ Some e → e.inbox.site ≡ record { script = p; executor = k }
-
--- each executor is of this book
-abbrev pub AreOfBook : BookLockIs → List ExecIs → Type 0
-AreOfBook b execs = (k : ℕ) (e : ExecIs) → slice_get execs k ≡ Some e → b ≡ book_of e
+-- the kth executor is that of the book's script with the number k, and runs the jobs that the book gives
+abbrev pub AreAtSites : BookLockIs → List ExecIs → Type 0
+AreAtSites b execs = (k : ℕ) (e : ExecIs) → slice_get execs k ≡ Some e → e.inbox.site ≡ record { script = b.script; executor = k; book = Some b.id }
 
 -- the kth desk is of the kth executor
 pub record AreDesksOf (execs : List ExecIs) (desks : List DeskIs) : Type 0 where
@@ -25,6 +21,16 @@ pub record AreOthers (workers : ℕ) (hands : List Hand) : Type 0 where
   pub many : length hands ≡ workers - 1
   pub each : EachFrom (λ k hand. hand.worker ≡ k) 1 hands
 
--- the desks of each of these workers are of these executors
-abbrev pub AreHandsOf : List ExecIs → List Hand → Type 0
-AreHandsOf execs hands = AllByRecursion (λ h. AreDesksOf execs h.desks.items) hands
+-- A worker's desks are of these executors, and it has no jobs to send; those that it will have are given by this book.
+pub record IsHandOf (b : BookLockIs) (execs : List ExecIs) (hand : Hand) : Type 0 where
+  pub desks : AreDesksOf execs hand.desks.items
+  pub book : hand.jobs.book ≡ b.id
+  pub none : hand.jobs.jobs ≡ []
+
+-- the same of each of these workers
+abbrev pub AreHandsOf : BookLockIs → List ExecIs → List Hand → Type 0
+AreHandsOf b execs hands = AllByRecursion (IsHandOf b execs) hands
+
+-- what the seat knows that opens accounts, once it has opened so many and added no root
+abbrev pub has_opened : ℕ → SeatView → SeatView
+has_opened many v = record v { maker = Some (record { executors = many; roots = 0 }) }

@@ -1,6 +1,6 @@
 -- What a run leaves of its executors and of its tasks (SE-0392 for executors that run one job at a time, SE-0304 for tasks; the
 -- rest is our own).
-use Rattle.std.specs.Prelude.{◌≡◌, ◌↔◌, ℕ, ◌+◌, ◌<◌, ℤ, IsTrue, Some, List, [], ◌∷◌, Contains, length}
+use Rattle.std.specs.Prelude.{◌≡◌, ◌↔◌, ℕ, ◌+◌, ◌<◌, ℤ, true, IsTrue, Some, List, [], ◌∷◌, Contains, length}
 use Rattle.std.specs.declared.vec.Vec.{Vec}
 use Rattle.std.specs.declared.alloc.Global.{Global}
 use Rattle.script_code.specs.Seen.{rows_of}
@@ -16,6 +16,7 @@ use Rattle.swift_events.specs.declared.life.Origin.{Origin}
 use Rattle.swift_events.specs.declared.life.Origin.TheVariants.{Root}
 use Rattle.swift_events.specs.Events.{tasks_of}
 use Rattle.swift_events.specs.Lives.{life_of}
+use Rattle.swift_events.specs.Relations.{is_closed, opened_by}
 use Rattle.swift_executor.specs.State.{HasPast}
 
 -- The turns of an executor's checkpoint were lawful from the start values on (`HasPast`), its journal is lawful from the checkpoint
@@ -46,11 +47,13 @@ Keeps p e rows = (t : Term) → Contains (executor_invariants p e) t → IsTrue 
 abbrev pub KeepInvariants : ScriptView → ℕ → List (Vec (Vec ℤ Global) Global) → Type 0
 KeepInvariants p e fields = EachFrom (λ k rows. Keeps p k (rows_of rows.items)) e fields
 
--- A task comes from there and has ended so, as the log says. It is a root's where its number is below that of roots.
+-- A task comes from there and has ended so, as the log says. It is a root's where its number is below that of roots. It has closed
+-- each group that it has opened.
 pub record IsEnding (roots : ℕ) (log : List Event) (task : ℕ) (e : Origin × Ending) : Type 0 where
   pub origin : (life_of task log).origin ≡ Some e.0
   pub ending : (life_of task log).ending ≡ Some e.1
   pub root : (e.0 ≡ Root) ↔ (task < roots)
+  pub groups : (g : ℕ) → g < opened_by task log → is_closed task g log ≡ true
 
 -- There is one ending for each task that the log made, in their order, and the first ones are those of the roots.
 pub record AreEndings (roots : ℕ) (log : List Event) (endings : List (Origin × Ending)) : Type 0 where

@@ -1,12 +1,27 @@
 -- What is kept of executors on the way to a report. No public clause names it.
-use Rattle.std.specs.Prelude.{◌≡◌, ℕ, length}
+use Rattle.std.specs.Prelude.{◌≡◌, ℕ, ◌+◌, ℤ, List, [], ◌∷◌, length}
+use Rattle.std.specs.declared.vec.Vec.{Vec}
+use Rattle.std.specs.declared.alloc.Global.{Global}
+use Rattle.script_code.specs.Seen.{rows_of}
 use Rattle.swift_script.specs.Scripts.{ScriptView}
+use Rattle.swift_journal.specs.Checkpoints.{CheckpointRoom}
+use Rattle.swift_journal.specs.Records.{RecordView}
+use Rattle.swift_known.specs.Views.{SeatView}
+use Rattle.swift_course.specs.Reports.{IsAccountedFor}
 use Rattle.swift_workers.specs.declared.leave.Parts.{Parts}
 use Rattle.swift_workers.specs.Leaves.{AreReplayed, KeepInvariants}
 
--- the journals, checkpoints and fields of the first executors, so many
-pub record AreParts (p : ScriptView) (many : ℕ) (parts : Parts) : Type 0 where
+-- What is left of each executor from a number on is what an account of the seat says.
+abbrev pub AreAccountedFor : ScriptView → SeatView → ℕ → List CheckpointRoom → List (List RecordView) → List (Vec (Vec ℤ Global) Global) → Type 0
+AreAccountedFor p v e [] [] [] = Unit {0}
+AreAccountedFor p v e (c ∷ checkpoints) (journal ∷ journals) (fields ∷ others) =
+    IsAccountedFor p v e journal c.view (rows_of fields.items) × AreAccountedFor p v (e + 1) checkpoints journals others
+AreAccountedFor p v e _ _ _ = ⊥
+
+-- the journals, checkpoints and fields of the first executors, so many, whose seats were gathered in one that knows v
+pub record AreParts (p : ScriptView) (v : SeatView) (many : ℕ) (parts : Parts) : Type 0 where
   pub lawful : AreReplayed p 0 parts.checkpoints.items parts.journals.items parts.fields.items
+  pub accounts : AreAccountedFor p v 0 parts.checkpoints.items parts.journals.items parts.fields.items
   pub invariants : KeepInvariants p 0 parts.fields.items
   pub journals : length parts.journals.items ≡ many
   pub checkpoints : length parts.checkpoints.items ≡ many

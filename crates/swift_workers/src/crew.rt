@@ -1,10 +1,10 @@
 //! The executors of a script, and the desks of each worker.
 
-ghost use Rattle.std.specs.Prelude.{◌≡◌, ◌<◌, IfOk, length};
+ghost use Rattle.std.specs.Prelude.{◌≡◌, ◌<◌, Some, IfOk, OnOk, length};
 ghost use Rattle.std.specs.Arc.{arc_value};
 ghost use Rattle.swift_script.specs.Scripts.{executor_count};
-ghost use Rattle.swift_shared_book.specs.Shared.{IsSeatOf};
-ghost use Rattle.swift_workers.specs.Crew.{AreAtSites, AreDesksOf, AreHandsOf, AreOfBook, AreOthers};
+ghost use Rattle.swift_shared_book.specs.Shared.{IsSeatOf, knowing};
+ghost use Rattle.swift_workers.specs.Crew.{AreAtSites, AreDesksOf, AreHandsOf, AreOthers, has_opened};
 
 use crate::fault::Halt;
 use crate::shared_pool::SharedPool;
@@ -12,7 +12,7 @@ use std::alloc::Global;
 use std::sync::Arc;
 use swift_executor::{Desk, Exec};
 use swift_script::Script;
-use swift_shared_book::{BookLock, BookSeat};
+use swift_shared_book::{BookLock, BookSeat, TicketedJobs};
 use swift_types::ExecId;
 use swift_types::limits::TASKS;
 
@@ -27,20 +27,22 @@ pub struct Crew<'a> {
     pub workers: u32,
 }
 
-/// What a worker has of its own: its number, a desk at each executor, in their order, and the tokens that it has to put, in order.
+/// What a worker has of its own: its number, a desk at each executor, in their order, the tokens that it has to put, in order, and the
+/// jobs that its turn has made and that it has to send, with their tickets. Between turns there are no such jobs.
 #[derive(Drop)]
 pub struct Hand {
     pub worker: u32,
     pub desks: Vec<Desk>,
     pub tokens: Vec<ExecId>,
+    pub jobs: TicketedJobs,
 }
 
 // Room for so many desks more, 128 bytes, stays empty behind those of a worker. A worker writes its desks in each turn, and those of the
 // next one lie behind them: so no line of the cache has desks of both.
 const APART: usize = 8;
 
-/// The executors of a script, in order, each with room for the jobs of all tasks and a seat of this book, and the desks of
-/// the first worker.
+/// The executors of a script, in order, each with room for the jobs of all tasks and a seat of this book for its account, and the
+/// desks of the first worker. The seat is the one that opens accounts, and has opened none.
 pub fn open_all(
     alloc: Global,
     script: &Arc<Script>,
@@ -51,9 +53,9 @@ pub fn open_all(
     requires workers { 0 < workers }
     requires seat { IsSeatOf book.now seat.old }
     requires book { book.now.script ≡ arc_value script.now }
-    ensures seat { IsSeatOf book.now seat.new }
-    ensures book { IfOk result (λ r. AreOfBook book.now r.0.items) }
-    ensures sites { IfOk result (λ r. AreAtSites (arc_value script.now) r.0.items) }
+    requires maker { seat.old.knows.maker ≡ Some (record { executors = 0; roots = 0 }) }
+    ensures seat { OnOk result (seat.new ≡ knowing (has_opened (executor_count (arc_value script.now)) seat.old.knows) seat.old) }
+    ensures sites { IfOk result (λ r. AreAtSites book.now r.0.items) }
     ensures many { IfOk result (λ r. length r.0.items ≡ executor_count (arc_value script.now)) }
     ensures desks { IfOk result (λ r. AreDesksOf r.0.items r.1.items) }
 {
@@ -63,7 +65,7 @@ pub fn open_all(
     for place in 0..script.executor_count() {
         let executor = ExecId(place as u32);
         let script = Arc::clone(script)?;
-        let own = seat.split(book);
+        let own = book.open_account(seat);
         let (exec, desk) = Exec::new(alloc, script, executor, workers, TASKS, own)?;
         execs.push(exec)?;
         desks.push(desk)?;
@@ -84,26 +86,32 @@ pub fn split_all(alloc: Global, execs: &[Exec], desks: &mut Vec<Desk>) -> Result
     Ok(others)
 }
 
-/// The hands of the workers but the first, by desks that are split from the first one's.
+/// The hands of the workers but the first, by desks that are split from the first one's. None has jobs.
 pub fn others_of(
     alloc: Global,
     execs: &[Exec],
     first: &mut Vec<Desk>,
     workers: u32,
+    book: &BookLock,
+    seat: &mut BookSeat,
 ) -> Result<Vec<Hand>, Halt>
-    requires { AreDesksOf execs.now first.old.items }
+    requires desks { AreDesksOf execs.now first.old.items }
+    requires seat { IsSeatOf book.now seat.old }
     ensures first { AreDesksOf execs.now first.new.items }
-    ensures others { IfOk result (λ hands. AreHandsOf execs.now hands.items) }
+    ensures seat { seat.new ≡ seat.old }
+    ensures others { IfOk result (λ hands. AreHandsOf book.now execs.now hands.items) }
     ensures workers { IfOk result (λ hands. AreOthers workers hands.items) }
 {
     let mut hands = Vec::new(alloc);
     for worker in 1..workers {
         let desks = split_all(alloc, execs, first)?;
         let tokens = Vec::new(alloc);
+        let jobs = book.no_jobs(alloc, seat);
         hands.push(Hand {
             worker,
             desks,
             tokens,
+            jobs,
         })?;
     }
     Ok(hands)

@@ -17,7 +17,7 @@ pub enum RunFault {
     /// A task has not ended, and no executor has a job that could go on with it; or a job was sent and not run.
     #[error("N3 unfinished jobs")]
     Unfinished,
-    /// The certificate did not find the report legal. That it finds each legal report so is tested, not proved.
+    /// A report that is not legal. No run ends with it: `run` leaves legal reports alone. It stands for reports from elsewhere.
     #[error("N4 report not legal")]
     Illegal,
     /// An executor had no room for a job, or the book refused a turn.
@@ -62,9 +62,9 @@ impl From<BookFault> for Halt {
 
 impl From<Halt> for RunFault {
     ghost use Rattle.std.specs.Prelude.{◌≢◌};
-    ghost use Rattle.swift_workers.specs.declared.fault.RunFault.TheVariants.{Workers};
+    ghost use Rattle.swift_workers.specs.declared.fault.RunFault.TheVariants.{Illegal, Workers};
 
-    ghost from_gives = { λ _ fault. fault ≢ Workers };
+    ghost from_gives = { λ _ fault. (fault ≢ Workers) × (fault ≢ Illegal) };
 
     fn from(halt: Halt) -> RunFault {
         match halt {

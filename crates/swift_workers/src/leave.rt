@@ -1,9 +1,13 @@
 //! What a run leaves.
 
-ghost use Rattle.std.specs.Prelude.{◌≡◌, ◌↔◌, ℕ, ◌+◌, None, length, IfOk, IfSome, IsOk, IsTrue, OnOk};
-ghost use Rattle.swift_script.specs.Scripts.{ScriptView, root_count};
+ghost use Rattle.std.specs.Prelude.{◌≡◌, ◌↔◌, ℕ, ◌+◌, Some, None, length, IfOk, IfSome, IsOk, IsTrue, OnOk};
+ghost use Rattle.swift_script.specs.Scripts.{ScriptView, executor_count, root_count};
 ghost use Rattle.swift_events.specs.Events.{tasks_of};
+ghost use Rattle.swift_history.specs.Histories.{IsLegal};
+ghost use Rattle.swift_certificate.specs.Reports.{report_view};
 ghost use Rattle.swift_executor.specs.Exec.{site_of};
+ghost use Rattle.swift_executor.specs.Seats.{IsSeatFor};
+ghost use Rattle.swift_shared_book.specs.Shared.{IsSeatOf};
 ghost use Rattle.swift_workers.specs.Crew.{AreAtSites};
 ghost use Rattle.swift_workers.specs.Leaves.{AreEndings, AreReplayed, IsEnding, KeepInvariants};
 ghost use Rattle.swift_workers.specs.PartsInside.{AreParts};
@@ -12,11 +16,13 @@ use crate::fault::Halt;
 use crate::sending::give_all_up;
 use std::alloc::Global;
 use std::sync::Wait;
+use swift_course::laws::runs_are_legal;
 use swift_events::{Event, Origin};
 use swift_executor::{Closed, Exec, ExecState};
 use swift_journal::{Checkpoint, Journal};
 use swift_report::Report;
 use swift_script::Script;
+use swift_shared_book::{BookLock, BookSeat};
 use swift_tasks::Book;
 use swift_types::{Ending, TaskId};
 
@@ -39,7 +45,7 @@ fn is_root(origin: Origin) -> bool
     matches!(origin, Origin::Root)
 }
 
-// Where a task comes from, and how it has ended. The first tasks are those of the roots.
+// Where a task comes from, and how it has ended. The first tasks are those of the roots. A task that has a group open has not ended.
 fn ending_of(book: &Book, roots: usize, task: TaskId) -> Result<(Origin, Ending), Halt>
     ensures { IfOk result (IsEnding roots book.now.log task.0) }
 {
@@ -51,6 +57,9 @@ fn ending_of(book: &Book, roots: usize, task: TaskId) -> Result<(Origin, Ending)
     };
     let is_first = (task.0 as usize) < roots;
     if is_root(origin) != is_first {
+        return Err(Halt::Unfinished);
+    }
+    if !book.has_closed_all(task) {
         return Err(Halt::Unfinished);
     }
     Ok((origin, ending))
@@ -74,17 +83,69 @@ fn endings_of(alloc: Global, script: &Script, book: &Book) -> Result<Vec<(Origin
     Ok(endings)
 }
 
+// What a book leaves: its log, and how its tasks have ended.
+fn ends_of(
+    alloc: Global,
+    script: &Script,
+    book: Book,
+) -> Result<(Vec<Event>, Vec<(Origin, Ending)>), Halt>
+    ensures log { IfOk result (λ r. r.0.items ≡ book.log) }
+    ensures endings { IfOk result (λ r. AreEndings (root_count script.now) book.log r.1.items) }
+{
+    let endings = endings_of(alloc, script, &book);
+    let (log, waiting) = book.close();
+    give_all_up(waiting);
+    let endings = endings?;
+    Ok((log, endings))
+}
+
 // The journals, the checkpoints and the fields of executors, in their order.
-#[derive(Drop)]
 struct Parts {
     journals: Vec<Journal>,
     checkpoints: Vec<Checkpoint>,
     fields: Vec<Vec<Vec<i64>>>,
 }
 
-// The state of an executor whose jobs have all been run. A job that was counted and not run, or that still lies in the inbox, is left.
-fn close<R: Wait>(rt: &R, exec: Exec) -> Result<ExecState, Halt>
-    ensures { IfOk result (λ s. (site_of s ≡ exec.inbox.site) × (s.chosen ≡ None)) }
+impl Drop for Parts {
+    fn drop(self) {
+        let Parts {
+            journals,
+            checkpoints,
+            fields,
+        } = self;
+        drop(journals);
+        drop(checkpoints);
+        drop(fields);
+    }
+}
+
+impl Parts {
+    // The report that has these parts, and what the book leaves.
+    fn into_report(self, log: Vec<Event>, endings: Vec<(Origin, Ending)>) -> Report
+        ensures parts { (result.journals ≡ self.journals) × (result.checkpoints ≡ self.checkpoints) × (result.fields ≡ self.fields) }
+        ensures ends { (result.log ≡ log) × (result.endings ≡ endings) }
+    {
+        let Parts {
+            journals,
+            checkpoints,
+            fields,
+        } = self;
+        Report {
+            journals,
+            checkpoints,
+            log,
+            endings,
+            fields,
+        }
+    }
+}
+
+// The state of an executor whose jobs have all been run, and the seat that knows its turns. A job that was counted and not run, or that
+// still lies in the inbox, is left.
+fn close<R: Wait>(rt: &R, exec: Exec) -> Result<(ExecState, BookSeat), Halt>
+    ensures site { IfOk result (λ r. site_of r.1.lock r.0 ≡ exec.inbox.site) }
+    ensures free { IfOk result (λ r. r.0.chosen ≡ None) }
+    ensures seat { IfOk result (λ r. IsSeatFor r.0 r.1) }
 {
     let Closed {
         pending,
@@ -94,7 +155,7 @@ fn close<R: Wait>(rt: &R, exec: Exec) -> Result<ExecState, Halt>
     } = exec.close(rt);
     let is_left = pending > 0 || !inbox.is_empty();
     give_all_up(inbox);
-    let Some((state, _pass)) = state else {
+    let Some((state, _pass, seat)) = state else {
         return Err(Halt::Unfinished);
     };
     if is_left {
@@ -102,15 +163,27 @@ fn close<R: Wait>(rt: &R, exec: Exec) -> Result<ExecState, Halt>
         give_all_up(jobs);
         return Err(Halt::Unfinished);
     }
-    Ok(state)
+    Ok((state, seat))
 }
 
-// Notes what a state has, as that of the next executor.
-fn note_state(parts: &mut Parts, state: ExecState) -> Result<(), Halt>
+// Notes what a state has, as that of the next executor, and gathers its seat.
+fn note_state(
+    parts: &mut Parts,
+    book: &BookLock,
+    seat: &mut BookSeat,
+    state: ExecState,
+    own: BookSeat,
+) -> Result<(), Halt>
     requires free { state.chosen ≡ None }
-    ensures { (p : ScriptView) (k : ℕ) → site_of state ≡ record { script = p; executor = k } → AreParts p k parts.old → OnOk result (AreParts p (k + 1) parts.new) }
+    requires known { IsSeatFor state own }
+    requires lock { own.lock ≡ book.now.id }
+    requires seat { IsSeatOf book.now seat.old }
+    ensures seat { IsSeatOf book.now seat.new }
+    ensures maker { seat.new.knows.maker ≡ seat.old.knows.maker }
+    ensures parts { (p : ScriptView) (k : ℕ) → site_of own.lock state ≡ record { script = p; executor = k; book = Some own.lock } → AreParts p seat.old.knows k parts.old → OnOk result (AreParts p seat.new.knows (k + 1) parts.new) }
 {
     state.facts();
+    book.gather(seat, own);
     let (jobs, journal, fields, checkpoint) = state.into_parts();
     give_all_up(jobs);
     parts.journals.push(journal)?;
@@ -119,8 +192,19 @@ fn note_state(parts: &mut Parts, state: ExecState) -> Result<(), Halt>
     Ok(())
 }
 
-fn parts_of<R: Wait>(rt: &R, alloc: Global, execs: Vec<Exec>) -> Result<Parts, Halt>
-    ensures { IfOk result (λ parts. (p : ScriptView) → AreAtSites p execs.items → AreParts p (length execs.items) parts) }
+// Closes the executors, in order, and gathers their seats in the one that adds roots.
+fn parts_of<R: Wait>(
+    rt: &R,
+    alloc: Global,
+    book: &BookLock,
+    seat: &mut BookSeat,
+    execs: Vec<Exec>,
+) -> Result<Parts, Halt>
+    requires sites { AreAtSites book.now execs.items }
+    requires seat { IsSeatOf book.now seat.old }
+    ensures seat { IsSeatOf book.now seat.new }
+    ensures maker { seat.new.knows.maker ≡ seat.old.knows.maker }
+    ensures parts { IfOk result (AreParts book.now.script seat.new.knows (length execs.items)) }
 {
     let mut parts = Parts {
         journals: Vec::new(alloc),
@@ -128,49 +212,44 @@ fn parts_of<R: Wait>(rt: &R, alloc: Global, execs: Vec<Exec>) -> Result<Parts, H
         fields: Vec::new(alloc),
     };
     for exec in execs {
-        let state = close(rt, exec)?;
-        note_state(&mut parts, state)?;
+        let (state, own) = close(rt, exec)?;
+        note_state(&mut parts, book, seat, state, own)?;
     }
     Ok(parts)
 }
 
-/// The report of a run that was played, or was given up. A book that was not given back is `Unfinished`.
+/// The report of a run that was played, or was given up, by the seat that has opened all accounts and added all roots. It is legal: the
+/// seats of the executors, gathered in that one, and the book say so, and no turn is followed again. A book that was not given back is
+/// `Unfinished`.
 pub fn report_of<R: Wait>(
     rt: &R,
     alloc: Global,
     script: &Script,
     execs: Vec<Exec>,
-    book: Option<Book>,
+    book: BookLock,
+    mut seat: BookSeat,
     played: Result<(), Halt>,
 ) -> Result<Report, Halt>
-    requires sites { AreAtSites script.now execs.items }
+    requires sites { AreAtSites book execs.items }
+    requires many { length execs.items ≡ executor_count script.now }
+    requires script { book.script ≡ script.now }
+    requires seat { IsSeatOf book seat }
+    requires maker { OnOk played (seat.knows.maker ≡ Some (record { executors = executor_count script.now; roots = root_count script.now })) }
     ensures played { OnOk result (IsOk played) }
+    ensures legal { IfOk result (λ r. IsLegal script.now (report_view r)) }
     ensures lawful { IfOk result (λ r. AreReplayed script.now 0 r.checkpoints.items r.journals.items r.fields.items) }
     ensures invariants { IfOk result (λ r. KeepInvariants script.now 0 r.fields.items) }
-    ensures journals { IfOk result (λ r. length r.journals.items ≡ length execs.items) }
-    ensures checkpoints { IfOk result (λ r. length r.checkpoints.items ≡ length execs.items) }
-    ensures fields { IfOk result (λ r. length r.fields.items ≡ length execs.items) }
+    ensures journals { IfOk result (λ r. length r.journals.items ≡ executor_count script.now) }
+    ensures checkpoints { IfOk result (λ r. length r.checkpoints.items ≡ executor_count script.now) }
+    ensures fields { IfOk result (λ r. length r.fields.items ≡ executor_count script.now) }
     ensures endings { IfOk result (λ r. AreEndings (root_count script.now) r.log.items r.endings.items) }
 {
-    let Some(book) = book else {
-        played?;
+    played?;
+    runs_are_legal();
+    let parts = parts_of(rt, alloc, &book, &mut seat, execs)?;
+    let Some(book) = book.close(seat) else {
         return Err(Halt::Unfinished);
     };
-    let endings = endings_of(alloc, script, &book);
-    let (log, waiting) = book.close();
-    give_all_up(waiting);
-    played?;
-    let endings = endings?;
-    let Parts {
-        journals,
-        checkpoints,
-        fields,
-    } = parts_of(rt, alloc, execs)?;
-    Ok(Report {
-        journals,
-        checkpoints,
-        log,
-        endings,
-        fields,
-    })
+    let (log, endings) = ends_of(alloc, script, book)?;
+    Ok(parts.into_report(log, endings))
 }

@@ -29,6 +29,5 @@ mod turns;
 mod whole;
 
 pub use fault::RunFault;
-pub use swift_certificate::legal;
 pub use swift_executor::{Gate, Moment, Open};
 pub use whole::run;

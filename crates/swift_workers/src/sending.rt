@@ -1,17 +1,20 @@
 //! Jobs on their way to executors.
 
-ghost use Rattle.std.specs.Prelude.{◌≡◌, [], OnOk};
+ghost use Rattle.std.specs.Prelude.{◌≡◌, [], Some, OnOk};
 ghost use Rattle.std.specs.List.{AllByRecursion};
+ghost use Rattle.swift_script.specs.Scripts.{executor_count, root_count};
+ghost use Rattle.swift_shared_book.specs.Shared.{IsSeatOf};
 ghost use Rattle.swift_tasks.specs.Books.{IsJobOf};
 ghost use Rattle.swift_workers.specs.Crew.{AreAtSites, AreDesksOf};
 
 use crate::crew::{Crew, Hand};
 use crate::fault::Halt;
 use std::sync::Wait;
-use swift_executor::{Desk, Exec, Gate};
+use swift_executor::{Desk, Gate};
 use swift_queue::Job;
 use swift_script::Script;
-use swift_tasks::Book;
+use swift_shared_book::{BookLock, BookSeat, TicketedJobs};
+use swift_ticket::TicketedJob;
 use swift_turn::Body;
 use swift_types::{ExecId, RootId};
 use swift_word::Was;
@@ -29,33 +32,34 @@ pub fn give_all_up(mut jobs: Vec<Job<Body>>) {
     jobs.destroy_empty();
 }
 
-// Puts a job into the inbox of the executor of its actor. A job that is refused is given up.
+// Puts a job into the inbox of the executor of its actor. A job that is refused is given up, with its ticket.
 fn put<R: Wait, G: Gate>(
     rt: &R,
-    script: &Script,
-    execs: &[Exec],
+    crew: Crew<'_>,
     desks: &mut Vec<Desk>,
-    job: Job<Body>,
+    job: TicketedJob,
     gate: &G,
 ) -> Result<(ExecId, Was), Halt>
-    requires sites { AreAtSites script.now execs.now }
-    requires desks { AreDesksOf execs.now desks.old.items }
-    requires job { IsJobOf script.now job }
-    ensures desks { AreDesksOf execs.now desks.new.items }
+    requires sites { AreAtSites crew.book.now crew.execs.now }
+    requires script { crew.book.now.script ≡ crew.script.now }
+    requires desks { AreDesksOf crew.execs.now desks.old.items }
+    requires job { IsJobOf crew.script.now job.job }
+    requires book { job.book ≡ Some crew.book.now.id }
+    ensures desks { AreDesksOf crew.entry.execs.now desks.new.items }
 {
-    let on = script.actor_executor(job.body().actor());
+    let on = crew.script.actor_executor(job.job().body().actor());
     let place = on.0 as usize;
-    if place >= execs.len() {
+    if place >= crew.execs.len() {
         // Each actor has one of these executors.
-        give_up(job);
+        drop(job);
         return Err(Halt::Executor);
     }
-    let exec = &execs[place];
+    let exec = &crew.execs[place];
     let desk = &mut desks[place];
     match exec.enqueue(rt, desk, job, gate) {
         Ok(was) => Ok((on, was)),
         Err((job, fault)) => {
-            give_up(job);
+            drop(job);
             Err(Halt::from(fault))
         }
     }
@@ -66,15 +70,18 @@ fn send<R: Wait, G: Gate>(
     rt: &R,
     crew: Crew<'_>,
     hand: &mut Hand,
-    job: Job<Body>,
+    job: TicketedJob,
     gate: &G,
 ) -> Result<(), Halt>
-    requires sites { AreAtSites crew.script.now crew.execs.now }
+    requires sites { AreAtSites crew.book.now crew.execs.now }
+    requires script { crew.book.now.script ≡ crew.script.now }
     requires desks { AreDesksOf crew.execs.now hand.old.desks.items }
-    requires job { IsJobOf crew.script.now job }
+    requires job { IsJobOf crew.script.now job.job }
+    requires book { job.book ≡ Some crew.book.now.id }
     ensures desks { AreDesksOf crew.entry.execs.now hand.new.desks.items }
+    ensures jobs { hand.new.jobs ≡ hand.old.jobs }
 {
-    let (on, was) = put(rt, crew.script, crew.execs, &mut hand.desks, job, gate)?;
+    let (on, was) = put(rt, crew, &mut hand.desks, job, gate)?;
     if was == Was::Idle {
         // Where there is no memory for it the token is lost, and the run is given up: no executor is visited any more.
         hand.tokens.push(on)?;
@@ -82,43 +89,51 @@ fn send<R: Wait, G: Gate>(
     Ok(())
 }
 
-/// Sends each of these jobs to the executor of its actor, in order. The tokens of executors that were idle go behind those that the
-/// worker has to put, in this order. After a refusal the jobs that are left stand in the list.
+/// Sends each job of the hand to the executor of its actor, in order. The tokens of executors that were idle go behind those that the
+/// worker has to put, in this order. After a refusal the jobs that are left stay in the hand.
 pub fn send_all<R: Wait, G: Gate>(
     rt: &R,
     crew: Crew<'_>,
     hand: &mut Hand,
-    jobs: &mut Vec<Job<Body>>,
     gate: &G,
 ) -> Result<(), Halt>
-    requires sites { AreAtSites crew.script.now crew.execs.now }
+    requires sites { AreAtSites crew.book.now crew.execs.now }
+    requires script { crew.book.now.script ≡ crew.script.now }
     requires desks { AreDesksOf crew.execs.now hand.old.desks.items }
-    requires jobs { AllByRecursion (IsJobOf crew.script.now) jobs.old.items }
+    requires book { hand.old.jobs.book ≡ crew.book.now.id }
+    requires jobs { AllByRecursion (IsJobOf crew.script.now) hand.old.jobs.jobs }
     ensures desks { AreDesksOf crew.entry.execs.now hand.new.desks.items }
-    ensures sent { OnOk result (jobs.new.items ≡ []) }
+    ensures book { hand.new.jobs.book ≡ hand.old.jobs.book }
+    ensures sent { OnOk result (hand.new.jobs.jobs ≡ []) }
 {
-    jobs.reverse();
-    while let Some(job) = jobs.pop() {
+    while let Some(job) = hand.jobs.take_first(crew.book) {
         send(rt, crew, hand, job, gate)?;
     }
     Ok(())
 }
 
-/// Adds each root to a book that has none, in order of declaration. The jobs of their first turns, in the same order.
-pub fn add_roots(script: &Script, book: &mut Book, jobs: &mut Vec<Job<Body>>) -> Result<(), Halt>
-    requires book { book.old.script ≡ script.now }
-    requires jobs { AllByRecursion (IsJobOf script.now) jobs.old.items }
-    ensures jobs { AllByRecursion (IsJobOf script.now) jobs.new.items }
-    ensures script { book.new.script ≡ script.now }
+/// Adds each root, in order of declaration, by the seat that adds roots, and has added none. The jobs of their first turns come behind
+/// those of the list, in the same order.
+pub fn add_roots<R: Wait>(
+    rt: &R,
+    script: &Script,
+    book: &BookLock,
+    seat: &mut BookSeat,
+    jobs: &mut TicketedJobs,
+) -> Result<(), Halt>
+    requires seat { IsSeatOf book.now seat.old }
+    requires script { book.now.script ≡ script.now }
+    requires maker { seat.old.knows.maker ≡ Some (record { executors = executor_count script.now; roots = 0 }) }
+    requires book { jobs.old.book ≡ book.now.id }
+    requires jobs { AllByRecursion (IsJobOf script.now) jobs.old.jobs }
+    ensures seat { IsSeatOf book.now seat.new }
+    ensures maker { OnOk result (seat.new.knows.maker ≡ Some (record { executors = executor_count script.now; roots = root_count script.now })) }
+    ensures book { jobs.new.book ≡ jobs.old.book }
+    ensures jobs { AllByRecursion (IsJobOf script.now) jobs.new.jobs }
 {
     script.facts();
-    jobs.reserve(script.root_count())?;
     for place in 0..script.root_count() {
-        let job = book.add_root(RootId(place as u32))?;
-        if let Err(full) = jobs.push(job) {
-            give_up(full.value);
-            return Err(Halt::Memory);
-        }
+        book.add_root(rt, seat, RootId(place as u32), jobs)?;
     }
     Ok(())
 }

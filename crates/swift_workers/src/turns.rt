@@ -3,20 +3,18 @@
 ghost use Rattle.std.specs.Prelude.{◌≡◌, [], OnOk};
 ghost use Rattle.std.specs.List.{AllByRecursion};
 ghost use Rattle.swift_tasks.specs.Books.{IsJobOf};
-ghost use Rattle.swift_workers.specs.Crew.{AreAtSites, AreDesksOf, AreOfBook};
+ghost use Rattle.swift_workers.specs.Crew.{AreAtSites, AreDesksOf, IsHandOf};
 ghost use Rattle.swift_workers.specs.Pools.{left_after};
 
 use crate::crew::{Crew, Hand};
 use crate::fault::Halt;
 use crate::pool::Next;
-use crate::sending::{give_all_up, send_all};
+use crate::sending::send_all;
 use futures::task::{Context, Doorbell, Solo};
 use std::alloc::AllocGlobal;
 use std::random::RandomSource;
 use std::sync::Wait;
 use swift_executor::{Gate, Ran};
-use swift_queue::Job;
-use swift_turn::Body;
 use swift_types::ExecId;
 use swift_word::Left;
 
@@ -30,22 +28,21 @@ fn left_of(ran: Ran) -> Left
     }
 }
 
-// Visits the executor of this number. The jobs that the turn made come into `jobs`.
+// Visits the executor of this number. The jobs that the turn made come into the hand.
 fn visit<R: Wait, G: Gate>(
     rt: &R,
     cx: &mut Context<'_>,
     crew: Crew<'_>,
     hand: &mut Hand,
-    jobs: &mut Vec<Job<Body>>,
     on: ExecId,
     gate: &G,
 ) -> Result<Left, Halt>
-    requires sites { AreAtSites crew.script.now crew.execs.now }
-    requires book { AreOfBook crew.book.now crew.execs.now }
-    requires desks { AreDesksOf crew.execs.now hand.old.desks.items }
-    requires jobs { jobs.old.items ≡ [] }
+    requires sites { AreAtSites crew.book.now crew.execs.now }
+    requires script { crew.book.now.script ≡ crew.script.now }
+    requires hand { IsHandOf crew.book.now crew.execs.now hand.old }
     ensures desks { AreDesksOf crew.entry.execs.now hand.new.desks.items }
-    ensures jobs { AllByRecursion (IsJobOf crew.entry.script.now) jobs.new.items }
+    ensures book { hand.new.jobs.book ≡ hand.old.jobs.book }
+    ensures jobs { AllByRecursion (IsJobOf crew.entry.script.now) hand.new.jobs.jobs }
 {
     let place = on.0 as usize;
     if place >= crew.execs.len() {
@@ -55,55 +52,44 @@ fn visit<R: Wait, G: Gate>(
     let worker = hand.worker;
     let exec = &crew.execs[place];
     let desk = &mut hand.desks[place];
-    let ran = exec.run_one(rt, desk, worker, crew.book, cx, jobs, gate)?;
+    let ran = exec.run_one(rt, desk, worker, crew.book, cx, &mut hand.jobs, gate)?;
     Ok(left_of(ran))
 }
 
 // A turn at the executor whose token this is, and then the jobs that the turn made are sent. The tokens that have to be put
 // stand in the hand: first this one, where more is pending there, and then those of executors that were idle. After a refusal the jobs
-// that were not sent stand in `jobs`.
+// that were not sent stand there too.
 fn turn_at<R: Wait, G: Gate>(
     rt: &R,
     cx: &mut Context<'_>,
     crew: Crew<'_>,
     hand: &mut Hand,
-    jobs: &mut Vec<Job<Body>>,
     on: ExecId,
     gate: &G,
 ) -> Result<(), Halt>
-    requires sites { AreAtSites crew.script.now crew.execs.now }
-    requires book { AreOfBook crew.book.now crew.execs.now }
-    requires desks { AreDesksOf crew.execs.now hand.old.desks.items }
-    requires jobs { jobs.old.items ≡ [] }
-    ensures desks { AreDesksOf crew.entry.execs.now hand.new.desks.items }
-    ensures sent { OnOk result (jobs.new.items ≡ []) }
+    requires sites { AreAtSites crew.book.now crew.execs.now }
+    requires script { crew.book.now.script ≡ crew.script.now }
+    requires hand { IsHandOf crew.book.now crew.execs.now hand.old }
+    ensures { OnOk result (IsHandOf crew.entry.book.now crew.entry.execs.now hand.new) }
 {
     // Those of the turn before have been put.
     hand.tokens.clear();
-    let left = visit(rt, cx, crew, hand, jobs, on, gate)?;
+    let left = visit(rt, cx, crew, hand, on, gate)?;
     if left == Left::More {
         hand.tokens.push(on)?;
     }
-    send_all(rt, crew, hand, jobs, gate)
+    send_all(rt, crew, hand, gate)
 }
 
-// Runs turns until the pool says that there are none left. After a refusal jobs that were made may stand in `jobs`.
+// Runs turns until the pool says that there are none left. After a refusal jobs that were made may stand in the hand.
 //
 // Each token that a turn takes or makes is in the pool again at its end, or the run has been given up: the one that is taken is put
 // back where more is pending, unless the visit is refused; and one more is put for each executor that was idle, unless memory is. What a
 // turn has to put is put after a refusal too.
-fn drain<R: Wait, G: Gate>(
-    rt: &R,
-    cx: &mut Context<'_>,
-    crew: Crew<'_>,
-    hand: &mut Hand,
-    jobs: &mut Vec<Job<Body>>,
-    gate: &G,
-)
-    requires sites { AreAtSites crew.script.now crew.execs.now }
-    requires book { AreOfBook crew.book.now crew.execs.now }
-    requires desks { AreDesksOf crew.execs.now hand.old.desks.items }
-    requires jobs { jobs.old.items ≡ [] }
+fn drain<R: Wait, G: Gate>(rt: &R, cx: &mut Context<'_>, crew: Crew<'_>, hand: &mut Hand, gate: &G)
+    requires sites { AreAtSites crew.book.now crew.execs.now }
+    requires script { crew.book.now.script ≡ crew.script.now }
+    requires hand { IsHandOf crew.book.now crew.execs.now hand.old }
 {
     let Crew {
         script,
@@ -121,7 +107,7 @@ fn drain<R: Wait, G: Gate>(
                 next = pool.next(rt, script, workers, worker);
             }
             Next::Visit(on) => {
-                let done = turn_at(rt, cx, crew, hand, jobs, on, gate);
+                let done = turn_at(rt, cx, crew, hand, on, gate);
                 next = pool.turn_over(rt, &hand.tokens, done, script, workers, worker);
                 if done.is_err() {
                     return;
@@ -131,22 +117,21 @@ fn drain<R: Wait, G: Gate>(
     }
 }
 
-/// What a worker does, from the start of its thread to its end.
+/// What a worker does, from the start of its thread to its end. Jobs that it could not send are given up with its hand.
 pub fn work<R, G>(rt: &R, crew: Crew<'_>, mut hand: Hand, gate: &G)
 where
     R: RandomSource + AllocGlobal + Wait,
     G: Gate,
-    requires sites { AreAtSites crew.script.now crew.execs.now }
-    requires book { AreOfBook crew.book.now crew.execs.now }
-    requires desks { AreDesksOf crew.execs.now hand.desks.items }
+    requires sites { AreAtSites crew.book.now crew.execs.now }
+    requires script { crew.book.now.script ≡ crew.script.now }
+    requires hand { IsHandOf crew.book.now crew.execs.now hand }
 {
     let Ok(solo) = Solo::new(rt, Doorbell::spinning()) else {
         crew.pool.give_up(rt, Halt::Memory);
         return;
     };
     let mut cx = solo.begin();
-    let mut jobs = Vec::new(rt.alloc());
-    drain(rt, &mut cx, crew, &mut hand, &mut jobs, gate);
-    give_all_up(jobs);
+    drain(rt, &mut cx, crew, &mut hand, gate);
+    drop(hand);
     cx.cancel();
 }

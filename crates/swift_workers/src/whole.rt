@@ -1,16 +1,15 @@
 //! Whole runs.
 
-ghost use Rattle.std.specs.Prelude.{◌≡◌, ◌⊎◌, ◌↔◌, ◌<◌, Err, length, IfNone, IfOk, IfSome};
+ghost use Rattle.std.specs.Prelude.{◌≡◌, ◌≢◌, ◌⊎◌, ◌↔◌, ◌<◌, Err, Some, length, IfNone, IfOk, IfSome, OnOk};
 ghost use Rattle.std.specs.Arc.{arc_value};
-ghost use Rattle.std.specs.List.{AllByRecursion};
 ghost use Rattle.swift_types.specs.declared.limits.TheConstants.{WORKERS};
 ghost use Rattle.swift_script.specs.Scripts.{executor_count, root_count};
-ghost use Rattle.swift_tasks.specs.Books.{IsJobOf};
 ghost use Rattle.swift_history.specs.Histories.{IsLegal};
+ghost use Rattle.swift_course.specs.Seats.{first_view};
 ghost use Rattle.swift_certificate.specs.Reports.{report_view};
-ghost use Rattle.swift_workers.specs.declared.fault.RunFault.TheVariants.{Workers};
-ghost use Rattle.swift_shared_book.specs.Shared.{IsSeatOf};
-ghost use Rattle.swift_workers.specs.Crew.{AreAtSites, AreDesksOf, AreHandsOf, AreOfBook, AreOthers};
+ghost use Rattle.swift_shared_book.specs.Shared.{IsSeatOf, seat_of};
+ghost use Rattle.swift_workers.specs.declared.fault.RunFault.TheVariants.{Illegal, Workers};
+ghost use Rattle.swift_workers.specs.Crew.{AreAtSites, AreHandsOf, AreOthers, IsHandOf};
 ghost use Rattle.swift_workers.specs.Leaves.{AreEndings, AreReplayed, KeepInvariants};
 
 use crate::crew::{Crew, Hand, open_all, others_of};
@@ -24,20 +23,17 @@ use std::random::RandomSource;
 use std::sync::{Arc, Wait};
 use std::thread;
 use std::thread::Threads;
-use swift_certificate::legal_if_replayed;
 use swift_executor::{Exec, Gate};
-use swift_queue::Job;
 use swift_report::Report;
 use swift_script::Script;
 use swift_shared_book::{BookLock, BookSeat};
 use swift_tasks::Book;
-use swift_turn::Body;
 use swift_types::limits::WORKERS;
 
 /// Runs a script to its end on one to eight threads, and leaves the report of the run (SE-0304 for tasks, SE-0392 for executors
-/// that run one job at a time; the pool of tokens is our own). Before it is handed out, the report is followed again by a second
-/// book (`swift_certificate::legal_if_replayed`). No turn is played again there: the executors keep their journals lawful, and
-/// their fields are what these give. This takes one thread, time and memory linear in the log, the journals and the endings.
+/// that run one job at a time; the pool of tokens is our own). The report is legal, by proof: nothing checks it again. The book of tasks
+/// takes a turn only by its ticket, and each executor's seat knows the turns that it has taken; at the end the seats are gathered, which
+/// takes time and memory linear in the executors, and the endings are read off the book, in time linear in the log.
 ///
 /// An executor with jobs has a token, until a worker takes it. A worker takes the oldest token of an executor that it may run,
 /// runs one turn there, and sends the jobs that the turn made. Then the token goes behind the others where more is pending, and
@@ -49,14 +45,15 @@ use swift_types::limits::WORKERS;
 /// # Errors
 ///
 /// `Workers` stands for any number of workers but 1 to 8, `Memory` for a growth that was refused or a thread that could not be
-/// made, `Unfinished` for a task that has not ended or a job that was not run though no executor has a token, `Illegal` for a
-/// report that the certificate does not find legal, and `Executor` for an executor that had no room or a turn that the book refused.
-/// Nothing of a refused run remains.
+/// made, `Unfinished` for a task that has not ended or has a group open, or a job that was not run, though no executor has a token, and
+/// `Executor` for an executor that had no room or a turn that the book refused. No run ends with `Illegal`. Nothing of a refused run
+/// remains.
 pub fn run<R, G>(rt: &R, script: Arc<Script>, workers: u32, gate: &G) -> Result<Report, RunFault>
 where
     R: RandomSource + AllocGlobal + Threads + Wait + Sync,
     G: Gate + Sync,
     ensures workers { (result ≡ Err Workers) ↔ ((workers ≡ 0) ⊎ (WORKERS < workers)) }
+    ensures never_illegal { result ≢ Err Illegal }
     // The report is one that a history of blocks has made, each of which may stand after those before it.
     ensures legal { IfOk result (λ r. IsLegal (arc_value script) (report_view r)) }
     // The turns of each executor are lawful from the start values on, those that were folded too; those of its journal are of its
@@ -73,12 +70,7 @@ where
     if workers == 0 || workers as usize > WORKERS {
         return Err(RunFault::Workers);
     }
-    let report = run_all(rt, &script, workers, gate)?;
-    match legal_if_replayed(rt.alloc(), &script, &report) {
-        Ok(true) => Ok(report),
-        Ok(false) => Err(RunFault::Illegal),
-        Err(_) => Err(RunFault::Memory),
-    }
+    Ok(run_all(rt, &script, workers, gate)?)
 }
 
 fn run_all<R, G>(rt: &R, script: &Arc<Script>, workers: u32, gate: &G) -> Result<Report, Halt>
@@ -86,6 +78,7 @@ where
     R: RandomSource + AllocGlobal + Threads + Wait + Sync,
     G: Gate + Sync,
     requires { 0 < workers }
+    ensures legal { IfOk result (λ r. IsLegal (arc_value script.now) (report_view r)) }
     ensures lawful { IfOk result (λ r. AreReplayed (arc_value script.now) 0 r.checkpoints.items r.journals.items r.fields.items) }
     ensures invariants { IfOk result (λ r. KeepInvariants (arc_value script.now) 0 r.fields.items) }
     ensures journals { IfOk result (λ r. length r.journals.items ≡ executor_count (arc_value script.now)) }
@@ -96,22 +89,23 @@ where
     let alloc = rt.alloc();
     let (book, mut seat) = shared_book(alloc, script)?;
     let (execs, mut desks) = open_all(alloc, script, workers, &book, &mut seat)?;
-    let others = others_of(alloc, &execs, &mut desks, workers)?;
+    let others = others_of(alloc, &execs, &mut desks, workers, &book, &mut seat)?;
     let first = Hand {
         worker: 0,
         desks,
         tokens: Vec::new(alloc),
+        jobs: book.no_jobs(alloc, &mut seat),
     };
     let played = play(
         rt, alloc, script, &execs, first, others, &book, &mut seat, workers, gate,
     );
-    report_of(rt, alloc, script, execs, book.close(seat), played)
+    report_of(rt, alloc, script, execs, book, seat, played)
 }
 
 // A book without tasks, as threads share it, and its first seat.
 fn shared_book(alloc: Global, script: &Arc<Script>) -> Result<(BookLock, BookSeat), Halt>
     ensures script { IfOk result (λ r. r.0.script ≡ arc_value script.now) }
-    ensures seat { IfOk result (λ r. IsSeatOf r.0 r.1) }
+    ensures seat { IfOk result (λ r. r.1 ≡ seat_of r.0 (first_view (arc_value script.now))) }
 {
     let book = Book::new(alloc, Arc::clone(script)?)?;
     match BookLock::new(alloc, book) {
@@ -122,26 +116,6 @@ fn shared_book(alloc: Global, script: &Arc<Script>) -> Result<(BookLock, BookSea
             Err(Halt::Memory)
         }
     }
-}
-
-// Adds the roots to the book. Their jobs come onto the list.
-fn add_all_roots<R: Wait>(
-    rt: &R,
-    script: &Script,
-    book: &BookLock,
-    seat: &mut BookSeat,
-    jobs: &mut Vec<Job<Body>>,
-) -> Result<(), Halt>
-    requires seat { IsSeatOf book.now seat.old }
-    requires book { book.now.script ≡ script.now }
-    requires jobs { AllByRecursion (IsJobOf script.now) jobs.old.items }
-    ensures seat { IsSeatOf book.now seat.new }
-    ensures jobs { AllByRecursion (IsJobOf script.now) jobs.new.items }
-{
-    let mut open = book.lock(rt, seat);
-    let added = add_roots(script, &mut open.book, jobs);
-    book.unlock(seat, open);
-    added
 }
 
 // Adds the roots to a book without tasks, sends their jobs by the first hand, and has the workers run until no token is left.
@@ -160,18 +134,17 @@ fn play<R, G>(
 where
     R: RandomSource + AllocGlobal + Threads + Wait + Sync,
     G: Gate + Sync,
-    requires sites { AreAtSites script.now execs.now }
-    requires first { AreDesksOf execs.now first.desks.items }
+    requires sites { AreAtSites book.now execs.now }
+    requires script { book.now.script ≡ script.now }
+    requires first { IsHandOf book.now execs.now first }
     requires worker { first.worker ≡ 0 }
-    requires others { AreHandsOf execs.now others.items }
+    requires others { AreHandsOf book.now execs.now others.items }
     requires workers { AreOthers workers others.items }
     requires seat { IsSeatOf book.now seat.old }
-    requires book { book.now.script ≡ script.now }
-    requires of_book { AreOfBook book.now execs.now }
-    ensures { IsSeatOf book.now seat.new }
+    requires maker { seat.old.knows.maker ≡ Some (record { executors = executor_count script.now; roots = 0 }) }
+    ensures seat { IsSeatOf book.now seat.new }
+    ensures maker { OnOk result (seat.new.knows.maker ≡ Some (record { executors = executor_count script.now; roots = root_count script.now })) }
 {
-    let mut jobs = Vec::new(alloc);
-    let added = add_all_roots(rt, script, book, seat, &mut jobs);
     let pool = SharedPool::new(alloc);
     let crew = Crew {
         script,
@@ -180,11 +153,7 @@ where
         pool: &pool,
         workers,
     };
-    let played = match added {
-        Ok(()) => play_roots(rt, crew, first, others, &mut jobs, gate),
-        Err(halt) => Err(halt),
-    };
-    give_all_up(jobs);
+    let played = play_roots(rt, crew, first, others, seat, gate);
     first_of(pool.into_halt(), played)
 }
 
@@ -199,25 +168,29 @@ fn first_of(halt: Option<Halt>, played: Result<(), Halt>) -> Result<(), Halt>
     }
 }
 
-// Sends these jobs and has the workers run.
+// Adds the roots, sends their jobs and has the workers run.
 fn play_roots<R, G>(
     rt: &R,
     crew: Crew<'_>,
     mut first: Hand,
     others: Vec<Hand>,
-    jobs: &mut Vec<Job<Body>>,
+    seat: &mut BookSeat,
     gate: &G,
 ) -> Result<(), Halt>
 where
     R: RandomSource + AllocGlobal + Threads + Wait + Sync,
     G: Gate + Sync,
-    requires sites { AreAtSites crew.script.now crew.execs.now }
-    requires book { AreOfBook crew.book.now crew.execs.now }
-    requires first { AreDesksOf crew.execs.now first.desks.items }
-    requires others { AreHandsOf crew.execs.now others.items }
-    requires jobs { AllByRecursion (IsJobOf crew.script.now) jobs.old.items }
+    requires sites { AreAtSites crew.book.now crew.execs.now }
+    requires script { crew.book.now.script ≡ crew.script.now }
+    requires first { IsHandOf crew.book.now crew.execs.now first }
+    requires others { AreHandsOf crew.book.now crew.execs.now others.items }
+    requires seat { IsSeatOf crew.book.now seat.old }
+    requires maker { seat.old.knows.maker ≡ Some (record { executors = executor_count crew.script.now; roots = 0 }) }
+    ensures seat { IsSeatOf crew.entry.book.now seat.new }
+    ensures maker { OnOk result (seat.new.knows.maker ≡ Some (record { executors = executor_count crew.entry.script.now; roots = root_count crew.entry.script.now })) }
 {
-    send_all(rt, crew, &mut first, jobs, gate)?;
+    add_roots(rt, crew.script, crew.book, seat, &mut first.jobs)?;
+    send_all(rt, crew, &mut first, gate)?;
     crew.pool.put_first(rt, &first.tokens)?;
     start(rt, crew, first, others, gate);
     Ok(())
@@ -228,26 +201,26 @@ fn start<R, G>(rt: &R, crew: Crew<'_>, first: Hand, mut others: Vec<Hand>, gate:
 where
     R: RandomSource + AllocGlobal + Threads + Wait + Sync,
     G: Gate + Sync,
-    requires sites { AreAtSites crew.script.now crew.execs.now }
-    requires book { AreOfBook crew.book.now crew.execs.now }
-    requires first { AreDesksOf crew.execs.now first.desks.items }
-    requires others { AreHandsOf crew.execs.now others.items }
+    requires sites { AreAtSites crew.book.now crew.execs.now }
+    requires script { crew.book.now.script ≡ crew.script.now }
+    requires first { IsHandOf crew.book.now crew.execs.now first }
+    requires others { AreHandsOf crew.book.now crew.execs.now others.items }
 {
     thread::scope(
         thread::scope_env(),
         rt,
         |scope| -> ()
-            requires sites { AreAtSites crew.script.now crew.execs.now }
-            requires book { AreOfBook crew.book.now crew.execs.now }
-            requires first { AreDesksOf crew.execs.now first.desks.items }
-            requires others { AreHandsOf crew.execs.now others.items }
+            requires sites { AreAtSites crew.book.now crew.execs.now }
+            requires script { crew.book.now.script ≡ crew.script.now }
+            requires first { IsHandOf crew.book.now crew.execs.now first }
+            requires others { AreHandsOf crew.book.now crew.execs.now others.items }
         {
             while let Some(hand) = others.pop() {
                 let spawned = scope.spawn(
                     move || -> ()
-                        requires sites { AreAtSites crew.script.now crew.execs.now }
-                        requires book { AreOfBook crew.book.now crew.execs.now }
-                        requires desks { AreDesksOf crew.execs.now hand.desks.items }
+                        requires sites { AreAtSites crew.book.now crew.execs.now }
+                        requires script { crew.book.now.script ≡ crew.script.now }
+                        requires hand { IsHandOf crew.book.now crew.execs.now hand }
                     { work(rt, crew, hand, gate) },
                 );
                 if spawned.is_err() {

@@ -1,15 +1,14 @@
 use Rattle.std.proofs.Common.{◌≡◌, length}
 use Rattle.std.specs.Arc.{arc_value}
 use Rattle.swift_script.specs.Scripts.{executor_count}
-use Rattle.swift_shared_book.specs.Shared.{IsSeatOf}
-use Rattle.swift_workers.specs.Crew.{AreAtSites, AreDesksOf, AreOfBook}
+use Rattle.swift_workers.specs.Crew.{AreAtSites, AreDesksOf}
+use Rattle.swift_workers.proofs.Opening.{OpenedFrom}
 use Rattle.swift_workers.proofs.crew.open_all.Given as goal
 
 abbrev pub invariant-loop-place : goal.invariant-loop-place
 invariant-loop-place l = record {
-  sites : AreAtSites (arc_value l.script) l.execs.items;
-  book : AreOfBook l.book l.execs.items;
-  seat : IsSeatOf l.book l.seat;
+  sites : AreAtSites l.book l.execs.items;
+  seat : OpenedFrom l.fn.seat l.place l.seat;
   desks : AreDesksOf l.execs.items l.desks.items;
   many : length l.execs.items ≡ l.place;
   end : l.place-end ≡ executor_count (arc_value l.script);

@@ -1,10 +1,15 @@
-use Rattle.std.proofs.Common.{◌≡◌}
+use Rattle.std.proofs.Common.{◌≡◌, Some}
 use Rattle.std.specs.List.{AllByRecursion}
+use Rattle.swift_script.specs.Scripts.{executor_count, root_count}
+use Rattle.swift_shared_book.specs.Shared.{IsSeatOf}
 use Rattle.swift_tasks.specs.Books.{IsJobOf}
 use Rattle.swift_workers.proofs.sending.add_roots.Given as goal
 
 abbrev pub invariant-loop-place : goal.invariant-loop-place
-invariant-loop-place l = record {
-  book : l.book.script ≡ l.script;
-  jobs : AllByRecursion (IsJobOf l.script) l.jobs.items;
+invariant-loop-place g l = record {
+  seat : IsSeatOf l.book l.seat;
+  maker : l.seat.knows.maker ≡ Some (record { executors = executor_count l.script; roots = l.place });
+  book : l.jobs.book ≡ l.book.id;
+  jobs : AllByRecursion (IsJobOf l.script) l.jobs.jobs;
+  end : l.place-end ≡ root_count l.script;
 }

@@ -1,18 +1,28 @@
-use Rattle.std.proofs.Common.{rules, sym, subst, length, ◌<◌, arith}
+use Rattle.std.proofs.Common.{rules, ◌≡◌, ◌∙◌, Some, subst, ap, length, ◌<◌, arith}
+use Rattle.swift_script.specs.Scripts.{ScriptView}
 use Rattle.swift_inbox.specs.Site.{CanRunAt, Site}
-use Rattle.swift_executor.specs.Exec.{DeskIs, IsDeskOf}
-use Rattle.swift_workers.proofs.Desks.{desk_at, desk_set, site_at}
+use Rattle.swift_executor.specs.Exec.{ExecIs, IsDeskOf}
+use Rattle.swift_workers.proofs.Desks.{can_run, desk_at, desk_sent, desk_set, site_at}
 use Rattle.swift_workers.proofs.sending.put.Goals as goal
 
 pub enqueue-requires-clause-job : goal.enqueue-requires-clause-job
 enqueue-requires-clause-job g c =
-    let lt : c.actor_executor-on.result.0 < length c.args.execs.now = omega (arith, c.if-place-execs.false) in
-    subst (λ (s : Site). CanRunAt s c.args.job) (sym (site_at c.args.script.now c.args.execs.now c.actor_executor-on.result.0 c.index-execs-place.result c.requires.sites lt c.index-execs-place.is)) (search rules)
+    let b = c.args.crew.book.now in
+    let execs = c.args.crew.execs.now in
+    let e = c.index-crew-place.result in
+    let k = c.actor_executor-on.result.0 in
+    let lt : k < length execs = omega (arith, c.if-place-crew.false) in
+    let site : e.inbox.site ≡ record { script = c.args.crew.script.now; executor = k; book = Some b.id } =
+    site_at b execs k e c.requires.sites lt c.index-crew-place.is ∙ ap (λ (p : ScriptView). record { script = p; executor = k; book = Some b.id }) c.requires.script in
+    subst (λ (x : ExecIs). CanRunAt x.inbox.site c.args.job) c.index-crew-place.is (can_run e (record { script = c.args.crew.script.now; executor = k; book = Some b.id }) c.args.job site (search rules))
 
 pub returns-in-Ok : goal.returns-in-Ok
 returns-in-Ok g c =
-    let e = c.index-execs-place.result in
+    let execs = c.args.crew.execs.now in
+    let desks = c.args.desks.now.items in
+    let e = c.index-crew-place.result in
+    let d = c.index_mut-desk.result.now in
     let k = c.actor_executor-on.result.0 in
-    let lt : k < length c.args.execs.now = omega (arith, c.if-place-execs.false) in
-    let old : IsDeskOf e c.index_mut-desk.result.now = desk_at c.args.execs.now c.args.desks.now.items k e c.index_mut-desk.result.now c.requires.desks lt c.index-execs-place.is c.index_mut-desk.ensures.value in
-    record { desks = desk_set c.args.execs.now c.args.desks.now.items k e c.enqueue.new.desk c.requires.desks lt c.index-execs-place.is (subst (λ (d : DeskIs). IsDeskOf e d) (sym c.in-Ok.ensures.ok) old) }
+    let lt : k < length execs = omega (arith, c.if-place-crew.false) in
+    let old : IsDeskOf e d = desk_at execs desks k e d c.requires.desks lt c.index-crew-place.is c.index_mut-desk.ensures.value in
+    record { desks = desk_set execs desks k e c.enqueue.new.desk c.requires.desks lt c.index-crew-place.is (desk_sent e d c.enqueue.new.desk c.args.job.job old c.in-Ok.ensures.ok) }

@@ -1,4 +1,4 @@
-use Rattle.std.proofs.Common.{vec_len}
+use Rattle.std.proofs.Common.{◌≡◌, length}
 use Rattle.std.specs.List.{AllByRecursion}
 use Rattle.swift_tasks.specs.Books.{IsJobOf}
 use Rattle.swift_workers.specs.Crew.{AreDesksOf}
@@ -7,8 +7,9 @@ use Rattle.swift_workers.proofs.sending.send_all.Given as goal
 abbrev pub invariant-loop-job : goal.invariant-loop-job
 invariant-loop-job g l = record {
   desks : AreDesksOf l.crew.execs.now l.hand.desks.items;
-  jobs : AllByRecursion (IsJobOf l.crew.script.now) l.jobs.items;
+  book : l.hand.jobs.book ≡ l.crew.book.now.id;
+  jobs : AllByRecursion (IsJobOf l.crew.script.now) l.hand.jobs.jobs;
 }
 
 abbrev pub decreases-loop-job : goal.decreases-loop-job
-decreases-loop-job g l = vec_len l.jobs
+decreases-loop-job g l = length l.hand.jobs.jobs

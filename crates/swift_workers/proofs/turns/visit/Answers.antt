@@ -4,29 +4,34 @@ use Rattle.swift_queue.specs.Job.{JobIs}
 use Rattle.swift_script.specs.Scripts.{ScriptView}
 use Rattle.swift_turn.specs.Body.{BodyView}
 use Rattle.swift_tasks.specs.Books.{IsJobOf}
-use Rattle.swift_executor.specs.Exec.{ExecIs, IsDeskOf, book_of}
-use Rattle.swift_workers.proofs.Desks.{book_at, desk_at, desk_ran, desk_set, site_script}
+use Rattle.swift_inbox.specs.Site.{Site}
+use Rattle.swift_executor.specs.Exec.{ExecIs, IsBookOf, IsDeskOf}
+use Rattle.swift_workers.proofs.Desks.{book_at, desk_at, desk_ran, desk_set, site_at}
 use Rattle.swift_workers.proofs.turns.visit.Goals as goal
 
 pub run_one-requires-clause-book : goal.run_one-requires-clause-book
 run_one-requires-clause-book g c =
     let lt : c.args.on.0 < length c.args.crew.execs.now = omega (arith, c.if-place-crew.false) in
-    subst (λ (x : ExecIs). c.args.crew.book.now ≡ book_of x) c.index-crew-place.is
-    (book_at c.args.crew.book.now c.args.crew.execs.now c.args.on.0 c.index-crew-place.result c.requires.book lt c.index-crew-place.is)
+    subst (λ (x : ExecIs). IsBookOf x c.args.crew.book.now) c.index-crew-place.is
+    (book_at c.args.crew.book.now c.args.crew.execs.now c.args.on.0 c.index-crew-place.result c.requires.sites lt c.index-crew-place.is)
 
 pub returns-clause-desks : goal.returns-clause-desks
 returns-clause-desks g c =
     let e = c.index-crew-place.result in
     let k = c.args.on.0 in
-    let lt : k < length c.args.crew.execs.now = omega (arith, c.if-place-crew.false) in
-    let old : IsDeskOf e c.index_mut-desk.result.now = desk_at c.args.crew.execs.now c.args.hand.now.desks.items k e c.index_mut-desk.result.now c.requires.desks lt c.index-crew-place.is c.index_mut-desk.ensures.value in
-    desk_set c.args.crew.execs.now c.args.hand.now.desks.items k e c.run_one.new.desk c.requires.desks lt c.index-crew-place.is (desk_ran e c.index_mut-desk.result.now c.run_one.new.desk c.in_ok-ran.ran old c.in_ok-ran.ensures.desk)
+    let execs = c.args.crew.execs.now in
+    let desks = c.args.hand.now.desks.items in
+    let lt : k < length execs = omega (arith, c.if-place-crew.false) in
+    let old : IsDeskOf e c.index_mut-desk.result.now = desk_at execs desks k e c.index_mut-desk.result.now c.requires.hand.desks lt c.index-crew-place.is c.index_mut-desk.ensures.value in
+    desk_set execs desks k e c.run_one.new.desk c.requires.hand.desks lt c.index-crew-place.is (desk_ran e c.index_mut-desk.result.now c.run_one.new.desk c.in_ok-ran.ran old c.in_ok-ran.ensures.desk)
 
 pub returns-clause-jobs : goal.returns-clause-jobs
 returns-clause-jobs g c =
+    let b = c.args.crew.book.now in
     let execs = c.args.crew.execs.now in
     let e = c.index-crew-place.result in
     let lt : c.args.on.0 < length execs = omega (arith, c.if-place-crew.false) in
-    let script = ap (λ (x : ExecIs). x.inbox.site.script) (sym c.index-crew-place.is) ∙ site_script c.args.crew.script.now execs c.args.on.0 e c.requires.sites lt c.index-crew-place.is in
-    let none : (p : ScriptView) → AllByRecursion (IsJobOf p) c.args.jobs.now.items = λ p. subst (λ (xs : List (JobIs BodyView)). AllByRecursion (IsJobOf p) xs) (sym c.requires.jobs) tt in
-    subst (λ (p : ScriptView). AllByRecursion (IsJobOf p) c.run_one.new.jobs.items) script (c.in_ok-ran.ensures.bodies (none _))
+    let script =
+    ap (λ (x : ExecIs). x.inbox.site.script) (sym c.index-crew-place.is) ∙ ap (λ (s : Site). s.script) (site_at b execs c.args.on.0 e c.requires.sites lt c.index-crew-place.is) ∙ c.requires.script in
+    let none : (p : ScriptView) → AllByRecursion (IsJobOf p) c.args.hand.now.jobs.jobs = λ p. subst (λ (xs : List (JobIs BodyView)). AllByRecursion (IsJobOf p) xs) (sym c.requires.hand.none) tt in
+    subst (λ (p : ScriptView). AllByRecursion (IsJobOf p) c.run_one.new.jobs.jobs) script (c.in_ok-ran.ensures.bodies (none _))

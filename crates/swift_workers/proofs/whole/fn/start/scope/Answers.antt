@@ -1,8 +1,7 @@
-use Rattle.std.proofs.Common.{◌≡◌, subst, List}
-use Rattle.std.specs.List.{AllByRecursion}
+use Rattle.std.proofs.Common.{subst, List}
 use denote.Param.Send.{sendable}
 use Rattle.swift_workers.specs.declared.crew.Hand.{Hand}
-use Rattle.swift_workers.specs.Crew.{AreDesksOf, AreHandsOf}
+use Rattle.swift_workers.specs.Crew.{AreHandsOf}
 use Rattle.swift_workers.proofs.CrossesThreads.{crew_send, hand_send}
 use Rattle.swift_workers.proofs.Desks.{last_hand}
 use Rattle.swift_workers.proofs.whole.fn.start.scope.Goals as goal
@@ -12,4 +11,6 @@ spawn-spawned-requires-send-F g c κs within = search (sendable, crew_send, hand
 
 pub spawn-spawned-requires-after_bounds : goal.spawn-spawned-requires-after_bounds
 spawn-spawned-requires-after_bounds g c κs within =
-    (c.requires.sites, (c.requires.book, last_hand c.captures.crew.execs.now c.pop.new.self.items c.in-Some.hand (subst (λ (hs : List Hand). AreHandsOf c.captures.crew.execs.now hs) c.in-Some.ensures.items c.loop-hand.invariant)))
+    let b = c.captures.crew.book.now in
+    let execs = c.captures.crew.execs.now in
+    (c.requires.sites, (c.requires.script, last_hand b execs c.pop.new.self.items c.in-Some.hand (subst (λ (hs : List Hand). AreHandsOf b execs hs) c.in-Some.ensures.items c.loop-hand.invariant)))
