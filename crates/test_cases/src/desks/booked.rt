@@ -87,14 +87,6 @@ impl Booked {
         job
     }
 
-    /// Cancels a task.
-    pub fn cancel<R: Wait>(&mut self, rt: &R, task: TaskId) -> Result<(), BookFault> {
-        let mut open = self.lock.lock(rt, &mut self.seat);
-        let cancelled = open.book.cancel(task);
-        self.lock.unlock(&mut self.seat, open);
-        cancelled
-    }
-
     /// How a task has ended.
     pub fn ending<R: Wait>(&mut self, rt: &R, task: TaskId) -> Option<Ending> {
         let open = self.lock.lock(rt, &mut self.seat);

@@ -44,6 +44,14 @@ impl Jobs {
         let _ = self.list.append(&mut jobs.list);
     }
 
+    /// Takes the oldest job out.
+    pub fn take_oldest(&mut self) -> Option<Job<Body>> {
+        if self.list.is_empty() {
+            return None;
+        }
+        Some(self.list.remove(0))
+    }
+
     /// Takes the oldest job of a task out.
     pub fn take(&mut self, task: TaskId) -> Option<Job<Body>> {
         let place = self.list.iter().position(|job| job.task() == task)?;

@@ -50,11 +50,6 @@ impl Tasks {
         Ok(())
     }
 
-    /// Cancels a task.
-    pub fn cancel<R: Wait>(&self, rt: &R, task: u32) -> Result<(), BookFault> {
-        self.booked.lock(rt).cancel(rt, TaskId(task))
-    }
-
     /// How a task has ended.
     pub fn ending<R: Wait>(&self, rt: &R, task: u32) -> Option<Ending> {
         self.booked.lock(rt).ending(rt, TaskId(task))

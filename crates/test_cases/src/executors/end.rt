@@ -42,8 +42,13 @@ where
     Ok(true)
 }
 
-// What the executor of this number has left beside its turns.
-fn tell_left(alloc: Global, number: u32, left: &Left, out: &mut String) -> Result<(), CaseFault> {
+/// Writes what the executor of this number has left beside its turns.
+pub fn tell_left(
+    alloc: Global,
+    number: u32,
+    left: &Left,
+    out: &mut String,
+) -> Result<(), CaseFault> {
     write!(out, "executor {number}: {} pending", left.pending)?;
     tell_place(alloc, &left.ready.list, "ready", out)?;
     tell_place(alloc, &left.inbox.list, "in the inbox", out)?;

@@ -3,7 +3,9 @@
 use crate::desks::{Door, Jobs, Poller, Setting, Tasks};
 use crate::executors::call::{Call, Verb};
 use crate::executors::callee::Callee;
+use crate::executors::end::close_all;
 use crate::executors::tell::{tell_back, tell_booked, tell_ending, tell_visit};
+use crate::executors::{DOORS, JOBS};
 use crate::fault::CaseFault;
 use std::alloc::{AllocGlobal, Global};
 use std::fmt::Write;
@@ -11,14 +13,6 @@ use std::random::RandomSource;
 use std::sync::{Mutex, Wait};
 use swift_executor::Gate;
 use swift_types::TaskId;
-
-/// The script that foreign jobs are of.
-const FOREIGN: &str = "actor A { func f() { return 1; } } root a = A.f(); root b = A.f();";
-
-// For how many jobs and desks there is room. A job is given up where it is refused a place beyond these.
-const JOBS: usize = 64;
-
-const DOORS: usize = 16;
 
 /// The script of a case, its tasks, the jobs that are kept, and its desks.
 #[derive(Drop)]
@@ -71,32 +65,6 @@ impl Stage {
         self.jobs.lock(rt).keep_all(made);
         told
     }
-
-    // A visit of a worker to an executor of its own, of a book without tasks, which has the job of the first root.
-    fn run_unknown<R, G>(
-        &self,
-        rt: &R,
-        call: Call,
-        gate: &G,
-        out: &mut String,
-    ) -> Result<(), CaseFault>
-    where
-        R: Wait + RandomSource + AllocGlobal,
-        G: Gate,
-    {
-        let alloc = rt.alloc();
-        let poller = Poller::new(rt)?;
-        let mut made = Jobs::with_room(alloc, JOBS)?;
-        let mut unknown = self.setting.tasks(alloc)?;
-        let mut door = unknown.open(alloc, call.second, 1, 1)?;
-        let job = self.setting.job(alloc, 0, 0)?;
-        if let Err((job, _fault)) = door.enqueue(rt, job, gate) {
-            made.keep(job);
-            return Err(CaseFault::Form);
-        }
-        let ran = door.run(rt, call.first, &poller, &mut made, gate);
-        tell_visit(ran, &made.list, out)
-    }
 }
 
 impl<R: Wait + RandomSource + AllocGlobal> Callee<R> for Stage {
@@ -109,17 +77,12 @@ impl<R: Wait + RandomSource + AllocGlobal> Callee<R> for Stage {
     ) -> Result<(), CaseFault> {
         match call.verb {
             Verb::Root => add_root(rt, &self.tasks, &self.jobs, call.first, out),
-            Verb::Make => keep(rt, &self.jobs, call, &self.setting, out),
-            Verb::Foreign => {
-                let other = Setting::read(rt.alloc(), FOREIGN)?;
-                keep(rt, &self.jobs, call, &other, out)
-            }
             Verb::Enqueue => enqueue(rt, &self.doors, &self.jobs, call, gate, out),
             Verb::Run => self.run(rt, call, gate, out),
-            Verb::RunUnknown => self.run_unknown(rt, call, gate, out),
-            Verb::Cancel => tell_booked(self.tasks.cancel(rt, call.first), out),
             Verb::Ending => tell_ending(self.tasks.ending(rt, call.first), out),
             Verb::Allowance => allowance(rt, &self.doors, call.first, out),
+            // Those of executors of one thread alone.
+            Verb::Make | Verb::Foreign | Verb::RunUnknown | Verb::Cancel => Err(CaseFault::Form),
         }
     }
 
@@ -130,6 +93,10 @@ impl<R: Wait + RandomSource + AllocGlobal> Callee<R> for Stage {
         let door = door.lock(rt).split()?;
         self.doors.push(Mutex::new(door))?;
         Ok(())
+    }
+
+    fn close(self, rt: &R, out: &mut String) -> Result<(), CaseFault> {
+        close_all(rt, self, out)
     }
 }
 
@@ -142,19 +109,6 @@ fn add_root<R: Wait>(
     out: &mut String,
 ) -> Result<(), CaseFault> {
     tell_booked(tasks.add_root(rt, root, &mut jobs.lock(rt)), out)
-}
-
-// Keeps a job that no book gave, of a root of this script.
-fn keep<R: Wait + AllocGlobal>(
-    rt: &R,
-    jobs: &Mutex<Jobs>,
-    call: Call,
-    setting: &Setting,
-    out: &mut String,
-) -> Result<(), CaseFault> {
-    let job = setting.job(rt.alloc(), call.first, call.second)?;
-    jobs.lock(rt).keep(job);
-    Ok(out.push_str("ok")?)
 }
 
 // Sends the oldest job that is kept of a task. It is kept again where it comes back.
