@@ -12,6 +12,8 @@ pub(crate) mod case;
 pub(crate) mod end;
 // A thread that is held.
 mod hold;
+// What is of one book.
+mod owned;
 // What the calls of a case work on.
 mod stage;
 // What calls answered.
@@ -19,12 +21,16 @@ pub(crate) mod tell;
 // Two threads.
 mod threads;
 
-use crate::desks::Setting;
+ghost use Rattle.std.specs.Prelude.{◌≡◌, Some};
+
+use crate::desks::{Booked, Setting};
 use crate::executors::case::{Plan, plan_of, play_on};
+use crate::executors::owned::BookOf;
 use crate::executors::stage::Stage;
 use crate::fault::CaseFault;
 use crate::states;
 use std::alloc::AllocGlobal;
+use std::marker::Brand;
 use std::random::RandomSource;
 use std::sync::Wait;
 use std::thread::Threads;
@@ -60,7 +66,26 @@ where
     R: Wait + RandomSource + AllocGlobal,
 {
     let alloc = rt.alloc();
-    let mut stage = Stage::new(alloc, Setting::read(alloc, plan.script)?)?;
+    let setting = Setting::read(alloc, plan.script)?;
+    let booked = setting.booked(alloc)?;
+    play_of::<Brand, R>(rt, setting, booked, plan, out)
+}
+
+// The same for a book that is known by its type.
+fn play_of<K, R>(
+    rt: &R,
+    setting: Setting,
+    booked: Booked,
+    plan: Plan<'_>,
+    out: &mut String,
+) -> Result<(), CaseFault>
+where
+    K: BookOf,
+    R: Wait + RandomSource + AllocGlobal,
+    requires { Some booked ≡ K.lock }
+{
+    let alloc = rt.alloc();
+    let mut stage: Stage<K> = Stage::new(alloc, setting, booked)?;
     stage.open_all(alloc, plan.workers, plan.room)?;
     play_on(rt, stage, plan.calls, out)
 }

@@ -19,13 +19,6 @@ impl Drop for Jobs {
 }
 
 impl Jobs {
-    /// No job.
-    pub fn new(alloc: Global) -> Jobs {
-        Jobs {
-            list: Vec::new(alloc),
-        }
-    }
-
     /// No job, with room for so many.
     pub fn with_room(alloc: Global, room: usize) -> Result<Jobs, AllocError> {
         let list = Vec::with_capacity(alloc, room)?;

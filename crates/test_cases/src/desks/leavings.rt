@@ -68,7 +68,7 @@ impl Leavings {
             drained: _,
         } = door.into_exec()?.close(rt);
         let inbox = Jobs { list: inbox };
-        let (state, _pass) = state?;
+        let (state, _pass, _seat) = state?;
         let ready = self.add(state);
         Some(Left {
             pending,
