@@ -13,9 +13,9 @@ use Rattle.swift_executor.specs.contracts.resting.Held as held
 use Rattle.swift_executor.specs.contracts.resting.Resting as resting
 use Rattle.swift_executor.specs.contracts.exec.Spare as spare
 use Rattle.swift_executor.specs.contracts.exec.Exec as exec
+use Rattle.swift_shared_book.specs.contracts.jobs.TicketedJobs as jobs
 use Rattle.swift_word.proofs.word.Word.TheSendSync as Word
 use Rattle.test_cases.specs.contracts.desks.door.Door as door
-use Rattle.test_cases.specs.contracts.desks.jobs.Jobs as jobs
 use Rattle.test_cases.specs.contracts.executors.hold.Hold as hold
 
 -- what is made of types that were shown before
@@ -42,11 +42,8 @@ exec_send = search (plain, resting_send, inbox_send, spare_send, Word.the_send) 
 pub door_send : IsSend door.the_row
 door_send = search (plain, exec_send, exec_sync, desk_send, book_lock_send, book_lock_sync) depth 60 fits 20000
 
-jobs_field_send : IsSend (jobs.the_field).row
-jobs_field_send = search (plain, body_send) depth 60 fits 20000
-
 pub jobs_send : IsSend jobs.the_row
-jobs_send = recorded_send (jobs.the_field).row _ _ (jobs.the_type).to_one jobs_field_send
+jobs_send = search (plain, body_send, book_seat_send) depth 60 fits 20000
 
 pub hold_sync : IsSync (hold.the_field).row
 hold_sync = search (Crossing.crosses, sendable) depth 60 fits 20000

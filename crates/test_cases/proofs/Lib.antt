@@ -1,1 +1,2 @@
 mod CrossesThreads
+mod StateCalls

@@ -1,7 +1,7 @@
 //! What calls on executors work with: a script, an executor with a desk of it, a book of tasks, jobs, and what an executor leaves.
 //! Each may be dropped at any time, and is dropped in one place.
 
-// A book, with a right to take it.
+// A book, with the right to open its executors and to add its roots.
 mod booked;
 // An executor, with a right to use it.
 mod door;
@@ -13,12 +13,10 @@ mod leavings;
 mod poller;
 // The script of a case.
 mod setting;
-// A book of tasks that desks share.
-mod tasks;
 
+pub use booked::Booked;
 pub use door::Door;
 pub use jobs::Jobs;
 pub use leavings::{Leavings, Left};
 pub use poller::Poller;
 pub use setting::Setting;
-pub use tasks::Tasks;

@@ -1,26 +1,36 @@
-//! Calls on executors that threads share.
+//! Calls on executors that threads share, and what calls on executors of one thread have in common with these.
 
 // Calls that a gate makes.
 mod acting;
 // Calls, by words.
-mod call;
+pub(crate) mod call;
 // Calls, one after another.
-mod callee;
+pub(crate) mod callee;
 // A case.
-mod case;
+pub(crate) mod case;
 // What is left of executors.
-mod end;
+pub(crate) mod end;
 // A thread that is held.
 mod hold;
+// What is of one book.
+mod owned;
 // What the calls of a case work on.
 mod stage;
 // What calls answered.
-mod tell;
+pub(crate) mod tell;
 // Two threads.
 mod threads;
 
+ghost use Rattle.std.specs.Prelude.{◌≡◌, Some};
+
+use crate::desks::{Booked, Setting};
+use crate::executors::case::{Plan, plan_of, play_on};
+use crate::executors::owned::BookOf;
+use crate::executors::stage::Stage;
 use crate::fault::CaseFault;
+use crate::states;
 use std::alloc::AllocGlobal;
+use std::marker::Brand;
 use std::random::RandomSource;
 use std::sync::Wait;
 use std::thread::Threads;
@@ -28,15 +38,56 @@ use std::thread::Threads;
 /// For how many bytes that a case says there is room. A call whose answer has no room may be made twice.
 pub(crate) const ROOM: usize = 8192;
 
-/// Makes the calls of a case on the executors of its script, and writes what each answered.
-pub fn calls<R>(rt: &R, text: &str, out: &mut Vec<u8>) -> Result<(), CaseFault>
+// For how many jobs and desks there is room. A job is given up where it is refused a place beyond these.
+pub(crate) const JOBS: usize = 64;
+
+pub(crate) const DOORS: usize = 16;
+
+/// Makes the calls of a case on the executors of its script, which are of this kind, and writes what each answered.
+pub fn calls<R>(rt: &R, kind: &str, text: &str, out: &mut Vec<u8>) -> Result<(), CaseFault>
 where
     R: Wait + RandomSource + AllocGlobal,
 {
+    let Some(plan) = plan_of(text) else {
+        return Err(CaseFault::Form);
+    };
     let mut said = String::with_capacity(rt.alloc(), ROOM)?;
-    let played = case::play(rt, text, &mut said);
+    let played = match kind {
+        "states" => states::play(rt, plan, &mut said),
+        _ => play(rt, plan, &mut said),
+    };
     out.extend_from_slice(said.as_bytes())?;
     played
+}
+
+// Makes the calls of a case on executors that threads share.
+fn play<R>(rt: &R, plan: Plan<'_>, out: &mut String) -> Result<(), CaseFault>
+where
+    R: Wait + RandomSource + AllocGlobal,
+{
+    let alloc = rt.alloc();
+    let setting = Setting::read(alloc, plan.script)?;
+    let booked = setting.booked(alloc)?;
+    play_of::<Brand, R>(rt, setting, booked, plan, out)
+}
+
+// The same for a book that is known by its type.
+fn play_of<K, R>(
+    rt: &R,
+    setting: Setting,
+    booked: Booked,
+    plan: Plan<'_>,
+    out: &mut String,
+) -> Result<(), CaseFault>
+where
+    K: BookOf,
+    R: Wait + RandomSource + AllocGlobal,
+    requires { Some booked ≡ K.lock }
+{
+    let alloc = rt.alloc();
+    let mut stage: Stage<K> = Stage::new(alloc, setting, booked)?;
+    stage.open_all(alloc, plan.workers, plan.room)?;
+    play_on(rt, stage, plan.calls, out)
 }
 
 /// Has two threads make a call each on an executor, of which one is held at the moment of the title, and writes what they answered.

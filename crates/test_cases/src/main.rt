@@ -58,14 +58,9 @@
 //!
 //!   ```text
 //!   root ROOT              adds a root; its job is kept
-//!   make ROOT as NUMBER    keeps a job that no book gave: the turn of that number of a root's task, at the start of its method
-//!   foreign ROOT as NUMBER the same, with a body of a script that was read from another text
 //!   enqueue TASK by DESK   sends the oldest job that is kept of that task
 //!   run WORKER by DESK     a visit of a worker; the jobs that it makes are kept
-//!   run_unknown WORKER by EXECUTOR
-//!                          a visit to an executor of that number whose book, of the same script, has no tasks; the first turn of
-//!                          root 0 was sent there
-//!   cancel TASK, ending TASK
+//!   ending TASK
 //!   allowance DESK         how many jobs may still be sent by it
 //!   split DESK             a new desk of the same executor
 //!   at MOMENT { CALL; .. } CALL
@@ -77,6 +72,20 @@
 //!   Desks are numbered from 0: first the one that each executor is made with, in the order of executors, and then those that were
 //!   split. Calls in braces use other desks than the call behind them. MOMENT is the name of a moment of the gate. In answers `t3.1`
 //!   is turn 1 of task 3.
+//! - `states`: as `executors`, with the same answers, on executors of one thread. Each of them is the state of an executor
+//!   (`ExecState`), with a queue for an inbox; their book is one that no threads share, under a lock. They make the four calls of which a
+//!   visit to an executor that threads share is made, and tell a gate of the same moments. Tasks may be cancelled there, and jobs sent
+//!   that no book gave; the calls for that are of this kind alone:
+//!
+//!   ```text
+//!   make ROOT as NUMBER    keeps a job that no book gave: the turn of that number of a root's task, at the start of its method
+//!   foreign ROOT as NUMBER the same, with a body of a script that was read from another text
+//!   run_unknown WORKER by EXECUTOR
+//!                          a visit to an executor of that number whose book, of the same script, has no tasks; the first turn of
+//!                          root 0 was sent there
+//!   cancel TASK
+//!   ```
+//!
 //! - `held`, with the title `at MOMENT` and no text: two threads on one executor with the job of task 0 in its inbox, a worker that
 //!   visits it, and one that sends the job of task 1. At `Pushed` and `Counted` the thread that sends is held, at each other moment
 //!   the one that visits. The call that is not held begins when the other is held. A thread looks 1,000,000 times for the other, and
@@ -127,6 +136,8 @@ mod parts;
 mod reading;
 // Scripts that are run.
 mod running;
+// Calls on executors of one thread.
+mod states;
 // How often each answer was given.
 mod tally;
 // Words of a command line.
@@ -231,7 +242,7 @@ where
         "agree" | "turns" | "gated" | "legal" | "meet" | "changed" => {
             workers::answer(rt, kind, title, text, out)
         }
-        "executors" => executors::calls(rt, text, out),
+        "executors" | "states" => executors::calls(rt, kind, text, out),
         "held" => executors::held(rt, title, out),
         _ if parts::is_part(kind) => parts::answer(rt, kind, text, out),
         _ => answer_whole(rt, kind, &expand(alloc, text)?, out),

@@ -1,22 +1,20 @@
 //! An executor, with a right to use it.
 
-ghost use Rattle.std.specs.Prelude.{IsTrue, ◌≡◌};
+ghost use Rattle.std.specs.Prelude.{IsTrue, ◌≡◌, Some, IfErr, IfOk};
 ghost use Rattle.std.specs.Arc.{arc_value};
 ghost use Rattle.swift_inbox.specs.Site.{CanRunAt};
-ghost use Rattle.swift_executor.specs.Exec.{IsDeskOf, book_of};
+ghost use Rattle.swift_executor.specs.Exec.{IsBookOf, IsDeskOf};
 
-use crate::desks::jobs::Jobs;
 use crate::desks::poller::Poller;
 use std::alloc::AllocError;
 use std::marker::Model;
 use std::sync::{Arc, Wait};
 use swift_executor::{Desk, Exec, ExecFault, Gate, Ran};
-use swift_queue::Job;
-use swift_shared_book::BookLock;
-use swift_turn::Body;
+use swift_shared_book::{BookLock, TicketedJobs};
+use swift_ticket::TicketedJob;
 use swift_word::Was;
 
-/// An executor, with one of its desks and its book.
+/// An executor, with one of its desks and its book. In a clause it is the lock of its book.
 pub struct Door {
     exec: Arc<Exec>,
     desk: Desk,
@@ -34,35 +32,51 @@ impl Drop for Door {
 
 impl Model for Door {
     ghost use Rattle.std.specs.Arc.{arc_value};
-    ghost use Rattle.std.specs.Prelude.{◌≡◌};
-    ghost use Rattle.swift_executor.specs.Exec.{IsDeskOf, book_of};
+    ghost use Rattle.std.specs.Coded.{codes};
+    ghost use Rattle.atomic_table.specs.Seated.{TableId};
+    ghost use Rattle.swift_executor.specs.Exec.{IsBookOf, IsDeskOf};
 
-    ghost Value = { Unit {0} };
+    ghost Value = { TableId };
 
-    ghost view = { λ _. tt };
+    ghost coded = { Prim.hlevel codes };
 
-    ghost invariant = { λ d. IsDeskOf (arc_value d.exec) d.desk × (arc_value d.book ≡ book_of (arc_value d.exec)) };
+    ghost view = { λ d. (arc_value d.book).id };
+
+    ghost invariant = { λ d. IsDeskOf (arc_value d.exec) d.desk × IsBookOf (arc_value d.exec) (arc_value d.book) };
 }
 
-// Whether a job can run at an executor.
-fn can_run(exec: &Exec, job: &Job<Body>) -> bool
+// Whether a job of its book can run at an executor.
+fn can_run(exec: &Exec, job: &TicketedJob) -> bool
+    requires { job.now.book ≡ exec.now.inbox.site.book }
     ensures { IsTrue result → CanRunAt exec.now.inbox.site job.now }
 {
     let site = exec.site();
-    site.script().says_the_same(job.body().script()) && job.body().is_running() && site.can_run(job)
+    let body = job.job().body();
+    site.script().says_the_same(body.script()) && body.is_running() && site.can_run(job)
 }
 
 impl Door {
     /// An executor, with a desk of it, and its book.
     pub fn new(exec: Arc<Exec>, desk: Desk, book: Arc<BookLock>) -> Door
         requires desk { IsDeskOf (arc_value exec) desk }
-        requires book { arc_value book ≡ book_of (arc_value exec) }
+        requires book { IsBookOf (arc_value exec) (arc_value book) }
+        ensures { result ≡ (arc_value book).id }
     {
         Door { exec, desk, book }
     }
 
+    /// The book.
+    pub fn book(&self) -> &BookLock
+        ensures { result.now.id ≡ self.now }
+    {
+        &self.book
+    }
+
     /// Another desk of the same executor.
-    pub fn split(&mut self) -> Result<Door, AllocError> {
+    pub fn split(&mut self) -> Result<Door, AllocError>
+        ensures door { IfOk result (λ door. door ≡ self.old) }
+        ensures same { self.new ≡ self.old }
+    {
         let exec = Arc::clone(&self.exec)?;
         let book = Arc::clone(&self.book)?;
         let desk = self.desk.split(&exec);
@@ -74,13 +88,17 @@ impl Door {
         self.desk.allowance()
     }
 
-    /// Sends a job. It comes back where it can't run there, and then with no fault, or was refused.
+    /// Sends a job of its book. It comes back where it can't run there, and then with no fault, or was refused.
     pub fn enqueue<R: Wait, G: Gate>(
         &mut self,
         rt: &R,
-        job: Job<Body>,
+        job: TicketedJob,
         gate: &G,
-    ) -> Result<Was, (Job<Body>, Option<ExecFault>)> {
+    ) -> Result<Was, (TicketedJob, Option<ExecFault>)>
+        requires { job.book ≡ Some self.old }
+        ensures back { IfErr result (λ e. e.0 ≡ job) }
+        ensures same { self.new ≡ self.old }
+    {
         if !can_run(&self.exec, &job) {
             return Err((job, None));
         }
@@ -90,21 +108,24 @@ impl Door {
         }
     }
 
-    /// A visit of a worker. The jobs that it makes come behind these.
+    /// A visit of a worker. The jobs that it makes come behind these, which are of its book.
     pub fn run<R: Wait, G: Gate>(
         &mut self,
         rt: &R,
         worker: u32,
         poller: &Poller,
-        jobs: &mut Jobs,
+        jobs: &mut TicketedJobs,
         gate: &G,
-    ) -> Result<Ran, ExecFault> {
+    ) -> Result<Ran, ExecFault>
+        requires { jobs.old.book ≡ self.old }
+        ensures jobs { jobs.new.book ≡ jobs.old.book }
+        ensures same { self.new ≡ self.old }
+    {
         let mut cx = poller.solo.begin();
-        let list = &mut jobs.list;
         let desk = &mut self.desk;
         let ran = self
             .exec
-            .run_one(rt, desk, worker, &self.book, &mut cx, list, gate);
+            .run_one(rt, desk, worker, &self.book, &mut cx, jobs, gate);
         cx.cancel();
         ran
     }

@@ -19,13 +19,6 @@ impl Drop for Jobs {
 }
 
 impl Jobs {
-    /// No job.
-    pub fn new(alloc: Global) -> Jobs {
-        Jobs {
-            list: Vec::new(alloc),
-        }
-    }
-
     /// No job, with room for so many.
     pub fn with_room(alloc: Global, room: usize) -> Result<Jobs, AllocError> {
         let list = Vec::with_capacity(alloc, room)?;
@@ -42,6 +35,14 @@ impl Jobs {
     /// Adds these jobs. Where there is no memory for their places, they are spent.
     pub fn keep_all(&mut self, mut jobs: Jobs) {
         let _ = self.list.append(&mut jobs.list);
+    }
+
+    /// Takes the oldest job out.
+    pub fn take_oldest(&mut self) -> Option<Job<Body>> {
+        if self.list.is_empty() {
+            return None;
+        }
+        Some(self.list.remove(0))
     }
 
     /// Takes the oldest job of a task out.

@@ -48,8 +48,8 @@ impl Leavings {
         Ok(Leavings { report })
     }
 
-    // Adds what a state leaves in which no job is chosen. Its jobs.
-    fn add_state(&mut self, state: ExecState) -> Jobs
+    /// Adds what a state leaves in which no job is chosen. Its jobs.
+    pub fn add(&mut self, state: ExecState) -> Jobs
         requires { state.chosen ≡ None }
     {
         let (list, journal, fields, checkpoint) = state.into_parts();
@@ -68,8 +68,8 @@ impl Leavings {
             drained: _,
         } = door.into_exec()?.close(rt);
         let inbox = Jobs { list: inbox };
-        let (state, _pass) = state?;
-        let ready = self.add_state(state);
+        let (state, _pass, _seat) = state?;
+        let ready = self.add(state);
         Some(Left {
             pending,
             ready,

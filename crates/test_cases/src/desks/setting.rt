@@ -1,6 +1,6 @@
 //! The script of a case.
 
-use crate::desks::tasks::Tasks;
+use crate::desks::booked::Booked;
 use crate::fault::CaseFault;
 use std::alloc::Global;
 use std::sync::Arc;
@@ -36,9 +36,9 @@ impl Setting {
         self.script.executor_count()
     }
 
-    /// A book without tasks.
-    pub fn tasks(&self, alloc: Global) -> Result<Tasks, BookFault> {
-        Tasks::new(alloc, &self.script)
+    /// A book without tasks, for threads to share.
+    pub fn booked(&self, alloc: Global) -> Result<Booked, BookFault> {
+        Booked::new(alloc, Arc::clone(&self.script)?)
     }
 
     /// A job that no book gave: the turn of this number of a root's task, at the start of its method.

@@ -5,8 +5,8 @@ use crate::fault::CaseFault;
 use std::fmt::Write;
 use swift_executor::{Gate, Open};
 
-/// What the calls of a case are made on.
-pub trait Callee<R> {
+/// What the calls of a case are made on. It may be dropped at any time.
+pub trait Callee<R>: Drop {
     /// Makes a call, and writes what it answered. One that was refused memory may be made again.
     fn answer<G: Gate>(
         &self,
@@ -18,6 +18,9 @@ pub trait Callee<R> {
 
     /// Makes a new desk of the executor of this one, which comes behind the others.
     fn split(&mut self, rt: &R, desk: u32) -> Result<(), CaseFault>;
+
+    /// Closes the executors: a line for each, and a report.
+    fn close(self, rt: &R, out: &mut String) -> Result<(), CaseFault>;
 }
 
 /// Makes a call, again where it was refused memory, and writes what it answered.

@@ -1,40 +1,37 @@
 //! A case.
 
-use crate::desks::Setting;
 use crate::executors::ROOM;
 use crate::executors::acting::Acting;
 use crate::executors::call::number;
 use crate::executors::callee::{Callee, make, play as play_calls};
-use crate::executors::end::close_all;
-use crate::executors::stage::Stage;
 use crate::fault::CaseFault;
-use std::alloc::{AllocGlobal, Global};
+use std::alloc::AllocGlobal;
 use std::fmt::Write;
-use std::random::RandomSource;
 use std::sync::{Mutex, Wait};
 
-/// Writes each call of a case with its answer, and what closing its executors gives.
-pub fn play<R>(rt: &R, case: &str, out: &mut String) -> Result<(), CaseFault>
-where
-    R: Wait + RandomSource + AllocGlobal,
-{
-    let Some((text, lines)) = case.split_once("\n--\n") else {
-        return Err(CaseFault::Form);
-    };
-    let Some((head, calls)) = lines.split_once('\n') else {
-        return Err(CaseFault::Form);
-    };
-    play_on(rt, open(rt.alloc(), text, head)?, calls, out)
+/// The words of a case.
+#[derive(Clone, Copy)]
+pub struct Plan<'a> {
+    pub script: &'a str,
+    /// For how many workers its executors are made.
+    pub workers: u32,
+    /// For how many jobs each of them has room.
+    pub room: u32,
+    /// A line for each call.
+    pub calls: &'a str,
 }
 
-// The executors of a script, made for so many workers and with the room that these words tell.
-fn open(alloc: Global, text: &str, head: &str) -> Result<Stage, CaseFault> {
-    let Some((workers, room)) = pair_of(head, " ") else {
-        return Err(CaseFault::Form);
-    };
-    let mut stage = Stage::new(alloc, Setting::read(alloc, text)?)?;
-    stage.open_all(alloc, workers, room)?;
-    Ok(stage)
+/// `SCRIPT`, `--`, `WORKERS ROOM`, and the calls, each on a line of its own.
+pub fn plan_of(case: &str) -> Option<Plan<'_>> {
+    let (script, lines) = case.split_once("\n--\n")?;
+    let (head, calls) = lines.split_once('\n')?;
+    let (workers, room) = pair_of(head, " ")?;
+    Some(Plan {
+        script,
+        workers,
+        room,
+        calls,
+    })
 }
 
 // Two numbers, with these words between them.
@@ -43,17 +40,18 @@ fn pair_of(words: &str, between: &str) -> Option<(u32, u32)> {
     Some((number(first, 0)?, number(second, 0)?))
 }
 
-// Makes the calls of a case on its executors, and gives these up.
-fn play_on<R>(rt: &R, mut stage: Stage, lines: &str, out: &mut String) -> Result<(), CaseFault>
+/// Makes these calls, writes each with its answer, and what closing the executors gives.
+pub fn play_on<R, C>(rt: &R, mut callee: C, lines: &str, out: &mut String) -> Result<(), CaseFault>
 where
-    R: Wait + RandomSource + AllocGlobal,
+    R: Wait + AllocGlobal,
+    C: Callee<R>,
 {
     let calls = lines.strip_suffix("\ndrop");
-    play_lines(rt, &mut stage, calls.unwrap_or(lines), out)?;
+    play_lines(rt, &mut callee, calls.unwrap_or(lines), out)?;
     if calls.is_none() {
-        return close_all(rt, stage, out);
+        return callee.close(rt, out);
     }
-    drop(stage);
+    drop(callee);
     Ok(out.push_str("dropped\n")?)
 }
 

@@ -1,6 +1,7 @@
 //! What is left of executors.
 
 use crate::desks::{Door, Leavings, Left};
+use crate::executors::owned::BookOf;
 use crate::executors::stage::Stage;
 use crate::executors::tell::tell_place;
 use crate::fault::CaseFault;
@@ -9,15 +10,17 @@ use std::fmt::Write;
 use std::sync::Wait;
 
 /// Closes the executors of a case, each with the last of its desks: a line for each, and a report.
-pub fn close_all<R>(rt: &R, stage: Stage, out: &mut String) -> Result<(), CaseFault>
+pub fn close_all<K, R>(rt: &R, stage: Stage<K>, out: &mut String) -> Result<(), CaseFault>
 where
+    K: BookOf,
     R: Wait + AllocGlobal,
 {
     let Stage { setting, doors, .. } = stage;
     let mut leavings = Leavings::new(rt.alloc(), doors.len())?;
     let mut number = 0u32;
     for door in doors {
-        if close_one(rt, door.into_inner(), number, &mut leavings, out)? {
+        let door = door.into_inner().into_door();
+        if close_one(rt, door, number, &mut leavings, out)? {
             number = number.saturating_add(1);
         }
     }
@@ -42,8 +45,13 @@ where
     Ok(true)
 }
 
-// What the executor of this number has left beside its turns.
-fn tell_left(alloc: Global, number: u32, left: &Left, out: &mut String) -> Result<(), CaseFault> {
+/// Writes what the executor of this number has left beside its turns.
+pub fn tell_left(
+    alloc: Global,
+    number: u32,
+    left: &Left,
+    out: &mut String,
+) -> Result<(), CaseFault> {
     write!(out, "executor {number}: {} pending", left.pending)?;
     tell_place(alloc, &left.ready.list, "ready", out)?;
     tell_place(alloc, &left.inbox.list, "in the inbox", out)?;

@@ -1,9 +1,14 @@
 //! What the calls of a case work on.
 
-use crate::desks::{Door, Jobs, Poller, Setting, Tasks};
+ghost use Rattle.std.specs.Prelude.{◌≡◌, Some};
+
+use crate::desks::{Booked, Poller, Setting};
 use crate::executors::call::{Call, Verb};
 use crate::executors::callee::Callee;
-use crate::executors::tell::{tell_back, tell_booked, tell_ending, tell_visit};
+use crate::executors::end::close_all;
+use crate::executors::owned::{BookOf, OwnBooked, OwnDoor, OwnJob};
+use crate::executors::tell::{tell_back, tell_ending, tell_visit};
+use crate::executors::{DOORS, JOBS};
 use crate::fault::CaseFault;
 use std::alloc::{AllocGlobal, Global};
 use std::fmt::Write;
@@ -12,32 +17,25 @@ use std::sync::{Mutex, Wait};
 use swift_executor::Gate;
 use swift_types::TaskId;
 
-/// The script that foreign jobs are of.
-const FOREIGN: &str = "actor A { func f() { return 1; } } root a = A.f(); root b = A.f();";
-
-// For how many jobs and desks there is room. A job is given up where it is refused a place beyond these.
-const JOBS: usize = 64;
-
-const DOORS: usize = 16;
-
-/// The script of a case, its tasks, the jobs that are kept, and its desks.
+/// The script of a case, its book, the jobs that are kept, the oldest first, and its desks.
 #[derive(Drop)]
-pub struct Stage {
+pub struct Stage<K: BookOf> {
     pub(crate) setting: Setting,
-    tasks: Tasks,
-    jobs: Mutex<Jobs>,
-    pub(crate) doors: Vec<Mutex<Door>>,
+    booked: Mutex<OwnBooked<K>>,
+    jobs: Mutex<Vec<OwnJob<K>>>,
+    pub(crate) doors: Vec<Mutex<OwnDoor<K>>>,
 }
 
-impl Stage {
-    /// A case of this script, with no task and no desk.
-    pub fn new(alloc: Global, setting: Setting) -> Result<Stage, CaseFault> {
-        let tasks = setting.tasks(alloc)?;
-        let jobs = Jobs::with_room(alloc, JOBS)?;
+impl<K: BookOf> Stage<K> {
+    /// A case of this script and this book, with no task and no desk.
+    pub fn new(alloc: Global, setting: Setting, booked: Booked) -> Result<Stage<K>, CaseFault>
+        requires { Some booked ≡ K.lock }
+    {
+        let jobs = Vec::with_capacity(alloc, JOBS)?;
         let doors = Vec::with_capacity(alloc, DOORS)?;
         Ok(Stage {
             setting,
-            tasks,
+            booked: Mutex::new(OwnBooked::new(booked)),
             jobs: Mutex::new(jobs),
             doors,
         })
@@ -45,12 +43,57 @@ impl Stage {
 
     /// Makes each executor of the script, for so many workers and with this room. The first desk of each comes behind the others.
     pub fn open_all(&mut self, alloc: Global, workers: u32, room: u32) -> Result<(), CaseFault> {
-        for place in 0..self.setting.executor_count() {
-            let Ok(executor) = u32::try_from(place) else {
-                return Err(CaseFault::Form);
-            };
-            let door = self.tasks.open(alloc, executor, workers, room as usize)?;
+        for _ in 0..self.setting.executor_count() {
+            let door = self.booked.get_mut().open(alloc, workers, room as usize)?;
             self.doors.push(Mutex::new(door))?;
+        }
+        Ok(())
+    }
+
+    // Adds a root. Its job is kept.
+    fn add_root<R>(&self, rt: &R, root: u32, out: &mut String) -> Result<(), CaseFault>
+    where
+        R: Wait + AllocGlobal,
+    {
+        let job = self.root(rt, root)?;
+        keep(&mut self.jobs.lock(rt), job);
+        Ok(out.push_str("ok")?)
+    }
+
+    // Adds a root: its job.
+    fn root<R: Wait + AllocGlobal>(&self, rt: &R, root: u32) -> Result<OwnJob<K>, CaseFault> {
+        let mut booked = self.booked.lock(rt);
+        let mut jobs = booked.no_jobs(rt.alloc());
+        booked.add_root(rt, root, &mut jobs)?;
+        match booked.take_first(&mut jobs) {
+            Some(job) => Ok(job),
+            None => Err(CaseFault::Form),
+        }
+    }
+
+    // Sends the oldest job that is kept of a task. It is kept again where it comes back.
+    fn enqueue<R: Wait, G: Gate>(
+        &self,
+        rt: &R,
+        call: Call,
+        gate: &G,
+        out: &mut String,
+    ) -> Result<(), CaseFault> {
+        let Some(door) = self.doors.get(call.second as usize) else {
+            return Err(CaseFault::Form);
+        };
+        let taken = take(&mut self.jobs.lock(rt), TaskId(call.first));
+        let Some(job) = taken else {
+            return Ok(out.push_str("no job")?);
+        };
+        let sent = door.lock(rt).enqueue(rt, job, gate);
+        match sent {
+            Ok(was) => write!(out, "{was:?}")?,
+            Err((job, fault)) => {
+                let number = job.number();
+                keep(&mut self.jobs.lock(rt), job);
+                tell_back(call.first, number, fault, out)?;
+            }
         }
         Ok(())
     }
@@ -64,42 +107,29 @@ impl Stage {
         let Some(door) = self.doors.get(call.second as usize) else {
             return Err(CaseFault::Form);
         };
+        let alloc = rt.alloc();
         let poller = Poller::new(rt)?;
-        let mut made = Jobs::with_room(rt.alloc(), JOBS)?;
-        let ran = door.lock(rt).run(rt, call.first, &poller, &mut made, gate);
-        let told = tell_visit(ran, &made.list, out);
-        self.jobs.lock(rt).keep_all(made);
+        let mut made = Vec::with_capacity(alloc, JOBS)?;
+        let mut jobs = self.booked.lock(rt).no_jobs(alloc);
+        let mut door = door.lock(rt);
+        let ran = door.run(rt, call.first, &poller, &mut jobs, gate);
+        door.take_all(jobs, &mut made);
+        let told = tell_visit(ran, &made, out);
+        let _ = self.jobs.lock(rt).append(&mut made);
         told
     }
 
-    // A visit of a worker to an executor of its own, of a book without tasks, which has the job of the first root.
-    fn run_unknown<R, G>(
-        &self,
-        rt: &R,
-        call: Call,
-        gate: &G,
-        out: &mut String,
-    ) -> Result<(), CaseFault>
-    where
-        R: Wait + RandomSource + AllocGlobal,
-        G: Gate,
-    {
-        let alloc = rt.alloc();
-        let poller = Poller::new(rt)?;
-        let mut made = Jobs::with_room(alloc, JOBS)?;
-        let mut unknown = self.setting.tasks(alloc)?;
-        let mut door = unknown.open(alloc, call.second, 1, 1)?;
-        let job = self.setting.job(alloc, 0, 0)?;
-        if let Err((job, _fault)) = door.enqueue(rt, job, gate) {
-            made.keep(job);
+    // How many jobs may still be sent by a desk.
+    fn allowance<R: Wait>(&self, rt: &R, desk: u32, out: &mut String) -> Result<(), CaseFault> {
+        let Some(door) = self.doors.get(desk as usize) else {
             return Err(CaseFault::Form);
-        }
-        let ran = door.run(rt, call.first, &poller, &mut made, gate);
-        tell_visit(ran, &made.list, out)
+        };
+        let allowance = door.lock(rt).allowance();
+        Ok(write!(out, "{allowance}")?)
     }
 }
 
-impl<R: Wait + RandomSource + AllocGlobal> Callee<R> for Stage {
+impl<K: BookOf, R: Wait + RandomSource + AllocGlobal> Callee<R> for Stage<K> {
     fn answer<G: Gate>(
         &self,
         rt: &R,
@@ -108,18 +138,16 @@ impl<R: Wait + RandomSource + AllocGlobal> Callee<R> for Stage {
         out: &mut String,
     ) -> Result<(), CaseFault> {
         match call.verb {
-            Verb::Root => add_root(rt, &self.tasks, &self.jobs, call.first, out),
-            Verb::Make => keep(rt, &self.jobs, call, &self.setting, out),
-            Verb::Foreign => {
-                let other = Setting::read(rt.alloc(), FOREIGN)?;
-                keep(rt, &self.jobs, call, &other, out)
-            }
-            Verb::Enqueue => enqueue(rt, &self.doors, &self.jobs, call, gate, out),
+            Verb::Root => self.add_root(rt, call.first, out),
+            Verb::Enqueue => self.enqueue(rt, call, gate, out),
             Verb::Run => self.run(rt, call, gate, out),
-            Verb::RunUnknown => self.run_unknown(rt, call, gate, out),
-            Verb::Cancel => tell_booked(self.tasks.cancel(rt, call.first), out),
-            Verb::Ending => tell_ending(self.tasks.ending(rt, call.first), out),
-            Verb::Allowance => allowance(rt, &self.doors, call.first, out),
+            Verb::Ending => {
+                let ending = self.booked.lock(rt).ending(rt, call.first);
+                tell_ending(ending, out)
+            }
+            Verb::Allowance => self.allowance(rt, call.first, out),
+            // Those of executors of one thread alone.
+            Verb::Make | Verb::Foreign | Verb::RunUnknown | Verb::Cancel => Err(CaseFault::Form),
         }
     }
 
@@ -131,70 +159,19 @@ impl<R: Wait + RandomSource + AllocGlobal> Callee<R> for Stage {
         self.doors.push(Mutex::new(door))?;
         Ok(())
     }
-}
 
-// Adds a root. Its job is kept.
-fn add_root<R: Wait>(
-    rt: &R,
-    tasks: &Tasks,
-    jobs: &Mutex<Jobs>,
-    root: u32,
-    out: &mut String,
-) -> Result<(), CaseFault> {
-    tell_booked(tasks.add_root(rt, root, &mut jobs.lock(rt)), out)
-}
-
-// Keeps a job that no book gave, of a root of this script.
-fn keep<R: Wait + AllocGlobal>(
-    rt: &R,
-    jobs: &Mutex<Jobs>,
-    call: Call,
-    setting: &Setting,
-    out: &mut String,
-) -> Result<(), CaseFault> {
-    let job = setting.job(rt.alloc(), call.first, call.second)?;
-    jobs.lock(rt).keep(job);
-    Ok(out.push_str("ok")?)
-}
-
-// Sends the oldest job that is kept of a task. It is kept again where it comes back.
-fn enqueue<R: Wait, G: Gate>(
-    rt: &R,
-    doors: &[Mutex<Door>],
-    jobs: &Mutex<Jobs>,
-    call: Call,
-    gate: &G,
-    out: &mut String,
-) -> Result<(), CaseFault> {
-    let Some(door) = doors.get(call.second as usize) else {
-        return Err(CaseFault::Form);
-    };
-    let taken = jobs.lock(rt).take(TaskId(call.first));
-    let Some(job) = taken else {
-        return Ok(out.push_str("no job")?);
-    };
-    let sent = door.lock(rt).enqueue(rt, job, gate);
-    match sent {
-        Ok(was) => write!(out, "{was:?}")?,
-        Err((job, fault)) => {
-            let number = job.number();
-            jobs.lock(rt).keep(job);
-            tell_back(call.first, number, fault, out)?;
-        }
+    fn close(self, rt: &R, out: &mut String) -> Result<(), CaseFault> {
+        close_all(rt, self, out)
     }
-    Ok(())
 }
 
-// How many jobs may still be sent by a desk.
-fn allowance<R: Wait>(
-    rt: &R,
-    doors: &[Mutex<Door>],
-    desk: u32,
-    out: &mut String,
-) -> Result<(), CaseFault> {
-    let Some(door) = doors.get(desk as usize) else {
-        return Err(CaseFault::Form);
-    };
-    let allowance = door.lock(rt).allowance();
-    Ok(write!(out, "{allowance}")?)
+// Keeps a job. Where there is no memory for its place, it is spent.
+fn keep<K: BookOf>(jobs: &mut Vec<OwnJob<K>>, job: OwnJob<K>) {
+    let _ = jobs.push(job);
+}
+
+// Takes the oldest job of a task out.
+fn take<K: BookOf>(jobs: &mut Vec<OwnJob<K>>, task: TaskId) -> Option<OwnJob<K>> {
+    let place = jobs.iter().position(|job| job.task() == task)?;
+    Some(jobs.remove(place))
 }

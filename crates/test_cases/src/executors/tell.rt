@@ -42,10 +42,21 @@ pub fn tell_back(
     write!(out, ", t{task}.{number} came back")
 }
 
+/// A job, or what has one.
+pub trait HasJob {
+    fn job(&self) -> &Job<Body>;
+}
+
+impl HasJob for Job<Body> {
+    fn job(&self) -> &Job<Body> {
+        self
+    }
+}
+
 /// What came of a visit, and the jobs that it made.
-pub fn tell_visit(
+pub fn tell_visit<J: HasJob>(
     ran: Result<Ran, ExecFault>,
-    jobs: &[Job<Body>],
+    jobs: &[J],
     out: &mut String,
 ) -> Result<(), CaseFault> {
     tell_ran(ran, out)?;
@@ -66,8 +77,9 @@ fn tell_ran(ran: Result<Ran, ExecFault>, out: &mut String) -> Result<(), CaseFau
 }
 
 // Jobs, in order, and what each begins with.
-fn tell_jobs(jobs: &[Job<Body>], out: &mut String) -> Result<(), AllocError> {
-    for job in jobs {
+fn tell_jobs<J: HasJob>(jobs: &[J], out: &mut String) -> Result<(), AllocError> {
+    for made in jobs {
+        let job = made.job();
         let (task, number, resume) = (job.task().0, job.number(), job.resume());
         write!(out, ", job t{task}.{number} {resume:?}")?;
     }

@@ -1,6 +1,8 @@
 //! Two threads on one executor.
 
-use crate::desks::{Door, Jobs, Leavings, Poller, Setting, Tasks};
+ghost use Rattle.std.specs.Prelude.{◌≡◌};
+
+use crate::desks::{Booked, Door, Leavings, Poller, Setting};
 use crate::executors::hold::{Hold, Holding};
 use crate::fault::CaseFault;
 use std::alloc::{AllocError, AllocGlobal};
@@ -10,7 +12,7 @@ use std::sync::Wait;
 use std::thread;
 use std::thread::Threads;
 use swift_executor::{Gate, Open, Ran};
-use swift_types::TaskId;
+use swift_shared_book::TicketedJobs;
 use swift_word::Was;
 
 /// A script of two tasks, each of one turn.
@@ -19,32 +21,31 @@ root a = Acc.take();
 root b = Acc.take();
 ";
 
-// Sends the job of a task. None where it came back, or is not there.
-fn send<R: Wait, G: Gate>(
-    rt: &R,
-    door: &mut Door,
-    jobs: &mut Jobs,
-    task: u32,
-    gate: &G,
-) -> Option<Was> {
-    let job = jobs.take(TaskId(task))?;
-    match door.enqueue(rt, job, gate) {
-        Ok(was) => Some(was),
-        Err((job, _fault)) => {
-            jobs.keep(job);
-            None
-        }
-    }
+// Sends the oldest of these jobs, which are of the executor's book. None where it came back, or there is none.
+fn send<R: Wait, G: Gate>(rt: &R, door: &mut Door, jobs: &mut TicketedJobs, gate: &G) -> Option<Was>
+    requires { jobs.old.book ≡ door.old }
+    ensures jobs { jobs.new.book ≡ jobs.old.book }
+    ensures door { door.new ≡ door.old }
+{
+    let job = jobs.take_first(door.book())?;
+    door.enqueue(rt, job, gate).ok()
 }
 
-// A visit of a worker. None where it was refused.
-fn visit<R, G>(rt: &R, door: &mut Door, worker: u32, gate: &G) -> Option<Ran>
+// A visit of a worker, whose turn makes no jobs: none come to these. None where it was refused.
+fn visit<R, G>(
+    rt: &R,
+    door: &mut Door,
+    mut jobs: TicketedJobs,
+    worker: u32,
+    gate: &G,
+) -> Option<Ran>
 where
     R: Wait + RandomSource + AllocGlobal,
     G: Gate,
+    requires { jobs.book ≡ door.old }
+    ensures { door.new ≡ door.old }
 {
     let poller = Poller::new(rt).ok()?;
-    let mut jobs = Jobs::new(rt.alloc());
     door.run(rt, worker, &poller, &mut jobs, gate).ok()
 }
 
@@ -57,14 +58,16 @@ fn is_sender_held(moment: &str) -> bool {
 fn in_sender<R: Wait>(
     rt: &R,
     mut door: Door,
-    mut jobs: Jobs,
+    mut jobs: TicketedJobs,
     hold: &Hold,
     moment: &str,
-) -> Option<Was> {
+) -> Option<Was>
+    requires { jobs.book ≡ door }
+{
     if !is_sender_held(moment) {
         hold.wait();
     }
-    let was = send(rt, &mut door, &mut jobs, 1, &Holding { hold, moment });
+    let was = send(rt, &mut door, &mut jobs, &Holding { hold, moment });
     hold.let_go();
     was
 }
@@ -73,33 +76,43 @@ fn in_sender<R: Wait>(
 fn in_visitor<R: Wait + RandomSource + AllocGlobal>(
     rt: &R,
     mut door: Door,
+    made: TicketedJobs,
     hold: &Hold,
     moment: &str,
-) -> Option<Ran> {
+) -> Option<Ran>
+    requires { made.book ≡ door }
+{
     if is_sender_held(moment) {
         hold.wait();
     }
-    let ran = visit(rt, &mut door, 0, &Holding { hold, moment });
+    let ran = visit(rt, &mut door, made, 0, &Holding { hold, moment });
     hold.let_go();
     ran
 }
 
-// One thread sends the job of task 1 by the first desk, and one visits by the second. What they answer.
+// One thread sends the oldest of these jobs by the first desk, and one visits by the second. What they answer.
 fn by_two_threads<R>(
     rt: &R,
     first: Door,
     second: Door,
-    jobs: Jobs,
+    jobs: TicketedJobs,
+    made: TicketedJobs,
     hold: &Hold,
     moment: &str,
 ) -> (Option<Was>, Option<Ran>)
 where
     R: Threads + Wait + Sync + RandomSource + AllocGlobal,
+    requires first { jobs.book ≡ first }
+    requires second { made.book ≡ second }
 {
     thread::join(
         rt,
-        move || in_sender(rt, first, jobs, hold, moment),
-        move || in_visitor(rt, second, hold, moment),
+        move ||
+            requires { jobs.book ≡ first }
+        { in_sender(rt, first, jobs, hold, moment) },
+        move ||
+            requires { made.book ≡ second }
+        { in_visitor(rt, second, made, hold, moment) },
     )
 }
 
@@ -107,36 +120,42 @@ where
 fn play_roots<R>(
     rt: &R,
     door: &mut Door,
-    tasks: &Tasks,
+    booked: &mut Booked,
     hold: &Hold,
     moment: &str,
 ) -> Option<(Option<Was>, Option<Ran>)>
 where
     R: Threads + Wait + Sync + RandomSource + AllocGlobal,
+    requires { door.old ≡ booked.old }
+    ensures door { door.new ≡ door.old }
+    ensures booked { booked.new ≡ booked.old }
 {
-    let mut jobs = Jobs::new(rt.alloc());
-    tasks.add_root(rt, 0, &mut jobs).ok()?;
-    tasks.add_root(rt, 1, &mut jobs).ok()?;
-    send(rt, door, &mut jobs, 0, &Open);
-    let (first, second) = (door.split().ok()?, door.split().ok()?);
-    Some(by_two_threads(rt, first, second, jobs, hold, moment))
+    let mut jobs = booked.no_jobs(rt.alloc());
+    booked.add_root(rt, 0, &mut jobs).ok()?;
+    booked.add_root(rt, 1, &mut jobs).ok()?;
+    send(rt, door, &mut jobs, &Open);
+    let first = door.split().ok()?;
+    let second = door.split().ok()?;
+    let made = booked.no_jobs(rt.alloc());
+    Some(by_two_threads(rt, first, second, jobs, made, hold, moment))
 }
 
 // The calls of two threads, and the visits of another worker that come then.
 fn play_visits<R>(
     rt: &R,
     door: &mut Door,
-    tasks: &Tasks,
+    booked: &mut Booked,
     moment: &str,
     out: &mut String,
 ) -> Result<(), AllocError>
 where
     R: Threads + Wait + Sync + RandomSource + AllocGlobal,
+    requires { door.old ≡ booked.old }
 {
     let hold = Hold::new();
-    let answers = play_roots(rt, door, tasks, &hold, moment);
-    let next = visit(rt, door, 1, &Open);
-    let last = visit(rt, door, 1, &Open);
+    let answers = play_roots(rt, door, booked, &hold, moment);
+    let next = visit(rt, door, booked.no_jobs(rt.alloc()), 1, &Open);
+    let last = visit(rt, door, booked.no_jobs(rt.alloc()), 1, &Open);
     writeln!(out, "  sent and visited: {answers:?}")?;
     writeln!(out, "  next: {next:?}\n  last: {last:?}")?;
     if hold.is_too_long() {
@@ -166,9 +185,9 @@ where
 {
     let alloc = rt.alloc();
     let setting = Setting::read(alloc, TEXT)?;
-    let mut tasks = setting.tasks(alloc)?;
-    let mut door = tasks.open(alloc, 0, 2, 2)?;
-    play_visits(rt, &mut door, &tasks, moment, out)?;
-    drop(tasks);
+    let mut booked = setting.booked(alloc)?;
+    let mut door = booked.open(alloc, 2, 2)?;
+    play_visits(rt, &mut door, &mut booked, moment, out)?;
+    drop(booked);
     close(rt, &setting, door, out)
 }
