@@ -1,12 +1,11 @@
 -- One executor more, and one task more, of what a run leaves.
 use Rattle.std.proofs.Common.{◌≡◌, ℕ, suc, ◌+◌, ℤ, List, [], ◌∷◌, ◌++◌, Some, Contains, length, refl, sym, subst, ap, ◌∙◌, arith, add-zero, length-append}
 use Rattle.std.proofs.lemmas.List.Elements.{Contains-append_left, Contains-append_right}
-use Rattle.std.specs.Prelude.{slice_get}
 use Rattle.std.specs.declared.vec.Vec.{Vec}
 use Rattle.std.specs.declared.alloc.Global.{Global}
 use Rattle.script_code.specs.Seen.{rows_of}
-use Rattle.swift_script.specs.Scripts.{ScriptView, executor_start}
-use Rattle.swift_journal.specs.Checkpoints.{CheckpointRoom, CheckpointView, folded_of}
+use Rattle.swift_script.specs.Scripts.{ScriptView}
+use Rattle.swift_journal.specs.Checkpoints.{CheckpointRoom, CheckpointView}
 use Rattle.swift_journal.specs.Records.{RecordView}
 use Rattle.swift_journal.specs.Replay.{replay}
 use Rattle.swift_inbox.specs.Site.{Site}

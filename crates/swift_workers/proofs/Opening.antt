@@ -1,5 +1,5 @@
 -- The seat that opens accounts and adds roots, step by step.
-use Rattle.std.proofs.Common.{◌≡◌, ℕ, ◌+◌, Option, Some, None, [], ◌∷◌, refl, sym, subst, ap, ◌∙◌}
+use Rattle.std.proofs.Common.{◌≡◌, ℕ, ◌+◌, Option, Some, None, [], ◌∷◌, sym, subst, ap, ◌∙◌}
 use Rattle.std.specs.Prelude.{IfSome}
 use Rattle.swift_script.specs.Scripts.{ScriptView}
 use Rattle.swift_known.specs.Views.{Maker, SeatView}

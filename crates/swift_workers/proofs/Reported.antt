@@ -12,8 +12,8 @@ use Rattle.swift_journal.specs.Records.{RecordView}
 use Rattle.swift_events.specs.declared.event.Event.{Event}
 use Rattle.swift_events.specs.declared.life.Origin.{Origin}
 use Rattle.swift_history.specs.Histories.{IsLegal}
-use Rattle.swift_known.specs.Views.{BookFacts, Maker, SeatView}
-use Rattle.swift_course.specs.Reports.{HasHistory, IsAccountedFor, IsReportOf, Knows, RunsAreLegal}
+use Rattle.swift_known.specs.Views.{BookFacts, SeatView}
+use Rattle.swift_course.specs.Reports.{IsAccountedFor, IsReportOf, Knows, RunsAreLegal}
 use Rattle.swift_report.specs.declared.report.Report.{Report}
 use Rattle.swift_certificate.specs.Reports.{report_view}
 use Rattle.swift_workers.specs.declared.leave.Parts.{Parts}

@@ -1,4 +1,4 @@
-use Rattle.std.proofs.Common.{◌≡◌, ◌<◌, ◌+◌, List, [], ◌∷◌, ◌++◌, length, refl, sym, subst, take}
+use Rattle.std.proofs.Common.{◌<◌, List, [], ◌∷◌, ◌++◌, length, refl, sym, subst, take}
 use Rattle.std.proofs.lemmas.Option.{slice_get_read}
 use Rattle.swift_executor.specs.Exec.{DeskIs, ExecIs, IsDeskOf}
 use Rattle.swift_workers.specs.Crew.{AreDesksOf}

@@ -1,4 +1,4 @@
-use Rattle.std.proofs.Common.{◌≡◌, take}
+use Rattle.std.proofs.Common.{take}
 use Rattle.swift_workers.specs.Crew.{AreDesksOf}
 use Rattle.swift_workers.proofs.crew.split_all.Given as goal
 
