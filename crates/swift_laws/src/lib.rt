@@ -7,5 +7,7 @@ pub mod accepted;
 pub mod ended;
 /// What holds of each legal report.
 pub mod laws;
+/// The limits, in numbers.
+pub mod limits;
 /// What holds of its task locals.
 pub mod locals;
