@@ -4,11 +4,9 @@
     tools/outcomes_check.py PROGRAM [--scripts N] [--runs N] [--seed N] [--workers N..] [--limit STATES]
 
 It runs a built swiftrun on N tiny racy scripts (tools/racy_scripts.py), so many times each with each number of workers, and once with one
-worker, whose outcome has to be the one that is listed for one worker. A script with more than STATES states is left out. For each script it
-prints its seed, how many outcomes are listed and how many were seen. What is outside the list is printed with its script. The last line has
-the sums; status 0 where nothing was outside.
-
-`make try` builds the program without a proof (CONTRIBUTING.md).
+worker, whose outcome has to be the one that is listed for one worker. A script with one outcome, or with more than STATES states, is left
+out. For each other one it prints its seed, how many outcomes are listed and how many were seen. What is outside the list is printed with its script. The last line has
+the sums; status 0 where nothing was outside. PROGRAM is crates/swiftrun/out/swiftrun, which `make run` leaves, or any other build of it.
 """
 from __future__ import annotations
 
@@ -34,12 +32,14 @@ class Check:
         self.scripts = self.left_out = self.made = self.listed = self.seen = self.outside = 0
 
     def look(self, seed: int) -> None:
-        """Runs one script, unless it has too many states."""
+        """Runs one script, unless it has one outcome or too many states."""
         script = Writer(seed).script()
         try:
-            lists = {1: explore(script, self.limit, 1).outcomes, 2: explore(script, self.limit, 2).outcomes}
             every = explore(script, self.limit).outcomes
+            lists = {1: explore(script, self.limit, 1).outcomes, 2: explore(script, self.limit, 2).outcomes}
         except TooMany:
+            every = set()
+        if len(every) < 2:
             self.left_out += 1
             return
         seen = set()

@@ -33,7 +33,9 @@ class Writer:
         return f"x{self.names}"
 
     def leaf(self) -> str:
-        return f"A{self.r.randrange(self.actors)}.{self.r.choice(['work', 'look'])}({self.r.randint(0, 3)})"
+        """A call of a short method, mostly of the first actor, which is so changed by many."""
+        actor = 0 if self.chance(0.5) else self.r.randrange(self.actors)
+        return f"A{actor}.{self.r.choice(['work', 'look'])}({self.r.randint(0, 3)})"
 
     def wait(self, what: str) -> str:
         """A wait, and a trace of what it gave."""
@@ -58,7 +60,7 @@ class Writer:
         return f"func {name}(k) {{ let s = k; {body} {self.change()} return s * 10 + n; }}"
 
     def root_statement(self, root: int) -> str:
-        kind = self.r.randrange(12)
+        kind = self.r.randrange(2, 12)
         if kind < 3:
             return self.change()
         if kind < 4:
@@ -103,11 +105,11 @@ class Writer:
         roots = []
         for root in range(self.roots):
             body = " ".join(self.root_statement(root) for _ in range(self.r.randint(1, 3)))
-            actor = self.r.randrange(self.actors)
+            actor = (root + 1) % self.actors
             methods[actor].append(f"func run{root}() {{ let s = 0; {body} return s * 10 + n; }}")
             roots.append(f"root r{root} = A{actor}.run{root}(){self.at(0.4)};")
         for actor in range(self.actors):
-            on = f" on E{self.r.randrange(executors)}" if executors and self.chance(0.4) else ""
+            on = f" on E{self.r.randrange(executors)}" if executors and self.chance(0.3) else ""
             law = self.r.choice(["", "", " invariant n <= 9;", " invariant n != 3;"])
             lines += [f"actor A{actor}{on} {{", f"    var n = {self.r.randint(0, 2)};{law}"]
             lines += [f"    {method}" for method in methods[actor]] + ["}"]
