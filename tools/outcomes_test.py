@@ -4,7 +4,8 @@
     tools/outcomes_test.py
 
 Its last line is 'N passed, M failed'; status 0 where none failed. Of each script it also looks whether making each step by itself finds the
-same outcomes, whether one worker has one outcome, and whether those of one worker and of two are among all.
+same outcomes, whether one worker has one outcome, whether those of one worker and of two are among all, and, of those worked out by hand,
+whether all are among those with early tokens.
 """
 import glob
 import os
@@ -139,6 +140,7 @@ def main() -> None:
     tally = Tally()
     for name, number, _, script in CASES:
         found = test_script(tally, name, script)
+        tally.test(name, found <= explore(script, early_tokens=True).outcomes, "early tokens lack some")
         tally.test(name, len(found) == number, f"{len(found)} outcomes and not {number}\n" + "\n".join(sorted(found)))
     for path in sorted(glob.glob(os.path.join(TOP, "examples/*.actors"))):
         name = os.path.relpath(path, TOP)
