@@ -177,7 +177,7 @@ def main() -> None:
         with open(path, encoding="ascii") as script, open(path[: -len("actors")] + "out", encoding="ascii") as out:
             found, text = test_script(tally, name, script.read()), out.read()
         tally.test(name, text[text.index("tasks\n"):] in found, "its output is none of the outcomes")
-    for seed in (0, 1, 2, 7, 14, 15, 21, 25):
+    for seed in (1, 2, 4, 5, 6, 10, 22, 36):
         test_script(tally, f"racy script {seed}", Writer(seed).script())
     print(f"{tally.passed} passed, {tally.failed} failed")
     sys.exit(1 if tally.failed else 0)

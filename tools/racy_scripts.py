@@ -53,7 +53,8 @@ class Writer:
             return self.change()
         if kind < 6:
             return "yield;"
-        return self.r.choice(["check;", "s = s + 100 * cancelled;", "s = s + 100 * priority;", "s = s + @l;", "if n > 4 { throw n; }"])
+        fault = f"if n > {self.r.randint(1, 4)} {{ throw n; }}"
+        return self.r.choice(["check;", "s = s + 100 * cancelled;", "s = s + 100 * priority;", "s = s + @l;", fault, fault])
 
     def leaf_method(self, name: str) -> str:
         body = " ".join(self.leaf_statement() for _ in range(self.r.randint(1, 3)))
@@ -70,9 +71,10 @@ class Writer:
         if kind < 7:
             return f"cancel r{self.r.randrange(self.roots)};"
         if kind < 8 and root:
-            return self.wait(f"task r{self.r.randrange(root)}")
+            return self.wait(f"task r{self.r.choice([0, self.r.randrange(root)])}")
         if kind < 9:
-            return f"bind l = {self.r.randint(1, 3)} {{ {self.wait(self.leaf())} }}"
+            inside = self.spawned() if self.tasks < 2 and self.chance(0.4) else self.wait(self.leaf())
+            return f"bind l = {self.r.randint(1, 3)} {{ {inside} }}"
         if self.tasks >= 2:
             return self.r.choice(["s = s + 100 * priority;", "s = s + 100 * cancelled;", "check;", self.change()])
         if kind < 10:
