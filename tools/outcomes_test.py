@@ -24,11 +24,11 @@ class Case(NamedTuple):
     script: str
 
 
-DIGITS = "actor C { var n = 0; func add(x) { n = n * 10 + x; return 0; } }"
+DIGITS = "actor C { var n = 0; func put(x) { n = n * 10 + x; return 0; } }"
 THREE = "actor B { func f() { return 1; } } actor C { func f() { return 2; } } actor D { func f() { return 3; } }"
-PRINTER = """{ var n = 0; func add(x) { n = n * 10 + x; return priority; } }
+PRINTER = """{ var n = 0; func put(x) { n = n * 10 + x; return priority; } }
     actor B { func ask() { let p = await task slow; return p; } }
-    root slow = X.add(1) at low; root memo = X.add(2); root boss = B.ask() at high;"""
+    root slow = X.put(1) at low; root memo = X.put(2); root boss = B.ask() at high;"""
 BUYER = "{ func f() { let b = await Account.read(); let got = 0; if b >= 10 { got = await Account.take(); } return got; } }"
 
 CASES = [
@@ -43,21 +43,21 @@ CASES = [
          root a = A.f(1); root b = B.f(2);"""),
     Case("two tasks on two executors that call a third one twice", 6,
          "1, 1, 2 and 2 have 4! / (2! 2!) orders",
-         DIGITS + """ actor A { func f() { await C.add(1); await C.add(1); return 0; } }
-         actor B { func f() { await C.add(2); await C.add(2); return 0; } }
+         DIGITS + """ actor A { func f() { await C.put(1); await C.put(1); return 0; } }
+         actor B { func f() { await C.put(2); await C.put(2); return 0; } }
          root a = A.f(); root b = B.f();"""),
     Case("the same, three times", 20,
          "6! / (3! 3!) orders",
-         DIGITS + """ actor A { func f() { await C.add(1); await C.add(1); await C.add(1); return 0; } }
-         actor B { func f() { await C.add(2); await C.add(2); await C.add(2); return 0; } }
+         DIGITS + """ actor A { func f() { await C.put(1); await C.put(1); await C.put(1); return 0; } }
+         actor B { func f() { await C.put(2); await C.put(2); await C.put(2); return 0; } }
          root a = A.f(); root b = B.f();"""),
     Case("two tasks that are made at once", 4,
          "2 orders in which the turns of their makers are applied, which number them, and 2 in which their jobs are pushed",
-         DIGITS + """ actor A { func f() { spawn C.add(1); return 0; } } actor B { func f() { spawn C.add(2); return 0; } }
+         DIGITS + """ actor A { func f() { spawn C.put(1); return 0; } } actor B { func f() { spawn C.put(2); return 0; } }
          root a = A.f(); root b = B.f();"""),
     Case("two tasks that one turn makes", 1,
          "one worker sends both jobs, in the order of the statements",
-         DIGITS + " actor A { func f() { spawn C.add(1); spawn C.add(2); return 0; } } root a = A.f();"),
+         DIGITS + " actor A { func f() { spawn C.put(1); spawn C.put(2); return 0; } } root a = A.f();"),
     Case("a group of three, whose results come in order of ending", 6,
          "3! orders of ending",
          THREE + """ actor A { func f() { let s = 0; group g { add g B.f(); add g C.f(); add g D.f();
@@ -133,12 +133,12 @@ CASES = [
          actor A {BUYER} actor B {BUYER} root first = A.f(); root second = B.f();"""),
     Case("a call of an executor that is under way", 2,
          "the call is more urgent: it comes before the second turn of `b` is chosen (12), or after (21)",
-         """actor C { var n = 0; func add(x) { n = n * 10 + x; return 0; } func twice(x) { yield; n = n * 10 + x; return 0; } }
-         actor A { func f() { await C.add(1); return 0; } } root a = A.f() at high; root b = C.twice(2) at low;"""),
+         """actor C { var n = 0; func put(x) { n = n * 10 + x; return 0; } func twice(x) { yield; n = n * 10 + x; return 0; } }
+         actor A { func f() { await C.put(1); return 0; } } root a = A.f() at high; root b = C.twice(2) at low;"""),
     Case("a pinned executor", 2,
          "it gets its jobs in either order, as any other",
-         """executor P pinned 0; actor C on P { var n = 0; func add(x) { n = n * 10 + x; return 0; } }
-         actor A { func f() { await C.add(1); return 0; } } actor B { func f() { await C.add(2); return 0; } }
+         """executor P pinned 0; actor C on P { var n = 0; func put(x) { n = n * 10 + x; return 0; } }
+         actor A { func f() { await C.put(1); return 0; } } actor B { func f() { await C.put(2); return 0; } }
          root a = A.f(); root b = B.f();"""),
 ]
 

@@ -104,7 +104,12 @@ class Reader:
     """Reads a script by the grammar, from left to right."""
 
     TOKEN = re.compile(r"\s+|//[^\n]*|([A-Za-z_]\w*|\d+|==|!=|<=|>=|&&|\|\||[-+*<>=!(){},;.@])")
-    BINARY = [["||"], ["&&"], ["==", "!=", "<=", ">=", "<", ">"], ["+", "-"], ["*"]]
+    KEYWORDS = frozenset(
+        """actor add assume at await background bind cancel cancelled check detach else executor fifo func group high if invariant let local low
+        medium next on pinned priority return root spawn task throw unless var while yield""".split()
+    )
+    COMPARISONS = ["==", "!=", "<=", ">=", "<", ">"]
+    BINARY = [["||"], ["&&"], COMPARISONS, ["+", "-"], ["*"]]
 
     def __init__(self, text: str):
         self.tokens: list[str] = []
@@ -137,17 +142,23 @@ class Reader:
             before = " ".join(self.tokens[max(0, self.at - 6) : self.at])
             raise NoScript(f"{self.peek()!r} where {' '.join(words)!r} has to stand, after {before}")
 
+    def name(self) -> str:
+        word = self.next()
+        if not re.match(r"[A-Za-z_]", word) or word in self.KEYWORDS:
+            raise NoScript(f"{word!r} where a name has to stand")
+        return word
+
     def script(self) -> Script:
         script = Script(words=frozenset(self.tokens))
         while self.peek():
             word = self.next()
             if word == "executor":
-                script.names[self.next()] = len(script.executors)
+                script.names[self.name()] = len(script.executors)
                 script.executors.append(self.next())
                 if script.executors[-1] == "pinned":
                     self.next()
             elif word == "local":
-                name = self.next()
+                name = self.name()
                 self.want("=")
                 script.locals[name] = (len(script.locals), self.integer())
             elif word == "actor":
@@ -180,19 +191,19 @@ class Reader:
         return items
 
     def root(self) -> Root:
-        name = self.next()
+        name = self.name()
         self.want("=")
-        actor = self.next()
+        actor = self.name()
         self.want(".")
-        method, arguments, rank = self.next(), self.listed(self.integer), self.rank()
+        method, arguments, rank = self.name(), self.listed(self.integer), self.rank()
         return Root(name, actor, method, arguments, MEDIUM if rank is None else rank)
 
     def actor(self) -> Actor:
-        name = self.next()
-        actor = Actor(name, self.next() if self.take("on") else "")
+        name = self.name()
+        actor = Actor(name, self.name() if self.take("on") else "")
         self.want("{")
         while self.take("var"):
-            actor.places[self.next()] = -1
+            actor.places[self.name()] = -1
             self.want("=")
             actor.starts.append(self.integer())
             self.want(";")
@@ -201,7 +212,7 @@ class Reader:
             self.want(";")
         while self.take("func"):
             begin = self.at
-            name, parameters = self.next(), self.listed(self.next)
+            name, parameters = self.name(), self.listed(self.name)
             block = self.block()
             actor.methods[name] = Method(name, actor, parameters, block, frozenset(self.tokens[begin : self.at]))
         self.want("}")
@@ -221,9 +232,9 @@ class Reader:
         if word == "while":
             return Statement("while", value=self.expr(), block=self.block())
         if word in ("group", "assume"):
-            return Statement(word, self.next(), block=self.block())
+            return Statement(word, self.name(), block=self.block())
         if word == "bind":
-            name = self.next()
+            name = self.name()
             self.want("=")
             return Statement("bind", name, self.expr(), block=self.block())
         statement = self.action(word)
@@ -236,16 +247,18 @@ class Reader:
         if word in ("return", "throw"):
             return Statement(word, value=self.expr())
         if word == "cancel":
-            return Statement("cancel", self.next())
+            return Statement("cancel", self.name())
         if word == "await":
             return self.wait("", False)
         if word in ("spawn", "detach"):
             return Statement("make", way=word, call=self.call(), rank=self.rank())
         if word == "add":
-            name, way = self.next(), "unless" if self.take("unless") else ""
+            name, way = self.name(), "unless" if self.take("unless") else ""
             return Statement("add", name, way=way, call=self.call(), rank=self.rank())
         new = word == "let"
-        name = self.next() if new else word
+        if not new:
+            self.at -= 1
+        name = self.name()
         self.want("=")
         if self.take("await"):
             return self.wait(name, new)
@@ -255,13 +268,13 @@ class Reader:
 
     def wait(self, name: str, new: bool) -> Statement:
         way = self.next() if self.peek() in ("task", "next") else "call"
-        on, call = ("", self.call()) if way == "call" else (self.next(), None)
+        on, call = ("", self.call()) if way == "call" else (self.name(), None)
         return Statement("await", name, self.expr() if self.take("else") else None, way, new, on, call)
 
     def call(self) -> Call:
-        actor = self.next()
+        actor = self.name()
         self.want(".")
-        return Call(actor, self.next(), tuple(self.listed(self.expr)))
+        return Call(actor, self.name(), tuple(self.listed(self.expr)))
 
     def expr(self, level: int = 0) -> Expr:
         if level == len(self.BINARY):
@@ -269,6 +282,8 @@ class Reader:
         left = self.expr(level + 1)
         while self.peek() in self.BINARY[level]:
             left = (self.next(), left, self.expr(level + 1))
+            if left[0] in self.COMPARISONS:
+                break  # they are not chained
         return left
 
     def unary(self) -> Expr:
@@ -280,11 +295,10 @@ class Reader:
             self.want(")")
             return inside
         if word == "@":
-            return ("local", self.next())
+            return ("local", self.name())
         if word in ("priority", "cancelled"):
             return (word,)
         if word.isdigit():
             return ("number", int(word))
-        if re.match(r"[A-Za-z_]", word):
-            return ("name", word)
-        raise NoScript(f"{word!r} begins no expression")
+        self.at -= 1
+        return ("name", self.name())
