@@ -6,8 +6,8 @@
 It runs a built swiftrun on N tiny racy scripts (tools/racy_scripts.py), so many times each with each number of workers, and once with one
 worker, whose outcome has to be the one that is listed for one worker. A script with one outcome, or with more than STATES states, is left
 out. For each other one it prints its seed, how many outcomes are listed and how many were seen. What is outside the list is printed with
-its script. The last line has the sums; status 0 where nothing was outside. PROGRAM is crates/swiftrun/out/swiftrun, which `make run` leaves,
-or any other build of it.
+its script. The last line has the sums; status 0 where nothing was outside. PROGRAM is crates/swiftrun/out/swiftrun, which `make run`
+leaves, or any other build of it.
 """
 from __future__ import annotations
 

@@ -76,8 +76,8 @@ CASES = [
          """actor B { func f() { return cancelled; } }
          actor A { func f() { let h = spawn B.f(); cancel h; let v = await task h; return v; } } root a = A.f();"""),
     Case("a wait race", 2,
-         "12 where both wait when `a` ends, or both find it ended; 21 where it ends between their turns: the second one goes on at once, and "
-         "its worker can push it before that of `a` pushes the first",
+         "12 where both wait when `a` ends, or both find it ended; 21 where it ends between their turns: the second one goes on at once, "
+         "and its worker can push it before that of `a` pushes the first",
          """actor A { func f() { return 0; } } actor W { var n = 0; func w(x) { await task a; n = n * 10 + x; return n; } }
          root a = A.f(); root b = W.w(1); root c = W.w(2);"""),
     Case("an escalation that a task reads", 3,
@@ -108,8 +108,8 @@ CASES = [
          actor A { func f() { await W.save(); return 0; } } actor B { func f() { let v = await W.look(); return v; } }
          root a = A.f(); root b = B.f(); root z = Z.f();"""),
     Case("a fault in a child", 3,
-         "the value comes first: the owner returns it, and the fault is dropped. Or the fault does, and leaves the owner, which cancels the "
-         "other child before its second turn begins, or after",
+         "the value comes first: the owner returns it, and the fault is dropped. Or the fault does, and leaves the owner, which cancels "
+         "the other child before its second turn begins, or after",
          """actor B { func fail() { throw 7; } } actor C { func work() { yield; check; return 1; } }
          actor A { func f() { let s = 0; group g { add g B.fail(); add g C.work(); s = await next g; } return s; } } root a = A.f();"""),
     Case("the same with `else`", 2,

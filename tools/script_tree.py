@@ -105,8 +105,8 @@ class Reader:
 
     TOKEN = re.compile(r"\s+|//[^\n]*|([A-Za-z_]\w*|\d+|==|!=|<=|>=|&&|\|\||[-+*<>=!(){},;.@])")
     KEYWORDS = frozenset(
-        """actor add assume at await background bind cancel cancelled check detach else executor fifo func group high if invariant let local low
-        medium next on pinned priority return root spawn task throw unless var while yield""".split()
+        """actor add assume at await background bind cancel cancelled check detach else executor fifo func group high if invariant let local
+        low medium next on pinned priority return root spawn task throw unless var while yield""".split()
     )
     COMPARISONS = ["==", "!=", "<=", ">=", "<", ">"]
     BINARY = [["||"], ["&&"], COMPARISONS, ["+", "-"], ["*"]]
