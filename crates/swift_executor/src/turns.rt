@@ -174,11 +174,10 @@ impl ExecState {
         Ok(())
     }
 
-    /// Journals the turn that was played, and lets the book take it, which is of an equal script. The jobs that follow come behind those that `jobs`
-    /// has. A journal that has 4,096 turns then is folded. It takes no memory for a turn that only gives way, but for
-    /// the growth of the journal and of the log; all memory is taken before the book changes. A refusal is that of the
-    /// book, or `Memory`: `jobs`, the book, the fields and the journal are then as before, and the job is ready again with the number of
-    /// its arrival.
+    /// Journals the turn that was played, and lets the book take it, which is of an equal script. The jobs that follow come behind those
+    /// that `jobs` has. A journal that has 4,096 turns then is folded. It takes no memory for a turn that only gives way, but for the
+    /// growth of the journal and of the log; all memory is taken before the book changes. A refusal is that of the book, or `Memory`:
+    /// `jobs`, the book, the fields and the journal are then as before, and the job is ready again with the number of its arrival.
     pub fn turn(&mut self, book: &mut Book, jobs: &mut Vec<Job<Body>>) -> Result<(), ExecFault>
         requires played { HasChosen self.old (λ c. IsPlayed c.stage) }
         requires same { book.old.script ≡ self.old.script }
