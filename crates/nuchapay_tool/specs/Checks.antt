@@ -1,5 +1,5 @@
 -- What is said of a text that is a script, and of one that is none (our own).
-use Rattle.std.specs.Prelude.{◌≡◌, ℕ, ◌==◌, List, [], ◌∷◌, ◌++◌, length, codes, decimal, if◌then◌else◌}
+use Rattle.std.specs.Prelude.{◌≡◌, ℕ, ◌==◌, List, [], ◌∷◌, length, codes, decimal, if◌then◌else◌}
 use Rattle.std.specs.List.{concat, repeat}
 use Rattle.std.specs.String.{string_bytes}
 use Rattle.swift_script.specs.Accepted.{IsAccepted}

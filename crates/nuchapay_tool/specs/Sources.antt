@@ -1,5 +1,6 @@
 -- The lines of a text, as they are shown (our own).
-use Rattle.std.specs.Prelude.{ℕ, zero, suc, ◌-◌, ◌==◌, ◌||◌, ◌&&◌, Option, Some, None, List, [], map, position, take, drop, nat_le, if◌then◌else◌}
+use Rattle.std.specs.Prelude.{ℕ, zero, suc, ◌-◌, ◌==◌, ◌||◌, ◌&&◌, Option, Some, None, List, [], ◌∷◌, codes, length, map, min, position, take, drop, nat_le, nat_lt, if◌then◌else◌}
+use Rattle.std.specs.List.{concat}
 
 -- what stands before a line feed at this place; the whole text where there is none
 abbrev pub before_feed : Option ℕ → List ℕ → List ℕ
@@ -28,5 +29,13 @@ source_line text line = before_feed (feed_in (skip_lines (line - 1) text)) (skip
 abbrev pub shown_byte : ℕ → ℕ
 shown_byte b = if nat_le 32 b && nat_le b 126 then b else (if b == 9 || b == 13 then 32 else 63)
 
+-- what stands for the bytes of a line of this length that are not shown: those after 1,000
+abbrev pub dots : ℕ → List ℕ
+dots n = if nat_lt 1000 n then codes " .." else []
+
+-- a line as it is shown
+abbrev pub shown_of : List ℕ → List ℕ
+shown_of line = concat (map shown_byte (take (min (length line) 1000) line) ∷ dots (length line) ∷ [])
+
 abbrev pub shown_line : List ℕ → ℕ → List ℕ
-shown_line text line = map shown_byte (source_line text line)
+shown_line text line = shown_of (source_line text line)

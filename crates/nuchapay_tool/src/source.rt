@@ -2,12 +2,16 @@
 
 ghost use Rattle.std.specs.Prelude.{◌≡◌, ◌<◌, map, length, IfOk, IfSome};
 ghost use Rattle.std.specs.String.{string_bytes};
-ghost use Rattle.nuchapay_tool.specs.Sources.{after_feed, feed_in, shown_byte, shown_line, source_line};
+ghost use Rattle.nuchapay_tool.specs.Sources.{after_feed, dots, feed_in, shown_byte, shown_line, source_line};
 
 use std::alloc::{AllocError, Global};
 
+// How many bytes of a line are shown at most.
+const SHOWN: usize = 1_000;
+
 /// A line of a text as it is shown to people: without its line feed, a tab and a CR as a space, and any other byte that
-/// is not printable ASCII as a question mark. Empty past the last line. Linear in the text.
+/// is not printable ASCII as a question mark. After 1,000 bytes two dots stand for the others. Empty past the last line.
+/// Linear in the text.
 ///
 /// # Errors
 ///
@@ -15,7 +19,17 @@ use std::alloc::{AllocError, Global};
 pub(crate) fn shown_line(alloc: Global, text: &[u8], line: u32) -> Result<String, AllocError>
     ensures { IfOk result (λ shown. string_bytes shown ≡ shown_line text.now line) }
 {
-    shown(alloc, source_line(text, line))
+    let whole = source_line(text, line);
+    let front = shown(alloc, &whole[..whole.len().min(SHOWN)])?;
+    let parts = [front.as_str(), dots(whole.len())];
+    parts.as_slice().concat(alloc)
+}
+
+// What stands for the bytes of a line of this length that are not shown.
+fn dots(len: usize) -> &'static str
+    ensures { result.now ≡ dots len }
+{
+    if len > SHOWN { " .." } else { "" }
 }
 
 fn shown(alloc: Global, line: &[u8]) -> Result<String, AllocError>
