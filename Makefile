@@ -1,5 +1,6 @@
 SCRIPT = examples/account.actors
 PROGRAM = crates/swiftrun/out/swiftrun
+DAILY = crates/nuchapay/out/nuchapay
 CASES = crates/test_cases/out/test_cases
 SOURCES = $(shell find crates -name out -prune -o \( -name '*.rt' -o -name '*.antt' \) -print)
 
@@ -15,6 +16,7 @@ crates/$(1)/out/$(1): crates.txt $$(SOURCES)
 	@tools/build.py $(1) $(2) && touch $$@
 endef
 $(eval $(call program,swiftrun))
+$(eval $(call program,nuchapay,-- --version))
 $(eval $(call program,test_cases))
 
 # Runs a script with the proved program. Status 0 also where the script was refused or a task ended with a fault.
@@ -36,11 +38,21 @@ mutants:
 	@tools/mutants.py $(CRATES) --edits $(foreach edit,$(EDITS),'$(edit)')
 
 # Runs each example, and compares what it prints, what it says on standard error and its status with what stands beside it.
-examples: $(PROGRAM)
-	@tools/examples.py $(PROGRAM)
+examples: $(PROGRAM) $(DAILY)
+	@tools/examples.py $(PROGRAM) $(DAILY)
 
-# Runs cases of the test program once for each allocation of a sample, with that one refused: make refusals EACH=each (all of them).
-refusals: $(CASES)
+# Whether what nuchapay explains agrees with the tables of docs/LANGUAGE.md, and whether its scripts do what they are for.
+pages: $(DAILY)
+	@tools/pages.py $(DAILY)
+
+# Puts both programs, the examples and the manual page into PREFIX: make install PREFIX=~/.local
+PREFIX = /usr/local
+install: $(PROGRAM) $(DAILY)
+	@tools/install.sh "$(DESTDIR)$(PREFIX)"
+
+# Runs cases of the test program, and examples of nuchapay, once for each allocation of a sample, with that one refused: make refusals
+# EACH=each (all of them).
+refusals: $(CASES) $(DAILY)
 	@tools/refusals.py $(EACH)
 
 # Whether what the documents link to is there.
@@ -55,4 +67,4 @@ believe:
 bench: $(PROGRAM) $(CASES)
 	@python3 bench/run.py
 
-.PHONY: try run test prove mutants examples refusals links believe bench
+.PHONY: try run test prove mutants examples pages install refusals links believe bench

@@ -1,5 +1,5 @@
 #!/usr/bin/env python3
-"""Runs cases of test_cases once for each of their allocations, with that one refused, and compares what they write.
+"""Runs cases of test_cases, and examples of nuchapay, once for each of their allocations, with that one refused, and compares what they write.
 
     tools/refusals.py [each]
 
@@ -8,6 +8,9 @@ the file crates/test_cases/refused has, and has to write what the file stdout ha
 was refused memory. The n-th run refuses the n-th allocation (tools/refuse.c, built by $CC or cc). Of a case with more than 300
 allocations the first and the last 100 are refused, and of the others each 7th, or each 41st where there are more than 2,000; with the
 word `each`, every one. Where an allocation is refused before the case is read, the program has to stop with status 1 and nothing written.
+
+The examples are those of examples/nuchapay with all of their output (crates/nuchapay/out/nuchapay). Where an allocation is refused, the
+program has to print what the example has, or to say that there is no memory, with status 2, 3 or 4 and nothing on standard output.
 Status 0 where no run differs.
 """
 import concurrent.futures
@@ -16,8 +19,12 @@ import subprocess
 import sys
 import tempfile
 
-TOP = os.path.dirname(os.path.dirname(os.path.abspath(__file__)))
+sys.dont_write_bytecode = True
+import examples
+
+TOP = examples.TOP
 NAME = "test_cases"
+SECOND = "nuchapay"
 SECONDS = 60
 # What is said of a run in which nothing was written.
 UNREAD = "nothing was written"
@@ -35,7 +42,7 @@ class Case:
     """What a program is given, and what it has to write."""
 
     def __init__(self, program, library, asked, wanted):
-        self.words = [program]
+        self.words, self.folder = [program], None
         self.library = library
         self.given = f"A case.\n== {asked}\n".encode()
         self.wanted = f"== {wanted}\n".encode()
@@ -46,19 +53,21 @@ class Case:
         words = dict(os.environ, LD_PRELOAD=self.library, REFUSE=str(number), REFUSE_TELL=str(tell))
         with os.fdopen(told, "rb") as told:
             try:
-                done = subprocess.run(
-                    self.words, env=words, input=self.given, stdout=subprocess.PIPE, stderr=subprocess.DEVNULL, pass_fds=[tell], timeout=SECONDS, check=False
-                )
+                done = subprocess.run(self.words, cwd=self.folder, env=words, input=self.given, capture_output=True, pass_fds=[tell], timeout=SECONDS, check=False)
             except subprocess.TimeoutExpired:
                 return True, f"it runs for more than {SECONDS} seconds"
             finally:
                 os.close(tell)
             is_refused = told.read() != b""
+        return is_refused, self.fault(is_refused, done)
+
+    def fault(self, is_refused, done):
+        """What is otherwise in a run, if anything is."""
         if done.returncode:
             # Its input was not read.
             is_unread = is_refused and done.returncode == 1 and done.stdout == b""
-            return is_refused, UNREAD if is_unread else f"status {done.returncode}"
-        return is_refused, None if done.stdout == self.wanted else "another text"
+            return UNREAD if is_unread else f"status {done.returncode}"
+        return None if done.stdout == self.wanted else "another text"
 
     def count(self):
         """How many allocations it makes."""
@@ -95,6 +104,40 @@ class Case:
         return refused, unread, wrong
 
 
+class Command(Case):
+    """An example of nuchapay."""
+
+    def __init__(self, program, library, name):
+        self.words, self.folder = [program, *examples.arguments(name)], os.path.dirname(name)
+        self.library = library
+        self.given = examples.content(name, ".actors") or b""
+        self.wanted = tuple(examples.content(name, ending) or b"" for ending in (".out", ".err"))
+        self.status = int(examples.content(name, ".status") or b"0")
+
+    def fault(self, is_refused, done):
+        if (done.stdout, done.stderr) == self.wanted and done.returncode == self.status:
+            return None
+        # It may give up, and has to say why.
+        if is_refused and done.returncode in (2, 3, 4) and done.stdout == b"" and b"memory" in done.stderr:
+            return None
+        return f"status {done.returncode}, and it says {done.stderr!r}"
+
+
+def refuse_commands(is_each, library, workers):
+    """Refuses the allocations of the examples of nuchapay. Whether no run differs."""
+    program = os.path.join(TOP, "crates", SECOND, "out", SECOND)
+    count, refused, differ = 0, 0, 0
+    for name in filter(examples.is_second, examples.names()):
+        if examples.content(name, ".has") is not None or examples.content(name, ".to") is not None:
+            continue
+        counts = Command(program, library, name).refuse_in_turn(is_each, workers)
+        count, refused, differ = count + 1, refused + counts[0], differ + len(counts[2])
+        for fault in counts[2][:5]:
+            print(f"{os.path.basename(name)}: {fault}")
+    print(f"{count} examples of {SECOND}, {refused} allocations refused in turn; {differ} runs differ")
+    return not differ
+
+
 def refuse_all(is_each, library, workers):
     """Refuses the allocations of the cases. Whether no run differs."""
     folder = os.path.join(TOP, "crates", NAME)
@@ -126,6 +169,7 @@ def main():
         subprocess.run([os.environ.get("CC", "cc"), "-O2", "-Wall", "-Wextra", "-shared", "-fPIC", "-o", library, source], check=True)
         with concurrent.futures.ThreadPoolExecutor(os.cpu_count()) as workers:
             is_well = refuse_all(len(sys.argv) > 1, library, workers)
+            is_well = refuse_commands(len(sys.argv) > 1, library, workers) and is_well
     if not is_well:
         sys.exit(1)
 

@@ -1,0 +1,131 @@
+//! Answers questions about scripts of actors: runs them, checks them, prints them, and explains their refusals and faults.
+//!
+//! Its first argument is a command: `run`, `check`, `explain` or `print`; `--help` and `--version` are taken too. Status 0 stands for a
+//! run whose tasks all ended with a value, a script that is accepted, and for help; 1 for a run with a task that ended with a fault, 2 for
+//! words that were refused, 3 for a script that was refused, 4 for a run that was refused, or a file or device that failed.
+#![tactic(auto)]
+
+use nuchapay_tool::{
+    Checked, Request, Source, Topic, check, explain, page_of, print, read_input, request,
+};
+use std::alloc::{AllocError, AllocGlobal};
+use std::fs::File;
+use std::process::ExitCode;
+use std::random::RandomSource;
+use std::sync::Wait;
+use std::thread::Threads;
+use std::{env, io};
+use swift_output::write_all;
+use swift_tool::{ToolFault, run_text, status};
+use swift_workers::Open;
+
+fn main(rt: HostRuntime) -> ExitCode {
+    let alloc = rt.alloc();
+    let Ok(found) = env::args(&rt) else {
+        return no_words(&rt);
+    };
+    let collected: Result<Vec<String>, AllocError> = found.collect(alloc);
+    let Ok(words) = collected else {
+        return no_words(&rt);
+    };
+    match request(alloc, &words) {
+        Ok(request) => ExitCode::from(answer(&rt, &rt, request)),
+        Err(refused) => match refused.print(&rt) {
+            Ok(()) => ExitCode::from(refused.exit_code() as u8),
+            Err(_) => ExitCode::from(told(&rt, Err(ToolFault::Device))),
+        },
+    }
+}
+
+// The words could not be read.
+fn no_words(rt: &HostRuntime) -> ExitCode {
+    let _ = eprintln!(rt; "nuchapay: no memory for the words");
+    ExitCode::from(2)
+}
+
+// Does what is asked for. The status to end with. The runtime comes twice, since it waits in `main` alone.
+fn answer<R>(host: &HostRuntime, rt: &R, request: Request<'_>) -> u8
+where
+    R: RandomSource + AllocGlobal + Threads + Wait + Sync,
+{
+    match request {
+        Request::Run(source, workers, quiet) => match script(host, source) {
+            Ok(text) => told(
+                host,
+                run_text(rt, &text, workers, quiet, &Open, &mut host.stdout()),
+            ),
+            Err(error) => unread(host, source, error),
+        },
+        Request::Check(source) => match script(host, source) {
+            Ok(text) => checked(host, source, &text),
+            Err(error) => unread(host, source, error),
+        },
+        Request::Print(source) => match script(host, source) {
+            Ok(text) => told(host, printed(host, &text)),
+            Err(error) => unread(host, source, error),
+        },
+        Request::Explain(topic) => told(host, explained(host, topic)),
+    }
+}
+
+// What a script is called.
+fn name_of(source: Source<'_>) -> &str {
+    match source {
+        Source::Stdin => "<stdin>",
+        Source::File(path) => path,
+    }
+}
+
+// The text of a script.
+fn script(rt: &HostRuntime, source: Source<'_>) -> io::Result<Vec<u8>> {
+    match source {
+        Source::Stdin => read_input(rt.alloc(), &mut rt.stdin()),
+        Source::File(path) => {
+            let mut file = File::open(rt, path)?;
+            read_input(rt.alloc(), &mut file)
+        }
+    }
+}
+
+// Says why a script could not be read, with the system's word. The status to end with.
+fn unread(rt: &HostRuntime, source: Source<'_>, error: io::Error) -> u8 {
+    let name = name_of(source);
+    let _ = eprintln!(rt; "nuchapay: {name}: {error}");
+    4
+}
+
+// Says what went wrong, if anything did. The status to end with.
+fn told(rt: &HostRuntime, ended: Result<bool, ToolFault>) -> u8 {
+    if let Err(fault) = ended {
+        let _ = eprintln!(rt; "nuchapay: {fault}");
+    }
+    status(&ended)
+}
+
+// Says whether a text is a script. The status to end with.
+fn checked(rt: &HostRuntime, source: Source<'_>, text: &[u8]) -> u8 {
+    match check(rt.alloc(), name_of(source), text) {
+        Ok(Checked::Accepted(said)) => told(rt, shown(rt, said.as_bytes())),
+        Ok(Checked::Refused(said)) => match write_all(&mut rt.stderr(), said.as_bytes()) {
+            Ok(()) => 3,
+            Err(_) => 4,
+        },
+        Err(fault) => told(rt, Err(ToolFault::from(fault))),
+    }
+}
+
+fn printed(rt: &HostRuntime, text: &[u8]) -> Result<bool, ToolFault> {
+    let said = print(rt.alloc(), text)?;
+    shown(rt, said.as_bytes())
+}
+
+fn explained(rt: &HostRuntime, topic: Topic) -> Result<bool, ToolFault> {
+    let said = explain(rt.alloc(), &page_of(topic))?;
+    shown(rt, said.as_bytes())
+}
+
+// Writes a text to standard output.
+fn shown(rt: &HostRuntime, text: &[u8]) -> Result<bool, ToolFault> {
+    write_all(&mut rt.stdout(), text)?;
+    Ok(true)
+}

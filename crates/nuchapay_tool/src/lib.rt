@@ -1,0 +1,36 @@
+//! The commands of the program `nuchapay`, each from text to text.
+#![tactic(auto)]
+
+// Whether a text is a script, and why not.
+mod checks;
+// A script from a device.
+mod input;
+// What is explained of a refusal or a fault.
+mod page;
+// The page of each topic.
+mod pages;
+// The printed form of a text.
+mod printed;
+// The pages of the refusals of a script.
+mod refusals;
+// What a command line asks for.
+mod requests;
+// The pages of the refusals of a run.
+mod run_refusals;
+// The lines of a text.
+mod source;
+// What can be explained.
+mod topic;
+// The pages of the faults of a turn.
+mod turn_faults;
+// The words of a command line.
+mod words;
+
+pub use checks::{Checked, check};
+pub use input::read_input;
+pub use page::{Page, Scripts, explain};
+pub use pages::page_of;
+pub use printed::print;
+pub use requests::{Request, Source};
+pub use topic::{RunRefusal, Topic, TurnFault, find_topic};
+pub use words::request;

@@ -1,0 +1,159 @@
+//! The words of a command line.
+
+ghost use Rattle.std.specs.Prelude.{◌≡◌, ◌≢◌, codes, IfOk};
+ghost use Rattle.nuchapay_tool.specs.Requests.{HasCrew};
+ghost use Rattle.nuchapay_tool.specs.declared.requests.Source.TheVariants.{File, Stdin};
+
+use crate::requests::{Request, Source};
+use crate::topic::find_topic;
+use clap::error::ErrorKind;
+use clap::{Arg, ArgAction, ArgMatches, Command, Error, value_parser};
+use std::alloc::{AllocError, Global};
+use swift_types::limits::WORKERS;
+
+// What each command that reads a script says of its argument.
+const FILE: &str = "The script; standard input where it is - or missing";
+
+fn file<'a>(alloc: Global) -> Arg<'a> {
+    Arg::new(alloc, "file")
+        .value_name("FILE")
+        .help(FILE)
+        .action(ArgAction::Set)
+}
+
+fn run_command<'a>(alloc: Global) -> Result<Command<'a>, AllocError> {
+    let workers = Arg::new(alloc, "workers")
+        .long("workers")
+        .value_name("N")
+        .help("Runs the tasks on N threads, from 1 to 8")
+        .action(ArgAction::Set)
+        .value_parser(value_parser!(u32).range(1..9))
+        .default_value("1");
+    let quiet = Arg::new(alloc, "quiet")
+        .long("quiet")
+        .help("Leaves the journals out of the report")
+        .action(ArgAction::SetTrue);
+    Command::new(alloc, "run")
+        .about(
+            "Runs a script, and prints the journal of each executor, how each task ended, and the fields",
+        )
+        .after_help("Example: nuchapay run --workers 4 examples/account.actors")
+        .arg(file(alloc))?
+        .arg(workers)?
+        .arg(quiet)
+}
+
+fn check_command<'a>(alloc: Global) -> Result<Command<'a>, AllocError> {
+    Command::new(alloc, "check")
+        .about("Says whether a script is accepted; else why not, on which line, and what to do")
+        .after_help("Example: nuchapay check examples/account.actors")
+        .arg(file(alloc))
+}
+
+fn explain_command<'a>(alloc: Global) -> Result<Command<'a>, AllocError> {
+    let topic = Arg::new(alloc, "topic")
+        .value_name("TOPIC")
+        .help("The number of a refusal (S1 to S14, N1 to N5), or the word of a fault, as overflow")
+        .action(ArgAction::Set)
+        .required(true);
+    Command::new(alloc, "explain")
+        .about(
+            "Explains a refusal or a fault, with a script for which it comes, and the same one mended",
+        )
+        .after_help("Example: nuchapay explain S7")
+        .arg(topic)
+}
+
+fn print_command<'a>(alloc: Global) -> Result<Command<'a>, AllocError> {
+    Command::new(alloc, "print")
+        .about(
+            "Prints the printed form of a script, which is the same for texts that spell one script",
+        )
+        .after_help("Example: nuchapay print examples/account.actors")
+        .arg(file(alloc))
+}
+
+// The words that the program takes.
+fn command<'a>(alloc: Global) -> Result<Command<'a>, AllocError> {
+    Command::new(alloc, "nuchapay")
+        .about("Runs scripts of actors, and answers questions about them")
+        .version("0.1.0")
+        .subcommand_required(true)
+        .arg_required_else_help(true)
+        .subcommand(run_command(alloc)?)?
+        .subcommand(check_command(alloc)?)?
+        .subcommand(explain_command(alloc)?)?
+        .subcommand(print_command(alloc)?)
+}
+
+// The file that was named.
+fn source<'a>(matches: &ArgMatches<'a>) -> Source<'a> {
+    match matches.get_str("file") {
+        Some(path) => source_of(path),
+        None => Source::Stdin,
+    }
+}
+
+// Where a script comes from, by the word for it.
+fn source_of(path: &str) -> Source<'_>
+    ensures dash { path.entry.now ≡ codes "-" → result ≡ Stdin }
+    ensures other { path.entry.now ≢ codes "-" → result ≡ File path.entry }
+{
+    if path == "-" {
+        Source::Stdin
+    } else {
+        Source::File(path)
+    }
+}
+
+// What the words of `run` ask for. What the command says of the number is said again, for the contract.
+fn run_request<'a>(matches: &ArgMatches<'a>) -> Request<'a>
+    ensures { HasCrew result }
+{
+    let workers = matches.get_one::<u32>("workers").unwrap_or(1);
+    Request::Run(
+        source(matches),
+        workers.clamp(1, WORKERS as u32),
+        matches.get_flag("quiet"),
+    )
+}
+
+/// Reads the arguments of a command line, of which the first is the program's name (our own):
+///
+/// - `run`, with a file, `--workers N` from 1 to 8 and 1 where it is not given, and `--quiet`;
+/// - `check` and `print`, with a file;
+/// - `explain`, with the word of a topic.
+///
+/// A file that is `-` or missing is standard input.
+///
+/// # Errors
+///
+/// No command or another one, any other argument, a number that is none or out of range, a word that names no topic, one given
+/// twice, `--help` and `--version`, and arguments for which there is no memory. The error's text is the one to show, and its
+/// `exit_code` the status to end with: 0 for help and the version, else 2.
+pub fn request<'a>(alloc: Global, words: &'a [String]) -> Result<Request<'a>, Error>
+    ensures { IfOk result HasCrew }
+{
+    let mut command = command(alloc)?;
+    let matches = command.try_get_matches_from_mut(words)?;
+    if let Some(found) = matches.subcommand_matches("run") {
+        return Ok(run_request(found));
+    }
+    if let Some(found) = matches.subcommand_matches("check") {
+        return Ok(Request::Check(source(found)));
+    }
+    if let Some(found) = matches.subcommand_matches("print") {
+        return Ok(Request::Print(source(found)));
+    }
+    let asked = matches.subcommand_matches("explain");
+    match asked
+        .and_then(|found| found.get_str("topic"))
+        .and_then(find_topic)
+    {
+        Some(topic) => Ok(Request::Explain(topic)),
+        None => Err(command.error(
+            ErrorKind::InvalidValue,
+            "a topic is S1 to S14, N1 to N5, or the word of a fault",
+        )?),
+    }
+}
