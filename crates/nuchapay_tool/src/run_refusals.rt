@@ -29,7 +29,7 @@ pub(crate) const RUN_MEMORY: Page = Page {
 pub(crate) const UNFINISHED: Page = Page {
     name: "N3",
     title: "unfinished jobs",
-    when: "a task has not ended, or a job was not run",
+    when: "a task has not ended, or has a group open, or a job was not run",
     outcome: NO_REPORT,
     help: REPORT_IT,
     scripts: None,
@@ -38,9 +38,9 @@ pub(crate) const UNFINISHED: Page = Page {
 pub(crate) const ILLEGAL: Page = Page {
     name: "N4",
     title: "report not legal",
-    when: "the certificate did not find the report legal",
+    when: "a report that is not legal",
     outcome: NO_REPORT,
-    help: REPORT_IT,
+    help: "no run ends so, by proof; the number stays for reports from elsewhere",
     scripts: None,
 };
 
