@@ -11,7 +11,7 @@ hour on four cores, two of which it uses at a time, more on fewer, and prints li
 TXT
 log=$(mktemp)
 # One core for each check, and two checks at once at most: more cores or more checks take more processor time, and hardly less
-# of the clock's (docs/DECISIONS.md).
+# of the clock's (docs/PROOFS.md).
 cores=$(nproc)
 export RT_JOBS=${RT_JOBS:-$((cores < 2 ? cores : 2))}
 rt ci | tee "$log"

@@ -3,12 +3,14 @@
 
 A link such as [`read`](crates/swift_script/src/reading.rt) says that this file has the word `read`. A link to a
 heading, FILE#words-of-the-heading, says that the file has that heading."""
+import glob
 import os
 import re
 import sys
 
 TOP = os.path.dirname(os.path.dirname(os.path.abspath(__file__)))
-DOCUMENTS = ["README.md", "CONTRIBUTING.md"] + sorted("docs/" + name for name in os.listdir(os.path.join(TOP, "docs")) if name.endswith(".md"))
+DOCUMENTS = ["README.md", "CONTRIBUTING.md"] + sorted(
+    os.path.relpath(path, TOP) for place in ("docs/*.md", "crates/*/README.md") for path in glob.glob(os.path.join(TOP, place)))
 
 
 def anchors(text):
