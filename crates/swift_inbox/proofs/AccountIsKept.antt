@@ -1,5 +1,5 @@
 -- Each step keeps the account of an inbox.
-use Rattle.std.proofs.Common.{◌≡◌, ℕ, zero, suc, List, [], ◌∷◌, ◌++◌, map, set, Option, Some, None, IfSome, All, IsPermutation, refl, sym, ap, ◌∙◌, subst, inl, inr, append_assoc, append-nil}
+use Rattle.std.proofs.Common.{◌≡◌, ℕ, true, false, ◌⊎◌, zero, suc, List, [], ◌∷◌, ◌++◌, map, set, Option, Some, None, IfSome, All, IsPermutation, refl, sym, ap, ◌∙◌, subst, inl, inr, append_assoc, append-nil}
 use Rattle.std.specs.List.{flat_map}
 use Rattle.std.proofs.lemmas.List.{map-append}
 use Rattle.std.proofs.lemmas.List.Concat.{flat_map-append}
@@ -7,12 +7,12 @@ use Rattle.std.proofs.lemmas.List.Elements.{All-nil, All-cons, All-head, All-tai
 use Rattle.std.proofs.lemmas.List.Sorted.{IsPermutation-refl, IsPermutation-trans, IsPermutation-sym, IsPermutation-append_left, IsPermutation-append_right, IsPermutation-append_comm}
 use mathlib.Core.Option.{some, some-injective, some-ne-none}
 use lib.ListN.{get_elem?}
-use Rattle.crossbeam_queue.specs.Fifo.{Pushes, Pops, Forks, Admits}
+use Rattle.crossbeam_queue.specs.Fifo.{Pushes, Pops, Forks}
 use Rattle.swift_history.specs.TurnEnds.{JobView}
 use Rattle.swift_ticket.specs.Tickets.{TicketedIs, job_view}
 use Rattle.swift_inbox.specs.declared.view.PassView.{PassView}
 use Rattle.swift_inbox.specs.Site.{Site, CanRunAt}
-use Rattle.swift_inbox.specs.Rule.{unused, blank, pushed_in, taken_in, FirstKnows, KnowsNoOther, InboxInvariant, with_pushed, with_taken, IsTaken}
+use Rattle.swift_inbox.specs.Rule.{unused, blank, pushed_in, taken_in, IsTaking, IsPutting, OneTakes, KeepsAccount, InboxInvariant, with_pushed, with_taken, IsTaken}
 
 module _ {X : Type 0} (P : X → Type 0) where
   all_at : (xs : List X) (i : ℕ) (x : X) → All P xs → get_elem? xs i ≡ some x → P x
@@ -42,38 +42,80 @@ none_more f (u ∷ us) (suc i) v w at same = ap (λ l. f u ++ l) (none_more f us
 new_has_none : (f : PassView → List JobView) (views : List PassView) (w : PassView) → f w ≡ [] → flat_map f (views ++ w ∷ []) ≡ flat_map f views
 new_has_none f views w none' = flat_map-append f views (w ∷ []) ∙ ap (λ l. flat_map f views ++ (l ++ [])) none' ∙ append-nil (flat_map f views)
 
-blank_have_none : (f : PassView → List JobView) (views : List PassView) → f blank ≡ [] → All (λ v. v ≡ blank) views → flat_map f views ≡ []
-blank_have_none f [] none' all = refl
-blank_have_none f (u ∷ us) none' all =
-    ap (λ l. l ++ flat_map f us) (ap f (All-head (λ v. v ≡ blank) u us all) ∙ none') ∙ blank_have_none f us none' (All-tail (λ v. v ≡ blank) u us all)
+blank_has_none : (f : PassView → List JobView) (views : List PassView) → f blank ≡ [] → views ≡ blank ∷ [] → flat_map f views ≡ []
+blank_has_none f views none' alone = ap (flat_map f) alone ∙ ap (λ l. l ++ []) none'
 
-first_set : (site : Site) (views : List PassView) (i : ℕ) (v w : PassView) → get_elem? views i ≡ some v → w.site ≡ v.site → FirstKnows site views → FirstKnows site (set views i w)
-first_set site [] i v w at same first = first
-first_set site (u ∷ us) zero v w at same first = same ∙ ap (λ (x : PassView). x.site) (sym (some-injective u v at)) ∙ first
-first_set site (u ∷ us) (suc i) v w at same first = first
+-- a view of a queue that has its first pass alone is blank
+is_blank : (views : List PassView) (i : ℕ) (v : PassView) → views ≡ blank ∷ [] → get_elem? views i ≡ some v → v ≡ blank
+is_blank views i v alone at =
+    all_at (λ v. v ≡ blank) (blank ∷ []) i v (All-cons (λ v. v ≡ blank) blank [] refl (All-nil (λ v. v ≡ blank))) (subst (λ (vs : List PassView). get_elem? vs i ≡ some v) alone at)
 
-first_push : (site : Site) (views : List PassView) (w : PassView) → FirstKnows site views → FirstKnows site (views ++ w ∷ [])
-first_push site (u ∷ us) w first = first
-first_push site [] w first = absurd first
+-- the kind of a pass
+both_kinds : (v : PassView) → v.takes ≡ true → v.takes ≡ false → ⊥
+both_kinds v is not = let e : true ≡ false = sym is ∙ not in cc
 
--- what a pass knows of the executor is right
-site_is : (o : Option Site) (site known : Site) → o ≡ Some known → IfSome o (λ s. s ≡ site) → known ≡ site
-site_is o site known is right = subst (λ h. IfSome h (λ s. s ≡ site)) is right
+-- each pass takes or puts
+role_at : (site : Site) (views : List PassView) (i : ℕ) (v : PassView) → OneTakes site views → get_elem? views i ≡ some v → IsTaking site v ⊎ IsPutting site v
+role_at site [] i v one at = absurd one
+role_at site (u ∷ us) zero v one at = inl (subst (IsTaking site) (some-injective u v at) one.0)
+role_at site (u ∷ us) (suc i) v one at = inr (all_at (IsPutting site) us i v one.1 at)
 
-if_known : (o : Option Site) (site : Site) (P : Site → Type 0) → IfSome o (λ s. s ≡ site) → P site → IfSome o P
-if_known None site P right p = tt
-if_known (Some s) site P right p = subst P (sym right) p
+-- what a role says
+site_by : (site : Site) (v : PassView) → IsTaking site v ⊎ IsPutting site v → v.site ≡ Some site
+site_by site v (inl t) = t.0
+site_by site v (inr p) = p.0
 
-knows : (site : Site) (v : PassView) → v.site ≡ Some site → KnowsNoOther site v
-knows site v is = subst (λ o. IfSome o (λ s. s ≡ site)) (sym is) refl
+putting_by : (site : Site) (v : PassView) → v.takes ≡ false → IsTaking site v ⊎ IsPutting site v → IsPutting site v
+putting_by site v is (inl t) = absurd (both_kinds v t.1 is)
+putting_by site v is (inr p) = p
 
-blank_knows : (site : Site) (v : PassView) → v ≡ blank → KnowsNoOther site v
-blank_knows site v is = subst (KnowsNoOther site) (sym is) tt
+taking_by : (site : Site) (v : PassView) → v.takes ≡ true → IsTaking site v ⊎ IsPutting site v → IsTaking site v
+taking_by site v is (inl t) = t
+taking_by site v is (inr p) = absurd (both_kinds v is p.1)
 
-all_blank_know : (site : Site) (views : List PassView) → All (λ v. v ≡ blank) views → All (KnowsNoOther site) views
-all_blank_know site [] all = All-nil (KnowsNoOther site)
-all_blank_know site (u ∷ us) all =
-    All-cons (KnowsNoOther site) u us (blank_knows site u (All-head (λ v. v ≡ blank) u us all)) (all_blank_know site us (All-tail (λ v. v ≡ blank) u us all))
+site_at : (site : Site) (views : List PassView) (i : ℕ) (v : PassView) → OneTakes site views → get_elem? views i ≡ some v → v.site ≡ Some site
+site_at site views i v one at = site_by site v (role_at site views i v one at)
+
+putting_at : (site : Site) (views : List PassView) (i : ℕ) (v : PassView) → OneTakes site views → get_elem? views i ≡ some v → v.takes ≡ false → IsPutting site v
+putting_at site views i v one at is = putting_by site v is (role_at site views i v one at)
+
+taking_at : (site : Site) (views : List PassView) (i : ℕ) (v : PassView) → OneTakes site views → get_elem? views i ≡ some v → v.takes ≡ true → IsTaking site v
+taking_at site views i v one at is = taking_by site v is (role_at site views i v one at)
+
+-- the pass that takes is the first
+first_takes : (site : Site) (views : List PassView) (i : ℕ) (v : PassView) → OneTakes site views → get_elem? views i ≡ some v → v.takes ≡ true → i ≡ 0
+first_takes site [] i v one at is = absurd one
+first_takes site (u ∷ us) zero v one at is = refl
+first_takes site (u ∷ us) (suc i) v one at is = absurd (both_kinds v is (all_at (IsPutting site) us i v one.1 at).1)
+
+-- a view that is set keeps its kind
+one_set : (site : Site) (views : List PassView) (i : ℕ) (v w : PassView) → get_elem? views i ≡ some v → (IsTaking site v → IsTaking site w) → (IsPutting site v → IsPutting site w)
+    → OneTakes site views → OneTakes site (set views i w)
+one_set site [] i v w at taking putting one = one
+one_set site (u ∷ us) zero v w at taking putting one = (taking (subst (IsTaking site) (some-injective u v at) one.0), one.1)
+one_set site (u ∷ us) (suc i) v w at taking putting one = (one.0, All-set (IsPutting site) us i w (putting (all_at (IsPutting site) us i v one.1 at)) one.1)
+
+one_push : (site : Site) (views : List PassView) (w : PassView) → OneTakes site views → IsPutting site w → OneTakes site (views ++ w ∷ [])
+one_push site [] w one is = absurd one
+one_push site (u ∷ us) w one is = (one.0, All-push (IsPutting site) us w one.1 is)
+
+-- nothing came out through passes that put
+none_taken : (site : Site) (views : List PassView) → All (IsPutting site) views → taken_in views ≡ []
+none_taken site [] all = refl
+none_taken site (u ∷ us) all = ap (λ l. l ++ taken_in us) (All-head (IsPutting site) u us all).2 ∙ none_taken site us (All-tail (IsPutting site) u us all)
+
+-- what came out came out through the pass that takes
+taken_by_one : (site : Site) (views : List PassView) (i : ℕ) (v : PassView) → OneTakes site views → get_elem? views i ≡ some v → v.takes ≡ true → taken_in views ≡ v.taken
+taken_by_one site [] i v one at is = absurd one
+taken_by_one site (u ∷ us) zero v one at is =
+    ap (λ l. u.taken ++ l) (none_taken site us one.1) ∙ append-nil u.taken ∙ ap (λ (x : PassView). x.taken) (some-injective u v at)
+taken_by_one site (u ∷ us) (suc i) v one at is = absurd (both_kinds v is (all_at (IsPutting site) us i v one.1 at).1)
+
+same_site : (o : Option Site) (site known : Site) → o ≡ Some known → o ≡ Some site → known ≡ site
+same_site o site known is is' = let e : Some known ≡ Some site = sym is ∙ is' in cc
+
+if_known : (o : Option Site) (site : Site) (P : Site → Type 0) → o ≡ Some site → P site → IfSome o P
+if_known o site P is p = subst (λ (h : Option Site). IfSome h P) (sym is) p
 
 -- a pass that knows an executor is not blank
 known_not_blank : (v : PassView) (site : Site) → v.site ≡ Some site → v ≡ blank → ⊥
@@ -84,11 +126,11 @@ abbrev noted : TicketedIs → JobView
 noted t = job_view t.job
 
 -- a job is put in
-pub puts : (room pass : ℕ) (v : PassView) (site : Site) (x : TicketedIs) → v.site ≡ Some site → CanRunAt site x → Pushes InboxInvariant room pass v x (λ w. w ≡ with_pushed v x.job)
-puts room pass v site x is can inside views less (inl new) at = absurd (known_not_blank v site is (all_at (λ v. v ≡ blank) views pass v new.all_blank at))
-puts room pass v site x is can inside views less (inr (here, k)) at =
+pub puts : (room pass : ℕ) (v : PassView) (site : Site) (x : TicketedIs) → v.site ≡ Some site → v.takes ≡ false → CanRunAt site x → Pushes InboxInvariant room pass v x (λ w. w ≡ with_pushed v x.job)
+puts room pass v site x is kind can inside views less (inl new) at = absurd (known_not_blank v site is (is_blank views pass v new.alone at))
+puts room pass v site x is kind can inside views less (inr (here, k)) at =
     let w = with_pushed v x.job in
-    let mine = all_at (KnowsNoOther here) views pass v k.sites at in
+    let mine = putting_at here views pass v k.one_takes at kind in
     let same = none_more (λ u. u.taken) views pass v w at refl in
     let more = one_more (λ u. u.pushed) views pass v w (job_view x.job) at refl in
     let now : IsPermutation (pushed_in views ++ job_view x.job ∷ []) (taken_in views ++ (map noted inside ++ job_view x.job ∷ [])) =
@@ -98,21 +140,20 @@ puts room pass v site x is can inside views less (inr (here, k)) at =
       inr (
         here,
         record {
-          first = first_set here views pass v w at refl k.first;
-          sites = All-set (KnowsNoOther here) views pass w mine k.sites;
+          one_takes = one_set here views pass v w at (λ t. absurd (both_kinds v t.1 kind)) (λ p. mine) k.one_takes;
           moves = rw (same, map-append noted inside (x ∷ [])) (IsPermutation-trans _ _ _ (IsPermutation-sym _ _ more) now);
-          fits = All-push (CanRunAt here) inside x k.fits (subst (λ s. CanRunAt s x) (site_is v.site here site is mine) can);
+          fits = All-push (CanRunAt here) inside x k.fits (subst (λ s. CanRunAt s x) (same_site v.site here site is mine.0) can);
         },
       ),
       refl,
     )
 
 -- the oldest job is taken out
-pub takes : (pass : ℕ) (v : PassView) → Pops InboxInvariant pass v (IsTaken v)
-takes pass v x inside views (inl new) at = let none' : x ∷ inside ≡ [] = new.none_inside in cc
-takes pass v x inside views (inr (here, k)) at =
+pub takes : (pass : ℕ) (v : PassView) → v.takes ≡ true → Pops InboxInvariant pass v (IsTaken v)
+takes pass v kind x inside views (inl new) at = let none' : x ∷ inside ≡ [] = new.none_inside in cc
+takes pass v kind x inside views (inr (here, k)) at =
     let w = with_taken v x.job in
-    let mine = all_at (KnowsNoOther here) views pass v k.sites at in
+    let mine = taking_at here views pass v k.one_takes at kind in
     let same = none_more (λ u. u.pushed) views pass v w at refl in
     let more = one_more (λ u. u.taken) views pass v w (job_view x.job) at refl in
     let left : IsPermutation (taken_in views ++ job_view x.job ∷ map noted inside) (taken_in (set views pass w) ++ map noted inside) =
@@ -122,95 +163,89 @@ takes pass v x inside views (inr (here, k)) at =
       inr (
         here,
         record {
-          first = first_set here views pass v w at refl k.first;
-          sites = All-set (KnowsNoOther here) views pass w mine k.sites;
+          one_takes = one_set here views pass v w at (λ t. mine) (λ p. absurd (both_kinds v kind p.1)) k.one_takes;
           moves = rw same (IsPermutation-trans _ _ _ k.moves left);
           fits = All-tail (CanRunAt here) x inside k.fits;
         },
       ),
-      (refl, if_known v.site here (λ site. CanRunAt site x) mine (All-head (CanRunAt here) x inside k.fits)),
+      (refl, if_known v.site here (λ site. CanRunAt site x) mine.0 (All-head (CanRunAt here) x inside k.fits)),
     )
 
--- a pass is split
-pub splits : (pass : ℕ) (v : PassView) (site : Site) → v.site ≡ Some site → Forks InboxInvariant pass v v (unused v.site)
-splits pass v site is inside views (inl new) at = absurd (known_not_blank v site is (all_at (λ v. v ≡ blank) views pass v new.all_blank at))
+-- a pass that puts is split from a pass that knows the executor
+pub splits : (pass : ℕ) (v : PassView) (site : Site) → v.site ≡ Some site → Forks InboxInvariant pass v v (unused false v.site)
+splits pass v site is inside views (inl new) at = absurd (known_not_blank v site is (is_blank views pass v new.alone at))
 splits pass v site is inside views (inr (here, k)) at =
-    let w = unused v.site in
+    let w = unused false v.site in
     let front = set views pass v in
-    let mine = all_at (KnowsNoOther here) views pass v k.sites at in
     let pushed_same : pushed_in (front ++ w ∷ []) ≡ pushed_in views = new_has_none (λ u. u.pushed) front w refl ∙ none_more (λ u. u.pushed) views pass v v at refl in
     let taken_same : taken_in (front ++ w ∷ []) ≡ taken_in views = new_has_none (λ u. u.taken) front w refl ∙ none_more (λ u. u.taken) views pass v v at refl in
     inr (
       here,
       record {
-        first = first_push here front w (first_set here views pass v v at refl k.first);
-        sites = All-push (KnowsNoOther here) front w (All-set (KnowsNoOther here) views pass v mine k.sites) mine;
+        one_takes = one_push here front w (one_set here views pass v v at (λ t. t) (λ p. p) k.one_takes) (site_at here views pass v k.one_takes at, refl, refl);
         moves = rw (pushed_same, taken_same) k.moves;
         fits = k.fits;
       },
     )
 
-first_knows : (site : Site) (views : List PassView) (v : PassView) → FirstKnows site views → get_elem? views 0 ≡ some v → v.site ≡ Some site
-first_knows site [] v first at = absurd first
-first_knows site (u ∷ us) v first at = ap (λ (x : PassView). x.site) (sym (some-injective u v at)) ∙ first
+-- a queue that has its first pass alone, once that takes and another puts
+told : (site : Site) (views : List PassView) → views ≡ blank ∷ [] → set views 0 (unused true (Some site)) ++ unused false (Some site) ∷ [] ≡ unused true (Some site) ∷ unused false (Some site) ∷ []
+told site views alone = ap (λ (vs : List PassView). set vs 0 (unused true (Some site)) ++ unused false (Some site) ∷ []) alone
 
-set_first : (site : Site) (views : List PassView) (v w : PassView) → get_elem? views 0 ≡ some v → w.site ≡ Some site → FirstKnows site (set views 0 w)
-set_first site [] v w at is = absurd (some-ne-none v (sym at))
-set_first site (u ∷ us) v w at is = is
-
--- the first pass of a new inbox is told the executor, and another pass is made
-pub is_told : (pass : ℕ) (site : Site) → pass ≡ 0 → Forks InboxInvariant pass blank (unused (Some site)) (unused (Some site))
+-- the first pass of a new inbox is told the executor and takes, and a pass that puts is made
+pub is_told : (pass : ℕ) (site : Site) → pass ≡ 0 → Forks InboxInvariant pass blank (unused true (Some site)) (unused false (Some site))
 is_told pass site is inside views (inl new) at =
-    let w = unused (Some site) in
-    let front = set views pass w in
-    let none_pushed : pushed_in (front ++ w ∷ []) ≡ [] = new_has_none (λ u. u.pushed) front w refl ∙ none_more (λ u. u.pushed) views pass blank w at refl ∙ blank_have_none (λ u. u.pushed) views refl new.all_blank in
-    let none_taken : taken_in (front ++ w ∷ []) ≡ [] = new_has_none (λ u. u.taken) front w refl ∙ none_more (λ u. u.taken) views pass blank w at refl ∙ blank_have_none (λ u. u.taken) views refl new.all_blank in
-    let at_first : get_elem? views 0 ≡ some blank = subst (λ i. get_elem? views i ≡ some blank) is at in
-    inr (
-      site,
-      record {
-        first = first_push site front w (subst (λ i. FirstKnows site (set views i w)) (sym is) (set_first site views blank w at_first refl));
-        sites = All-push (KnowsNoOther site) front w (All-set (KnowsNoOther site) views pass w refl (all_blank_know site views new.all_blank)) refl;
-        moves = rw (none_pushed, none_taken, new.none_inside) (IsPermutation-refl []);
-        fits = rw new.none_inside (All-nil (CanRunAt site));
-      },
-    )
-is_told pass site is inside views (inr (here, k)) at =
-    let e : None ≡ Some here = first_knows here views blank k.first (subst (λ i. get_elem? views i ≡ some blank) is at) in cc
-
--- a blank pass may come at any time
-pub admits : Admits InboxInvariant blank
-admits inside views (inl new) = inl (record { none_inside = new.none_inside; all_blank = All-push (λ v. v ≡ blank) views blank new.all_blank refl })
-admits inside views (inr (here, k)) =
-    inr (
-      here,
-      record {
-        first = first_push here views blank k.first;
-        sites = All-push (KnowsNoOther here) views blank k.sites tt;
-        moves = rw (new_has_none (λ u. u.pushed) views blank refl, new_has_none (λ u. u.taken) views blank refl) k.moves;
-        fits = k.fits;
-      },
-    )
+    let now : set views pass (unused true (Some site)) ++ unused false (Some site) ∷ [] ≡ unused true (Some site) ∷ unused false (Some site) ∷ [] =
+    subst (λ (i : ℕ). set views i (unused true (Some site)) ++ unused false (Some site) ∷ [] ≡ unused true (Some site) ∷ unused false (Some site) ∷ []) (sym is) (told site views new.alone) in
+    let puts_one : IsPutting site (unused false (Some site)) = (refl, refl, refl) in
+    let two : KeepsAccount site [] (unused true (Some site) ∷ unused false (Some site) ∷ []) = record {
+      one_takes = ((refl, refl, refl), All-cons (IsPutting site) (unused false (Some site)) [] puts_one (All-nil (IsPutting site)));
+      moves = IsPermutation-refl [];
+      fits = All-nil (CanRunAt site);
+    } in
+    inr (site, subst (λ (vs : List PassView). KeepsAccount site inside vs) (sym now) (subst (λ (ts : List TicketedIs). KeepsAccount site ts (unused true (Some site) ∷ unused false (Some site) ∷ [])) (sym new.none_inside) two))
+is_told pass site is inside views (inr (here, k)) at = absurd (known_not_blank blank here (site_at here views pass blank k.one_takes at) refl)
 
 pub starts : InboxInvariant [] (blank ∷ [])
-starts = inl (record { none_inside = refl; all_blank = All-cons (λ v. v ≡ blank) blank [] refl (All-nil (λ v. v ≡ blank)) })
+starts = inl (record { none_inside = refl; alone = refl })
 
 pub none_lost : (inside : List TicketedIs) (views : List PassView) → InboxInvariant inside views → IsPermutation (pushed_in views) (taken_in views ++ map (λ t. job_view t.job) inside)
-none_lost inside views (inl new) =
-    rw (blank_have_none (λ u. u.pushed) views refl new.all_blank, blank_have_none (λ u. u.taken) views refl new.all_blank, new.none_inside) (IsPermutation-refl [])
+none_lost inside views (inl new) = rw (blank_has_none (λ u. u.pushed) views refl new.alone, blank_has_none (λ u. u.taken) views refl new.alone, new.none_inside) (IsPermutation-refl [])
 none_lost inside views (inr (here, k)) = k.moves
 
 pub each_can_run : (inside : List TicketedIs) (views : List PassView) → InboxInvariant inside views → (pass : ℕ) (v : PassView) (site : Site) → get_elem? views pass ≡ some v → v.site ≡ Some site
     → All (CanRunAt site) inside
-each_can_run inside views (inl new) pass v site at is = absurd (known_not_blank v site is (all_at (λ v. v ≡ blank) views pass v new.all_blank at))
-each_can_run inside views (inr (here, k)) pass v site at is =
-    subst (λ s. All (CanRunAt s) inside) (sym (site_is v.site here site is (all_at (KnowsNoOther here) views pass v k.sites at))) k.fits
+each_can_run inside views (inl new) pass v site at is = absurd (known_not_blank v site is (is_blank views pass v new.alone at))
+each_can_run inside views (inr (here, k)) pass v site at is = subst (λ s. All (CanRunAt s) inside) (sym (same_site v.site here site is (site_at here views pass v k.one_takes at))) k.fits
 
 pub one_site : (inside : List TicketedIs) (views : List PassView) → InboxInvariant inside views → (a b : ℕ) (v w : PassView) (s t : Site) → get_elem? views a ≡ some v → get_elem? views b ≡ some w
     → v.site ≡ Some s → w.site ≡ Some t → s ≡ t
-one_site inside views (inl new) a b v w s t at at' is is' = absurd (known_not_blank v s is (all_at (λ v. v ≡ blank) views a v new.all_blank at))
+one_site inside views (inl new) a b v w s t at at' is is' = absurd (known_not_blank v s is (is_blank views a v new.alone at))
 one_site inside views (inr (here, k)) a b v w s t at at' is is' =
-    site_is v.site here s is (all_at (KnowsNoOther here) views a v k.sites at) ∙ sym (site_is w.site here t is' (all_at (KnowsNoOther here) views b w k.sites at'))
+    same_site v.site here s is (site_at here views a v k.one_takes at) ∙ sym (same_site w.site here t is' (site_at here views b w k.one_takes at'))
+
+-- a blank pass does not take
+blank_puts : (v : PassView) → v ≡ blank → v.takes ≡ true → ⊥
+blank_puts v is kind = both_kinds v kind (ap (λ (x : PassView). x.takes) is)
+
+pub one_takes : (inside : List TicketedIs) (views : List PassView) → InboxInvariant inside views → (a b : ℕ) (v w : PassView) → get_elem? views a ≡ some v → get_elem? views b ≡ some w → v.takes ≡ true
+    → w.takes ≡ true → a ≡ b
+one_takes inside views (inl new) a b v w at at' is is' = absurd (blank_puts v (is_blank views a v new.alone at) is)
+one_takes inside views (inr (here, k)) a b v w at at' is is' = first_takes here views a v k.one_takes at is ∙ sym (first_takes here views b w k.one_takes at' is')
+
+pub taker_puts_none : (inside : List TicketedIs) (views : List PassView) → InboxInvariant inside views → (pass : ℕ) (v : PassView) → get_elem? views pass ≡ some v → v.takes ≡ true → v.pushed ≡ []
+taker_puts_none inside views (inl new) pass v at is = absurd (blank_puts v (is_blank views pass v new.alone at) is)
+taker_puts_none inside views (inr (here, k)) pass v at is = (taking_at here views pass v k.one_takes at is).2
+
+pub putter_takes_none : (inside : List TicketedIs) (views : List PassView) → InboxInvariant inside views → (pass : ℕ) (v : PassView) → get_elem? views pass ≡ some v → v.takes ≡ false → v.taken ≡ []
+putter_takes_none inside views (inl new) pass v at is = ap (λ (x : PassView). x.taken) (is_blank views pass v new.alone at)
+putter_takes_none inside views (inr (here, k)) pass v at is = (putting_at here views pass v k.one_takes at is).2
+
+pub taker_takes_all : (inside : List TicketedIs) (views : List PassView) → InboxInvariant inside views → (pass : ℕ) (v : PassView) → get_elem? views pass ≡ some v → v.takes ≡ true
+    → IsPermutation (pushed_in views) (v.taken ++ map (λ t. job_view t.job) inside)
+taker_takes_all inside views (inl new) pass v at is = absurd (blank_puts v (is_blank views pass v new.alone at) is)
+taker_takes_all inside views (inr (here, k)) pass v at is =
+    subst (λ (l : List JobView). IsPermutation (pushed_in views) (l ++ map noted inside)) (taken_by_one here views pass v k.one_takes at is) k.moves
 
 -- a list that gets an element at its end goes on as before, and then has that element
 pub goes_on : {X : Type 0} (new list old more : List X) (x : X) → new ≡ list ++ x ∷ [] → list ≡ old ++ more → new ≡ old ++ (more ++ x ∷ [])

@@ -34,6 +34,7 @@ use Rattle.crossbeam_queue.proofs.array_queue.Slotted.TheSendSync as Slotted
 use Rattle.swift_ticket.specs.contracts.ticketed.TicketedJob as ticketed
 use Rattle.swift_inbox.specs.contracts.inbox.Inbox as inbox
 use Rattle.swift_inbox.specs.contracts.pass.Pass as pass
+use Rattle.swift_inbox.specs.contracts.taker.Taker as taker
 use Rattle.swift_inbox.specs.contracts.site.ExecutorSite as site
 
 -- what the code of a script is made of
@@ -335,6 +336,9 @@ ticketed_send = search (plain, body_send, Badge.the_send) depth 60 fits 20000
 
 pub pass_send : IsSend pass.the_row
 pass_send = search (plain, ticketed_send, Seat.the_send) depth 60 fits 20000
+
+pub taker_send : IsSend taker.the_row
+taker_send = search (plain, ticketed_send, Seat.the_send) depth 60 fits 20000
 
 pub inbox_sync : IsSync inbox.the_row
 inbox_sync = search (plain, ticketed_send, site_sync, Slotted.the_field_sync) depth 60 fits 20000

@@ -1,6 +1,6 @@
--- The rule of an inbox: what all passes put in is what they took out and what is inside, and each job inside can run at
--- the inbox's executor.
-use Rattle.std.specs.Prelude.{◌≡◌, List, [], ◌∷◌, ◌++◌, map, Option, Some, None, IfSome, All, IsPermutation, ◌⊎◌}
+-- The rule of an inbox: one pass takes and the others put, what they put in is what it took out and what is inside, and each
+-- job inside can run at the inbox's executor.
+use Rattle.std.specs.Prelude.{◌≡◌, Bool, true, false, List, [], ◌∷◌, ◌++◌, map, Option, Some, None, IfSome, All, IsPermutation, ◌⊎◌}
 use Rattle.std.specs.List.{flat_map}
 use Rattle.swift_queue.specs.Job.{JobIs}
 use Rattle.swift_turn.specs.Body.{BodyView}
@@ -9,13 +9,13 @@ use Rattle.swift_ticket.specs.Tickets.{TicketedIs, job_view}
 use Rattle.swift_inbox.specs.declared.view.PassView.{PassView}
 use Rattle.swift_inbox.specs.Site.{Site, CanRunAt}
 
--- a pass of this executor, through which nothing went
-abbrev pub unused : Option Site → PassView
-unused site = record { site = site; pushed = []; taken = [] }
+-- a pass of this executor, through which nothing went, and whether it takes
+abbrev pub unused : Bool → Option Site → PassView
+unused takes site = record { site = site; takes = takes; pushed = []; taken = [] }
 
--- a pass that knows no executor, through which nothing went
+-- the first pass of a queue, before it knows the executor
 abbrev pub blank : PassView
-blank = unused None
+blank = unused false None
 
 -- the jobs that were put in, through any pass
 abbrev pub pushed_in : List PassView → List JobView
@@ -25,27 +25,30 @@ pushed_in views = flat_map (λ v. v.pushed) views
 abbrev pub taken_in : List PassView → List JobView
 taken_in views = flat_map (λ v. v.taken) views
 
--- the first pass of an inbox knows the executor
-abbrev pub FirstKnows : Site → List PassView → Type 0
-FirstKnows site [] = ⊥
-FirstKnows site (v ∷ vs) = v.site ≡ Some site
+-- the pass that takes: it knows the executor, and nothing was put in through it
+abbrev pub IsTaking : Site → PassView → Type 0
+IsTaking site v = (v.site ≡ Some site) × (v.takes ≡ true) × (v.pushed ≡ [])
 
--- what a pass knows of the executor is right
-abbrev pub KnowsNoOther : Site → PassView → Type 0
-KnowsNoOther site v = IfSome v.site (λ s. s ≡ site)
+-- a pass that puts: it knows the executor, and nothing was taken out through it
+abbrev pub IsPutting : Site → PassView → Type 0
+IsPutting site v = (v.site ≡ Some site) × (v.takes ≡ false) × (v.taken ≡ [])
 
--- An inbox of this executor, with these jobs inside, the oldest first, and these views of its passes: no pass knows another
--- executor, each job inside can run there, and what was put in is what was taken out and what is inside, each as often.
+-- the first pass of an inbox takes, and all others put
+abbrev pub OneTakes : Site → List PassView → Type 0
+OneTakes site [] = ⊥
+OneTakes site (v ∷ vs) = IsTaking site v × All (IsPutting site) vs
+
+-- An inbox of this executor, with these jobs inside, the oldest first, and these views of its passes: one takes and the others
+-- put, each job inside can run there, and what was put in is what was taken out and what is inside, each as often.
 pub record KeepsAccount (site : Site) (inside : List TicketedIs) (views : List PassView) : Type 0 where
-  pub first : FirstKnows site views
-  pub sites : All (KnowsNoOther site) views
+  pub one_takes : OneTakes site views
   pub moves : IsPermutation (pushed_in views) (taken_in views ++ map (λ t. job_view t.job) inside)
   pub fits : All (CanRunAt site) inside
 
--- before its first pass knows the executor, nothing is inside, and nothing went through a pass
+-- before its first pass knows the executor, nothing is inside, and there is no other pass
 pub record IsNew (inside : List TicketedIs) (views : List PassView) : Type 0 where
   pub none_inside : inside ≡ []
-  pub all_blank : All (λ v. v ≡ blank) views
+  pub alone : views ≡ blank ∷ []
 
 -- what holds between any two steps of an inbox
 abbrev pub InboxInvariant : List TicketedIs → List PassView → Type 0

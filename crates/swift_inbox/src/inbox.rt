@@ -1,20 +1,22 @@
 //! The inbox, and what its calls answer.
 //!
-//! An inbox is the bounded queue of the kit's `crossbeam_queue`, under a rule. Each thread puts and takes through a `Pass`
-//! of its own, which keeps account of what went through it. The rule says that what was put in, through all passes, is
-//! what was taken out and what is inside, each job as often, and that each job inside can run at the inbox's executor.
+//! An inbox is the bounded queue of the kit's `crossbeam_queue`, under a rule. Each thread puts through a `Pass` of its own,
+//! and one `Taker` takes; each keeps account of what went through it. The rule says that what was put in, through all passes,
+//! is what was taken out and what is inside, each job as often, that nobody takes but the taker, and that each job inside can
+//! run at the inbox's executor. Whoever is to take has to have that taker: a further pass of the queue can't come.
 //! A job lies inside with its ticket, and comes out with the ticket with which it went in: the ticket is that of the job
 //! by its type, and the rule says which book gave it.
 
-ghost use Rattle.std.specs.Prelude.{◌≡◌, ◌<◌, ◌≤◌, ◌+◌, IfOk, IfErr, OnOk, OnErr, IfSome, IfNone, Some, vec_len, vec_capacity};
+ghost use Rattle.std.specs.Prelude.{◌≡◌, ◌<◌, ◌≤◌, ◌+◌, true, false, IfOk, IfErr, OnOk, OnErr, IfSome, IfNone, Some, vec_len, vec_capacity};
 ghost use Rattle.crossbeam_queue.specs.Passes.{view, IsPassOf as IsRawPassOf};
-ghost use Rattle.swift_inbox.specs.Inbox.{IsPassOf, new_pass, has_pushed, has_taken, IsDrained};
+ghost use Rattle.swift_inbox.specs.Inbox.{IsPassOf, IsTakerOf, new_pass, new_taker, has_pushed, has_taken, IsDrained};
 ghost use Rattle.swift_inbox.specs.Rule.{blank, unused};
 ghost use Rattle.swift_inbox.specs.Site.{CanRunAt};
 
 use crate::pass::{Pass, RawPass};
 use crate::rule::{InboxRule, Placed, Places, Puts, Takes};
 use crate::site::ExecutorSite;
+use crate::taker::Taker;
 use crate::view::PassView;
 use crossbeam_queue::RuledArrayQueue;
 use std::alloc::{AllocError, Global};
@@ -28,10 +30,10 @@ use swift_turn::Body;
 pub(crate) type Queue = RuledArrayQueue<TicketedJob, PassView, InboxRule>;
 
 /// The jobs that were sent to one executor and not yet taken: a bounded queue, first in, first out (SE-0392 for what may
-/// be enqueued on an executor; the bound is our own). Any number of threads share an inbox by reference; each puts and
-/// takes with a `Pass` of its own. There is no lock: a call waits only while another thread is between two steps of a
-/// call of its own, and one that stops there for ever stops the others too. After more than 2^62 puts, `put` and `take`
-/// wait for ever.
+/// be enqueued on an executor; the bound is our own). Any number of threads share an inbox by reference; each puts with a
+/// `Pass` of its own, and the one that has the `Taker` takes. There is no lock: a call waits only while another thread is
+/// between two steps of a call of its own, and one that stops there for ever stops the others too. After more than 2^62
+/// puts, `put` and `take` wait for ever.
 ///
 /// A job comes out with the ticket with which it went in. In a clause an inbox is which one it is, the site whose jobs it
 /// is for, and how many it has room for. No clause knows what is inside, since other threads may change it at any moment;
@@ -65,29 +67,35 @@ impl Model for Inbox {
     ghost invariant = { λ i. 0 < ruled_capacity i.queue };
 }
 
-// Tells a new inbox its executor, and makes a pass. The rule has no other way to learn it: it begins without, and the
-// first pass is told once.
+// Tells a new inbox its executor, makes the first pass the one that takes, and makes a pass that puts. The rule has no other
+// way to learn the executor: it begins without, and the first pass is told once.
 fn make_placed<K: Placed>(queue: &Queue, first: &mut RawPass, site: &ExecutorSite) -> RawPass
     requires first { IsRawPassOf queue.now first.old × (first.old.id ≡ 0) × (view first.old ≡ blank) }
     requires site { K.site ≡ Some site.now }
-    ensures pass { IsRawPassOf queue.now result × (view result ≡ unused (Some site.now)) }
+    ensures taker { IsRawPassOf queue.now first.new × (view first.new ≡ unused true (Some site.now)) }
+    ensures pass { IsRawPassOf queue.now result × (view result ≡ unused false (Some site.now)) }
 {
     queue.another::<Places<K>>(first)
 }
 
 impl Inbox {
-    /// An empty inbox for the jobs of this site, with room for so many, at least 1, and its first pass. The only call that takes
-    /// memory: a place for each job and 8 bytes beside it, and each place is marked as empty. An `Err` says that a growth
-    /// was refused, and a room of 2^60 or more is refused too.
-    pub fn new(alloc: Global, site: ExecutorSite, room: usize) -> Result<(Inbox, Pass), AllocError>
+    /// An empty inbox for the jobs of this site, with room for so many, at least 1, its first pass and its taker. The only call
+    /// that takes memory: a place for each job and 8 bytes beside it, and each place is marked as empty. An `Err` says that a
+    /// growth was refused, and a room of 2^60 or more is refused too.
+    pub fn new(
+        alloc: Global,
+        site: ExecutorSite,
+        room: usize,
+    ) -> Result<(Inbox, Pass, Taker), AllocError>
         requires { 0 < room }
         ensures site { IfOk result (λ r. r.0.site ≡ site) }
         ensures room { IfOk result (λ r. r.0.room ≡ room) }
         ensures pass { IfOk result (λ r. r.1 ≡ new_pass r.0) }
+        ensures taker { IfOk result (λ r. r.2 ≡ new_taker r.0) }
     {
         let (queue, mut first) = Queue::ruled(alloc, room)?;
         let raw = make_placed::<Brand>(&queue, &mut first, &site);
-        Ok((Inbox { queue, site }, Pass { raw }))
+        Ok((Inbox { queue, site }, Pass { raw }, Taker { raw: first }))
     }
 
     /// The site whose jobs it is for.
@@ -122,43 +130,47 @@ impl Inbox {
 
     /// Takes the oldest job out, which can run at the inbox's executor, with its ticket where a book gave it. Nothing where the
     /// inbox was empty at some moment of the call. It takes no memory, and constant time where no other thread is in the way.
-    pub fn take<R: Wait>(&self, rt: &R, pass: &mut Pass) -> Option<TicketedJob>
-        requires pass { IsPassOf self.now pass.old }
-        ensures some { IfSome result (λ t. pass.new ≡ has_taken pass.old t.job) }
+    pub fn take<R: Wait>(&self, rt: &R, taker: &mut Taker) -> Option<TicketedJob>
+        requires taker { IsTakerOf self.now taker.old }
+        ensures some { IfSome result (λ t. taker.new ≡ has_taken taker.old t.job) }
         ensures job { IfSome result (λ t. CanRunAt self.now.site t) }
-        ensures none { IfNone result (pass.new ≡ pass.old) }
+        ensures none { IfNone result (taker.new ≡ taker.old) }
     {
-        self.queue.pop_as::<Takes, R>(rt, &mut pass.raw)
+        self.queue.pop_as::<Takes, R>(rt, &mut taker.raw)
     }
 
     /// Whether the inbox was empty at one moment of the call: two loads, and it never waits. A thread that finds it empty need
     /// not `take`; what comes in later is seen by whoever asks next. No clause says when it is true, since no clause knows what is
     /// inside.
-    pub fn is_empty_now(&self, pass: &mut Pass) -> bool
-        requires { IsPassOf self.now pass.old }
-        ensures { pass.new ≡ pass.old }
+    pub fn is_empty_now(&self, taker: &mut Taker) -> bool
+        requires { IsTakerOf self.now taker.old }
+        ensures { taker.new ≡ taker.old }
     {
-        self.queue.is_empty_as::<Takes>(&mut pass.raw)
+        self.queue.is_empty_as::<Takes>(&mut taker.raw)
     }
 
-    /// Gives the inbox up: what is inside goes onto a list, the oldest first, and the tickets are given up. It takes no memory.
-    ///
-    /// With the list comes the pass by which the jobs were taken out: its account is what came onto the list. That pass is
-    /// made here, so it knows no executor; a pass that threads share can't be kept in the inbox.
+    /// Gives the inbox up: what is inside comes out through its taker and onto a list, the oldest first, and the tickets are given
+    /// up. It takes no memory.
     ///
     /// For a list that has room for as many jobs as the inbox.
-    pub fn drain<R: Wait>(self, rt: &R, mut list: Vec<Job<Body>>) -> (Vec<Job<Body>>, Pass)
-        requires { vec_len list + self.room ≤ vec_capacity list }
-        ensures { IsDrained self list.items result.0.items result.1 }
+    pub fn drain<R: Wait>(
+        self,
+        rt: &R,
+        taker: Taker,
+        mut list: Vec<Job<Body>>,
+    ) -> (Vec<Job<Body>>, Taker)
+        requires taker { IsTakerOf self taker }
+        requires room { vec_len list + self.room ≤ vec_capacity list }
+        ensures { IsDrained self list.items result.0.items taker result.1 }
     {
         let Inbox { queue, site: _ } = self;
-        let mut raw = queue.pass();
+        let Taker { mut raw } = taker;
         'drain: for _ in 0..queue.capacity() {
             match queue.pop_as::<Takes, R>(rt, &mut raw) {
                 Some(job) => list.push_reserved(job.into_job()),
                 None => break,
             }
         }
-        (list, Pass { raw })
+        (list, Taker { raw })
     }
 }

@@ -1,7 +1,7 @@
 //! What holds between any two steps of an inbox, whatever its threads do and in whatever order. Each function's contract
 //! is the law; the functions do nothing.
 
-ghost use Rattle.std.specs.Prelude.{◌≡◌, ℕ, List, ◌++◌, map, All, IsPermutation, Some};
+ghost use Rattle.std.specs.Prelude.{◌≡◌, ℕ, true, false, List, [], ◌++◌, map, All, IsPermutation, Some};
 ghost use mathlib.Core.Option.{some};
 ghost use lib.ListN.{get_elem?};
 ghost use Rattle.swift_ticket.specs.Tickets.{TicketedIs, job_view};
@@ -12,6 +12,7 @@ ghost use Rattle.std.specs.Thread.{IsSend, IsSync};
 ghost use Rattle.swift_turn.specs.contracts.body.Body as body;
 ghost use Rattle.swift_inbox.specs.contracts.inbox.Inbox as inbox;
 ghost use Rattle.swift_inbox.specs.contracts.pass.Pass as pass;
+ghost use Rattle.swift_inbox.specs.contracts.taker.Taker as taker;
 
 use crate::rule::InboxRule;
 use crate::view::PassView;
@@ -45,13 +46,33 @@ pub fn one_executor()
         → v.site ≡ Some s → w.site ≡ Some t → s ≡ t }
 {}
 
+/// At most one pass of an inbox takes, and nothing is put in through it; through each other nothing came out (our own).
+pub fn one_taker()
+    ensures one { (inside : List TicketedIs) (views : List PassView) → InboxInvariant inside views
+        → (a b : ℕ) (v w : PassView) → get_elem? views a ≡ some v → get_elem? views b ≡ some w
+        → v.takes ≡ true → w.takes ≡ true → a ≡ b }
+    ensures takes { (inside : List TicketedIs) (views : List PassView) → InboxInvariant inside views
+        → (pass : ℕ) (v : PassView) → get_elem? views pass ≡ some v → v.takes ≡ true → v.pushed ≡ [] }
+    ensures puts { (inside : List TicketedIs) (views : List PassView) → InboxInvariant inside views
+        → (pass : ℕ) (v : PassView) → get_elem? views pass ≡ some v → v.takes ≡ false → v.taken ≡ [] }
+{}
+
+/// The jobs that were put in, through any pass, are those that the taker took and those inside, up to order: each as often as
+/// it was put in (our own).
+pub fn taker_takes_all()
+    ensures { (inside : List TicketedIs) (views : List PassView) → InboxInvariant inside views
+        → (pass : ℕ) (v : PassView) → get_elem? views pass ≡ some v → v.takes ≡ true
+        → IsPermutation (pushed_in views) (v.taken ++ map (λ t. job_view t.job) inside) }
+{}
+
 /// Threads may share an inbox (our own).
 pub fn threads_share_an_inbox()
     ensures { IsSync inbox.the_row }
 {}
 
-/// A pass may go to another thread, as may a job's body (our own).
+/// A pass may go to another thread, as may a taker and a job's body (our own).
 pub fn passes_and_bodies_cross_threads()
     ensures pass { IsSend pass.the_row }
+    ensures taker { IsSend taker.the_row }
     ensures body { IsSend body.the_row }
 {}

@@ -8,7 +8,7 @@ mod inbox;
 // What holds between any two steps of an inbox.
 pub mod laws;
 
-// A thread's right to put and take.
+// A thread's right to put.
 mod pass;
 
 // The rule of an inbox, and what each kind of step tells.
@@ -17,9 +17,13 @@ mod rule;
 // Where jobs are sent.
 mod site;
 
+// The one right to take.
+mod taker;
+
 // What a pass knows, in proofs alone.
 mod view;
 
 pub use inbox::Inbox;
 pub use pass::Pass;
 pub use site::ExecutorSite;
+pub use taker::Taker;

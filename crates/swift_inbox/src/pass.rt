@@ -1,4 +1,4 @@
-//! A thread's right to put and take.
+//! A thread's right to put.
 
 ghost use Rattle.std.specs.Prelude.{◌≡◌};
 ghost use Rattle.swift_inbox.specs.Inbox.{IsPassOf, new_pass};
@@ -12,12 +12,12 @@ use swift_ticket::TicketedJob;
 /// What the queue calls a pass.
 pub(crate) type RawPass = crossbeam_queue::Pass<TicketedJob, PassView>;
 
-/// A thread's right to put jobs into one inbox, and to take them out. An inbox is made with its first pass, and each
-/// further one is split from another. A pass may go to another thread, and can't be shared: each of its steps changes
-/// what it knows. It has no bytes.
+/// A thread's right to put jobs into one inbox. An inbox is made with its first pass, and each further one is split from
+/// another. A pass may go to another thread, and can't be shared: each of its steps changes what it knows. It has no bytes.
 ///
-/// In a clause a pass is its inbox, the executor whose jobs that is for, and the jobs that were put in and taken out
-/// through this pass, the oldest first. Where a pass is dropped, its account still counts.
+/// In a clause a pass is its inbox, the executor whose jobs that is for, and the jobs that were put in through this pass,
+/// the oldest first. None comes out through it: that is for the inbox's `Taker`. Where a pass is dropped, its account still
+/// counts.
 #[derive(Drop)]
 pub struct Pass {
     pub(crate) raw: RawPass,
@@ -26,7 +26,7 @@ pub struct Pass {
 impl Model for Pass {
     ghost use Rattle.std.specs.Coded.{codes};
     ghost use Rattle.swift_script.specs.Codes.{expression_code, statement_code, block_code};
-    ghost use Rattle.std.specs.Prelude.{◌≡◌, []};
+    ghost use Rattle.std.specs.Prelude.{◌≡◌, [], false};
     ghost use Rattle.crossbeam_queue.specs.Passes.{view as known};
     ghost use Rattle.swift_inbox.specs.Inbox.{PassIs};
 
@@ -34,9 +34,9 @@ impl Model for Pass {
 
     ghost coded = { Prim.hlevel (codes, expression_code, statement_code (block_code (Prim.hlevel (codes, expression_code)) (Prim.hlevel (codes, expression_code)))) };
 
-    ghost view = { λ p. record { inbox = p.raw.table_id; site = (known p.raw).site; pushed = (known p.raw).pushed; taken = (known p.raw).taken } };
+    ghost view = { λ p. record { inbox = p.raw.table_id; site = (known p.raw).site; pushed = (known p.raw).pushed } };
 
-    ghost invariant = { λ p. p.raw.me.1 ≡ [] };
+    ghost invariant = { λ p. (p.raw.me.1 ≡ []) × ((known p.raw).takes ≡ false) };
 }
 
 impl Pass {

@@ -44,15 +44,16 @@ impl Lesson<TicketedJob, PassView> for Takes {
     ghost fact = { λ _ _. Unit {0} };
 }
 
-/// A new pass of the same executor, through which nothing went.
+/// A new pass of the same executor that puts, through which nothing went.
 pub struct NewPass;
 
 impl Split<PassView> for NewPass {
+    ghost use Rattle.std.specs.Prelude.{false};
     ghost use Rattle.swift_inbox.specs.Rule.{unused};
 
     ghost left = { λ v. v };
 
-    ghost right = { λ v. unused v.site };
+    ghost right = { λ v. unused false v.site };
 }
 
 /// Names an executor, in proofs alone.
@@ -69,15 +70,16 @@ impl Placed for Brand {
     ghost site = { None };
 }
 
-/// A new inbox is told which executor it is of.
+/// A new inbox is told which executor it is of: its first pass becomes the one that takes, and a pass that puts is made.
 pub struct Places<K> {
     of: PhantomData<K>,
 }
 
 impl<K: Placed> Split<PassView> for Places<K> {
+    ghost use Rattle.std.specs.Prelude.{true, false};
     ghost use Rattle.swift_inbox.specs.Rule.{unused};
 
-    ghost left = { λ v. unused K.site };
+    ghost left = { λ v. unused true K.site };
 
-    ghost right = { λ v. unused K.site };
+    ghost right = { λ v. unused false K.site };
 }

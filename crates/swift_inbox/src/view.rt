@@ -21,8 +21,10 @@ impl Model for NotedJob {
 
 /// A pass's view.
 pub struct PassView {
-    // Whose jobs the inbox is for. The pass that drains it knows none.
+    // Whose jobs the inbox is for. The first pass of a new queue knows none.
     pub site: Option<ExecutorSite>,
+    // Whether jobs come out through this pass. If not, they go in.
+    pub takes: bool,
     // The jobs that were put in through this pass, the oldest first.
     pub pushed: LinkedList<NotedJob>,
     // The jobs that were taken out through this pass, the oldest first.
