@@ -12,7 +12,7 @@ use Rattle.futures.proofs.task.source.Source.TheSendSync as Source
 use Rattle.futures.proofs.task.waker.Waker.TheSendSync as Waker
 use Rattle.swift_journal.proofs.journal.Journal.TheSendSync as Journal
 use Rattle.swift_journal.proofs.checkpoint.Checkpoint.TheSendSync as Checkpoint
-use Rattle.swift_inbox.proofs.CrossesThreads.{body_send, inbox_sync, pass_send, script_send, script_sync}
+use Rattle.swift_inbox.proofs.CrossesThreads.{body_send, inbox_sync, pass_send, script_send, script_sync, taker_send}
 use Rattle.swift_executor.proofs.tasks.ReadyTasks.TheSendSync as ReadyTasks
 use Rattle.swift_executor.specs.contracts.state.ExecState as state
 use Rattle.swift_executor.specs.contracts.resting.Resting as resting
@@ -48,7 +48,7 @@ pub book_seat_send : IsSend book_seat.the_row
 book_seat_send = search (plain, Badge.the_send) depth 60 fits 20000
 
 held_send : IsSend (held.the_field).row
-held_send = search (plain, state_send, pass_send, book_seat_send) depth 60 fits 20000
+held_send = search (plain, state_send, taker_send, book_seat_send) depth 60 fits 20000
 
 resting_send : IsSend resting.the_row
 resting_send = search (plain, held_send) depth 60 fits 20000

@@ -7,7 +7,7 @@ use Rattle.swift_history.specs.TurnEnds.{JobView}
 use Rattle.swift_ledger.specs.Levels.{AreLevels}
 use Rattle.swift_executor.specs.declared.fault.ExecFault.{ExecFault}
 use Rattle.swift_executor.specs.Account.{HasTaken}
-use Rattle.swift_inbox.specs.Inbox.{InboxIs, PassIs, has_taken}
+use Rattle.swift_inbox.specs.Inbox.{InboxIs, TakerIs, has_taken}
 use Rattle.swift_queue.specs.Job.{JobIs}
 use Rattle.swift_tasks.specs.Books.{job_view}
 use Rattle.swift_turn.specs.Body.{BodyView}
@@ -81,13 +81,13 @@ pub same_seat : (b : BookLockIs) (s : BookSeatIs) → IsSeatOf b s → seat_of b
 same_seat b s is = ap (λ (id : TableId). record { lock = id; here = true; knows = s.knows }) (sym is.0) ∙ ap (λ (h : Bool). record s { here = h }) (sym is.1)
 
 -- a job that was taken out of the inbox is ready, and the seat has its ticket
-pub accepted_at : (i : InboxIs) (p p1 p2 : PassIs) (seat seat' : BookSeatIs) (s s' : ExecView) (sent job : JobIs BodyView) → IsAt i p seat s → s.chosen ≡ None → p2 ≡ has_taken p1 sent → p1 ≡ p → job ≡ sent
-    → seat' ≡ knowing (with_ticket (job_view sent) seat.knows) seat → Adds s.ready job s'.ready → s' ≡ record s { ready = s'.ready } → IsAt i p2 seat' s'
-accepted_at i p p1 p2 seat seat' s s' sent job at free took same_pass of_job takes adds rest =
-    let q : p2 ≡ has_taken p sent = took ∙ ap (λ (x : PassIs). has_taken x sent) same_pass in
+pub accepted_at : (i : InboxIs) (t t1 t2 : TakerIs) (seat seat' : BookSeatIs) (s s' : ExecView) (sent job : JobIs BodyView) → IsAt i t seat s → s.chosen ≡ None → t2 ≡ has_taken t1 sent → t1 ≡ t → job ≡ sent
+    → seat' ≡ knowing (with_ticket (job_view sent) seat.knows) seat → Adds s.ready job s'.ready → s' ≡ record s { ready = s'.ready } → IsAt i t2 seat' s'
+accepted_at i t t1 t2 seat seat' s s' sent job at free took same_taker of_job takes adds rest =
+    let q : t2 ≡ has_taken t sent = took ∙ ap (λ (x : TakerIs). has_taken x sent) same_taker in
     let adds' : Adds s.ready sent s'.ready = subst (λ (j : JobIs BodyView). Adds s.ready j s'.ready) of_job adds in
     let lock : seat'.lock ≡ seat.lock = ap (λ (x : BookSeatIs). x.lock) takes in
     let site : site_of seat'.lock s' ≡ site_of seat.lock s = ap (λ (t : TableId). site_of t s') lock ∙ ap (site_of seat.lock) rest in
-    let has : HasTaken (p.taken ++ job_view sent ∷ []) s' = accepted p.taken sent s s' at.2.2 adds' rest in
-    let knows : IsSeatFor s' seat' = subst (λ (x : BookSeatIs). IsSeatFor s' x) (sym takes) (accepted_knows sent s s' seat at.2.3 free adds' rest) in
-    subst (λ (x : PassIs). IsAt i x seat' s') (sym q) (at.0, site ∙ at.1, (at.2.0 ∙ ap (λ x. Some x) (sym site), at.2.1, has, knows))
+    let has : HasTaken (t.taken ++ job_view sent ∷ []) s' = accepted t.taken sent s s' at.2.1 adds' rest in
+    let knows : IsSeatFor s' seat' = subst (λ (x : BookSeatIs). IsSeatFor s' x) (sym takes) (accepted_knows sent s s' seat at.2.2 free adds' rest) in
+    subst (λ (x : TakerIs). IsAt i x seat' s') (sym q) (at.0, site ∙ at.1, (at.2.0 ∙ ap (λ x. Some x) (sym site), has, knows))

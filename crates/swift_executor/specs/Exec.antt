@@ -1,11 +1,11 @@
 -- A serial executor that threads share, and their desks, as callers see them (SE-0392 for executors that run one job at a
 -- time; the rest is our own).
-use Rattle.std.specs.Prelude.{◌≡◌, ℕ, ◌+◌, ◌-◌, ◌/◌, ◌^◌, ◌%◌, ◌==◌, Bool, true, false, pos, negsuc, Option, Some, None, List, [], ◌∷◌, ◌++◌, ◌⊎◌}
+use Rattle.std.specs.Prelude.{◌≡◌, ◌≤◌, ℕ, length, map, ◌+◌, ◌-◌, ◌/◌, ◌^◌, ◌%◌, ◌==◌, Bool, true, false, pos, negsuc, Option, Some, None, List, [], ◌∷◌, ◌++◌, ◌⊎◌}
 use Rattle.atomic_table.specs.Seated.{TableId}
 use Rattle.script_grammar.specs.declared.declaration.ExecutorKind.{ExecutorKind}
 use Rattle.script_grammar.specs.declared.declaration.ExecutorKind.TheVariants as kind
 use Rattle.swift_history.specs.TurnEnds.{JobView}
-use Rattle.swift_inbox.specs.Inbox.{InboxIs, PassIs}
+use Rattle.swift_inbox.specs.Inbox.{InboxIs, TakerIs}
 use Rattle.swift_inbox.specs.Site.{Site}
 use Rattle.swift_queue.specs.Job.{JobIs}
 use Rattle.swift_script.specs.Scripts.{ScriptView}
@@ -74,10 +74,10 @@ after_run (Nothing left) d = d
 abbrev pub site_of : TableId → ExecView → Site
 site_of lock s = record { script = s.script; executor = s.executor; book = Some lock }
 
--- The state of the executor that a pass takes jobs for; none was sent through the pass, and what came out of the inbox through it
--- is ready, chosen or journalled, each once. The seat by which it takes the book is the executor's.
-abbrev pub IsOf : PassIs → BookSeatIs → ExecView → Type 0
-IsOf p seat s = (p.site ≡ Some (site_of seat.lock s)) × (p.pushed ≡ []) × HasTaken p.taken s × IsSeatFor s seat
+-- The state of the executor whose jobs the taker takes; each job that ever came out of the inbox, since there is no other taker, is
+-- ready, chosen or journalled, each once. The seat by which it takes the book is the executor's.
+abbrev pub IsOf : TakerIs → BookSeatIs → ExecView → Type 0
+IsOf t seat s = (t.site ≡ Some (site_of seat.lock s)) × HasTaken t.taken s × IsSeatFor s seat
 
 -- what a word knows of a state: whose it is, and from which inbox it takes its jobs
 abbrev pub state_name : Site → TableId → StateName
@@ -131,12 +131,19 @@ may_run kind.Fifo workers worker = true
 abbrev pub IsRunFault : ExecFault → Type 0
 IsRunFault fault = (fault ≡ Memory) ⊎ ((cause : BookFault) × (fault ≡ Refused cause))
 
--- a state while no worker holds it, with the pass by which its jobs come, and the seat by which it takes the book
+-- a state while no worker holds it, with the taker of its jobs, and the seat by which it takes the book
 pub record RestingIs : Type 0 where
   pub state : ExecView
-  pub pass : PassIs
+  pub taker : TakerIs
   pub seat : BookSeatIs
 
--- the state of this executor, with a pass of its inbox and its seat
-abbrev pub IsAt : InboxIs → PassIs → BookSeatIs → ExecView → Type 0
-IsAt i p seat s = (p.inbox ≡ i.id) × (site_of seat.lock s ≡ i.site) × IsOf p seat s
+-- the state of this executor, with the taker of its inbox and its seat
+abbrev pub IsAt : InboxIs → TakerIs → BookSeatIs → ExecView → Type 0
+IsAt i t seat s = (t.inbox ≡ i.id) × (site_of seat.lock s ≡ i.site) × IsOf t seat s
+
+-- What is left of an executor: its state, in which no job is chosen, and the jobs that were then in its inbox, no more than that
+-- had room for. Of all that its taker took, these came last, and what came before them the state accounts for.
+abbrev pub IsLeft : InboxIs → TakerIs → BookSeatIs → ExecView → List (JobIs BodyView) → Type 0
+IsLeft i t seat s jobs =
+    (s.chosen ≡ None) × (length jobs ≤ i.room)
+    × (before : List JobView) × (t.taken ≡ before ++ map job_view jobs) × IsAt i (record t { taken = before }) seat s

@@ -15,8 +15,8 @@ use swift_word::Seat;
 ///
 /// It has an allowance, how many jobs may still be sent by it: all those of an executor together began as 2^60. In a clause a
 /// desk is its executor, the jobs that were sent by it, the oldest first, how many turns were run by it, and its allowance.
-/// By its type no job has come out of the inbox through a desk: jobs are taken with the state in hand alone. A desk that is
-/// dropped takes its allowance with it.
+/// No job comes out of the inbox through a desk: the right to take is one value, which lies in the executor's state. A desk that
+/// is dropped takes its allowance with it.
 pub struct Desk {
     pub(crate) seat: Seat<Resting>,
     pub(crate) pass: Pass,
@@ -31,7 +31,7 @@ impl Drop for Desk {
 }
 
 impl Model for Desk {
-    ghost use Rattle.std.specs.Prelude.{◌≡◌, [], Some, None, IfSome};
+    ghost use Rattle.std.specs.Prelude.{◌≡◌, Some, None, IfSome};
     ghost use Rattle.std.specs.Coded.{codes};
     ghost use Rattle.swift_script.specs.Codes.{expression_code, statement_code, block_code};
     ghost use Rattle.swift_executor.specs.Exec.{DeskIs, state_name};
@@ -42,7 +42,7 @@ impl Model for Desk {
 
     ghost view = { λ d. record { word = d.seat.word; inbox = d.pass.inbox; site = d.pass.site; sent = d.pass.pushed; finished = d.seat.finished; allowance = d.seat.allowance } };
 
-    ghost invariant = { λ d. IfSome d.pass.site (λ site. d.seat.name ≡ Some (state_name site d.pass.inbox)) × (d.seat.holding ≡ None) × (d.pass.taken ≡ []) };
+    ghost invariant = { λ d. IfSome d.pass.site (λ site. d.seat.name ≡ Some (state_name site d.pass.inbox)) × (d.seat.holding ≡ None) };
 }
 
 impl Desk {

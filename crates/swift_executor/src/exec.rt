@@ -1,10 +1,9 @@
 //! A serial executor that threads share, and what is left of it.
 
-ghost use Rattle.std.specs.Prelude.{◌≡◌, ◌<◌, [], None, Some, IfOk, IfErr, IfSome, OnOk, OnErr};
+ghost use Rattle.std.specs.Prelude.{◌≡◌, ◌<◌, [], None, Some, IfOk, IfErr, IfSome, IfNone, OnOk, OnErr};
 ghost use Rattle.std.specs.Arc.{arc_value};
-ghost use Rattle.swift_inbox.specs.Inbox.{IsDrained};
 ghost use Rattle.swift_inbox.specs.Site.{CanRunAt};
-ghost use Rattle.swift_executor.specs.Exec.{IsAt, IsDeskOf, first_desk, has_sent, site_of};
+ghost use Rattle.swift_executor.specs.Exec.{IsDeskOf, IsLeft, first_desk, has_sent, site_of};
 ghost use Rattle.swift_executor.specs.Seats.{IsOpened};
 
 use crate::desk::Desk;
@@ -16,7 +15,7 @@ use crate::state::ExecState;
 use std::alloc::{AllocError, Global};
 use std::marker::Model;
 use std::sync::{Arc, Wait};
-use swift_inbox::{ExecutorSite, Inbox, Pass};
+use swift_inbox::{ExecutorSite, Inbox, Taker};
 use swift_queue::Job;
 use swift_script::Script;
 use swift_shared_book::BookSeat;
@@ -93,34 +92,31 @@ impl Model for Exec {
 pub struct Closed {
     /// How many jobs were counted and not run.
     pub pending: u64,
-    /// Its state, with the pass by which its jobs came out of the inbox, and the seat by which it took the book; none where a desk
-    /// held it.
-    pub state: Option<(ExecState, Pass, BookSeat)>,
-    /// The jobs that were in the inbox, the oldest first.
+    /// Its state, with the taker of its jobs, and the seat by which it took the book; none where a desk held it.
+    pub state: Option<(ExecState, Taker, BookSeat)>,
+    /// The jobs that were in the inbox, the oldest first. Where a desk held the state, it held their taker too, and there are none.
     pub inbox: Vec<Job<Body>>,
-    /// The pass by which these came out of it.
-    pub drained: Pass,
 }
 
 // The first state of an executor, with no job.
 fn first_state(
     alloc: Global,
     site: &ExecutorSite,
-    pass: Pass,
+    taker: Taker,
     room: usize,
     seat: BookSeat,
 ) -> Result<Resting, AllocError>
-    requires site { pass.site ≡ Some site.now }
-    requires unused { (pass.pushed ≡ []) × (pass.taken ≡ []) }
+    requires site { taker.site ≡ Some site.now }
+    requires unused { taker.taken ≡ [] }
     requires book { site.now.book ≡ Some seat.lock }
     requires seat { IsOpened site.now.script site.now.executor seat }
-    ensures { IfOk result (λ r. (site_of r.seat.lock r.state ≡ site.now) × (r.pass ≡ pass) × (r.seat ≡ seat)) }
+    ensures { IfOk result (λ r. (site_of r.seat.lock r.state ≡ site.now) × (r.taker ≡ taker) × (r.seat ≡ seat)) }
 {
     new_has_taken_none();
     new_knows_no_turn();
     let script = Arc::clone(site.script())?;
     let state = ExecState::new(alloc, script, site.executor(), room)?;
-    let held = Held { state, pass, seat };
+    let held = Held { state, taker, seat };
     match Box::new(alloc, held) {
         Ok(held) => Ok(Resting::new(held)),
         Err(refused) => {
@@ -153,11 +149,10 @@ impl Exec {
     {
         let site = ExecutorSite::of_book(script, executor, seat.name());
         let own = ExecutorSite::of_book(Arc::clone(site.script())?, executor, seat.name());
-        let (inbox, mut pass) = Inbox::new(alloc, site, room)?;
+        let (inbox, pass, taker) = Inbox::new(alloc, site, room)?;
         let list = Vec::with_capacity(alloc, room)?;
         let spare = Spare { list };
-        let taking = pass.split(&inbox);
-        let state = first_state(alloc, &own, taking, room, seat)?;
+        let state = first_state(alloc, &own, taker, room, seat)?;
         match Word::open(alloc, state) {
             Ok((word, seat)) => Ok((
                 Exec {
@@ -223,11 +218,12 @@ impl Exec {
     }
 
     /// Gives the executor up. The state comes where no desk holds it, with no job chosen, and the seat whose account has its turns; and
-    /// what was in the inbox comes, with the pass whose account says so. The tickets of these jobs are given up. It takes no memory. It
-    /// waits only for a thread that stands between two steps of a call of its own.
+    /// what was in the inbox comes out through the taker that lay in the state. So of each job that ever came out of the inbox it is
+    /// known where it is: among these, or ready or journalled. The tickets of these jobs are given up. It takes no memory. It waits
+    /// only for a thread that stands between two steps of a call of its own.
     pub fn close<R: Wait>(self, rt: &R) -> Closed
-        ensures state { IfSome result.state (λ s. IsAt self.inbox s.1 s.2 s.0 × (s.0.chosen ≡ None)) }
-        ensures inbox { IsDrained self.inbox [] result.inbox.items result.drained }
+        ensures state { IfSome result.state (λ s. IsLeft self.inbox s.1 s.2 s.0 result.inbox.items) }
+        ensures none { IfNone result.state (result.inbox.items ≡ []) }
     {
         let Exec {
             word,
@@ -235,17 +231,22 @@ impl Exec {
             workers: _,
             spare,
         } = self;
-        let (pending, state) = word.close();
-        let (inbox, drained) = inbox.drain(rt, spare.into_list());
-        let state = match state {
-            Some(resting) => Some(resting.into_parts()),
-            None => None,
-        };
-        Closed {
-            pending,
-            state,
-            inbox,
-            drained,
+        let list = spare.into_list();
+        match word.close() {
+            (pending, Some(resting)) => {
+                let (state, taker, seat) = resting.into_parts();
+                let (inbox, taker) = inbox.drain(rt, taker, list);
+                Closed {
+                    pending,
+                    state: Some((state, taker, seat)),
+                    inbox,
+                }
+            }
+            (pending, None) => Closed {
+                pending,
+                state: None,
+                inbox: list,
+            },
         }
     }
 }

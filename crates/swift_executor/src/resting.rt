@@ -6,17 +6,17 @@ ghost use Rattle.swift_executor.specs.Exec.{IsOf};
 use crate::state::ExecState;
 use crate::state_name::StateName;
 use std::marker::Model;
-use swift_inbox::Pass;
+use swift_inbox::Taker;
 use swift_queue::Job;
 use swift_shared_book::BookSeat;
 use swift_turn::Body;
 use swift_word::Named;
 
-/// What a worker holds of an executor: its state, the pass by which its jobs come out of the inbox, and the seat by which it
-/// takes the book.
+/// What a worker holds of an executor: its state, the right to take its jobs out of the inbox, and the seat by which it takes
+/// the book.
 pub struct Held {
     pub state: ExecState,
-    pub pass: Pass,
+    pub taker: Taker,
     pub seat: BookSeat,
 }
 
@@ -35,9 +35,9 @@ impl Model for Resting {
 
     ghost coded = { Prim.hlevel (codes, expression_code, statement_code (block_code (Prim.hlevel (codes, expression_code)) (Prim.hlevel (codes, expression_code)))) };
 
-    ghost view = { λ r. record { state = r.held.value.state; pass = r.held.value.pass; seat = r.held.value.seat } };
+    ghost view = { λ r. record { state = r.held.value.state; taker = r.held.value.taker; seat = r.held.value.seat } };
 
-    ghost invariant = { λ r. (r.held.value.state.chosen ≡ None) × IsOf r.held.value.pass r.held.value.seat r.held.value.state };
+    ghost invariant = { λ r. (r.held.value.state.chosen ≡ None) × IsOf r.held.value.taker r.held.value.seat r.held.value.state };
 }
 
 impl Named for Resting {
@@ -45,38 +45,38 @@ impl Named for Resting {
 
     ghost use Rattle.swift_executor.specs.Exec.{state_name, site_of};
 
-    ghost name = { λ r. state_name (site_of r.seat.lock r.state) r.pass.inbox };
+    ghost name = { λ r. state_name (site_of r.seat.lock r.state) r.taker.inbox };
 }
 
 impl Resting {
     /// The state that a worker has held.
     pub fn new(held: Box<Held>) -> Resting
         requires free { held.value.state.chosen ≡ None }
-        requires is_of { IsOf held.value.pass held.value.seat held.value.state }
-        ensures { result ≡ record { state = held.value.state; pass = held.value.pass; seat = held.value.seat } }
+        requires is_of { IsOf held.value.taker held.value.seat held.value.state }
+        ensures { result ≡ record { state = held.value.state; taker = held.value.taker; seat = held.value.seat } }
     {
         Resting { held }
     }
 
     /// The state, for the worker that holds it.
     pub fn into_held(self) -> Box<Held>
-        ensures same { (result.value.state ≡ self.state) × (result.value.pass ≡ self.pass) × (result.value.seat ≡ self.seat) }
+        ensures same { (result.value.state ≡ self.state) × (result.value.taker ≡ self.taker) × (result.value.seat ≡ self.seat) }
         ensures free { result.value.state.chosen ≡ None }
-        ensures is_of { IsOf result.value.pass result.value.seat result.value.state }
+        ensures is_of { IsOf result.value.taker result.value.seat result.value.state }
     {
         let Resting { held } = self;
         held
     }
 
-    /// The state, the pass by which its jobs came, and the seat by which it took the book.
-    pub fn into_parts(self) -> (ExecState, Pass, BookSeat)
-        ensures same { (result.0 ≡ self.state) × (result.1 ≡ self.pass) × (result.2 ≡ self.seat) }
+    /// The state, the right to take its jobs, and the seat by which it took the book.
+    pub fn into_parts(self) -> (ExecState, Taker, BookSeat)
+        ensures same { (result.0 ≡ self.state) × (result.1 ≡ self.taker) × (result.2 ≡ self.seat) }
         ensures free { result.0.chosen ≡ None }
         ensures is_of { IsOf result.1 result.2 result.0 }
     {
         let held = Box::into_inner(self.into_held());
-        let Held { state, pass, seat } = held;
-        (state, pass, seat)
+        let Held { state, taker, seat } = held;
+        (state, taker, seat)
     }
 }
 
@@ -94,7 +94,7 @@ pub fn spend_held(held: Held)
 {
     let Held {
         state,
-        pass: _,
+        taker: _,
         seat: _,
     } = held;
     let (jobs, _journal, _fields, _checkpoint) = state.into_parts();

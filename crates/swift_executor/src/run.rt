@@ -47,17 +47,17 @@ pub fn may_run(kind: ExecutorKind, workers: u32, worker: u32) -> bool
 // Takes the oldest job of the inbox, where there is one, and room for it; the seat takes its ticket. Where the inbox was just found
 // empty, it is not asked for a job, which takes longer.
 fn accept_one<R: Wait>(rt: &R, inbox: &Inbox, held: &mut Held, book: &BookLock) -> bool
-    requires at { IsAt inbox.now held.old.pass held.old.seat held.old.state }
+    requires at { IsAt inbox.now held.old.taker held.old.seat held.old.state }
     requires free { held.old.state.chosen ≡ None }
     requires lock { held.old.seat.lock ≡ book.now.id }
-    ensures at { IsAt inbox.now held.new.pass held.new.seat held.new.state }
+    ensures at { IsAt inbox.now held.new.taker held.new.seat held.new.state }
     ensures free { held.new.state.chosen ≡ None }
     ensures lock { held.new.seat.lock ≡ held.old.seat.lock }
 {
-    if inbox.is_empty_now(&mut held.pass) || !held.state.has_room() {
+    if inbox.is_empty_now(&mut held.taker) || !held.state.has_room() {
         return false;
     }
-    match inbox.take(rt, &mut held.pass) {
+    match inbox.take(rt, &mut held.taker) {
         Some(sent) => {
             let job = book.accept(&mut held.seat, sent);
             held.state.accept(job);
@@ -71,10 +71,10 @@ fn accept_one<R: Wait>(rt: &R, inbox: &Inbox, held: &mut Held, book: &BookLock) 
 
 // Takes what is in the inbox, as far as there is room.
 fn accept_all<R: Wait>(rt: &R, inbox: &Inbox, held: &mut Held, book: &BookLock)
-    requires at { IsAt inbox.now held.old.pass held.old.seat held.old.state }
+    requires at { IsAt inbox.now held.old.taker held.old.seat held.old.state }
     requires free { held.old.state.chosen ≡ None }
     requires lock { held.old.seat.lock ≡ book.now.id }
-    ensures at { IsAt inbox.now held.new.pass held.new.seat held.new.state }
+    ensures at { IsAt inbox.now held.new.taker held.new.seat held.new.state }
     ensures free { held.new.state.chosen ≡ None }
     ensures lock { held.new.seat.lock ≡ held.old.seat.lock }
 {
@@ -94,10 +94,10 @@ fn choose_one<R: Wait>(
     requires free { held.old.state.chosen ≡ None }
     requires seat { IsSeatOf book.now held.old.seat }
     requires known { IsSeatFor held.old.state held.old.seat }
-    ensures same { (held.new.pass ≡ held.old.pass) × (site_of book.now.id held.new.state ≡ site_of book.now.id held.old.state) }
+    ensures same { (held.new.taker ≡ held.old.taker) × (site_of book.now.id held.new.state ≡ site_of book.now.id held.old.state) }
     ensures seat { IsSeatOf book.now held.new.seat }
     ensures known { IsSeatFor held.new.state held.new.seat }
-    ensures taken { HasTaken held.old.pass.taken held.old.state → HasTaken held.new.pass.taken held.new.state }
+    ensures taken { HasTaken held.old.taker.taken held.old.state → HasTaken held.new.taker.taken held.new.state }
     ensures some { IfOk result (λ picked. IfSome picked (λ task. HasChosen held.new.state (λ c. IsPicked c.stage) × (chosen_task held.new.state.chosen ≡ Some task))) }
     ensures none { IfOk result (λ picked. IfNone picked (held.new.state.chosen ≡ None)) }
     ensures free { OnErr result (held.new.state.chosen ≡ None) }
@@ -120,10 +120,10 @@ fn start_one<R: Wait>(
     requires seat { IsSeatOf book.now held.old.seat }
     requires script { book.now.script ≡ held.old.state.script }
     requires known { IsSeatFor held.old.state held.old.seat }
-    ensures same { (held.new.pass ≡ held.old.pass) × (site_of book.now.id held.new.state ≡ site_of book.now.id held.old.state) }
+    ensures same { (held.new.taker ≡ held.old.taker) × (site_of book.now.id held.new.state ≡ site_of book.now.id held.old.state) }
     ensures seat { IsSeatOf book.now held.new.seat }
     ensures known { IsSeatFor held.new.state held.new.seat }
-    ensures taken { HasTaken held.old.pass.taken held.old.state → HasTaken held.new.pass.taken held.new.state }
+    ensures taken { HasTaken held.old.taker.taken held.old.state → HasTaken held.new.taker.taken held.new.state }
     ensures ok { OnOk result (HasChosen held.new.state (λ c. IsBegun c.stage) × (chosen_task held.new.state.chosen ≡ chosen_task held.old.state.chosen)) }
     ensures free { OnErr result (held.new.state.chosen ≡ None) }
     ensures err { IfErr result IsRunFault }
@@ -137,10 +137,10 @@ fn start_one<R: Wait>(
 fn play_one(held: &mut Held, cx: &mut Context<'_>) -> Result<(), ExecFault>
     requires begun { HasChosen held.old.state (λ c. IsBegun c.stage) }
     requires known { IsSeatFor held.old.state held.old.seat }
-    ensures same { (held.new.pass ≡ held.old.pass) × (site_of held.new.seat.lock held.new.state ≡ site_of held.old.seat.lock held.old.state) }
+    ensures same { (held.new.taker ≡ held.old.taker) × (site_of held.new.seat.lock held.new.state ≡ site_of held.old.seat.lock held.old.state) }
     ensures seat { held.new.seat ≡ held.old.seat }
     ensures known { IsSeatFor held.new.state held.new.seat }
-    ensures taken { HasTaken held.old.pass.taken held.old.state → HasTaken held.new.pass.taken held.new.state }
+    ensures taken { HasTaken held.old.taker.taken held.old.state → HasTaken held.new.taker.taken held.new.state }
     ensures ok { OnOk result (HasChosen held.new.state (λ c. IsPlayed c.stage) × (chosen_task held.new.state.chosen ≡ chosen_task held.old.state.chosen)) }
     ensures free { OnErr result (held.new.state.chosen ≡ None) }
     ensures err { IfErr result IsRunFault }
@@ -163,11 +163,11 @@ fn end_one<R: Wait>(
     requires script { book.now.script ≡ held.old.state.script }
     requires known { IsSeatFor held.old.state held.old.seat }
     requires jobs { jobs.old.book ≡ book.now.id }
-    ensures same { (held.new.pass ≡ held.old.pass) × (site_of book.now.id held.new.state ≡ site_of book.now.id held.old.state) }
+    ensures same { (held.new.taker ≡ held.old.taker) × (site_of book.now.id held.new.state ≡ site_of book.now.id held.old.state) }
     ensures seat { IsSeatOf book.now held.new.seat }
     ensures known { IsSeatFor held.new.state held.new.seat }
     ensures lock { jobs.new.book ≡ jobs.old.book }
-    ensures taken { HasTaken held.old.pass.taken held.old.state → HasTaken held.new.pass.taken held.new.state }
+    ensures taken { HasTaken held.old.taker.taken held.old.state → HasTaken held.new.taker.taken held.new.state }
     ensures free { held.new.state.chosen ≡ None }
     ensures made { OnOk result (IsMadeBy held.old.state.script (chosen_task held.old.state.chosen) (map job_view jobs.old.jobs) (map job_view jobs.new.jobs)) }
     ensures jobs { OnErr result (jobs.new ≡ jobs.old) }
@@ -196,11 +196,11 @@ where
     requires script { book.now.script ≡ held.old.state.script }
     requires known { IsSeatFor held.old.state held.old.seat }
     requires jobs { jobs.old.book ≡ book.now.id }
-    ensures same { (held.new.pass ≡ held.old.pass) × (site_of book.now.id held.new.state ≡ site_of book.now.id held.old.state) }
+    ensures same { (held.new.taker ≡ held.old.taker) × (site_of book.now.id held.new.state ≡ site_of book.now.id held.old.state) }
     ensures seat { IsSeatOf book.now held.new.seat }
     ensures known { IsSeatFor held.new.state held.new.seat }
     ensures lock { jobs.new.book ≡ jobs.old.book }
-    ensures taken { HasTaken held.old.pass.taken held.old.state → HasTaken held.new.pass.taken held.new.state }
+    ensures taken { HasTaken held.old.taker.taken held.old.state → HasTaken held.new.taker.taken held.new.state }
     ensures free { held.new.state.chosen ≡ None }
     ensures made { IfOk result (λ ran. IfSome ran (λ task. IsMadeBy held.old.state.script (Some task) (map job_view jobs.old.jobs) (map job_view jobs.new.jobs))) }
     ensures none { IfOk result (λ ran. IfNone ran (jobs.new ≡ jobs.old)) }
@@ -225,7 +225,7 @@ impl Exec {
     fn end_turn(&self, seat: &mut Seat<Resting>, held: Box<Held>) -> Left
         requires seat { IsSeatAt self.now seat.old }
         requires found { IsSomeAnd seat.old.holding (λ found. 0 < found) }
-        requires at { IsAt self.now.inbox held.value.pass held.value.seat held.value.state }
+        requires at { IsAt self.now.inbox held.value.taker held.value.seat held.value.state }
         requires free { held.value.state.chosen ≡ None }
         ensures { seat.new ≡ ended seat.old }
     {
@@ -236,7 +236,7 @@ impl Exec {
     fn leave(&self, seat: &mut Seat<Resting>, held: Box<Held>) -> Left
         requires seat { IsSeatAt self.now seat.old }
         requires found { IsSome seat.old.holding }
-        requires at { IsAt self.now.inbox held.value.pass held.value.seat held.value.state }
+        requires at { IsAt self.now.inbox held.value.taker held.value.seat held.value.state }
         requires free { held.value.state.chosen ≡ None }
         ensures { seat.new ≡ left seat.old }
     {
@@ -261,7 +261,7 @@ impl Exec {
         G: Gate,
         requires seat { IsSeatAt self.now seat.old }
         requires found { seat.old.holding ≡ Some found }
-        requires at { IsAt self.now.inbox held.value.pass held.value.seat held.value.state }
+        requires at { IsAt self.now.inbox held.value.taker held.value.seat held.value.state }
         requires free { held.value.state.chosen ≡ None }
         requires lock { IsBookOf self.now book.now }
         requires jobs { jobs.old.book ≡ book.now.id }

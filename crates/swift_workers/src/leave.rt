@@ -151,11 +151,10 @@ fn close<R: Wait>(rt: &R, exec: Exec) -> Result<(ExecState, BookSeat), Halt>
         pending,
         state,
         inbox,
-        drained: _,
     } = exec.close(rt);
     let is_left = pending > 0 || !inbox.is_empty();
     give_all_up(inbox);
-    let Some((state, _pass, seat)) = state else {
+    let Some((state, _taker, seat)) = state else {
         return Err(Halt::Unfinished);
     };
     if is_left {

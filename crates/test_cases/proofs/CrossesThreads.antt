@@ -2,7 +2,7 @@
 -- a thread with it lists the lemma that is meant beside `sendable`.
 use denote.Param.Send.{IsSend, IsSync, recorded_send, sendable}
 use Rattle.std.proofs.Crossing as Crossing
-use Rattle.swift_inbox.proofs.CrossesThreads.{body_send, inbox_send, pass_send, script_send, script_sync}
+use Rattle.swift_inbox.proofs.CrossesThreads.{body_send, inbox_send, script_send, script_sync, taker_send}
 use Rattle.swift_journal.proofs.journal.Journal.TheSendSync as Journal
 use Rattle.swift_journal.proofs.checkpoint.Checkpoint.TheSendSync as Checkpoint
 use Rattle.swift_executor.proofs.tasks.ReadyTasks.TheSendSync as ReadyTasks
@@ -28,7 +28,7 @@ state_send : IsSend state.the_row
 state_send = search (plain, script_send, script_sync, body_send, chosen_send, ReadyTasks.the_send, Journal.the_send, Checkpoint.the_send) depth 60 fits 20000
 
 held_send : IsSend (held.the_field).row
-held_send = search (plain, state_send, pass_send, book_seat_send) depth 60 fits 20000
+held_send = search (plain, state_send, taker_send, book_seat_send) depth 60 fits 20000
 
 resting_send : IsSend resting.the_row
 resting_send = search (plain, held_send) depth 60 fits 20000

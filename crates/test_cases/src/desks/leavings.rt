@@ -65,10 +65,9 @@ impl Leavings {
             pending,
             state,
             inbox,
-            drained: _,
         } = door.into_exec()?.close(rt);
         let inbox = Jobs { list: inbox };
-        let (state, _pass, _seat) = state?;
+        let (state, _taker, _seat) = state?;
         let ready = self.add(state);
         Some(Left {
             pending,

@@ -1,11 +1,12 @@
-//! Inboxes of the executors of one script, with two passes `a` and `b`: `PASS put ROOT NUMBER` for the turn of that number of
-//! a root's task, and `PASS take`. The first line of a case is the number of the executor and the room; at the end the
-//! inbox is drained. The line `two threads COUNT` has two threads that each put and take so many jobs. No book gave these jobs.
+//! Inboxes of the executors of one script, with two passes `a` and `b` and the taker: `PASS put ROOT NUMBER` for the turn of
+//! that number of a root's task, and `take`. The first line of a case is the number of the executor and the room; at the end
+//! the inbox is drained. A line `ROOM COUNT` has two threads, of which one puts twice so many jobs and the other takes them. No
+//! book gave these jobs.
 
 ghost use Rattle.std.specs.Prelude.{◌≡◌, IfOk, None};
 ghost use Rattle.std.specs.Arc.{arc_value};
 ghost use Rattle.swift_turn.specs.Body.{IsRunning};
-ghost use Rattle.swift_inbox.specs.Inbox.{IsPassOf, new_pass};
+ghost use Rattle.swift_inbox.specs.Inbox.{IsPassOf, IsTakerOf, new_pass, new_taker};
 ghost use Rattle.swift_inbox.specs.Site.{CanRunAt};
 
 use crate::fault::CaseFault;
@@ -15,7 +16,7 @@ use std::io::Write;
 use std::sync::{Arc, Wait};
 use std::thread;
 use std::thread::Threads;
-use swift_inbox::{ExecutorSite, Inbox, Pass};
+use swift_inbox::{ExecutorSite, Inbox, Pass, Taker};
 use swift_locals::Bindings;
 use swift_queue::Job;
 use swift_script::{Script, read};
@@ -99,27 +100,22 @@ fn put<R: Wait>(
     }
 }
 
-// What a call on one pass answers.
-fn answer<R: Wait>(
+// Puts the job in that the words tell.
+fn put_told<R: Wait>(
     rt: &R,
     alloc: Global,
     inbox: &Inbox,
     pass: &mut Pass,
-    words: &[&str],
+    root: &str,
+    turn: &str,
 ) -> Result<String, CaseFault>
     requires pass { IsPassOf inbox.now pass.old }
     requires book { inbox.now.site.book ≡ None }
     ensures { IsPassOf inbox.now pass.new }
 {
-    match *words {
-        ["put", root, turn] => {
-            let (root, turn) = (RootId(number(root)?), number(turn)?);
-            let answer = put(rt, alloc, inbox, pass, root, turn)?;
-            Ok(String::from_str(alloc, answer)?)
-        }
-        ["take"] => Ok(shown(alloc, inbox.take(rt, pass))?),
-        _ => Err(CaseFault::Form),
-    }
+    let (root, turn) = (RootId(number(root)?), number(turn)?);
+    let answer = put(rt, alloc, inbox, pass, root, turn)?;
+    Ok(String::from_str(alloc, answer)?)
 }
 
 // What was taken, which is spent.
@@ -133,55 +129,69 @@ fn shown(alloc: Global, taken: Option<TicketedJob>) -> Result<String, AllocError
     }
 }
 
-// What a call of a line answers, by the pass that it names.
-fn answer_by<R: Wait>(
+// What the call of a line answers.
+fn answer<R: Wait>(
     rt: &R,
     alloc: Global,
     inbox: &Inbox,
     a: &mut Pass,
     b: &mut Pass,
+    taker: &mut Taker,
     line: &str,
 ) -> Result<String, CaseFault>
     requires a { IsPassOf inbox.now a.old }
     requires b { IsPassOf inbox.now b.old }
+    requires taker { IsTakerOf inbox.now taker.old }
     requires book { inbox.now.site.book ≡ None }
     ensures a { IsPassOf inbox.now a.new }
     ensures b { IsPassOf inbox.now b.new }
+    ensures taker { IsTakerOf inbox.now taker.new }
 {
     let words: Vec<&str> = line.split(' ').collect(alloc)?;
     match *words {
-        ["a", ref call @ ..] => answer(rt, alloc, inbox, a, call),
-        ["b", ref call @ ..] => answer(rt, alloc, inbox, b, call),
+        ["a", "put", root, turn] => put_told(rt, alloc, inbox, a, root, turn),
+        ["b", "put", root, turn] => put_told(rt, alloc, inbox, b, root, turn),
+        ["take"] => Ok(shown(alloc, inbox.take(rt, taker))?),
         _ => Err(CaseFault::Form),
     }
 }
 
-// Makes the calls of a case by two passes.
+// Makes the calls of a case by two passes and the taker.
 fn calls<R: Wait>(
     rt: &R,
     alloc: Global,
     inbox: &Inbox,
     mut a: Pass,
+    taker: &mut Taker,
     lines: &str,
     out: &mut Vec<u8>,
 ) -> Result<(), CaseFault>
     requires pass { IsPassOf inbox.now a }
+    requires taker { IsTakerOf inbox.now taker.old }
     requires book { inbox.now.site.book ≡ None }
+    ensures { IsTakerOf inbox.now taker.new }
 {
     let mut b = a.split(inbox);
     for line in lines.split('\n') {
-        let answer = answer_by(rt, alloc, inbox, &mut a, &mut b, line)?;
+        let answer = answer(rt, alloc, inbox, &mut a, &mut b, taker, line)?;
         writeln!(out, "{answer}")?;
     }
     Ok(())
 }
 
 // What is inside, the oldest first.
-fn drained<R: Wait>(rt: &R, alloc: Global, inbox: Inbox) -> Result<Vec<(u32, u32)>, CaseFault> {
+fn drained<R: Wait>(
+    rt: &R,
+    alloc: Global,
+    inbox: Inbox,
+    taker: Taker,
+) -> Result<Vec<(u32, u32)>, CaseFault>
+    requires { IsTakerOf inbox taker }
+{
     let room = inbox.room();
     let mut seen = Vec::with_capacity(alloc, room)?;
     let list = Vec::with_capacity(alloc, room)?;
-    let (mut list, _pass) = inbox.drain(rt, list);
+    let (mut list, _taker) = inbox.drain(rt, taker, list);
     while let Some(job) = list.pop() {
         let _ = seen.push(told(job));
     }
@@ -191,8 +201,9 @@ fn drained<R: Wait>(rt: &R, alloc: Global, inbox: Inbox) -> Result<Vec<(u32, u32
 }
 
 // An inbox of an executor of the script.
-fn inbox_of(alloc: Global, executor: ExecId, room: usize) -> Result<(Inbox, Pass), CaseFault>
+fn inbox_of(alloc: Global, executor: ExecId, room: usize) -> Result<(Inbox, Pass, Taker), CaseFault>
     ensures pass { IfOk result (λ r. r.1 ≡ new_pass r.0) }
+    ensures taker { IfOk result (λ r. r.2 ≡ new_taker r.0) }
     ensures book { IfOk result (λ r. r.0.site.book ≡ None) }
 {
     if room == 0 {
@@ -216,9 +227,9 @@ pub fn play_inbox<R: Wait>(
     let Some((executor, room)) = head.split_once(' ') else {
         return Err(CaseFault::Form);
     };
-    let (inbox, pass) = inbox_of(alloc, ExecId(number(executor)?), size(room)?)?;
-    let called = calls(rt, alloc, &inbox, pass, lines, out);
-    let left = drained(rt, alloc, inbox)?;
+    let (inbox, pass, mut taker) = inbox_of(alloc, ExecId(number(executor)?), size(room)?)?;
+    let called = calls(rt, alloc, &inbox, pass, &mut taker, lines, out);
+    let left = drained(rt, alloc, inbox, taker)?;
     called?;
     tell_left(out, &left)
 }
@@ -248,12 +259,12 @@ fn put_at_last<R: Wait>(rt: &R, inbox: &Inbox, pass: &mut Pass, job: TicketedJob
 }
 
 // The number of the next job.
-fn take_at_last<R: Wait>(rt: &R, inbox: &Inbox, pass: &mut Pass) -> u32
-    requires { IsPassOf inbox.now pass.old }
-    ensures { IsPassOf inbox.now pass.new }
+fn take_at_last<R: Wait>(rt: &R, inbox: &Inbox, taker: &mut Taker) -> u32
+    requires { IsTakerOf inbox.now taker.old }
+    ensures { IsTakerOf inbox.now taker.new }
 {
     for _ in rt.forever() {
-        if let Some(job) = inbox.take(rt, pass) {
+        if let Some(job) = inbox.take(rt, taker) {
             return told(job.into_job()).1;
         }
         thread::yield_now();
@@ -261,34 +272,31 @@ fn take_at_last<R: Wait>(rt: &R, inbox: &Inbox, pass: &mut Pass) -> u32
     unreachable!()
 }
 
-// Puts jobs with these numbers in, and takes as many out. The sum of the numbers that came out.
-fn put_and_take<R: Wait>(
+// Puts a job in for each number below this.
+fn put_all<R: Wait>(
     rt: &R,
     alloc: Global,
     inbox: &Inbox,
     mut pass: Pass,
-    first: u32,
     count: u32,
-) -> Result<u64, CaseFault>
+) -> Result<(), CaseFault>
     requires pass { IsPassOf inbox.now pass }
     requires book { inbox.now.site.book ≡ None }
 {
-    let mut sum = 0u64;
-    for place in 0..count {
-        let taken = put_and_take_one(rt, alloc, inbox, &mut pass, first.wrapping_add(place))?;
-        sum = sum.wrapping_add(taken as u64);
+    for number in 0..count {
+        put_one(rt, alloc, inbox, &mut pass, number)?;
     }
-    Ok(sum)
+    Ok(())
 }
 
-// Puts a job with this number in, and takes one out. Its number.
-fn put_and_take_one<R: Wait>(
+// Puts a job with this number in.
+fn put_one<R: Wait>(
     rt: &R,
     alloc: Global,
     inbox: &Inbox,
     pass: &mut Pass,
     number: u32,
-) -> Result<u32, CaseFault>
+) -> Result<(), CaseFault>
     requires pass { IsPassOf inbox.now pass.old }
     requires book { inbox.now.site.book ≡ None }
     ensures { IsPassOf inbox.now pass.new }
@@ -299,37 +307,50 @@ fn put_and_take_one<R: Wait>(
         return Err(CaseFault::Form);
     }
     put_at_last(rt, inbox, pass, made);
-    Ok(take_at_last(rt, inbox, pass))
+    Ok(())
 }
 
-// Two threads put and take. The sums of the numbers that each took.
+// Takes so many jobs out. The sum of their numbers, and the taker.
+fn take_all<R: Wait>(rt: &R, inbox: &Inbox, mut taker: Taker, count: u32) -> (u64, Taker)
+    requires { IsTakerOf inbox.now taker }
+    ensures { IsTakerOf inbox.now result.1 }
+{
+    let mut sum = 0u64;
+    for _ in 0..count {
+        sum = sum.wrapping_add(u64::from(take_at_last(rt, inbox, &mut taker)));
+    }
+    (sum, taker)
+}
+
+// One thread puts, and another takes. The sum of the numbers that came out, and the taker.
 fn by_two_threads<R: Threads + Wait + Sync>(
     rt: &R,
     alloc: Global,
     inbox: &Inbox,
-    a: Pass,
-    b: Pass,
+    pass: Pass,
+    taker: Taker,
     count: u32,
-) -> (Result<u64, CaseFault>, Result<u64, CaseFault>)
-    requires a { IsPassOf inbox.now a }
-    requires b { IsPassOf inbox.now b }
+) -> (Result<(), CaseFault>, (u64, Taker))
+    requires pass { IsPassOf inbox.now pass }
+    requires taker { IsTakerOf inbox.now taker }
     requires book { inbox.now.site.book ≡ None }
+    ensures { IsTakerOf inbox.now result.1.1 }
 {
     thread::join(
         rt,
-        move || -> Result<u64, CaseFault>
-            requires pass { IsPassOf inbox.now a }
+        move || -> Result<(), CaseFault>
+            requires pass { IsPassOf inbox.now pass }
             requires book { inbox.now.site.book ≡ None }
-        { put_and_take(rt, alloc, inbox, a, 0, count) },
-        move || -> Result<u64, CaseFault>
-            requires pass { IsPassOf inbox.now b }
-            requires book { inbox.now.site.book ≡ None }
-        { put_and_take(rt, alloc, inbox, b, count, count) },
+        { put_all(rt, alloc, inbox, pass, count) },
+        move || -> (u64, Taker)
+            requires { IsTakerOf inbox.now taker }
+            ensures { IsTakerOf inbox.now result.1 }
+        { take_all(rt, inbox, taker, count) },
     )
 }
 
-/// Two threads that put and take, by an inbox with this room: whether each job came out once, as far as the sum of their
-/// numbers says.
+/// Two threads, of which one puts and the other takes, by an inbox with this room: whether each job came out once, as far as
+/// the sum of their numbers says.
 pub fn play_threads<R: Threads + Wait + Sync>(
     rt: &R,
     alloc: Global,
@@ -339,12 +360,11 @@ pub fn play_threads<R: Threads + Wait + Sync>(
     let Some((room, count)) = case.split_once(' ') else {
         return Err(CaseFault::Form);
     };
-    let count = number(count)?;
-    let (inbox, mut a) = inbox_of(alloc, ExecId(0), size(room)?)?;
-    let b = a.split(&inbox);
-    let (one, other) = by_two_threads(rt, alloc, &inbox, a, b, count);
-    let left = drained(rt, alloc, inbox)?.len();
-    let sum = one?.wrapping_add(other?);
+    let count = number(count)?.wrapping_mul(2);
+    let (inbox, pass, taker) = inbox_of(alloc, ExecId(0), size(room)?)?;
+    let (put, (sum, taker)) = by_two_threads(rt, alloc, &inbox, pass, taker, count);
+    let left = drained(rt, alloc, inbox, taker)?.len();
+    put?;
     writeln!(out, "sum {sum}, {left} left")?;
     Ok(())
 }

@@ -3,4 +3,4 @@ use Rattle.swift_executor.specs.Exec.{IsAt}
 use Rattle.swift_executor.proofs.run.accept_all.Given as goal
 
 abbrev pub invariant-loop : goal.invariant-loop
-invariant-loop g l = IsAt l.inbox l.held.pass l.held.seat l.held.state × (l.held.state.chosen ≡ None) × (l.held.seat.lock ≡ l.initial.held.seat.lock)
+invariant-loop g l = IsAt l.inbox l.held.taker l.held.seat l.held.state × (l.held.state.chosen ≡ None) × (l.held.seat.lock ≡ l.initial.held.seat.lock)
