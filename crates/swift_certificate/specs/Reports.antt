@@ -10,6 +10,6 @@ report_view r = record {
   journals = r.journals.items;
   checkpoints = map (λ c. c.view) r.checkpoints.items;
   fields = map (λ rows. rows_of rows.items) r.fields.items;
-  log = r.log.items;
+  log = r.log.events;
   endings = r.endings.items;
 }

@@ -18,6 +18,7 @@ use crate::replay::Replay;
 use std::alloc::{AllocError, Global};
 use swift_events::{Event, Origin};
 use swift_journal::{Checkpoint, Journal};
+use swift_log::EventLog;
 use swift_report::Report;
 use swift_script::Script;
 use swift_tasks::Book;
@@ -30,14 +31,16 @@ fn is_same_event(event: &Event, other: &Event) -> bool
 }
 
 // Whether a log is this one.
-fn is_same_log(log: &[Event], other: &[Event]) -> bool
-    ensures { IsTrue result → log.now ≡ other.now }
+fn is_same_log(log: &EventLog, other: &EventLog) -> bool
+    ensures { IsTrue result → log.now.events ≡ other.now.events }
 {
     if log.len() != other.len() {
         return false;
     }
     for place in 0..log.len() {
-        if !is_same_event(&log[place], &other[place]) {
+        let event = log.event(place);
+        let same = other.event(place);
+        if !is_same_event(&event, &same) {
             return false;
         }
     }

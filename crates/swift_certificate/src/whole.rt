@@ -66,7 +66,7 @@ fn follow(replay: &mut Replay, report: &Report) -> Result<bool, AllocError>
 {
     for place in 0..report.log.len() {
         // The book has written the rest of a block by itself.
-        if place >= replay.book.log().len() && !replay.step(report, report.log[place])? {
+        if place >= replay.book.log().len() && !replay.step(report, report.log.event(place))? {
             return Ok(false);
         }
     }

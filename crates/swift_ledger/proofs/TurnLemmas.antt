@@ -1,7 +1,6 @@
 -- A begin, an apply and a give change nothing of what is kept of a log but the life of their task.
 use Rattle.std.proofs.Common.{◌≡◌, ℕ, ◌+◌, ◌-◌, ◌<◌, ◌≤◌, List, [], ◌∷◌, ◌++◌, Bool, true, false, set, get_or, length, refl, subst, sym, ◌∙◌, ap, arith}
-use Rattle.std.specs.Prelude.{None, vec_len, vec_capacity}
-use Rattle.std.specs.Global.{Vec}
+use Rattle.std.specs.Prelude.{None}
 use Rattle.std.specs.HashMap.{get}
 use Rattle.std.proofs.lemmas.Bool.{false≢true}
 use Rattle.swift_events.specs.declared.event.Event.{Event}
@@ -12,6 +11,7 @@ use Rattle.swift_events.specs.Lives.{life_of, lived, is_open, room_held}
 use Rattle.swift_events.specs.Relations.{own_tasks, waiters_of, link_in, links_of}
 use Rattle.swift_events.proofs.LogLemmas.{length-lives_of, links_of-push_none}
 use Rattle.swift_events.proofs.Cancels.{NamesNothingNew}
+use Rattle.swift_log.specs.Logs.{LogView}
 use Rattle.swift_ledger.specs.Ledgers.{CanNote}
 use Rattle.swift_ledger.specs.WellFormed.{IsWellFormed}
 use Rattle.swift_ledger.specs.Lives.{AreLives}
@@ -157,27 +157,24 @@ lives_follow l m roots log e read before held form can turn are at holds there l
     }
 
 -- the room for one event is used up
-pub room_left : (a : Indexes) (l : Lives) (n : ℕ) → HasSpare a n → ((k : ℕ) → lives.HasSpare a.lives k → lives.HasSpare l k) → HasSpare (record a { lives = l }) (n - 1)
-room_left a l n has more = record {
-  lives = more (n - 1) (let room = has.lives in omega (arith, room));
-  flags = (let room = has.flags in omega (arith, room));
-  own = (let room = has.own in (λ (some : 0 < n - 1). room.0 (omega (arith, some)), omega (arith, room.1)));
-  waiters = (let room = has.waiters in (λ (some : 0 < n - 1). room.0 (omega (arith, some)), omega (arith, room.1)));
-  waits = (let room = has.waits in omega (arith, room));
-  groups = (let room = has.groups in omega (arith, room));
+pub room_left : (a : Indexes) (l : Lives) (n m : ℕ) → m + 1 ≡ n → HasSpare a n → ((k : ℕ) → lives.HasSpare a.lives k → lives.HasSpare l k) → HasSpare (record a { lives = l }) m
+room_left a l n m less has more = record {
+  lives = more m (let room = has.lives in omega (arith, room, less));
+  flags = (let room = has.flags in omega (arith, room, less));
+  own = (let room = has.own in (λ (some : 0 < m). room.0 (omega (arith, some, less)), omega (arith, room.1, less)));
+  waiters = (let room = has.waiters in (λ (some : 0 < m). room.0 (omega (arith, some, less)), omega (arith, room.1, less)));
+  waits = (let room = has.waits in omega (arith, room, less));
+  groups = (let room = has.groups in omega (arith, room, less));
 }
 
 -- the whole ledger, where the event stands at the end of the log and the lives follow it
-pub ledger_follows : (s : Inside) (l : Lives) (log : Vec Event) (e : Event) → IsLedger s → CanNote s.roots s.log.items e → is_of_turn e ≡ true → 0 < s.spare
-    → AreLives l s.roots (s.log.items ++ e ∷ []) → ((n : ℕ) → lives.HasSpare s.indexes.lives n → lives.HasSpare l n)
-    → log.items ≡ s.log.items ++ e ∷ [] → vec_len log ≡ vec_len s.log + 1 → vec_capacity log ≡ vec_capacity s.log
-    → IsLedger (record s { log = log; indexes = record s.indexes { lives = l }; spare = s.spare - 1 })
-ledger_follows s l log e is can turn some lives more items len capacity =
-    let room = is.log_room in
-    record {
-      form = subst (IsWellFormed s.roots) (sym items) (form_push s.roots s.log.items e is.form can);
-      indexes = subst (AreIndexes (record s.indexes { lives = l }) s.roots) (sym items) (indexes_stay s.indexes l s.roots s.log.items e is.form can turn is.indexes lives);
-      log_room = omega (arith, some, room, len, capacity);
-      indexes_room = room_left s.indexes l s.spare is.indexes_room more;
-      levels = subst (KeepsLevels s.levels) (sym items) (keeps_levels s.levels s.log.items e turn is.levels);
-    }
+pub ledger_follows : (s : Inside) (l : Lives) (log : LogView) (e : Event) → IsLedger s → CanNote s.roots s.log.events e → is_of_turn e ≡ true
+    → AreLives l s.roots (s.log.events ++ e ∷ []) → ((n : ℕ) → lives.HasSpare s.indexes.lives n → lives.HasSpare l n)
+    → log.events ≡ s.log.events ++ e ∷ [] → log.room + 1 ≡ s.log.room
+    → IsLedger (record s { log = log; indexes = record s.indexes { lives = l } })
+ledger_follows s l log e is can turn lives more events room = record {
+  form = subst (IsWellFormed s.roots) (sym events) (form_push s.roots s.log.events e is.form can);
+  indexes = subst (AreIndexes (record s.indexes { lives = l }) s.roots) (sym events) (indexes_stay s.indexes l s.roots s.log.events e is.form can turn is.indexes lives);
+  indexes_room = room_left s.indexes l s.log.room log.room room is.indexes_room more;
+  levels = subst (KeepsLevels s.levels) (sym events) (keeps_levels s.levels s.log.events e turn is.levels);
+}

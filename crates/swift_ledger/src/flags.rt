@@ -12,6 +12,7 @@ ghost use Rattle.swift_ledger.specs.Flags.{AreFlags, HasSpare, HasNoChildren, is
 
 use std::alloc::{AllocError, Global};
 use swift_events::{Event, Life, Origin};
+use swift_log::EventLog;
 use swift_types::TaskId;
 
 /// Whether each task is cancelled, by its number (SE-0304).
@@ -111,20 +112,20 @@ impl Flags {
     pub(crate) fn note(
         &mut self,
         roots: usize,
-        log: &[Event],
+        log: &EventLog,
         lives: &[Life],
         event: Event,
         is_named: bool,
         has_children: bool,
     )
-        requires flags { AreFlags self.old roots log.now }
-        requires lives { lives.now ≡ lives_of (tasks_of roots log.now) log.now }
-        requires log { IsWellFormed roots log.now }
-        requires fits { CanNote roots log.now event }
-        requires named { is_named ≡ is_named_in log.now event }
-        requires children { has_children ≡ false → HasNoChildren log.now event }
+        requires flags { AreFlags self.old roots log.now.events }
+        requires lives { lives.now ≡ lives_of (tasks_of roots log.now.events) log.now.events }
+        requires log { IsWellFormed roots log.now.events }
+        requires fits { CanNote roots log.now.events event }
+        requires named { is_named ≡ is_named_in log.now.events event }
+        requires children { has_children ≡ false → HasNoChildren log.now.events event }
         requires spare { HasSpare self.old 1 }
-        ensures flags { AreFlags self.new roots (log.now ++ event ∷ []) }
+        ensures flags { AreFlags self.new roots (log.now.events ++ event ∷ []) }
         ensures spare { (n : ℕ) → HasSpare self.old (n + 1) → HasSpare self.new n }
     {
         if event.makes_task() {
@@ -179,14 +180,14 @@ impl Flags {
     }
 
     /// Adds the task that an event makes.
-    fn add(&mut self, roots: usize, log: &[Event], event: Event, is_named: bool)
-        requires flags { AreFlags self.old roots log.now }
-        requires log { IsWellFormed roots log.now }
-        requires fits { CanNote roots log.now event }
+    fn add(&mut self, roots: usize, log: &EventLog, event: Event, is_named: bool)
+        requires flags { AreFlags self.old roots log.now.events }
+        requires log { IsWellFormed roots log.now.events }
+        requires fits { CanNote roots log.now.events event }
         requires made { is_made event ≡ true }
-        requires named { is_named ≡ is_named_in log.now event }
+        requires named { is_named ≡ is_named_in log.now.events event }
         requires spare { HasSpare self.old 1 }
-        ensures flags { AreFlags self.new roots (log.now ++ event ∷ []) }
+        ensures flags { AreFlags self.new roots (log.now.events ++ event ∷ []) }
         ensures spare { (n : ℕ) → HasSpare self.old (n + 1) → HasSpare self.new n }
     {
         let is_cancelled = self.is_born_cancelled(event, is_named);
@@ -213,13 +214,13 @@ impl Flags {
     }
 
     /// Marks the tasks that a cancel reaches, in one pass.
-    fn spread(&mut self, roots: usize, log: &[Event], lives: &[Life], event: Event)
-        requires flags { AreFlags self.old roots log.now }
-        requires lives { lives.now ≡ lives_of (tasks_of roots log.now) log.now }
-        requires log { IsWellFormed roots log.now }
-        requires fits { CanNote roots log.now event }
+    fn spread(&mut self, roots: usize, log: &EventLog, lives: &[Life], event: Event)
+        requires flags { AreFlags self.old roots log.now.events }
+        requires lives { lives.now ≡ lives_of (tasks_of roots log.now.events) log.now.events }
+        requires log { IsWellFormed roots log.now.events }
+        requires fits { CanNote roots log.now.events event }
         requires known { is_made event ≡ false }
-        ensures flags { AreFlags self.new roots (log.now ++ event ∷ []) }
+        ensures flags { AreFlags self.new roots (log.now.events ++ event ∷ []) }
         ensures spare { (n : ℕ) → HasSpare self.old n → HasSpare self.new n }
     {
         for task in 0..self.flags.len() {

@@ -17,6 +17,7 @@ use std::alloc::{AllocError, Global};
 use std::collections::HashMap;
 use swift_events::Event;
 use swift_groups::{Close, GroupId, Groups, Next};
+use swift_log::EventLog;
 use swift_types::{Ending, TaskId};
 
 /// What is kept of a group beside the groups themselves.
@@ -94,9 +95,9 @@ impl GroupIndex {
     }
 
     /// The place of a group that was opened.
-    fn place_of(&self, log: &[Event], owner: TaskId, group: u32) -> usize
-        requires groups { AreGroupsOf self.now log.now }
-        requires opened { group < opened_by owner.0 log.now }
+    fn place_of(&self, log: &EventLog, owner: TaskId, group: u32) -> usize
+        requires groups { AreGroupsOf self.now log.now.events }
+        requires opened { group < opened_by owner.0 log.now.events }
         ensures place { place_in self.now owner group ≡ Some result }
         ensures within { result < length self.now.held.items }
     {
@@ -107,17 +108,17 @@ impl GroupIndex {
     }
 
     /// How many groups a task has opened.
-    pub fn opened(&self, log: &[Event], owner: TaskId) -> usize
-        requires { AreGroupsOf self.now log.now }
-        ensures { result ≡ opened_by owner.0 log.now }
+    pub fn opened(&self, log: &EventLog, owner: TaskId) -> usize
+        requires { AreGroupsOf self.now log.now.events }
+        ensures { result ≡ opened_by owner.0 log.now.events }
     {
         self.counts.get(owner)
     }
 
     /// Whether a task has opened its group of this number, and not closed it.
-    pub fn is_open_group(&self, log: &[Event], owner: TaskId, group: u32) -> bool
-        requires { AreGroupsOf self.now log.now }
-        ensures { result ≡ is_open_group owner.0 group log.now }
+    pub fn is_open_group(&self, log: &EventLog, owner: TaskId, group: u32) -> bool
+        requires { AreGroupsOf self.now log.now.events }
+        ensures { result ≡ is_open_group owner.0 group log.now.events }
     {
         match self.place(owner, group) {
             Some(place) => !self.held[place].is_closed,
@@ -126,9 +127,9 @@ impl GroupIndex {
     }
 
     /// Whether a cancel has named a group; one that was not opened is not named.
-    pub fn is_named(&self, log: &[Event], owner: TaskId, group: u32) -> bool
-        requires { AreGroupsOf self.now log.now }
-        ensures { result ≡ is_named_group owner.0 group log.now }
+    pub fn is_named(&self, log: &EventLog, owner: TaskId, group: u32) -> bool
+        requires { AreGroupsOf self.now log.now.events }
+        ensures { result ≡ is_named_group owner.0 group log.now.events }
     {
         match self.place(owner, group) {
             Some(place) => self.held[place].is_named,
@@ -137,9 +138,9 @@ impl GroupIndex {
     }
 
     /// Whether a child was added to a group; one that was not opened has none.
-    pub fn has_children(&self, log: &[Event], owner: TaskId, group: u32) -> bool
-        requires { AreGroupsOf self.now log.now }
-        ensures { result ≡ has_any (children_of owner.0 group log.now) }
+    pub fn has_children(&self, log: &EventLog, owner: TaskId, group: u32) -> bool
+        requires { AreGroupsOf self.now log.now.events }
+        ensures { result ≡ has_any (children_of owner.0 group log.now.events) }
     {
         match self.place(owner, group) {
             Some(place) => self.held[place].has_children,
@@ -148,10 +149,10 @@ impl GroupIndex {
     }
 
     /// What asking an open group for its next result would give (SE-0304).
-    pub fn next_of(&self, log: &[Event], owner: TaskId, group: u32) -> Next
-        requires groups { AreGroupsOf self.now log.now }
-        requires is_open { IsTrue (is_open_group owner.0 group log.now) }
-        ensures { result ≡ next_of (group_of owner.0 group log.now) }
+    pub fn next_of(&self, log: &EventLog, owner: TaskId, group: u32) -> Next
+        requires groups { AreGroupsOf self.now log.now.events }
+        requires is_open { IsTrue (is_open_group owner.0 group log.now.events) }
+        ensures { result ≡ next_of (group_of owner.0 group log.now.events) }
     {
         let place = self.place_of(log, owner, group);
         let Ok(next) = self.groups.peek_next(GroupId(place)) else {
@@ -161,9 +162,9 @@ impl GroupIndex {
     }
 
     /// Whether each child of a group has ended; a group that was not opened has none.
-    pub fn close_of(&self, log: &[Event], owner: TaskId, group: u32) -> Close
-        requires { AreGroupsOf self.now log.now }
-        ensures { result ≡ close_of (group_of owner.0 group log.now) }
+    pub fn close_of(&self, log: &EventLog, owner: TaskId, group: u32) -> Close
+        requires { AreGroupsOf self.now log.now.events }
+        ensures { result ≡ close_of (group_of owner.0 group log.now.events) }
     {
         let Some(place) = self.place(owner, group) else {
             return Close::Done;
@@ -177,12 +178,12 @@ impl GroupIndex {
     /// One more event of the log, which is not in `log` yet. Of an ending, `parent` is the owner and the group of the
     /// task, if it is a child; with other events it is not looked at. Takes no memory, and of the room that is reserved
     /// at most that of one event.
-    pub fn note(&mut self, log: &[Event], event: Event, parent: Option<(TaskId, u32)>)
-        requires groups { AreGroupsOf self.old log.now }
-        requires fits { FitsGroups log.now event }
-        requires parent { IsParentIn log.now event parent }
+    pub fn note(&mut self, log: &EventLog, event: Event, parent: Option<(TaskId, u32)>)
+        requires groups { AreGroupsOf self.old log.now.events }
+        requires fits { FitsGroups log.now.events event }
+        requires parent { IsParentIn log.now.events event parent }
         requires spare { 0 < self.old.spare }
-        ensures groups { AreGroupsOf self.new (log.now ++ event ∷ []) }
+        ensures groups { AreGroupsOf self.new (log.now.events ++ event ∷ []) }
         ensures spare { self.old.spare ≤ self.new.spare + 1 }
     {
         match event {
@@ -201,12 +202,12 @@ impl GroupIndex {
     }
 
     /// The owner opens its next group.
-    fn open_group(&mut self, log: &[Event], owner: TaskId, group: u32)
-        requires groups { AreGroupsOf self.old log.now }
-        requires number { group ≡ opened_by owner.0 log.now }
+    fn open_group(&mut self, log: &EventLog, owner: TaskId, group: u32)
+        requires groups { AreGroupsOf self.old log.now.events }
+        requires number { group ≡ opened_by owner.0 log.now.events }
         requires known { owner.0 < TASKS }
         requires spare { 0 < self.old.spare }
-        ensures groups { AreGroupsOf self.new (log.now ++ Event.Open owner group ∷ []) }
+        ensures groups { AreGroupsOf self.new (log.now.events ++ Event.Open owner group ∷ []) }
         ensures spare { self.old.spare ≡ self.new.spare + 1 }
     {
         let Ok(id) = self.groups.open(owner) else {
@@ -227,12 +228,12 @@ impl GroupIndex {
     }
 
     /// A new task is added to an open group.
-    fn add_child(&mut self, log: &[Event], task: TaskId, owner: TaskId, group: u32)
-        requires groups { AreGroupsOf self.old log.now }
-        requires new { events_of task.0 log.now ≡ [] }
-        requires is_open { IsTrue (is_open_group owner.0 group log.now) }
+    fn add_child(&mut self, log: &EventLog, task: TaskId, owner: TaskId, group: u32)
+        requires groups { AreGroupsOf self.old log.now.events }
+        requires new { events_of task.0 log.now.events ≡ [] }
+        requires is_open { IsTrue (is_open_group owner.0 group log.now.events) }
         requires spare { 0 < self.old.spare }
-        ensures groups { (p : Level) → AreGroupsOf self.new (log.now ++ Event.Child task owner group p ∷ []) }
+        ensures groups { (p : Level) → AreGroupsOf self.new (log.now.events ++ Event.Child task owner group p ∷ []) }
         ensures spare { self.old.spare ≡ self.new.spare + 1 }
     {
         let place = self.place_of(log, owner, group);
@@ -248,10 +249,10 @@ impl GroupIndex {
     }
 
     /// A cancel names an open group.
-    fn cancel_group(&mut self, log: &[Event], owner: TaskId, group: u32)
-        requires groups { AreGroupsOf self.old log.now }
-        requires is_open { IsTrue (is_open_group owner.0 group log.now) }
-        ensures groups { AreGroupsOf self.new (log.now ++ Event.CancelGroup owner group ∷ []) }
+    fn cancel_group(&mut self, log: &EventLog, owner: TaskId, group: u32)
+        requires groups { AreGroupsOf self.old log.now.events }
+        requires is_open { IsTrue (is_open_group owner.0 group log.now.events) }
+        ensures groups { AreGroupsOf self.new (log.now.events ++ Event.CancelGroup owner group ∷ []) }
         ensures spare { self.old.spare ≡ self.new.spare }
     {
         let place = self.place_of(log, owner, group);
@@ -264,10 +265,10 @@ impl GroupIndex {
     }
 
     /// One more result of an open group is asked for, and handed out if there is one.
-    fn ask(&mut self, log: &[Event], owner: TaskId, group: u32)
-        requires groups { AreGroupsOf self.old log.now }
-        requires is_open { IsTrue (is_open_group owner.0 group log.now) }
-        ensures groups { AreGroupsOf self.new (log.now ++ Event.Next owner group ∷ []) }
+    fn ask(&mut self, log: &EventLog, owner: TaskId, group: u32)
+        requires groups { AreGroupsOf self.old log.now.events }
+        requires is_open { IsTrue (is_open_group owner.0 group log.now.events) }
+        ensures groups { AreGroupsOf self.new (log.now.events ++ Event.Next owner group ∷ []) }
         ensures spare { self.old.spare ≡ self.new.spare }
     {
         let place = self.place_of(log, owner, group);
@@ -281,10 +282,10 @@ impl GroupIndex {
     }
 
     /// The owner closes an open group.
-    fn close_group(&mut self, log: &[Event], owner: TaskId, group: u32)
-        requires groups { AreGroupsOf self.old log.now }
-        requires is_open { IsTrue (is_open_group owner.0 group log.now) }
-        ensures groups { AreGroupsOf self.new (log.now ++ Event.Close owner group ∷ []) }
+    fn close_group(&mut self, log: &EventLog, owner: TaskId, group: u32)
+        requires groups { AreGroupsOf self.old log.now.events }
+        requires is_open { IsTrue (is_open_group owner.0 group log.now.events) }
+        ensures groups { AreGroupsOf self.new (log.now.events ++ Event.Close owner group ∷ []) }
         ensures spare { self.old.spare ≡ self.new.spare }
     {
         let place = self.place_of(log, owner, group);
@@ -297,11 +298,11 @@ impl GroupIndex {
     }
 
     /// A child of a group has ended.
-    fn end_child(&mut self, log: &[Event], task: TaskId, ending: Ending, owner: TaskId, group: u32)
-        requires groups { AreGroupsOf self.old log.now }
-        requires alive { (life_of task.0 log.now).ending ≡ None }
-        requires parent { parent_of task.0 log.now ≡ Some (owner.0, group) }
-        ensures groups { AreGroupsOf self.new (log.now ++ Event.End task ending ∷ []) }
+    fn end_child(&mut self, log: &EventLog, task: TaskId, ending: Ending, owner: TaskId, group: u32)
+        requires groups { AreGroupsOf self.old log.now.events }
+        requires alive { (life_of task.0 log.now.events).ending ≡ None }
+        requires parent { parent_of task.0 log.now.events ≡ Some (owner.0, group) }
+        ensures groups { AreGroupsOf self.new (log.now.events ++ Event.End task ending ∷ []) }
         ensures spare { self.old.spare ≡ self.new.spare }
     {
         let place = self.place_of(log, owner, group);

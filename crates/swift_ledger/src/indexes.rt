@@ -21,6 +21,7 @@ use crate::relatives::{note_own, note_waiter};
 use std::alloc::{AllocError, Global};
 use swift_escalation::Waits;
 use swift_events::{Event, Life, Origin};
+use swift_log::EventLog;
 use swift_types::TaskId;
 
 /// What is read of a log at once.
@@ -81,9 +82,9 @@ impl Indexes {
     }
 
     /// Whether a cancel has named the group that an event adds a child to, or cancels.
-    fn is_named_in(&self, log: &[Event], event: Event) -> bool
-        requires { AreGroupsOf self.now.groups log.now }
-        ensures { result ≡ is_named_in log.now event }
+    fn is_named_in(&self, log: &EventLog, event: Event) -> bool
+        requires { AreGroupsOf self.now.groups log.now.events }
+        ensures { result ≡ is_named_in log.now.events event }
     {
         match event {
             Event::Child(_, owner, group, _) => self.groups.is_named(log, owner, group),
@@ -104,9 +105,9 @@ impl Indexes {
     }
 
     /// Whether the group that an event cancels has children.
-    fn has_children_in(&self, log: &[Event], event: Event) -> bool
-        requires { AreGroupsOf self.now.groups log.now }
-        ensures { result ≡ false → HasNoChildren log.now event }
+    fn has_children_in(&self, log: &EventLog, event: Event) -> bool
+        requires { AreGroupsOf self.now.groups log.now.events }
+        ensures { result ≡ false → HasNoChildren log.now.events event }
     {
         match event {
             Event::CancelGroup(owner, group) => self.groups.has_children(log, owner, group),
@@ -127,10 +128,10 @@ impl Indexes {
     }
 
     /// The owner and the group of the task that an event ends, if it is a child.
-    fn parent_in(&self, roots: usize, log: &[Event], event: Event) -> Option<(TaskId, u32)>
-        requires lives { AreLives self.now.lives roots log.now }
-        requires log { IsWellFormed roots log.now }
-        ensures { IsParentIn log.now event result }
+    fn parent_in(&self, roots: usize, log: &EventLog, event: Event) -> Option<(TaskId, u32)>
+        requires lives { AreLives self.now.lives roots log.now.events }
+        requires log { IsWellFormed roots log.now.events }
+        ensures { IsParentIn log.now.events event result }
     {
         match event {
             Event::End(task, _) => {
@@ -155,13 +156,13 @@ impl Indexes {
 
     /// Follows the log by one event. Of a begin, an apply and a give no index but the lives has to know, which follow them by
     /// calls of their own.
-    pub(crate) fn note(&mut self, roots: usize, log: &[Event], event: Event)
-        requires indexes { AreIndexes self.old roots log.now }
-        requires log { IsWellFormed roots log.now }
-        requires fits { CanNote roots log.now event }
-        requires short { length log.now + 1 < 2 ^ 64 }
+    pub(crate) fn note(&mut self, roots: usize, log: &EventLog, event: Event)
+        requires indexes { AreIndexes self.old roots log.now.events }
+        requires log { IsWellFormed roots log.now.events }
+        requires fits { CanNote roots log.now.events event }
+        requires short { length log.now.events + 1 < 2 ^ 64 }
         requires spare { HasSpare self.old 1 }
-        ensures indexes { AreIndexes self.new roots (log.now ++ event ∷ []) }
+        ensures indexes { AreIndexes self.new roots (log.now.events ++ event ∷ []) }
         ensures spare { (n : ℕ) → HasSpare self.old (n + 1) → HasSpare self.new n }
     {
         let is_named = self.is_named_in(log, event);

@@ -22,6 +22,7 @@ use std::alloc::{AllocError, Global};
 use std::marker::Model;
 use swift_events::{Event, Life};
 use swift_groups::{Close, Next};
+use swift_log::EventLog;
 use swift_types::limits::{MADE, TASKS};
 use swift_types::{Priority, Resume, TaskId};
 
@@ -32,10 +33,9 @@ const EVENTS_AT_ONCE: usize = 64;
 /// three calls that it makes for the events of a turn.
 pub struct Ledger {
     roots: usize,
-    log: Vec<Event>,
+    // Its room is that for which the indexes have room too.
+    log: EventLog,
     indexes: Indexes,
-    // How many more events find memory for sure.
-    spare: usize,
     levels: Levels,
 }
 
@@ -45,7 +45,6 @@ impl Drop for Ledger {
             roots: _,
             log,
             indexes,
-            spare: _,
             levels,
         } = self;
         drop(log);
@@ -61,7 +60,7 @@ impl Model for Ledger {
 
     ghost use Rattle.swift_ledger.specs.LedgerInside.{IsLedger};
 
-    ghost view = { λ a. record { roots = a.roots; log = a.log.items; spare = a.spare } };
+    ghost view = { λ a. record { roots = a.roots; log = a.log.events; spare = a.log.room } };
 
     ghost invariant = { IsLedger };
 }
@@ -76,16 +75,15 @@ impl Ledger {
     {
         Ok(Ledger {
             roots,
-            log: Vec::new(alloc),
+            log: EventLog::new(alloc),
             indexes: Indexes::new(alloc, roots)?,
-            spare: 0,
             levels: Levels::new(alloc)?,
         })
     }
 
     /// All events so far, the oldest first.
-    pub fn log(&self) -> &[Event]
-        ensures { result.now ≡ self.now.log }
+    pub fn log(&self) -> &EventLog
+        ensures { result.now.events ≡ self.now.log }
     {
         &self.log
     }
@@ -252,14 +250,12 @@ impl Ledger {
         ensures ok { OnOk result (events ≤ self.new.spare) }
         ensures more { self.old.spare ≤ self.new.spare }
     {
-        if events <= self.spare {
+        if events <= self.log.room() {
             return Ok(());
         }
         let room = events.max(EVENTS_AT_ONCE);
-        self.log.reserve(room)?;
         self.indexes.reserve(room)?;
-        self.spare = room;
-        Ok(())
+        self.log.reserve(room)
     }
 
     /// Writes one event, and takes no memory. Constant time but for two kinds of events: a wait may raise priorities,
@@ -294,8 +290,7 @@ impl Ledger {
         self.indexes
             .lives
             .begin(self.roots, &self.log, task, number, env);
-        self.log.push_reserved(Event::Begin(task, number, env));
-        self.spare -= 1;
+        self.log.push(Event::Begin(task, number, env));
     }
 
     /// Writes that a turn of a task has ended, whose room is free from here on (our own). Takes no memory, and constant time.
@@ -310,8 +305,7 @@ impl Ledger {
         self.indexes
             .lives
             .apply(self.roots, &self.log, task, number);
-        self.log.push_reserved(Event::Apply(task, number));
-        self.spare -= 1;
+        self.log.push(Event::Apply(task, number));
     }
 
     /// Writes that a job is made for a turn of a task, and what the turn begins with (our own). Takes no memory, and constant
@@ -327,8 +321,7 @@ impl Ledger {
         self.indexes
             .lives
             .give(self.roots, &self.log, task, number, resume);
-        self.log.push_reserved(Event::Give(task, number, resume));
-        self.spare -= 1;
+        self.log.push(Event::Give(task, number, resume));
     }
 
     /// Writes an event that each index is asked about.
@@ -341,20 +334,19 @@ impl Ledger {
     {
         self.levels
             .note(&self.indexes.waits, self.roots, &self.log, event);
+        prove!(self.log.len() < 1 << 63);
         self.indexes.note(self.roots, &self.log, event);
-        self.log.push_reserved(event);
-        self.spare -= 1;
+        self.log.push(event);
     }
 
     /// Gives the log up.
-    pub fn close(self) -> Vec<Event>
-        ensures { result.items ≡ self.log }
+    pub fn close(self) -> EventLog
+        ensures { result.events ≡ self.log }
     {
         let Ledger {
             roots: _,
             log,
             indexes: _,
-            spare: _,
             levels: _,
         } = self;
         log

@@ -13,6 +13,7 @@ use crate::links::link_of;
 use std::alloc::{AllocError, Global};
 use swift_escalation::Waits;
 use swift_events::Event;
+use swift_log::EventLog;
 use swift_types::TaskId;
 use swift_types::limits::TASKS;
 
@@ -36,11 +37,11 @@ impl Levels {
     }
 
     /// Follows the log by one event, which the waits do not have yet.
-    pub(crate) fn note(&mut self, waits: &Waits, roots: usize, log: &[Event], event: Event)
-        requires kept { KeepsLevels self.old log.now }
-        requires links { waits.now.events ≡ links_of log.now }
-        requires fits { CanNote roots log.now event }
-        ensures { KeepsLevels self.new (log.now ++ event ∷ []) }
+    pub(crate) fn note(&mut self, waits: &Waits, roots: usize, log: &EventLog, event: Event)
+        requires kept { KeepsLevels self.old log.now.events }
+        requires links { waits.now.events ≡ links_of log.now.events }
+        requires fits { CanNote roots log.now.events event }
+        ensures { KeepsLevels self.new (log.now.events ++ event ∷ []) }
     {
         if may_change(waits, roots, log, event) {
             self.stale = true;
@@ -48,13 +49,13 @@ impl Levels {
     }
 
     /// Fills the list anew, if it is stale. So many numbers of tasks are taken.
-    pub(crate) fn refresh(&mut self, waits: &Waits, log: &[Event], tasks: usize)
-        requires kept { KeepsLevels self.old log.now }
-        requires links { waits.now.events ≡ links_of log.now }
-        requires known { (t : TaskId) → IsMade log.now t → t.0 < tasks }
+    pub(crate) fn refresh(&mut self, waits: &Waits, log: &EventLog, tasks: usize)
+        requires kept { KeepsLevels self.old log.now.events }
+        requires links { waits.now.events ≡ links_of log.now.events }
+        requires known { (t : TaskId) → IsMade log.now.events t → t.0 < tasks }
         requires few { tasks ≤ TASKS }
-        ensures kept { KeepsLevels self.new log.now }
-        ensures fresh { AreLevels log.now self.new.levels.items }
+        ensures kept { KeepsLevels self.new log.now.events }
+        ensures fresh { AreLevels log.now.events self.new.levels.items }
     {
         if self.stale {
             fill_from(&mut self.levels, waits, log, tasks);
@@ -71,10 +72,10 @@ impl Levels {
 }
 
 // Whether an event may change a level: it makes a task, or it is a wait for a task that is less urgent than the waiter.
-fn may_change(waits: &Waits, roots: usize, log: &[Event], event: Event) -> bool
-    requires links { waits.now.events ≡ links_of log.now }
-    requires fits { CanNote roots log.now event }
-    ensures { result ≡ false → (levels : List ℕ) → AreLevels log.now levels → AreLevels (log.now ++ event ∷ []) levels }
+fn may_change(waits: &Waits, roots: usize, log: &EventLog, event: Event) -> bool
+    requires links { waits.now.events ≡ links_of log.now.events }
+    requires fits { CanNote roots log.now.events event }
+    ensures { result ≡ false → (levels : List ℕ) → AreLevels log.now.events levels → AreLevels (log.now.events ++ event ∷ []) levels }
 {
     if let Event::Wait(task, awaited) = event {
         return level_of(waits, log, awaited) < level_of(waits, log, task);
@@ -83,9 +84,9 @@ fn may_change(waits: &Waits, roots: usize, log: &[Event], event: Event) -> bool
 }
 
 // The level of a task.
-fn level_of(waits: &Waits, log: &[Event], task: TaskId) -> u8
-    requires { waits.now.events ≡ links_of log.now }
-    ensures { IsLevel log.now task result }
+fn level_of(waits: &Waits, log: &EventLog, task: TaskId) -> u8
+    requires { waits.now.events ≡ links_of log.now.events }
+    ensures { IsLevel log.now.events task result }
 {
     match waits.priority(task) {
         Some(priority) => priority.number() + 1,
@@ -94,12 +95,12 @@ fn level_of(waits: &Waits, log: &[Event], task: TaskId) -> u8
 }
 
 // The level of each task, into a list that has room.
-fn fill_from(levels: &mut Vec<u8>, waits: &Waits, log: &[Event], tasks: usize)
-    requires links { waits.now.events ≡ links_of log.now }
-    requires known { (t : TaskId) → IsMade log.now t → t.0 < tasks }
+fn fill_from(levels: &mut Vec<u8>, waits: &Waits, log: &EventLog, tasks: usize)
+    requires links { waits.now.events ≡ links_of log.now.events }
+    requires known { (t : TaskId) → IsMade log.now.events t → t.0 < tasks }
     requires few { tasks ≤ TASKS }
     requires room { TASKS ≤ vec_capacity levels.old }
-    ensures levels { AreLevels log.now levels.new.items }
+    ensures levels { AreLevels log.now.events levels.new.items }
     ensures room { TASKS ≤ vec_capacity levels.new }
 {
     levels.clear();

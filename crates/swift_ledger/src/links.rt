@@ -10,6 +10,7 @@ ghost use Rattle.swift_ledger.specs.Links.{CanLink};
 use std::alloc::AllocError;
 use swift_escalation::{Event as Link, Waits};
 use swift_events::Event;
+use swift_log::EventLog;
 
 /// What an event is for priorities, if it is anything.
 pub(crate) fn link_of(event: Event) -> Option<Link>
@@ -46,12 +47,12 @@ pub(crate) fn reserve_links(waits: &mut Waits, calls: usize) -> Result<(), Alloc
 }
 
 /// Follows the log by one event.
-pub(crate) fn note_link(waits: &mut Waits, roots: usize, log: &[Event], event: Event)
-    requires links { waits.old.events ≡ links_of log.now }
-    requires log { IsWellFormed roots log.now }
-    requires fits { CanNote roots log.now event }
+pub(crate) fn note_link(waits: &mut Waits, roots: usize, log: &EventLog, event: Event)
+    requires links { waits.old.events ≡ links_of log.now.events }
+    requires log { IsWellFormed roots log.now.events }
+    requires fits { CanNote roots log.now.events event }
     requires spare { 0 < waits.old.reserved }
-    ensures links { waits.new.events ≡ links_of (log.now ++ event ∷ []) }
+    ensures links { waits.new.events ≡ links_of (log.now.events ++ event ∷ []) }
     ensures spare { waits.old.reserved ≤ waits.new.reserved + 1 }
 {
     if let Some(link) = link_of(event) {

@@ -13,6 +13,7 @@ ghost use Rattle.swift_ledger.specs.Lives.{AreLives, HasSpare};
 use script_code::Env;
 use std::alloc::{AllocError, Global};
 use swift_events::{Event, Given, Life, Stage};
+use swift_log::EventLog;
 use swift_types::{Resume, TaskId};
 
 /// What the log says of each task, how many of them are open, and the room that is reserved for their turns.
@@ -99,12 +100,12 @@ impl Lives {
     }
 
     /// Follows the log by one event.
-    pub(crate) fn note(&mut self, roots: usize, log: &[Event], event: Event)
-        requires lives { AreLives self.old roots log.now }
-        requires log { IsWellFormed roots log.now }
-        requires fits { CanNote roots log.now event }
+    pub(crate) fn note(&mut self, roots: usize, log: &EventLog, event: Event)
+        requires lives { AreLives self.old roots log.now.events }
+        requires log { IsWellFormed roots log.now.events }
+        requires fits { CanNote roots log.now.events event }
         requires spare { HasSpare self.old 1 }
-        ensures lives { AreLives self.new roots (log.now ++ event ∷ []) }
+        ensures lives { AreLives self.new roots (log.now.events ++ event ∷ []) }
         ensures spare { (n : ℕ) → HasSpare self.old (n + 1) → HasSpare self.new n }
     {
         if event.makes_task() {
@@ -115,13 +116,13 @@ impl Lives {
     }
 
     /// Adds the task that the event makes.
-    fn add(&mut self, roots: usize, log: &[Event], event: Event)
-        requires lives { AreLives self.old roots log.now }
-        requires log { IsWellFormed roots log.now }
-        requires fits { CanNote roots log.now event }
+    fn add(&mut self, roots: usize, log: &EventLog, event: Event)
+        requires lives { AreLives self.old roots log.now.events }
+        requires log { IsWellFormed roots log.now.events }
+        requires fits { CanNote roots log.now.events event }
         requires made { is_made event ≡ true }
         requires spare { HasSpare self.old 1 }
-        ensures lives { AreLives self.new roots (log.now ++ event ∷ []) }
+        ensures lives { AreLives self.new roots (log.now.events ++ event ∷ []) }
         ensures spare { (n : ℕ) → HasSpare self.old (n + 1) → HasSpare self.new n }
     {
         self.open_tasks += 1;
@@ -129,12 +130,12 @@ impl Lives {
     }
 
     /// Changes what is known of the event's task.
-    fn change(&mut self, roots: usize, log: &[Event], event: Event)
-        requires lives { AreLives self.old roots log.now }
-        requires log { IsWellFormed roots log.now }
-        requires fits { CanNote roots log.now event }
+    fn change(&mut self, roots: usize, log: &EventLog, event: Event)
+        requires lives { AreLives self.old roots log.now.events }
+        requires log { IsWellFormed roots log.now.events }
+        requires fits { CanNote roots log.now.events event }
         requires known { is_made event ≡ false }
-        ensures lives { AreLives self.new roots (log.now ++ event ∷ []) }
+        ensures lives { AreLives self.new roots (log.now.events ++ event ∷ []) }
         ensures spare { (n : ℕ) → HasSpare self.old n → HasSpare self.new n }
     {
         let place = event.task().0 as usize;
@@ -146,11 +147,18 @@ impl Lives {
     }
 
     /// Follows the log by the beginning of a turn, whose room is reserved.
-    pub(crate) fn begin(&mut self, roots: usize, log: &[Event], task: TaskId, number: u32, env: Env)
-        requires lives { AreLives self.old roots log.now }
-        requires log { IsWellFormed roots log.now }
-        requires fits { CanNote roots log.now (Event.Begin task number env) }
-        ensures lives { AreLives self.new roots (log.now ++ Event.Begin task number env ∷ []) }
+    pub(crate) fn begin(
+        &mut self,
+        roots: usize,
+        log: &EventLog,
+        task: TaskId,
+        number: u32,
+        env: Env,
+    )
+        requires lives { AreLives self.old roots log.now.events }
+        requires log { IsWellFormed roots log.now.events }
+        requires fits { CanNote roots log.now.events (Event.Begin task number env) }
+        ensures lives { AreLives self.new roots (log.now.events ++ Event.Begin task number env ∷ []) }
         ensures spare { (n : ℕ) → HasSpare self.old n → HasSpare self.new n }
     {
         let place = task.0 as usize;
@@ -159,11 +167,11 @@ impl Lives {
     }
 
     /// Follows the log by the end of a turn, whose room is free.
-    pub(crate) fn apply(&mut self, roots: usize, log: &[Event], task: TaskId, number: u32)
-        requires lives { AreLives self.old roots log.now }
-        requires log { IsWellFormed roots log.now }
-        requires fits { CanNote roots log.now (Event.Apply task number) }
-        ensures lives { AreLives self.new roots (log.now ++ Event.Apply task number ∷ []) }
+    pub(crate) fn apply(&mut self, roots: usize, log: &EventLog, task: TaskId, number: u32)
+        requires lives { AreLives self.old roots log.now.events }
+        requires log { IsWellFormed roots log.now.events }
+        requires fits { CanNote roots log.now.events (Event.Apply task number) }
+        ensures lives { AreLives self.new roots (log.now.events ++ Event.Apply task number ∷ []) }
         ensures spare { (n : ℕ) → HasSpare self.old n → HasSpare self.new n }
     {
         let place = task.0 as usize;
@@ -175,15 +183,15 @@ impl Lives {
     pub(crate) fn give(
         &mut self,
         roots: usize,
-        log: &[Event],
+        log: &EventLog,
         task: TaskId,
         number: u32,
         resume: Resume,
     )
-        requires lives { AreLives self.old roots log.now }
-        requires log { IsWellFormed roots log.now }
-        requires fits { CanNote roots log.now (Event.Give task number resume) }
-        ensures lives { AreLives self.new roots (log.now ++ Event.Give task number resume ∷ []) }
+        requires lives { AreLives self.old roots log.now.events }
+        requires log { IsWellFormed roots log.now.events }
+        requires fits { CanNote roots log.now.events (Event.Give task number resume) }
+        ensures lives { AreLives self.new roots (log.now.events ++ Event.Give task number resume ∷ []) }
         ensures spare { (n : ℕ) → HasSpare self.old n → HasSpare self.new n }
     {
         let place = task.0 as usize;

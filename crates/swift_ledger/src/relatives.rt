@@ -10,6 +10,7 @@ ghost use Rattle.swift_ledger.specs.Relatives.{own_pair, waiter_pair};
 
 use crate::lists::Lists;
 use swift_events::Event;
+use swift_log::EventLog;
 use swift_types::TaskId;
 
 /// The maker and the task where an event is the spawn or the detach of a task.
@@ -57,13 +58,13 @@ fn waiter_pair(event: Event) -> Option<(TaskId, TaskId)>
 }
 
 /// Keeps the tasks that each task has spawned or detached, by one event.
-pub(crate) fn note_own(own: &mut Lists, roots: usize, log: &[Event], event: Event)
-    requires own { AreLists own.old (λ t. own_tasks t log.now) }
-    requires log { IsWellFormed roots log.now }
-    requires fits { CanNote roots log.now event }
-    requires short { length log.now + 1 < 2 ^ 64 }
+pub(crate) fn note_own(own: &mut Lists, roots: usize, log: &EventLog, event: Event)
+    requires own { AreLists own.old (λ t. own_tasks t log.now.events) }
+    requires log { IsWellFormed roots log.now.events }
+    requires fits { CanNote roots log.now.events event }
+    requires short { length log.now.events + 1 < 2 ^ 64 }
     requires spare { HasSpare own.old 1 }
-    ensures own { AreLists own.new (λ t. own_tasks t (log.now ++ event ∷ [])) }
+    ensures own { AreLists own.new (λ t. own_tasks t (log.now.events ++ event ∷ [])) }
     ensures spare { (n : ℕ) → HasSpare own.old (n + 1) → HasSpare own.new n }
 {
     if let Some((by, made)) = own_pair(event) {
@@ -72,13 +73,13 @@ pub(crate) fn note_own(own: &mut Lists, roots: usize, log: &[Event], event: Even
 }
 
 /// Keeps the tasks that have waited for each task, by one event.
-pub(crate) fn note_waiter(waiters: &mut Lists, roots: usize, log: &[Event], event: Event)
-    requires waiters { AreLists waiters.old (λ t. waiters_of t log.now) }
-    requires log { IsWellFormed roots log.now }
-    requires fits { CanNote roots log.now event }
-    requires short { length log.now + 1 < 2 ^ 64 }
+pub(crate) fn note_waiter(waiters: &mut Lists, roots: usize, log: &EventLog, event: Event)
+    requires waiters { AreLists waiters.old (λ t. waiters_of t log.now.events) }
+    requires log { IsWellFormed roots log.now.events }
+    requires fits { CanNote roots log.now.events event }
+    requires short { length log.now.events + 1 < 2 ^ 64 }
     requires spare { HasSpare waiters.old 1 }
-    ensures waiters { AreLists waiters.new (λ t. waiters_of t (log.now ++ event ∷ [])) }
+    ensures waiters { AreLists waiters.new (λ t. waiters_of t (log.now.events ++ event ∷ [])) }
     ensures spare { (n : ℕ) → HasSpare waiters.old (n + 1) → HasSpare waiters.new n }
 {
     if let Some((awaited, waiter)) = waiter_pair(event) {

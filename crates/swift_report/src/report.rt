@@ -1,7 +1,8 @@
 //! Reports of runs.
 
-use swift_events::{Event, Origin};
+use swift_events::Origin;
 use swift_journal::{Checkpoint, Journal};
+use swift_log::EventLog;
 use swift_types::Ending;
 
 /// What a run leaves.
@@ -11,7 +12,7 @@ pub struct Report {
     /// The checkpoint of each executor, in the same order: what is left of the turns before its journal.
     pub checkpoints: Vec<Checkpoint>,
     /// What happened to tasks, in order.
-    pub log: Vec<Event>,
+    pub log: EventLog,
     /// Where each task comes from, and how it ended, in the order of tasks.
     pub endings: Vec<(Origin, Ending)>,
     /// The fields of the actors of each executor, in the order of executors, and of each one's actors in text order.

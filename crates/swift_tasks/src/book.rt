@@ -17,8 +17,9 @@ use script_code::Env;
 use std::alloc::Global;
 use std::marker::Model;
 use std::sync::Arc;
-use swift_events::{Event, Origin, Stage};
+use swift_events::{Origin, Stage};
 use swift_ledger::Ledger;
+use swift_log::EventLog;
 use swift_queue::Job;
 use swift_script::Script;
 use swift_turn::Body;
@@ -87,8 +88,8 @@ impl Book {
     }
 
     /// All events so far, the oldest first.
-    pub fn log(&self) -> &[Event]
-        ensures { result.now ≡ self.now.log }
+    pub fn log(&self) -> &EventLog
+        ensures { result.now.events ≡ self.now.log }
     {
         self.ledger.log()
     }

@@ -28,6 +28,7 @@ use std::sync::Arc;
 use swift_events::Event;
 use swift_ledger::Ledger;
 use swift_locals::Bindings;
+use swift_log::EventLog;
 use swift_queue::Job;
 use swift_script::Script;
 use swift_turn::Body;
@@ -123,8 +124,8 @@ impl Book {
 
     /// Gives up the log, and the job of each task that still waits, by the number of the task. Such a job goes on where its
     /// task has waited, as if that were over; its turn is never begun by this book. It takes no memory.
-    pub fn close(self) -> (Vec<Event>, Vec<Job<Body>>)
-        ensures log { result.0.items ≡ self.log }
+    pub fn close(self) -> (EventLog, Vec<Job<Body>>)
+        ensures log { result.0.events ≡ self.log }
         ensures jobs { map job_view result.1.items ≡ jobs_held 0 self.held }
         ensures bodies { AllByRecursion (IsJobOf self.script) result.1.items }
     {

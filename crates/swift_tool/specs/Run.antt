@@ -51,7 +51,7 @@ pub record IsRunOf (bytes : List ℕ) (quiet : Bool) (text : List ℕ) (well : B
   pub checkpoints : length report.checkpoints.items ≡ executor_count script
   pub fields : length report.fields.items ≡ executor_count script
   pub invariants : HoldInvariants script 0 report.fields.items
-  pub endings : AreEndings (root_count script) report.log.items report.endings.items
+  pub endings : AreEndings (root_count script) report.log.events report.endings.items
   pub ended : well ≡ end_well report.endings.items
   pub printed : text ≡ report_text script report quiet
 

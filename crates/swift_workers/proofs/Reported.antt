@@ -66,7 +66,7 @@ as_many f (x ∷ xs) = ap suc (as_many f xs)
 
 -- the parts of all executors, the log of the book and the endings are a report of it
 reported : (facts : BookFacts) (v : SeatView) (r : Report) (parts : Parts) → AreParts facts.script v (executor_count facts.script) parts → r.journals ≡ parts.journals → r.checkpoints ≡ parts.checkpoints → r.fields ≡ parts.fields
-    → r.log.items ≡ facts.log → AreEndings (root_count facts.script) r.log.items r.endings.items → IsReportOf facts v (report_view r)
+    → r.log.events ≡ facts.log → AreEndings (root_count facts.script) r.log.events r.endings.items → IsReportOf facts v (report_view r)
 reported facts v r parts are js cs fs log ends =
     let p = facts.script in
     let roots = root_count p in
@@ -79,19 +79,19 @@ reported facts v r parts are js cs fs log ends =
           (accounted_at p v 0 e parts.checkpoints.items parts.journals.items parts.fields.items journal checkpoint fields are.accounts
           (ap (λ x. slice_get x.items e) (sym js) ∙ at_j) (ap (λ x. slice_get (map (λ (c : CheckpointRoom). c.view) x.items) e) (sym cs) ∙ at_c) (ap (λ x. slice_get (map (λ (rows : Rows). rows_of rows.items) x.items) e) (sym fs) ∙ at_f));
       tasks = ends.many;
-      endings = λ t x at. ((ending_at roots r.log.items r.endings.items t x ends.each at).origin, (ending_at roots r.log.items r.endings.items t x ends.each at).ending);
+      endings = λ t x at. ((ending_at roots r.log.events r.endings.items t x ends.each at).origin, (ending_at roots r.log.events r.endings.items t x ends.each at).ending);
       groups = λ t g lt opened.
           (let some = some_at r.endings.items t lt in
-          (ending_at roots r.log.items r.endings.items t some.0 ends.each some.1).groups g opened);
+          (ending_at roots r.log.events r.endings.items t some.0 ends.each some.1).groups g opened);
     }
 
 -- Where all accounts are in one seat, which has added all roots, that report is legal.
 pub is_legal : (laws : RunsAreLegal) (facts : BookFacts) (p : ScriptView) (v : SeatView) (r : Report) (parts : Parts) → Knows v facts → facts.script ≡ p → v.maker ≡ Some (record { executors = executor_count p; roots = root_count p })
     → AreParts p v (executor_count p) parts → r.journals ≡ parts.journals → r.checkpoints ≡ parts.checkpoints → r.fields ≡ parts.fields
-    → r.log.items ≡ facts.log → AreEndings (root_count p) r.log.items r.endings.items → IsLegal p (report_view r)
+    → r.log.events ≡ facts.log → AreEndings (root_count p) r.log.events r.endings.items → IsLegal p (report_view r)
 is_legal laws facts p v r parts knows script maker are js cs fs log ends =
     let back = sym script in
     let maker_of : v.maker ≡ Some (record { executors = executor_count facts.script; roots = root_count facts.script }) = subst (λ (x : ScriptView). v.maker ≡ Some (record { executors = executor_count x; roots = root_count x })) back maker in
     let parts_of = subst (λ (x : ScriptView). AreParts x v (executor_count x) parts) back are in
-    let ends_of = subst (λ (x : ScriptView). AreEndings (root_count x) r.log.items r.endings.items) back ends in
+    let ends_of = subst (λ (x : ScriptView). AreEndings (root_count x) r.log.events r.endings.items) back ends in
     subst (λ (x : ScriptView). IsLegal x (report_view r)) script (laws facts v (report_view r) knows.1 maker_of (reported facts v r parts parts_of js cs fs log ends_of))

@@ -17,9 +17,10 @@ use crate::sending::give_all_up;
 use std::alloc::Global;
 use std::sync::Wait;
 use swift_course::laws::runs_are_legal;
-use swift_events::{Event, Origin};
+use swift_events::Origin;
 use swift_executor::{Closed, Exec, ExecState};
 use swift_journal::{Checkpoint, Journal};
+use swift_log::EventLog;
 use swift_report::Report;
 use swift_script::Script;
 use swift_shared_book::{BookLock, BookSeat};
@@ -27,12 +28,12 @@ use swift_tasks::Book;
 use swift_types::{Ending, TaskId};
 
 // How many tasks there are by a log: those of the roots, and those that were made since.
-fn tasks_in(roots: usize, log: &[Event]) -> Option<usize>
-    ensures { IfSome result (λ tasks. tasks ≡ tasks_of roots log.now) }
+fn tasks_in(roots: usize, log: &EventLog) -> Option<usize>
+    ensures { IfSome result (λ tasks. tasks ≡ tasks_of roots log.now.events) }
 {
     let mut tasks = roots;
-    for event in log {
-        if event.makes_task() {
+    for place in 0..log.len() {
+        if log.event(place).makes_task() {
             tasks = tasks.checked_add(1)?;
         }
     }
@@ -88,8 +89,8 @@ fn ends_of(
     alloc: Global,
     script: &Script,
     book: Book,
-) -> Result<(Vec<Event>, Vec<(Origin, Ending)>), Halt>
-    ensures log { IfOk result (λ r. r.0.items ≡ book.log) }
+) -> Result<(EventLog, Vec<(Origin, Ending)>), Halt>
+    ensures log { IfOk result (λ r. r.0.events ≡ book.log) }
     ensures endings { IfOk result (λ r. AreEndings (root_count script.now) book.log r.1.items) }
 {
     let endings = endings_of(alloc, script, &book);
@@ -121,7 +122,7 @@ impl Drop for Parts {
 
 impl Parts {
     // The report that has these parts, and what the book leaves.
-    fn into_report(self, log: Vec<Event>, endings: Vec<(Origin, Ending)>) -> Report
+    fn into_report(self, log: EventLog, endings: Vec<(Origin, Ending)>) -> Report
         ensures parts { (result.journals ≡ self.journals) × (result.checkpoints ≡ self.checkpoints) × (result.fields ≡ self.fields) }
         ensures ends { (result.log ≡ log) × (result.endings ≡ endings) }
     {
@@ -241,7 +242,7 @@ pub fn report_of<R: Wait>(
     ensures journals { IfOk result (λ r. length r.journals.items ≡ executor_count script.now) }
     ensures checkpoints { IfOk result (λ r. length r.checkpoints.items ≡ executor_count script.now) }
     ensures fields { IfOk result (λ r. length r.fields.items ≡ executor_count script.now) }
-    ensures endings { IfOk result (λ r. AreEndings (root_count script.now) r.log.items r.endings.items) }
+    ensures endings { IfOk result (λ r. AreEndings (root_count script.now) r.log.events r.endings.items) }
 {
     played?;
     runs_are_legal();

@@ -65,7 +65,7 @@ where
     ensures checkpoints { IfOk result (λ r. length r.checkpoints.items ≡ executor_count (arc_value script)) }
     ensures fields { IfOk result (λ r. length r.fields.items ≡ executor_count (arc_value script)) }
     // The log says of each task where it comes from and how it has ended. The first tasks are the roots, in order of declaration.
-    ensures endings { IfOk result (λ r. AreEndings (root_count (arc_value script)) r.log.items r.endings.items) }
+    ensures endings { IfOk result (λ r. AreEndings (root_count (arc_value script)) r.log.events r.endings.items) }
 {
     if workers == 0 || workers as usize > WORKERS {
         return Err(RunFault::Workers);
@@ -84,7 +84,7 @@ where
     ensures journals { IfOk result (λ r. length r.journals.items ≡ executor_count (arc_value script.now)) }
     ensures checkpoints { IfOk result (λ r. length r.checkpoints.items ≡ executor_count (arc_value script.now)) }
     ensures fields { IfOk result (λ r. length r.fields.items ≡ executor_count (arc_value script.now)) }
-    ensures endings { IfOk result (λ r. AreEndings (root_count (arc_value script.now)) r.log.items r.endings.items) }
+    ensures endings { IfOk result (λ r. AreEndings (root_count (arc_value script.now)) r.log.events r.endings.items) }
 {
     let alloc = rt.alloc();
     let (book, mut seat) = shared_book(alloc, script)?;

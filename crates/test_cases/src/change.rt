@@ -6,6 +6,7 @@ use script_code::Env;
 use std::alloc::{AllocError, Global};
 use swift_events::{Event, Origin};
 use swift_journal::{Checkpoint, Journal};
+use swift_log::EventLog;
 use swift_report::Report;
 use swift_types::{Ending, TaskId};
 
@@ -19,7 +20,7 @@ pub fn make(alloc: Global, report: &mut Report, words: &str) -> Result<(), CaseF
         "nothing" => {}
         "field" => set_field(&mut report.fields, value),
         "records" => set_journal(&mut report.journals, Journal::new(alloc)),
-        "end" => set_ends(&mut report.log, value),
+        "end" => end_all(alloc, report, value)?,
         "ending" => set_ending(&mut report.endings, Ending::Value(value)),
         "origin" => set_origin(&mut report.endings, Origin::Detached(TaskId(0))),
         "cancel" => cancel(alloc, report)?,
@@ -47,12 +48,22 @@ fn set_journal(journals: &mut [Journal], journal: Journal) {
 }
 
 // Each task that ends by the log ends with this value.
-fn set_ends(log: &mut [Event], value: i64) {
-    for event in log.iter_mut() {
-        if let Event::End(task, _) = *event {
-            *event = Event::End(task, Ending::Value(value));
+fn end_all(alloc: Global, report: &mut Report, value: i64) -> Result<(), AllocError> {
+    let log = with_ends(alloc, &report.log, value)?;
+    report.log = log;
+    Ok(())
+}
+
+// The same events, by which each task that ends ends with this value.
+fn with_ends(alloc: Global, log: &EventLog, value: i64) -> Result<EventLog, AllocError> {
+    let mut changed = Vec::new(alloc);
+    for place in 0..log.len() {
+        match log.event(place) {
+            Event::End(task, _) => changed.push(Event::End(task, Ending::Value(value)))?,
+            other => changed.push(other)?,
         }
     }
+    EventLog::from_events(alloc, &changed)
 }
 
 fn set_ending(endings: &mut [(Origin, Ending)], ending: Ending) {
@@ -75,10 +86,10 @@ fn cancel(alloc: Global, report: &mut Report) -> Result<(), AllocError> {
 }
 
 // The same events, and before the first of them that begins a turn that task 0 is cancelled.
-fn with_cancel(alloc: Global, log: &[Event]) -> Result<Vec<Event>, AllocError> {
+fn with_cancel(alloc: Global, log: &EventLog) -> Result<EventLog, AllocError> {
     let mut changed = Vec::new(alloc);
-    for (place, event) in log.iter().enumerate() {
-        match *event {
+    for place in 0..log.len() {
+        match log.event(place) {
             Event::Begin(task, number, env) if place < 4 => {
                 changed.push(Event::CancelTask(TaskId(0)))?;
                 changed.push(Event::Begin(task, number, with_flag(env)))?;
@@ -86,7 +97,7 @@ fn with_cancel(alloc: Global, log: &[Event]) -> Result<Vec<Event>, AllocError> {
             other => changed.push(other)?,
         }
     }
-    Ok(changed)
+    EventLog::from_events(alloc, &changed)
 }
 
 // The same, of a task that was cancelled.

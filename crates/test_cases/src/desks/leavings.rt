@@ -9,6 +9,7 @@ use crate::fault::CaseFault;
 use std::alloc::{AllocError, Global};
 use std::sync::Wait;
 use swift_executor::{Closed, ExecState};
+use swift_log::EventLog;
 use swift_report::{Report, report_text};
 
 /// The turns and fields that executors leave, in the order in which they were closed.
@@ -41,7 +42,7 @@ impl Leavings {
         let report = Report {
             journals,
             checkpoints,
-            log: Vec::new(alloc),
+            log: EventLog::new(alloc),
             endings: Vec::new(alloc),
             fields,
         };

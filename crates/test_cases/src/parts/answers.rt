@@ -4,7 +4,7 @@ use crate::fault::CaseFault;
 use crate::parts::show;
 use std::alloc::AllocError;
 use std::fmt::Write;
-use swift_events::Event;
+use swift_log::EventLog;
 use swift_queue::Job;
 use swift_script::Script;
 use swift_tasks::BookFault;
@@ -17,10 +17,10 @@ pub fn refused(out: &mut String, fault: BookFault) -> Result<(), CaseFault> {
 }
 
 /// The events from this place on, each a line.
-pub fn told_events(out: &mut String, log: &[Event], from: usize) -> Result<(), AllocError> {
-    for event in log.iter().skip(from) {
+pub fn told_events(out: &mut String, log: &EventLog, from: usize) -> Result<(), AllocError> {
+    for place in from..log.len() {
         out.push_str("\n  ")?;
-        show::event(out, *event)?;
+        show::event(out, log.event(place))?;
     }
     Ok(())
 }

@@ -2,4 +2,4 @@ use Rattle.std.proofs.Common.{◌≡◌, take}
 use Rattle.swift_certificate.proofs.ends.is_same_log.Given as goal
 
 abbrev pub invariant-loop-place : goal.invariant-loop-place
-invariant-loop-place l = take l.place l.log ≡ take l.place l.other
+invariant-loop-place l = take l.place l.log.events ≡ take l.place l.other.events

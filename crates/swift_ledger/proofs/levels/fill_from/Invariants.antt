@@ -7,7 +7,7 @@ use Rattle.swift_ledger.proofs.levels.fill_from.Given as goal
 
 abbrev pub invariant-fill : goal.invariant-fill
 invariant-fill l = record {
-  each : (t : TaskId) → t.0 < length l.levels.items → IsLevel l.log t (slice_index_or l.levels.items t.0 0);
+  each : (t : TaskId) → t.0 < length l.levels.items → IsLevel l.log.events t (slice_index_or l.levels.items t.0 0);
   few : vec_len l.levels ≤ l.tasks;
   room : TASKS ≤ vec_capacity l.levels;
 }

@@ -6,4 +6,4 @@ use Rattle.swift_ledger.proofs.LevelLemmas.{none_level}
 use Rattle.swift_ledger.proofs.levels.level_of.Goals as goal
 
 pub returns-in-None : goal.returns-in-None
-returns-in-None c = none_level c.args.log.now c.args.task (λ known. false≢true (c.in-None.ensures.known.1 (subst (λ (es : List Link). IsKnown es c.args.task) (sym c.requires) known)))
+returns-in-None c = none_level c.args.log.now.events c.args.task (λ known. false≢true (c.in-None.ensures.known.1 (subst (λ (es : List Link). IsKnown es c.args.task) (sym c.requires) known)))

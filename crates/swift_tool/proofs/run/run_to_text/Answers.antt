@@ -25,7 +25,7 @@ returns-clause-text g c =
       checkpoints = c.in_ok-report.ensures.checkpoints ∙ ap executor_count same;
       fields = c.in_ok-report.ensures.fields ∙ ap executor_count same;
       invariants = invariants_hold c.in_ok-found.found c.in_ok-report.report.fields.items c.facts.ensures.starts (subst (λ (p : ScriptView). KeepInvariants p 0 c.in_ok-report.report.fields.items) same c.in_ok-report.ensures.invariants);
-      endings = subst (λ (p : ScriptView). AreEndings (root_count p) c.in_ok-report.report.log.items c.in_ok-report.report.endings.items) same c.in_ok-report.ensures.endings;
+      endings = subst (λ (p : ScriptView). AreEndings (root_count p) c.in_ok-report.report.log.events c.in_ok-report.report.endings.items) same c.in_ok-report.ensures.endings;
       ended = c.all_ended_well-is_well.ensures ∙ ap end_well c.deref-2.ensures.value;
       printed = c.in_ok-text.ensures ∙ ap (λ (p : ScriptView). report_text p c.in_ok-report.report c.args.quiet) (lent ∙ made);
     }

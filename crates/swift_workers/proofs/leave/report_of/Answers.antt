@@ -24,8 +24,8 @@ returns-clause-legal g c =
     let said : c.args.seat.knows.maker ≡ Some all = subst (λ (o : Result (Unit {0}) Halt). OnOk o (c.args.seat.knows.maker ≡ Some all)) c.in_ok-played.was c.requires.maker in
     let of_script = subst (λ (x : ScriptView). AreParts x v (length c.args.execs.items) parts) c.requires.script c.in_ok-parts.ensures.parts in
     let are = subst (λ (n : ℕ). AreParts p v n parts) c.requires.many of_script in
-    let log : r.log.items ≡ facts.log = ap (λ l. l.items) c.into_report.ensures.ends.0 ∙ c.in_ok-log.ensures.log in
+    let log : r.log.events ≡ facts.log = ap (λ l. l.events) c.into_report.ensures.ends.0 ∙ c.in_ok-log.ensures.log in
     let of_log = subst (λ (l : List Event). AreEndings roots l c.in_ok-log.endings.items) (sym log) c.in_ok-log.ensures.endings in
-    let ends = subst (λ (es : List (Origin × Ending)). AreEndings roots r.log.items es) (sym (ap (λ e. e.items) c.into_report.ensures.ends.1)) of_log in
+    let ends = subst (λ (es : List (Origin × Ending)). AreEndings roots r.log.events es) (sym (ap (λ e. e.items) c.into_report.ensures.ends.1)) of_log in
     is_legal c.runs_are_legal.ensures facts p v r parts c.in-Some.ensures.knows (c.in-Some.ensures.script ∙ c.requires.script) (c.in_ok-parts.ensures.maker ∙ said) are c.into_report.ensures.parts.0 c.into_report.ensures.parts.1
     c.into_report.ensures.parts.2 log ends

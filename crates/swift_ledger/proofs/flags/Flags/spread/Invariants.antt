@@ -3,4 +3,4 @@ use Rattle.swift_ledger.specs.Flags.{AreMarked}
 use Rattle.swift_ledger.proofs.flags.Flags.spread.Given as goal
 
 abbrev pub invariant-loop-task : goal.invariant-loop-task
-invariant-loop-task l = AreMarked l.self.flags.items l.task (tasks_of l.roots l.log) l.log l.event
+invariant-loop-task l = AreMarked l.self.flags.items l.task (tasks_of l.roots l.log.events) l.log.events l.event

@@ -4,5 +4,5 @@ use Rattle.swift_ledger.proofs.group_index.GroupIndex.cancel_group.Goals as goal
 
 pub returns-clause-groups : goal.returns-clause-groups
 returns-clause-groups c =
-    cancel-step c.args.self.now _ c.args.log.now c.args.owner c.args.group c.place_of-place.result c.index-held.result.now c.requires.groups c.requires.is_open c.place_of-place.ensures.place c.index-held.ensures
+    cancel-step c.args.self.now _ c.args.log.now.events c.args.owner c.args.group c.place_of-place.result c.index-held.result.now c.requires.groups c.requires.is_open c.place_of-place.ensures.place c.index-held.ensures
     c.cancel_all.ensures.after refl refl refl refl refl refl

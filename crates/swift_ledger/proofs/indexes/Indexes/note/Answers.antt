@@ -18,7 +18,7 @@ pub note-requires-clause-flags : goal.note-requires-clause-flags
 note-requires-clause-flags c = c.requires.indexes.flags
 
 pub note-requires-clause-lives : goal.note-requires-clause-lives
-note-requires-clause-lives c = c.lives.ensures c.args.roots c.args.log.now c.requires.indexes.lives
+note-requires-clause-lives c = c.lives.ensures c.args.roots c.args.log.now.events c.requires.indexes.lives
 
 pub note-requires-clause-log : goal.note-requires-clause-log
 note-requires-clause-log c = c.requires.log
@@ -40,7 +40,7 @@ note-requires-2-clause-groups c = c.requires.indexes.groups
 
 pub note-requires-2-clause-fits : goal.note-requires-2-clause-fits
 note-requires-2-clause-fits c =
-    fits-groups c.args.roots c.args.log.now c.args.event c.requires.log c.requires.fits
+    fits-groups c.args.roots c.args.log.now.events c.args.event c.requires.log c.requires.fits
 
 pub note-requires-2-clause-parent : goal.note-requires-2-clause-parent
 note-requires-2-clause-parent c = c.parent_in-parent.ensures

@@ -1,6 +1,5 @@
-use Rattle.std.proofs.Common.{List, ap, ◌∙◌}
+use Rattle.std.proofs.Common.{ap, ◌∙◌}
 use Rattle.swift_groups.specs.Next.{next_of}
-use Rattle.swift_events.specs.declared.event.Event.{Event}
 use Rattle.swift_events.specs.Relations.{group_of}
 use Rattle.swift_ledger.specs.Ledgers.{LedgerView}
 use Rattle.swift_ledger.proofs.ledger.Ledger.next_of.Goals as goal
@@ -8,5 +7,4 @@ use Rattle.swift_ledger.proofs.ledger.Ledger.next_of.Goals as goal
 pub returns : goal.returns
 returns c =
     c.next_of.ensures
-    ∙ ap (λ (es : List Event). next_of (group_of c.args.owner.0 c.args.group es)) c.deref.ensures.value
     ∙ ap (λ (b : LedgerView). next_of (group_of c.args.owner.0 c.args.group b.log)) c.self.view_is

@@ -1,10 +1,9 @@
-use Rattle.std.proofs.Common.{◌≡◌, ◌+◌, ◌<◌, List, [], ◌∷◌, ◌++◌, refl, subst, sym}
+use Rattle.std.proofs.Common.{◌≡◌, ◌+◌, List, refl, subst, sym}
 use Rattle.swift_events.specs.declared.event.Event.{Event}
 use Rattle.swift_events.specs.declared.event.Event.TheVariants.{Begin}
 use Rattle.swift_events.specs.Lives.{life_of, room_held}
 use Rattle.swift_events.specs.Room.{reserved_of}
 use Rattle.swift_ledger.specs.Ledgers.{LedgerView, CanNote}
-use Rattle.swift_ledger.specs.Lives.{AreLives}
 use Rattle.swift_ledger.proofs.FormLemmas.{reserved_push}
 use Rattle.swift_ledger.proofs.TurnLemmas.{ledger_follows}
 use Rattle.swift_ledger.proofs.ledger.Ledger.note_begin.Goals as goal
@@ -13,16 +12,14 @@ pub invariant_of-self : goal.invariant_of-self
 invariant_of-self c =
     let s = c.self.inside in
     let e : Event = Begin c.args.task c.args.number c.args.env in
-    let fits : CanNote s.roots s.log.items e = subst (λ (b : LedgerView). CanNote b.roots b.log e) (sym c.self.view_is) c.requires.fits in
-    let some : 0 < s.spare = subst (λ (b : LedgerView). 0 < b.spare) (sym c.self.view_is) c.requires.spare in
-    let lives : AreLives c.begin.new.self s.roots (s.log.items ++ e ∷ []) = subst (λ (es : List Event). AreLives c.begin.new.self s.roots (es ++ e ∷ [])) c.deref.ensures.value c.begin.ensures.lives in
-    ledger_follows s c.begin.new.self c.push_reserved.new.self e c.self.invariant fits refl some lives c.begin.ensures.spare c.push_reserved.ensures.items c.push_reserved.ensures.len c.push_reserved.ensures.capacity
+    let fits : CanNote s.roots s.log.events e = subst (λ (b : LedgerView). CanNote b.roots b.log e) (sym c.self.view_is) c.requires.fits in
+    ledger_follows s c.begin.new.self c.push.new.self e c.self.invariant fits refl c.begin.ensures.lives c.begin.ensures.spare c.push.ensures.events c.push.ensures.room
 
 pub returns-clause-reserved : goal.returns-clause-reserved
 returns-clause-reserved c =
     let s = c.self.inside in
     let e : Event = Begin c.args.task c.args.number c.args.env in
-    let fits : CanNote s.roots s.log.items e = subst (λ (b : LedgerView). CanNote b.roots b.log e) (sym c.self.view_is) c.requires.fits in
-    subst (λ (b : LedgerView). reserved_of s.roots c.push_reserved.new.self.items + room_held (life_of c.args.task.0 b.log) ≡ reserved_of b.roots b.log + room_held (life_of c.args.task.0 c.push_reserved.new.self.items)) c.self.view_is
-    (subst (λ (es : List Event). reserved_of s.roots es + room_held (life_of c.args.task.0 s.log.items) ≡ reserved_of s.roots s.log.items + room_held (life_of c.args.task.0 es)) (sym c.push_reserved.ensures.items)
-    (reserved_push s.roots s.log.items e c.self.invariant.form fits))
+    let fits : CanNote s.roots s.log.events e = subst (λ (b : LedgerView). CanNote b.roots b.log e) (sym c.self.view_is) c.requires.fits in
+    subst (λ (b : LedgerView). reserved_of s.roots c.push.new.self.events + room_held (life_of c.args.task.0 b.log) ≡ reserved_of b.roots b.log + room_held (life_of c.args.task.0 c.push.new.self.events)) c.self.view_is
+    (subst (λ (es : List Event). reserved_of s.roots es + room_held (life_of c.args.task.0 s.log.events) ≡ reserved_of s.roots s.log.events + room_held (life_of c.args.task.0 es)) (sym c.push.ensures.events)
+    (reserved_push s.roots s.log.events e c.self.invariant.form fits))

@@ -10,4 +10,4 @@ pub returns-clause-made : goal.returns-clause-made
 returns-clause-made c =
     let form : IsWellFormed c.args.self.now.roots c.args.self.now.log = subst (λ (b : LedgerView). IsWellFormed b.roots b.log) c.self.view_is c.self.invariant.form in
     all_read (IsMade c.args.self.now.log) (waiters_of c.args.task.0 c.args.self.now.log) c.args.place c.get.result (form.waiters c.args.task.0)
-    (c.get.ensures (λ t. waiters_of t c.self.inside.log.items) c.self.invariant.indexes.waiters ∙ ap (λ (b : LedgerView). slice_get (waiters_of c.args.task.0 b.log) c.args.place) c.self.view_is)
+    (c.get.ensures (λ t. waiters_of t c.self.inside.log.events) c.self.invariant.indexes.waiters ∙ ap (λ (b : LedgerView). slice_get (waiters_of c.args.task.0 b.log) c.args.place) c.self.view_is)

@@ -6,23 +6,23 @@ use Rattle.swift_ledger.proofs.lives.Lives.begin.Goals as goal
 pub index-requires : goal.index-requires
 index-requires c =
     let r = c.requires in
-    let within = place_within c.args.self.now c.args.roots c.args.log.now (Begin c.args.task c.args.number c.args.env) r.log r.fits refl r.lives in
+    let within = place_within c.args.self.now c.args.roots c.args.log.now.events (Begin c.args.task c.args.number c.args.env) r.log r.fits refl r.lives in
     omega (arith, within, c.args.self.now.lives.ok.0)
 
 pub overflow_sub-self : goal.overflow_sub-self
 overflow_sub-self c =
     let r = c.requires in
-    let held = held_is_reserved c.args.self.now c.args.roots c.args.log.now (Begin c.args.task c.args.number c.args.env) c.index.result.now r.log r.fits refl r.lives c.index.ensures in
+    let held = held_is_reserved c.args.self.now c.args.roots c.args.log.now.events (Begin c.args.task c.args.number c.args.env) c.index.result.now r.log r.fits refl r.lives c.index.ensures in
     omega (arith, held, c.room.ensures)
 
 pub index_mut-requires : goal.index_mut-requires
 index_mut-requires c =
     let r = c.requires in
-    let within = place_within c.args.self.now c.args.roots c.args.log.now (Begin c.args.task c.args.number c.args.env) r.log r.fits refl r.lives in
+    let within = place_within c.args.self.now c.args.roots c.args.log.now.events (Begin c.args.task c.args.number c.args.env) r.log r.fits refl r.lives in
     omega (arith, within, c.args.self.now.lives.ok.0)
 
 pub returns-clause-lives : goal.returns-clause-lives
 returns-clause-lives c =
     let r = c.requires in
-    lives_follow c.args.self.now _ c.args.roots c.args.log.now (Begin c.args.task c.args.number c.args.env) c.index.result.now c.index_mut.result.now c.room.result r.log r.fits refl r.lives
+    lives_follow c.args.self.now _ c.args.roots c.args.log.now.events (Begin c.args.task c.args.number c.args.env) c.index.result.now c.index_mut.result.now c.room.result r.log r.fits refl r.lives
     c.index.ensures c.room.ensures c.index_mut.ensures.value refl refl (refl)

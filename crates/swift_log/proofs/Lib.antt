@@ -1,0 +1,2 @@
+pub mod EntriesRead
+pub mod LogSteps

@@ -1,0 +1,3 @@
+pub mod Logs
+pub mod EntriesInside
+pub mod LogInside

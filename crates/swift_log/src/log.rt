@@ -1,0 +1,126 @@
+//! Logs.
+
+ghost use Rattle.std.specs.Prelude.{◌≡◌, ◌+◌, ◌<◌, ◌^◌, [], ◌∷◌, ◌++◌, max, length, IfOk, OnOk, OnErr, slice_index_or, vec_len, vec_capacity};
+ghost use Rattle.swift_events.specs.declared.event.Event.{Event};
+ghost use Rattle.swift_log.specs.EntriesInside.{numbers_of};
+
+use crate::entry::{Entry, number_of};
+use std::alloc::{AllocError, Global};
+use std::marker::Model;
+use swift_events::Event;
+
+/// The events of a run, the oldest first (our own). An event takes 16 bytes, and 8 more where it says a number: the value of a task
+/// that has ended, or of what it threw. In a clause it is the list of the events, and how many more are sure to find memory.
+#[derive(Drop)]
+pub struct EventLog {
+    entries: Vec<Entry>,
+    // The numbers that events say, in order.
+    numbers: Vec<i64>,
+    // How many more events find memory for sure.
+    room: usize,
+}
+
+impl Model for EventLog {
+    ghost use Rattle.swift_log.specs.Logs.{LogView};
+
+    ghost Value = { LogView };
+
+    ghost use Rattle.swift_log.specs.LogInside.{view_of, IsLog};
+
+    ghost view = { view_of };
+
+    ghost invariant = { IsLog };
+}
+
+// Appends the number that an event says.
+fn push_number(numbers: &mut Vec<i64>, event: Event)
+    requires { vec_len numbers.old < vec_capacity numbers.old }
+    ensures items { numbers.new.items ≡ numbers.old.items ++ numbers_of event }
+    ensures len { vec_len numbers.new ≡ vec_len numbers.old + length (numbers_of event) }
+    ensures capacity { vec_capacity numbers.new ≡ vec_capacity numbers.old }
+{
+    match number_of(event) {
+        Some(number) => numbers.push_reserved(number),
+        None => {}
+    }
+}
+
+impl EventLog {
+    /// A log without events. Takes no memory.
+    pub fn new(alloc: Global) -> EventLog
+        ensures { result ≡ record { events = []; room = 0 } }
+    {
+        EventLog {
+            entries: Vec::new(alloc),
+            numbers: Vec::new(alloc),
+            room: 0,
+        }
+    }
+
+    /// A log of these events. Linear in their number.
+    pub fn from_events(alloc: Global, events: &[Event]) -> Result<EventLog, AllocError>
+        ensures { IfOk result (λ log. log.events ≡ events.now) }
+    {
+        let mut log = EventLog::new(alloc);
+        log.reserve(events.len())?;
+        for event in events {
+            log.push(*event);
+        }
+        Ok(log)
+    }
+
+    /// How many events there are.
+    pub fn len(&self) -> usize
+        ensures len { result ≡ length self.now.events }
+        ensures limit { length self.now.events < 2 ^ 63 }
+    {
+        self.entries.len()
+    }
+
+    /// How many more events find memory for sure.
+    pub fn room(&self) -> usize
+        ensures { result ≡ self.now.room }
+    {
+        self.room
+    }
+
+    /// The event at a place, from 0 for the oldest. Constant time.
+    pub fn event(&self, place: usize) -> Event
+        requires { place < length self.now.events }
+        ensures { (d : Event) → result ≡ slice_index_or self.now.events place d }
+    {
+        self.entries[place].event(&self.numbers)
+    }
+
+    /// Makes room, so that the next `events` calls of `push` find memory. It changes nothing else. An `Err` says that so much is
+    /// not to be had, which is also said where more than 2^32 numbers would have to be kept; the log is then as it was. Constant
+    /// time where there is room already, else time that is linear in what is kept and in `events`.
+    pub fn reserve(&mut self, events: usize) -> Result<(), AllocError>
+        ensures ok { OnOk result (self.new ≡ record self.old { room = max self.old.room events }) }
+        ensures err { OnErr result (self.new ≡ self.old) }
+    {
+        if events <= self.room {
+            return Ok(());
+        }
+        let numbers = self.numbers.len();
+        if numbers > 1 << 32 || events > (1 << 32) - numbers {
+            return Err(AllocError);
+        }
+        self.entries.reserve(events)?;
+        self.numbers.reserve(events)?;
+        self.room = events;
+        Ok(())
+    }
+
+    /// Appends an event. Takes no memory, and constant time.
+    pub fn push(&mut self, event: Event)
+        requires { 0 < self.old.room }
+        ensures events { self.new.events ≡ self.old.events ++ event ∷ [] }
+        ensures room { self.new.room + 1 ≡ self.old.room }
+    {
+        let place = self.numbers.len() as u32;
+        self.entries.push_reserved(Entry::of(event, place));
+        push_number(&mut self.numbers, event);
+        self.room -= 1;
+    }
+}
