@@ -14,3 +14,6 @@ pub mod Rows
 pub mod Cancelled
 pub mod SeatKept
 pub mod SeatTurns
+pub mod InvariantsOfActors
+pub mod StartInvariants
+pub mod Spared

@@ -1,5 +1,6 @@
 pub mod Account
 pub mod Exec
+pub mod HomeInside
 pub mod Playing
 pub mod Ready
 pub mod ReadyInside

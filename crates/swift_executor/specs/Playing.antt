@@ -8,7 +8,9 @@ use Rattle.swift_types.specs.declared.limits.TheConstants.{FOLD}
 use Rattle.swift_types.specs.declared.outcome.Resume.{Resume}
 use Rattle.swift_interpreter.specs.Frames.{effect_views, frame_view}
 use Rattle.swift_interpreter.specs.TurnStates.{exit_view}
-use Rattle.swift_turn.specs.Body.{BodyView, HasFirst, Polls, entered, left}
+use Rattle.swift_turn.specs.Body.{BodyView, HasFirst, IfRunning, Polls, entered, invariants_at, left}
+use Rattle.swift_undo.specs.Laws.{AllHold}
+use Rattle.swift_undo.specs.Rows.{HaveRows}
 use Rattle.swift_queue.specs.Job.{JobIs}
 use Rattle.swift_journal.specs.Checkpoints.{CheckpointRoom, folded_of, folds}
 use Rattle.swift_journal.specs.Records.{RecordView}
@@ -28,6 +30,11 @@ use Rattle.swift_types.specs.declared.id.TaskId.{TaskId}
 use Rattle.swift_tasks.specs.Refusals.{refusal_of_apply}
 use Rattle.swift_tasks.specs.declared.fault.BookFault.{BookFault}
 use Rattle.swift_executor.specs.State.{record_by}
+
+-- All invariants of the actors of the executor of the frame that runs hold of these fields, and beside each stands the row that it
+-- reads.
+abbrev pub MaySpare : List ℕ → List (List ℤ) → BodyView → Type 0
+MaySpare rows fields b = IfRunning b.task.frames (λ p. HaveRows rows (invariants_at b.script p)) × IfRunning b.task.frames (λ p. AllHold (invariants_at b.script p) fields)
 
 -- a body has had a turn on these fields: what is left of it is that of the frame that ran
 pub record HasTurned (old new : BodyView) (rows : List (List ℤ)) (resume : Resume) (env : Env) (p : Played) : Type 0 where

@@ -11,6 +11,8 @@ mod tasks;
 mod ready;
 // The job that was chosen.
 mod chosen;
+// Which executor it is.
+mod home;
 // The state of an executor.
 mod state;
 // Jobs that come, and the one that is picked.

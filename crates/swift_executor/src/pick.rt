@@ -43,7 +43,7 @@ impl ExecState {
         ensures err { IfErr result (λ fault. (fault ≡ ExecFault.Refused BookFault.Unknown) × ((log : List Event) → AreLevels log given.now → LacksTask log self.old self.new)) }
     {
         self.ready.count(given);
-        let by_arrival = takes_by_arrival(self.script.executor_kind(self.executor));
+        let by_arrival = takes_by_arrival(self.home.script().executor_kind(self.home.executor()));
         let Some((job, arrival)) = self.ready.take(by_arrival) else {
             return Ok(None);
         };

@@ -10,7 +10,7 @@ ghost use Rattle.swift_tasks.specs.Books.{job_view};
 ghost use Rattle.swift_interpreter.specs.Frames.{frame_view};
 ghost use Rattle.swift_script.specs.Scripts.{method_count};
 ghost use Rattle.swift_turn.specs.Body.{IsRunning, callers_of};
-ghost use Rattle.swift_executor.specs.Playing.{CanGoBack, HasFoldRoom, HasJob, HasTurned, IsUnturned, JobTurned, JobUnturned, Settles, WritesRecord};
+ghost use Rattle.swift_executor.specs.Playing.{CanGoBack, HasFoldRoom, HasJob, HasTurned, IsUnturned, JobTurned, JobUnturned, MaySpare, Settles, WritesRecord};
 ghost use Rattle.swift_executor.specs.State.{before_turn, frame_after};
 ghost use Rattle.swift_executor.specs.StateInside.{stage_of};
 
@@ -22,7 +22,7 @@ use std::mem;
 use swift_interpreter::{Exit, Frame};
 use swift_journal::{Checkpoint, Journal, Record};
 use swift_queue::Job;
-use swift_turn::{Body, play_turn};
+use swift_turn::{Body, play_turn_from};
 use swift_types::Resume;
 use swift_types::limits::FOLD;
 
@@ -63,23 +63,26 @@ fn copy_row(row: &mut Vec<i64>, from: &[i64]) -> Result<(), AllocError>
     row.extend_from_slice(from)
 }
 
-// Runs a turn of a body on the fields that `played` has, and leaves there what it gives. Where there is no memory for it, what
-// is there means nothing, and the body has had no turn.
+// Runs a turn of a body on the fields that `played` has, of which all invariants hold, and leaves there what it gives. `rows` has
+// the row that each of them reads. Where there is no memory for it, what is there means nothing, and the body has had no turn.
 fn play_body(
     body: &mut Body,
     cx: &mut Context<'_>,
+    rows: &[u32],
     resume: Resume,
     env: Env,
     played: &mut Played,
 ) -> Result<(), AllocError>
-    requires { IsRunning body.old }
+    requires running { IsRunning body.old }
+    requires spared { MaySpare rows.now (rows_of played.old.fields.items) body.old }
     ensures ok { OnOk result (HasTurned body.old body.new (rows_of played.old.fields.items) resume env played.new) }
     ensures err { OnErr result (IsUnturned body.old body.new) }
     ensures kept { Keeps cx.old cx.new }
 {
-    played.exit = play_turn(
+    played.exit = play_turn_from(
         body,
         cx,
+        rows,
         &mut played.fields,
         resume,
         env,
@@ -89,20 +92,22 @@ fn play_body(
     Ok(())
 }
 
-/// Runs the turn of the job in its place, on the fields that `played` has. Where there is no memory for it, the job has had none.
+/// Runs the turn of the job in its place, on the fields that `played` has, of which all invariants hold. Where there is no memory
+/// for it, the job has had none.
 pub fn play_job(
     place: &mut Option<Job<Body>>,
     cx: &mut Context<'_>,
+    rows: &[u32],
     env: Env,
     played: &mut Played,
 ) -> Result<(), AllocError>
-    requires { HasJob place.old (λ j. IsRunning j.body) }
+    requires { HasJob place.old (λ j. IsRunning j.body × MaySpare rows.now (rows_of played.old.fields.items) j.body) }
     ensures ok { OnOk result (HasJob place.old (λ old. HasJob place.new (λ new. JobTurned old new (rows_of played.old.fields.items) env played.new))) }
     ensures err { OnErr result (HasJob place.old (λ old. HasJob place.new (JobUnturned old))) }
     ensures kept { Keeps cx.old cx.new }
 {
     let (task, number, resume, mut body) = take_out(place).spend();
-    let turned = play_body(&mut body, cx, resume, env, played);
+    let turned = play_body(&mut body, cx, rows, resume, env, played);
     fill(place, Job::new(task, number, resume, body));
     turned
 }

@@ -12,6 +12,7 @@ ghost use Rattle.swift_executor.specs.Ready.{HasRoom, tasks_in, times};
 ghost use Rattle.swift_executor.specs.State.{IsExecutor, chosen_count, fields_at, new_executor};
 
 use crate::chosen::{Chosen, Played};
+use crate::home::Home;
 use crate::ready::Ready;
 use std::alloc::{AllocError, Global};
 use std::marker::Model;
@@ -35,8 +36,7 @@ use swift_types::{ActorId, ExecId, TaskId};
 /// It holds jobs, so it can't be dropped: `into_parts` gives up what it has.
 pub struct ExecState {
     pub(crate) alloc: Global,
-    pub(crate) script: Arc<Script>,
-    pub(crate) executor: ExecId,
+    pub(crate) home: Home,
     pub(crate) ready: Ready<Body>,
     // It changes in its place: a turn moves it as little as it can.
     pub(crate) chosen: Chosen,
@@ -48,7 +48,6 @@ pub struct ExecState {
 }
 
 impl Model for ExecState {
-    ghost use Rattle.std.specs.Arc.{arc_value};
     ghost use Rattle.std.specs.Coded.{codes};
     ghost use Rattle.script_code.specs.Seen.{rows_of};
     ghost use Rattle.swift_script.specs.Codes.{expression_code, statement_code, block_code};
@@ -60,14 +59,14 @@ impl Model for ExecState {
 
     ghost use Rattle.swift_executor.specs.StateInside.{chosen_of};
 
-    ghost view = { λ s. record { script = arc_value s.script; executor = s.executor.0; ready = s.ready; chosen = chosen_of s.played s.chosen; journal = s.journal; checkpoint = s.checkpoint.view; fields = rows_of s.fields.items } };
+    ghost view = { λ s. record { script = s.home.script; executor = s.home.executor; ready = s.ready; chosen = chosen_of s.played s.chosen; journal = s.journal; checkpoint = s.checkpoint.view; fields = rows_of s.fields.items } };
 
-    ghost invariant = { λ s. IsExecutor (record { script = arc_value s.script; executor = s.executor.0; ready = s.ready; chosen = chosen_of s.played s.chosen; journal = s.journal; checkpoint = s.checkpoint.view; fields = rows_of s.fields.items }) };
+    ghost invariant = { λ s. IsExecutor (record { script = s.home.script; executor = s.home.executor; ready = s.ready; chosen = chosen_of s.played s.chosen; journal = s.journal; checkpoint = s.checkpoint.view; fields = rows_of s.fields.items }) };
 }
 
 impl ExecState {
-    /// An executor of a script that has run no turn, with room for this many jobs. It takes memory for the jobs and for three copies of
-    /// the start values. Out of memory nothing remains. The room is not touched before it is used.
+    /// An executor of a script that has run no turn, with room for this many jobs. It takes memory for the jobs, for three copies of
+    /// the start values, and for a number for each invariant. Out of memory nothing remains. The room is not touched before it is used.
     pub fn new(
         alloc: Global,
         script: Arc<Script>,
@@ -79,11 +78,11 @@ impl ExecState {
         let fields = script.executor_start(alloc, executor)?;
         let next = script.executor_start(alloc, executor)?;
         let start = script.executor_start(alloc, executor)?;
+        let home = Home::new(alloc, script, executor)?;
         let ready = Ready::with_room(alloc, room)?;
         Ok(ExecState {
             alloc,
-            script,
-            executor,
+            home,
             ready,
             chosen: Chosen::none(),
             journal: Journal::new(alloc),
@@ -137,7 +136,7 @@ impl ExecState {
     pub fn fields(&self, actor: ActorId) -> &[i64]
         ensures { result.now ≡ fields_at (executor_actors self.now.script self.now.executor) self.now.fields actor.0 }
     {
-        let actors = self.script.executor_actors(self.executor);
+        let actors = self.home.script().executor_actors(self.home.executor());
         row_of(actors, &self.fields, actor)
     }
 
@@ -152,8 +151,7 @@ impl ExecState {
     {
         let ExecState {
             alloc: _,
-            script: _,
-            executor: _,
+            home: _,
             ready,
             chosen: Chosen {
                 job,

@@ -7,7 +7,7 @@ ghost use Rattle.script_code.specs.Seen.{rows_of};
 ghost use Rattle.swift_tasks.specs.Books.{IsJobOf, job_view};
 ghost use Rattle.swift_tasks.specs.Refusals.{IsRefusal as BookRefusal, refusal_of_begin};
 ghost use Rattle.swift_turn.specs.Body.{IsRunning};
-ghost use Rattle.swift_executor.specs.Playing.{AppliesJob, BeginsJob, HasFoldRoom, HasJob, KeepsJob, PlaysJob, StageIsBegun, StageIsPlayed, WritesRecord, refusal_of_left};
+ghost use Rattle.swift_executor.specs.Playing.{AppliesJob, BeginsJob, HasFoldRoom, HasJob, KeepsJob, MaySpare, PlaysJob, StageIsBegun, StageIsPlayed, WritesRecord, refusal_of_left};
 ghost use Rattle.swift_executor.specs.Refusals.{IsRefusal};
 ghost use Rattle.swift_executor.specs.State.{Begins, HasChosen, IsBegun, IsPicked, IsPlayed, Journals, Plays, PutsBack, refusal_to_begin, refusal_to_apply};
 
@@ -78,15 +78,16 @@ pub(crate) fn apply_chosen(
     }
 }
 
-// Plays the turn of a job that has begun, on a copy of these fields. Out of memory the job has had none.
+// Plays the turn of a job that has begun, on a copy of these fields, of which all invariants hold. Out of memory the job has had none.
 fn play_chosen(
     alloc: Global,
     chosen: &mut Chosen,
     cx: &mut Context<'_>,
+    rows: &[u32],
     fields: &[Vec<i64>],
     played: &mut Played,
 ) -> Result<(), AllocError>
-    requires job { HasJob chosen.old.job (λ j. IsRunning j.body) }
+    requires job { HasJob chosen.old.job (λ j. IsRunning j.body × MaySpare rows.now (rows_of fields.now) j.body) }
     requires begun { StageIsBegun chosen.old.stage }
     ensures ok { OnOk result (HasJob chosen.old.job (PlaysJob (rows_of fields.now) chosen.old chosen.new played.new)) }
     ensures err { OnErr result (HasJob chosen.old.job (KeepsJob chosen.old chosen.new)) }
@@ -96,7 +97,7 @@ fn play_chosen(
         unreachable!()
     };
     copy_into(alloc, &mut played.fields, fields)?;
-    play_job(&mut chosen.job, cx, env, played)?;
+    play_job(&mut chosen.job, cx, rows, env, played)?;
     chosen.stage = Stage::Played(worker, env);
     Ok(())
 }
@@ -161,10 +162,13 @@ impl ExecState {
         ensures refused { IfErr result (λ fault. fault ≡ ExecFault.Memory) }
         ensures kept { Keeps cx.old cx.new }
     {
+        self.home.script().facts();
+        invariants_stay();
         let Ok(()) = play_chosen(
             self.alloc,
             &mut self.chosen,
             cx,
+            self.home.rows(),
             &self.fields,
             &mut self.played,
         ) else {

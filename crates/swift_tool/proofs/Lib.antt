@@ -1,2 +1,1 @@
-pub mod InvariantsOfActors
 pub mod Invariants

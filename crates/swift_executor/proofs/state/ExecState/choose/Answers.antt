@@ -1,7 +1,6 @@
 use Rattle.std.proofs.Common.{◌≡◌, ℕ, Bool, List, [], ◌∷◌, Contains, None, Option, refl, ap, sym, subst, ◌∙◌, arith}
 use Rattle.std.proofs.lemmas.Bool.{ltb-true, ltb-false}
 use Rattle.std.proofs.lemmas.List.Sorted.{IsPermutation-trans}
-use Rattle.std.specs.Arc.{arc_value}
 use Rattle.std.specs.List.{All}
 use Rattle.std.specs.List.Sorted.{IsPermutation}
 use Rattle.script_code.specs.Seen.{rows_of}
@@ -19,7 +18,7 @@ use Rattle.swift_executor.proofs.state.ExecState.choose.Goals as goal
 pub invariant_of-self : goal.invariant_of-self
 invariant_of-self c =
     let x = c.self.inside in
-    let s : ExecView = record { script = arc_value x.script; executor = x.executor.0; ready = x.ready; chosen = chosen_of x.played x.chosen; journal = x.journal; checkpoint = x.checkpoint.view; fields = rows_of x.fields.items } in
+    let s : ExecView = record { script = x.home.script; executor = x.home.executor; ready = x.ready; chosen = chosen_of x.played x.chosen; journal = x.journal; checkpoint = x.checkpoint.view; fields = rows_of x.fields.items } in
     let free : s.chosen ≡ None = ap (λ (v : ExecView). v.chosen) c.self.view_is ∙ c.requires.free in
     let same = c.in_default.ensures.none.1 in
     let perm = subst (λ (r : ReadyIs BodyView). IsPermutation s.ready.front r.front) (sym same) c.count.ensures.front in
@@ -28,7 +27,7 @@ invariant_of-self c =
 pub returns-in_default-clause-none : goal.returns-in_default-clause-none
 returns-in_default-clause-none c = λ log are.
     let x = c.self.inside in
-    let s : ExecView = record { script = arc_value x.script; executor = x.executor.0; ready = x.ready; chosen = chosen_of x.played x.chosen; journal = x.journal; checkpoint = x.checkpoint.view; fields = rows_of x.fields.items } in
+    let s : ExecView = record { script = x.home.script; executor = x.home.executor; ready = x.ready; chosen = chosen_of x.played x.chosen; journal = x.journal; checkpoint = x.checkpoint.view; fields = rows_of x.fields.items } in
     let free : s.chosen ≡ None = ap (λ (v : ExecView). v.chosen) c.self.view_is ∙ c.requires.free in
     let one = c.count.new.self in
     let two = c.take.new.self in
@@ -50,7 +49,7 @@ returns-in_default-clause-none c = λ log are.
 pub invariant_of-self-then-not-is_known : goal.invariant_of-self-then-not-is_known
 invariant_of-self-then-not-is_known c =
     let x = c.self.inside in
-    let s : ExecView = record { script = arc_value x.script; executor = x.executor.0; ready = x.ready; chosen = chosen_of x.played x.chosen; journal = x.journal; checkpoint = x.checkpoint.view; fields = rows_of x.fields.items } in
+    let s : ExecView = record { script = x.home.script; executor = x.home.executor; ready = x.ready; chosen = chosen_of x.played x.chosen; journal = x.journal; checkpoint = x.checkpoint.view; fields = rows_of x.fields.items } in
     let free : s.chosen ≡ None = ap (λ (v : ExecView). v.chosen) c.self.view_is ∙ c.requires.free in
     let one = c.count.new.self in
     let two = c.take.new.self in
@@ -65,7 +64,7 @@ returns-then-not-is_known-clause-err c = (
   refl,
   λ log are.
       let x = c.self.inside in
-      let s : ExecView = record { script = arc_value x.script; executor = x.executor.0; ready = x.ready; chosen = chosen_of x.played x.chosen; journal = x.journal; checkpoint = x.checkpoint.view; fields = rows_of x.fields.items } in
+      let s : ExecView = record { script = x.home.script; executor = x.home.executor; ready = x.ready; chosen = chosen_of x.played x.chosen; journal = x.journal; checkpoint = x.checkpoint.view; fields = rows_of x.fields.items } in
       let one = c.count.new.self in
       let two = c.take.new.self in
       let three = c.restore.new.self in
@@ -81,7 +80,7 @@ returns-then-not-is_known-clause-err c = (
           levels = are;
           higher = subst (λ (ls : List ℕ). AreHigher s.ready.levels c.args.given.now ls) (sym levels) c.count.ensures.levels;
           first = subst (λ (ls : List ℕ). All (ComesFirst (takes_by_arrival (executor_kind s.script s.executor)) ls x0) s.ready.front) (sym levels)
-              (subst (λ (b : Bool). All (ComesFirst b one.levels x0) s.ready.front) (c.takes_by_arrival-by_arrival.ensures ∙ ap takes_by_arrival (c.executor_kind.ensures ∙ ap (λ (v : ScriptView). executor_kind v x.executor.0) c.deref.ensures)) (all_of c.takes_by_arrival-by_arrival.result one.levels x0 s.ready.front one.front c.count.ensures.front c.in-Some.ensures.first));
+              (subst (λ (b : Bool). All (ComesFirst b one.levels x0) s.ready.front) (c.takes_by_arrival-by_arrival.ensures ∙ ap takes_by_arrival (c.executor_kind.ensures ∙ ap (λ (v : ScriptView). executor_kind v c.executor.result.0) c.script.ensures ∙ ap (executor_kind x.home.script) c.executor.ensures)) (all_of c.takes_by_arrival-by_arrival.result one.levels x0 s.ready.front one.front c.count.ensures.front c.in-Some.ensures.first));
         };
         inside = was_inside s.ready.front one.front two.front x0 c.count.ensures.front c.in-Some.ensures.rest;
         unknown = subst (λ (t : TaskId). level_at c.args.given.now t ≡ 0) c.task-task.ensures (let none = ltb-false 0 (level_at c.args.given.now c.task-task.result) (sym c.if-not-is_known.ensures) in omega (arith, none));
@@ -93,7 +92,7 @@ returns-then-not-is_known-clause-err c = (
 pub invariant_of-self-2 : goal.invariant_of-self-2
 invariant_of-self-2 c =
     let x = c.self.inside in
-    let s : ExecView = record { script = arc_value x.script; executor = x.executor.0; ready = x.ready; chosen = chosen_of x.played x.chosen; journal = x.journal; checkpoint = x.checkpoint.view; fields = rows_of x.fields.items } in
+    let s : ExecView = record { script = x.home.script; executor = x.home.executor; ready = x.ready; chosen = chosen_of x.played x.chosen; journal = x.journal; checkpoint = x.checkpoint.view; fields = rows_of x.fields.items } in
     let free : s.chosen ≡ None = ap (λ (v : ExecView). v.chosen) c.self.view_is ∙ c.requires.free in
     let one = c.count.new.self in
     let two = c.take.new.self in
@@ -106,7 +105,7 @@ invariant_of-self-2 c =
 pub returns-clause-some : goal.returns-clause-some
 returns-clause-some c = λ log are.
     let x = c.self.inside in
-    let s : ExecView = record { script = arc_value x.script; executor = x.executor.0; ready = x.ready; chosen = chosen_of x.played x.chosen; journal = x.journal; checkpoint = x.checkpoint.view; fields = rows_of x.fields.items } in
+    let s : ExecView = record { script = x.home.script; executor = x.home.executor; ready = x.ready; chosen = chosen_of x.played x.chosen; journal = x.journal; checkpoint = x.checkpoint.view; fields = rows_of x.fields.items } in
     let one = c.count.new.self in
     let two = c.take.new.self in
     let x0 = ready_job c.in-Some.job c.in-Some.arrival in
@@ -121,7 +120,7 @@ returns-clause-some c = λ log are.
         levels = are;
         higher = subst (λ (ls : List ℕ). AreHigher s.ready.levels c.args.given.now ls) (sym levels) c.count.ensures.levels;
         first = subst (λ (ls : List ℕ). All (ComesFirst (takes_by_arrival (executor_kind s.script s.executor)) ls x0) s.ready.front) (sym levels)
-            (subst (λ (b : Bool). All (ComesFirst b one.levels x0) s.ready.front) (c.takes_by_arrival-by_arrival.ensures ∙ ap takes_by_arrival (c.executor_kind.ensures ∙ ap (λ (v : ScriptView). executor_kind v x.executor.0) c.deref.ensures)) (all_of c.takes_by_arrival-by_arrival.result one.levels x0 s.ready.front one.front c.count.ensures.front c.in-Some.ensures.first));
+            (subst (λ (b : Bool). All (ComesFirst b one.levels x0) s.ready.front) (c.takes_by_arrival-by_arrival.ensures ∙ ap takes_by_arrival (c.executor_kind.ensures ∙ ap (λ (v : ScriptView). executor_kind v c.executor.result.0) c.script.ensures ∙ ap (executor_kind x.home.script) c.executor.ensures)) (all_of c.takes_by_arrival-by_arrival.result one.levels x0 s.ready.front one.front c.count.ensures.front c.in-Some.ensures.first));
       };
       task_is = sym c.task-task.ensures;
       known = ltb-true 0 (level_at c.args.given.now c.task-task.result) (sym c.if-not-is_known.ensures);

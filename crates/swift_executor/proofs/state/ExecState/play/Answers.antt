@@ -1,14 +1,16 @@
 use Rattle.std.proofs.Common.{◌≡◌, ℤ, List, Some, Option, IfSome, refl, ap, sym, subst, ◌∙◌}
 use Rattle.std.proofs.lemmas.Option.{same_Some}
-use Rattle.std.specs.Arc.{arc_value}
 use Rattle.script_code.specs.Seen.{rows_of}
 use Rattle.swift_interpreter.specs.Frames.{effect_views, frame_view}
 use Rattle.swift_interpreter.specs.TurnStates.{exit_view}
-use Rattle.swift_executor.specs.Playing.{JobTurned}
+use Rattle.swift_executor.specs.Playing.{JobTurned, MaySpare}
 use Rattle.swift_executor.specs.State.{ChosenView, ExecView, HasChosen, IsBegun, IsChosen, IsExecutor, Plays, PutsBack}
 use Rattle.swift_executor.specs.StateInside.{chosen_at, chosen_of, chosen_view, stage_of}
 use Rattle.swift_executor.specs.declared.chosen.Stage.TheVariants.{Played}
 use Rattle.swift_executor.proofs.ChosenJob.{begun_stage, runs, seen}
+use Rattle.swift_script.specs.Scripts.{ScriptView}
+use Rattle.swift_executor.proofs.Spared.{all_hold, may_spare}
+use Rattle.swift_executor.proofs.StartInvariants.{StartWell}
 use Rattle.swift_executor.proofs.StateKept.{stage_keeps}
 use Rattle.swift_executor.proofs.Turned.{back_unturned, begun_plays, turned, unturned}
 use Rattle.swift_executor.proofs.state.ExecState.play.Goals as goal
@@ -16,19 +18,21 @@ use Rattle.swift_executor.proofs.state.ExecState.play.Goals as goal
 pub play_chosen-requires : goal.play_chosen-requires
 play_chosen-requires c =
     let x = c.self.inside in
-    let s : ExecView = record { script = arc_value x.script; executor = x.executor.0; ready = x.ready; chosen = chosen_of x.played x.chosen; journal = x.journal; checkpoint = x.checkpoint.view; fields = rows_of x.fields.items } in
+    let s : ExecView = record { script = x.home.script; executor = x.home.executor; ready = x.ready; chosen = chosen_of x.played x.chosen; journal = x.journal; checkpoint = x.checkpoint.view; fields = rows_of x.fields.items } in
     let has : HasChosen s (λ c. IsBegun c.stage) = subst (λ (v : ExecView). HasChosen v (λ c. IsBegun c.stage)) (sym c.self.view_is) c.requires in
     let was : IsChosen s has.0 = subst (λ (o : Option ChosenView). IfSome o (IsChosen s)) has.1 c.self.invariant.chosen in
     let k = seen x.played x.chosen.arrival x.chosen.stage x.chosen.job has.0 has.1 in
+    let all = all_hold s (subst (λ (p : ScriptView). StartWell p) c.script.ensures c.facts.ensures.starts) c.invariants_stay.ensures c.self.invariant in
+    let spared = may_spare s.script s.executor c.rows.result.now s.fields has.0.job was.belongs c.rows.ensures all in
     record {
-      job = (has.0.job, k.job, runs s.script s.executor has.0.job was.belongs);
+      job = (has.0.job, k.job, (runs s.script s.executor has.0.job was.belongs, subst (λ (fs : List (List ℤ)). MaySpare c.rows.result.now fs has.0.job.body) (sym (ap rows_of c.deref.ensures.value)) spared));
       begun = begun_stage x.played x.chosen.stage (subst (λ (v : ChosenView). IsBegun v.stage) k.view has.2);
     }
 
 pub invariant_of-self : goal.invariant_of-self
 invariant_of-self c =
     let x = c.self.inside in
-    let s : ExecView = record { script = arc_value x.script; executor = x.executor.0; ready = x.ready; chosen = chosen_of x.played x.chosen; journal = x.journal; checkpoint = x.checkpoint.view; fields = rows_of x.fields.items } in
+    let s : ExecView = record { script = x.home.script; executor = x.home.executor; ready = x.ready; chosen = chosen_of x.played x.chosen; journal = x.journal; checkpoint = x.checkpoint.view; fields = rows_of x.fields.items } in
     let h = c.in-Ok.ensures.ok in
     let p = c.play_chosen.new.played in
     let chosen = chosen_view x.played x.chosen.arrival x.chosen.stage h.0 in
@@ -42,7 +46,7 @@ invariant_of-self c =
 pub invariant_of-self-in_default : goal.invariant_of-self-in_default
 invariant_of-self-in_default c =
     let x = c.self.inside in
-    let s : ExecView = record { script = arc_value x.script; executor = x.executor.0; ready = x.ready; chosen = chosen_of x.played x.chosen; journal = x.journal; checkpoint = x.checkpoint.view; fields = rows_of x.fields.items } in
+    let s : ExecView = record { script = x.home.script; executor = x.home.executor; ready = x.ready; chosen = chosen_of x.played x.chosen; journal = x.journal; checkpoint = x.checkpoint.view; fields = rows_of x.fields.items } in
     let h = c.in_default.ensures.err in
     let p = c.play_chosen.new.played in
     let chosen = chosen_view x.played x.chosen.arrival x.chosen.stage h.0 in
@@ -64,7 +68,7 @@ put_back-requires c =
 pub returns-in_default-clause-back : goal.returns-in_default-clause-back
 returns-in_default-clause-back c =
     let x = c.self.inside in
-    let s : ExecView = record { script = arc_value x.script; executor = x.executor.0; ready = x.ready; chosen = chosen_of x.played x.chosen; journal = x.journal; checkpoint = x.checkpoint.view; fields = rows_of x.fields.items } in
+    let s : ExecView = record { script = x.home.script; executor = x.home.executor; ready = x.ready; chosen = chosen_of x.played x.chosen; journal = x.journal; checkpoint = x.checkpoint.view; fields = rows_of x.fields.items } in
     let h = c.in_default.ensures.err in
     let p = c.play_chosen.new.played in
     let chosen = chosen_view x.played x.chosen.arrival x.chosen.stage h.0 in
@@ -78,7 +82,7 @@ returns-in_default-clause-back c =
 pub returns-clause-ok : goal.returns-clause-ok
 returns-clause-ok c =
     let x = c.self.inside in
-    let s : ExecView = record { script = arc_value x.script; executor = x.executor.0; ready = x.ready; chosen = chosen_of x.played x.chosen; journal = x.journal; checkpoint = x.checkpoint.view; fields = rows_of x.fields.items } in
+    let s : ExecView = record { script = x.home.script; executor = x.home.executor; ready = x.ready; chosen = chosen_of x.played x.chosen; journal = x.journal; checkpoint = x.checkpoint.view; fields = rows_of x.fields.items } in
     let h = c.in-Ok.ensures.ok in
     let p = c.play_chosen.new.played in
     let chosen = chosen_view x.played x.chosen.arrival x.chosen.stage h.0 in

@@ -1,5 +1,4 @@
 use Rattle.std.proofs.Common.{◌≡◌, ℕ, IsSome, Some, None, Option, IfSome, lit<, refl, ap, sym, subst, ◌∙◌}
-use Rattle.std.specs.Arc.{arc_value}
 use Rattle.script_code.specs.Seen.{rows_of}
 use Rattle.swift_queue.specs.Job.{JobIs}
 use Rattle.swift_turn.specs.Body.{BodyView}
@@ -15,14 +14,14 @@ use Rattle.swift_executor.proofs.state.ExecState.put_back.Goals as goal
 pub take_out-job-requires : goal.take_out-job-requires
 take_out-job-requires c =
     let x = c.self.inside in
-    let s : ExecView = record { script = arc_value x.script; executor = x.executor.0; ready = x.ready; chosen = chosen_of x.played x.chosen; journal = x.journal; checkpoint = x.checkpoint.view; fields = rows_of x.fields.items } in
+    let s : ExecView = record { script = x.home.script; executor = x.home.executor; ready = x.ready; chosen = chosen_of x.played x.chosen; journal = x.journal; checkpoint = x.checkpoint.view; fields = rows_of x.fields.items } in
     let has : HasChosen s (λ _. Unit {0}) = subst (λ (v : ExecView). HasChosen v (λ _. Unit {0})) (sym c.self.view_is) c.requires in
     subst (λ (o : Option (JobIs BodyView)). IsSome o) (sym (seen x.played x.chosen.arrival x.chosen.stage x.chosen.job has.0 has.1).job) refl
 
 pub as_chosen-job-requires : goal.as_chosen-job-requires
 as_chosen-job-requires c =
     let x = c.self.inside in
-    let s : ExecView = record { script = arc_value x.script; executor = x.executor.0; ready = x.ready; chosen = chosen_of x.played x.chosen; journal = x.journal; checkpoint = x.checkpoint.view; fields = rows_of x.fields.items } in
+    let s : ExecView = record { script = x.home.script; executor = x.home.executor; ready = x.ready; chosen = chosen_of x.played x.chosen; journal = x.journal; checkpoint = x.checkpoint.view; fields = rows_of x.fields.items } in
     let chosen = chosen_view x.played x.chosen.arrival x.chosen.stage c.take_out-job.result in
     let at : s.chosen ≡ Some chosen = ap (chosen_at x.played x.chosen.arrival x.chosen.stage) c.take_out-job.ensures.was in
     let was : IsChosen s chosen = subst (λ (o : Option ChosenView). IfSome o (IsChosen s)) at c.self.invariant.chosen in
@@ -34,7 +33,7 @@ as_chosen-job-requires c =
 pub restore-requires : goal.restore-requires
 restore-requires c =
     let x = c.self.inside in
-    let s : ExecView = record { script = arc_value x.script; executor = x.executor.0; ready = x.ready; chosen = chosen_of x.played x.chosen; journal = x.journal; checkpoint = x.checkpoint.view; fields = rows_of x.fields.items } in
+    let s : ExecView = record { script = x.home.script; executor = x.home.executor; ready = x.ready; chosen = chosen_of x.played x.chosen; journal = x.journal; checkpoint = x.checkpoint.view; fields = rows_of x.fields.items } in
     let chosen = chosen_view x.played x.chosen.arrival x.chosen.stage c.take_out-job.result in
     let at : s.chosen ≡ Some chosen = ap (chosen_at x.played x.chosen.arrival x.chosen.stage) c.take_out-job.ensures.was in
     let was : IsChosen s chosen = subst (λ (o : Option ChosenView). IfSome o (IsChosen s)) at c.self.invariant.chosen in
@@ -44,7 +43,7 @@ restore-requires c =
 pub invariant_of-self : goal.invariant_of-self
 invariant_of-self c =
     let x = c.self.inside in
-    let s : ExecView = record { script = arc_value x.script; executor = x.executor.0; ready = x.ready; chosen = chosen_of x.played x.chosen; journal = x.journal; checkpoint = x.checkpoint.view; fields = rows_of x.fields.items } in
+    let s : ExecView = record { script = x.home.script; executor = x.home.executor; ready = x.ready; chosen = chosen_of x.played x.chosen; journal = x.journal; checkpoint = x.checkpoint.view; fields = rows_of x.fields.items } in
     let chosen = chosen_view x.played x.chosen.arrival x.chosen.stage c.take_out-job.result in
     let at : s.chosen ≡ Some chosen = ap (chosen_at x.played x.chosen.arrival x.chosen.stage) c.take_out-job.ensures.was in
     let was : IsChosen s chosen = subst (λ (o : Option ChosenView). IfSome o (IsChosen s)) at c.self.invariant.chosen in
@@ -57,7 +56,7 @@ invariant_of-self c =
 pub returns : goal.returns
 returns c =
     let x = c.self.inside in
-    let s : ExecView = record { script = arc_value x.script; executor = x.executor.0; ready = x.ready; chosen = chosen_of x.played x.chosen; journal = x.journal; checkpoint = x.checkpoint.view; fields = rows_of x.fields.items } in
+    let s : ExecView = record { script = x.home.script; executor = x.home.executor; ready = x.ready; chosen = chosen_of x.played x.chosen; journal = x.journal; checkpoint = x.checkpoint.view; fields = rows_of x.fields.items } in
     let chosen = chosen_view x.played x.chosen.arrival x.chosen.stage c.take_out-job.result in
     let at : s.chosen ≡ Some chosen = ap (chosen_at x.played x.chosen.arrival x.chosen.stage) c.take_out-job.ensures.was in
     let new : ExecView = record s { ready = c.restore.new.self; chosen = chosen_at c.as_chosen-job.new.played x.chosen.arrival x.chosen.stage c.take_out-job.new.place } in

@@ -1,6 +1,5 @@
 use Rattle.std.proofs.Common.{◌≡◌, Option, IfSome, map, refl, ap, sym, subst, ◌∙◌}
 use Rattle.std.proofs.lemmas.Option.{same_Some}
-use Rattle.std.specs.Arc.{arc_value}
 use Rattle.script_code.specs.Seen.{rows_of}
 use Rattle.swift_interpreter.specs.Frames.{effect_views}
 use Rattle.swift_interpreter.specs.TurnStates.{exit_view}
@@ -18,7 +17,7 @@ use Rattle.swift_executor.proofs.state.ExecState.turn.Goals as goal
 pub prepare-requires : goal.prepare-requires
 prepare-requires c =
     let x = c.self.inside in
-    let s : ExecView = record { script = arc_value x.script; executor = x.executor.0; ready = x.ready; chosen = chosen_of x.played x.chosen; journal = x.journal; checkpoint = x.checkpoint.view; fields = rows_of x.fields.items } in
+    let s : ExecView = record { script = x.home.script; executor = x.home.executor; ready = x.ready; chosen = chosen_of x.played x.chosen; journal = x.journal; checkpoint = x.checkpoint.view; fields = rows_of x.fields.items } in
     let has : HasChosen s (λ c. IsPlayed c.stage) = subst (λ (v : ExecView). HasChosen v (λ c. IsPlayed c.stage)) (sym c.self.view_is) c.requires.played in
     let was : IsChosen s has.0 = subst (λ (o : Option ChosenView). IfSome o (IsChosen s)) has.1 c.self.invariant.chosen in
     let k = seen x.played x.chosen.arrival x.chosen.stage x.chosen.job has.0 has.1 in
@@ -30,7 +29,7 @@ prepare-requires c =
 pub apply_chosen-requires : goal.apply_chosen-requires
 apply_chosen-requires c =
     let x = c.self.inside in
-    let s : ExecView = record { script = arc_value x.script; executor = x.executor.0; ready = x.ready; chosen = chosen_of x.played x.chosen; journal = x.journal; checkpoint = x.checkpoint.view; fields = rows_of x.fields.items } in
+    let s : ExecView = record { script = x.home.script; executor = x.home.executor; ready = x.ready; chosen = chosen_of x.played x.chosen; journal = x.journal; checkpoint = x.checkpoint.view; fields = rows_of x.fields.items } in
     let w = c.in-Ok.ensures.written in
     let was : IsChosen s (chosen_view x.played x.chosen.arrival x.chosen.stage w.0) = subst (λ (o : Option ChosenView). IfSome o (IsChosen s)) (ap (chosen_at x.played x.chosen.arrival x.chosen.stage) w.1) c.self.invariant.chosen in
     (w.0, w.1, (runs s.script s.executor w.0 was.belongs, was.belongs.script_is ∙ ap (λ (v : ExecView). v.script) c.self.view_is ∙ sym c.requires.same))
@@ -38,7 +37,7 @@ apply_chosen-requires c =
 pub invariant_of-self-in-Ok-apply_chosen : goal.invariant_of-self-in-Ok-apply_chosen
 invariant_of-self-in-Ok-apply_chosen c =
     let x = c.self.inside in
-    let s : ExecView = record { script = arc_value x.script; executor = x.executor.0; ready = x.ready; chosen = chosen_of x.played x.chosen; journal = x.journal; checkpoint = x.checkpoint.view; fields = rows_of x.fields.items } in
+    let s : ExecView = record { script = x.home.script; executor = x.home.executor; ready = x.ready; chosen = chosen_of x.played x.chosen; journal = x.journal; checkpoint = x.checkpoint.view; fields = rows_of x.fields.items } in
     let h = c.in-Ok-apply_chosen.ensures.ok in
     let w = c.in-Ok.ensures.written in
     let has : HasChosen s (λ c. IsPlayed c.stage) = subst (λ (v : ExecView). HasChosen v (λ c. IsPlayed c.stage)) (sym c.self.view_is) c.requires.played in
@@ -57,7 +56,7 @@ invariant_of-self-in-Ok-apply_chosen c =
 pub returns-in-Ok-apply_chosen-clause-ok : goal.returns-in-Ok-apply_chosen-clause-ok
 returns-in-Ok-apply_chosen-clause-ok c =
     let x = c.self.inside in
-    let s : ExecView = record { script = arc_value x.script; executor = x.executor.0; ready = x.ready; chosen = chosen_of x.played x.chosen; journal = x.journal; checkpoint = x.checkpoint.view; fields = rows_of x.fields.items } in
+    let s : ExecView = record { script = x.home.script; executor = x.home.executor; ready = x.ready; chosen = chosen_of x.played x.chosen; journal = x.journal; checkpoint = x.checkpoint.view; fields = rows_of x.fields.items } in
     let h = c.in-Ok-apply_chosen.ensures.ok in
     let w = c.in-Ok.ensures.written in
     let has : HasChosen s (λ c. IsPlayed c.stage) = subst (λ (v : ExecView). HasChosen v (λ c. IsPlayed c.stage)) (sym c.self.view_is) c.requires.played in
@@ -77,7 +76,7 @@ returns-in-Ok-apply_chosen-clause-ok c =
 pub invariant_of-self-in-Err : goal.invariant_of-self-in-Err
 invariant_of-self-in-Err c =
     let x = c.self.inside in
-    let s : ExecView = record { script = arc_value x.script; executor = x.executor.0; ready = x.ready; chosen = chosen_of x.played x.chosen; journal = x.journal; checkpoint = x.checkpoint.view; fields = rows_of x.fields.items } in
+    let s : ExecView = record { script = x.home.script; executor = x.home.executor; ready = x.ready; chosen = chosen_of x.played x.chosen; journal = x.journal; checkpoint = x.checkpoint.view; fields = rows_of x.fields.items } in
     let w = c.in-Ok.ensures.written in
     let has : HasChosen s (λ c. IsPlayed c.stage) = subst (λ (v : ExecView). HasChosen v (λ c. IsPlayed c.stage)) (sym c.self.view_is) c.requires.played in
     let same = unchanged s x.played x.played x.chosen.arrival x.chosen.stage x.chosen.job c.apply_chosen.new.place w.0 c.prepare.new.journal refl w.1 has w.2
@@ -87,7 +86,7 @@ invariant_of-self-in-Err c =
 pub returns-in-Err-clause-back : goal.returns-in-Err-clause-back
 returns-in-Err-clause-back c =
     let x = c.self.inside in
-    let s : ExecView = record { script = arc_value x.script; executor = x.executor.0; ready = x.ready; chosen = chosen_of x.played x.chosen; journal = x.journal; checkpoint = x.checkpoint.view; fields = rows_of x.fields.items } in
+    let s : ExecView = record { script = x.home.script; executor = x.home.executor; ready = x.ready; chosen = chosen_of x.played x.chosen; journal = x.journal; checkpoint = x.checkpoint.view; fields = rows_of x.fields.items } in
     let w = c.in-Ok.ensures.written in
     let has : HasChosen s (λ c. IsPlayed c.stage) = subst (λ (v : ExecView). HasChosen v (λ c. IsPlayed c.stage)) (sym c.self.view_is) c.requires.played in
     let same = unchanged s x.played x.played x.chosen.arrival x.chosen.stage x.chosen.job c.apply_chosen.new.place w.0 c.prepare.new.journal refl w.1 has w.2

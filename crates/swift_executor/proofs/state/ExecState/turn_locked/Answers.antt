@@ -1,6 +1,5 @@
 use Rattle.std.proofs.Common.{◌≡◌, Some, Option, IfSome, map, refl, ap, sym, subst, ◌∙◌}
 use Rattle.std.proofs.lemmas.Option.{same_Some}
-use Rattle.std.specs.Arc.{arc_value}
 use Rattle.script_code.specs.Seen.{rows_of}
 use Rattle.swift_interpreter.specs.Frames.{effect_views}
 use Rattle.swift_interpreter.specs.TurnStates.{exit_view}
@@ -23,7 +22,7 @@ use Rattle.swift_executor.proofs.state.ExecState.turn_locked.Goals as goal
 pub prepare-requires : goal.prepare-requires
 prepare-requires g c =
     let x = c.self.inside in
-    let s : ExecView = record { script = arc_value x.script; executor = x.executor.0; ready = x.ready; chosen = chosen_of x.played x.chosen; journal = x.journal; checkpoint = x.checkpoint.view; fields = rows_of x.fields.items } in
+    let s : ExecView = record { script = x.home.script; executor = x.home.executor; ready = x.ready; chosen = chosen_of x.played x.chosen; journal = x.journal; checkpoint = x.checkpoint.view; fields = rows_of x.fields.items } in
     let has : HasChosen s (λ c. IsPlayed c.stage) = subst (λ (v : ExecView). HasChosen v (λ c. IsPlayed c.stage)) (sym c.self.view_is) c.requires.played in
     let was : IsChosen s has.0 = subst (λ (o : Option ChosenView). IfSome o (IsChosen s)) has.1 c.self.invariant.chosen in
     let k = seen x.played x.chosen.arrival x.chosen.stage x.chosen.job has.0 has.1 in
@@ -35,7 +34,7 @@ prepare-requires g c =
 pub apply_locked-requires : goal.apply_locked-requires
 apply_locked-requires g c =
     let x = c.self.inside in
-    let s : ExecView = record { script = arc_value x.script; executor = x.executor.0; ready = x.ready; chosen = chosen_of x.played x.chosen; journal = x.journal; checkpoint = x.checkpoint.view; fields = rows_of x.fields.items } in
+    let s : ExecView = record { script = x.home.script; executor = x.home.executor; ready = x.ready; chosen = chosen_of x.played x.chosen; journal = x.journal; checkpoint = x.checkpoint.view; fields = rows_of x.fields.items } in
     let w = c.in-Ok.ensures.written in
     let was : IsChosen s (chosen_view x.played x.chosen.arrival x.chosen.stage w.0) = subst (λ (o : Option ChosenView). IfSome o (IsChosen s)) (ap (chosen_at x.played x.chosen.arrival x.chosen.stage) w.1) c.self.invariant.chosen in
     let has : HasChosen s (λ c. IsPlayed c.stage) = subst (λ (v : ExecView). HasChosen v (λ c. IsPlayed c.stage)) (sym c.self.view_is) c.requires.played in
@@ -53,7 +52,7 @@ apply_locked-requires g c =
 pub invariant_of-self-in-Ok-apply_locked : goal.invariant_of-self-in-Ok-apply_locked
 invariant_of-self-in-Ok-apply_locked g c =
     let x = c.self.inside in
-    let s : ExecView = record { script = arc_value x.script; executor = x.executor.0; ready = x.ready; chosen = chosen_of x.played x.chosen; journal = x.journal; checkpoint = x.checkpoint.view; fields = rows_of x.fields.items } in
+    let s : ExecView = record { script = x.home.script; executor = x.home.executor; ready = x.ready; chosen = chosen_of x.played x.chosen; journal = x.journal; checkpoint = x.checkpoint.view; fields = rows_of x.fields.items } in
     let h = c.in-Ok-apply_locked.ensures.ok in
     let w = c.in-Ok.ensures.written in
     let has : HasChosen s (λ c. IsPlayed c.stage) = subst (λ (v : ExecView). HasChosen v (λ c. IsPlayed c.stage)) (sym c.self.view_is) c.requires.played in
@@ -74,7 +73,7 @@ invariant_of-self-in-Ok-apply_locked g c =
 pub returns-in-Ok-apply_locked-clause-ok : goal.returns-in-Ok-apply_locked-clause-ok
 returns-in-Ok-apply_locked-clause-ok g c =
     let x = c.self.inside in
-    let s : ExecView = record { script = arc_value x.script; executor = x.executor.0; ready = x.ready; chosen = chosen_of x.played x.chosen; journal = x.journal; checkpoint = x.checkpoint.view; fields = rows_of x.fields.items } in
+    let s : ExecView = record { script = x.home.script; executor = x.home.executor; ready = x.ready; chosen = chosen_of x.played x.chosen; journal = x.journal; checkpoint = x.checkpoint.view; fields = rows_of x.fields.items } in
     let h = c.in-Ok-apply_locked.ensures.ok in
     let w = c.in-Ok.ensures.written in
     let has : HasChosen s (λ c. IsPlayed c.stage) = subst (λ (v : ExecView). HasChosen v (λ c. IsPlayed c.stage)) (sym c.self.view_is) c.requires.played in
@@ -103,7 +102,7 @@ returns-in-Ok-apply_locked-clause-ok g c =
 pub returns-in-Ok-apply_locked-clause-known : goal.returns-in-Ok-apply_locked-clause-known
 returns-in-Ok-apply_locked-clause-known g c =
     let x = c.self.inside in
-    let s : ExecView = record { script = arc_value x.script; executor = x.executor.0; ready = x.ready; chosen = chosen_of x.played x.chosen; journal = x.journal; checkpoint = x.checkpoint.view; fields = rows_of x.fields.items } in
+    let s : ExecView = record { script = x.home.script; executor = x.home.executor; ready = x.ready; chosen = chosen_of x.played x.chosen; journal = x.journal; checkpoint = x.checkpoint.view; fields = rows_of x.fields.items } in
     let h = c.in-Ok-apply_locked.ensures.ok in
     let w = c.in-Ok.ensures.written in
     let has : HasChosen s (λ c. IsPlayed c.stage) = subst (λ (v : ExecView). HasChosen v (λ c. IsPlayed c.stage)) (sym c.self.view_is) c.requires.played in
@@ -140,7 +139,7 @@ returns-in-Ok-apply_locked-clause-bodies g c =
 pub invariant_of-self-in-Err : goal.invariant_of-self-in-Err
 invariant_of-self-in-Err g c =
     let x = c.self.inside in
-    let s : ExecView = record { script = arc_value x.script; executor = x.executor.0; ready = x.ready; chosen = chosen_of x.played x.chosen; journal = x.journal; checkpoint = x.checkpoint.view; fields = rows_of x.fields.items } in
+    let s : ExecView = record { script = x.home.script; executor = x.home.executor; ready = x.ready; chosen = chosen_of x.played x.chosen; journal = x.journal; checkpoint = x.checkpoint.view; fields = rows_of x.fields.items } in
     let w = c.in-Ok.ensures.written in
     let has : HasChosen s (λ c. IsPlayed c.stage) = subst (λ (v : ExecView). HasChosen v (λ c. IsPlayed c.stage)) (sym c.self.view_is) c.requires.played in
     let same = unchanged s x.played x.played x.chosen.arrival x.chosen.stage x.chosen.job c.apply_locked.new.place w.0 c.prepare.new.journal refl w.1 has w.2
@@ -150,7 +149,7 @@ invariant_of-self-in-Err g c =
 pub returns-in-Err-clause-back : goal.returns-in-Err-clause-back
 returns-in-Err-clause-back g c =
     let x = c.self.inside in
-    let s : ExecView = record { script = arc_value x.script; executor = x.executor.0; ready = x.ready; chosen = chosen_of x.played x.chosen; journal = x.journal; checkpoint = x.checkpoint.view; fields = rows_of x.fields.items } in
+    let s : ExecView = record { script = x.home.script; executor = x.home.executor; ready = x.ready; chosen = chosen_of x.played x.chosen; journal = x.journal; checkpoint = x.checkpoint.view; fields = rows_of x.fields.items } in
     let w = c.in-Ok.ensures.written in
     let has : HasChosen s (λ c. IsPlayed c.stage) = subst (λ (v : ExecView). HasChosen v (λ c. IsPlayed c.stage)) (sym c.self.view_is) c.requires.played in
     let same = unchanged s x.played x.played x.chosen.arrival x.chosen.stage x.chosen.job c.apply_locked.new.place w.0 c.prepare.new.journal refl w.1 has w.2
@@ -160,7 +159,7 @@ returns-in-Err-clause-back g c =
 pub returns-in-Err-clause-known : goal.returns-in-Err-clause-known
 returns-in-Err-clause-known g c =
     let x = c.self.inside in
-    let s : ExecView = record { script = arc_value x.script; executor = x.executor.0; ready = x.ready; chosen = chosen_of x.played x.chosen; journal = x.journal; checkpoint = x.checkpoint.view; fields = rows_of x.fields.items } in
+    let s : ExecView = record { script = x.home.script; executor = x.home.executor; ready = x.ready; chosen = chosen_of x.played x.chosen; journal = x.journal; checkpoint = x.checkpoint.view; fields = rows_of x.fields.items } in
     let w = c.in-Ok.ensures.written in
     let has : HasChosen s (λ c. IsPlayed c.stage) = subst (λ (v : ExecView). HasChosen v (λ c. IsPlayed c.stage)) (sym c.self.view_is) c.requires.played in
     let same = unchanged s x.played x.played x.chosen.arrival x.chosen.stage x.chosen.job c.apply_locked.new.place w.0 c.prepare.new.journal refl w.1 has w.2
@@ -171,7 +170,7 @@ returns-in-Err-clause-known g c =
 pub returns-in_default-clause-known : goal.returns-in_default-clause-known
 returns-in_default-clause-known g c =
     let x = c.self.inside in
-    let s : ExecView = record { script = arc_value x.script; executor = x.executor.0; ready = x.ready; chosen = chosen_of x.played x.chosen; journal = x.journal; checkpoint = x.checkpoint.view; fields = rows_of x.fields.items } in
+    let s : ExecView = record { script = x.home.script; executor = x.home.executor; ready = x.ready; chosen = chosen_of x.played x.chosen; journal = x.journal; checkpoint = x.checkpoint.view; fields = rows_of x.fields.items } in
     let same : record s { journal = c.prepare.new.journal; checkpoint = c.prepare.new.checkpoint.view } ≡ c.args.self.now =
     ap (λ j. record s { journal = j; checkpoint = c.prepare.new.checkpoint.view }) c.in_default.ensures.err ∙ ap (λ v. record s { checkpoint = v }) c.in_default.ensures.same ∙ c.self.view_is in
     let back = subst (λ (v : ExecView). HasChosen v (PutsBack v c.put_back.new.self)) same c.put_back.ensures in
