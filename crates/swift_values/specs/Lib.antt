@@ -1,0 +1,2 @@
+pub mod LastTurns
+pub mod Values
