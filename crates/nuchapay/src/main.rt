@@ -140,7 +140,9 @@ fn answered(rt: &HostRuntime, name: TurnName, found: Result<Explained, ToolFault
     match found {
         Ok(Explained::Found(said)) => told(rt, shown(rt, &said)),
         Ok(Explained::Folded) => {
-            let _ = eprintln!(rt; "nuchapay: t{task}.{number} was folded into a checkpoint, which keeps no fields of it");
+            let _ = eprintln!(rt;
+                "nuchapay: t{task}.{number} was folded into a checkpoint, which keeps no fields of it"
+            );
             2
         }
         Ok(Explained::Nowhere) => {

@@ -63,12 +63,6 @@ where
     R: RandomSource + AllocGlobal + Threads + Wait + Sync,
 {
     let (script, report) = ran(rt, text, workers)?;
-    let found = explain_turn(
-        rt.alloc(),
-        &script,
-        &report,
-        TaskId(name.task),
-        name.number,
-    )?;
+    let found = explain_turn(rt.alloc(), &script, &report, TaskId(name.task), name.number)?;
     Ok(found)
 }

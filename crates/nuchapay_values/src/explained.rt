@@ -7,11 +7,12 @@ use crate::names::{Found, find_turn};
 use crate::notes::{write_broken, write_change, write_changes, write_place};
 use crate::number::number;
 use crate::printed::{method_text, method_word};
+use crate::report::heading_lines;
 use crate::statement::{Names, write_statement, write_variable};
 use crate::words::Words;
 use script_code::Instruction;
 use std::alloc::{AllocError, Global};
-use swift_journal::{Checkpoint, Journal, OwnedRecord};
+use swift_journal::{Journal, OwnedRecord};
 use swift_report::{Report, report_text};
 use swift_script::Script;
 use swift_types::{ActorId, ExecId, LocalId, TaskId};
@@ -143,21 +144,15 @@ fn row_of(actors: &[ActorId], actor: ActorId) -> usize {
 fn lines_before(report: &Report, executor: usize) -> usize {
     let mut lines: usize = 1;
     for (place, journal) in report.journals.iter().enumerate() {
-        lines = lines.saturating_add(heading_lines(report.checkpoints.get(place)));
+        if let Some(checkpoint) = report.checkpoints.get(place) {
+            lines = lines.saturating_add(heading_lines(checkpoint));
+        }
         if place == executor {
             return lines;
         }
         lines = lines.saturating_add(journal.len());
     }
     lines
-}
-
-// How many lines stand before the turns of a journal.
-fn heading_lines(checkpoint: Option<&Checkpoint>) -> usize {
-    match checkpoint {
-        Some(checkpoint) if checkpoint.len() > 0 => 2,
-        _ => 1,
-    }
 }
 
 // What a turn began with, as its line has it: what stands between the six words in front and the arrow.
@@ -318,9 +313,10 @@ fn write_fields(
     }
     let invariants = invariants_of(alloc, turn.script, printed, turn.executor)?;
     out.extend_from_slice(b"would have left\n")?;
-    write_changes(out, turn.script, turn.executor, b"    ", &own.changes)?;
+    write_changes(out, turn.script, turn.executor, b"", &own.changes)?;
     write_broken(
         out,
+        alloc,
         turn.script,
         turn.executor,
         &invariants,

@@ -81,17 +81,18 @@ pub fn invariants_of<'a>(
     Ok(invariants)
 }
 
-/// Appends which invariant is false of these fields, if it is there: `invariant ( a >= 0 ) of A is false with a -1`.
-pub fn write_false(
-    out: &mut Vec<u8>,
+/// Which invariant is false of these fields, if it is there: `invariant ( a >= 0 ) of A is false with a -1`.
+pub fn false_text(
+    alloc: Global,
     script: &Script,
     executor: ExecId,
     invariants: &[Invariant<'_>],
     place: usize,
     fields: &[Vec<i64>],
-) -> Result<(), AllocError> {
+) -> Result<Vec<u8>, AllocError> {
+    let mut out = Vec::new(alloc);
     let Some(invariant) = invariants.get(place) else {
-        return Ok(());
+        return Ok(out);
     };
     out.extend_from_slice(b"invariant ")?;
     out.extend_from_slice(invariant.text)?;
@@ -105,7 +106,7 @@ pub fn write_false(
         let actor = actor_at(script, executor, field.actor as usize);
         out.extend_from_slice(script.field_name(actor, field.field as usize))?;
         out.extend_from_slice(b" ")?;
-        number(out, value_at(fields, *field))?;
+        number(&mut out, value_at(fields, *field))?;
     }
-    Ok(())
+    Ok(out)
 }

@@ -30,6 +30,26 @@ pub fn copy_line(out: &mut Vec<u8>, text: &[u8], from: usize) -> Result<usize, A
     Ok(end)
 }
 
+/// Appends so many lines of a text, of which the first begins here. Where the next one begins.
+pub fn copy_lines(
+    out: &mut Vec<u8>,
+    text: &[u8],
+    from: usize,
+    count: usize,
+) -> Result<usize, AllocError>
+    requires { from ≤ length text.now }
+    ensures after { IfOk result (λ end. from ≤ end) }
+    ensures within { IfOk result (λ end. end ≤ length text.now) }
+    ensures copied { IfOk result (λ end. out.new.items ≡ out.old.items ++ slice_range text.now from end) }
+{
+    let mut at = from;
+    for _ in 0..count {
+        at = end_of_line(text, at);
+    }
+    out.extend_from_slice(&text[from..at])?;
+    Ok(at)
+}
+
 /// The line of a text after so many others, without its line feed; empty where there is none.
 pub fn line_at(text: &[u8], number: usize) -> &[u8] {
     let mut from = 0;

@@ -1,12 +1,12 @@
 //! What is said of one turn in a report.
 
-ghost use Rattle.std.specs.Prelude.{◌≡◌, ◌++◌, OnOk};
-ghost use Rattle.nuchapay_values.specs.Notes.{actor_at as actor_among, change_text, place_text};
+ghost use Rattle.std.specs.Prelude.{◌≡◌, ◌++◌, map, OnOk};
+ghost use Rattle.nuchapay_values.specs.Notes.{AppendsNotes, actor_at as actor_among, change_text, note_line, note_lines, place_text};
 
 use crate::fields::{make, take_back};
-use crate::invariants::{Invariant, write_false};
+use crate::invariants::{Invariant, false_text};
 use crate::number::number;
-use std::alloc::AllocError;
+use std::alloc::{AllocError, Global};
 use swift_script::Script;
 use swift_types::{ActorId, ExecId};
 use swift_values::{Change, Outcome, TurnValues};
@@ -57,62 +57,72 @@ pub fn write_change(
     number(out, change.after)
 }
 
-/// Appends a line for each of these changes, which begins so.
+/// Appends a line for each of these changes, which says so much in front.
 pub(crate) fn write_changes(
     out: &mut Vec<u8>,
     script: &Script,
     executor: ExecId,
-    lead: &[u8],
+    front: &[u8],
     changes: &[Change],
-) -> Result<(), AllocError> {
+) -> Result<(), AllocError>
+    ensures { OnOk result (out.new.items ≡ out.old.items ++ note_lines (map (λ c. front.now ++ change_text script.now executor.0 c) changes.now)) }
+{
     for change in changes {
-        out.extend_from_slice(lead)?;
+        out.extend_from_slice(b"    ")?;
+        out.extend_from_slice(front)?;
         write_change(out, script, executor, change)?;
         out.extend_from_slice(b"\n")?;
     }
     Ok(())
 }
 
-/// Appends a line that says which invariant a turn would have left false, on these fields from before it.
+// Appends a line of a note.
+fn write_line(out: &mut Vec<u8>, words: &[u8]) -> Result<(), AllocError>
+    ensures { OnOk result (out.new.items ≡ out.old.items ++ note_line words.now) }
+{
+    out.extend_from_slice(b"    ")?;
+    out.extend_from_slice(words)?;
+    out.extend_from_slice(b"\n")
+}
+
+/// Appends a line that says which invariant a turn would have left false, if it is one, on these fields from before it.
 pub(crate) fn write_broken(
     out: &mut Vec<u8>,
+    alloc: Global,
     script: &Script,
     executor: ExecId,
     invariants: &[Invariant<'_>],
     fields: &mut [Vec<i64>],
     turn: &TurnValues,
-) -> Result<(), AllocError> {
+) -> Result<(), AllocError>
+    ensures { OnOk result (AppendsNotes out.old.items out.new.items) }
+{
     let Outcome::Broke(place) = turn.outcome else {
         return Ok(());
     };
     make(fields, &turn.changes);
-    out.extend_from_slice(b"    ")?;
-    write_false(out, script, executor, invariants, place, fields)?;
-    out.extend_from_slice(b"\n")?;
+    let said = false_text(alloc, script, executor, invariants, place, fields)?;
     take_back(fields, &turn.changes);
-    Ok(())
+    write_line(out, &said)
 }
 
 /// Appends what is said below the line of a turn: which fields it changed; of one that was undone, what it would have left, and which
 /// invariant is false there. The fields are those from before it, and then those after it.
 pub(crate) fn write_notes(
     out: &mut Vec<u8>,
+    alloc: Global,
     script: &Script,
     executor: ExecId,
     invariants: &[Invariant<'_>],
     fields: &mut [Vec<i64>],
     turn: &TurnValues,
-) -> Result<(), AllocError> {
+) -> Result<(), AllocError>
+    ensures { OnOk result (AppendsNotes out.old.items out.new.items) }
+{
     if let Outcome::Kept = turn.outcome {
         make(fields, &turn.changes);
-        return write_changes(out, script, executor, b"    ", &turn.changes);
+        return write_changes(out, script, executor, b"", &turn.changes);
     }
-    write_changes(
-        out,
-        script,
-        executor,
-        b"    would have left ",
-        &turn.changes,
-    )?;
-    write_broken(out, script, executor, invariants, fields, turn)
+    write_changes(out, script, executor, b"would have left ", &turn.changes)?;
+    write_broken(out, alloc, script, executor, invariants, fields, turn)
 }

@@ -21,7 +21,9 @@ pub fn invariant_text<'a>(printed: &Words<'a>, actor: usize) -> &'a [u8] {
 /// The place of the word `func` of a method of an actor; past the last word where it is not there.
 pub fn method_word(printed: &Words<'_>, actor: usize, name: &[u8]) -> usize {
     for place in actor_word(printed, actor)..printed.len() {
-        if printed.word(place) == b"func" && printed.word(place.saturating_add(1)) == name {
+        if printed.word(place) == b"func".as_slice()
+            && printed.word(place.saturating_add(1)) == name
+        {
             return place;
         }
     }

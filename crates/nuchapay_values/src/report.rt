@@ -1,10 +1,12 @@
 //! The report with what is said of each turn.
 
-ghost use Rattle.std.specs.Prelude.{◌≤◌, length, IfOk};
+ghost use Rattle.std.specs.Prelude.{◌≤◌, false, length, IfOk};
+ghost use Rattle.swift_report.specs.Text.{report_text as text_of};
+ghost use Rattle.nuchapay_values.specs.Notes.{AppendsAnnotated, IsAnnotated};
 
 use crate::fields::copy_of;
 use crate::invariants::invariants_of;
-use crate::lines::copy_line;
+use crate::lines::{copy_line, copy_lines};
 use crate::notes::write_notes;
 use crate::words::Words;
 use std::alloc::{AllocError, Global};
@@ -13,6 +15,11 @@ use swift_report::{Report, report_text};
 use swift_script::Script;
 use swift_types::ExecId;
 use swift_values::turn_values;
+
+/// How many lines stand before those of the turns of an executor's journal: one, and one more where turns were folded.
+pub(crate) fn heading_lines(checkpoint: &Checkpoint) -> usize {
+    if checkpoint.len() == 0 { 1 } else { 2 }
+}
 
 // Appends the lines of an executor, with what is said of each turn. Where the next executor's begin.
 fn write_executor(
@@ -23,23 +30,24 @@ fn write_executor(
     script: &Script,
     printed: &Words<'_>,
     executor: ExecId,
-    checkpoint: &Checkpoint,
+    checkpoint: Option<&Checkpoint>,
     journal: &Journal,
 ) -> Result<usize, AllocError>
     requires { from ≤ length text.now }
-    ensures { IfOk result (λ end. end ≤ length text.now) }
+    ensures after { IfOk result (λ end. from ≤ end) }
+    ensures within { IfOk result (λ end. end ≤ length text.now) }
+    ensures annotated { IfOk result (λ end. AppendsAnnotated text.now from end out.old.items out.new.items) }
 {
+    let Some(checkpoint) = checkpoint else {
+        return Ok(from);
+    };
     let invariants = invariants_of(alloc, script, printed, executor)?;
     let values = turn_values(alloc, script, checkpoint.fields(), journal)?;
     let mut fields = copy_of(alloc, checkpoint.fields())?;
-    let mut at = copy_line(out, text, from)?;
-    // The line that says how many turns were folded.
-    if checkpoint.len() > 0 {
-        at = copy_line(out, text, at)?;
-    }
+    let mut at = copy_lines(out, text, from, heading_lines(checkpoint))?;
     for turn in &values {
         at = copy_line(out, text, at)?;
-        write_notes(out, script, executor, &invariants, &mut fields, turn)?;
+        write_notes(out, alloc, script, executor, &invariants, &mut fields, turn)?;
     }
     Ok(at)
 }
@@ -57,18 +65,19 @@ pub fn report_with_values(
     alloc: Global,
     script: &Script,
     report: &Report,
-) -> Result<Vec<u8>, AllocError> {
+) -> Result<Vec<u8>, AllocError>
+    ensures { IfOk result (λ said. IsAnnotated (text_of script.now report.now false) said.items) }
+{
     let text = report_text(alloc, script, report, false)?;
     let printed = Words::new(alloc, script.printed())?;
     let mut out = Vec::with_capacity(alloc, text.len())?;
     let mut at = copy_line(&mut out, &text, 0)?;
     for (place, journal) in report.journals.iter().enumerate() {
-        if let Some(checkpoint) = report.checkpoints.get(place) {
-            let executor = ExecId(place as u32);
-            at = write_executor(
-                &mut out, &text, at, alloc, script, &printed, executor, checkpoint, journal,
-            )?;
-        }
+        let checkpoint = report.checkpoints.get(place);
+        let executor = ExecId(place as u32);
+        at = write_executor(
+            &mut out, &text, at, alloc, script, &printed, executor, checkpoint, journal,
+        )?;
     }
     out.extend_from_slice(&text[at..])?;
     Ok(out)
@@ -96,6 +105,7 @@ pub fn turn_notes(
         let mut note = Vec::new(alloc);
         write_notes(
             &mut note,
+            alloc,
             script,
             executor,
             &invariants,

@@ -35,11 +35,7 @@ pub fn write_variable(
 }
 
 // A field by its name, and for one of another actor that in front.
-fn write_field(
-    out: &mut Vec<u8>,
-    names: &Names<'_>,
-    place: FieldPlace,
-) -> Result<(), AllocError> {
+fn write_field(out: &mut Vec<u8>, names: &Names<'_>, place: FieldPlace) -> Result<(), AllocError> {
     let actor = actor_at(names.script, names.executor, place.actor as usize);
     if actor != names.actor {
         out.extend_from_slice(names.script.actor_name(actor))?;

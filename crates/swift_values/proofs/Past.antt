@@ -24,9 +24,6 @@ end_code : (k : ℕ) → code_at end k ≡ end
 unfolding code_at
 end_code k = one_code _
 
-none_there : (k : ℕ) → slice_get {T = Instruction} [] k ≡ slice_get [] k
-none_there k = refl
-
 empty_follows : Follows [] end (code_at end)
 empty_follows = record {
   start = end_code 0;

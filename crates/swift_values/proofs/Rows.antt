@@ -49,7 +49,7 @@ no_difference changes actor before after same =
 pub row_more : (actor i : ℕ) (xs ys : List ℤ) → i < length xs → i < length ys
     → row_differences actor i (drop i xs) (drop i ys) ≡ difference actor i (get_or xs i (pos 0)) (get_or ys i (pos 0)) ++ row_differences actor (i + 1) (drop (i + 1) xs) (drop (i + 1) ys)
 row_more actor i xs ys within below =
-    at_drop_more (λ (as : List ℤ). row_differences actor i as (drop i ys)) xs i (pos 0) within
+    at_drop_more (λ (l : List ℤ). row_differences actor i l (drop i ys)) xs i (pos 0) within
     ∙ at_drop_more (λ (bs : List ℤ). row_differences actor i (get_or xs i (pos 0) ∷ drop (i + 1) xs) bs) ys i (pos 0) below
 
 row_none : (actor field : ℕ) (xs : List ℤ) → row_differences actor field xs [] ≡ []
@@ -61,18 +61,18 @@ row_end actor i xs ys past = elim (cases_lt i (length xs)) [
   | inl lt ↦
       let short : length ys ≤ i = omega arith in
       at_drop_all (λ (bs : List ℤ). row_differences actor i (drop i xs) bs) ys i short ∙ row_none actor i (drop i xs)
-  | inr ge ↦ at_drop_all (λ (as : List ℤ). row_differences actor i as (drop i ys)) xs i ge
+  | inr ge ↦ at_drop_all (λ (l : List ℤ). row_differences actor i l (drop i ys)) xs i ge
 ]
 
 -- the same of rows
 pub rows_more : (i : ℕ) (xs ys : List (List ℤ)) → i < length xs → i < length ys
     → differences i (drop i xs) (drop i ys) ≡ row_differences i 0 (get_or xs i []) (get_or ys i []) ++ differences (i + 1) (drop (i + 1) xs) (drop (i + 1) ys)
 rows_more i xs ys within below =
-    at_drop_more (λ (as : List (List ℤ)). differences i as (drop i ys)) xs i [] within
+    at_drop_more (λ (l : List (List ℤ)). differences i l (drop i ys)) xs i [] within
     ∙ at_drop_more (λ (bs : List (List ℤ)). differences i (get_or xs i [] ∷ drop (i + 1) xs) bs) ys i [] below
 
 pub rows_end : (i : ℕ) (xs ys : List (List ℤ)) → length xs ≡ length ys → length xs ≤ i → differences i (drop i xs) (drop i ys) ≡ []
-rows_end i xs ys same past = at_drop_all (λ (as : List (List ℤ)). differences i as (drop i ys)) xs i past
+rows_end i xs ys same past = at_drop_all (λ (l : List (List ℤ)). differences i l (drop i ys)) xs i past
 
 -- where two lists are the same from a place on, they are so at that place
 pub at_drop_same : (xs ys : List (List ℤ)) (i : ℕ) → drop i xs ≡ drop i ys → get_or xs i [] ≡ get_or ys i []

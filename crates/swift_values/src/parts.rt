@@ -11,7 +11,6 @@ use swift_script::Script;
 use swift_types::{ActorId, MethodId};
 
 /// The instructions of a method.
-#[tactic(auto, using(crate::proofs::Past::no_instructions))]
 pub fn instructions_of(script: &Script, method: MethodId) -> &[Instruction]
     ensures { Follows result.now (method_code script.now method.0) (code_at (method_code script.now method.0)) }
 {

@@ -9,6 +9,7 @@ ghost use Rattle.swift_journal.specs.Records.{owned_view};
 ghost use Rattle.swift_journal.specs.Replay.{fields_after};
 ghost use Rattle.script_code.specs.Tree.{terms_of};
 ghost use Rattle.swift_turn.specs.Body.{invariants_at};
+ghost use Rattle.swift_values.specs.KeepingInside.{fields_of};
 ghost use Rattle.swift_values.specs.Values.{outcome_of, played_turn, turn_values, values_view};
 
 use crate::change::{Outcome, TurnValues};
@@ -131,11 +132,23 @@ impl Player {
         let mut changes = Vec::new(alloc);
         add_differences(&mut changes, &self.saved, &self.fields, &self.turn.fields)?;
         let outcome = became(alloc, invariants, &exit, &self.turn.fields);
-        match outcome {
-            Outcome::Kept => follow(&mut self.fields, &self.saved, &self.turn.fields)?,
-            Outcome::Undone | Outcome::Broke(_) => self.saved.put_back(&mut self.turn.fields),
-        }
+        self.settle(outcome)?;
         Ok(TurnValues { outcome, changes })
+    }
+
+    // Keeps the fields that a turn has left, or puts those back from before it.
+    fn settle(&mut self, outcome: Outcome) -> Result<(), AllocError>
+        requires { restored self.old.saved (rows_of self.old.turn.fields.items) ≡ rows_of self.old.fields.items }
+        ensures fields { OnOk result (rows_of self.new.fields.items ≡ fields_of outcome (rows_of self.old.fields.items) (rows_of self.old.turn.fields.items)) }
+        ensures same { OnOk result (rows_of self.new.turn.fields.items ≡ rows_of self.new.fields.items) }
+    {
+        match outcome {
+            Outcome::Kept => follow(&mut self.fields, &self.saved, &self.turn.fields),
+            Outcome::Undone | Outcome::Broke(_) => {
+                self.saved.put_back(&mut self.turn.fields);
+                Ok(())
+            }
+        }
     }
 }
 

@@ -7,3 +7,6 @@ invariant-loop-left l = record {
   within : l.left ≤ l.place;
   others : (other : ℕ) → l.left ≤ other → other < l.place → IsOfOther l.journal l.place other;
 }
+
+abbrev pub decreases-loop-left : goal.decreases-loop-left
+decreases-loop-left l = l.left
