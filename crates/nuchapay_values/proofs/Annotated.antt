@@ -1,5 +1,5 @@
 -- Texts with lines of notes in them, part by part.
-use Rattle.std.proofs.Common.{◌≡◌, ℕ, ◌+◌, ◌-◌, ◌≤◌, List, [], ◌∷◌, ◌++◌, take, drop, length, refl, sym, ap, ap₂, ◌∙◌, append_assoc, append-nil, drop-drop, length-drop, take-add, take_all, arith}
+use Rattle.std.proofs.Common.{◌≡◌, ℕ, ◌+◌, ◌-◌, ◌≤◌, List, [], ◌∷◌, ◌++◌, take, drop, length, refl, sym, ap, ap₂, ◌∙◌, append_assoc, append-nil, drop-drop, take-add, take_all, arith}
 use Rattle.std.specs.Prelude.{slice_range}
 use Rattle.nuchapay_values.specs.Notes.{AppendsAnnotated, AppendsNotes, IsAnnotated, Piece, note_line, note_lines, with_notes, without_notes}
 
@@ -48,16 +48,15 @@ joined text a b c old mid new ab bc first second =
     let ps = first.0 in
     let qs = second.0 in (
       ps ++ qs,
-      without_append ps qs ∙ ap₂ (λ (xs ys : List ℕ). xs ++ ys) first.1.0 second.1.0 ∙ range_join text a b c ab bc,
-      second.1.1 ∙ ap (λ (xs : List ℕ). xs ++ with_notes qs) first.1.1 ∙ append_assoc old (with_notes ps) (with_notes qs) ∙ ap (λ (xs : List ℕ). old ++ xs) (sym (with_append ps qs)),
+      without_append ps qs ∙ ap₂ (λ (xs ys : List ℕ). xs ++ ys) first.1 second.1 ∙ range_join text a b c ab bc,
+      second.2 ∙ ap (λ (xs : List ℕ). xs ++ with_notes qs) first.2 ∙ append_assoc old (with_notes ps) (with_notes qs) ∙ ap (λ (xs : List ℕ). old ++ xs) (sym (with_append ps qs)),
     )
 
 -- a text from its beginning to its end
-pub whole : (text : List ℕ) (at : ℕ) (mid new : List ℕ) → at ≤ length text → AppendsAnnotated text 0 at [] mid → new ≡ mid ++ drop at text → IsAnnotated text new
+pub whole : (text : List ℕ) (at : ℕ) (mid new : List ℕ) → at ≤ length text → AppendsAnnotated text 0 at [] mid → new ≡ mid ++ slice_range text at (length text) → IsAnnotated text new
 whole text at mid new within first is =
-    let rest : drop at text ≡ slice_range text at (length text) = sym (take_all (length text - at) (drop at text) (omega (arith, length-drop at text))) in
-    let all = joined text 0 at (length text) [] mid new (omega arith) within first (plain text at (length text) mid new (is ∙ ap (λ (xs : List ℕ). mid ++ xs) rest)) in
-    (all.0, all.1.0 ∙ take_all (length text - 0) text (omega arith), sym all.1.1)
+    let all = joined text 0 at (length text) [] mid new (omega arith) within first (plain text at (length text) mid new is) in
+    (all.0, all.1 ∙ take_all (length text - 0) text (omega arith), sym all.2)
 
 -- no lines, and some after others
 pub no_notes : (old : List ℕ) → AppendsNotes old old
@@ -70,3 +69,11 @@ lines_append (x ∷ xs) ys = ap (λ (zs : List ℕ). note_line x ++ zs) (lines_a
 pub more_notes : (old mid new : List ℕ) (lines : List (List ℕ)) → mid ≡ old ++ note_lines lines → AppendsNotes mid new → AppendsNotes old new
 more_notes old mid new lines first second =
     (lines ++ second.0, second.1 ∙ ap (λ (xs : List ℕ). xs ++ note_lines second.0) first ∙ append_assoc old (note_lines lines) (note_lines second.0) ∙ ap (λ (xs : List ℕ). old ++ xs) (sym (lines_append lines second.0)))
+
+-- one line
+pub one_note : (old new words : List ℕ) → new ≡ old ++ note_line words → AppendsNotes old new
+one_note old new words is = (words ∷ [], is ∙ ap (λ (xs : List ℕ). old ++ xs) (sym (append-nil (note_line words))))
+
+-- the beginning of a text, after nothing
+pub first_part : (text lent : List ℕ) (at : ℕ) (old new : List ℕ) → lent ≡ text → old ≡ [] → new ≡ old ++ slice_range lent 0 at → AppendsAnnotated text 0 at [] new
+first_part text lent at old new same empty is = plain text 0 at [] new (is ∙ ap₂ (λ (o l : List ℕ). o ++ slice_range l 0 at) empty same)

@@ -91,8 +91,11 @@ fn explain_at(
     if method.0 as usize >= script.method_count() {
         return Ok(Explained::Nowhere);
     }
+    let Ok(executor_number) = u32::try_from(executor) else {
+        return Ok(Explained::Nowhere);
+    };
+    let executor_id = ExecId(executor_number);
     let actor = script.method_actor(method);
-    let executor_id = ExecId(executor as u32);
     let turn = Turn {
         script,
         executor: executor_id,

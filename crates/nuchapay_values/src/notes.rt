@@ -103,7 +103,8 @@ pub(crate) fn write_broken(
     make(fields, &turn.changes);
     let said = false_text(alloc, script, executor, invariants, place, fields)?;
     take_back(fields, &turn.changes);
-    write_line(out, &said)
+    write_line(out, &said)?;
+    Ok(())
 }
 
 /// Appends what is said below the line of a turn: which fields it changed; of one that was undone, what it would have left, and which
@@ -124,5 +125,6 @@ pub(crate) fn write_notes(
         return write_changes(out, script, executor, b"", &turn.changes);
     }
     write_changes(out, script, executor, b"would have left ", &turn.changes)?;
-    write_broken(out, alloc, script, executor, invariants, fields, turn)
+    write_broken(out, alloc, script, executor, invariants, fields, turn)?;
+    Ok(())
 }

@@ -21,7 +21,7 @@ pub(crate) fn heading_lines(checkpoint: &Checkpoint) -> usize {
     if checkpoint.len() == 0 { 1 } else { 2 }
 }
 
-// Appends the lines of an executor, with what is said of each turn. Where the next executor's begin.
+// Appends the lines of the executor at a place, with what is said of each turn. Where the next executor's begin.
 fn write_executor(
     out: &mut Vec<u8>,
     text: &[u8],
@@ -29,7 +29,7 @@ fn write_executor(
     alloc: Global,
     script: &Script,
     printed: &Words<'_>,
-    executor: ExecId,
+    place: usize,
     checkpoint: Option<&Checkpoint>,
     journal: &Journal,
 ) -> Result<usize, AllocError>
@@ -41,6 +41,10 @@ fn write_executor(
     let Some(checkpoint) = checkpoint else {
         return Ok(from);
     };
+    let Ok(number) = u32::try_from(place) else {
+        return Ok(from);
+    };
+    let executor = ExecId(number);
     let invariants = invariants_of(alloc, script, printed, executor)?;
     let values = turn_values(alloc, script, checkpoint.fields(), journal)?;
     let mut fields = copy_of(alloc, checkpoint.fields())?;
@@ -74,9 +78,8 @@ pub fn report_with_values(
     let mut at = copy_line(&mut out, &text, 0)?;
     for (place, journal) in report.journals.iter().enumerate() {
         let checkpoint = report.checkpoints.get(place);
-        let executor = ExecId(place as u32);
         at = write_executor(
-            &mut out, &text, at, alloc, script, &printed, executor, checkpoint, journal,
+            &mut out, &text, at, alloc, script, &printed, place, checkpoint, journal,
         )?;
     }
     out.extend_from_slice(&text[at..])?;

@@ -1,10 +1,10 @@
 -- What is kept of a turn, by what becomes of it.
-use Rattle.std.proofs.Common.{◌≡◌, ℕ, ◌+◌, ℤ, Bool, true, false, if◌then◌else◌, Option, Some, None, List, [], ◌∷◌, refl, sym, ap, ◌∙◌}
+use Rattle.std.proofs.Common.{◌≡◌, ℕ, ◌+◌, ℤ, Bool, true, false, if◌then◌else◌, Some, List, [], ◌∷◌, refl, sym, ap, ◌∙◌}
 use Rattle.script_code.specs.Tree.{Term}
 use Rattle.script_code.specs.Value.{holds}
-use Rattle.swift_interpreter.specs.Turn.{State, Given, ExitView, failing, calling, waiting, asking_next, closing, yielding, returning, Played, undoes, all_hold, exits, left_by, kept_of}
+use Rattle.swift_interpreter.specs.Turn.{State, ExitView, failing, Played, undoes, all_hold, exits, left_by, kept_of}
 use Rattle.swift_values.specs.declared.change.Outcome.{Outcome}
-use Rattle.swift_values.specs.declared.change.Outcome.TheVariants.{Kept, Undone, Broke}
+use Rattle.swift_values.specs.declared.change.Outcome.TheVariants.{Undone}
 use Rattle.swift_script.specs.Scripts.{ScriptView}
 use Rattle.swift_turn.specs.Body.{invariants_at, state_at}
 use Rattle.swift_journal.specs.Records.{RecordView}

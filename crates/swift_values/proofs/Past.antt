@@ -1,11 +1,10 @@
 -- A method that a script lacks has no statements, and is of the first actor.
-use Rattle.std.proofs.Common.{◌≡◌, ℕ, ◌≤◌, zero, suc, Option, List, [], ◌∷◌, length, refl, sym, ap, subst, ◌∙◌}
+use Rattle.std.proofs.Common.{◌≡◌, ℕ, ◌≤◌, zero, suc, Option, List, [], ◌∷◌, length, refl, sym, ap, subst}
 use Rattle.std.specs.Prelude.{slice_get, unwrap_or}
 use Rattle.std.proofs.lemmas.Option.{slice_get_past}
 use Rattle.script_code.specs.Instructions.{Follows, first}
 use Rattle.script_code.specs.Layout.{code_at}
 use Rattle.script_code.specs.Tree.{Code, end}
-use Rattle.script_code.specs.declared.instruction.Instruction.{Instruction}
 use Rattle.script_compiler.specs.Compiled.{MethodView}
 use Rattle.swift_script.specs.Scripts.{ScriptView, parts_of, no_method, method_actor, method_code, method_count}
 

@@ -1,5 +1,5 @@
 -- Rows of fields, of which those that differ were saved.
-use Rattle.std.proofs.Common.{◌≡◌, ℕ, ℤ, zero, suc, ◌+◌, ◌<◌, Bool, true, false, if◌then◌else◌, List, [], ◌∷◌, ◌++◌, ◌==◌, ◌≤◌, pos, length, take, drop, set, get_or, refl, sym, ap, ap₂, subst, ◌∙◌, inl, inr, arith}
+use Rattle.std.proofs.Common.{◌≡◌, ℕ, ℤ, ◌+◌, ◌<◌, Bool, true, false, if◌then◌else◌, List, [], ◌∷◌, ◌++◌, ◌==◌, ◌≤◌, pos, length, take, drop, set, get_or, refl, sym, ap, ap₂, ◌∙◌, inl, inr, arith}
 use Prim.Native.Nat.{min}
 use Rattle.std.proofs.lemmas.Bool.{cases_eq, cases_lt, cond-false, ne_eqb, eq-eqb}
 use Rattle.std.proofs.lemmas.Bool.Decides.{Decides-int_eq}

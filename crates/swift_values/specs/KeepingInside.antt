@@ -1,5 +1,5 @@
 -- The fields after a turn, by what became of it. No public clause names this.
-use Rattle.std.specs.Prelude.{ℕ, ℤ, List}
+use Rattle.std.specs.Prelude.{ℤ, List}
 use Rattle.swift_values.specs.declared.change.Outcome.{Outcome}
 use Rattle.swift_values.specs.declared.change.Outcome.TheVariants.{Kept, Undone, Broke}
 

@@ -1,5 +1,5 @@
 -- What turns do to the fields of their executor's actors (our own).
-use Rattle.std.specs.Prelude.{ℕ, ◌+◌, ℤ, Bool, true, false, if◌then◌else◌, Option, Some, None, List, [], ◌∷◌, ◌++◌, map}
+use Rattle.std.specs.Prelude.{ℕ, ◌+◌, ℤ, if◌then◌else◌, Option, Some, None, List, [], ◌∷◌, ◌++◌, map}
 use Rattle.std.specs.Ordering.{int_eq}
 use Rattle.swift_types.specs.declared.limits.TheConstants.{STEPS}
 use Rattle.script_code.specs.Tree.{Term}

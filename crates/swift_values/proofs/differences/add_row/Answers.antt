@@ -1,4 +1,4 @@
-use Rattle.std.proofs.Common.{◌≡◌, ◌≤◌, ◌++◌, List, length, min, append-nil, sym, ap, ◌∙◌, arith}
+use Rattle.std.proofs.Common.{◌≤◌, ◌++◌, List, length, min, append-nil, sym, ap, ◌∙◌, arith}
 use Rattle.swift_values.specs.declared.change.Change.{Change}
 use Rattle.swift_values.proofs.Rows.{row_end}
 use Rattle.swift_values.proofs.differences.add_row.Goals as goal

@@ -1,4 +1,4 @@
-use Rattle.std.proofs.Common.{◌≡◌, ◌<◌, ◌+◌, ◌++◌, ℤ, List, [], ◌∷◌, drop, length, append_assoc, sym, ap, ap₂, ◌∙◌, arith}
+use Rattle.std.proofs.Common.{◌<◌, ◌+◌, ◌++◌, ℤ, List, [], ◌∷◌, drop, length, append_assoc, sym, ap, ap₂, ◌∙◌, arith}
 use Rattle.std.proofs.lemmas.List.{at_drop_more, map_push}
 use Rattle.script_code.specs.Seen.{rows_of}
 use Rattle.swift_journal.specs.Records.{RecordView, owned_view}

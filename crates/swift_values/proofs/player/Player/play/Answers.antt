@@ -1,4 +1,4 @@
-use Rattle.std.proofs.Common.{◌≡◌, ℤ, List, sym, ap, ◌∙◌}
+use Rattle.std.proofs.Common.{ℤ, List, ap, ◌∙◌}
 use Rattle.std.specs.Global.{Vec}
 use Rattle.script_code.specs.Seen.{rows_of}
 use Rattle.script_code.specs.Tree.{terms_of}
