@@ -1,13 +1,18 @@
 //! Answers questions about scripts of actors: runs them, checks them, prints them, and explains their refusals and faults.
 //!
-//! Its first argument is a command: `run`, `check`, `explain` or `print`; `--help` and `--version` are taken too. Status 0 stands for a
+//! Its first argument is a command: `run`, `why`, `check`, `explain` or `print`; `--help` and `--version` are taken too. Status 0 stands for a
 //! run whose tasks all ended with a value, a script that is accepted, and for help; 1 for a run with a task that ended with a fault, 2 for
 //! words that were refused, 3 for a script that was refused, 4 for a run that was refused, or a file or device that failed.
 #![tactic(auto)]
 
+// Runs whose turns are explained.
+mod values;
+
+use crate::values::{Said, explained_turn, report_of};
 use nuchapay_tool::{
-    Checked, Request, Source, Topic, check, explain, page_of, print, read_input, request,
+    Checked, Request, Source, Topic, TurnName, check, explain, page_of, print, read_input, request,
 };
+use nuchapay_values::Explained;
 use std::alloc::{AllocError, AllocGlobal};
 use std::fs::File;
 use std::process::ExitCode;
@@ -54,6 +59,14 @@ where
                 host,
                 run_text(rt, &text, workers, quiet, &Open, &mut host.stdout()),
             ),
+            Err(error) => unread(host, source, error),
+        },
+        Request::Values(source, workers) => match script(host, source) {
+            Ok(text) => told(host, said(host, report_of(rt, &text, workers))),
+            Err(error) => unread(host, source, error),
+        },
+        Request::Why(source, name, workers) => match script(host, source) {
+            Ok(text) => answered(host, name, explained_turn(rt, &text, name, workers)),
             Err(error) => unread(host, source, error),
         },
         Request::Check(source) => match script(host, source) {
@@ -111,6 +124,32 @@ fn checked(rt: &HostRuntime, source: Source<'_>, text: &[u8]) -> u8 {
             Err(_) => 4,
         },
         Err(fault) => told(rt, Err(ToolFault::from(fault))),
+    }
+}
+
+// Writes what is said of a run. Whether each task ended with a value.
+fn said(rt: &HostRuntime, said: Result<Said, ToolFault>) -> Result<bool, ToolFault> {
+    let said = said?;
+    write_all(&mut rt.stdout(), &said.text)?;
+    Ok(said.is_well)
+}
+
+// Says what is known of a turn. The status to end with.
+fn answered(rt: &HostRuntime, name: TurnName, found: Result<Explained, ToolFault>) -> u8 {
+    let TurnName { task, number } = name;
+    match found {
+        Ok(Explained::Found(said)) => told(rt, shown(rt, &said)),
+        Ok(Explained::Folded) => {
+            let _ = eprintln!(rt;
+                "nuchapay: t{task}.{number} was folded into a checkpoint, which keeps no fields of it"
+            );
+            2
+        }
+        Ok(Explained::Nowhere) => {
+            let _ = eprintln!(rt; "nuchapay: the run has no turn t{task}.{number}");
+            2
+        }
+        Err(fault) => told(rt, Err(fault)),
     }
 }
 

@@ -23,6 +23,8 @@ mod source;
 mod topic;
 // The pages of the faults of a turn.
 mod turn_faults;
+// How a turn is named.
+mod turn_names;
 // The words of a command line.
 mod words;
 
@@ -33,4 +35,5 @@ pub use pages::page_of;
 pub use printed::print;
 pub use requests::{Request, Source};
 pub use topic::{RunRefusal, Topic, TurnFault, find_topic};
+pub use turn_names::{TurnName, turn_name};
 pub use words::request;

@@ -1,6 +1,7 @@
 //! What a command line asks for.
 
 use crate::topic::Topic;
+use crate::turn_names::TurnName;
 
 /// Where a script comes from (our own).
 #[derive(Clone, Copy)]
@@ -16,6 +17,10 @@ pub enum Source<'a> {
 pub enum Request<'a> {
     /// To run a script, on how many threads (1 to 8 where `request` made it), and whether without its journals.
     Run(Source<'a>, u32, bool),
+    /// To run a script on so many threads, and to say of each turn what it did to the fields.
+    Values(Source<'a>, u32),
+    /// To run a script on so many threads, and to explain one of its turns.
+    Why(Source<'a>, TurnName, u32),
     /// To say whether a text is a script, and why not.
     Check(Source<'a>),
     /// To explain a refusal or a fault.

@@ -1,11 +1,13 @@
 //! The words of a command line.
 
-ghost use Rattle.std.specs.Prelude.{◌≡◌, ◌≢◌, codes, IfOk};
+ghost use Rattle.std.specs.Prelude.{◌≡◌, ◌≢◌, ◌≤◌, codes, IfOk, IfSome};
+ghost use Rattle.swift_types.specs.declared.limits.TheConstants.{WORKERS};
 ghost use Rattle.nuchapay_tool.specs.Requests.{HasCrew};
 ghost use Rattle.nuchapay_tool.specs.declared.requests.Source.TheVariants.{File, Stdin};
 
 use crate::requests::{Request, Source};
 use crate::topic::find_topic;
+use crate::turn_names::turn_name;
 use clap::error::ErrorKind;
 use clap::{Arg, ArgAction, ArgMatches, Command, Error, value_parser};
 use std::alloc::{AllocError, Global};
@@ -21,17 +23,24 @@ fn file<'a>(alloc: Global) -> Arg<'a> {
         .action(ArgAction::Set)
 }
 
-fn run_command<'a>(alloc: Global) -> Result<Command<'a>, AllocError> {
-    let workers = Arg::new(alloc, "workers")
+fn workers<'a>(alloc: Global) -> Arg<'a> {
+    Arg::new(alloc, "workers")
         .long("workers")
         .value_name("N")
         .help("Runs the tasks on N threads, from 1 to 8")
         .action(ArgAction::Set)
         .value_parser(value_parser!(u32).range(1..9))
-        .default_value("1");
+        .default_value("1")
+}
+
+fn run_command<'a>(alloc: Global) -> Result<Command<'a>, AllocError> {
     let quiet = Arg::new(alloc, "quiet")
         .long("quiet")
         .help("Leaves the journals out of the report")
+        .action(ArgAction::SetTrue);
+    let values = Arg::new(alloc, "values")
+        .long("values")
+        .help("Says below each turn which fields it changed")
         .action(ArgAction::SetTrue);
     Command::new(alloc, "run")
         .about(
@@ -39,8 +48,30 @@ fn run_command<'a>(alloc: Global) -> Result<Command<'a>, AllocError> {
         )
         .after_help("Example: nuchapay run --workers 4 examples/account.actors")
         .arg(file(alloc))?
-        .arg(workers)?
-        .arg(quiet)
+        .arg(workers(alloc))?
+        .arg(quiet)?
+        .arg(values)
+}
+
+fn why_command<'a>(alloc: Global) -> Result<Command<'a>, AllocError> {
+    let turn = Arg::new(alloc, "turn")
+        .value_name("TURN")
+        .help("The turn, as the journal names it: t1.0 is the first turn of task 1")
+        .action(ArgAction::Set)
+        .required(true);
+    let script = Arg::new(alloc, "file")
+        .value_name("FILE")
+        .help("The script; standard input where it is -")
+        .action(ArgAction::Set)
+        .required(true);
+    Command::new(alloc, "why")
+        .about(
+            "Runs a script, and explains one of its turns: what it began with, what it did to the fields, and who changed them meanwhile",
+        )
+        .after_help("Example: nuchapay why examples/account.actors t1.1")
+        .arg(script)?
+        .arg(turn)?
+        .arg(workers(alloc))
 }
 
 fn check_command<'a>(alloc: Global) -> Result<Command<'a>, AllocError> {
@@ -81,6 +112,7 @@ fn command<'a>(alloc: Global) -> Result<Command<'a>, AllocError> {
         .subcommand_required(true)
         .arg_required_else_help(true)
         .subcommand(run_command(alloc)?)?
+        .subcommand(why_command(alloc)?)?
         .subcommand(check_command(alloc)?)?
         .subcommand(explain_command(alloc)?)?
         .subcommand(print_command(alloc)?)
@@ -106,21 +138,40 @@ fn source_of(path: &str) -> Source<'_>
     }
 }
 
-// What the words of `run` ask for. What the command says of the number is said again, for the contract.
+// What the words of `run` ask for.
 fn run_request<'a>(matches: &ArgMatches<'a>) -> Request<'a>
     ensures { HasCrew result }
 {
+    let workers = workers_of(matches);
+    let quiet = matches.get_flag("quiet");
+    if matches.get_flag("values") && !quiet {
+        return Request::Values(source(matches), workers);
+    }
+    Request::Run(source(matches), workers, quiet)
+}
+
+// On how many threads. What the command says of the number is said again, for the contract.
+fn workers_of(matches: &ArgMatches<'_>) -> u32
+    ensures least { 1 ≤ result }
+    ensures most { result ≤ WORKERS }
+{
     let workers = matches.get_one::<u32>("workers").unwrap_or(1);
-    Request::Run(
-        source(matches),
-        workers.clamp(1, WORKERS as u32),
-        matches.get_flag("quiet"),
-    )
+    workers.clamp(1, WORKERS as u32)
+}
+
+// What the words of `why` ask for, if they name a turn.
+fn why_request<'a>(matches: &ArgMatches<'a>) -> Option<Request<'a>>
+    ensures { IfSome result HasCrew }
+{
+    let name = turn_name(matches.get_str("turn")?)?;
+    Some(Request::Why(source(matches), name, workers_of(matches)))
 }
 
 /// Reads the arguments of a command line, of which the first is the program's name (our own):
 ///
-/// - `run`, with a file, `--workers N` from 1 to 8 and 1 where it is not given, and `--quiet`;
+/// - `run`, with a file, `--workers N` from 1 to 8 and 1 where it is not given, `--quiet`, and `--values`, for which there is no place
+///   where `--quiet` is given;
+/// - `why`, with a file, the name of a turn, and `--workers N`;
 /// - `check` and `print`, with a file;
 /// - `explain`, with the word of a topic.
 ///
@@ -128,7 +179,7 @@ fn run_request<'a>(matches: &ArgMatches<'a>) -> Request<'a>
 ///
 /// # Errors
 ///
-/// No command or another one, any other argument, a number that is none or out of range, a word that names no topic, one given
+/// No command or another one, any other argument, a number that is none or out of range, a word that names no topic or no turn, one given
 /// twice, `--help` and `--version`, and arguments for which there is no memory. The error's text is the one to show, and its
 /// `exit_code` the status to end with: 0 for help and the version, else 2.
 pub fn request<'a>(alloc: Global, words: &'a [String]) -> Result<Request<'a>, Error>
@@ -144,6 +195,15 @@ pub fn request<'a>(alloc: Global, words: &'a [String]) -> Result<Request<'a>, Er
     }
     if let Some(found) = matches.subcommand_matches("print") {
         return Ok(Request::Print(source(found)));
+    }
+    if let Some(found) = matches.subcommand_matches("why") {
+        return match why_request(found) {
+            Some(request) => Ok(request),
+            None => Err(command.error(
+                ErrorKind::InvalidValue,
+                "a turn is named as in a journal: t1.0 is the first turn of task 1",
+            )?),
+        };
     }
     let asked = matches.subcommand_matches("explain");
     match asked

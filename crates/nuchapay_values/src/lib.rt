@@ -1,0 +1,29 @@
+//! What the turns of a run did to the fields, in words: below each turn of a report, or of one turn with what came before it.
+#![tactic(auto)]
+
+// One turn explained.
+mod explained;
+// Fields as they are after some turns.
+mod fields;
+// The invariants of an executor's actors.
+mod invariants;
+// Lines of a text.
+mod lines;
+// Where a turn stands.
+mod names;
+// What is said of one turn in a report.
+mod notes;
+// Numbers in decimal.
+mod number;
+// Parts of a printed form.
+mod printed;
+// The report with what is said of each turn.
+mod report;
+// Statements in words.
+mod statement;
+// The words of a text.
+mod words;
+
+pub use explained::{Explained, explain_turn};
+pub use notes::write_change;
+pub use report::{report_with_values, turn_notes};

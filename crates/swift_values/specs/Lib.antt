@@ -1,0 +1,3 @@
+pub mod KeepingInside
+pub mod LastTurns
+pub mod Values
