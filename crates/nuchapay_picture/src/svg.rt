@@ -268,9 +268,9 @@ fn write_boxes(
 }
 
 /// A picture of the run of a script as SVG (the form is our own): a lane for each executor, in it from left to right a box for each turn,
-/// and lines for what made what. `name` is the path of the script, of which the last part is shown. Only the last 1,000 turns that have a box are shown, and of the others the
-/// number. It stands alone: no script, and no font that has to be loaded. Each turn of a lane is played once more, for what it did to the
-/// fields; beside that it is linear in the picture and the log.
+/// and lines for what made what. `name` is the path of the script, of which the last part is shown. Only the last 1,000 turns that have a
+/// box are shown, and of the others the number. It stands alone: no script, and no font that has to be loaded. Each turn of a lane is
+/// played once more, for what it did to the fields; beside that it is linear in the picture and the log.
 ///
 /// # Errors
 ///
