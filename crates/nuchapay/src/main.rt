@@ -1,13 +1,16 @@
 //! Answers questions about scripts of actors: runs them, checks them, prints them, and explains their refusals and faults.
 //!
-//! Its first argument is a command: `run`, `why`, `check`, `explain` or `print`; `--help` and `--version` are taken too. Status 0 stands for a
+//! Its first argument is a command: `run`, `why`, `check`, `explain`, `print` or `show`; `--help` and `--version` are taken too. Status 0 stands for a
 //! run whose tasks all ended with a value, a script that is accepted, and for help; 1 for a run with a task that ended with a fault, 2 for
 //! words that were refused, 3 for a script that was refused, 4 for a run that was refused, or a file or device that failed.
 #![tactic(auto)]
 
+// Runs as pictures.
+mod show;
 // Runs whose turns are explained.
 mod values;
 
+use crate::show::shown_run;
 use crate::values::{Said, explained_turn, report_of};
 use nuchapay_tool::{
     Checked, Request, Source, Topic, TurnName, check, explain, page_of, print, read_input, request,
@@ -75,6 +78,13 @@ where
         },
         Request::Print(source) => match script(host, source) {
             Ok(text) => told(host, printed(host, &text)),
+            Err(error) => unread(host, source, error),
+        },
+        Request::Show(source, workers, format) => match script(host, source) {
+            Ok(text) => {
+                let picture = shown_run(rt, &text, name_of(source), workers, format);
+                told(host, said(host, picture))
+            }
             Err(error) => unread(host, source, error),
         },
         Request::Explain(topic) => told(host, explained(host, topic)),

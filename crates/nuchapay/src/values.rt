@@ -20,8 +20,8 @@ pub struct Said {
     pub is_well: bool,
 }
 
-// Runs the script that a text spells.
-fn ran<R>(rt: &R, text: &[u8], workers: u32) -> Result<(Arc<Script>, Report), ToolFault>
+/// Runs the script that a text spells.
+pub fn ran<R>(rt: &R, text: &[u8], workers: u32) -> Result<(Arc<Script>, Report), ToolFault>
 where
     R: RandomSource + AllocGlobal + Threads + Wait + Sync,
 {
@@ -32,7 +32,8 @@ where
     Ok((script, report))
 }
 
-fn all_ended_well(endings: &[(Origin, Ending)]) -> bool {
+/// Whether each task ended with a value.
+pub fn all_ended_well(endings: &[(Origin, Ending)]) -> bool {
     for (_, ending) in endings {
         if let Ending::Fault(_) = ending {
             return false;

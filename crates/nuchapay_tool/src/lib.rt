@@ -33,7 +33,7 @@ pub use input::read_input;
 pub use page::{Page, Scripts, explain};
 pub use pages::page_of;
 pub use printed::print;
-pub use requests::{Request, Source};
+pub use requests::{PictureFormat, Request, Source};
 pub use topic::{RunRefusal, Topic, TurnFault, find_topic};
 pub use turn_names::{TurnName, turn_name};
 pub use words::request;

@@ -12,6 +12,15 @@ pub enum Source<'a> {
     File(&'a str),
 }
 
+/// How a picture is written (our own).
+#[derive(Clone, Copy)]
+pub enum PictureFormat {
+    /// As SVG, for people.
+    Svg,
+    /// As JSON in the Trace Event Format, for Perfetto and chrome://tracing.
+    Trace,
+}
+
 /// What a command line asks for (our own).
 #[derive(Clone, Copy)]
 pub enum Request<'a> {
@@ -27,4 +36,6 @@ pub enum Request<'a> {
     Explain(Topic),
     /// To print the printed form of a script.
     Print(Source<'a>),
+    /// To run a script on so many threads, and to show the run as a picture in this format.
+    Show(Source<'a>, u32, PictureFormat),
 }

@@ -5,7 +5,7 @@ ghost use Rattle.swift_types.specs.declared.limits.TheConstants.{WORKERS};
 ghost use Rattle.nuchapay_tool.specs.Requests.{HasCrew};
 ghost use Rattle.nuchapay_tool.specs.declared.requests.Source.TheVariants.{File, Stdin};
 
-use crate::requests::{Request, Source};
+use crate::requests::{PictureFormat, Request, Source};
 use crate::topic::find_topic;
 use crate::turn_names::turn_name;
 use clap::error::ErrorKind;
@@ -104,6 +104,22 @@ fn print_command<'a>(alloc: Global) -> Result<Command<'a>, AllocError> {
         .arg(file(alloc))
 }
 
+fn show_command<'a>(alloc: Global) -> Result<Command<'a>, AllocError> {
+    let format = Arg::new(alloc, "format")
+        .long("format")
+        .value_name("FORMAT")
+        .help("A picture, or a trace for Perfetto and chrome://tracing")
+        .action(ArgAction::Set)
+        .value_parser(["svg", "trace"].as_slice())
+        .default_value("svg");
+    Command::new(alloc, "show")
+        .about("Runs a script, and shows the run as a picture")
+        .after_help("Example: nuchapay show examples/account.actors > account.svg")
+        .arg(file(alloc))?
+        .arg(workers(alloc))?
+        .arg(format)
+}
+
 // The words that the program takes.
 fn command<'a>(alloc: Global) -> Result<Command<'a>, AllocError> {
     Command::new(alloc, "nuchapay")
@@ -115,7 +131,8 @@ fn command<'a>(alloc: Global) -> Result<Command<'a>, AllocError> {
         .subcommand(why_command(alloc)?)?
         .subcommand(check_command(alloc)?)?
         .subcommand(explain_command(alloc)?)?
-        .subcommand(print_command(alloc)?)
+        .subcommand(print_command(alloc)?)?
+        .subcommand(show_command(alloc)?)
 }
 
 // The file that was named.
@@ -159,6 +176,17 @@ fn workers_of(matches: &ArgMatches<'_>) -> u32
     workers.clamp(1, WORKERS as u32)
 }
 
+// What the words of `show` ask for.
+fn show_request<'a>(matches: &ArgMatches<'a>) -> Request<'a>
+    ensures { HasCrew result }
+{
+    let format = match matches.get_str("format") {
+        Some("trace") => PictureFormat::Trace,
+        _ => PictureFormat::Svg,
+    };
+    Request::Show(source(matches), workers_of(matches), format)
+}
+
 // What the words of `why` ask for, if they name a turn.
 fn why_request<'a>(matches: &ArgMatches<'a>) -> Option<Request<'a>>
     ensures { IfSome result HasCrew }
@@ -173,6 +201,7 @@ fn why_request<'a>(matches: &ArgMatches<'a>) -> Option<Request<'a>>
 ///   where `--quiet` is given;
 /// - `why`, with a file, the name of a turn, and `--workers N`;
 /// - `check` and `print`, with a file;
+/// - `show`, with a file, `--workers N`, and `--format` with `svg` or `trace`, `svg` where it is not given;
 /// - `explain`, with the word of a topic.
 ///
 /// A file that is `-` or missing is standard input.
@@ -195,6 +224,9 @@ pub fn request<'a>(alloc: Global, words: &'a [String]) -> Result<Request<'a>, Er
     }
     if let Some(found) = matches.subcommand_matches("print") {
         return Ok(Request::Print(source(found)));
+    }
+    if let Some(found) = matches.subcommand_matches("show") {
+        return Ok(show_request(found));
     }
     if let Some(found) = matches.subcommand_matches("why") {
         return match why_request(found) {

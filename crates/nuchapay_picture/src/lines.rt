@@ -1,0 +1,179 @@
+//! Lines from turn to turn.
+
+use crate::boxes::TurnBox;
+use crate::layout::{Layout, colour, level};
+use crate::links::Link;
+use crate::picture::Picture;
+use crate::pieces::{Piece, put};
+use crate::placed::Placed;
+use std::alloc::AllocError;
+
+// How the lines of a link are drawn, by their classes.
+fn class_of(link: Link) -> &'static str {
+    match link {
+        Link::Spawn => "ls",
+        Link::Call => "lc",
+        Link::Return => "lr",
+        Link::Goes => "lg",
+        Link::Wake => "lk",
+    }
+}
+
+// The beginning of a line: from the box of a turn up, to the height at which lines to this task run.
+fn begin_line(
+    out: &mut Vec<u8>,
+    layout: &Layout,
+    class: &str,
+    from: (&TurnBox, &Placed),
+    to: &TurnBox,
+) -> Result<(), AllocError> {
+    let top = layout.box_top(from.0.executor);
+    put(
+        out,
+        &[
+            Piece::Text("<path class=\""),
+            Piece::Text(class),
+            Piece::Text(" s"),
+            Piece::Number(colour(to.task)),
+            Piece::Text("\" d=\"M"),
+            Piece::Number(layout.right(from.1).saturating_sub(12)),
+            Piece::Text(","),
+            Piece::Number(top),
+            Piece::Text("V"),
+            Piece::Number(top.saturating_sub(level(to.task))),
+        ],
+    )
+}
+
+// The end of a line into the top of a box of the same lane, so far from its left, with a head.
+fn end_above(
+    out: &mut Vec<u8>,
+    layout: &Layout,
+    to: (&TurnBox, &Placed),
+    along: usize,
+) -> Result<(), AllocError> {
+    let at = layout.left(to.1).saturating_add(along);
+    let top = layout.box_top(to.0.executor);
+    put(
+        out,
+        &[
+            Piece::Text("H"),
+            Piece::Number(at),
+            Piece::Text("V"),
+            Piece::Number(top),
+            Piece::Text("\"/>\n<path class=\"f"),
+            Piece::Number(colour(to.0.task)),
+            Piece::Text("\" d=\"M"),
+            Piece::Number(at.saturating_sub(4)),
+            Piece::Text(","),
+            Piece::Number(top.saturating_sub(8)),
+            Piece::Text("h8l-4,8z\"/>\n"),
+        ],
+    )
+}
+
+// The end of a line into the left side of a box of another lane, with a head.
+fn end_beside(
+    out: &mut Vec<u8>,
+    layout: &Layout,
+    to: (&TurnBox, &Placed),
+) -> Result<(), AllocError> {
+    let left = layout.left(to.1);
+    let at = layout.box_top(to.0.executor).saturating_add(12);
+    put(
+        out,
+        &[
+            Piece::Text("H"),
+            Piece::Number(left.saturating_sub(10)),
+            Piece::Text("V"),
+            Piece::Number(at),
+            Piece::Text("H"),
+            Piece::Number(left),
+            Piece::Text("\"/>\n<path class=\"f"),
+            Piece::Number(colour(to.0.task)),
+            Piece::Text("\" d=\"M"),
+            Piece::Number(left.saturating_sub(8)),
+            Piece::Text(","),
+            Piece::Number(at.saturating_sub(4)),
+            Piece::Text("v8l8,-4z\"/>\n"),
+        ],
+    )
+}
+
+// The line from the box of the turn that made a turn's job.
+fn write_link(
+    out: &mut Vec<u8>,
+    layout: &Layout,
+    maker: (&TurnBox, &Placed),
+    turn: (&TurnBox, &Placed),
+) -> Result<(), AllocError> {
+    let link = Link::between(maker.0, turn.0);
+    begin_line(out, layout, class_of(link), maker, turn.0)?;
+    if maker.0.executor == turn.0.executor {
+        end_above(out, layout, turn, 16)
+    } else {
+        end_beside(out, layout, turn)
+    }
+}
+
+// The line along which a task waited, from its turn before to a turn that another task has woken.
+fn write_wait(
+    out: &mut Vec<u8>,
+    layout: &Layout,
+    before: (&TurnBox, &Placed),
+    turn: (&TurnBox, &Placed),
+) -> Result<(), AllocError> {
+    begin_line(out, layout, "lw", before, turn.0)?;
+    if before.0.executor == turn.0.executor {
+        end_above(out, layout, turn, 32)
+    } else {
+        end_beside(out, layout, turn)
+    }
+}
+
+// The box at a place, where it is shown.
+fn shown_at<'a>(
+    layout: &Layout,
+    picture: &'a Picture,
+    place: Option<usize>,
+) -> Option<(&'a TurnBox, &'a Placed)> {
+    let found = picture.at(place?)?;
+    if layout.shows(found.1) {
+        Some(found)
+    } else {
+        None
+    }
+}
+
+// The lines to a turn: from the one that made its job, and where that one is of another task, from the one that waited.
+fn write_lines_to(
+    out: &mut Vec<u8>,
+    layout: &Layout,
+    picture: &Picture,
+    turn: &TurnBox,
+    placed: &Placed,
+) -> Result<(), AllocError> {
+    let Some(maker) = shown_at(layout, picture, placed.maker) else {
+        return Ok(());
+    };
+    if maker.0.task != turn.task {
+        if let Some(before) = shown_at(layout, picture, placed.before) {
+            write_wait(out, layout, before, (turn, placed))?;
+        }
+    }
+    write_link(out, layout, maker, (turn, placed))
+}
+
+/// The lines between the boxes that are shown.
+pub(crate) fn write_lines(
+    out: &mut Vec<u8>,
+    layout: &Layout,
+    picture: &Picture,
+) -> Result<(), AllocError> {
+    for (turn, placed) in picture.boxes.iter().zip(&picture.placed) {
+        if layout.shows(placed) {
+            write_lines_to(out, layout, picture, turn, placed)?;
+        }
+    }
+    Ok(())
+}

@@ -1,0 +1,43 @@
+//! What a turn did with groups, and whom it cancelled.
+
+use crate::pieces::{Piece, put};
+use std::alloc::AllocError;
+use swift_events::Event;
+
+// Whether an event begins a block of the log.
+fn begins_block(event: &Event) -> bool {
+    matches!(
+        event,
+        Event::Root(_, _) | Event::Begin(_, _, _) | Event::Apply(_, _)
+    )
+}
+
+// What an event is called, and the number that it has. None for one that lines and exits tell.
+fn mark_of(event: &Event) -> Option<(&'static str, usize)> {
+    match *event {
+        Event::Open(_, group) => Some(("opens group ", group as usize)),
+        Event::Skip(_, group) => Some(("skips in group ", group as usize)),
+        Event::CancelGroup(_, group) => Some(("cancels group ", group as usize)),
+        Event::CancelTask(task) => Some(("cancels t", task.0 as usize)),
+        _ => None,
+    }
+}
+
+/// What the turn did that was applied at this place of the log, in the order of the log, each in a line. Linear in that.
+pub(crate) fn write_marks(out: &mut Vec<u8>, log: &[Event], end: usize) -> Result<(), AllocError> {
+    let Some(after) = log.get(end.saturating_add(1)..) else {
+        return Ok(());
+    };
+    for event in after {
+        if begins_block(event) {
+            return Ok(());
+        }
+        if let Some((word, number)) = mark_of(event) {
+            put(
+                out,
+                &[Piece::Text(word), Piece::Number(number), Piece::Text("\n")],
+            )?;
+        }
+    }
+    Ok(())
+}

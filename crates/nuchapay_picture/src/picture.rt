@@ -1,0 +1,61 @@
+//! Pictures of runs.
+
+ghost use Rattle.std.specs.Prelude.{◌≡◌, IfOk};
+ghost use Rattle.nuchapay_picture.specs.Boxes.{boxes_of};
+
+use crate::boxes::{TurnBox, boxes_of};
+use crate::history::history_of;
+use crate::placed::{Placed, place_boxes};
+use std::alloc::{AllocError, Global};
+use swift_journal::Checkpoint;
+use swift_report::Report;
+
+/// A run as a picture (our own): a box for each turn of the journals, and what the log says of when it ran and what made it. Turns that
+/// were folded have no box.
+#[derive(Drop)]
+pub struct Picture {
+    /// The boxes.
+    pub boxes: Vec<TurnBox>,
+    // When the turn of each box ran, in the order of boxes.
+    pub(crate) placed: Vec<Placed>,
+    // How many turns of each executor were folded.
+    pub(crate) folded: Vec<usize>,
+}
+
+impl Picture {
+    // The box at a place, with when its turn ran.
+    pub(crate) fn at(&self, place: usize) -> Option<(&TurnBox, &Placed)> {
+        let turn = self.boxes.get(place)?;
+        let placed = self.placed.get(place)?;
+        Some((turn, placed))
+    }
+}
+
+// How many turns of each executor were folded.
+fn folded_turns(alloc: Global, checkpoints: &[Checkpoint]) -> Result<Vec<usize>, AllocError> {
+    let mut folded = Vec::with_capacity(alloc, checkpoints.len())?;
+    for checkpoint in checkpoints {
+        folded.push(checkpoint.len())?;
+    }
+    Ok(folded)
+}
+
+/// The picture of a run, in time and memory linear in its report: one box for each turn of the journals, with that turn's task, number
+/// and exit, in that order.
+///
+/// # Errors
+///
+/// `AllocError` where no memory is left for it.
+pub fn picture_of(alloc: Global, report: &Report) -> Result<Picture, AllocError>
+    ensures { IfOk result (λ picture. picture.boxes.items ≡ boxes_of 0 report.now.journals.items) }
+{
+    let boxes = boxes_of(alloc, &report.journals)?;
+    let history = history_of(alloc, report.endings.len(), &report.log)?;
+    let placed = place_boxes(alloc, &history, &boxes)?;
+    let folded = folded_turns(alloc, &report.checkpoints)?;
+    Ok(Picture {
+        boxes,
+        placed,
+        folded,
+    })
+}

@@ -1,0 +1,43 @@
+//! Lines of text.
+
+use crate::pieces::{Piece, put, put_fitting};
+use std::alloc::AllocError;
+
+/// Begins a line of text of these classes at a place.
+pub(crate) fn begin_text(
+    out: &mut Vec<u8>,
+    class: &str,
+    x: usize,
+    y: usize,
+) -> Result<(), AllocError> {
+    put(
+        out,
+        &[
+            Piece::Text("<text class=\""),
+            Piece::Text(class),
+            Piece::Text("\" x=\""),
+            Piece::Number(x),
+            Piece::Text("\" y=\""),
+            Piece::Number(y),
+            Piece::Text("\">"),
+        ],
+    )
+}
+
+/// Ends a line of text.
+pub(crate) fn end_text(out: &mut Vec<u8>) -> Result<(), AllocError> {
+    out.extend_from_slice(b"</text>\n")
+}
+
+/// Writes at most so many characters of a line of text.
+pub(crate) fn write_text(
+    out: &mut Vec<u8>,
+    class: &str,
+    at: (usize, usize),
+    text: &[u8],
+    most: usize,
+) -> Result<(), AllocError> {
+    begin_text(out, class, at.0, at.1)?;
+    put_fitting(out, text, most)?;
+    end_text(out)
+}

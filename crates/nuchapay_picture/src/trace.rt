@@ -1,0 +1,259 @@
+//! A picture as a trace.
+
+use crate::boxes::TurnBox;
+use crate::links::Link;
+use crate::picture::Picture;
+use crate::pieces::{Piece, put};
+use crate::placed::Placed;
+use crate::word;
+use std::alloc::{AllocError, Global};
+use swift_script::Script;
+use swift_types::limits::WORKERS;
+
+// The number of an executor's process. None is 0, which stands for an idle processor.
+fn process(executor: usize) -> usize {
+    executor.saturating_add(1)
+}
+
+// The number of a worker's thread in an executor's process. No two threads have one number.
+fn thread(turn: &TurnBox) -> usize {
+    process(turn.executor)
+        .saturating_mul(10)
+        .saturating_add(turn.worker as usize)
+}
+
+// Begins an event of a kind.
+fn begin_event(out: &mut Vec<u8>, kind: &str, executor: usize) -> Result<(), AllocError> {
+    let between = if out.ends_with(b"[") { "\n" } else { ",\n" };
+    put(
+        out,
+        &[
+            Piece::Text(between),
+            Piece::Text("{\"ph\":\""),
+            Piece::Text(kind),
+            Piece::Text("\",\"pid\":"),
+            Piece::Number(process(executor)),
+        ],
+    )
+}
+
+// Names an executor's process, and says how many of its turns were folded.
+fn name_process(
+    out: &mut Vec<u8>,
+    script: &Script,
+    executor: usize,
+    folded: usize,
+) -> Result<(), AllocError> {
+    begin_event(out, "M", executor)?;
+    put(
+        out,
+        &[
+            Piece::Text(",\"name\":\"process_name\",\"args\":{\"name\":\""),
+            Piece::Name(word::executor_name(script, executor)),
+            Piece::Text("\"}}"),
+        ],
+    )?;
+    if folded == 0 {
+        return Ok(());
+    }
+    begin_event(out, "M", executor)?;
+    put(
+        out,
+        &[
+            Piece::Text(",\"name\":\"process_labels\",\"args\":{\"labels\":\"folded "),
+            Piece::Number(folded),
+            Piece::Text("\"}}"),
+        ],
+    )
+}
+
+// Names the thread of a turn's worker in its executor's process.
+fn name_thread(out: &mut Vec<u8>, turn: &TurnBox) -> Result<(), AllocError> {
+    begin_event(out, "M", turn.executor)?;
+    put(
+        out,
+        &[
+            Piece::Text(",\"tid\":"),
+            Piece::Number(thread(turn)),
+            Piece::Text(",\"name\":\"thread_name\",\"args\":{\"name\":\"worker "),
+            Piece::Number(turn.worker as usize),
+            Piece::Text("\"}}"),
+        ],
+    )
+}
+
+// What is known of a turn.
+fn write_arguments(
+    out: &mut Vec<u8>,
+    script: &Script,
+    turn: &TurnBox,
+    is_undone: bool,
+) -> Result<(), AllocError> {
+    put(
+        out,
+        &[
+            Piece::Text(",\"args\":{\"task\":\"t"),
+            Piece::Number(turn.task.0 as usize),
+            Piece::Text("\",\"number\":"),
+            Piece::Number(turn.number as usize),
+            Piece::Text(",\"priority\":"),
+            Piece::Number(turn.env.priority.number() as usize),
+            Piece::Text(",\"cancelled\":"),
+            Piece::Text(if turn.env.cancelled { "true" } else { "false" }),
+            Piece::Text(",\"resume\":\""),
+        ],
+    )?;
+    word::resume(out, turn.resume)?;
+    out.extend_from_slice(b"\",\"exit\":\"")?;
+    word::exit(out, script, turn.exit)?;
+    put(
+        out,
+        &[
+            Piece::Text("\",\"undone\":"),
+            Piece::Text(if is_undone { "true" } else { "false" }),
+            Piece::Text("}}"),
+        ],
+    )
+}
+
+// A turn as a complete event.
+fn write_turn(
+    out: &mut Vec<u8>,
+    script: &Script,
+    turn: &TurnBox,
+    placed: &Placed,
+) -> Result<(), AllocError> {
+    let moment = &placed.moment;
+    begin_event(out, "X", turn.executor)?;
+    put(
+        out,
+        &[
+            Piece::Text(",\"tid\":"),
+            Piece::Number(thread(turn)),
+            Piece::Text(",\"ts\":"),
+            Piece::Number(moment.begin),
+            Piece::Text(",\"dur\":"),
+            Piece::Number(moment.end.saturating_sub(moment.begin)),
+            Piece::Text(",\"cat\":\"turn\",\"name\":\""),
+        ],
+    )?;
+    word::turn(out, turn)?;
+    out.extend_from_slice(b" ")?;
+    word::method(out, script, turn.method)?;
+    let colour = if placed.is_undone {
+        "\",\"cname\":\"terrible\""
+    } else {
+        "\""
+    };
+    out.extend_from_slice(colour.as_bytes())?;
+    write_arguments(out, script, turn, placed.is_undone)
+}
+
+// One end of a flow event: the number of the flow is that of the box that it leads to.
+fn write_flow_end(
+    out: &mut Vec<u8>,
+    kind: &str,
+    link: Link,
+    number: usize,
+    turn: &TurnBox,
+) -> Result<(), AllocError> {
+    begin_event(out, kind, turn.executor)?;
+    put(
+        out,
+        &[
+            Piece::Text(",\"tid\":"),
+            Piece::Number(thread(turn)),
+            Piece::Text(",\"id\":"),
+            Piece::Number(number),
+            Piece::Text(",\"cat\":\"job\",\"name\":\""),
+            Piece::Text(link.word()),
+            Piece::Text("\",\"ts\":"),
+        ],
+    )
+}
+
+// The flow from a turn to the one whose job it made. It begins just before the end of the first.
+fn write_flow(
+    out: &mut Vec<u8>,
+    number: usize,
+    maker: (&TurnBox, &Placed),
+    turn: (&TurnBox, &Placed),
+) -> Result<(), AllocError> {
+    let link = Link::between(maker.0, turn.0);
+    write_flow_end(out, "s", link, number, maker.0)?;
+    put(
+        out,
+        &[
+            Piece::Number(maker.1.moment.end.saturating_sub(1)),
+            Piece::Text(".5}"),
+        ],
+    )?;
+    write_flow_end(out, "f", link, number, turn.0)?;
+    put(
+        out,
+        &[
+            Piece::Number(turn.1.moment.begin),
+            Piece::Text(",\"bp\":\"e\"}"),
+        ],
+    )
+}
+
+fn write_processes(out: &mut Vec<u8>, script: &Script, folded: &[usize]) -> Result<(), AllocError> {
+    for (executor, count) in folded.iter().enumerate() {
+        name_process(out, script, executor, *count)?;
+    }
+    Ok(())
+}
+
+// The threads of workers, each once, and before its first turn.
+fn write_turns(out: &mut Vec<u8>, script: &Script, picture: &Picture) -> Result<(), AllocError> {
+    let mut executor = usize::MAX;
+    let mut named = [false; WORKERS];
+    for (turn, placed) in picture.boxes.iter().zip(&picture.placed) {
+        if turn.executor != executor {
+            executor = turn.executor;
+            named = [false; WORKERS];
+        }
+        if let Some(is_named) = named.get_mut(turn.worker as usize) {
+            if !*is_named {
+                *is_named = true;
+                name_thread(out, turn)?;
+            }
+        }
+        write_turn(out, script, turn, placed)?;
+    }
+    Ok(())
+}
+
+fn write_flows(out: &mut Vec<u8>, picture: &Picture) -> Result<(), AllocError> {
+    for place in 0..picture.boxes.len() {
+        let Some(turn) = picture.at(place) else {
+            continue;
+        };
+        let Some(from) = turn.1.maker else { continue };
+        if let Some(maker) = picture.at(from) {
+            write_flow(out, place, maker, turn)?;
+        }
+    }
+    Ok(())
+}
+
+/// A picture as JSON in the Trace Event Format, which Perfetto and chrome://tracing read (the format is Google's; what is written of a run
+/// is our own). An executor is a process, a worker a thread of it, a turn a complete event, and what made what a flow. The time is the
+/// place in the log, in microseconds. Linear in the picture. All of it is ASCII, and no character needs an escape.
+///
+/// # Errors
+///
+/// `AllocError` where no memory is left for the text.
+pub fn trace_text(
+    alloc: Global,
+    script: &Script,
+    picture: &Picture,
+) -> Result<Vec<u8>, AllocError> {
+    let mut out = Vec::from_slice(alloc, b"{\"displayTimeUnit\":\"ms\",\"traceEvents\":[")?;
+    write_processes(&mut out, script, &picture.folded)?;
+    write_turns(&mut out, script, picture)?;
+    write_flows(&mut out, picture)?;
+    out.extend_from_slice(b"\n]}\n")?;
+    Ok(out)
+}
