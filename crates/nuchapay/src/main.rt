@@ -1,12 +1,12 @@
 //! Answers questions about scripts of actors: runs them, checks them, prints them, and explains their refusals and faults.
 //!
-//! Its first argument is a command: `run`, `check`, `explain` or `print`; `--help` and `--version` are taken too. Status 0 stands for a
-//! run whose tasks all ended with a value, a script that is accepted, and for help; 1 for a run with a task that ended with a fault, 2 for
-//! words that were refused, 3 for a script that was refused, 4 for a run that was refused, or a file or device that failed.
+//! Its first argument is a command: `run`, `check`, `explain`, `print` or `swift`; `--help` and `--version` are taken too. Status 0 stands
+//! for a run whose tasks all ended with a value, a script that is accepted, and for help; 1 for a run with a task that ended with a fault, 2
+//! for words that were refused, 3 for a script that was refused, 4 for a run that was refused, or a file or device that failed.
 #![tactic(auto)]
 
 use nuchapay_tool::{
-    Checked, Request, Source, Topic, check, explain, page_of, print, read_input, request,
+    Checked, Request, Source, Topic, check, explain, page_of, print, read_input, request, translate,
 };
 use std::alloc::{AllocError, AllocGlobal};
 use std::fs::File;
@@ -64,6 +64,10 @@ where
             Ok(text) => told(host, printed(host, &text)),
             Err(error) => unread(host, source, error),
         },
+        Request::Swift(source) => match script(host, source) {
+            Ok(text) => told(host, translated(host, &text)),
+            Err(error) => unread(host, source, error),
+        },
         Request::Explain(topic) => told(host, explained(host, topic)),
     }
 }
@@ -117,6 +121,11 @@ fn checked(rt: &HostRuntime, source: Source<'_>, text: &[u8]) -> u8 {
 fn printed(rt: &HostRuntime, text: &[u8]) -> Result<bool, ToolFault> {
     let said = print(rt.alloc(), text)?;
     shown(rt, said.as_bytes())
+}
+
+fn translated(rt: &HostRuntime, text: &[u8]) -> Result<bool, ToolFault> {
+    let said = translate(rt.alloc(), text)?;
+    shown(rt, &said)
 }
 
 fn explained(rt: &HostRuntime, topic: Topic) -> Result<bool, ToolFault> {

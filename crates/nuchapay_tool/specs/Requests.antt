@@ -2,7 +2,7 @@
 use Rattle.std.specs.Prelude.{◌≤◌}
 use Rattle.swift_types.specs.declared.limits.TheConstants.{WORKERS}
 use Rattle.nuchapay_tool.specs.declared.requests.Request.{Request}
-use Rattle.nuchapay_tool.specs.declared.requests.Request.TheVariants.{Run, Check, Explain, Print}
+use Rattle.nuchapay_tool.specs.declared.requests.Request.TheVariants.{Run, Check, Explain, Print, Swift}
 
 -- A run is asked for on 1 to 8 workers.
 abbrev pub HasCrew : Request → Type 0
@@ -10,3 +10,4 @@ HasCrew (Run source workers quiet) = (1 ≤ workers) × (workers ≤ WORKERS)
 HasCrew (Check source) = Unit {0}
 HasCrew (Explain topic) = Unit {0}
 HasCrew (Print source) = Unit {0}
+HasCrew (Swift source) = Unit {0}

@@ -21,6 +21,8 @@ mod run_refusals;
 mod source;
 // What can be explained.
 mod topic;
+// A script as a Swift program.
+mod translated;
 // The pages of the faults of a turn.
 mod turn_faults;
 // The words of a command line.
@@ -33,4 +35,5 @@ pub use pages::page_of;
 pub use printed::print;
 pub use requests::{Request, Source};
 pub use topic::{RunRefusal, Topic, TurnFault, find_topic};
+pub use translated::translate;
 pub use words::request;

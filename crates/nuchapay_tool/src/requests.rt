@@ -22,4 +22,6 @@ pub enum Request<'a> {
     Explain(Topic),
     /// To print the printed form of a script.
     Print(Source<'a>),
+    /// To print the Swift program of a script.
+    Swift(Source<'a>),
 }

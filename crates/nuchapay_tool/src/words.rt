@@ -73,6 +73,13 @@ fn print_command<'a>(alloc: Global) -> Result<Command<'a>, AllocError> {
         .arg(file(alloc))
 }
 
+fn swift_command<'a>(alloc: Global) -> Result<Command<'a>, AllocError> {
+    Command::new(alloc, "swift")
+        .about("Prints a script as a Swift program, for Swift's own runtime")
+        .after_help("Example: nuchapay swift examples/account.actors")
+        .arg(file(alloc))
+}
+
 // The words that the program takes.
 fn command<'a>(alloc: Global) -> Result<Command<'a>, AllocError> {
     Command::new(alloc, "nuchapay")
@@ -83,7 +90,8 @@ fn command<'a>(alloc: Global) -> Result<Command<'a>, AllocError> {
         .subcommand(run_command(alloc)?)?
         .subcommand(check_command(alloc)?)?
         .subcommand(explain_command(alloc)?)?
-        .subcommand(print_command(alloc)?)
+        .subcommand(print_command(alloc)?)?
+        .subcommand(swift_command(alloc)?)
 }
 
 // The file that was named.
@@ -121,7 +129,7 @@ fn run_request<'a>(matches: &ArgMatches<'a>) -> Request<'a>
 /// Reads the arguments of a command line, of which the first is the program's name (our own):
 ///
 /// - `run`, with a file, `--workers N` from 1 to 8 and 1 where it is not given, and `--quiet`;
-/// - `check` and `print`, with a file;
+/// - `check`, `print` and `swift`, with a file;
 /// - `explain`, with the word of a topic.
 ///
 /// A file that is `-` or missing is standard input.
@@ -144,6 +152,9 @@ pub fn request<'a>(alloc: Global, words: &'a [String]) -> Result<Request<'a>, Er
     }
     if let Some(found) = matches.subcommand_matches("print") {
         return Ok(Request::Print(source(found)));
+    }
+    if let Some(found) = matches.subcommand_matches("swift") {
+        return Ok(Request::Swift(source(found)));
     }
     let asked = matches.subcommand_matches("explain");
     match asked
