@@ -45,6 +45,11 @@ examples: $(PROGRAM) $(DAILY)
 pages: $(DAILY)
 	@tools/pages.py $(DAILY)
 
+# Compiles and runs what nuchapay swift prints for each script of examples/, where Swift is: on the PATH, or in a folder SWIFT_ROOT that is
+# the root of another system. make swift ARGS="--table"
+swift: $(DAILY)
+	@tools/swift.py $(DAILY) $(ARGS)
+
 # Puts both programs, the examples and the manual page into PREFIX: make install PREFIX=~/.local
 PREFIX = /usr/local
 install: $(PROGRAM) $(DAILY)
@@ -72,3 +77,4 @@ bench: $(PROGRAM) $(CASES)
 	@python3 bench/run.py
 
 .PHONY: try run test prove mutants examples pages install refusals links believe cases bench
+.PHONY: try run test prove mutants examples pages swift install refusals links believe bench

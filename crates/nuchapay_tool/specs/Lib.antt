@@ -5,3 +5,4 @@ pub mod Prints
 pub mod Requests
 pub mod Sources
 pub mod Topics
+pub mod Translations

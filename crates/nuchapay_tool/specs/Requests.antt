@@ -3,6 +3,7 @@ use Rattle.std.specs.Prelude.{◌≤◌}
 use Rattle.swift_types.specs.declared.limits.TheConstants.{WORKERS}
 use Rattle.nuchapay_tool.specs.declared.requests.Request.{Request}
 use Rattle.nuchapay_tool.specs.declared.requests.Request.TheVariants.{Run, Values, Why, Check, Explain, Print, Show}
+use Rattle.nuchapay_tool.specs.declared.requests.Request.TheVariants.{Run, Check, Explain, Print, Swift}
 
 -- A run is asked for on 1 to 8 workers.
 abbrev pub HasCrew : Request → Type 0
@@ -13,3 +14,4 @@ HasCrew (Check source) = Unit {0}
 HasCrew (Explain topic) = Unit {0}
 HasCrew (Print source) = Unit {0}
 HasCrew (Show source workers format) = (1 ≤ workers) × (workers ≤ WORKERS)
+HasCrew (Swift source) = Unit {0}

@@ -21,6 +21,8 @@ mod run_refusals;
 mod source;
 // What can be explained.
 mod topic;
+// A script as a Swift program.
+mod translated;
 // The pages of the faults of a turn.
 mod turn_faults;
 // How a turn is named.
@@ -36,4 +38,5 @@ pub use printed::print;
 pub use requests::{PictureFormat, Request, Source};
 pub use topic::{RunRefusal, Topic, TurnFault, find_topic};
 pub use turn_names::{TurnName, turn_name};
+pub use translated::translate;
 pub use words::request;

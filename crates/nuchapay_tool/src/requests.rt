@@ -38,4 +38,6 @@ pub enum Request<'a> {
     Print(Source<'a>),
     /// To run a script on so many threads, and to show the run as a picture in this format.
     Show(Source<'a>, u32, PictureFormat),
+    /// To print the Swift program of a script.
+    Swift(Source<'a>),
 }

@@ -120,6 +120,13 @@ fn show_command<'a>(alloc: Global) -> Result<Command<'a>, AllocError> {
         .arg(format)
 }
 
+fn swift_command<'a>(alloc: Global) -> Result<Command<'a>, AllocError> {
+    Command::new(alloc, "swift")
+        .about("Prints a script as a Swift program, for Swift's own runtime")
+        .after_help("Example: nuchapay swift examples/account.actors")
+        .arg(file(alloc))
+}
+
 // The words that the program takes.
 fn command<'a>(alloc: Global) -> Result<Command<'a>, AllocError> {
     Command::new(alloc, "nuchapay")
@@ -133,6 +140,8 @@ fn command<'a>(alloc: Global) -> Result<Command<'a>, AllocError> {
         .subcommand(explain_command(alloc)?)?
         .subcommand(print_command(alloc)?)?
         .subcommand(show_command(alloc)?)
+        .subcommand(print_command(alloc)?)?
+        .subcommand(swift_command(alloc)?)
 }
 
 // The file that was named.
@@ -200,7 +209,7 @@ fn why_request<'a>(matches: &ArgMatches<'a>) -> Option<Request<'a>>
 /// - `run`, with a file, `--workers N` from 1 to 8 and 1 where it is not given, `--quiet`, and `--values`, for which there is no place
 ///   where `--quiet` is given;
 /// - `why`, with a file, the name of a turn, and `--workers N`;
-/// - `check` and `print`, with a file;
+/// - `check`, `print` and `swift`, with a file;
 /// - `show`, with a file, `--workers N`, and `--format` with `svg` or `trace`, `svg` where it is not given;
 /// - `explain`, with the word of a topic.
 ///
@@ -236,6 +245,9 @@ pub fn request<'a>(alloc: Global, words: &'a [String]) -> Result<Request<'a>, Er
                 "a turn is named as in a journal: t1.0 is the first turn of task 1",
             )?),
         };
+    }
+    if let Some(found) = matches.subcommand_matches("swift") {
+        return Ok(Request::Swift(source(found)));
     }
     let asked = matches.subcommand_matches("explain");
     match asked
