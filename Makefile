@@ -45,6 +45,10 @@ examples: $(PROGRAM) $(DAILY)
 pages: $(DAILY)
 	@tools/pages.py $(DAILY)
 
+# Whether nuchapay check marks the token of each refusal of examples/nuchapay/marks.
+marks: $(DAILY)
+	@tools/marks.py $(DAILY)
+
 # Puts both programs, the examples and the manual page into PREFIX: make install PREFIX=~/.local
 PREFIX = /usr/local
 install: $(PROGRAM) $(DAILY)
@@ -67,4 +71,4 @@ believe:
 bench: $(PROGRAM) $(CASES)
 	@python3 bench/run.py
 
-.PHONY: try run test prove mutants examples pages install refusals links believe bench
+.PHONY: try run test prove mutants examples pages marks install refusals links believe bench

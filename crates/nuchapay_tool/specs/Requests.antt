@@ -7,6 +7,6 @@ use Rattle.nuchapay_tool.specs.declared.requests.Request.TheVariants.{Run, Check
 -- A run is asked for on 1 to 8 workers.
 abbrev pub HasCrew : Request → Type 0
 HasCrew (Run source workers quiet) = (1 ≤ workers) × (workers ≤ WORKERS)
-HasCrew (Check source) = Unit {0}
+HasCrew (Check source colour) = Unit {0}
 HasCrew (Explain topic) = Unit {0}
-HasCrew (Print source) = Unit {0}
+HasCrew (Print source pretty) = Unit {0}

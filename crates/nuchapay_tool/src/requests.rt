@@ -16,10 +16,10 @@ pub enum Source<'a> {
 pub enum Request<'a> {
     /// To run a script, on how many threads (1 to 8 where `request` made it), and whether without its journals.
     Run(Source<'a>, u32, bool),
-    /// To say whether a text is a script, and why not.
-    Check(Source<'a>),
+    /// To say whether a text is a script, and why not; with colours where the last word says so.
+    Check(Source<'a>, bool),
     /// To explain a refusal or a fault.
     Explain(Topic),
-    /// To print the printed form of a script.
-    Print(Source<'a>),
+    /// To print the printed form of a script; laid out for people where the last word says so.
+    Print(Source<'a>, bool),
 }

@@ -44,10 +44,17 @@ fn run_command<'a>(alloc: Global) -> Result<Command<'a>, AllocError> {
 }
 
 fn check_command<'a>(alloc: Global) -> Result<Command<'a>, AllocError> {
+    let colour = Arg::new(alloc, "color")
+        .long("color")
+        .value_name("WHEN")
+        .help("Colours what is said of a refusal: always or never")
+        .action(ArgAction::Set)
+        .default_value("never");
     Command::new(alloc, "check")
-        .about("Says whether a script is accepted; else why not, on which line, and what to do")
+        .about("Says whether a script is accepted; else why not, where, and what to do")
         .after_help("Example: nuchapay check examples/account.actors")
-        .arg(file(alloc))
+        .arg(file(alloc))?
+        .arg(colour)
 }
 
 fn explain_command<'a>(alloc: Global) -> Result<Command<'a>, AllocError> {
@@ -65,12 +72,17 @@ fn explain_command<'a>(alloc: Global) -> Result<Command<'a>, AllocError> {
 }
 
 fn print_command<'a>(alloc: Global) -> Result<Command<'a>, AllocError> {
+    let pretty = Arg::new(alloc, "pretty")
+        .long("pretty")
+        .help("Lays the script out: indented, one statement on a line")
+        .action(ArgAction::SetTrue);
     Command::new(alloc, "print")
         .about(
             "Prints the printed form of a script, which is the same for texts that spell one script",
         )
         .after_help("Example: nuchapay print examples/account.actors")
-        .arg(file(alloc))
+        .arg(file(alloc))?
+        .arg(pretty)
 }
 
 // The words that the program takes.
@@ -118,10 +130,21 @@ fn run_request<'a>(matches: &ArgMatches<'a>) -> Request<'a>
     )
 }
 
+// Whether the second of two words is what an argument says, and not the first, which is meant where it is missing; none where it is
+// another word.
+fn is_second(matches: &ArgMatches<'_>, argument: &str, first: &str, second: &str) -> Option<bool> {
+    match matches.get_str(argument) {
+        Some(word) if word == second => Some(true),
+        Some(word) if word != first => None,
+        _ => Some(false),
+    }
+}
+
 /// Reads the arguments of a command line, of which the first is the program's name (our own):
 ///
 /// - `run`, with a file, `--workers N` from 1 to 8 and 1 where it is not given, and `--quiet`;
-/// - `check` and `print`, with a file;
+/// - `check`, with a file and `--color always` or `never`, which is meant where it is not given;
+/// - `print`, with a file and `--pretty`;
 /// - `explain`, with the word of a topic.
 ///
 /// A file that is `-` or missing is standard input.
@@ -140,10 +163,13 @@ pub fn request<'a>(alloc: Global, words: &'a [String]) -> Result<Request<'a>, Er
         return Ok(run_request(found));
     }
     if let Some(found) = matches.subcommand_matches("check") {
-        return Ok(Request::Check(source(found)));
+        return match is_second(found, "color", "never", "always") {
+            Some(colour) => Ok(Request::Check(source(found), colour)),
+            None => Err(command.error(ErrorKind::InvalidValue, "a colour is always or never")?),
+        };
     }
     if let Some(found) = matches.subcommand_matches("print") {
-        return Ok(Request::Print(source(found)));
+        return Ok(Request::Print(source(found), found.get_flag("pretty")));
     }
     let asked = matches.subcommand_matches("explain");
     match asked
