@@ -1,7 +1,6 @@
 -- How many actors before a place have an invariant, from the first one on.
 use Rattle.std.proofs.Common.{◌≡◌, ℕ, zero, suc, ◌+◌, ◌-◌, ◌<◌, ◌≤◌, Bool, true, false, Option, Some, None, List, [], ◌∷◌, length, map, take, drop, get_or, cond, take_all, refl, sym, ap, subst, ◌∙◌, arith}
 use Rattle.std.specs.Prelude.{is_some}
-use Rattle.std.specs.List.{count_by}
 use Rattle.std.proofs.lemmas.List.Sums.{sum_by-cons}
 use Rattle.script_grammar.specs.declared.declaration.Actor.{Actor}
 use Rattle.script_grammar.specs.declared.expression.Expr.{Expr}

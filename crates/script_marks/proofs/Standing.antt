@@ -1,5 +1,5 @@
 -- Where the first token of the rest of a text stands, and the later ones.
-use Rattle.std.proofs.Common.{◌≡◌, ◌<◌, ◌-◌, ℕ, suc, Bool, true, false, Option, Some, None, List, [], ◌∷◌, length, refl, sym, ap, arith}
+use Rattle.std.proofs.Common.{◌≡◌, ◌<◌, ◌-◌, ℕ, suc, true, false, Option, Some, None, List, [], ◌∷◌, length, sym, ap, arith}
 use Rattle.std.specs.Prelude.{is_some}
 use Rattle.script_tokens.specs.Lexes.{front_at, front_of}
 use Rattle.script_tokens.specs.Pieces.{Piece}

@@ -1,5 +1,5 @@
 -- Which bytes of a text a refusal blames.
-use Rattle.std.specs.Prelude.{◌≡◌, ◌⊎◌, ℕ, suc, List, length}
+use Rattle.std.specs.Prelude.{◌≡◌, ℕ, suc, List, length}
 use Rattle.std.specs.List.{prefix_len}
 use Rattle.script_tokens.specs.Bytes.{is_text_byte}
 use Rattle.script_parser.specs.declared.fault.Kind.TheVariants as grammar
