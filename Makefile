@@ -50,6 +50,10 @@ pages: $(DAILY)
 swift: $(DAILY)
 	@tools/swift.py $(DAILY) $(ARGS)
 
+# Whether nuchapay check marks the token of each refusal of examples/nuchapay/marks.
+marks: $(DAILY)
+	@tools/marks.py $(DAILY)
+
 # Puts both programs, the examples and the manual page into PREFIX: make install PREFIX=~/.local
 PREFIX = /usr/local
 install: $(PROGRAM) $(DAILY)
@@ -78,3 +82,4 @@ bench: $(PROGRAM) $(CASES)
 
 .PHONY: try run test prove mutants examples pages install refusals links believe cases bench
 .PHONY: try run test prove mutants examples pages swift install refusals links believe bench
+.PHONY: try run test prove mutants examples pages marks install refusals links believe bench

@@ -16,6 +16,7 @@ use crate::values::{Said, explained_turn, report_of};
 use nuchapay_tool::{
     Checked, Request, Source, Topic, TurnName, check, explain, page_of, print, read_input, request,
     Checked, Request, Source, Topic, check, explain, page_of, print, read_input, request, translate,
+    Checked, Request, Source, Topic, check, explain, page_of, pretty, print, read_input, request,
 };
 use nuchapay_values::Explained;
 use std::alloc::{AllocError, AllocGlobal};
@@ -74,12 +75,12 @@ where
             Ok(text) => answered(host, name, explained_turn(rt, &text, name, workers)),
             Err(error) => unread(host, source, error),
         },
-        Request::Check(source) => match script(host, source) {
-            Ok(text) => checked(host, source, &text),
+        Request::Check(source, colour) => match script(host, source) {
+            Ok(text) => checked(host, source, &text, colour),
             Err(error) => unread(host, source, error),
         },
-        Request::Print(source) => match script(host, source) {
-            Ok(text) => told(host, printed(host, &text)),
+        Request::Print(source, is_pretty) => match script(host, source) {
+            Ok(text) => told(host, printed(host, &text, is_pretty)),
             Err(error) => unread(host, source, error),
         },
         Request::Show(source, workers, format) => match script(host, source) {
@@ -132,8 +133,8 @@ fn told(rt: &HostRuntime, ended: Result<bool, ToolFault>) -> u8 {
 }
 
 // Says whether a text is a script. The status to end with.
-fn checked(rt: &HostRuntime, source: Source<'_>, text: &[u8]) -> u8 {
-    match check(rt.alloc(), name_of(source), text) {
+fn checked(rt: &HostRuntime, source: Source<'_>, text: &[u8], colour: bool) -> u8 {
+    match check(rt.alloc(), name_of(source), text, colour) {
         Ok(Checked::Accepted(said)) => told(rt, shown(rt, said.as_bytes())),
         Ok(Checked::Refused(said)) => match write_all(&mut rt.stderr(), said.as_bytes()) {
             Ok(()) => 3,
@@ -169,7 +170,11 @@ fn answered(rt: &HostRuntime, name: TurnName, found: Result<Explained, ToolFault
     }
 }
 
-fn printed(rt: &HostRuntime, text: &[u8]) -> Result<bool, ToolFault> {
+fn printed(rt: &HostRuntime, text: &[u8], is_pretty: bool) -> Result<bool, ToolFault> {
+    if is_pretty {
+        let said = pretty(rt.alloc(), text)?;
+        return shown(rt, &said);
+    }
     let said = print(rt.alloc(), text)?;
     shown(rt, said.as_bytes())
 }

@@ -1,7 +1,10 @@
 pub mod Checks
+pub mod Colours
 pub mod Input
+pub mod Marks
 pub mod Pages
 pub mod Prints
+pub mod Refusals
 pub mod Requests
 pub mod Sources
 pub mod Topics

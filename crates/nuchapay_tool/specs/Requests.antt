@@ -10,8 +10,8 @@ abbrev pub HasCrew : Request → Type 0
 HasCrew (Run source workers quiet) = (1 ≤ workers) × (workers ≤ WORKERS)
 HasCrew (Values source workers) = (1 ≤ workers) × (workers ≤ WORKERS)
 HasCrew (Why source name workers) = (1 ≤ workers) × (workers ≤ WORKERS)
-HasCrew (Check source) = Unit {0}
+HasCrew (Check source colour) = Unit {0}
 HasCrew (Explain topic) = Unit {0}
-HasCrew (Print source) = Unit {0}
+HasCrew (Print source pretty) = Unit {0}
 HasCrew (Show source workers format) = (1 ≤ workers) × (workers ≤ WORKERS)
 HasCrew (Swift source) = Unit {0}

@@ -25,6 +25,10 @@ skip_lines (suc n) text = after_feed (feed_in (skip_lines n text)) (skip_lines n
 abbrev pub source_line : List ℕ → ℕ → List ℕ
 source_line text line = before_feed (feed_in (skip_lines (line - 1) text)) (skip_lines (line - 1) text)
 
+-- the place of the first byte of a line
+abbrev pub line_start : List ℕ → ℕ → ℕ
+line_start text line = length text - length (skip_lines (line - 1) text)
+
 -- how a byte is shown: a tab and a CR as a space, any other that is not printable ASCII as a question mark
 abbrev pub shown_byte : ℕ → ℕ
 shown_byte b = if nat_le 32 b && nat_le b 126 then b else (if b == 9 || b == 13 then 32 else 63)

@@ -3,16 +3,24 @@
 
 // Whether a text is a script, and why not.
 mod checks;
+// The colours of a text for a terminal.
+mod colours;
 // A script from a device.
 mod input;
+// The mark under a line of a text.
+mod mark;
 // What is explained of a refusal or a fault.
 mod page;
 // The page of each topic.
 mod pages;
+// A script as a person would lay it out.
+mod laid;
 // The printed form of a text.
 mod printed;
 // The pages of the refusals of a script.
 mod refusals;
+// The text of a refusal.
+mod refused;
 // What a command line asks for.
 mod requests;
 // The pages of the refusals of a run.
@@ -32,6 +40,7 @@ mod words;
 
 pub use checks::{Checked, check};
 pub use input::read_input;
+pub use laid::pretty;
 pub use page::{Page, Scripts, explain};
 pub use pages::page_of;
 pub use printed::print;

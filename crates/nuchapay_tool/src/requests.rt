@@ -30,12 +30,12 @@ pub enum Request<'a> {
     Values(Source<'a>, u32),
     /// To run a script on so many threads, and to explain one of its turns.
     Why(Source<'a>, TurnName, u32),
-    /// To say whether a text is a script, and why not.
-    Check(Source<'a>),
+    /// To say whether a text is a script, and why not; with colours where the last word says so.
+    Check(Source<'a>, bool),
     /// To explain a refusal or a fault.
     Explain(Topic),
-    /// To print the printed form of a script.
-    Print(Source<'a>),
+    /// To print the printed form of a script; laid out for people where the last word says so.
+    Print(Source<'a>, bool),
     /// To run a script on so many threads, and to show the run as a picture in this format.
     Show(Source<'a>, u32, PictureFormat),
     /// To print the Swift program of a script.

@@ -1,13 +1,13 @@
 //! The lines of a text.
 
-ghost use Rattle.std.specs.Prelude.{◌≡◌, ◌<◌, map, length, IfOk, IfSome};
+ghost use Rattle.std.specs.Prelude.{◌≡◌, ◌<◌, ◌≤◌, ◌-◌, map, length, IfOk, IfSome};
 ghost use Rattle.std.specs.String.{string_bytes};
-ghost use Rattle.nuchapay_tool.specs.Sources.{after_feed, dots, feed_in, shown_byte, shown_line, source_line};
+ghost use Rattle.nuchapay_tool.specs.Sources.{after_feed, before_feed, dots, feed_in, shown_byte, shown_line, skip_lines, source_line};
 
 use std::alloc::{AllocError, Global};
 
 // How many bytes of a line are shown at most.
-const SHOWN: usize = 1_000;
+pub(crate) const SHOWN: usize = 1_000;
 
 /// A line of a text as it is shown to people: without its line feed, a tab and a CR as a space, and any other byte that
 /// is not printable ASCII as a question mark. After 1,000 bytes two dots stand for the others. Empty past the last line.
@@ -53,20 +53,37 @@ fn shown_byte(byte: u8) -> u8
 fn source_line(text: &[u8], line: u32) -> &[u8]
     ensures { result.now ≡ source_line text.now line }
 {
+    first_line(from_line(text, line))
+}
+
+/// What stands from a line on, which is counted from 1.
+pub(crate) fn from_line(text: &[u8], line: u32) -> &[u8]
+    ensures rest { result.now ≡ skip_lines (line - 1) text.now }
+    ensures shorter { length result.now ≤ length text.now }
+{
     let mut rest = text;
     let before = line.saturating_sub(1);
     for _ in 0..before {
         rest = after_line(rest);
     }
-    match line_feed(rest) {
-        Some(place) => &rest[..place],
-        None => rest,
+    rest
+}
+
+/// What stands before the first line feed.
+pub(crate) fn first_line(text: &[u8]) -> &[u8]
+    ensures line { result.now ≡ before_feed (feed_in text.now) text.now }
+    ensures shorter { length result.now ≤ length text.now }
+{
+    match line_feed(text) {
+        Some(place) => &text[..place],
+        None => text,
     }
 }
 
 // What stands after the first line.
 fn after_line(text: &[u8]) -> &[u8]
-    ensures { result.now ≡ after_feed (feed_in text.now) text.now }
+    ensures rest { result.now ≡ after_feed (feed_in text.now) text.now }
+    ensures shorter { length result.now ≤ length text.now }
 {
     match line_feed(text) {
         Some(place) => &text[place + 1..],

@@ -75,10 +75,17 @@ fn why_command<'a>(alloc: Global) -> Result<Command<'a>, AllocError> {
 }
 
 fn check_command<'a>(alloc: Global) -> Result<Command<'a>, AllocError> {
+    let colour = Arg::new(alloc, "color")
+        .long("color")
+        .value_name("WHEN")
+        .help("Colours what is said of a refusal: always or never")
+        .action(ArgAction::Set)
+        .default_value("never");
     Command::new(alloc, "check")
-        .about("Says whether a script is accepted; else why not, on which line, and what to do")
+        .about("Says whether a script is accepted; else why not, where, and what to do")
         .after_help("Example: nuchapay check examples/account.actors")
-        .arg(file(alloc))
+        .arg(file(alloc))?
+        .arg(colour)
 }
 
 fn explain_command<'a>(alloc: Global) -> Result<Command<'a>, AllocError> {
@@ -96,12 +103,17 @@ fn explain_command<'a>(alloc: Global) -> Result<Command<'a>, AllocError> {
 }
 
 fn print_command<'a>(alloc: Global) -> Result<Command<'a>, AllocError> {
+    let pretty = Arg::new(alloc, "pretty")
+        .long("pretty")
+        .help("Lays the script out: indented, one statement on a line")
+        .action(ArgAction::SetTrue);
     Command::new(alloc, "print")
         .about(
             "Prints the printed form of a script, which is the same for texts that spell one script",
         )
         .after_help("Example: nuchapay print examples/account.actors")
-        .arg(file(alloc))
+        .arg(file(alloc))?
+        .arg(pretty)
 }
 
 fn show_command<'a>(alloc: Global) -> Result<Command<'a>, AllocError> {
@@ -204,6 +216,16 @@ fn why_request<'a>(matches: &ArgMatches<'a>) -> Option<Request<'a>>
     Some(Request::Why(source(matches), name, workers_of(matches)))
 }
 
+// Whether the second of two words is what an argument says, and not the first, which is meant where it is missing; none where it is
+// another word.
+fn is_second(matches: &ArgMatches<'_>, argument: &str, first: &str, second: &str) -> Option<bool> {
+    match matches.get_str(argument) {
+        Some(word) if word == second => Some(true),
+        Some(word) if word != first => None,
+        _ => Some(false),
+    }
+}
+
 /// Reads the arguments of a command line, of which the first is the program's name (our own):
 ///
 /// - `run`, with a file, `--workers N` from 1 to 8 and 1 where it is not given, `--quiet`, and `--values`, for which there is no place
@@ -211,6 +233,8 @@ fn why_request<'a>(matches: &ArgMatches<'a>) -> Option<Request<'a>>
 /// - `why`, with a file, the name of a turn, and `--workers N`;
 /// - `check`, `print` and `swift`, with a file;
 /// - `show`, with a file, `--workers N`, and `--format` with `svg` or `trace`, `svg` where it is not given;
+/// - `check`, with a file and `--color always` or `never`, which is meant where it is not given;
+/// - `print`, with a file and `--pretty`;
 /// - `explain`, with the word of a topic.
 ///
 /// A file that is `-` or missing is standard input.
@@ -229,10 +253,13 @@ pub fn request<'a>(alloc: Global, words: &'a [String]) -> Result<Request<'a>, Er
         return Ok(run_request(found));
     }
     if let Some(found) = matches.subcommand_matches("check") {
-        return Ok(Request::Check(source(found)));
+        return match is_second(found, "color", "never", "always") {
+            Some(colour) => Ok(Request::Check(source(found), colour)),
+            None => Err(command.error(ErrorKind::InvalidValue, "a colour is always or never")?),
+        };
     }
     if let Some(found) = matches.subcommand_matches("print") {
-        return Ok(Request::Print(source(found)));
+        return Ok(Request::Print(source(found), found.get_flag("pretty")));
     }
     if let Some(found) = matches.subcommand_matches("show") {
         return Ok(show_request(found));

@@ -1,0 +1,55 @@
+-- The text of a refusal (our own).
+use Rattle.std.specs.Prelude.{ℕ, ◌==◌, Bool, Option, List, [], ◌∷◌, length, codes, decimal, if◌then◌else◌}
+use Rattle.std.specs.List.{concat, repeat}
+use Rattle.nuchapay_tool.specs.declared.mark.Mark.{Mark}
+use Rattle.nuchapay_tool.specs.declared.page.Page.{Page}
+use Rattle.nuchapay_tool.specs.Colours.{red, blue, bold, plain}
+use Rattle.nuchapay_tool.specs.Marks.{column_text, mark_text}
+use Rattle.nuchapay_tool.specs.Sources.{shown_line}
+
+-- as many spaces as a number has digits
+abbrev pub gutter : ℕ → List ℕ
+gutter n = repeat (length (decimal n)) (codes " ")
+
+-- the number and the text of a refusal
+abbrev pub head_text : Bool → Page → List ℕ
+head_text colour p = concat (red colour ∷ codes "error[" ∷ p.name.now ∷ codes "]" ∷ plain colour ∷ bold colour ∷ codes ": " ∷ p.title.now ∷ plain colour ∷ codes "\n" ∷ [])
+
+-- what to do about a refusal that stands on no line
+abbrev pub lost_text : Bool → List ℕ → List ℕ
+lost_text colour help = concat (bold colour ∷ codes "help" ∷ plain colour ∷ codes ": " ∷ help ∷ codes "\n" ∷ [])
+
+-- the file, the line and the column
+abbrev pub arrow_text : Bool → List ℕ → List ℕ → List ℕ → List ℕ → List ℕ
+arrow_text colour gutter file number column = concat (gutter ∷ blue colour ∷ codes "--> " ∷ plain colour ∷ file ∷ codes ":" ∷ number ∷ column ∷ codes "\n" ∷ [])
+
+-- a line with nothing on it
+abbrev pub bar_text : Bool → List ℕ → List ℕ
+bar_text colour gutter = concat (gutter ∷ blue colour ∷ codes " |" ∷ plain colour ∷ codes "\n" ∷ [])
+
+-- the line of the text
+abbrev pub source_text : Bool → List ℕ → List ℕ → ℕ → List ℕ
+source_text colour number text line = concat (blue colour ∷ number ∷ codes " |" ∷ plain colour ∷ codes " " ∷ shown_line text line ∷ codes "\n" ∷ [])
+
+-- what to do
+abbrev pub advice_text : Bool → List ℕ → List ℕ → List ℕ
+advice_text colour gutter help = concat (gutter ∷ blue colour ∷ codes " =" ∷ plain colour ∷ codes " " ∷ bold colour ∷ codes "help" ∷ plain colour ∷ codes ": " ∷ help ∷ codes "\n" ∷ [])
+
+-- where a refusal stands, with that line of the text and the mark under it, and what to do
+abbrev pub located_text : Bool → List ℕ → List ℕ → ℕ → Option Mark → List ℕ → List ℕ
+located_text colour file text line mark help = concat (
+    arrow_text colour (gutter line) file (decimal line) (column_text mark)
+    ∷ bar_text colour (gutter line)
+    ∷ source_text colour (decimal line) text line
+    ∷ mark_text colour (gutter line) mark
+    ∷ bar_text colour (gutter line)
+    ∷ advice_text colour (gutter line) help ∷ []
+    )
+
+-- what follows the first line of a refusal; out of memory stands on line 0
+abbrev pub place_text : Bool → List ℕ → List ℕ → ℕ → Option Mark → List ℕ → List ℕ
+place_text colour file text line mark help = if line == 0 then lost_text colour help else located_text colour file text line mark help
+
+-- what is said of a refusal
+abbrev pub refusal_text : Bool → List ℕ → List ℕ → ℕ → Option Mark → Page → List ℕ
+refusal_text colour file text line mark p = concat (head_text colour p ∷ place_text colour file text line mark p.help.now ∷ [])

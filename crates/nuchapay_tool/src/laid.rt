@@ -1,0 +1,57 @@
+//! A script as a person would lay it out.
+
+ghost use Rattle.std.specs.Prelude.{◌≡◌, IfErr, IfOk, IsTrue};
+ghost use Rattle.swift_script.specs.Accepted.{IsAccepted};
+ghost use Rattle.swift_script.specs.FaultLines.{IsAtItsLine};
+ghost use Rattle.swift_script.specs.Refuses.{Refuses};
+ghost use Rattle.swift_script.specs.declared.fault.ScriptFaultKind.TheVariants.{Memory};
+ghost use Rattle.nuchapay_tool.specs.Prints.{IsLaidOutOf};
+
+use script_layout::layout;
+use script_tokens::tokens;
+use std::alloc::{AllocError, Global};
+use swift_script::{Script, ScriptFault, ScriptFaultKind, print_script, read};
+
+/// The script that a text spells, as a person would lay it out (our own): one statement on a line, blocks indented, and no parenthesis
+/// without which the same is read. Comments are left out, and declarations stand in the order of their kinds, as in the printed form.
+///
+/// What is laid out is read again, and is handed out only where it is the same script; else the printed form is. That happens where the
+/// text would be longer than 65,536 bytes, and in no other case that is known. Linear in these texts.
+///
+/// # Errors
+///
+/// The refusal of the text; S14 also where there is no memory to lay it out, or to read it again.
+pub fn pretty(alloc: Global, text: &[u8]) -> Result<Vec<u8>, ScriptFault>
+    ensures laid { IfOk result (λ said. IsLaidOutOf text.now said.items) }
+    ensures refused { IfErr result (λ fault. Refuses fault.kind text.now) }
+    ensures line { IfErr result (λ fault. IsAtItsLine fault text.now) }
+{
+    let script = read(alloc, text)?;
+    let printed = print_script(alloc, &script)?;
+    let laid = laid_out(alloc, printed.as_bytes())?;
+    if is_read_as(alloc, &laid, &script)? {
+        Ok(laid)
+    } else {
+        Ok(printed.into_bytes())
+    }
+}
+
+// A printed form, laid out.
+fn laid_out(alloc: Global, printed: &[u8]) -> Result<Vec<u8>, AllocError> {
+    let found = tokens(alloc, printed)?;
+    layout(alloc, &found.tokens)
+}
+
+// Whether a text is accepted as this script.
+fn is_read_as(alloc: Global, text: &[u8], script: &Script) -> Result<bool, ScriptFault>
+    ensures is { IfOk result (λ same. IsTrue same → IsAccepted text.now script.now) }
+    ensures memory { IfErr result (λ fault. (fault.kind ≡ Memory) × (fault.line ≡ 0)) }
+{
+    match read(alloc, text) {
+        Ok(again) => Ok(again.says_the_same(script)),
+        Err(fault) => match fault.kind {
+            ScriptFaultKind::Memory => Err(fault),
+            _ => Ok(false),
+        },
+    }
+}

@@ -1,0 +1,171 @@
+//! The text of a refusal.
+
+ghost use Rattle.std.specs.Prelude.{◌≡◌, IfOk};
+ghost use Rattle.std.specs.String.{string_bytes};
+ghost use Rattle.nuchapay_tool.specs.Refusals.{advice_text, arrow_text, bar_text, head_text, located_text, lost_text, place_text, refusal_text, source_text};
+
+use crate::colours::{blue, bold, plain, red};
+use crate::mark::{Mark, column_text, mark_text};
+use crate::page::Page;
+use crate::source::shown_line;
+use std::alloc::{AllocError, Global};
+
+/// What is said of a refusal: its page's number and text, where it stands, that line of the text with a mark under it, and what to do.
+/// Linear in the text.
+///
+/// # Errors
+///
+/// `AllocError` where there is no memory for it.
+pub(crate) fn refusal(
+    alloc: Global,
+    colour: bool,
+    file: &str,
+    text: &[u8],
+    line: u32,
+    mark: Option<Mark>,
+    page: &Page,
+) -> Result<String, AllocError>
+    ensures { IfOk result (λ said. string_bytes said ≡ refusal_text colour file.now text.now line mark page.now) }
+{
+    let head = head(alloc, colour, page)?;
+    let place = if line == 0 {
+        lost(alloc, colour, page.help)?
+    } else {
+        located(alloc, colour, file, text, line, mark, page.help)?
+    };
+    let parts = [head.as_str(), place.as_str()];
+    parts.as_slice().concat(alloc)
+}
+
+fn head(alloc: Global, colour: bool, page: &Page) -> Result<String, AllocError>
+    ensures { IfOk result (λ said. string_bytes said ≡ head_text colour page.now) }
+{
+    let parts = [
+        red(colour),
+        "error[",
+        page.name,
+        "]",
+        plain(colour),
+        bold(colour),
+        ": ",
+        page.title,
+        plain(colour),
+        "\n",
+    ];
+    parts.as_slice().concat(alloc)
+}
+
+// What is said where no line is known.
+fn lost(alloc: Global, colour: bool, help: &str) -> Result<String, AllocError>
+    ensures { IfOk result (λ said. string_bytes said ≡ lost_text colour help.now) }
+{
+    let parts = [bold(colour), "help", plain(colour), ": ", help, "\n"];
+    parts.as_slice().concat(alloc)
+}
+
+fn located(
+    alloc: Global,
+    colour: bool,
+    file: &str,
+    text: &[u8],
+    line: u32,
+    mark: Option<Mark>,
+    help: &str,
+) -> Result<String, AllocError>
+    ensures { IfOk result (λ said. string_bytes said ≡ located_text colour file.now text.now line mark help.now) }
+{
+    let number = line.to_string(alloc)?;
+    let gutter = " ".repeat(alloc, number.len())?;
+    let (number, gutter) = (number.as_str(), gutter.as_str());
+    let column = column_text(alloc, mark)?;
+    let arrow = arrow(alloc, colour, gutter, file, number, column.as_str())?;
+    let bar = bar(alloc, colour, gutter)?;
+    let source = source(alloc, colour, number, text, line)?;
+    let under = mark_text(alloc, colour, gutter, mark)?;
+    let advice = advice(alloc, colour, gutter, help)?;
+    let parts = [
+        arrow.as_str(),
+        bar.as_str(),
+        source.as_str(),
+        under.as_str(),
+        bar.as_str(),
+        advice.as_str(),
+    ];
+    parts.as_slice().concat(alloc)
+}
+
+// The file, the line and the column.
+fn arrow<'a>(
+    alloc: Global,
+    colour: bool,
+    gutter: &'a str,
+    file: &'a str,
+    number: &'a str,
+    column: &'a str,
+) -> Result<String, AllocError>
+    ensures { IfOk result (λ said. string_bytes said ≡ arrow_text colour gutter.now file.now number.now column.now) }
+{
+    let parts = [
+        gutter,
+        blue(colour),
+        "--> ",
+        plain(colour),
+        file,
+        ":",
+        number,
+        column,
+        "\n",
+    ];
+    parts.as_slice().concat(alloc)
+}
+
+// A line with nothing on it.
+fn bar(alloc: Global, colour: bool, gutter: &str) -> Result<String, AllocError>
+    ensures { IfOk result (λ said. string_bytes said ≡ bar_text colour gutter.now) }
+{
+    let parts = [gutter, blue(colour), " |", plain(colour), "\n"];
+    parts.as_slice().concat(alloc)
+}
+
+// The line of the text.
+fn source(
+    alloc: Global,
+    colour: bool,
+    number: &str,
+    text: &[u8],
+    line: u32,
+) -> Result<String, AllocError>
+    ensures { IfOk result (λ said. string_bytes said ≡ source_text colour number.now text.now line) }
+{
+    let shown = shown_line(alloc, text, line)?;
+    let parts = [
+        blue(colour),
+        number,
+        " |",
+        plain(colour),
+        " ",
+        shown.as_str(),
+        "\n",
+    ];
+    parts.as_slice().concat(alloc)
+}
+
+// What to do.
+fn advice(alloc: Global, colour: bool, gutter: &str, help: &str) -> Result<String, AllocError>
+    ensures { IfOk result (λ said. string_bytes said ≡ advice_text colour gutter.now help.now) }
+{
+    let parts = [
+        gutter,
+        blue(colour),
+        " =",
+        plain(colour),
+        " ",
+        bold(colour),
+        "help",
+        plain(colour),
+        ": ",
+        help,
+        "\n",
+    ];
+    parts.as_slice().concat(alloc)
+}

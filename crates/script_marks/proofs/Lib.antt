@@ -1,0 +1,4 @@
+pub mod Blaming
+pub mod Counted
+pub mod Failing
+pub mod Standing

@@ -1,0 +1,4 @@
+pub mod Blames
+pub mod Places
+pub mod SoughtInside
+pub mod Spans

@@ -1,0 +1,44 @@
+//! A kind of token, and where it stands among others.
+
+ghost use Rattle.std.specs.Prelude.{◌≡◌, ◌≤◌, length, map};
+ghost use Rattle.script_tokens.specs.Pieces.{piece};
+ghost use Rattle.swift_script.specs.FaultLines.{place_of};
+ghost use Rattle.script_marks.specs.SoughtInside.{passes};
+
+use script_tokens::{Keyword, Token};
+
+/// What is looked for among tokens.
+#[derive(Clone, Copy)]
+pub(crate) enum Sought {
+    Name,
+    Invariant,
+    Root,
+}
+
+fn passes(sought: Sought, token: &Token) -> bool
+    ensures { result ≡ passes sought (piece token.now) }
+{
+    match sought {
+        Sought::Name => matches!(token, Token::Name(_)),
+        Sought::Invariant => matches!(token, Token::Key(Keyword::Invariant)),
+        Sought::Root => matches!(token, Token::Key(Keyword::Root)),
+    }
+}
+
+/// The place of the token that is of a kind and before which so many others are of it; the number of tokens where there
+/// is none. Linear in the tokens.
+pub(crate) fn place_of(tokens: &[Token], sought: Sought, before: usize) -> usize
+    ensures place { result ≡ place_of (passes sought) before (map piece tokens.now) }
+    ensures within { result ≤ length tokens.now }
+{
+    let mut left = before;
+    for (place, token) in tokens.iter().enumerate() {
+        if passes(sought, token) {
+            if left == 0 {
+                return place;
+            }
+            left -= 1;
+        }
+    }
+    tokens.len()
+}
