@@ -80,6 +80,4 @@ cases:
 bench: $(PROGRAM) $(CASES)
 	@python3 bench/run.py
 
-.PHONY: try run test prove mutants examples pages install refusals links believe cases bench
-.PHONY: try run test prove mutants examples pages swift install refusals links believe bench
-.PHONY: try run test prove mutants examples pages marks install refusals links believe bench
+.PHONY: try run test prove mutants examples pages marks swift install refusals links believe cases bench

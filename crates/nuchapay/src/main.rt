@@ -1,9 +1,9 @@
 //! Answers questions about scripts of actors: runs them, checks them, prints them, and explains their refusals and faults.
 //!
-//! Its first argument is a command: `run`, `why`, `check`, `explain`, `print` or `show`; `--help` and `--version` are taken too. Status 0 stands for a
-//! Its first argument is a command: `run`, `check`, `explain`, `print` or `swift`; `--help` and `--version` are taken too. Status 0 stands
-//! for a run whose tasks all ended with a value, a script that is accepted, and for help; 1 for a run with a task that ended with a fault, 2
-//! for words that were refused, 3 for a script that was refused, 4 for a run that was refused, or a file or device that failed.
+//! Its first argument is a command: `run`, `why`, `check`, `explain`, `print`, `show` or `swift`; `--help` and `--version` are taken too.
+//! Status 0 stands for a run whose tasks all ended with a value, a script that is accepted, and for help; 1 for a run with a task that ended
+//! with a fault, 2 for words that were refused, 3 for a script that was refused, 4 for a run that was refused, or a file or device that
+//! failed.
 #![tactic(auto)]
 
 // Runs as pictures.
@@ -14,9 +14,8 @@ mod values;
 use crate::show::shown_run;
 use crate::values::{Said, explained_turn, report_of};
 use nuchapay_tool::{
-    Checked, Request, Source, Topic, TurnName, check, explain, page_of, print, read_input, request,
-    Checked, Request, Source, Topic, check, explain, page_of, print, read_input, request, translate,
-    Checked, Request, Source, Topic, check, explain, page_of, pretty, print, read_input, request,
+    Checked, Request, Source, Topic, TurnName, check, explain, page_of, pretty, print, read_input,
+    request, translate,
 };
 use nuchapay_values::Explained;
 use std::alloc::{AllocError, AllocGlobal};

@@ -9,7 +9,7 @@ use crate::placed::Placed;
 use crate::text::{begin_text, end_text, write_text};
 use crate::word;
 use std::alloc::AllocError;
-use swift_events::Event;
+use swift_log::EventLog;
 use swift_journal::BriefExit;
 use swift_script::Script;
 use swift_types::ActorId;
@@ -197,7 +197,7 @@ fn was_raised(picture: &Picture, turn: &TurnBox, placed: &Placed) -> bool {
 #[derive(Clone, Copy)]
 pub(crate) struct View<'a> {
     pub script: &'a Script,
-    pub log: &'a [Event],
+    pub log: &'a EventLog,
     pub picture: &'a Picture,
     pub layout: &'a Layout,
 }

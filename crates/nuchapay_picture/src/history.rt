@@ -2,6 +2,7 @@
 
 use std::alloc::{AllocError, Global};
 use swift_events::Event;
+use swift_log::EventLog;
 use swift_types::TaskId;
 
 /// What the log says of a turn.
@@ -67,10 +68,10 @@ impl History {
 }
 
 // How many turns of each task were applied.
-fn turns_of_tasks(alloc: Global, tasks: usize, log: &[Event]) -> Result<Vec<usize>, AllocError> {
+fn turns_of_tasks(alloc: Global, tasks: usize, log: &EventLog) -> Result<Vec<usize>, AllocError> {
     let mut counts = vec![in alloc; 0_usize; tasks]?;
-    for event in log {
-        if let Event::Apply(task, _) = event {
+    for place in 0..log.len() {
+        if let Event::Apply(task, _) = log.event(place) {
             if let Some(count) = counts.get_mut(task.0 as usize) {
                 *count = count.saturating_add(1);
             }
@@ -133,7 +134,7 @@ fn read_event(
 pub(crate) fn history_of(
     alloc: Global,
     tasks: usize,
-    log: &[Event],
+    log: &EventLog,
 ) -> Result<History, AllocError> {
     let mut firsts = turns_of_tasks(alloc, tasks, log)?;
     let turns = sum_up(&mut firsts);
@@ -144,8 +145,8 @@ pub(crate) fn history_of(
         columns: 0,
     };
     let mut doer = None;
-    for (place, event) in log.iter().enumerate() {
-        doer = read_event(&mut history, *event, place, doer);
+    for place in 0..log.len() {
+        doer = read_event(&mut history, log.event(place), place, doer);
     }
     Ok(history)
 }

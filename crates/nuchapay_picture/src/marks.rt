@@ -3,6 +3,7 @@
 use crate::pieces::{Piece, put};
 use std::alloc::AllocError;
 use swift_events::Event;
+use swift_log::EventLog;
 
 // Whether an event begins a block of the log.
 fn begins_block(event: &Event) -> bool {
@@ -24,15 +25,13 @@ fn mark_of(event: &Event) -> Option<(&'static str, usize)> {
 }
 
 /// What the turn did that was applied at this place of the log, in the order of the log, each in a line. Linear in that.
-pub(crate) fn write_marks(out: &mut Vec<u8>, log: &[Event], end: usize) -> Result<(), AllocError> {
-    let Some(after) = log.get(end.saturating_add(1)..) else {
-        return Ok(());
-    };
-    for event in after {
-        if begins_block(event) {
+pub(crate) fn write_marks(out: &mut Vec<u8>, log: &EventLog, end: usize) -> Result<(), AllocError> {
+    for place in end.saturating_add(1)..log.len() {
+        let event = log.event(place);
+        if begins_block(&event) {
             return Ok(());
         }
-        if let Some((word, number)) = mark_of(event) {
+        if let Some((word, number)) = mark_of(&event) {
             put(
                 out,
                 &[Piece::Text(word), Piece::Number(number), Piece::Text("\n")],

@@ -2,8 +2,7 @@
 use Rattle.std.specs.Prelude.{◌≤◌}
 use Rattle.swift_types.specs.declared.limits.TheConstants.{WORKERS}
 use Rattle.nuchapay_tool.specs.declared.requests.Request.{Request}
-use Rattle.nuchapay_tool.specs.declared.requests.Request.TheVariants.{Run, Values, Why, Check, Explain, Print, Show}
-use Rattle.nuchapay_tool.specs.declared.requests.Request.TheVariants.{Run, Check, Explain, Print, Swift}
+use Rattle.nuchapay_tool.specs.declared.requests.Request.TheVariants.{Run, Values, Why, Check, Explain, Print, Show, Swift}
 
 -- A run is asked for on 1 to 8 workers.
 abbrev pub HasCrew : Request → Type 0

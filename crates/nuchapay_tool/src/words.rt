@@ -151,8 +151,7 @@ fn command<'a>(alloc: Global) -> Result<Command<'a>, AllocError> {
         .subcommand(check_command(alloc)?)?
         .subcommand(explain_command(alloc)?)?
         .subcommand(print_command(alloc)?)?
-        .subcommand(show_command(alloc)?)
-        .subcommand(print_command(alloc)?)?
+        .subcommand(show_command(alloc)?)?
         .subcommand(swift_command(alloc)?)
 }
 
@@ -231,7 +230,7 @@ fn is_second(matches: &ArgMatches<'_>, argument: &str, first: &str, second: &str
 /// - `run`, with a file, `--workers N` from 1 to 8 and 1 where it is not given, `--quiet`, and `--values`, for which there is no place
 ///   where `--quiet` is given;
 /// - `why`, with a file, the name of a turn, and `--workers N`;
-/// - `check`, `print` and `swift`, with a file;
+/// - `swift`, with a file;
 /// - `show`, with a file, `--workers N`, and `--format` with `svg` or `trace`, `svg` where it is not given;
 /// - `check`, with a file and `--color always` or `never`, which is meant where it is not given;
 /// - `print`, with a file and `--pretty`;
