@@ -1,0 +1,66 @@
+-- Frames without their instruction's number (our own). More than one number can stand for the same rest of a method, as each past
+-- its last instruction stands for its end, and a lawful record may have any of these. So a plan has that rest itself.
+use Rattle.std.specs.Prelude.{ℕ, ℤ, Option, List, map}
+use Rattle.std.specs.Option.{option_map}
+use Rattle.swift_types.specs.declared.outcome.Fault.{Fault}
+use Rattle.swift_types.specs.declared.outcome.Resume.{Resume}
+use Rattle.script_code.specs.Tree.{Code}
+use Rattle.script_code.specs.Layout.{code_at}
+use Rattle.swift_script.specs.Scripts.{ScriptView, method_code}
+use Rattle.swift_interpreter.specs.Frames.{FrameView}
+use Rattle.swift_turn.specs.Body.{TaskView}
+use Rattle.swift_history.specs.TurnEnds.{JobView, HeldView}
+
+pub record Plan : Type 0 where
+  pub method : ℕ
+  pub todo : Code
+  pub variables : List ℤ
+  pub handles : List ℕ
+  pub own : List (ℕ × ℤ)
+  pub groups : List ℕ
+  pub pending : Option Fault
+  pub made : ℕ
+  pub opened : ℕ
+
+abbrev pub plan_of : ScriptView → FrameView → Plan
+plan_of script p = record {
+  method = p.method;
+  todo = code_at (method_code script p.method) p.line;
+  variables = p.variables;
+  handles = p.handles;
+  own = p.own;
+  groups = p.groups;
+  pending = p.pending;
+  made = p.made;
+  opened = p.opened;
+}
+
+-- a task's frames, a job and a waiting task, with plans in place of frames
+pub record TaskPlan : Type 0 where
+  pub frames : List Plan
+  pub outer : List (ℕ × ℤ)
+
+pub record JobPlan : Type 0 where
+  pub task : ℕ
+  pub number : ℕ
+  pub resume : Resume
+  pub plan : TaskPlan
+
+pub record HeldPlan : Type 0 where
+  pub number : ℕ
+  pub plan : TaskPlan
+
+abbrev pub task_plan : ScriptView → TaskView → TaskPlan
+task_plan script v = record { frames = map (plan_of script) v.frames; outer = v.outer }
+
+abbrev pub job_plan : ScriptView → JobView → JobPlan
+job_plan script j = record { task = j.task; number = j.number; resume = j.resume; plan = task_plan script j.frames }
+
+abbrev pub held_plan : ScriptView → HeldView → HeldPlan
+held_plan script h = record { number = h.number; plan = task_plan script h.frames }
+
+abbrev pub held_plans : ScriptView → List (Option HeldView) → List (Option HeldPlan)
+held_plans script held = map (option_map (held_plan script)) held
+
+abbrev pub job_plans : ScriptView → List JobView → List JobPlan
+job_plans script jobs = map (job_plan script) jobs
