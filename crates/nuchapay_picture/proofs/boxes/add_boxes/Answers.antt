@@ -1,4 +1,4 @@
-use Rattle.std.proofs.Common.{◌≡◌, ◌+◌, ◌<◌, length, rules}
+use Rattle.std.proofs.Common.{◌<◌, length, rules}
 use Rattle.nuchapay_picture.proofs.More.{boxes_more}
 use Rattle.nuchapay_picture.proofs.boxes.add_boxes.Goals as goal
 
