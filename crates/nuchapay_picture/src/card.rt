@@ -9,8 +9,8 @@ use crate::placed::Placed;
 use crate::text::{begin_text, end_text, write_text};
 use crate::word;
 use std::alloc::AllocError;
-use swift_log::EventLog;
 use swift_journal::BriefExit;
+use swift_log::EventLog;
 use swift_script::Script;
 use swift_types::ActorId;
 

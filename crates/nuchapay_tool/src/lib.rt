@@ -46,6 +46,6 @@ pub use pages::page_of;
 pub use printed::print;
 pub use requests::{PictureFormat, Request, Source};
 pub use topic::{RunRefusal, Topic, TurnFault, find_topic};
-pub use turn_names::{TurnName, turn_name};
 pub use translated::translate;
+pub use turn_names::{TurnName, turn_name};
 pub use words::request;
