@@ -1,3 +1,4 @@
+pub mod Counted
 pub mod CrossesThreads
 pub mod Desks
 pub mod Left
