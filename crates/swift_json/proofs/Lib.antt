@@ -1,3 +1,4 @@
+pub mod Joined
 pub mod Past
 pub mod Places
 pub mod Rows

@@ -1,10 +1,9 @@
 -- A report as JSON (the format is our own): its bytes.
-use Rattle.std.specs.Prelude.{ℕ, zero, suc, ◌+◌, ◌==◌, ℤ, Bool, true, false, Option, Some, None, List, [], ◌∷◌, ◌++◌, length, codes, decimal, if◌then◌else◌, nat_lt, slice_get}
+use Rattle.std.specs.Prelude.{ℕ, zero, suc, ◌+◌, ◌==◌, ℤ, Bool, true, false, Option, Some, None, List, [], ◌∷◌, ◌++◌, length, codes, decimal, if◌then◌else◌, slice_get}
 use Rattle.std.specs.Fmt.{signed_decimal}
 use Rattle.std.specs.declared.vec.Vec.{Vec}
 use Rattle.std.specs.declared.alloc.Global.{Global}
 use Rattle.swift_types.specs.Priority.{rank}
-use Rattle.swift_types.specs.declared.id.ActorId.{ActorId}
 use Rattle.swift_types.specs.declared.outcome.Fault.{Fault}
 use Rattle.swift_types.specs.declared.outcome.Fault.TheVariants.{Thrown, Cancelled, Invariant, Overflow, Steps, Turns, Depth, Tasks, Empty, Isolation}
 use Rattle.swift_types.specs.declared.outcome.Resume.{Resume}
@@ -14,17 +13,16 @@ use Rattle.swift_types.specs.declared.outcome.Ending.TheVariants.{Value as Retur
 use Rattle.script_code.specs.declared.env.Env.{Env}
 use Rattle.script_grammar.specs.declared.declaration.ExecutorKind.{ExecutorKind}
 use Rattle.script_grammar.specs.declared.declaration.ExecutorKind.TheVariants as kind
-use Rattle.swift_script.specs.Scripts.{ScriptView, actor_count, actor_executor, actor_name, executor_actors, executor_kind, executor_name, field_name, method_actor, method_count, method_name, root_name}
+use Rattle.swift_script.specs.Scripts.{ScriptView, actor_count, actor_name, executor_kind, executor_name, field_name, root_name}
 use Rattle.swift_journal.specs.Checkpoints.{CheckpointRoom}
 use Rattle.swift_journal.specs.Records.{RecordView, brief_of}
 use Rattle.swift_journal.specs.declared.brief.BriefExit.{BriefExit}
 use Rattle.swift_journal.specs.declared.brief.BriefExit.TheVariants.{Call, Wait, Next, Yield, Close, Return, Fault as Fails}
 use Rattle.swift_json.specs.declared.line.Line.{Line}
-use Rattle.swift_types.specs.declared.id.TaskId.{TaskId}
 use Rattle.swift_events.specs.declared.life.Origin.{Origin}
 use Rattle.swift_events.specs.declared.life.Origin.TheVariants.{Root, Child, Spawned, Detached}
 use Rattle.swift_report.specs.declared.report.Report.{Report}
-use Rattle.swift_report.specs.Text.{folded_count, method_text, number_of, row_among, row_of}
+use Rattle.swift_report.specs.Text.{folded_count, method_text, row_of}
 
 -- what stands before an element of a list, whose first element has this place
 abbrev pub comma : ℕ → ℕ → List ℕ
