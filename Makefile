@@ -54,6 +54,10 @@ swift: $(DAILY)
 marks: $(DAILY)
 	@tools/marks.py $(DAILY)
 
+# Whether the reports of the examples say the same as JSON and as text.
+reports: $(DAILY)
+	@tools/reports.py $(DAILY)
+
 # Puts both programs, the examples and the manual page into PREFIX: make install PREFIX=~/.local
 PREFIX = /usr/local
 install: $(PROGRAM) $(DAILY)
@@ -80,4 +84,4 @@ cases:
 bench: $(PROGRAM) $(CASES)
 	@python3 bench/run.py
 
-.PHONY: try run test prove mutants examples pages marks swift install refusals links believe cases bench
+.PHONY: try run test prove mutants examples pages marks reports swift install refusals links believe cases bench

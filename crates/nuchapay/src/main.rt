@@ -13,6 +13,7 @@ mod values;
 
 use crate::show::shown_run;
 use crate::values::{Said, explained_turn, report_of};
+use json_tool::run_json;
 use nuchapay_tool::{
     Checked, Request, Source, Topic, TurnName, check, explain, page_of, pretty, print, read_input,
     request, translate,
@@ -63,6 +64,13 @@ where
             Ok(text) => told(
                 host,
                 run_text(rt, &text, workers, quiet, &Open, &mut host.stdout()),
+            ),
+            Err(error) => unread(host, source, error),
+        },
+        Request::RunJson(source, workers, quiet) => match script(host, source) {
+            Ok(text) => told(
+                host,
+                run_json(rt, &text, workers, quiet, &Open, &mut host.stdout()),
             ),
             Err(error) => unread(host, source, error),
         },

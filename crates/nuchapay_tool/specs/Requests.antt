@@ -2,11 +2,12 @@
 use Rattle.std.specs.Prelude.{◌≤◌}
 use Rattle.swift_types.specs.declared.limits.TheConstants.{WORKERS}
 use Rattle.nuchapay_tool.specs.declared.requests.Request.{Request}
-use Rattle.nuchapay_tool.specs.declared.requests.Request.TheVariants.{Run, Values, Why, Check, Explain, Print, Show, Swift}
+use Rattle.nuchapay_tool.specs.declared.requests.Request.TheVariants.{Run, RunJson, Values, Why, Check, Explain, Print, Show, Swift}
 
 -- A run is asked for on 1 to 8 workers.
 abbrev pub HasCrew : Request → Type 0
 HasCrew (Run source workers quiet) = (1 ≤ workers) × (workers ≤ WORKERS)
+HasCrew (RunJson source workers quiet) = (1 ≤ workers) × (workers ≤ WORKERS)
 HasCrew (Values source workers) = (1 ≤ workers) × (workers ≤ WORKERS)
 HasCrew (Why source name workers) = (1 ≤ workers) × (workers ≤ WORKERS)
 HasCrew (Check source colour) = Unit {0}

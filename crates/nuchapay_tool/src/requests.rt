@@ -26,6 +26,8 @@ pub enum PictureFormat {
 pub enum Request<'a> {
     /// To run a script, on how many threads (1 to 8 where `request` made it), and whether without its journals.
     Run(Source<'a>, u32, bool),
+    /// The same, with the report as JSON.
+    RunJson(Source<'a>, u32, bool),
     /// To run a script on so many threads, and to say of each turn what it did to the fields.
     Values(Source<'a>, u32),
     /// To run a script on so many threads, and to explain one of its turns.

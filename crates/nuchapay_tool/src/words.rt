@@ -42,6 +42,13 @@ fn run_command<'a>(alloc: Global) -> Result<Command<'a>, AllocError> {
         .long("values")
         .help("Says below each turn which fields it changed")
         .action(ArgAction::SetTrue);
+    let format = Arg::new(alloc, "format")
+        .long("format")
+        .value_name("FORMAT")
+        .help("Prints the report as text, or as JSON")
+        .action(ArgAction::Set)
+        .value_parser(["text", "json"].as_slice())
+        .default_value("text");
     Command::new(alloc, "run")
         .about(
             "Runs a script, and prints the journal of each executor, how each task ended, and the fields",
@@ -50,7 +57,8 @@ fn run_command<'a>(alloc: Global) -> Result<Command<'a>, AllocError> {
         .arg(file(alloc))?
         .arg(workers(alloc))?
         .arg(quiet)?
-        .arg(values)
+        .arg(values)?
+        .arg(format)
 }
 
 fn why_command<'a>(alloc: Global) -> Result<Command<'a>, AllocError> {
@@ -181,10 +189,18 @@ fn run_request<'a>(matches: &ArgMatches<'a>) -> Request<'a>
 {
     let workers = workers_of(matches);
     let quiet = matches.get_flag("quiet");
+    if is_json(matches) {
+        return Request::RunJson(source(matches), workers, quiet);
+    }
     if matches.get_flag("values") && !quiet {
         return Request::Values(source(matches), workers);
     }
     Request::Run(source(matches), workers, quiet)
+}
+
+// Whether a report is to be JSON.
+fn is_json(matches: &ArgMatches<'_>) -> bool {
+    matches!(matches.get_str("format"), Some("json"))
 }
 
 // On how many threads. What the command says of the number is said again, for the contract.
@@ -227,8 +243,8 @@ fn is_second(matches: &ArgMatches<'_>, argument: &str, first: &str, second: &str
 
 /// Reads the arguments of a command line, of which the first is the program's name (our own):
 ///
-/// - `run`, with a file, `--workers N` from 1 to 8 and 1 where it is not given, `--quiet`, and `--values`, for which there is no place
-///   where `--quiet` is given;
+/// - `run`, with a file, `--workers N` from 1 to 8 and 1 where it is not given, `--quiet`, `--format` with `text` or `json`, `text` where it
+///   is not given, and `--values`, for which there is no place where `--quiet` is given, and which is refused beside `json`;
 /// - `why`, with a file, the name of a turn, and `--workers N`;
 /// - `swift`, with a file;
 /// - `show`, with a file, `--workers N`, and `--format` with `svg` or `trace`, `svg` where it is not given;
@@ -249,6 +265,12 @@ pub fn request<'a>(alloc: Global, words: &'a [String]) -> Result<Request<'a>, Er
     let mut command = command(alloc)?;
     let matches = command.try_get_matches_from_mut(words)?;
     if let Some(found) = matches.subcommand_matches("run") {
+        if is_json(found) && found.get_flag("values") {
+            return Err(command.error(
+                ErrorKind::ArgumentConflict,
+                "--values is for text, and not for JSON",
+            )?);
+        }
         return Ok(run_request(found));
     }
     if let Some(found) = matches.subcommand_matches("check") {

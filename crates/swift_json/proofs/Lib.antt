@@ -1,0 +1,4 @@
+pub mod Joined
+pub mod Past
+pub mod Places
+pub mod Rows
