@@ -344,7 +344,7 @@ fn by_two_threads<R: Threads + Wait + Sync>(
         { put_all(rt, alloc, inbox, pass, count) },
         move || -> (u64, Taker)
             requires { IsTakerOf inbox.now taker }
-            ensures { IsTakerOf inbox.now result.1 }
+            ensures { IsTakerOf inbox.entry.now result.1 }
         { take_all(rt, inbox, taker, count) },
     )
 }
