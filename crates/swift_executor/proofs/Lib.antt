@@ -10,7 +10,6 @@ pub mod TurnKept
 pub mod Turned
 pub mod Ended
 pub mod Picked
-pub mod Rows
 pub mod Cancelled
 pub mod SeatKept
 pub mod SeatTurns

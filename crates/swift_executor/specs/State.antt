@@ -278,12 +278,6 @@ pub record EndsTurn (jobs jobs' : List JobView) (old new : ExecView) : Type 0 wh
   pub book_of : book.script ≡ old.script
   pub turn : HasChosen old (Journals book book_after jobs jobs' old new)
 
--- the fields of an actor, among those of these actors
-abbrev pub fields_at : List ℕ → List (List ℤ) → ℕ → List ℤ
-fields_at [] rows actor = []
-fields_at (a ∷ others) [] actor = []
-fields_at (a ∷ others) (row ∷ rows) actor = if a == actor then row else fields_at others rows actor
-
 -- why the book does not begin the turn of the chosen job
 abbrev pub refusal_to_begin : BookView → Option ChosenView → Option BookFault
 refusal_to_begin book None = None
