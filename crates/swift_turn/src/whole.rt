@@ -35,6 +35,12 @@ pub fn run_turn(
     ensures turn { IfOk result (λ r. Polls body.old.script body.old.task.outer body.old.task.frames (entered (rows_of fields.items) resume env)
         body.new.task.frames (left (rows_of r.0.items) (effect_views r.1.items) (exit_view r.2))) }
     ensures rest { OnOk result (body.new ≡ record body.old { task = record body.old.task { frames = body.new.task.frames }; phase = idle; armed = body.new.armed }) }
+    // The turn was polled. Where it waits, a waker lies in the slot of the body's source, unless none could be made.
+    ensures waits { IfOk result (λ r. Registers (exit_view r.2) → (cx.new.lacks_waker ≡ true) ⊎ (body.new.armed ≡ true)) }
+    // Else, where the task goes on, the next poll is asked for.
+    ensures yields { IfOk result (λ r. ending_if (callers_of body.old.task.frames) (exit_view r.2) ≡ None → (Registers (exit_view r.2) → ⊥) → cx.new.is_woken ≡ true) }
+    // A waker lies there only where the turn waits.
+    ensures slot { IfOk result (λ r. body.new.armed ≡ true → Registers (exit_view r.2)) }
     ensures back { IfErr result (λ e. rows_of e.0.items ≡ rows_of fields.items) }
     ensures err { OnErr result ((body.new ≡ body.old) ⊎ (body.new ≡ at_rest body.old)) }
     ensures kept { Keeps cx.old cx.new }
