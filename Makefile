@@ -63,8 +63,12 @@ links:
 believe:
 	@tools/believe.py --check && echo "the README says on how many definitions the text of a run rests"
 
+# Whether the input of test_cases and what it has to write are what the cases of its areas are joined to.
+cases:
+	@tools/cases.py
+
 # Measures, and asserts nothing: builds both programs, and prints tables.
 bench: $(PROGRAM) $(CASES)
 	@python3 bench/run.py
 
-.PHONY: try run test prove mutants examples pages install refusals links believe bench
+.PHONY: try run test prove mutants examples pages install refusals links believe cases bench

@@ -23,8 +23,8 @@ rm -f "$log"
 if [ -z "$passed" ]; then exit 1; fi
 [ "$status" -eq 0 ] || [ "$failed" -gt 0 ] || failed=1
 # These run what was just proved. Where it was not, they would prove it once more before they fail.
-steps="links believe examples pages refusals"
-if [ "$failed" -gt 0 ]; then steps="links believe"; echo "not tried, since rt ci failed: examples, pages, refusals"; fi
+steps="links believe cases examples pages refusals"
+if [ "$failed" -gt 0 ]; then steps="links believe cases"; echo "not tried, since rt ci failed: examples, pages, refusals"; fi
 for step in $steps; do
     if make --no-print-directory "$step"; then passed=$((passed + 1)); else failed=$((failed + 1)); fi
 done

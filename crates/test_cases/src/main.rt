@@ -91,9 +91,14 @@
 //!   the one that visits. The call that is not held begins when the other is held. A thread looks 1,000,000 times for the other, and
 //!   else says `too long`. Then another worker visits the executor, until nothing is left.
 //!
+//! - `ends`, with the title `KIND TITLE`: what is written for that case, but of more than sixteen lines only the first eight and the last
+//!   eight, and between them how many are left out, how many bytes the whole has, and their sum (below).
+//!
 //! - calls on a part of the runtime, by the name of the part: src/parts.rt says which there are, and what their cases mean.
 //!
 //! What is accepted is printed, and has to be read again.
+//!
+//! The sum of a text's bytes is 0 for none, and for one byte more 31 times the sum so far and that byte, modulo 2^64.
 //!
 //! A line that begins with `wrong: ` is in no right output.
 //!
@@ -114,6 +119,8 @@ mod escapes;
 mod executors;
 // Why a case has no answer.
 mod fault;
+// Long answers by their first and last lines.
+mod ends;
 // The words of faults that the program says.
 mod faults;
 // Runs whose threads give way.
@@ -214,8 +221,25 @@ where
         return Err(CaseFault::Form);
     };
     out.reserve(ROOM)?;
+    if kind == "ends" {
+        return write_ends(rt, title, text, out);
+    }
     writeln!(out, "== {title}")?;
     answer(rt, kind, title, text, out)
+}
+
+// Writes the ends of what is said of the case of this head, which names its kind and title.
+fn write_ends<R>(rt: &R, head: &str, text: &str, out: &mut Vec<u8>) -> Result<(), CaseFault>
+where
+    R: RandomSource + AllocGlobal + Threads + Wait + Sync,
+{
+    let Some((kind, title)) = head.split_once(' ') else {
+        return Err(CaseFault::Form);
+    };
+    let mut whole = Vec::new(rt.alloc());
+    answer(rt, kind, title, text, &mut whole)?;
+    writeln!(out, "== {title}")?;
+    ends::write(&whole, out)
 }
 
 // What is said of a text in a case of this kind.
