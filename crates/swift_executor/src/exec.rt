@@ -219,8 +219,9 @@ impl Exec {
 
     /// Gives the executor up. The state comes where no desk holds it, with no job chosen, and the seat whose account has its turns; and
     /// what was in the inbox comes out through the taker that lay in the state. So of each job that ever came out of the inbox it is
-    /// known where it is: among these, or ready or journalled. The tickets of these jobs are given up. It takes no memory. It waits
-    /// only for a thread that stands between two steps of a call of its own.
+    /// known where it is: among these, or ready or journalled. The tickets of these jobs are given up. Where a desk still holds the
+    /// state, since a visit never came to its end, it holds the taker too: then nothing comes, and what is in the inbox is spent. It
+    /// takes no memory. It waits only for a thread that stands between two steps of a call of its own.
     pub fn close<R: Wait>(self, rt: &R) -> Closed
         ensures state { IfSome result.state (λ s. IsLeft self.inbox s.1 s.2 s.0 result.inbox.items) }
         ensures none { IfNone result.state (result.inbox.items ≡ []) }
