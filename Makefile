@@ -41,6 +41,10 @@ mutants:
 examples: $(PROGRAM) $(DAILY)
 	@tools/examples.py $(PROGRAM) $(DAILY)
 
+# Runs scripts that are as large as scripts may be, and compares what they print with what the rules give.
+limits: $(PROGRAM)
+	@tools/limits.py $(PROGRAM)
+
 # Whether what nuchapay explains agrees with the tables of docs/LANGUAGE.md, and whether its scripts do what they are for.
 pages: $(DAILY)
 	@tools/pages.py $(DAILY)
@@ -84,4 +88,4 @@ cases:
 bench: $(PROGRAM) $(CASES)
 	@python3 bench/run.py
 
-.PHONY: try run test prove mutants examples pages marks reports swift install refusals links believe cases bench
+.PHONY: try run test prove mutants examples limits pages marks reports swift install refusals links believe cases bench

@@ -23,8 +23,8 @@ rm -f "$log"
 if [ -z "$passed" ]; then exit 1; fi
 [ "$status" -eq 0 ] || [ "$failed" -gt 0 ] || failed=1
 # These run what was just proved. Where it was not, they would prove it once more before they fail.
-steps="links believe cases examples pages marks reports refusals"
-if [ "$failed" -gt 0 ]; then steps="links believe cases"; echo "not tried, since rt ci failed: examples, pages, marks, reports, refusals"; fi
+steps="links believe cases examples limits pages marks reports refusals"
+if [ "$failed" -gt 0 ]; then steps="links believe cases"; echo "not tried, since rt ci failed: examples, limits, pages, marks, reports, refusals"; fi
 for step in $steps; do
     if make --no-print-directory "$step"; then passed=$((passed + 1)); else failed=$((failed + 1)); fi
 done
