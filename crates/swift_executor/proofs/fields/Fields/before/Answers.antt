@@ -1,4 +1,4 @@
-use Rattle.std.proofs.Common.{◌≡◌, ◌<◌, ℕ, ℤ, [], length, get_or, ap, sym, subst, ◌∙◌}
+use Rattle.std.proofs.Common.{◌≡◌, ◌<◌, ℕ, ℤ, [], length, get_or, ap, sym, subst, ◌∙◌, arith}
 use Rattle.std.proofs.lemmas.List.{get_or-map, length-map}
 use Rattle.std.specs.declared.vec.Vec.{Vec}
 use Rattle.std.specs.declared.alloc.Global.{Global}
@@ -10,9 +10,10 @@ use Rattle.swift_executor.proofs.fields.Fields.before.Goals as goal
 pub index-requires : goal.index-requires
 index-requires c =
     let x = c.self.inside in
-    subst (λ (n : ℕ). c.args.place < n)
+    let lt : c.args.place < length x.rows.items = subst (λ (n : ℕ). c.args.place < n)
     (ap (λ (f : FieldsAre). length f.before) (sym c.self.view_is) ∙ restored_length x.saved (rows_of x.rows.items) ∙ length-map x.rows.items (λ (v : Vec ℤ Global). v.items))
-    c.requires
+    c.requires in
+    omega (arith, lt)
 
 pub returns : goal.returns
 returns c =
