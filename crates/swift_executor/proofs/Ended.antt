@@ -3,7 +3,6 @@ use Rattle.std.proofs.Common.{◌≡◌, ℕ, ◌-◌, ℤ, Option, Some, None, 
 use Rattle.std.proofs.lemmas.Option.{same_Some}
 use Rattle.std.specs.declared.vec.Vec.{Vec}
 use Rattle.std.specs.declared.alloc.Global.{Global}
-use Rattle.script_code.specs.Seen.{rows_of}
 use Rattle.swift_history.specs.TurnEnds.{JobView}
 use Rattle.swift_interpreter.specs.Frames.{effect_views}
 use Rattle.swift_interpreter.specs.TurnStates.{exit_view}
@@ -33,16 +32,16 @@ module _ (s : ExecView) (p p' : Played) (arrival : ℕ) (stage : Stage) (place p
   was = subst (λ (v : ChosenView). IsPlayed v.stage) (same_Some has.0 (chosen_view p arrival stage job) (sym has.1 ∙ seen)) has.2
 
   -- the book has taken the turn, and what was made room for is done
-  pub ended : (book book' : BookView) (jobs jobs' : List JobView) (task : TaskId) (j' : List RecordView) (copy : Option (Vec (Vec ℤ Global) Global)) (room room' : CheckpointRoom) (ready' : ReadyIs BodyView) (fields' : Vec (Vec ℤ Global) Global)
+  pub ended : (book book' : BookView) (jobs jobs' : List JobView) (task : TaskId) (j' : List RecordView) (copy : Option (Vec (Vec ℤ Global) Global)) (room room' : CheckpointRoom) (ready' : ReadyIs BodyView) (fields' : List (List ℤ))
       → ((script : ScriptView) (fields : List (List ℤ)) (rs : List RecordView) (r : RecordView) → LawfulGrows script fields rs r) → InvariantsStay → IsExecutor s
-      → room.view ≡ s.checkpoint → HasFoldRoom copy room j1 (rows_of p.fields.items) → Settles copy j1 j' room room' → Forwards s.ready task ready' → task ≡ job.task
-      → Applied book book' job (effect_views p.effects.items) (exit_view p.exit) jobs jobs' → place' ≡ None → fields' ≡ p.fields
-      → Done book book' jobs jobs' s (record s { ready = ready'; chosen = chosen_at p' arrival stage place'; journal = j'; checkpoint = room'.view; fields = rows_of fields'.items }) (chosen_view p arrival stage job)
+      → room.view ≡ s.checkpoint → HasFoldRoom copy room j1 p.fields.after → Settles copy j1 j' room room' → Forwards s.ready task ready' → task ≡ job.task
+      → Applied book book' job (effect_views p.effects.items) (exit_view p.exit) jobs jobs' → place' ≡ None → fields' ≡ p.fields.after
+      → Done book book' jobs jobs' s (record s { ready = ready'; chosen = chosen_at p' arrival stage place'; journal = j'; checkpoint = room'.view; fields = fields' }) (chosen_view p arrival stage job)
   ended book book' jobs jobs' task j' copy room room' ready' fields' grows stays keeps view folds settles forwards of_task applied gone fields =
       let d = journalled book book' jobs jobs' s p job arrival stage j1 j' copy room room' ready' grows stays keeps seen was wrote view folds settles (subst (λ (t : TaskId). Forwards s.ready t ready') of_task forwards) applied in
-      let same : record s { ready = ready'; chosen = None; journal = j'; checkpoint = room'.view; fields = rows_of p.fields.items } ≡ record s { ready = ready'; chosen = chosen_at p' arrival stage place'; journal = j'; checkpoint = room'.view; fields = rows_of fields'.items } =
-      ap (λ (v : Vec (Vec ℤ Global) Global). record s { ready = ready'; chosen = None; journal = j'; checkpoint = room'.view; fields = rows_of v.items }) (sym fields)
-      ∙ ap (λ (o : Option (JobIs BodyView)). record s { ready = ready'; chosen = chosen_at p' arrival stage o; journal = j'; checkpoint = room'.view; fields = rows_of fields'.items }) (sym gone) in
+      let same : record s { ready = ready'; chosen = None; journal = j'; checkpoint = room'.view; fields = p.fields.after } ≡ record s { ready = ready'; chosen = chosen_at p' arrival stage place'; journal = j'; checkpoint = room'.view; fields = fields' } =
+      ap (λ (rows : List (List ℤ)). record s { ready = ready'; chosen = None; journal = j'; checkpoint = room'.view; fields = rows }) (sym fields)
+      ∙ ap (λ (o : Option (JobIs BodyView)). record s { ready = ready'; chosen = chosen_at p' arrival stage o; journal = j'; checkpoint = room'.view; fields = fields' }) (sym gone) in
       record {
         keeps = subst (λ (v : ExecView). IsExecutor v) same d.keeps;
         journals = subst (λ (v : ExecView). Journals book book' jobs jobs' s v (chosen_view p arrival stage job)) same d.journals;

@@ -1,6 +1,8 @@
--- The row of an actor, looked for from a place on.
-use Rattle.std.proofs.Common.{◌≡◌, ◌≢◌, ℕ, zero, suc, ◌<◌, ◌≤◌, Bool, ℤ, if◌then◌else◌, List, [], ◌∷◌, length, drop, get_or, refl, ap, sym, ◌∙◌, arith}
+-- The row of an actor, looked for from a place on, and rows that are put back.
+use Rattle.std.proofs.Common.{◌≡◌, ◌≢◌, ℕ, zero, suc, ◌<◌, ◌≤◌, Bool, ℤ, if◌then◌else◌, List, [], ◌∷◌, length, drop, get_or, set, refl, ap, sym, ◌∙◌, arith}
 use Rattle.std.proofs.lemmas.Bool.{eq-eqb, ne_eqb}
+use Rattle.std.proofs.lemmas.List.{length-set}
+use Rattle.swift_interpreter.specs.Saved.{restored}
 use Rattle.swift_executor.specs.State.{fields_at}
 
 -- it is looked for further on
@@ -28,3 +30,8 @@ none_dropped (suc n) (row ∷ rows) le = none_dropped n rows (omega (arith, le))
 
 pub no_row : (names : List ℕ) (rows : List (List ℤ)) (place actor : ℕ) → length rows ≤ place → fields_at (drop place names) (drop place rows) actor ≡ []
 no_row names rows place actor le = ap (λ (rs : List (List ℤ)). fields_at (drop place names) rs actor) (none_dropped place rows le) ∙ no_rows (drop place names) actor
+
+-- as many rows as before
+pub restored_length : (saved : List (ℕ × List ℤ)) (fields : List (List ℤ)) → length (restored saved fields) ≡ length fields
+restored_length [] fields = refl
+restored_length (p ∷ older) fields = restored_length older (set fields p.0 p.1) ∙ length-set fields p.0 p.1

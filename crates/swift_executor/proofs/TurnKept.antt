@@ -10,7 +10,6 @@ use Rattle.std.specs.declared.alloc.Global.{Global}
 use Rattle.swift_types.specs.declared.id.TaskId.{TaskId}
 use Rattle.swift_types.specs.declared.limits.TheConstants.{FOLD}
 use Rattle.swift_types.specs.declared.outcome.Resume.{Resume}
-use Rattle.script_code.specs.Seen.{rows_of}
 use Rattle.script_code.specs.Value.{holds}
 use Rattle.script_code.specs.declared.env.Env.{Env}
 use Rattle.swift_script.specs.Scripts.{ScriptView, actor_executor, executor_start, method_actor}
@@ -227,16 +226,16 @@ pub record Done (book book' : BookView) (jobs jobs' : List JobView) (s new : Exe
 
 pub journalled : (book book' : BookView) (jobs jobs' : List JobView) (s : ExecView) (p : Kept) (job : JobIs BodyView) (arrival : ℕ) (stage : Stage) (j1 j' : List RecordView) (copy : Option (Vec (Vec ℤ Global) Global)) (room room' : CheckpointRoom) (ready' : ReadyIs BodyView)
     → ((script : ScriptView) (fields : List (List ℤ)) (rs : List RecordView) (r : RecordView) → LawfulGrows script fields rs r) → InvariantsStay
-    → IsExecutor s → s.chosen ≡ Some (chosen_view p arrival stage job) → IsPlayed (stage_of p stage) → WritesRecord p stage job s.journal j1 → room.view ≡ s.checkpoint → HasFoldRoom copy room j1 (rows_of p.fields.items)
+    → IsExecutor s → s.chosen ≡ Some (chosen_view p arrival stage job) → IsPlayed (stage_of p stage) → WritesRecord p stage job s.journal j1 → room.view ≡ s.checkpoint → HasFoldRoom copy room j1 p.fields.after
     → Settles copy j1 j' room room' → Forwards s.ready job.task ready' → Applied book book' job (effect_views p.effects.items) (exit_view p.exit) jobs jobs'
-    → Done book book' jobs jobs' s (record s { ready = ready'; chosen = None; journal = j'; checkpoint = room'.view; fields = rows_of p.fields.items }) (chosen_view p arrival stage job)
+    → Done book book' jobs jobs' s (record s { ready = ready'; chosen = None; journal = j'; checkpoint = room'.view; fields = p.fields.after }) (chosen_view p arrival stage job)
 journalled book book' jobs jobs' s p job arrival Picked j1 j' copy room room' ready' grows stays is at was wrote view has settles forwards applied = absurd was
 journalled book book' jobs jobs' s p job arrival (Begun worker env) j1 j' copy room room' ready' grows stays is at was wrote view has settles forwards applied = absurd was
 journalled book book' jobs jobs' s p job arrival (PlayedStage worker env) j1 j' copy room room' ready' grows stays is at was wrote view has settles forwards applied =
     let frame = frame_view p.frame in
     let effects = effect_views p.effects.items in
     let exit = exit_view p.exit in
-    let rows = rows_of p.fields.items in
+    let rows = p.fields.after in
     let r = record_by job worker env frame effects exit in
     let c : ChosenView = record { job = job; arrival = arrival; stage = played worker env frame rows effects exit } in
     let chosen : IsChosen s c = subst (λ (o : Option ChosenView). IfSome o (IsChosen s)) at is.chosen in

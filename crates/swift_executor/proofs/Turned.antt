@@ -1,6 +1,5 @@
 -- What a turn that was played leaves.
 use Rattle.std.proofs.Common.{◌≡◌, ◌<◌, ℕ, ℤ, Some, List, [], ◌∷◌, ap, sym, subst, ◌∙◌}
-use Rattle.script_code.specs.Seen.{rows_of}
 use Rattle.script_code.specs.declared.env.Env.{Env}
 use Rattle.swift_types.specs.declared.id.TaskId.{TaskId}
 use Rattle.swift_types.specs.declared.outcome.Resume.{Resume}
@@ -40,14 +39,14 @@ frames_played script executor outer fields rows resume env frame effects exit (f
 
 -- what is known of a job that has had its turn
 pub record IsTurned (script : ScriptView) (executor : ℕ) (fields : List (List ℤ)) (env : Env) (worker : ℕ) (old new : JobIs BodyView) (p : Played) : Type 0 where
-  pub plays : HasPlayed script fields new (played worker env (frame_view p.frame) (rows_of p.fields.items) (effect_views p.effects.items) (exit_view p.exit))
-  pub same_job : before_turn (played worker env (frame_view p.frame) (rows_of p.fields.items) (effect_views p.effects.items) (exit_view p.exit)) new ≡ job_view old
+  pub plays : HasPlayed script fields new (played worker env (frame_view p.frame) p.fields.after (effect_views p.effects.items) (exit_view p.exit))
+  pub same_job : before_turn (played worker env (frame_view p.frame) p.fields.after (effect_views p.effects.items) (exit_view p.exit)) new ≡ job_view old
   pub belongs : BelongsTo script executor new
 
 pub turned : (script : ScriptView) (executor : ℕ) (fields : List (List ℤ)) (env : Env) (worker : ℕ) (old new : JobIs BodyView) (p : Played) → BelongsTo script executor old → JobTurned old new fields env p
     → IsTurned script executor fields env worker old new p
 turned script executor fields env worker old new p belongs is =
-    let rows = rows_of p.fields.items in
+    let rows = p.fields.after in
     let frame = frame_view p.frame in
     let effects = effect_views p.effects.items in
     let exit = exit_view p.exit in

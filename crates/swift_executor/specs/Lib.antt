@@ -1,5 +1,6 @@
 pub mod Account
 pub mod Exec
+pub mod FieldsInside
 pub mod HomeInside
 pub mod Playing
 pub mod Ready

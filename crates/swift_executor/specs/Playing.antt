@@ -40,7 +40,7 @@ MaySpare rows fields b = IfRunning b.task.frames (λ p. HaveRows rows (invariant
 pub record HasTurned (old new : BodyView) (rows : List (List ℤ)) (resume : Resume) (env : Env) (p : Played) : Type 0 where
   pub frame : HasFirst old.task.frames (λ f. f ≡ frame_view p.frame)
   pub method : p.frame.method.0 < method_count old.script
-  pub turn : Polls old.script old.task.outer old.task.frames (entered rows resume env) new.task.frames (left (rows_of p.fields.items) (effect_views p.effects.items) (exit_view p.exit))
+  pub turn : Polls old.script old.task.outer old.task.frames (entered rows resume env) new.task.frames (left p.fields.after (effect_views p.effects.items) (exit_view p.exit))
   pub script : new.script ≡ old.script
   pub outer : new.task.outer ≡ old.task.outer
 

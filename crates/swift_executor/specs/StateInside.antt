@@ -1,6 +1,5 @@
 -- How the chosen job of an executor is seen. No public clause names these.
 use Rattle.std.specs.Prelude.{ℕ, Option, Some, None}
-use Rattle.script_code.specs.Seen.{rows_of}
 use Rattle.swift_interpreter.specs.Frames.{frame_view, effect_views}
 use Rattle.swift_interpreter.specs.TurnStates.{exit_view}
 use Rattle.swift_queue.specs.Job.{JobIs}
@@ -15,7 +14,7 @@ use Rattle.swift_executor.specs.State.{ChosenView, StageView, picked, begun, pla
 abbrev pub stage_of : Played → Stage → StageView
 stage_of p Picked = picked
 stage_of p (Begun worker env) = begun worker env
-stage_of p (PlayedStage worker env) = played worker env (frame_view p.frame) (rows_of p.fields.items) (effect_views p.effects.items) (exit_view p.exit)
+stage_of p (PlayedStage worker env) = played worker env (frame_view p.frame) p.fields.after (effect_views p.effects.items) (exit_view p.exit)
 
 -- a job with what is kept beside it
 abbrev pub chosen_view : Played → ℕ → Stage → JobIs BodyView → ChosenView

@@ -1,7 +1,9 @@
 //! The job that was chosen, and what its turn has left.
 
 ghost use Rattle.std.specs.Prelude.{◌≡◌, None, Some, IsSome};
+ghost use Rattle.script_code.specs.Seen.{rows_of};
 
+use crate::fields::Fields;
 use script_code::Env;
 use std::alloc::Global;
 use std::mem;
@@ -33,8 +35,8 @@ pub struct Chosen {
 pub struct Played {
     /// The frame as it was before.
     pub frame: Frame,
-    /// The fields after it.
-    pub fields: Vec<Vec<i64>>,
+    /// The fields, before it and after it.
+    pub fields: Fields,
     pub effects: Vec<Effect>,
     pub exit: Exit,
 }
@@ -79,16 +81,29 @@ impl Chosen {
 }
 
 impl Played {
-    /// What stands there before the first turn, with buffers for the fields. It takes no memory.
-    pub fn new(alloc: Global, fields: Vec<Vec<i64>>) -> Self
-        ensures { result.fields ≡ fields }
+    /// What stands there before the first turn, which finds these fields. It takes no memory.
+    pub fn new(alloc: Global, rows: Vec<Vec<i64>>) -> Self
+        ensures { result.fields ≡ record { before = rows_of rows.items; after = rows_of rows.items } }
     {
         Played {
             frame: Frame::new(alloc),
-            fields,
+            fields: Fields::new(alloc, rows),
             effects: Vec::new(alloc),
             exit: Exit::Yield,
         }
+    }
+
+    /// The fields as they were before the turn.
+    pub fn into_fields(self) -> Vec<Vec<i64>>
+        ensures { rows_of result.items ≡ self.fields.before }
+    {
+        let Played {
+            frame: _,
+            fields,
+            effects: _,
+            exit: _,
+        } = self;
+        fields.into_rows()
     }
 }
 

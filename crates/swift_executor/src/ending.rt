@@ -18,7 +18,6 @@ use crate::fault::ExecFault;
 use crate::playing::settle;
 use crate::state::ExecState;
 use crate::turns::prepare;
-use std::mem;
 use std::sync::Wait;
 use swift_journal::Journal;
 use swift_journal::laws::{invariants_stay, lawful_grows};
@@ -167,7 +166,7 @@ impl ExecState {
                 settle(&mut self.journal, &mut self.checkpoint, copy);
                 lawful_grows();
                 invariants_stay();
-                mem::swap(&mut self.fields, &mut self.played.fields);
+                self.played.fields.keep();
                 self.ready.forward(task);
                 Ok(())
             }

@@ -9,6 +9,8 @@ mod fault;
 mod tasks;
 // The jobs that are ready.
 mod ready;
+// The fields of its actors.
+mod fields;
 // The job that was chosen.
 mod chosen;
 // Which executor it is.

@@ -22,49 +22,24 @@ use std::mem;
 use swift_interpreter::{Exit, Frame};
 use swift_journal::{Checkpoint, Journal, Record};
 use swift_queue::Job;
-use swift_turn::{Body, play_turn_from};
+use swift_turn::Body;
 use swift_types::Resume;
 use swift_types::limits::FOLD;
 
-/// Makes rows those of others. Where a growth is refused they mean nothing. It takes memory only where a row has had
-/// less before.
-pub fn copy_into(
-    alloc: Global,
-    rows: &mut Vec<Vec<i64>>,
-    from: &[Vec<i64>],
-) -> Result<(), AllocError>
-    ensures { OnOk result (rows_of rows.new.items ≡ rows_of from.now) }
+// A copy of these rows.
+fn copy_of(alloc: Global, from: &[Vec<i64>]) -> Result<Vec<Vec<i64>>, AllocError>
+    ensures { IfOk result (λ rows. rows_of rows.items ≡ rows_of from.now) }
 {
-    if rows.len() != from.len() {
-        return copy_anew(alloc, rows, from);
-    }
-    for place in 0..from.len() {
-        copy_row(&mut rows[place], &from[place])?;
-    }
-    Ok(())
-}
-
-// The same, in rows of their own.
-fn copy_anew(alloc: Global, rows: &mut Vec<Vec<i64>>, from: &[Vec<i64>]) -> Result<(), AllocError>
-    ensures { OnOk result (rows_of rows.new.items ≡ rows_of from.now) }
-{
-    rows.clear();
+    let mut rows = Vec::new(alloc);
     for row in from {
         rows.push(Vec::from_slice(alloc, row)?)?;
     }
-    Ok(())
-}
-
-// Makes a row that of another.
-fn copy_row(row: &mut Vec<i64>, from: &[i64]) -> Result<(), AllocError>
-    ensures { OnOk result (row.new.items ≡ from.now) }
-{
-    row.clear();
-    row.extend_from_slice(from)
+    Ok(rows)
 }
 
 // Runs a turn of a body on the fields that `played` has, of which all invariants hold, and leaves there what it gives. `rows` has
-// the row that each of them reads. Where there is no memory for it, what is there means nothing, and the body has had no turn.
+// the row that each of them reads. Where there is no memory for it, the body has had no turn, and but for the fields before it what is
+// there means nothing.
 fn play_body(
     body: &mut Body,
     cx: &mut Context<'_>,
@@ -74,16 +49,16 @@ fn play_body(
     played: &mut Played,
 ) -> Result<(), AllocError>
     requires running { IsRunning body.old }
-    requires spared { MaySpare rows.now (rows_of played.old.fields.items) body.old }
-    ensures ok { OnOk result (HasTurned body.old body.new (rows_of played.old.fields.items) resume env played.new) }
+    requires spared { MaySpare rows.now played.old.fields.before body.old }
+    ensures ok { OnOk result (HasTurned body.old body.new played.old.fields.before resume env played.new) }
+    ensures same { played.new.fields.before ≡ played.old.fields.before }
     ensures err { OnErr result (IsUnturned body.old body.new) }
     ensures kept { Keeps cx.old cx.new }
 {
-    played.exit = play_turn_from(
+    played.exit = played.fields.play(
         body,
         cx,
         rows,
-        &mut played.fields,
         resume,
         env,
         &mut played.frame,
@@ -101,8 +76,9 @@ pub fn play_job(
     env: Env,
     played: &mut Played,
 ) -> Result<(), AllocError>
-    requires { HasJob place.old (λ j. IsRunning j.body × MaySpare rows.now (rows_of played.old.fields.items) j.body) }
-    ensures ok { OnOk result (HasJob place.old (λ old. HasJob place.new (λ new. JobTurned old new (rows_of played.old.fields.items) env played.new))) }
+    requires { HasJob place.old (λ j. IsRunning j.body × MaySpare rows.now played.old.fields.before j.body) }
+    ensures ok { OnOk result (HasJob place.old (λ old. HasJob place.new (λ new. JobTurned old new played.old.fields.before env played.new))) }
+    ensures same { played.new.fields.before ≡ played.old.fields.before }
     ensures err { OnErr result (HasJob place.old (λ old. HasJob place.new (JobUnturned old))) }
     ensures kept { Keeps cx.old cx.new }
 {
@@ -130,6 +106,7 @@ pub fn as_chosen(alloc: Global, job: Job<Body>, stage: Stage, played: &mut Playe
     requires frame { CanGoBack job played.old stage }
     ensures job { job_view result ≡ before_turn (stage_of played.old stage) job }
     ensures script { result.body.script ≡ job.body.script }
+    ensures same { played.new.fields ≡ played.old.fields }
 {
     match stage {
         Stage::Picked | Stage::Begun(_, _) => job,
@@ -192,8 +169,7 @@ pub fn room_to_fold(
     if journal.len() < FOLD {
         return Ok(None);
     }
-    let mut copy = Vec::new(alloc);
-    copy_into(alloc, &mut copy, fields)?;
+    let copy = copy_of(alloc, fields)?;
     checkpoint.make_room(journal)?;
     Ok(Some(copy))
 }

@@ -12,6 +12,7 @@ ghost use Rattle.swift_executor.specs.Ready.{HasRoom, tasks_in, times};
 ghost use Rattle.swift_executor.specs.State.{IsExecutor, chosen_count, fields_at, new_executor};
 
 use crate::chosen::{Chosen, Played};
+use crate::fields::Fields;
 use crate::home::Home;
 use crate::ready::Ready;
 use std::alloc::{AllocError, Global};
@@ -42,14 +43,12 @@ pub struct ExecState {
     pub(crate) chosen: Chosen,
     pub(crate) journal: Journal,
     pub(crate) checkpoint: Checkpoint,
-    pub(crate) fields: Vec<Vec<i64>>,
-    // What a turn that was played and is not journalled yet has left. At other times it means nothing.
+    // The fields, and what a turn that was played and is not journalled yet has left. At other times that means nothing.
     pub(crate) played: Played,
 }
 
 impl Model for ExecState {
     ghost use Rattle.std.specs.Coded.{codes};
-    ghost use Rattle.script_code.specs.Seen.{rows_of};
     ghost use Rattle.swift_script.specs.Codes.{expression_code, statement_code, block_code};
     ghost use Rattle.swift_executor.specs.State.{ExecView, IsExecutor};
 
@@ -59,13 +58,13 @@ impl Model for ExecState {
 
     ghost use Rattle.swift_executor.specs.StateInside.{chosen_of};
 
-    ghost view = { λ s. record { script = s.home.script; executor = s.home.executor; ready = s.ready; chosen = chosen_of s.played s.chosen; journal = s.journal; checkpoint = s.checkpoint.view; fields = rows_of s.fields.items } };
+    ghost view = { λ s. record { script = s.home.script; executor = s.home.executor; ready = s.ready; chosen = chosen_of s.played s.chosen; journal = s.journal; checkpoint = s.checkpoint.view; fields = s.played.fields.before } };
 
-    ghost invariant = { λ s. IsExecutor (record { script = s.home.script; executor = s.home.executor; ready = s.ready; chosen = chosen_of s.played s.chosen; journal = s.journal; checkpoint = s.checkpoint.view; fields = rows_of s.fields.items }) };
+    ghost invariant = { λ s. IsExecutor (record { script = s.home.script; executor = s.home.executor; ready = s.ready; chosen = chosen_of s.played s.chosen; journal = s.journal; checkpoint = s.checkpoint.view; fields = s.played.fields.before }) };
 }
 
 impl ExecState {
-    /// An executor of a script that has run no turn, with room for this many jobs. It takes memory for the jobs, for three copies of
+    /// An executor of a script that has run no turn, with room for this many jobs. It takes memory for the jobs, for two copies of
     /// the start values, and for a number for each invariant. Out of memory nothing remains. The room is not touched before it is used.
     pub fn new(
         alloc: Global,
@@ -76,7 +75,6 @@ impl ExecState {
         ensures { IfOk result (λ s. s ≡ new_executor (arc_value script) executor.0 room) }
     {
         let fields = script.executor_start(alloc, executor)?;
-        let next = script.executor_start(alloc, executor)?;
         let start = script.executor_start(alloc, executor)?;
         let home = Home::new(alloc, script, executor)?;
         let ready = Ready::with_room(alloc, room)?;
@@ -87,8 +85,7 @@ impl ExecState {
             chosen: Chosen::none(),
             journal: Journal::new(alloc),
             checkpoint: Checkpoint::new(alloc, start),
-            fields,
-            played: Played::new(alloc, next),
+            played: Played::new(alloc, fields),
         })
     }
 
@@ -100,7 +97,7 @@ impl ExecState {
         ensures invariants { (t : Term) → Contains (executor_invariants self.now.script self.now.executor) t → IsTrue (holds (Some t) (executor_start self.now.script self.now.executor)) → IsTrue (holds (Some t) self.now.fields) }
     {
         invariants_stay();
-        let _ = &self.fields;
+        let _ = &self.played;
     }
 
     /// Whether there is room for one more job, the chosen one counted, and a number for its arrival.
@@ -132,12 +129,13 @@ impl ExecState {
         &self.checkpoint
     }
 
-    /// The fields of an actor, in text order; none for one that does not run here. In time by the number of actors here.
+    /// The fields of an actor, in text order; none for one that does not run here. In time by the number of actors here, and by the rows
+    /// that a turn has set which was played and is not journalled.
     pub fn fields(&self, actor: ActorId) -> &[i64]
         ensures { result.now ≡ fields_at (executor_actors self.now.script self.now.executor) self.now.fields actor.0 }
     {
         let actors = self.home.script().executor_actors(self.home.executor());
-        row_of(actors, &self.fields, actor)
+        row_of(actors, &self.played.fields, actor)
     }
 
     /// Gives up the jobs that are ready, in no order that means anything, the journal, the fields, a list for each
@@ -160,26 +158,25 @@ impl ExecState {
             },
             journal,
             checkpoint,
-            fields,
-            played: _,
+            played,
         } = self;
         match job {
-            None => (ready.into_jobs(), journal, fields, checkpoint),
+            None => (ready.into_jobs(), journal, played.into_fields(), checkpoint),
             Some(_) => unreachable!(),
         }
     }
 }
 
-// The row of an actor, among the rows of these actors.
-fn row_of<'a>(actors: &[ActorId], rows: &'a [Vec<i64>], actor: ActorId) -> &'a [i64]
-    ensures { result.now ≡ fields_at (map (λ a. a.0) actors.now) (rows_of rows.now) actor.0 }
+// The fields of an actor before the turn, among those of these actors.
+fn row_of<'a>(actors: &[ActorId], fields: &'a Fields, actor: ActorId) -> &'a [i64]
+    ensures { result.now ≡ fields_at (map (λ a. a.0) actors.now) fields.now.before actor.0 }
 {
     for place in 0..actors.len() {
-        if place >= rows.len() {
+        if place >= fields.len() {
             return &[];
         }
         if actors[place] == actor {
-            return &rows[place];
+            return fields.before(place);
         }
     }
     &[]

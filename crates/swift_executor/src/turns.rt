@@ -3,7 +3,6 @@
 ghost use Rattle.std.specs.Prelude.{◌≡◌, ◌⊎◌, None, map, OnOk, OnErr, IfOk, IfErr, MatchResult};
 ghost use Rattle.std.specs.List.{AllByRecursion};
 ghost use Rattle.futures.specs.Task.{Keeps};
-ghost use Rattle.script_code.specs.Seen.{rows_of};
 ghost use Rattle.swift_tasks.specs.Books.{IsJobOf, job_view};
 ghost use Rattle.swift_tasks.specs.Refusals.{IsRefusal as BookRefusal, refusal_of_begin};
 ghost use Rattle.swift_turn.specs.Body.{IsRunning};
@@ -13,11 +12,10 @@ ghost use Rattle.swift_executor.specs.State.{Begins, HasChosen, IsBegun, IsPicke
 
 use crate::chosen::{Chosen, Played, Stage, take_out};
 use crate::fault::ExecFault;
-use crate::playing::{as_chosen, copy_into, play_job, room_to_fold, settle, write_record};
+use crate::playing::{as_chosen, play_job, room_to_fold, settle, write_record};
 use crate::state::ExecState;
 use futures::task::Context;
 use std::alloc::{AllocError, Global};
-use std::mem;
 use swift_journal::laws::{invariants_stay, lawful_grows};
 use swift_journal::{Checkpoint, Journal};
 use swift_queue::Job;
@@ -37,7 +35,7 @@ pub(crate) fn prepare(
     requires job { HasJob chosen.now.job (λ j. IsRunning j.body) }
     requires played { StageIsPlayed chosen.now.stage }
     ensures written { OnOk result (HasJob chosen.now.job (λ j. WritesRecord played.now chosen.now.stage j journal.old journal.new)) }
-    ensures room { IfOk result (λ copy. HasFoldRoom copy checkpoint.new journal.new (rows_of played.now.fields.items)) }
+    ensures room { IfOk result (λ copy. HasFoldRoom copy checkpoint.new journal.new played.now.fields.after) }
     ensures same { checkpoint.new.view ≡ checkpoint.old.view }
     ensures err { OnErr result (journal.new ≡ journal.old) }
 {
@@ -45,7 +43,7 @@ pub(crate) fn prepare(
         unreachable!()
     };
     write_record(journal, job, chosen.stage, played)?;
-    match room_to_fold(alloc, journal, checkpoint, &played.fields) {
+    match room_to_fold(alloc, journal, checkpoint, played.fields.after()) {
         Ok(copy) => Ok(copy),
         Err(fault) => {
             journal.retract();
@@ -78,25 +76,24 @@ pub(crate) fn apply_chosen(
     }
 }
 
-// Plays the turn of a job that has begun, on a copy of these fields, of which all invariants hold. Out of memory the job has had none.
+// Plays the turn of a job that has begun, on the fields that `played` has, of which all invariants hold. Out of memory the job has had
+// none.
 fn play_chosen(
-    alloc: Global,
     chosen: &mut Chosen,
     cx: &mut Context<'_>,
     rows: &[u32],
-    fields: &[Vec<i64>],
     played: &mut Played,
 ) -> Result<(), AllocError>
-    requires job { HasJob chosen.old.job (λ j. IsRunning j.body × MaySpare rows.now (rows_of fields.now) j.body) }
+    requires job { HasJob chosen.old.job (λ j. IsRunning j.body × MaySpare rows.now played.old.fields.before j.body) }
     requires begun { StageIsBegun chosen.old.stage }
-    ensures ok { OnOk result (HasJob chosen.old.job (PlaysJob (rows_of fields.now) chosen.old chosen.new played.new)) }
+    ensures ok { OnOk result (HasJob chosen.old.job (PlaysJob played.old.fields.before chosen.old chosen.new played.new)) }
     ensures err { OnErr result (HasJob chosen.old.job (KeepsJob chosen.old chosen.new)) }
+    ensures same { played.new.fields.before ≡ played.old.fields.before }
     ensures kept { Keeps cx.old cx.new }
 {
     let Stage::Begun(worker, env) = chosen.stage else {
         unreachable!()
     };
-    copy_into(alloc, &mut played.fields, fields)?;
     play_job(&mut chosen.job, cx, rows, env, played)?;
     chosen.stage = Stage::Played(worker, env);
     Ok(())
@@ -152,9 +149,9 @@ impl ExecState {
         }
     }
 
-    /// Plays the turn that has begun (SE-0306), on a copy of the fields, and keeps what it gave. In time by its steps
-    /// and by the fields of the executor's actors. The only refusal is `Memory`; the job is then ready again, with the number of its
-    /// arrival.
+    /// Plays the turn that has begun (SE-0306), and keeps what it gave beside the fields that it has found. In time by its steps and by
+    /// the rows of fields that it sets; for each invariant of the executor's actors whose row it does not set it takes a look at those
+    /// rows. The only refusal is `Memory`; the job is then ready again, with the number of its arrival.
     pub fn play(&mut self, cx: &mut Context<'_>) -> Result<(), ExecFault>
         requires { HasChosen self.old (λ c. IsBegun c.stage) }
         ensures ok { OnOk result (HasChosen self.old (Plays self.old self.new)) }
@@ -164,14 +161,7 @@ impl ExecState {
     {
         self.home.script().facts();
         invariants_stay();
-        let Ok(()) = play_chosen(
-            self.alloc,
-            &mut self.chosen,
-            cx,
-            self.home.rows(),
-            &self.fields,
-            &mut self.played,
-        ) else {
+        let Ok(()) = play_chosen(&mut self.chosen, cx, self.home.rows(), &mut self.played) else {
             self.put_back();
             return Err(ExecFault::Memory);
         };
@@ -208,7 +198,7 @@ impl ExecState {
                 settle(&mut self.journal, &mut self.checkpoint, copy);
                 lawful_grows();
                 invariants_stay();
-                mem::swap(&mut self.fields, &mut self.played.fields);
+                self.played.fields.keep();
                 self.ready.forward(task);
                 Ok(())
             }

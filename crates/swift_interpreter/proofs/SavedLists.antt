@@ -1,14 +1,14 @@
 -- Saved rows, one more or one less.
-use Rattle.std.proofs.Common.{◌≡◌, ℕ, zero, suc, ◌+◌, ◌-◌, ◌<◌, ◌≤◌, ℤ, true, List, [], ◌∷◌, ◌==◌, length, take, set, get_or, refl, sym, ap, subst, ◌∙◌, add-one, inl, inr, arith}
-use Rattle.std.proofs.lemmas.List.{reverse-append, set-set, set_comm, set-get_or, take_more_set, map-set}
-use Rattle.std.proofs.lemmas.Bool.{cases_eq, cond-false, ne_eqb}
+use Rattle.std.proofs.Common.{◌≡◌, ℕ, zero, suc, ◌+◌, ◌-◌, ◌<◌, ◌≤◌, ℤ, Bool, true, if◌then◌else◌, List, [], ◌∷◌, ◌==◌, length, take, set, get_or, refl, sym, ap, subst, ◌∙◌, add-one, inl, inr, arith}
+use Rattle.std.proofs.lemmas.List.{get_or-set_other, length-set, reverse-append, set-set, set_comm, set-get_or, take_more_set, map-set}
+use Rattle.std.proofs.lemmas.Bool.{cases_eq, cond-false, eq-eqb, ne_eqb}
 use Rattle.std.proofs.Math.Seq.{take-suc}
 use Rattle.std.specs.Global.{Vec}
 use Rattle.script_code.specs.Seen.{rows_of}
 use Rattle.script_code.specs.declared.formula.FieldPlace.{FieldPlace}
 use Rattle.swift_interpreter.specs.Turn.{set_field_of}
 use Rattle.swift_interpreter.specs.Saved.{restored, is_saved}
-use Rattle.swift_interpreter.specs.SavedInside.{newest_first, row_of}
+use Rattle.swift_interpreter.specs.SavedInside.{newest_first, oldest, row_of}
 use Rattle.swift_interpreter.specs.declared.saved.SavedRow.{SavedRow}
 
 -- the last of some rows is the newest
@@ -52,3 +52,27 @@ saved_set (p ∷ older) fields a row h = elim (cases_eq p.0 a) [
       let further : is_saved older a ≡ true = sym (cond-false (p.0 == a) true (is_saved older a) (ne_eqb p.0 a other)) ∙ h in
       ap (restored older) (set_comm fields a p.0 row p.1 (λ e. other (sym e))) ∙ saved_set older (set fields p.0 p.1) a row further
 ]
+
+-- a row that is put back is there
+put_same : (fields : List (List ℤ)) (actor : ℕ) (row : List ℤ) → actor < length fields → get_or (set fields actor row) actor [] ≡ row
+put_same [] actor row lt = absurd (omega (arith, lt))
+put_same (r ∷ rs) zero row lt = refl
+put_same (r ∷ rs) (suc actor) row lt = put_same rs actor row (omega (arith, lt))
+
+-- the row that an actor has where one is put back
+row_put : (fields : List (List ℤ)) (place actor : ℕ) (row : List ℤ) → actor < length fields → get_or (set fields place row) actor [] ≡ (if place == actor then row else get_or fields actor [])
+row_put fields place actor row lt = elim (cases_eq place actor) [
+  | inl same ↦ subst (λ (i : ℕ). get_or (set fields i row) actor [] ≡ (if i == actor then row else get_or fields actor [])) (sym same)
+      (put_same fields actor row lt ∙ sym (ap (λ (b : Bool). if b then row else get_or fields actor []) (eq-eqb actor actor refl)))
+  | inr other ↦ get_or-set_other fields place actor row [] (λ e. other (sym e)) ∙ sym (cond-false (place == actor) row (get_or fields actor []) (ne_eqb place actor other))
+]
+
+-- the row that an actor has once all are put back
+row_restored : (saved : List (ℕ × List ℤ)) (fields : List (List ℤ)) (actor : ℕ) → actor < length fields → oldest saved actor (get_or fields actor []) ≡ get_or (restored saved fields) actor []
+row_restored [] fields actor lt = refl
+row_restored (p ∷ older) fields actor lt =
+    ap (oldest older actor) (sym (row_put fields p.0 actor p.1 lt))
+    ∙ row_restored older (set fields p.0 p.1) actor (subst (λ (n : ℕ). actor < n) (sym (length-set fields p.0 p.1)) lt)
+
+pub oldest_is : (saved : List (ℕ × List ℤ)) (fields : List (List ℤ)) (actor : ℕ) (row : List ℤ) → actor < length fields → get_or fields actor [] ≡ row → oldest saved actor row ≡ get_or (restored saved fields) actor []
+oldest_is saved fields actor row lt is = ap (oldest saved actor) (sym is) ∙ row_restored saved fields actor lt

@@ -1,4 +1,4 @@
--- Rows of fields that were saved before they were changed. Only proofs use these words.
+-- Rows of fields that were saved before they were changed.
 use Rattle.std.specs.Prelude.{ℕ, ℤ, Bool, true, false, List, [], ◌∷◌, ◌==◌, if◌then◌else◌, slice_set}
 
 -- the fields after saved rows are put back, the newest first

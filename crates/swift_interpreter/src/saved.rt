@@ -1,8 +1,8 @@
 //! Rows of fields, saved before they are changed.
 
-ghost use Rattle.std.specs.Prelude.{◌≡◌, ℕ, ◌<◌, ◌≤◌, ◌+◌, ◌-◌, ◌↔◌, [], ◌∷◌, length, drop, take, slice_set, IsTrue, OnOk, OnErr};
+ghost use Rattle.std.specs.Prelude.{◌≡◌, ℕ, ℤ, ◌<◌, ◌≤◌, ◌+◌, ◌-◌, ◌↔◌, List, [], ◌∷◌, length, drop, get_or, take, slice_set, IsTrue, OnOk, OnErr};
 ghost use Rattle.swift_interpreter.specs.Saved.{is_saved, put_back_newest, restored};
-ghost use Rattle.swift_interpreter.specs.SavedInside.{newest_first};
+ghost use Rattle.swift_interpreter.specs.SavedInside.{newest_first, oldest};
 ghost use Rattle.script_code.specs.Seen.{rows_of};
 
 use std::alloc::{AllocError, Global};
@@ -84,6 +84,14 @@ impl SavedRows {
         }
     }
 
+    /// The row that an actor has once all rows are put back, where it is this one now. Its cost is the number of rows.
+    #[tactic(auto, using(crate::proofs::SavedLists::oldest_is))]
+    pub fn row_before<'a>(&'a self, actor: usize, row: &'a [i64]) -> &'a [i64]
+        ensures { (fields : List (List ℤ)) → actor < length fields → get_or fields actor [] ≡ row.now → result.now ≡ get_or (restored self.now fields) actor [] }
+    {
+        oldest_row(&self.rows[..self.used], actor, row)
+    }
+
     fn is_empty(&self) -> bool
         ensures { IsTrue result ↔ (length self.now ≡ 0) }
     {
@@ -113,6 +121,21 @@ fn has_row(rows: &[SavedRow], actor: u32) -> bool
         }
     }
     false
+}
+
+// The oldest row of an actor among these, and this one where there is none.
+fn oldest_row<'a>(rows: &'a [SavedRow], actor: usize, row: &'a [i64]) -> &'a [i64]
+    ensures { result.now ≡ oldest (newest_first rows.now) actor row.now }
+{
+    let mut row = row;
+    let mut left = rows.len();
+    while left > 0 {
+        left -= 1;
+        if rows[left].actor as usize == actor {
+            row = &rows[left].row;
+        }
+    }
+    row
 }
 
 // The last of so many saved rows and the row that the fields have in its place change places.

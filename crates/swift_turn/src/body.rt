@@ -7,6 +7,7 @@ ghost use Rattle.futures.specs.Task.{Covers, Keeps};
 ghost use Rattle.script_code.specs.Seen.{rows_of};
 ghost use Rattle.swift_script.specs.Scripts.{method_actor, method_count};
 ghost use Rattle.swift_interpreter.specs.Frames.{effect_views, frame_view, invocation_view};
+ghost use Rattle.swift_interpreter.specs.Saved.{restored};
 ghost use Rattle.swift_interpreter.specs.TurnStates.{exit_view};
 ghost use Rattle.swift_interpreter.specs.Turn.{calling};
 ghost use Rattle.swift_turn.specs.Body.{AdvancesTo, BeginsFrame, BeginsToWait, CanAdvance, GoesOn, Hands, IfRunning, IsPolled, IsRunning, KeepsSlot, Polls, Registers, WaitsIn, Resumes, answer_of, at_rest, callers_of, ending_if, ends_with, entered, idle, invariants_at, kept_turn, left, opening, out_of_memory, poll_of, state_at};
@@ -24,7 +25,7 @@ use std::alloc::{AllocError, Global};
 use std::marker::Model;
 use std::mem;
 use std::sync::Arc;
-use swift_interpreter::{Effect, Exit, Frame, Given, Invocation, TurnState};
+use swift_interpreter::{Effect, Exit, Frame, Given, Invocation, SavedRows, TurnState};
 use swift_locals::Bindings;
 use swift_script::Script;
 use swift_types::limits::{FRAMES, STEPS};
@@ -228,6 +229,7 @@ fn play(
     ensures fields { OnErr result (rows_of turn.new.fields.items ≡ rows_of turn.old.fields.items) }
     ensures method { turn.new.frame.method ≡ turn.old.frame.method }
     ensures before { OnOk result (frame_view undo.new.frame ≡ frame_view turn.old.frame) }
+    ensures saved { restored undo.new.saved (rows_of turn.new.fields.items) ≡ rows_of turn.old.fields.items }
 {
     let method = turn.frame.method;
     let executor = script.actor_executor(script.method_actor(method));
@@ -454,6 +456,10 @@ impl Body {
         self.inside.turn.frame = frame;
     }
 
+    pub(crate) fn alloc(&self) -> Global {
+        self.inside.alloc
+    }
+
     // Plays the turn that was entered.
     pub(crate) fn play_turn(&mut self)
         requires { IsRunning self.old }
@@ -480,13 +486,14 @@ impl Body {
         };
     }
 
-    // Plays a turn of the frame that runs on these fields in place, and polls as `poll` does. The frame from before it and its
-    // effects go into buffers of the caller's.
+    // Plays a turn of the frame that runs on these fields in place, and polls as `poll` does. The rows that it sets, as they were, the
+    // frame from before it and its effects go into buffers of the caller's.
     pub(crate) fn play_in_place(
         &mut self,
         cx: &mut Context<'_>,
         rows: &[u32],
         fields: &mut Vec<Vec<i64>>,
+        saved: &mut SavedRows,
         resume: Resume,
         env: Env,
         before: &mut Frame,
@@ -504,12 +511,14 @@ impl Body {
         ensures slot { IfOk result (λ exit. self.new.armed ≡ true → Registers (exit_view exit)) }
         ensures err { OnErr result (self.new ≡ at_rest self.old) }
         ensures back { OnErr result (rows_of fields.new.items ≡ rows_of fields.old.items) }
+        ensures saved { restored saved.new (rows_of fields.new.items) ≡ rows_of fields.old.items }
         ensures kept { Keeps cx.old cx.new }
     {
         let inside = &mut *self.inside;
         inside.phase = Phase::Idle;
         mem::swap(&mut inside.turn.fields, fields);
         mem::swap(&mut inside.turn.effects, effects);
+        inside.undo.swap_saved(saved);
         let played = play(
             inside.alloc,
             &inside.script,
@@ -522,6 +531,7 @@ impl Body {
         );
         mem::swap(&mut inside.turn.fields, fields);
         mem::swap(&mut inside.turn.effects, effects);
+        inside.undo.swap_saved(saved);
         let exit = played?;
         inside.undo.swap_frame(before);
         inside.waker = None;

@@ -5,6 +5,7 @@ ghost use Rattle.futures.specs.Task.{Keeps};
 ghost use Rattle.script_code.specs.Seen.{rows_of};
 ghost use Rattle.swift_interpreter.specs.Frames.{effect_views, frame_view};
 ghost use Rattle.swift_script.specs.Scripts.{method_count};
+ghost use Rattle.swift_interpreter.specs.Saved.{restored};
 ghost use Rattle.swift_interpreter.specs.TurnStates.{exit_view};
 ghost use Rattle.swift_turn.specs.Body.{IfRunning, IsRunning, Registers, at_rest, callers_of, ending_if, idle, invariants_at, left, Polls, entered};
 ghost use Rattle.swift_undo.specs.Laws.{AllHold};
@@ -15,7 +16,7 @@ use futures::Future;
 use futures::task::Context;
 use script_code::Env;
 use std::alloc::AllocError;
-use swift_interpreter::{Effect, Exit, Frame};
+use swift_interpreter::{Effect, Exit, Frame, SavedRows};
 use swift_types::Resume;
 
 /// Enters a turn, polls it and leaves it, for a task that has not ended (`is_running`): the kept turn of the frame that runs. The
@@ -49,8 +50,8 @@ pub fn run_turn(
 /// counts for nothing. A turn that was entered before is given up. It is polled once, as by `poll` of `Body`.
 ///
 /// After an error the body is as it was, but that no turn is under way, the fields are as before, and the rest means nothing. Its
-/// cost is that of `run_turn`, less what that takes to copy its results. It takes memory only for what the turn makes, and
-/// where a buffer is too small.
+/// cost is that of `run_turn`, less what that takes to copy its results. It takes memory only for what the turn makes, for the rows of
+/// fields that it sets, and where a buffer is too small.
 pub fn play_turn(
     body: &mut Body,
     cx: &mut Context<'_>,
@@ -79,17 +80,21 @@ pub fn play_turn(
     ensures back { OnErr result (rows_of fields.new.items ≡ rows_of fields.old.items) }
     ensures kept { Keeps cx.old cx.new }
 {
-    body.play_in_place(cx, &[], fields, resume, env, before, effects)
+    let mut saved = SavedRows::new(body.alloc());
+    body.play_in_place(cx, &[], fields, &mut saved, resume, env, before, effects)
 }
 
 /// The turn of `play_turn` where all invariants of the actors of the frame's executor hold before it: only those are tested whose
 /// rows it has set. `rows` has the row that each of them reads, in order (`rows_of_invariants` of `swift_undo`); one beside which no row
 /// stands is tested. In place of all invariants it costs those, and for each other one a look at the rows that were set.
+///
+/// `saved` becomes the rows that the turn has set, as they were before it, also after an error; what it had before counts for nothing.
 pub fn play_turn_from(
     body: &mut Body,
     cx: &mut Context<'_>,
     rows: &[u32],
     fields: &mut Vec<Vec<i64>>,
+    saved: &mut SavedRows,
     resume: Resume,
     env: Env,
     before: &mut Frame,
@@ -98,19 +103,27 @@ pub fn play_turn_from(
     requires running { IsRunning body.old }
     requires rows { IfRunning body.old.task.frames (λ p. HaveRows rows.now (invariants_at body.old.script p)) }
     requires hold { IfRunning body.old.task.frames (λ p. AllHold (invariants_at body.old.script p) (rows_of fields.old.items)) }
+    // The theorem: the fields, the effects and the exit are those of the kept turn of the frame that ran, and the body stands for
+    // what it leaves.
     ensures turn { IfOk result (λ exit. Polls body.old.script body.old.task.outer body.old.task.frames (entered (rows_of fields.old.items) resume env)
         body.new.task.frames (left (rows_of fields.new.items) (effect_views effects.new.items) (exit_view exit))) }
+    // The fields are again as they were, once the rows are put back.
+    ensures saved { restored saved.new (rows_of fields.new.items) ≡ rows_of fields.old.items }
+    // The frame that ran, as it was.
     ensures before { OnOk result (IfRunning body.old.task.frames (λ p. p ≡ frame_view before.new)) }
     ensures method { OnOk result (before.new.method.0 < method_count body.old.script) }
     ensures rest { OnOk result (body.new ≡ record body.old { task = record body.old.task { frames = body.new.task.frames }; phase = idle; armed = body.new.armed }) }
+    // Where the turn waits, a waker lies in the slot of the body's source, unless none could be made.
     ensures waits { IfOk result (λ exit. Registers (exit_view exit) → (cx.new.lacks_waker ≡ true) ⊎ (body.new.armed ≡ true)) }
+    // Else, where the task goes on, the next poll is asked for.
     ensures yields { IfOk result (λ exit. ending_if (callers_of body.old.task.frames) (exit_view exit) ≡ None → (Registers (exit_view exit) → ⊥) → cx.new.is_woken ≡ true) }
+    // A waker lies there only where the turn waits.
     ensures slot { IfOk result (λ exit. body.new.armed ≡ true → Registers (exit_view exit)) }
     ensures err { OnErr result (body.new ≡ at_rest body.old) }
     ensures back { OnErr result (rows_of fields.new.items ≡ rows_of fields.old.items) }
     ensures kept { Keeps cx.old cx.new }
 {
-    body.play_in_place(cx, rows, fields, resume, env, before, effects)
+    body.play_in_place(cx, rows, fields, saved, resume, env, before, effects)
 }
 
 /// The turn of `run_turn` without a poll, for whoever replays a turn and waits for nothing: no waker is made, and one that lies in

@@ -2,6 +2,7 @@
 
 ghost use Rattle.std.specs.Prelude.{◌≡◌, ℕ, true, false, drop, IfOk, OnErr, OnOk, Some};
 ghost use Rattle.swift_interpreter.specs.Frames.{frame_view};
+ghost use Rattle.swift_interpreter.specs.Saved.{restored};
 ghost use Rattle.swift_interpreter.specs.Turn.{all_hold as all_hold_in, kept, undoes as undoes_turn};
 ghost use Rattle.swift_interpreter.specs.TurnStates.{beginning, exit_view, given_of, played_of, state_of};
 ghost use Rattle.script_code.specs.Instructions.{Follows};
@@ -53,6 +54,8 @@ pub fn play_kept(
 /// Plays the same turn, and tests only those invariants that it can have made false: of the first ones, beside each of which `rows`
 /// has the row that it reads (`rows_of_invariants`), and which hold before the turn, those whose row the turn has set; and the others.
 /// In place of all invariants it costs those, and for each other one a look at the rows that were set.
+///
+/// What undoes the turn then holds the rows that the turn has set, as they were before it (`Undo::swap_saved`).
 pub fn play_kept_from(
     alloc: Global,
     given: Given<'_>,
@@ -70,6 +73,7 @@ pub fn play_kept_from(
     ensures fields { OnErr result (rows_of turn.new.fields.items ≡ rows_of turn.old.fields.items) }
     ensures method { turn.new.frame.method ≡ turn.old.frame.method }
     ensures before { OnOk result (frame_view undo.new.frame ≡ frame_view turn.old.frame) }
+    ensures saved { restored undo.new.saved (rows_of turn.new.fields.items) ≡ rows_of turn.old.fields.items }
 {
     let room = given.env.room;
     undo.begin(turn, room)?;

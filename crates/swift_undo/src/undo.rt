@@ -79,6 +79,7 @@ impl Undo {
         ensures frame { frame_view turn.new.frame ≡ frame_view self.old.frame }
         ensures fields { rows_of turn.new.fields.items ≡ fields_before self.old.saved turn.old }
         ensures method { turn.new.frame.method ≡ self.old.frame.method }
+        ensures saved { self.new.saved ≡ [] }
     {
         mem::swap(&mut turn.frame, &mut self.frame);
         self.saved.put_back(&mut turn.fields);
@@ -95,6 +96,15 @@ impl Undo {
         mem::swap(&mut self.frame, frame);
     }
 
+    /// Gives the rows that it holds, as they were before the turn, and keeps others for their buffers. It costs nothing.
+    pub fn swap_saved(&mut self, saved: &mut SavedRows)
+        ensures given { saved.new ≡ self.old.saved }
+        ensures taken { self.new.saved ≡ saved.old }
+        ensures frame { self.new.frame ≡ self.old.frame }
+    {
+        mem::swap(&mut self.saved, saved);
+    }
+
     // The turn under way is undone, and its frame is left as the exit says. The frame from before it is still held. After
     // an error the frame is not left.
     pub(crate) fn leave(
@@ -107,8 +117,9 @@ impl Undo {
             ≡ exits (state_in at (frame_view self.old.frame) (fields_before self.old.saved turn.old) [] room) (exit_view exit)) }
         ensures before { OnOk result (frame_view self.new.frame ≡ frame_view self.old.frame) }
         ensures frame { OnErr result (frame_view turn.new.frame ≡ frame_view self.old.frame) }
-        ensures fields { OnErr result (rows_of turn.new.fields.items ≡ fields_before self.old.saved turn.old) }
+        ensures fields { rows_of turn.new.fields.items ≡ fields_before self.old.saved turn.old }
         ensures method { turn.new.frame.method ≡ self.old.frame.method }
+        ensures saved { self.new.saved ≡ [] }
     {
         self.put_back(turn, room);
         self.frame.copy_from(&turn.frame)?;

@@ -64,3 +64,8 @@ returns-clause-kept c = λ code at follows.
     let fields = ap rows_of c.deref.ensures.value in
     let held : all_hold invariants w.state.fields ≡ true = ap (all_hold invariants) (sym fields) ∙ sym c.if-not-all_hold.ensures in
     c.leave_frame.ensures.left at ∙ kept_whole g n invariants s c.args.resume w whole (sym c.if-undoes.ensures) held
+
+pub returns-clause-saved : goal.returns-clause-saved
+returns-clause-saved c =
+    ap (λ (f : List (Vec ℤ Global)). restored c.play_whole.new.saved (rows_of f)) c.leave_frame.ensures.fields
+    ∙ put_back_fields c.begin.new.self.saved _ _ _ c.begin.ensures.saved (ap rows_of c.begin.ensures.fields) c.play_whole.ensures.back

@@ -3,7 +3,6 @@ use Rattle.std.proofs.lemmas.Bool.{ltb-true, ltb-false}
 use Rattle.std.proofs.lemmas.List.Sorted.{IsPermutation-trans}
 use Rattle.std.specs.List.{All}
 use Rattle.std.specs.List.Sorted.{IsPermutation}
-use Rattle.script_code.specs.Seen.{rows_of}
 use Rattle.swift_types.specs.declared.id.TaskId.{TaskId}
 use Rattle.swift_turn.specs.Body.{BodyView}
 use Rattle.swift_script.specs.Scripts.{ScriptView, executor_kind}
@@ -18,7 +17,7 @@ use Rattle.swift_executor.proofs.state.ExecState.choose.Goals as goal
 pub invariant_of-self : goal.invariant_of-self
 invariant_of-self c =
     let x = c.self.inside in
-    let s : ExecView = record { script = x.home.script; executor = x.home.executor; ready = x.ready; chosen = chosen_of x.played x.chosen; journal = x.journal; checkpoint = x.checkpoint.view; fields = rows_of x.fields.items } in
+    let s : ExecView = record { script = x.home.script; executor = x.home.executor; ready = x.ready; chosen = chosen_of x.played x.chosen; journal = x.journal; checkpoint = x.checkpoint.view; fields = x.played.fields.before } in
     let free : s.chosen ≡ None = ap (λ (v : ExecView). v.chosen) c.self.view_is ∙ c.requires.free in
     let same = c.in_default.ensures.none.1 in
     let perm = subst (λ (r : ReadyIs BodyView). IsPermutation s.ready.front r.front) (sym same) c.count.ensures.front in
@@ -27,7 +26,7 @@ invariant_of-self c =
 pub returns-in_default-clause-none : goal.returns-in_default-clause-none
 returns-in_default-clause-none c = λ log are.
     let x = c.self.inside in
-    let s : ExecView = record { script = x.home.script; executor = x.home.executor; ready = x.ready; chosen = chosen_of x.played x.chosen; journal = x.journal; checkpoint = x.checkpoint.view; fields = rows_of x.fields.items } in
+    let s : ExecView = record { script = x.home.script; executor = x.home.executor; ready = x.ready; chosen = chosen_of x.played x.chosen; journal = x.journal; checkpoint = x.checkpoint.view; fields = x.played.fields.before } in
     let free : s.chosen ≡ None = ap (λ (v : ExecView). v.chosen) c.self.view_is ∙ c.requires.free in
     let one = c.count.new.self in
     let two = c.take.new.self in
@@ -49,7 +48,7 @@ returns-in_default-clause-none c = λ log are.
 pub invariant_of-self-then-not-is_known : goal.invariant_of-self-then-not-is_known
 invariant_of-self-then-not-is_known c =
     let x = c.self.inside in
-    let s : ExecView = record { script = x.home.script; executor = x.home.executor; ready = x.ready; chosen = chosen_of x.played x.chosen; journal = x.journal; checkpoint = x.checkpoint.view; fields = rows_of x.fields.items } in
+    let s : ExecView = record { script = x.home.script; executor = x.home.executor; ready = x.ready; chosen = chosen_of x.played x.chosen; journal = x.journal; checkpoint = x.checkpoint.view; fields = x.played.fields.before } in
     let free : s.chosen ≡ None = ap (λ (v : ExecView). v.chosen) c.self.view_is ∙ c.requires.free in
     let one = c.count.new.self in
     let two = c.take.new.self in
@@ -64,7 +63,7 @@ returns-then-not-is_known-clause-err c = (
   refl,
   λ log are.
       let x = c.self.inside in
-      let s : ExecView = record { script = x.home.script; executor = x.home.executor; ready = x.ready; chosen = chosen_of x.played x.chosen; journal = x.journal; checkpoint = x.checkpoint.view; fields = rows_of x.fields.items } in
+      let s : ExecView = record { script = x.home.script; executor = x.home.executor; ready = x.ready; chosen = chosen_of x.played x.chosen; journal = x.journal; checkpoint = x.checkpoint.view; fields = x.played.fields.before } in
       let one = c.count.new.self in
       let two = c.take.new.self in
       let three = c.restore.new.self in
@@ -92,7 +91,7 @@ returns-then-not-is_known-clause-err c = (
 pub invariant_of-self-2 : goal.invariant_of-self-2
 invariant_of-self-2 c =
     let x = c.self.inside in
-    let s : ExecView = record { script = x.home.script; executor = x.home.executor; ready = x.ready; chosen = chosen_of x.played x.chosen; journal = x.journal; checkpoint = x.checkpoint.view; fields = rows_of x.fields.items } in
+    let s : ExecView = record { script = x.home.script; executor = x.home.executor; ready = x.ready; chosen = chosen_of x.played x.chosen; journal = x.journal; checkpoint = x.checkpoint.view; fields = x.played.fields.before } in
     let free : s.chosen ≡ None = ap (λ (v : ExecView). v.chosen) c.self.view_is ∙ c.requires.free in
     let one = c.count.new.self in
     let two = c.take.new.self in
@@ -105,7 +104,7 @@ invariant_of-self-2 c =
 pub returns-clause-some : goal.returns-clause-some
 returns-clause-some c = λ log are.
     let x = c.self.inside in
-    let s : ExecView = record { script = x.home.script; executor = x.home.executor; ready = x.ready; chosen = chosen_of x.played x.chosen; journal = x.journal; checkpoint = x.checkpoint.view; fields = rows_of x.fields.items } in
+    let s : ExecView = record { script = x.home.script; executor = x.home.executor; ready = x.ready; chosen = chosen_of x.played x.chosen; journal = x.journal; checkpoint = x.checkpoint.view; fields = x.played.fields.before } in
     let one = c.count.new.self in
     let two = c.take.new.self in
     let x0 = ready_job c.in-Some.job c.in-Some.arrival in

@@ -1,6 +1,5 @@
 use Rattle.std.proofs.Common.{◌≡◌, Some, Option, IfSome, ◌++◌, ◌∷◌, [], refl, ap, sym, subst, ◌∙◌}
 use Rattle.std.proofs.lemmas.Option.{same_Some}
-use Rattle.script_code.specs.Seen.{rows_of}
 use Rattle.swift_events.specs.declared.event.Event.TheVariants.{Begin as Begins_event}
 use Rattle.swift_tasks.specs.Books.{BookView}
 use Rattle.swift_executor.specs.Seats.{IsSeatFor}
@@ -16,7 +15,7 @@ use Rattle.swift_executor.proofs.state.ExecState.start_locked.Goals as goal
 pub begin_locked-requires : goal.begin_locked-requires
 begin_locked-requires g c =
     let x = c.self.inside in
-    let s : ExecView = record { script = x.home.script; executor = x.home.executor; ready = x.ready; chosen = chosen_of x.played x.chosen; journal = x.journal; checkpoint = x.checkpoint.view; fields = rows_of x.fields.items } in
+    let s : ExecView = record { script = x.home.script; executor = x.home.executor; ready = x.ready; chosen = chosen_of x.played x.chosen; journal = x.journal; checkpoint = x.checkpoint.view; fields = x.played.fields.before } in
     let has : HasChosen s (λ c. IsPicked c.stage) = subst (λ (v : ExecView). HasChosen v (λ c. IsPicked c.stage)) (sym c.self.view_is) c.requires.picked in
     let was : IsChosen s has.0 = subst (λ (o : Option ChosenView). IfSome o (IsChosen s)) has.1 c.self.invariant.chosen in
     let known : IsSeatFor s c.args.seat.now = subst (λ (v : ExecView). IsSeatFor v c.args.seat.now) (sym c.self.view_is) c.requires.known in
@@ -32,7 +31,7 @@ begin_locked-requires g c =
 pub invariant_of-self : goal.invariant_of-self
 invariant_of-self g c =
     let x = c.self.inside in
-    let s : ExecView = record { script = x.home.script; executor = x.home.executor; ready = x.ready; chosen = chosen_of x.played x.chosen; journal = x.journal; checkpoint = x.checkpoint.view; fields = rows_of x.fields.items } in
+    let s : ExecView = record { script = x.home.script; executor = x.home.executor; ready = x.ready; chosen = chosen_of x.played x.chosen; journal = x.journal; checkpoint = x.checkpoint.view; fields = x.played.fields.before } in
     let h = c.in-Ok.ensures.ok in
     let chosen = chosen_view x.played x.chosen.arrival x.chosen.stage h.0 in
     let at : s.chosen ≡ Some chosen = ap (chosen_at x.played x.chosen.arrival x.chosen.stage) h.1 in
@@ -45,13 +44,13 @@ invariant_of-self g c =
 pub invariant_of-self-in-Err : goal.invariant_of-self-in-Err
 invariant_of-self-in-Err g c =
     let x = c.self.inside in
-    let s : ExecView = record { script = x.home.script; executor = x.home.executor; ready = x.ready; chosen = chosen_of x.played x.chosen; journal = x.journal; checkpoint = x.checkpoint.view; fields = rows_of x.fields.items } in
+    let s : ExecView = record { script = x.home.script; executor = x.home.executor; ready = x.ready; chosen = chosen_of x.played x.chosen; journal = x.journal; checkpoint = x.checkpoint.view; fields = x.played.fields.before } in
     subst (λ (o : Chosen). IsExecutor (record s { chosen = chosen_of x.played o })) (sym c.in-Err.ensures.err.0) c.self.invariant
 
 pub put_back-requires : goal.put_back-requires
 put_back-requires g c =
     let x = c.self.inside in
-    let s : ExecView = record { script = x.home.script; executor = x.home.executor; ready = x.ready; chosen = chosen_of x.played x.chosen; journal = x.journal; checkpoint = x.checkpoint.view; fields = rows_of x.fields.items } in
+    let s : ExecView = record { script = x.home.script; executor = x.home.executor; ready = x.ready; chosen = chosen_of x.played x.chosen; journal = x.journal; checkpoint = x.checkpoint.view; fields = x.played.fields.before } in
     let has : HasChosen s (λ c. IsPicked c.stage) = subst (λ (v : ExecView). HasChosen v (λ c. IsPicked c.stage)) (sym c.self.view_is) c.requires.picked in
     (has.0, ap (chosen_of x.played) c.in-Err.ensures.err.0 ∙ has.1, tt)
 
@@ -64,7 +63,7 @@ returns-in-Ok-clause-seat g c =
 pub returns-in-Ok-clause-known : goal.returns-in-Ok-clause-known
 returns-in-Ok-clause-known g c =
     let x = c.self.inside in
-    let s : ExecView = record { script = x.home.script; executor = x.home.executor; ready = x.ready; chosen = chosen_of x.played x.chosen; journal = x.journal; checkpoint = x.checkpoint.view; fields = rows_of x.fields.items } in
+    let s : ExecView = record { script = x.home.script; executor = x.home.executor; ready = x.ready; chosen = chosen_of x.played x.chosen; journal = x.journal; checkpoint = x.checkpoint.view; fields = x.played.fields.before } in
     let h = c.in-Ok.ensures.ok in
     let chosen = chosen_view x.played x.chosen.arrival x.chosen.stage h.0 in
     let at : s.chosen ≡ Some chosen = ap (chosen_at x.played x.chosen.arrival x.chosen.stage) h.1 in
@@ -79,7 +78,7 @@ returns-in-Ok-clause-known g c =
 pub returns-in-Ok-clause-ok : goal.returns-in-Ok-clause-ok
 returns-in-Ok-clause-ok g c =
     let x = c.self.inside in
-    let s : ExecView = record { script = x.home.script; executor = x.home.executor; ready = x.ready; chosen = chosen_of x.played x.chosen; journal = x.journal; checkpoint = x.checkpoint.view; fields = rows_of x.fields.items } in
+    let s : ExecView = record { script = x.home.script; executor = x.home.executor; ready = x.ready; chosen = chosen_of x.played x.chosen; journal = x.journal; checkpoint = x.checkpoint.view; fields = x.played.fields.before } in
     let h = c.in-Ok.ensures.ok in
     let chosen = chosen_view x.played x.chosen.arrival x.chosen.stage h.0 in
     let at : s.chosen ≡ Some chosen = ap (chosen_at x.played x.chosen.arrival x.chosen.stage) h.1 in
@@ -110,7 +109,7 @@ returns-in-Ok-clause-ok g c =
 pub returns-in-Err-clause-known : goal.returns-in-Err-clause-known
 returns-in-Err-clause-known g c =
     let x = c.self.inside in
-    let s : ExecView = record { script = x.home.script; executor = x.home.executor; ready = x.ready; chosen = chosen_of x.played x.chosen; journal = x.journal; checkpoint = x.checkpoint.view; fields = rows_of x.fields.items } in
+    let s : ExecView = record { script = x.home.script; executor = x.home.executor; ready = x.ready; chosen = chosen_of x.played x.chosen; journal = x.journal; checkpoint = x.checkpoint.view; fields = x.played.fields.before } in
     let same : record s { chosen = chosen_of x.played c.begin_locked.new.chosen } ≡ c.args.self.now = ap (λ (o : Chosen). record s { chosen = chosen_of x.played o }) c.in-Err.ensures.err.0 ∙ c.self.view_is in
     let back = subst (λ (v : ExecView). HasChosen v (PutsBack v c.put_back.new.self)) same c.put_back.ensures in
     subst (λ seat. IsSeatFor c.put_back.new.self seat) (sym c.in-Err.ensures.err.1) (back_knows c.args.self.now c.put_back.new.self c.args.seat.now c.requires.known back)
@@ -118,6 +117,6 @@ returns-in-Err-clause-known g c =
 pub returns-in-Err-clause-back : goal.returns-in-Err-clause-back
 returns-in-Err-clause-back g c =
     let x = c.self.inside in
-    let s : ExecView = record { script = x.home.script; executor = x.home.executor; ready = x.ready; chosen = chosen_of x.played x.chosen; journal = x.journal; checkpoint = x.checkpoint.view; fields = rows_of x.fields.items } in
+    let s : ExecView = record { script = x.home.script; executor = x.home.executor; ready = x.ready; chosen = chosen_of x.played x.chosen; journal = x.journal; checkpoint = x.checkpoint.view; fields = x.played.fields.before } in
     let same : record s { chosen = chosen_of x.played c.begin_locked.new.chosen } ≡ c.args.self.now = ap (λ (o : Chosen). record s { chosen = chosen_of x.played o }) c.in-Err.ensures.err.0 ∙ c.self.view_is in
     subst (λ (v : ExecView). HasChosen v (PutsBack v c.put_back.new.self)) same c.put_back.ensures

@@ -1,6 +1,5 @@
 use Rattle.std.proofs.Common.{◌≡◌, Some, Option, IfSome, map, refl, ap, sym, subst, ◌∙◌}
 use Rattle.std.proofs.lemmas.Option.{same_Some}
-use Rattle.script_code.specs.Seen.{rows_of}
 use Rattle.swift_interpreter.specs.Frames.{effect_views}
 use Rattle.swift_interpreter.specs.TurnStates.{exit_view}
 use Rattle.swift_queue.specs.Job.{JobIs}
@@ -9,6 +8,7 @@ use Rattle.std.specs.List.{AllByRecursion}
 use Rattle.swift_script.specs.Scripts.{ScriptView}
 use Rattle.swift_tasks.specs.Books.{IsJobOf, job_view}
 use Rattle.swift_executor.specs.Playing.{Applied}
+use Rattle.swift_executor.specs.FieldsInside.{FieldsAre}
 use Rattle.swift_executor.specs.State.{ChosenView, EndsTurn, ExecView, HasChosen, IsChosen, IsExecutor, IsPlayed, PutsBack}
 use Rattle.swift_executor.specs.Seats.{IsSeatFor}
 use Rattle.swift_executor.specs.StateInside.{chosen_at, chosen_of, chosen_view, stage_of}
@@ -22,7 +22,7 @@ use Rattle.swift_executor.proofs.state.ExecState.turn_locked.Goals as goal
 pub prepare-requires : goal.prepare-requires
 prepare-requires g c =
     let x = c.self.inside in
-    let s : ExecView = record { script = x.home.script; executor = x.home.executor; ready = x.ready; chosen = chosen_of x.played x.chosen; journal = x.journal; checkpoint = x.checkpoint.view; fields = rows_of x.fields.items } in
+    let s : ExecView = record { script = x.home.script; executor = x.home.executor; ready = x.ready; chosen = chosen_of x.played x.chosen; journal = x.journal; checkpoint = x.checkpoint.view; fields = x.played.fields.before } in
     let has : HasChosen s (λ c. IsPlayed c.stage) = subst (λ (v : ExecView). HasChosen v (λ c. IsPlayed c.stage)) (sym c.self.view_is) c.requires.played in
     let was : IsChosen s has.0 = subst (λ (o : Option ChosenView). IfSome o (IsChosen s)) has.1 c.self.invariant.chosen in
     let k = seen x.played x.chosen.arrival x.chosen.stage x.chosen.job has.0 has.1 in
@@ -34,7 +34,7 @@ prepare-requires g c =
 pub apply_locked-requires : goal.apply_locked-requires
 apply_locked-requires g c =
     let x = c.self.inside in
-    let s : ExecView = record { script = x.home.script; executor = x.home.executor; ready = x.ready; chosen = chosen_of x.played x.chosen; journal = x.journal; checkpoint = x.checkpoint.view; fields = rows_of x.fields.items } in
+    let s : ExecView = record { script = x.home.script; executor = x.home.executor; ready = x.ready; chosen = chosen_of x.played x.chosen; journal = x.journal; checkpoint = x.checkpoint.view; fields = x.played.fields.before } in
     let w = c.in-Ok.ensures.written in
     let was : IsChosen s (chosen_view x.played x.chosen.arrival x.chosen.stage w.0) = subst (λ (o : Option ChosenView). IfSome o (IsChosen s)) (ap (chosen_at x.played x.chosen.arrival x.chosen.stage) w.1) c.self.invariant.chosen in
     let has : HasChosen s (λ c. IsPlayed c.stage) = subst (λ (v : ExecView). HasChosen v (λ c. IsPlayed c.stage)) (sym c.self.view_is) c.requires.played in
@@ -52,7 +52,7 @@ apply_locked-requires g c =
 pub invariant_of-self-in-Ok-apply_locked : goal.invariant_of-self-in-Ok-apply_locked
 invariant_of-self-in-Ok-apply_locked g c =
     let x = c.self.inside in
-    let s : ExecView = record { script = x.home.script; executor = x.home.executor; ready = x.ready; chosen = chosen_of x.played x.chosen; journal = x.journal; checkpoint = x.checkpoint.view; fields = rows_of x.fields.items } in
+    let s : ExecView = record { script = x.home.script; executor = x.home.executor; ready = x.ready; chosen = chosen_of x.played x.chosen; journal = x.journal; checkpoint = x.checkpoint.view; fields = x.played.fields.before } in
     let h = c.in-Ok-apply_locked.ensures.ok in
     let w = c.in-Ok.ensures.written in
     let has : HasChosen s (λ c. IsPlayed c.stage) = subst (λ (v : ExecView). HasChosen v (λ c. IsPlayed c.stage)) (sym c.self.view_is) c.requires.played in
@@ -63,17 +63,17 @@ invariant_of-self-in-Ok-apply_locked g c =
     let jobs' = map job_view c.apply_locked.new.jobs.jobs in
     let applied : Applied book book' w.0 (effect_views x.played.effects.items) (exit_view x.played.exit) jobs jobs' =
     subst (λ (j : JobIs BodyView). Applied book book' j (effect_views x.played.effects.items) (exit_view x.played.exit) jobs jobs') same h.2.takes.applied in
-    let p' : Played = record x.played { fields = c.swap.new.y } in
+    let p' : Played = record x.played { fields = c.keep.new.self } in
     let d = ended s x.played p' x.chosen.arrival x.chosen.stage x.chosen.job c.apply_locked.new.place w.0 c.prepare.new.journal refl w.1 has w.2
-    book book' jobs jobs' c.in-Ok-apply_locked.task c.settle.new.journal c.in-Ok.copy c.prepare.new.checkpoint c.settle.new.checkpoint c.forward.new.self c.swap.new.x
+    book book' jobs jobs' c.in-Ok-apply_locked.task c.settle.new.journal c.in-Ok.copy c.prepare.new.checkpoint c.settle.new.checkpoint c.forward.new.self c.keep.new.self.before
     c.lawful_grows.ensures c.invariants_stay.ensures c.self.invariant c.in-Ok.ensures.same c.in-Ok.ensures.room c.settle.ensures c.forward.ensures (h.2.takes.task_is ∙ ap (λ (j : JobIs BodyView). j.task) same)
-    applied c.in-Ok-apply_locked.ensures.gone c.swap.ensures.x_after in
+    applied c.in-Ok-apply_locked.ensures.gone (ap (λ (f : FieldsAre). f.before) c.keep.ensures) in
     d.keeps
 
 pub returns-in-Ok-apply_locked-clause-ok : goal.returns-in-Ok-apply_locked-clause-ok
 returns-in-Ok-apply_locked-clause-ok g c =
     let x = c.self.inside in
-    let s : ExecView = record { script = x.home.script; executor = x.home.executor; ready = x.ready; chosen = chosen_of x.played x.chosen; journal = x.journal; checkpoint = x.checkpoint.view; fields = rows_of x.fields.items } in
+    let s : ExecView = record { script = x.home.script; executor = x.home.executor; ready = x.ready; chosen = chosen_of x.played x.chosen; journal = x.journal; checkpoint = x.checkpoint.view; fields = x.played.fields.before } in
     let h = c.in-Ok-apply_locked.ensures.ok in
     let w = c.in-Ok.ensures.written in
     let has : HasChosen s (λ c. IsPlayed c.stage) = subst (λ (v : ExecView). HasChosen v (λ c. IsPlayed c.stage)) (sym c.self.view_is) c.requires.played in
@@ -84,13 +84,13 @@ returns-in-Ok-apply_locked-clause-ok g c =
     let jobs' = map job_view c.apply_locked.new.jobs.jobs in
     let applied : Applied book book' w.0 (effect_views x.played.effects.items) (exit_view x.played.exit) jobs jobs' =
     subst (λ (j : JobIs BodyView). Applied book book' j (effect_views x.played.effects.items) (exit_view x.played.exit) jobs jobs') same h.2.takes.applied in
-    let p' : Played = record x.played { fields = c.swap.new.y } in
+    let p' : Played = record x.played { fields = c.keep.new.self } in
     let d = ended s x.played p' x.chosen.arrival x.chosen.stage x.chosen.job c.apply_locked.new.place w.0 c.prepare.new.journal refl w.1 has w.2
-    book book' jobs jobs' c.in-Ok-apply_locked.task c.settle.new.journal c.in-Ok.copy c.prepare.new.checkpoint c.settle.new.checkpoint c.forward.new.self c.swap.new.x
+    book book' jobs jobs' c.in-Ok-apply_locked.task c.settle.new.journal c.in-Ok.copy c.prepare.new.checkpoint c.settle.new.checkpoint c.forward.new.self c.keep.new.self.before
     c.lawful_grows.ensures c.invariants_stay.ensures c.self.invariant c.in-Ok.ensures.same c.in-Ok.ensures.room c.settle.ensures c.forward.ensures (h.2.takes.task_is ∙ ap (λ (j : JobIs BodyView). j.task) same)
-    applied c.in-Ok-apply_locked.ensures.gone c.swap.ensures.x_after in
+    applied c.in-Ok-apply_locked.ensures.gone (ap (λ (f : FieldsAre). f.before) c.keep.ensures) in
     let was : IsChosen s (chosen_view x.played x.chosen.arrival x.chosen.stage w.0) = subst (λ (o : Option ChosenView). IfSome o (IsChosen s)) (ap (chosen_at x.played x.chosen.arrival x.chosen.stage) w.1) c.self.invariant.chosen in
-    let new : ExecView = record s { ready = c.forward.new.self; chosen = chosen_at p' x.chosen.arrival x.chosen.stage c.apply_locked.new.place; journal = c.settle.new.journal; checkpoint = c.settle.new.checkpoint.view; fields = rows_of c.swap.new.x.items } in
+    let new : ExecView = record s { ready = c.forward.new.self; chosen = chosen_at p' x.chosen.arrival x.chosen.stage c.apply_locked.new.place; journal = c.settle.new.journal; checkpoint = c.settle.new.checkpoint.view; fields = c.keep.new.self.before } in
     subst (λ (v : ExecView). EndsTurn jobs jobs' v new) c.self.view_is
     (record {
       book = book;
@@ -102,7 +102,7 @@ returns-in-Ok-apply_locked-clause-ok g c =
 pub returns-in-Ok-apply_locked-clause-known : goal.returns-in-Ok-apply_locked-clause-known
 returns-in-Ok-apply_locked-clause-known g c =
     let x = c.self.inside in
-    let s : ExecView = record { script = x.home.script; executor = x.home.executor; ready = x.ready; chosen = chosen_of x.played x.chosen; journal = x.journal; checkpoint = x.checkpoint.view; fields = rows_of x.fields.items } in
+    let s : ExecView = record { script = x.home.script; executor = x.home.executor; ready = x.ready; chosen = chosen_of x.played x.chosen; journal = x.journal; checkpoint = x.checkpoint.view; fields = x.played.fields.before } in
     let h = c.in-Ok-apply_locked.ensures.ok in
     let w = c.in-Ok.ensures.written in
     let has : HasChosen s (λ c. IsPlayed c.stage) = subst (λ (v : ExecView). HasChosen v (λ c. IsPlayed c.stage)) (sym c.self.view_is) c.requires.played in
@@ -113,13 +113,13 @@ returns-in-Ok-apply_locked-clause-known g c =
     let jobs' = map job_view c.apply_locked.new.jobs.jobs in
     let applied : Applied book book' w.0 (effect_views x.played.effects.items) (exit_view x.played.exit) jobs jobs' =
     subst (λ (j : JobIs BodyView). Applied book book' j (effect_views x.played.effects.items) (exit_view x.played.exit) jobs jobs') same h.2.takes.applied in
-    let p' : Played = record x.played { fields = c.swap.new.y } in
+    let p' : Played = record x.played { fields = c.keep.new.self } in
     let d = ended s x.played p' x.chosen.arrival x.chosen.stage x.chosen.job c.apply_locked.new.place w.0 c.prepare.new.journal refl w.1 has w.2
-    book book' jobs jobs' c.in-Ok-apply_locked.task c.settle.new.journal c.in-Ok.copy c.prepare.new.checkpoint c.settle.new.checkpoint c.forward.new.self c.swap.new.x
+    book book' jobs jobs' c.in-Ok-apply_locked.task c.settle.new.journal c.in-Ok.copy c.prepare.new.checkpoint c.settle.new.checkpoint c.forward.new.self c.keep.new.self.before
     c.lawful_grows.ensures c.invariants_stay.ensures c.self.invariant c.in-Ok.ensures.same c.in-Ok.ensures.room c.settle.ensures c.forward.ensures (h.2.takes.task_is ∙ ap (λ (j : JobIs BodyView). j.task) same)
-    applied c.in-Ok-apply_locked.ensures.gone c.swap.ensures.x_after in
+    applied c.in-Ok-apply_locked.ensures.gone (ap (λ (f : FieldsAre). f.before) c.keep.ensures) in
     let was : IsChosen s (chosen_view x.played x.chosen.arrival x.chosen.stage w.0) = subst (λ (o : Option ChosenView). IfSome o (IsChosen s)) (ap (chosen_at x.played x.chosen.arrival x.chosen.stage) w.1) c.self.invariant.chosen in
-    let new : ExecView = record s { ready = c.forward.new.self; chosen = chosen_at p' x.chosen.arrival x.chosen.stage c.apply_locked.new.place; journal = c.settle.new.journal; checkpoint = c.settle.new.checkpoint.view; fields = rows_of c.swap.new.x.items } in
+    let new : ExecView = record s { ready = c.forward.new.self; chosen = chosen_at p' x.chosen.arrival x.chosen.stage c.apply_locked.new.place; journal = c.settle.new.journal; checkpoint = c.settle.new.checkpoint.view; fields = c.keep.new.self.before } in
     let at : s.chosen ≡ Some (chosen_view x.played x.chosen.arrival x.chosen.stage w.0) = ap (chosen_at x.played x.chosen.arrival x.chosen.stage) w.1 in
     let played_is : IsPlayed (stage_of x.played x.chosen.stage) = subst (λ (v : ChosenView). IsPlayed v.stage) (same_Some has.0 (chosen_view x.played x.chosen.arrival x.chosen.stage w.0) (sym has.1 ∙ at)) has.2 in
     let known : IsSeatFor s c.args.seat.now = subst (λ (v : ExecView). IsSeatFor v c.args.seat.now) (sym c.self.view_is) c.requires.known in
@@ -139,7 +139,7 @@ returns-in-Ok-apply_locked-clause-bodies g c =
 pub invariant_of-self-in-Err : goal.invariant_of-self-in-Err
 invariant_of-self-in-Err g c =
     let x = c.self.inside in
-    let s : ExecView = record { script = x.home.script; executor = x.home.executor; ready = x.ready; chosen = chosen_of x.played x.chosen; journal = x.journal; checkpoint = x.checkpoint.view; fields = rows_of x.fields.items } in
+    let s : ExecView = record { script = x.home.script; executor = x.home.executor; ready = x.ready; chosen = chosen_of x.played x.chosen; journal = x.journal; checkpoint = x.checkpoint.view; fields = x.played.fields.before } in
     let w = c.in-Ok.ensures.written in
     let has : HasChosen s (λ c. IsPlayed c.stage) = subst (λ (v : ExecView). HasChosen v (λ c. IsPlayed c.stage)) (sym c.self.view_is) c.requires.played in
     let same = unchanged s x.played x.played x.chosen.arrival x.chosen.stage x.chosen.job c.apply_locked.new.place w.0 c.prepare.new.journal refl w.1 has w.2
@@ -149,7 +149,7 @@ invariant_of-self-in-Err g c =
 pub returns-in-Err-clause-back : goal.returns-in-Err-clause-back
 returns-in-Err-clause-back g c =
     let x = c.self.inside in
-    let s : ExecView = record { script = x.home.script; executor = x.home.executor; ready = x.ready; chosen = chosen_of x.played x.chosen; journal = x.journal; checkpoint = x.checkpoint.view; fields = rows_of x.fields.items } in
+    let s : ExecView = record { script = x.home.script; executor = x.home.executor; ready = x.ready; chosen = chosen_of x.played x.chosen; journal = x.journal; checkpoint = x.checkpoint.view; fields = x.played.fields.before } in
     let w = c.in-Ok.ensures.written in
     let has : HasChosen s (λ c. IsPlayed c.stage) = subst (λ (v : ExecView). HasChosen v (λ c. IsPlayed c.stage)) (sym c.self.view_is) c.requires.played in
     let same = unchanged s x.played x.played x.chosen.arrival x.chosen.stage x.chosen.job c.apply_locked.new.place w.0 c.prepare.new.journal refl w.1 has w.2
@@ -159,7 +159,7 @@ returns-in-Err-clause-back g c =
 pub returns-in-Err-clause-known : goal.returns-in-Err-clause-known
 returns-in-Err-clause-known g c =
     let x = c.self.inside in
-    let s : ExecView = record { script = x.home.script; executor = x.home.executor; ready = x.ready; chosen = chosen_of x.played x.chosen; journal = x.journal; checkpoint = x.checkpoint.view; fields = rows_of x.fields.items } in
+    let s : ExecView = record { script = x.home.script; executor = x.home.executor; ready = x.ready; chosen = chosen_of x.played x.chosen; journal = x.journal; checkpoint = x.checkpoint.view; fields = x.played.fields.before } in
     let w = c.in-Ok.ensures.written in
     let has : HasChosen s (λ c. IsPlayed c.stage) = subst (λ (v : ExecView). HasChosen v (λ c. IsPlayed c.stage)) (sym c.self.view_is) c.requires.played in
     let same = unchanged s x.played x.played x.chosen.arrival x.chosen.stage x.chosen.job c.apply_locked.new.place w.0 c.prepare.new.journal refl w.1 has w.2
@@ -170,7 +170,7 @@ returns-in-Err-clause-known g c =
 pub returns-in_default-clause-known : goal.returns-in_default-clause-known
 returns-in_default-clause-known g c =
     let x = c.self.inside in
-    let s : ExecView = record { script = x.home.script; executor = x.home.executor; ready = x.ready; chosen = chosen_of x.played x.chosen; journal = x.journal; checkpoint = x.checkpoint.view; fields = rows_of x.fields.items } in
+    let s : ExecView = record { script = x.home.script; executor = x.home.executor; ready = x.ready; chosen = chosen_of x.played x.chosen; journal = x.journal; checkpoint = x.checkpoint.view; fields = x.played.fields.before } in
     let same : record s { journal = c.prepare.new.journal; checkpoint = c.prepare.new.checkpoint.view } ≡ c.args.self.now =
     ap (λ j. record s { journal = j; checkpoint = c.prepare.new.checkpoint.view }) c.in_default.ensures.err ∙ ap (λ v. record s { checkpoint = v }) c.in_default.ensures.same ∙ c.self.view_is in
     let back = subst (λ (v : ExecView). HasChosen v (PutsBack v c.put_back.new.self)) same c.put_back.ensures in

@@ -1,6 +1,6 @@
 use Rattle.std.proofs.Common.{◌≡◌, take}
 use Rattle.script_code.specs.Seen.{rows_of}
-use Rattle.swift_executor.proofs.playing.copy_anew.Given as goal
+use Rattle.swift_executor.proofs.playing.copy_of.Given as goal
 
 abbrev pub invariant-loop-row : goal.invariant-loop-row
 invariant-loop-row l = rows_of l.rows.items ≡ rows_of (take l.row-index l.from)

@@ -1,0 +1,16 @@
+use Rattle.std.proofs.Common.{◌≡◌, ℤ, length, ap, sym, ◌∙◌, arith}
+use Rattle.std.proofs.lemmas.List.{length-map}
+use Rattle.std.specs.declared.vec.Vec.{Vec}
+use Rattle.std.specs.declared.alloc.Global.{Global}
+use Rattle.script_code.specs.Seen.{rows_of}
+use Rattle.swift_executor.specs.FieldsInside.{FieldsAre}
+use Rattle.swift_executor.proofs.Rows.{restored_length}
+use Rattle.swift_executor.proofs.fields.Fields.len.Goals as goal
+
+pub returns : goal.returns
+returns c =
+    let x = c.self.inside in
+    let long : c.len.result ≡ length x.rows.items = omega (arith, c.len.ensures) in
+    long
+    ∙ sym (restored_length x.saved (rows_of x.rows.items) ∙ length-map x.rows.items (λ (v : Vec ℤ Global). v.items))
+    ∙ ap (λ (f : FieldsAre). length f.before) c.self.view_is
