@@ -1,6 +1,6 @@
 //! The rules that are looked at once a script is compiled: on invariants, and on roots that wait.
 
-ghost use Rattle.std.specs.Prelude.{◌≡◌, ⊥, ℕ, List, None, IsTrue, false, map, OnOk, IfOk, IfErr};
+ghost use Rattle.std.specs.Prelude.{◌≡◌, ℕ, List, None, IsTrue, false, map, OnOk, IfOk, IfErr};
 ghost use Rattle.script_grammar.specs.Tree.{view_actor};
 ghost use Rattle.script_compiler.specs.IsCompiled.{IsCompiled};
 ghost use Rattle.swift_script.specs.Accepted.{first_false, NoRootWaits};
