@@ -1,4 +1,5 @@
 pub mod Texts
+pub mod Seeds
 pub mod Methods
 pub mod Directory
 pub mod Scope

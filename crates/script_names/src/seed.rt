@@ -1,5 +1,8 @@
 //! How names are hashed.
 
+ghost use Rattle.std.specs.Prelude.{◌≡◌};
+ghost use Rattle.script_names.specs.Seeds.{begun_with};
+
 use std::hash::{BuildHasher, DefaultHasher, FoldHasher, Hasher};
 
 /// With what each hash of a name of one script begins: a hash of the whole text. So nobody can choose names for their
@@ -11,7 +14,10 @@ pub struct Seed {
 
 impl Seed {
     /// The seed of a text, in time linear in it.
-    pub fn of(text: &[u8]) -> Seed {
+    pub fn of(text: &[u8]) -> Seed
+        // `begun` is the hasher that `build_hasher` gives.
+        ensures { result.begun ≡ begun_with text.now }
+    {
         let mut hasher = DefaultHasher::new();
         hasher.write(text);
         let mut begun = FoldHasher::default();

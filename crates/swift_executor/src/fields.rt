@@ -115,7 +115,7 @@ impl Fields {
         ensures same { self.new.before ≡ self.old.before }
         ensures before { OnOk result (IfRunning body.old.task.frames (λ p. p ≡ frame_view before.new)) }
         ensures method { OnOk result (before.new.method.0 < method_count body.old.script) }
-        ensures rest { OnOk result (body.new ≡ record body.old { task = record body.old.task { frames = body.new.task.frames }; phase = idle; armed = body.new.armed }) }
+        ensures rest { OnOk result (body.new ≡ record body.old { task = record body.old.task { frames = body.new.task.frames }; phase = idle; waker = body.new.waker }) }
         ensures err { OnErr result (body.new ≡ at_rest body.old) }
         ensures kept { Keeps cx.old cx.new }
     {

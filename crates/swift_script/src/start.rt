@@ -1,6 +1,6 @@
 //! The rules that are looked at once a script is compiled: on invariants, and on roots that wait.
 
-ghost use Rattle.std.specs.Prelude.{◌≡◌, ℕ, List, None, IsTrue, map, OnOk, IfOk, IfErr};
+ghost use Rattle.std.specs.Prelude.{◌≡◌, ℕ, List, None, IsTrue, false, map, OnOk, IfOk, IfErr};
 ghost use Rattle.script_grammar.specs.Tree.{view_actor};
 ghost use Rattle.script_compiler.specs.IsCompiled.{IsCompiled};
 ghost use Rattle.swift_script.specs.Accepted.{first_false, NoRootWaits};
@@ -45,6 +45,7 @@ pub(crate) fn is_in_order(
     requires { IsCompiled compiled.now (parts_of (tree_of declarations.now)) }
     ensures starts { IfOk result (λ b. IsTrue b → first_false (tree_of declarations.now) ≡ None) }
     ensures waits { IfOk result (λ b. IsTrue b → NoRootWaits (tree_of declarations.now)) }
+    ensures not { IfOk result (λ b. b ≡ false → first_false (tree_of declarations.now) ≡ None → NoRootWaits (tree_of declarations.now) → ⊥) }
 {
     // The clauses alone speak of the declarations.
     let _ = declarations;

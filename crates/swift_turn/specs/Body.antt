@@ -1,5 +1,8 @@
 -- What callers see of a body, and what its calls do to it (SE-0304 for tasks, SE-0306 for calls, SE-0311 for bindings).
-use Rattle.std.specs.Prelude.{◌≡◌, ℕ, ◌-◌, ◌<◌, nat_lt, if◌then◌else◌, ◌++◌, drop, replicate, ℤ, pos, Bool, true, Option, Some, None, List, [], ◌∷◌, length}
+use Rattle.std.specs.Prelude.{◌≡◌, ℕ, ◌-◌, ◌<◌, nat_lt, if◌then◌else◌, ◌++◌, drop, replicate, ℤ, pos, Option, Some, None, IsSome, List, [], ◌∷◌, length}
+use Rattle.std.specs.Arc.{arc_value}
+use Rattle.futures.specs.declared.task.context.Context.{Context}
+use Rattle.futures.specs.declared.task.waker.Waker.{Waker}
 use Rattle.futures.specs.declared.task.Poll.{Poll}
 use Rattle.futures.specs.declared.task.Poll.TheVariants.{Ready, Pending}
 use Rattle.swift_types.specs.declared.limits.TheConstants.{FRAMES, STEPS}
@@ -27,6 +30,21 @@ pub data PhaseView : Type 0 where
   -- the fields from before a turn that ran out of memory
   out_of_memory : List (List ℤ) → PhaseView
 
+-- a task that is polled, as wakers name it: its number in its queue, and the numbers of that queue
+pub record PolledTask : Type 0 where
+  pub task : ℕ
+  pub executor : ℕ
+  pub queue : ℕ
+
+-- the task that a context polls
+abbrev pub polled_in : Context → PolledTask
+polled_in cx = record { task = cx.turn.task; executor = (arc_value cx.route.now).origin.executor; queue = (arc_value cx.route.now).origin.queue }
+
+-- the task that the waker in a slot wakes, if there is one
+abbrev pub woken_by : Option Waker → Option PolledTask
+woken_by None = None
+woken_by (Some w) = Some (record { task = w.owed.first.task; executor = (arc_value w.route).origin.executor; queue = (arc_value w.route).origin.queue })
+
 -- A task has frames, the one that runs first and then its callers, the nearest first; none where it has ended. `outer` has
 -- the bindings that stood when the frame that runs began: those of its callers, and those that the task was made with.
 pub record TaskView : Type 0 where
@@ -39,8 +57,8 @@ pub record BodyView : Type 0 where
   pub phase : PhaseView
   -- the name of what it waits at
   pub source : ℕ
-  -- a waker lies in the slot of its source: there is none where the last turn that was played does not wait
-  pub armed : Bool
+  -- the task whose waker lies in the slot of its source: there is none where the last turn that was played does not wait
+  pub waker : Option PolledTask
 
 -- the continuation that a frame of a script stands for
 abbrev pub state_at : ScriptView → FrameView → List (List ℤ) → List EffectView → ℕ → State
@@ -125,8 +143,8 @@ BeginsToWait _ new = ⊥
 
 -- the slot of its waker, before a poll and after it: a turn that was played empties it, and leaves a waker only where
 -- it waits; a poll that played none leaves it as it is
-abbrev pub KeepsSlot : PhaseView → PhaseView → Bool → Bool → Type 0
-KeepsSlot (entered fields resume env) (left fields' effects exit) was is = is ≡ true → Registers exit
+abbrev pub KeepsSlot : PhaseView → PhaseView → Option PolledTask → Option PolledTask → Type 0
+KeepsSlot (entered fields resume env) (left fields' effects exit) was is = IsSome is → Registers exit
 KeepsSlot _ _ was is = is ≡ was
 
 -- a turn was entered, and was polled

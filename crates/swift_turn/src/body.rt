@@ -1,6 +1,6 @@
 //! A task's frames, as a future.
 
-ghost use Rattle.std.specs.Prelude.{◌≡◌, ℕ, ◌+◌, ◌<◌, ◌≤◌, ◌⊎◌, ◌↔◌, ◌∷◌, true, false, [], IsTrue, IfOk, OnOk, IfErr, OnErr, None, Some, is_some, length};
+ghost use Rattle.std.specs.Prelude.{◌≡◌, ℕ, ◌+◌, ◌<◌, ◌≤◌, ◌⊎◌, ◌↔◌, ◌∷◌, true, [], IsTrue, IfOk, OnOk, IfErr, OnErr, None, Some, IsSome, length};
 ghost use Rattle.std.specs.Arc.{arc_value};
 ghost use Rattle.futures.specs.Poll.{IfReady, OnPending};
 ghost use Rattle.futures.specs.Task.{Covers, Keeps};
@@ -10,7 +10,7 @@ ghost use Rattle.swift_interpreter.specs.Frames.{effect_views, frame_view, invoc
 ghost use Rattle.swift_interpreter.specs.Saved.{restored};
 ghost use Rattle.swift_interpreter.specs.TurnStates.{exit_view};
 ghost use Rattle.swift_interpreter.specs.Turn.{calling};
-ghost use Rattle.swift_turn.specs.Body.{AdvancesTo, BeginsFrame, BeginsToWait, CanAdvance, GoesOn, Hands, IfRunning, IsPolled, IsRunning, KeepsSlot, Polls, Registers, WaitsIn, Resumes, answer_of, at_rest, callers_of, ending_if, ends_with, entered, idle, invariants_at, kept_turn, left, opening, out_of_memory, poll_of, state_at};
+ghost use Rattle.swift_turn.specs.Body.{AdvancesTo, BeginsFrame, BeginsToWait, CanAdvance, GoesOn, Hands, IfRunning, IsPolled, IsRunning, KeepsSlot, Polls, Registers, WaitsIn, Resumes, answer_of, at_rest, callers_of, ending_if, ends_with, entered, idle, invariants_at, kept_turn, left, opening, out_of_memory, poll_of, polled_in, state_at, woken_by};
 ghost use Rattle.swift_undo.specs.Rows.{AreSpared};
 
 use crate::opening::{copy_of, opening_of};
@@ -102,11 +102,10 @@ impl Drop for Inside {
 
 impl Model for Body {
     ghost use Rattle.std.specs.Arc.{arc_value};
-    ghost use Rattle.std.specs.Prelude.{is_some};
     ghost use Rattle.swift_interpreter.specs.Frames.{frame_view};
     ghost use Rattle.std.specs.Coded.{codes};
     ghost use Rattle.swift_script.specs.Codes.{expression_code, statement_code, block_code};
-    ghost use Rattle.swift_turn.specs.Body.{BodyView};
+    ghost use Rattle.swift_turn.specs.Body.{BodyView, woken_by};
 
     ghost Value = { BodyView };
 
@@ -119,7 +118,7 @@ impl Model for Body {
       task = record { frames = frames_of b.inside.value.running b.inside.value.turn b.inside.value.callers; outer = b.inside.value.outer };
       phase = phase_of b.inside.value.phase b.inside.value.turn;
       source = b.inside.value.source.id;
-      armed = is_some b.inside.value.waker;
+      waker = woken_by b.inside.value.waker;
     } };
 
     ghost invariant = { λ b. BodyInvariant (arc_value b.inside.value.script) b.inside.value.running (frame_view b.inside.value.turn.frame) b.inside.value.callers };
@@ -143,13 +142,13 @@ impl Future for Body {
         ensures kept { Keeps cx.old cx.new }
         // One turn, where one was entered.
         ensures turned { Polls self.old.script self.old.task.outer self.old.task.frames self.old.phase self.new.task.frames self.new.phase }
-        // Where it begins to wait, its waker lies in the slot of its own source, unless none could be made.
-        ensures waits { OnPending result (BeginsToWait self.old.phase self.new.phase → (cx.new.lacks_waker ≡ true) ⊎ (self.new.armed ≡ true)) }
+        // Where it begins to wait, the waker of the task that is polled lies in the slot of its own source, unless none could be made.
+        ensures waits { OnPending result (BeginsToWait self.old.phase self.new.phase → (cx.new.lacks_waker ≡ true) ⊎ (self.new.waker ≡ Some (polled_in cx.old))) }
         // Else it has asked for the next poll.
         ensures yields { OnPending result ((BeginsToWait self.old.phase self.new.phase → ⊥) → cx.new.is_woken ≡ true) }
         // A waker lies there only where the last turn that was played waits.
-        ensures slot { KeepsSlot self.old.phase self.new.phase self.old.armed self.new.armed }
-        ensures rest { self.new ≡ record self.old { task = record self.old.task { frames = self.new.task.frames }; phase = self.new.phase; armed = self.new.armed } }
+        ensures slot { KeepsSlot self.old.phase self.new.phase self.old.waker self.new.waker }
+        ensures rest { self.new ≡ record self.old { task = record self.old.task { frames = self.new.task.frames }; phase = self.new.phase; waker = self.new.waker } }
         ensures answer { result ≡ answer_of self.old.task.frames self.old.phase self.new.phase }
     {
         if !self.inside.running || !matches!(self.inside.phase, Phase::Entered(_, _)) {
@@ -199,9 +198,9 @@ fn answer(
     ensures answer { result ≡ poll_of (ending_if callers.now (exit_view exit.now)) }
     ensures registered { OnPending result (Covers cx.new (λ s. Registers (exit_view exit.now) × (s ≡ source.now.id))) }
     ensures kept { Keeps cx.old cx.new }
-    ensures waits { Registers (exit_view exit.now) → (cx.new.lacks_waker ≡ true) ⊎ (is_some waker.new ≡ true) }
+    ensures waits { Registers (exit_view exit.now) → (cx.new.lacks_waker ≡ true) ⊎ (woken_by waker.new ≡ Some (polled_in cx.old)) }
     ensures yields { OnPending result ((Registers (exit_view exit.now) → ⊥) → cx.new.is_woken ≡ true) }
-    ensures slot { is_some waker.new ≡ true → Registers (exit_view exit.now) }
+    ensures slot { IsSome (woken_by waker.new) → Registers (exit_view exit.now) }
 {
     match last_ending(callers, exit) {
         Some(ending) => Poll::Ready(ending),
@@ -257,7 +256,7 @@ impl Body {
         ensures script { IfOk result (λ b. b.script ≡ arc_value script) }
         ensures task { IfOk result (λ b. b.task ≡ record { frames = opening (arc_value script) method.0 args.items 0 0 ∷ []; outer = bindings }) }
         ensures phase { IfOk result (λ b. b.phase ≡ idle) }
-        ensures slot { IfOk result (λ b. b.armed ≡ false) }
+        ensures slot { IfOk result (λ b. b.waker ≡ None) }
     {
         let frame = opening_of(alloc, &script, method, args, 0, 0)?;
         let inside = Inside {
@@ -460,6 +459,13 @@ impl Body {
         self.inside.alloc
     }
 
+    /// Gives up a turn that is under way, with its fields and effects; without one it changes nothing. It takes no memory.
+    pub fn rest(&mut self)
+        ensures { self.new ≡ at_rest self.old }
+    {
+        self.inside.phase = Phase::Idle;
+    }
+
     // Plays the turn that was entered.
     pub(crate) fn play_turn(&mut self)
         requires { IsRunning self.old }
@@ -505,10 +511,10 @@ impl Body {
             self.new.task.frames (left (rows_of fields.new.items) (effect_views effects.new.items) (exit_view exit))) }
         ensures before { OnOk result (IfRunning self.old.task.frames (λ p. p ≡ frame_view before.new)) }
         ensures method { OnOk result (before.new.method.0 < method_count self.old.script) }
-        ensures rest { OnOk result (self.new ≡ record self.old { task = record self.old.task { frames = self.new.task.frames }; phase = idle; armed = self.new.armed }) }
-        ensures waits { IfOk result (λ exit. Registers (exit_view exit) → (cx.new.lacks_waker ≡ true) ⊎ (self.new.armed ≡ true)) }
+        ensures rest { OnOk result (self.new ≡ record self.old { task = record self.old.task { frames = self.new.task.frames }; phase = idle; waker = self.new.waker }) }
+        ensures waits { IfOk result (λ exit. Registers (exit_view exit) → (cx.new.lacks_waker ≡ true) ⊎ (self.new.waker ≡ Some (polled_in cx.old))) }
         ensures yields { IfOk result (λ exit. ending_if (callers_of self.old.task.frames) (exit_view exit) ≡ None → (Registers (exit_view exit) → ⊥) → cx.new.is_woken ≡ true) }
-        ensures slot { IfOk result (λ exit. self.new.armed ≡ true → Registers (exit_view exit)) }
+        ensures slot { IfOk result (λ exit. IsSome self.new.waker → Registers (exit_view exit)) }
         ensures err { OnErr result (self.new ≡ at_rest self.old) }
         ensures back { OnErr result (rows_of fields.new.items ≡ rows_of fields.old.items) }
         ensures saved { restored saved.new (rows_of fields.new.items) ≡ rows_of fields.old.items }

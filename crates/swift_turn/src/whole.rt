@@ -1,13 +1,13 @@
 //! One turn: entered, played and left.
 
-ghost use Rattle.std.specs.Prelude.{◌≡◌, ◌<◌, ◌⊎◌, true, IfErr, IfOk, OnErr, OnOk, None};
+ghost use Rattle.std.specs.Prelude.{◌≡◌, ◌<◌, ◌⊎◌, true, IfErr, IfOk, IsSome, OnErr, OnOk, None, Some};
 ghost use Rattle.futures.specs.Task.{Keeps};
 ghost use Rattle.script_code.specs.Seen.{rows_of};
 ghost use Rattle.swift_interpreter.specs.Frames.{effect_views, frame_view};
 ghost use Rattle.swift_script.specs.Scripts.{method_count};
 ghost use Rattle.swift_interpreter.specs.Saved.{restored};
 ghost use Rattle.swift_interpreter.specs.TurnStates.{exit_view};
-ghost use Rattle.swift_turn.specs.Body.{IfRunning, IsRunning, Registers, at_rest, callers_of, ending_if, idle, invariants_at, left, Polls, entered};
+ghost use Rattle.swift_turn.specs.Body.{IfRunning, IsRunning, Registers, at_rest, callers_of, ending_if, idle, invariants_at, left, polled_in, Polls, entered};
 ghost use Rattle.swift_undo.specs.Laws.{AllHold};
 ghost use Rattle.swift_undo.specs.Rows.{HaveRows};
 
@@ -35,7 +35,14 @@ pub fn run_turn(
     // The theorem: what the three calls give is the kept turn of the frame that runs, and the body stands for it.
     ensures turn { IfOk result (λ r. Polls body.old.script body.old.task.outer body.old.task.frames (entered (rows_of fields.items) resume env)
         body.new.task.frames (left (rows_of r.0.items) (effect_views r.1.items) (exit_view r.2))) }
-    ensures rest { OnOk result (body.new ≡ record body.old { task = record body.old.task { frames = body.new.task.frames }; phase = idle; armed = body.new.armed }) }
+    ensures rest { OnOk result (body.new ≡ record body.old { task = record body.old.task { frames = body.new.task.frames }; phase = idle; waker = body.new.waker }) }
+    // The turn was polled. Where it waits, the waker of the task that is polled lies in the slot of the body's source, unless none could
+    // be made.
+    ensures waits { IfOk result (λ r. Registers (exit_view r.2) → (cx.new.lacks_waker ≡ true) ⊎ (body.new.waker ≡ Some (polled_in cx.old))) }
+    // Else, where the task goes on, the next poll is asked for.
+    ensures yields { IfOk result (λ r. ending_if (callers_of body.old.task.frames) (exit_view r.2) ≡ None → (Registers (exit_view r.2) → ⊥) → cx.new.is_woken ≡ true) }
+    // A waker lies there only where the turn waits.
+    ensures slot { IfOk result (λ r. IsSome body.new.waker → Registers (exit_view r.2)) }
     ensures back { IfErr result (λ e. rows_of e.0.items ≡ rows_of fields.items) }
     ensures err { OnErr result ((body.new ≡ body.old) ⊎ (body.new ≡ at_rest body.old)) }
     ensures kept { Keeps cx.old cx.new }
@@ -69,13 +76,13 @@ pub fn play_turn(
     // The frame that ran, as it was.
     ensures before { OnOk result (IfRunning body.old.task.frames (λ p. p ≡ frame_view before.new)) }
     ensures method { OnOk result (before.new.method.0 < method_count body.old.script) }
-    ensures rest { OnOk result (body.new ≡ record body.old { task = record body.old.task { frames = body.new.task.frames }; phase = idle; armed = body.new.armed }) }
-    // Where the turn waits, a waker lies in the slot of the body's source, unless none could be made.
-    ensures waits { IfOk result (λ exit. Registers (exit_view exit) → (cx.new.lacks_waker ≡ true) ⊎ (body.new.armed ≡ true)) }
+    ensures rest { OnOk result (body.new ≡ record body.old { task = record body.old.task { frames = body.new.task.frames }; phase = idle; waker = body.new.waker }) }
+    // Where the turn waits, the waker of the task that is polled lies in the slot of the body's source, unless none could be made.
+    ensures waits { IfOk result (λ exit. Registers (exit_view exit) → (cx.new.lacks_waker ≡ true) ⊎ (body.new.waker ≡ Some (polled_in cx.old))) }
     // Else, where the task goes on, the next poll is asked for.
     ensures yields { IfOk result (λ exit. ending_if (callers_of body.old.task.frames) (exit_view exit) ≡ None → (Registers (exit_view exit) → ⊥) → cx.new.is_woken ≡ true) }
     // A waker lies there only where the turn waits.
-    ensures slot { IfOk result (λ exit. body.new.armed ≡ true → Registers (exit_view exit)) }
+    ensures slot { IfOk result (λ exit. IsSome body.new.waker → Registers (exit_view exit)) }
     ensures err { OnErr result (body.new ≡ at_rest body.old) }
     ensures back { OnErr result (rows_of fields.new.items ≡ rows_of fields.old.items) }
     ensures kept { Keeps cx.old cx.new }
@@ -112,13 +119,13 @@ pub fn play_turn_from(
     // The frame that ran, as it was.
     ensures before { OnOk result (IfRunning body.old.task.frames (λ p. p ≡ frame_view before.new)) }
     ensures method { OnOk result (before.new.method.0 < method_count body.old.script) }
-    ensures rest { OnOk result (body.new ≡ record body.old { task = record body.old.task { frames = body.new.task.frames }; phase = idle; armed = body.new.armed }) }
-    // Where the turn waits, a waker lies in the slot of the body's source, unless none could be made.
-    ensures waits { IfOk result (λ exit. Registers (exit_view exit) → (cx.new.lacks_waker ≡ true) ⊎ (body.new.armed ≡ true)) }
+    ensures rest { OnOk result (body.new ≡ record body.old { task = record body.old.task { frames = body.new.task.frames }; phase = idle; waker = body.new.waker }) }
+    // Where the turn waits, the waker of the task that is polled lies in the slot of the body's source, unless none could be made.
+    ensures waits { IfOk result (λ exit. Registers (exit_view exit) → (cx.new.lacks_waker ≡ true) ⊎ (body.new.waker ≡ Some (polled_in cx.old))) }
     // Else, where the task goes on, the next poll is asked for.
     ensures yields { IfOk result (λ exit. ending_if (callers_of body.old.task.frames) (exit_view exit) ≡ None → (Registers (exit_view exit) → ⊥) → cx.new.is_woken ≡ true) }
     // A waker lies there only where the turn waits.
-    ensures slot { IfOk result (λ exit. body.new.armed ≡ true → Registers (exit_view exit)) }
+    ensures slot { IfOk result (λ exit. IsSome body.new.waker → Registers (exit_view exit)) }
     ensures err { OnErr result (body.new ≡ at_rest body.old) }
     ensures back { OnErr result (rows_of fields.new.items ≡ rows_of fields.old.items) }
     ensures kept { Keeps cx.old cx.new }
