@@ -1,6 +1,6 @@
 //! Rows of fields, saved before they are changed.
 
-ghost use Rattle.std.specs.Prelude.{◌≡◌, ℕ, ℤ, ◌<◌, ◌≤◌, ◌+◌, ◌-◌, ◌↔◌, List, [], ◌∷◌, length, drop, get_or, take, slice_set, IsTrue, OnOk, OnErr};
+ghost use Rattle.std.specs.Prelude.{◌≡◌, ℕ, ℤ, ◌<◌, ◌≤◌, ◌+◌, ◌-◌, ◌↔◌, List, [], ◌∷◌, ◌++◌, length, drop, get_or, take, slice_set, vec_capacity, vec_len, IsTrue, OnOk, OnErr};
 ghost use Rattle.swift_interpreter.specs.Saved.{is_saved, put_back_newest, restored};
 ghost use Rattle.swift_interpreter.specs.SavedInside.{newest_first, oldest};
 ghost use Rattle.script_code.specs.Seen.{rows_of};
@@ -189,13 +189,35 @@ fn set_row(rows: &mut [SavedRow], place: usize, actor: u32, row: &[i64]) -> Resu
     copy_into(row, &mut saved.row)
 }
 
+// So many values are copied one at a time: for few it takes a fraction of what a copy of memory does.
+const FEW: usize = 8;
+
+// Appends values one at a time.
+fn push_each<T: Copy>(from: &[T], to: &mut Vec<T>)
+    requires { vec_len to.old + length from.now ≤ vec_capacity to.old }
+    ensures { to.new.items ≡ to.old.items ++ from.now }
+{
+    for value in from {
+        to.push_reserved(*value);
+    }
+}
+
 /// A copy in the buffer of another list, which grows only where it is too small.
 pub fn copy_into<T: Copy>(from: &[T], to: &mut Vec<T>) -> Result<(), AllocError>
     ensures { OnOk result (to.new.items ≡ from.now) }
 {
     to.clear();
-    if from.is_empty() {
-        return Ok(());
+    if from.len() > FEW || from.len() > to.capacity() {
+        return copy_many(from, to);
     }
+    push_each(from, to);
+    Ok(())
+}
+
+// Appends values by a copy of memory. It stands apart, so that a copy of few values makes no call.
+#[inline(never)]
+fn copy_many<T: Copy>(from: &[T], to: &mut Vec<T>) -> Result<(), AllocError>
+    ensures { OnOk result (to.new.items ≡ to.old.items ++ from.now) }
+{
     to.extend_from_slice(from)
 }

@@ -3,6 +3,7 @@
 ghost use Rattle.std.specs.Prelude.{◌≡◌, [], ◌∷◌, ◌++◌, take, length, OnOk};
 ghost use Rattle.swift_journal.specs.TailInside.{whole};
 
+use crate::words::append_words;
 use std::alloc::{AllocError, Global};
 use std::marker::Model;
 
@@ -58,7 +59,7 @@ impl Tail {
         ensures before { self.new.before ≡ self.old.before }
         ensures written { OnOk result (self.new.written ≡ self.old.written ++ words.now) }
     {
-        self.words.extend_from_slice(words)
+        append_words(&mut self.words, words)
     }
 
     // Cuts off what was written.

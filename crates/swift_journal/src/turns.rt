@@ -9,7 +9,7 @@ use crate::folded::Folded;
 use crate::journal::Ended;
 use crate::parts::{part, part_of_effects, read_ended};
 use crate::stored::{FoldedHead, FrameHead, StoredAfter, StoredEffect};
-use crate::words::short;
+use crate::words::{append_words, short};
 use std::alloc::{AllocError, Global};
 use std::marker::Model;
 use swift_types::TaskId;
@@ -220,8 +220,9 @@ fn append(
 {
     let start = words.len();
     let first_effect = effects.len();
-    words.extend_from_slice(turn.words)?;
-    if effects.extend_from_slice(turn.effects).is_err() {
+    append_words(words, turn.words)?;
+    // Nearly always there are none.
+    if !turn.effects.is_empty() && effects.extend_from_slice(turn.effects).is_err() {
         words.truncate(start);
         return Err(AllocError);
     }

@@ -1,6 +1,6 @@
 //! Numbers, and what is written as numbers.
 
-ghost use Rattle.std.specs.Prelude.{◌≡◌, ℤ, pos, [], ◌∷◌, ◌++◌, map, reverse, drop, take, slice_index_or, IfOk, OnOk};
+ghost use Rattle.std.specs.Prelude.{◌≡◌, ◌+◌, ◌≤◌, ℤ, pos, [], ◌∷◌, ◌++◌, length, map, reverse, drop, take, slice_index_or, vec_capacity, vec_len, IfOk, OnErr, OnOk};
 ghost use Rattle.swift_journal.specs.Words.{skip_bindings as after_bindings, first_pair, narrowed, number_at, numbers_of, pair_words, pairs_from, AreNarrow, rounded};
 ghost use Rattle.script_code.specs.Seen.{pair_of};
 
@@ -58,6 +58,40 @@ pub fn short(length: usize) -> Result<u32, AllocError>
     } else {
         Err(AllocError)
     }
+}
+
+// So many words are appended one at a time: for few it takes a fraction of what a copy of memory does.
+const FEW: usize = 8;
+
+// Appends words for which there is room, one at a time.
+fn push_each(words: &mut Vec<i64>, more: &[i64])
+    requires { vec_len words.old + length more.now ≤ vec_capacity words.old }
+    ensures { words.new.items ≡ words.old.items ++ more.now }
+{
+    for word in more {
+        words.push_reserved(*word);
+    }
+}
+
+// Appends words to a list, which stays as it was where a growth is refused.
+pub fn append_words(words: &mut Vec<i64>, more: &[i64]) -> Result<(), AllocError>
+    ensures words { OnOk result (words.new.items ≡ words.old.items ++ more.now) }
+    ensures same { OnErr result (words.new.items ≡ words.old.items) }
+{
+    if more.len() > FEW || more.len() > words.capacity() - words.len() {
+        return append_many(words, more);
+    }
+    push_each(words, more);
+    Ok(())
+}
+
+// The same by a copy of memory. It stands apart, so that few words take no call.
+#[inline(never)]
+fn append_many(words: &mut Vec<i64>, more: &[i64]) -> Result<(), AllocError>
+    ensures words { OnOk result (words.new.items ≡ words.old.items ++ more.now) }
+    ensures same { OnErr result (words.new.items ≡ words.old.items) }
+{
+    words.extend_from_slice(more)
 }
 
 // Appends a number of 32 bits.

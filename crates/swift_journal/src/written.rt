@@ -1,6 +1,6 @@
 //! A turn, written as words.
 
-ghost use Rattle.std.specs.Prelude.{◌≡◌, [], ◌++◌, length, IfOk, OnOk, OnErr};
+ghost use Rattle.std.specs.Prelude.{◌≡◌, [], ◌∷◌, ◌++◌, length, IfOk, OnOk, OnErr};
 ghost use Rattle.swift_journal.specs.FrameWords.{skip_frame_if, frame_if_of, frame_if_words};
 ghost use Rattle.swift_journal.specs.JournalInside.{IsPut};
 ghost use Rattle.swift_journal.specs.Records.{frame_if_lent, record_view};
@@ -40,7 +40,7 @@ pub fn write_turn(
     let exit = write_exit(words, turn.exit)?;
     let after = write_after(words, turn.after)?;
     write_effects(words, effects, turn.effects)?;
-    heads.push(Head {
+    let head = Head {
         start: words.start(),
         first_effect,
         frame,
@@ -57,7 +57,19 @@ pub fn write_turn(
         resume,
         priority: turn.env.priority,
         cancelled: turn.env.cancelled,
-    })?;
+    };
+    put_head(heads, head)?;
+    Ok(())
+}
+
+// Puts a head behind the others. Always inlined, so that it is built in its place.
+#[inline(always)]
+fn put_head(heads: &mut Vec<Head>, head: Head) -> Result<(), AllocError>
+    ensures items { OnOk result (heads.new.items ≡ heads.old.items ++ head ∷ []) }
+    ensures same { OnErr result (heads.new.items ≡ heads.old.items) }
+{
+    heads.reserve(1)?;
+    heads.push_reserved(head);
     Ok(())
 }
 

@@ -105,6 +105,7 @@ impl Ledger {
     }
 
     /// What is known of a task; of a number that no task has, nothing.
+    #[inline(always)]
     pub fn life(&self, task: TaskId) -> Life
         ensures life { result ≡ life_of task.0 self.now.log }
         ensures known { IsMade self.now.log task → task.0 < tasks_of self.now.roots self.now.log }

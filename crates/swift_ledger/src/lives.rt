@@ -73,6 +73,7 @@ impl Lives {
     }
 
     /// What is known of a task; of a number that no task has, nothing.
+    #[inline(always)]
     pub(crate) fn get(&self, task: TaskId) -> Life
         ensures { (roots : ℕ) (log : List Event) → AreLives self.now roots log → IsWellFormed roots log → result ≡ life_of task.0 log }
     {
@@ -80,6 +81,7 @@ impl Lives {
     }
 
     /// What is kept of a task; nothing past the end.
+    #[inline(always)]
     fn life_at(&self, task: TaskId) -> Life
         ensures { result ≡ slice_index_or self.now.lives.items task.0 unborn }
     {

@@ -68,8 +68,11 @@ const HELD: u64 = 1;
 // Held, and a thread may sleep.
 const AWAITED: u64 = 2;
 
-// How often a thread looks at a held lock before it sleeps.
+// How often a thread looks at a held lock before it tries to take it.
 const LOOKS: u32 = 100;
+
+// How often it tries before it sleeps.
+const TRIES: u32 = 10;
 
 impl<T: Locked, V, P: LockRule<T::Image, V>> Lock<T, V, P> {
     /// A lock that keeps this value, and its first seat, which knows what the rule says. An `Err` says that a growth was
@@ -140,17 +143,39 @@ impl<T: Locked, V, P: LockRule<T::Image, V>> Lock<T, V, P> {
         Some(self.empty(&mut seat.token))
     }
 
-    // Looks for a while whether the lock is free, as long as it is held and no thread sleeps.
+    // Looks for a while whether the lock is free. It looks too where another thread sleeps: a lock is held for a moment, and to
+    // sleep costs more. A thread that was woken holds by `AWAITED`, so who did not look would sleep in its turn, and each wake would be
+    // followed by the next.
     fn spin(&self) {
         for _ in 0..LOOKS {
-            if self.table.shared.peek(WORD) != HELD {
+            if self.table.shared.peek(WORD) == FREE {
                 return;
             }
             hint::spin_loop();
         }
     }
 
+    // Takes what the lock keeps, if it is found free within some looks. Another thread may be faster after each.
+    #[inline(never)]
+    fn lock_awake<L: Lesson<T::Image, V>>(&self, seat: &mut Seat<T, V>) -> Option<T>
+        requires same_lock { IsSeatOf self.now seat.old }
+        requires free { seat.old.held ≡ None }
+        requires rule { MayLearn P.holds seat.old.known (L.fact seat.old.known) }
+        ensures held { IfSome result (λ x. seat.new ≡ held_by seat.old (T.image x)) }
+        ensures fact { IfSome result (λ x. L.fact seat.old.known (T.image x)) }
+        ensures none { IfNone result (seat.new ≡ seat.old) }
+    {
+        'looks: for _ in 0..TRIES {
+            self.spin();
+            if let Some(value) = self.try_lock::<L>(seat) {
+                return Some(value);
+            }
+        }
+        None
+    }
+
     // Takes what the lock keeps, and sleeps until it can.
+    #[inline(never)]
     fn lock_asleep<L: Lesson<T::Image, V>, R: Wait>(&self, rt: &R, seat: &mut Seat<T, V>) -> T
         requires same_lock { IsSeatOf self.now seat.old }
         requires free { seat.old.held ≡ None }
@@ -168,7 +193,7 @@ impl<T: Locked, V, P: LockRule<T::Image, V>> Lock<T, V, P> {
         unreachable!()
     }
 
-    /// Takes what the lock keeps, and waits until it can: it looks a hundred times, and then sleeps until a thread that
+    /// Takes what the lock keeps, and waits until it can: it looks for some microseconds, and then sleeps until a thread that
     /// unlocks wakes it. Where the lock is free, it is one atomic step. What the seat learns is as for `try_lock`.
     pub fn lock<L: Lesson<T::Image, V>, R: Wait>(&self, rt: &R, seat: &mut Seat<T, V>) -> T
         requires same_lock { IsSeatOf self.now seat.old }
@@ -180,8 +205,7 @@ impl<T: Locked, V, P: LockRule<T::Image, V>> Lock<T, V, P> {
         if let Some(value) = self.try_lock::<L>(seat) {
             return value;
         }
-        self.spin();
-        if let Some(value) = self.try_lock::<L>(seat) {
+        if let Some(value) = self.lock_awake::<L>(seat) {
             return value;
         }
         self.lock_asleep::<L, R>(rt, seat)

@@ -127,6 +127,7 @@ fn number_in(ending: Ending) -> Option<i64>
 }
 
 /// The number that an event says, and that its entry has no room for.
+#[inline(always)]
 pub(crate) fn number_of(event: Event) -> Option<i64>
     ensures { option_to_list result ≡ numbers_of event }
 {
@@ -140,6 +141,7 @@ pub(crate) fn number_of(event: Event) -> Option<i64>
 
 impl Entry {
     /// The entry of an event, whose number, if it has one, will stand at this place.
+    #[inline(always)]
     pub(crate) fn of(event: Event, place: u32) -> Entry
         ensures { result ≡ entry_of event place }
     {

@@ -40,6 +40,7 @@ fn faults_equal(a: Fault, b: Fault) -> bool
     }
 }
 
+#[inline(always)]
 fn resumes_equal(a: Resume, b: Resume) -> bool
     ensures { result ≡ same_resume a b }
 {
@@ -52,6 +53,7 @@ fn resumes_equal(a: Resume, b: Resume) -> bool
 }
 
 // Whether this number and resume were given last.
+#[inline(always)]
 fn gave(given: Option<Given>, number: u32, resume: Resume) -> bool
     ensures { result ≡ was_given given number resume }
 {
@@ -62,6 +64,7 @@ fn gave(given: Option<Given>, number: u32, resume: Resume) -> bool
 }
 
 // Whether a turn was not applied yet.
+#[inline(always)]
 fn under_way(stage: Option<Stage>) -> bool
     ensures { result ≡ is_under_way stage }
 {
@@ -69,6 +72,7 @@ fn under_way(stage: Option<Stage>) -> bool
 }
 
 // Whether the turn is that of the task's last job, and was not applied.
+#[inline(always)]
 fn current(life: Life, number: u32, resume: Resume) -> bool
     ensures current { result ≡ is_current life number resume }
     ensures small { IsTrue result → number + 1 < 2 ^ 32 }
@@ -78,6 +82,7 @@ fn current(life: Life, number: u32, resume: Resume) -> bool
 }
 
 // Why nothing can be done to a task.
+#[inline(always)]
 pub(crate) fn unless_open(life: Life) -> Option<BookFault>
     ensures cause { result ≡ refusal_unless_open life }
 {
@@ -91,6 +96,7 @@ pub(crate) fn unless_open(life: Life) -> Option<BookFault>
 }
 
 // Why a turn may not begin, of a task of which this is known.
+#[inline(always)]
 fn unless_current(life: Life, number: u32, resume: Resume) -> Option<BookFault>
     ensures cause { result ≡ refused_unless (refusal_unless_open life) (is_current life number resume) }
     ensures made { result ≡ None → is_some life.origin ≡ true }

@@ -5,11 +5,14 @@ use crate::fault::Halt;
 use crate::pool::{Next, Pool, is_for};
 use crossbeam_utils::CachePadded;
 use std::alloc::{AllocError, Global};
-use std::array;
-use std::sync::{Mutex, Wait};
+use std::sync::{Mutex, MutexGuard, Wait};
+use std::{array, hint};
 use swift_script::Script;
 use swift_types::ExecId;
 use swift_types::limits::WORKERS;
+
+// How often a worker looks at a lock that is held before it may sleep.
+const LOOKS: u32 = 100;
 
 /// The pool under its lock, and a bell for each worker (our own).
 ///
@@ -37,14 +40,26 @@ impl SharedPool {
         }
     }
 
+    // Locks the pool. It looks for a while first, also where another worker sleeps: the pool is locked for a moment, and to sleep
+    // costs more. `Mutex::lock` alone does not look there.
+    fn lock<R: Wait>(&self, rt: &R) -> MutexGuard<'_, Pool> {
+        for _ in 0..LOOKS {
+            if let Some(pool) = self.pool.try_lock() {
+                return pool;
+            }
+            hint::spin_loop();
+        }
+        self.pool.lock(rt)
+    }
+
     /// Puts the first tokens, in order. It rings nobody, so it is for the time before the workers start.
     pub fn put_first<R: Wait>(&self, rt: &R, tokens: &[ExecId]) -> Result<(), AllocError> {
-        self.pool.lock(rt).put_all(tokens)
+        self.lock(rt).put_all(tokens)
     }
 
     /// What a worker does first, or after a pause (`Pool::next`).
     pub fn next<R: Wait>(&self, rt: &R, script: &Script, workers: u32, worker: u32) -> Next {
-        let mut pool = self.pool.lock(rt);
+        let mut pool = self.lock(rt);
         let next = pool.next(script, workers, worker);
         self.note(worker, next);
         next
@@ -60,7 +75,7 @@ impl SharedPool {
         workers: u32,
         worker: u32,
     ) -> Next {
-        let mut pool = self.pool.lock(rt);
+        let mut pool = self.lock(rt);
         let next = pool.turn_over(tokens, done, script, workers, worker);
         self.note(worker, next);
         let left = pool.token_count();
@@ -100,7 +115,7 @@ impl SharedPool {
 
     /// The run is given up, for the first cause that is told.
     pub fn give_up<R: Wait>(&self, rt: &R, halt: Halt) {
-        self.pool.lock(rt).give_up(halt);
+        self.lock(rt).give_up(halt);
         self.ring_all();
     }
 

@@ -47,7 +47,7 @@ returns-clause-ok c =
     let effects : h.effects ≡ length stored = omega arith in
     record {
       head = h;
-      put = c.in_ok-push.ensures.items;
+      put = c.in_ok-put_head.ensures.items;
       span = span_same (span_of h) _ _ _ _ start size first effects;
       says = record_reads h stored (frame_view t.frame.now) t.outer.now t.resume (exit_view t.exit.now) (effect_views t.effects.now) (frame_if_lent t.after)
           r f o _ _ _ _

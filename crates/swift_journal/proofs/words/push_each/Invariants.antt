@@ -1,0 +1,9 @@
+use Rattle.std.proofs.Common.{◌≡◌, ◌+◌, ◌≤◌, ◌++◌, length, take, vec_len}
+use Rattle.std.specs.Prelude.{vec_capacity}
+use Rattle.swift_journal.proofs.words.push_each.Given as goal
+
+abbrev pub invariant-loop-word : goal.invariant-loop-word
+invariant-loop-word l = record {
+  items : l.words.items ≡ l.initial.words.items ++ take l.word-index l.more;
+  room : vec_len l.words + length l.more ≤ vec_capacity l.words + l.word-index;
+}
