@@ -1,5 +1,7 @@
 use Rattle.std.proofs.Common.{◌≡◌, ℕ, List, [], ◌∷◌, ◌++◌, ap, arith, map, subst, sym, take, ◌∙◌, ◌+◌}
 use Rattle.std.proofs.lemmas.List.{map-append}
+use Rattle.std.specs.declared.alloc.Global.{Global}
+use Rattle.std.specs.declared.vec.Vec.{Vec}
 use Rattle.swift_values.specs.Values.{values_view}
 use Rattle.nuchapay_values.specs.Notes.{AreNotes}
 use Rattle.nuchapay_values.proofs.Annotated.{notes_next}
@@ -10,8 +12,8 @@ loop-turn-preserved c =
     let p = c.args.script.now in
     let e = c.args.executor.0 in
     let turns = c.args.values.now in
-    let note = c.in_ok-note_of.ok in
+    let note = c.in_ok-note_of.field-0 in
     let before = c.loop-turn.notes.items in
-    let pushed = ap (map (λ n. n.items)) c.in_ok-push.ensures ∙ map-append (λ n. n.items) before (note ∷ []) in
+    let pushed = ap (map (λ (n : Vec ℕ Global). n.items)) c.in_ok-push.ensures.items ∙ map-append (λ (n : Vec ℕ Global). n.items) before (note ∷ []) in
     subst (λ (ns : List (List ℕ)). AreNotes p e (map values_view (take (c.loop-turn.turn-index + 1) turns)) ns) (sym pushed)
-    (notes_next p e turns c.loop-turn.turn-index (map (λ n. n.items) before) c.turn-item.result note.items (omega arith) c.turn-item.is c.loop-turn.invariant c.in_ok-note_of.ensures)
+    (notes_next p e turns c.loop-turn.turn-index (map (λ (n : Vec ℕ Global). n.items) before) c.turn-item.result note.items (omega arith) c.turn-item.is c.loop-turn.invariant c.in_ok-note_of.ensures)
