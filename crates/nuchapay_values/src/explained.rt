@@ -4,11 +4,11 @@ use crate::fields::{copy_of, make};
 use crate::invariants::invariants_of;
 use crate::lines::line_at;
 use crate::names::{Found, find_turn};
-use crate::notes::{write_broken, write_change, write_changes, write_place};
-use crate::number::number;
+use crate::notes::{write_broken, write_changes};
 use crate::printed::{method_text, method_word};
 use crate::report::heading_lines;
 use crate::statement::{Names, write_statement, write_variable};
+use crate::text::Text;
 use crate::words::Words;
 use script_code::Instruction;
 use std::alloc::{AllocError, Global};
@@ -38,9 +38,12 @@ struct Turn<'a> {
     start: &'a [Vec<i64>],
     journal: &'a Journal,
     place: usize,
-    // The actor of its method, and its place among those of the executor.
+    // Its method: the actor, its place among those of the executor, the name, the number of parameters and the instructions.
     actor: ActorId,
     row: usize,
+    name: &'a [u8],
+    params: usize,
+    instructions: &'a [Instruction],
 }
 
 /// Explains a turn of a report on a script, by its task and its number there (the format is our own): the line of the report for it; its method, and at which
@@ -82,55 +85,86 @@ fn explain_at(
     let Some(checkpoint) = report.checkpoints.get(executor) else {
         return Ok(Explained::Nowhere);
     };
+    let Ok(number) = u32::try_from(executor) else {
+        return Ok(Explained::Nowhere);
+    };
     if place >= journal.len() {
         return Ok(Explained::Nowhere);
     }
-    let record = journal.read(alloc, place)?;
-    let last = last_turn(journal, place);
-    let method = record.frame.method;
+    let method = journal.method(place);
     if method.0 as usize >= script.method_count() {
         return Ok(Explained::Nowhere);
     }
-    let Ok(executor_number) = u32::try_from(executor) else {
-        return Ok(Explained::Nowhere);
-    };
-    let executor_id = ExecId(executor_number);
     let actor = script.method_actor(method);
     let turn = Turn {
         script,
-        executor: executor_id,
+        executor: ExecId(number),
         start: checkpoint.fields(),
         journal,
         place,
         actor,
-        row: row_of(script.executor_actors(executor_id), actor),
-    };
-    let text = report_text(alloc, script, report, false)?;
-    let line = line_at(&text, lines_before(report, executor).saturating_add(place));
-    let printed = Words::new(alloc, script.printed())?;
-    let word = method_word(&printed, actor.0 as usize, script.method_name(method));
-    let names = Names {
-        script,
-        printed: &printed,
-        word,
+        row: row_of(script.executor_actors(ExecId(number)), actor),
+        name: script.method_name(method),
         params: script.method_params(method) as usize,
-        executor: executor_id,
-        actor,
+        instructions: script.instructions(method),
     };
-    let values = turn_values(alloc, script, turn.start, journal)?;
-    let mut out = Vec::new(alloc);
-    out.extend_from_slice(line)?;
-    out.extend_from_slice(b"\nmethod\n    ")?;
-    out.extend_from_slice(method_text(&printed, word))?;
-    write_ends(&mut out, &names, script.instructions(method), &record)?;
-    out.extend_from_slice(b"\nbegan with\n    ")?;
-    write_resume(&mut out, alloc, line)?;
-    write_env(&mut out, &record)?;
-    write_variables(&mut out, &names, &record.frame.variables)?;
-    write_bindings(&mut out, script, &record)?;
-    write_fields(&mut out, alloc, &turn, &printed, &values)?;
-    write_meanwhile(&mut out, &turn, last, record.task.0, &values)?;
-    Ok(Explained::Found(out))
+    let record = journal.read(alloc, place)?;
+    let lines = lines_before(report, executor).saturating_add(place);
+    let text = report_text(alloc, script, report, false)?;
+    let said = turn_text(
+        alloc,
+        &turn,
+        &record,
+        line_at(&text, lines),
+        last_turn(journal, place),
+    )?;
+    Ok(Explained::Found(said))
+}
+
+// The text of a turn, with its line in the report, where the last turn of its task there was at this place.
+fn turn_text(
+    alloc: Global,
+    turn: &Turn<'_>,
+    record: &OwnedRecord,
+    line: &[u8],
+    last: Option<usize>,
+) -> Result<Vec<u8>, AllocError> {
+    let said = Words::new(alloc, line)?;
+    let printed = Words::new(alloc, turn.script.printed())?;
+    let values = turn_values(alloc, turn.script, turn.start, turn.journal)?;
+    let mut out = Text::new(alloc);
+    out.say(line);
+    write_begin(&mut out, turn, &printed, record, &said);
+    out.part(fields_text(alloc, turn, &printed, &values));
+    write_meanwhile(&mut out, turn, last, record.task.0, &values);
+    out.into_bytes()
+}
+
+// The method of a turn, at which statement it began and its frame goes on, what it began with, its variables and the bindings.
+fn write_begin(
+    out: &mut Text,
+    turn: &Turn<'_>,
+    printed: &Words<'_>,
+    record: &OwnedRecord,
+    line: &Words<'_>,
+) {
+    let word = method_word(printed, turn.actor.0 as usize, turn.name);
+    let names = Names {
+        script: turn.script,
+        printed,
+        word,
+        params: turn.params,
+        executor: turn.executor,
+        actor: turn.actor,
+    };
+    out.say(b"\nmethod\n    ");
+    out.say(method_text(printed, word));
+    write_ends(out, &names, turn.instructions, record);
+    out.say(b"\nbegan with\n    ");
+    write_resume(out, line);
+    write_env(out, record);
+    write_variables(out, &names, &record.frame.variables);
+    write_bindings(out, turn.script, record);
 }
 
 // The place of an actor among those of its executor.
@@ -159,83 +193,66 @@ fn lines_before(report: &Report, executor: usize) -> usize {
 }
 
 // What a turn began with, as its line has it: what stands between the six words in front and the arrow.
-fn write_resume(out: &mut Vec<u8>, alloc: Global, line: &[u8]) -> Result<(), AllocError> {
-    let words = Words::new(alloc, line)?;
-    let arrow = words.find(b"->", 6);
-    out.extend_from_slice(words.from_to(6, arrow.saturating_sub(1)))?;
-    out.extend_from_slice(b"\n")
+fn write_resume(out: &mut Text, line: &Words<'_>) {
+    let arrow = line.find(b"->", 6);
+    out.say(line.from_to(6, arrow.saturating_sub(1)));
+    out.say(b"\n")
 }
 
 // What a turn was given.
-fn write_env(out: &mut Vec<u8>, record: &OwnedRecord) -> Result<(), AllocError> {
-    out.extend_from_slice(b"    priority ")?;
-    number(out, record.env.priority.number())?;
+fn write_env(out: &mut Text, record: &OwnedRecord) {
+    out.say(b"    priority ");
+    out.number(record.env.priority.number());
     if record.env.cancelled {
-        out.extend_from_slice(b", cancelled\n")
+        out.say(b", cancelled\n")
     } else {
-        out.extend_from_slice(b", not cancelled\n")
+        out.say(b", not cancelled\n")
     }
 }
 
 // At which statement a turn began, and at which its frame goes on, where it does.
 fn write_ends(
-    out: &mut Vec<u8>,
+    out: &mut Text,
     names: &Names<'_>,
     instructions: &[Instruction],
     record: &OwnedRecord,
-) -> Result<(), AllocError> {
-    out.extend_from_slice(b"\n    began at ")?;
-    write_statement(out, names, instructions, record.frame.line as usize)?;
+) {
+    out.say(b"\n    began at ");
+    write_statement(out, names, instructions, record.frame.line as usize);
     if let Some(after) = &record.after {
-        out.extend_from_slice(b"\n    goes on at ")?;
-        write_statement(out, names, instructions, after.line as usize)?;
+        out.say(b"\n    goes on at ");
+        write_statement(out, names, instructions, after.line as usize);
     }
-    Ok(())
 }
 
 // A line for each variable: a parameter by its name, any other by its number.
-fn write_variables(
-    out: &mut Vec<u8>,
-    names: &Names<'_>,
-    variables: &[i64],
-) -> Result<(), AllocError> {
+fn write_variables(out: &mut Text, names: &Names<'_>, variables: &[i64]) {
     for (place, value) in variables.iter().enumerate() {
-        out.extend_from_slice(b"    ")?;
-        write_variable(out, names, place)?;
-        out.extend_from_slice(b" ")?;
-        number(out, *value)?;
-        out.extend_from_slice(b"\n")?;
+        out.say(b"    ");
+        write_variable(out, names, place);
+        out.say(b" ");
+        out.number(*value);
+        out.say(b"\n");
     }
-    Ok(())
 }
 
-fn write_binding(
-    out: &mut Vec<u8>,
-    script: &Script,
-    local: LocalId,
-    value: i64,
-) -> Result<(), AllocError> {
-    out.extend_from_slice(b"    @")?;
-    out.extend_from_slice(script.local_name(local))?;
-    out.extend_from_slice(b" ")?;
-    number(out, value)?;
-    out.extend_from_slice(b"\n")
+fn write_binding(out: &mut Text, script: &Script, local: LocalId, value: i64) {
+    out.say(b"    @");
+    out.say(script.local_name(local));
+    out.say(b" ");
+    out.number(value);
+    out.say(b"\n")
 }
 
 // A line for each binding that stood, the outermost first.
-fn write_bindings(
-    out: &mut Vec<u8>,
-    script: &Script,
-    record: &OwnedRecord,
-) -> Result<(), AllocError> {
+fn write_bindings(out: &mut Text, script: &Script, record: &OwnedRecord) {
     for place in 0..record.outer.depth() {
         let (local, value) = record.outer.entry(place);
-        write_binding(out, script, local, value)?;
+        write_binding(out, script, local, value);
     }
     for binding in &record.frame.own {
-        write_binding(out, script, binding.local, binding.value)?;
+        write_binding(out, script, binding.local, binding.value);
     }
-    Ok(())
 }
 
 // The fields from before a turn.
@@ -265,112 +282,115 @@ fn changed_to(changes: &[Change], actor: usize, field: usize) -> Option<i64> {
 }
 
 // The fields of a turn's actor before it, and those that it changed, its actor's or another one's.
-fn write_row(
-    out: &mut Vec<u8>,
-    turn: &Turn<'_>,
-    fields: &[Vec<i64>],
-    changes: &[Change],
-) -> Result<(), AllocError> {
-    out.extend_from_slice(b"fields\n")?;
+fn write_row(out: &mut Text, turn: &Turn<'_>, fields: &[Vec<i64>], changes: &[Change]) {
+    out.say(b"fields\n");
     if let Some(row) = fields.get(turn.row) {
         for (field, value) in row.iter().enumerate() {
-            out.extend_from_slice(b"    ")?;
-            write_place(out, turn.script, turn.executor, turn.row, field)?;
-            out.extend_from_slice(b" ")?;
-            number(out, *value)?;
+            out.say(b"    ");
+            out.place(turn.script, turn.executor, turn.row, field);
+            out.say(b" ");
+            out.number(*value);
             if let Some(after) = changed_to(changes, turn.row, field) {
-                out.extend_from_slice(b" -> ")?;
-                number(out, after)?;
+                out.say(b" -> ");
+                out.number(after);
             }
-            out.extend_from_slice(b"\n")?;
+            out.say(b"\n");
         }
     }
     for change in changes {
         if change.actor != turn.row {
-            out.extend_from_slice(b"    ")?;
-            write_change(out, turn.script, turn.executor, change)?;
-            out.extend_from_slice(b"\n")?;
+            out.say(b"    ");
+            out.change(turn.script, turn.executor, change);
+            out.say(b"\n");
         }
     }
-    Ok(())
 }
 
 // The fields, and of a turn that was undone what it would have left.
-fn write_fields(
-    out: &mut Vec<u8>,
+fn fields_text(
     alloc: Global,
     turn: &Turn<'_>,
     printed: &Words<'_>,
     values: &[TurnValues],
-) -> Result<(), AllocError> {
+) -> Result<Vec<u8>, AllocError> {
     let Some(own) = values.get(turn.place) else {
-        return Ok(());
+        return Ok(Vec::new(alloc));
     };
     let mut fields = fields_before(alloc, turn, values)?;
+    let mut out = Text::new(alloc);
     if let Outcome::Kept = own.outcome {
-        return write_row(out, turn, &fields, &own.changes);
+        write_row(&mut out, turn, &fields, &own.changes);
+    } else {
+        write_row(&mut out, turn, &fields, &[]);
+        out.part(undone_text(alloc, turn, printed, &mut fields, own));
     }
-    write_row(out, turn, &fields, &[])?;
+    out.into_bytes()
+}
+
+// What a turn that was undone would have left, where that is another thing than it found.
+fn undone_text(
+    alloc: Global,
+    turn: &Turn<'_>,
+    printed: &Words<'_>,
+    fields: &mut [Vec<i64>],
+    own: &TurnValues,
+) -> Result<Vec<u8>, AllocError> {
     if own.changes.is_empty() {
-        return Ok(());
+        return Ok(Vec::new(alloc));
     }
     let invariants = invariants_of(alloc, turn.script, printed, turn.executor)?;
-    out.extend_from_slice(b"would have left\n")?;
-    write_changes(out, turn.script, turn.executor, b"", &own.changes)?;
-    write_broken(
-        out,
-        alloc,
-        turn.script,
-        turn.executor,
-        &invariants,
-        &mut fields,
-        own,
-    )
+    let mut out = Vec::from_slice(alloc, b"would have left\n")?;
+    write_changes(&mut out, turn.script, turn.executor, b"", &own.changes)?;
+    if let Outcome::Broke(place) = own.outcome {
+        write_broken(
+            &mut out,
+            alloc,
+            turn.script,
+            turn.executor,
+            &invariants,
+            fields,
+            &own.changes,
+            place,
+        )?;
+    }
+    Ok(out)
 }
 
 // A line for each change of a field of a turn's actor since the last turn of its task there.
 fn write_meanwhile(
-    out: &mut Vec<u8>,
+    out: &mut Text,
     turn: &Turn<'_>,
     last: Option<usize>,
     task: u32,
     values: &[TurnValues],
-) -> Result<(), AllocError> {
+) {
     let Some(last) = last else {
-        return Ok(());
+        return;
     };
     for place in last.saturating_add(1)..turn.place.min(values.len()).min(turn.journal.len()) {
         let other = &values[place];
         if let Outcome::Kept = other.outcome {
-            write_changed(out, turn, task, place, &other.changes)?;
+            write_changed(out, turn, task, place, &other.changes);
         }
     }
-    Ok(())
 }
 
 // A line for each change of a field of a turn's actor that the turn at a place made.
-fn write_changed(
-    out: &mut Vec<u8>,
-    turn: &Turn<'_>,
-    task: u32,
-    place: usize,
-    changes: &[Change],
-) -> Result<(), AllocError> {
+fn write_changed(out: &mut Text, turn: &Turn<'_>, task: u32, place: usize, changes: &[Change]) {
     if place >= turn.journal.len() {
-        return Ok(());
+        return;
     }
     for change in changes {
         if change.actor == turn.row {
-            out.extend_from_slice(b"changed while t")?;
-            number(out, task)?;
-            out.extend_from_slice(b" was waiting: ")?;
-            write_change(out, turn.script, turn.executor, change)?;
-            out.extend_from_slice(b" by t")?;
-            number(out, turn.journal.task(place).0)?;
-            out.extend_from_slice(b".")?;
-            number(out, turn.journal.number(place))?;
-            out.extend_from_slice(b"\n")?;
+            out.say(b"changed while t");
+            out.number(task);
+            out.say(b" was waiting: ");
+            out.change(turn.script, turn.executor, change);
+            out.say(b" by t");
+            out.number(turn.journal.task(place).0);
+            out.say(b".");
+            out.number(turn.journal.number(place));
+            out.say(b"\n");
         }
     }
-    Ok(())
 }

@@ -21,6 +21,8 @@ mod printed;
 mod report;
 // Statements in words.
 mod statement;
+// Texts that are being written.
+mod text;
 // The words of a text.
 mod words;
 

@@ -1,11 +1,10 @@
 //! Statements in words, by the instructions that they were compiled to.
 
 use crate::notes::actor_at;
-use crate::number::number;
 use crate::printed::parameter;
+use crate::text::Text;
 use crate::words::Words;
 use script_code::{Act, Awaited, Call, Cancelled, FieldPlace, Formula, Instruction, Place};
-use std::alloc::AllocError;
 use swift_script::Script;
 use swift_types::{ActorId, ExecId, MethodId, Operator, RootId};
 
@@ -21,30 +20,26 @@ pub struct Names<'a> {
 }
 
 /// Appends a variable by its name where it is a parameter, and else by its number: `variable 2`.
-pub fn write_variable(
-    out: &mut Vec<u8>,
-    names: &Names<'_>,
-    variable: usize,
-) -> Result<(), AllocError> {
+pub fn write_variable(out: &mut Text, names: &Names<'_>, variable: usize) {
     if variable < names.params {
-        out.extend_from_slice(parameter(names.printed, names.word, variable))
+        out.say(parameter(names.printed, names.word, variable))
     } else {
-        out.extend_from_slice(b"variable ")?;
-        number(out, variable)
+        out.say(b"variable ");
+        out.number(variable)
     }
 }
 
 // A field by its name, and for one of another actor that in front.
-fn write_field(out: &mut Vec<u8>, names: &Names<'_>, place: FieldPlace) -> Result<(), AllocError> {
+fn write_field(out: &mut Text, names: &Names<'_>, place: FieldPlace) {
     let actor = actor_at(names.script, names.executor, place.actor as usize);
     if actor != names.actor {
-        out.extend_from_slice(names.script.actor_name(actor))?;
-        out.extend_from_slice(b".")?;
+        out.say(names.script.actor_name(actor));
+        out.say(b".");
     }
-    out.extend_from_slice(names.script.field_name(actor, place.field as usize))
+    out.say(names.script.field_name(actor, place.field as usize))
 }
 
-fn write_place(out: &mut Vec<u8>, names: &Names<'_>, place: Place) -> Result<(), AllocError> {
+fn write_place(out: &mut Text, names: &Names<'_>, place: Place) {
     match place {
         Place::Variable(variable) => write_variable(out, names, variable as usize),
         Place::Field(field) => write_field(out, names, field),
@@ -68,133 +63,100 @@ fn sign(operator: Operator) -> &'static [u8] {
 }
 
 // An expression, with each use of an operator in a parenthesis, as the printed form has it.
-fn write_formula(
-    out: &mut Vec<u8>,
-    names: &Names<'_>,
-    formula: &Formula,
-) -> Result<(), AllocError> {
+fn write_formula(out: &mut Text, names: &Names<'_>, formula: &Formula) {
     match formula {
-        Formula::Number(value) => number(out, *value),
+        Formula::Number(value) => out.number(*value),
         Formula::Variable(variable) => write_variable(out, names, *variable as usize),
         Formula::Field(place) => write_field(out, names, *place),
         Formula::Local(local, _) => {
-            out.extend_from_slice(b"@ ")?;
-            out.extend_from_slice(names.script.local_name(*local))
+            out.say(b"@ ");
+            out.say(names.script.local_name(*local))
         }
-        Formula::Priority => out.extend_from_slice(b"priority"),
-        Formula::Cancelled => out.extend_from_slice(b"cancelled"),
+        Formula::Priority => out.say(b"priority"),
+        Formula::Cancelled => out.say(b"cancelled"),
         Formula::Negate(operand) => {
-            out.extend_from_slice(b"( - ")?;
-            write_formula(out, names, operand)?;
-            out.extend_from_slice(b" )")
+            out.say(b"( - ");
+            write_formula(out, names, operand);
+            out.say(b" )")
         }
         Formula::Not(operand) => {
-            out.extend_from_slice(b"( ! ")?;
-            write_formula(out, names, operand)?;
-            out.extend_from_slice(b" )")
+            out.say(b"( ! ");
+            write_formula(out, names, operand);
+            out.say(b" )")
         }
         Formula::Binary(operator, left, right) => {
-            out.extend_from_slice(b"( ")?;
-            write_formula(out, names, left)?;
-            out.extend_from_slice(sign(*operator))?;
-            write_formula(out, names, right)?;
-            out.extend_from_slice(b" )")
+            out.say(b"( ");
+            write_formula(out, names, left);
+            out.say(sign(*operator));
+            write_formula(out, names, right);
+            out.say(b" )")
         }
     }
 }
 
 // A statement of one word and an expression.
-fn write_with(
-    out: &mut Vec<u8>,
-    names: &Names<'_>,
-    word: &[u8],
-    formula: &Formula,
-) -> Result<(), AllocError> {
-    out.extend_from_slice(word)?;
-    out.extend_from_slice(b" ")?;
+fn write_with(out: &mut Text, names: &Names<'_>, word: &[u8], formula: &Formula) {
+    out.say(word);
+    out.say(b" ");
     write_formula(out, names, formula)
 }
 
-fn write_method(
-    out: &mut Vec<u8>,
-    names: &Names<'_>,
-    actor: ActorId,
-    method: MethodId,
-) -> Result<(), AllocError> {
-    out.extend_from_slice(names.script.actor_name(actor))?;
-    out.extend_from_slice(b" . ")?;
+fn write_method(out: &mut Text, names: &Names<'_>, actor: ActorId, method: MethodId) {
+    out.say(names.script.actor_name(actor));
+    out.say(b" . ");
     if (method.0 as usize) < names.script.method_count() {
-        out.extend_from_slice(names.script.method_name(method))?;
+        out.say(names.script.method_name(method));
     }
-    Ok(())
 }
 
-fn write_call(
-    out: &mut Vec<u8>,
-    names: &Names<'_>,
-    word: &[u8],
-    call: &Call,
-) -> Result<(), AllocError> {
-    out.extend_from_slice(word)?;
-    out.extend_from_slice(b" ")?;
-    write_method(out, names, call.actor, call.method)?;
-    out.extend_from_slice(b" (")?;
+fn write_call(out: &mut Text, names: &Names<'_>, word: &[u8], call: &Call) {
+    out.say(word);
+    out.say(b" ");
+    write_method(out, names, call.actor, call.method);
+    out.say(b" (");
     let mut between: &[u8] = b" ";
     for arg in &call.args {
-        out.extend_from_slice(between)?;
+        out.say(between);
         between = b" , ";
-        write_formula(out, names, arg)?;
+        write_formula(out, names, arg);
     }
-    out.extend_from_slice(b" )")
+    out.say(b" )")
 }
 
-fn write_root(
-    out: &mut Vec<u8>,
-    names: &Names<'_>,
-    word: &[u8],
-    root: RootId,
-) -> Result<(), AllocError> {
-    out.extend_from_slice(word)?;
-    out.extend_from_slice(b" ")?;
-    out.extend_from_slice(names.script.root_name(root))
+fn write_root(out: &mut Text, names: &Names<'_>, word: &[u8], root: RootId) {
+    out.say(word);
+    out.say(b" ");
+    out.say(names.script.root_name(root))
 }
 
-fn write_awaited(
-    out: &mut Vec<u8>,
-    names: &Names<'_>,
-    awaited: &Awaited,
-) -> Result<(), AllocError> {
+fn write_awaited(out: &mut Text, names: &Names<'_>, awaited: &Awaited) {
     match awaited {
         Awaited::Call(call) => write_call(out, names, b"await", call),
         Awaited::Root(root) => write_root(out, names, b"await root", *root),
-        Awaited::Task(_) => out.extend_from_slice(b"await task"),
-        Awaited::Next(_) => out.extend_from_slice(b"await next"),
+        Awaited::Task(_) => out.say(b"await task"),
+        Awaited::Next(_) => out.say(b"await next"),
     }
 }
 
-fn write_cancel(
-    out: &mut Vec<u8>,
-    names: &Names<'_>,
-    cancelled: Cancelled,
-) -> Result<(), AllocError> {
+fn write_cancel(out: &mut Text, names: &Names<'_>, cancelled: Cancelled) {
     match cancelled {
         Cancelled::Root(root) => write_root(out, names, b"cancel root", root),
-        Cancelled::Task(_) => out.extend_from_slice(b"cancel task"),
-        Cancelled::Group(_) => out.extend_from_slice(b"cancel group"),
+        Cancelled::Task(_) => out.say(b"cancel task"),
+        Cancelled::Group(_) => out.say(b"cancel group"),
     }
 }
 
 // The await that stands open at an instruction: what is waited for there, and where its value goes.
 fn write_open_await(
-    out: &mut Vec<u8>,
+    out: &mut Text,
     names: &Names<'_>,
     instructions: &[Instruction],
     line: usize,
     place: Option<Place>,
-) -> Result<(), AllocError> {
+) {
     if let Some(place) = place {
-        write_place(out, names, place)?;
-        out.extend_from_slice(b" = ")?;
+        write_place(out, names, place);
+        out.say(b" = ");
     }
     for instruction in instructions {
         if let Act::Wait(awaited) = &instruction.act {
@@ -203,49 +165,49 @@ fn write_open_await(
             }
         }
     }
-    out.extend_from_slice(b"await")
+    out.say(b"await")
 }
 
 /// Appends the statement that an instruction stands for, without its blocks and its semicolon; a test may be that of an `if` or of a
 /// `while`. In time linear in the method.
 pub fn write_statement(
-    out: &mut Vec<u8>,
+    out: &mut Text,
     names: &Names<'_>,
     instructions: &[Instruction],
     line: usize,
-) -> Result<(), AllocError> {
+) {
     let Some(instruction) = instructions.get(line) else {
-        return out.extend_from_slice(b"the end of the method");
+        return out.say(b"the end of the method");
     };
     match &instruction.act {
-        Act::End => out.extend_from_slice(b"the end of the method"),
+        Act::End => out.say(b"the end of the method"),
         Act::Test(test) => write_with(out, names, b"the test", test),
         Act::SetVariable(variable, value) => {
-            write_variable(out, names, *variable as usize)?;
+            write_variable(out, names, *variable as usize);
             write_with(out, names, b" =", value)
         }
         Act::SetField(place, value) => {
-            write_field(out, names, *place)?;
+            write_field(out, names, *place);
             write_with(out, names, b" =", value)
         }
         Act::Return(value) => write_with(out, names, b"return", value),
         Act::Throw(value) => write_with(out, names, b"throw", value),
-        Act::Check => out.extend_from_slice(b"check"),
-        Act::Yield => out.extend_from_slice(b"yield"),
+        Act::Check => out.say(b"check"),
+        Act::Yield => out.say(b"yield"),
         Act::Wait(awaited) => write_awaited(out, names, awaited),
         Act::Receive(place, _) => write_open_await(out, names, instructions, line, *place),
         Act::Spawn(call, _, _) => write_call(out, names, b"spawn", call),
         Act::Detach(call, _, _) => write_call(out, names, b"detach", call),
         Act::Add(_, _, call, _) => write_call(out, names, b"add", call),
         Act::Cancel(cancelled) => write_cancel(out, names, *cancelled),
-        Act::Open(_) => out.extend_from_slice(b"group"),
-        Act::Close => out.extend_from_slice(b"the end of a group"),
+        Act::Open(_) => out.say(b"group"),
+        Act::Close => out.say(b"the end of a group"),
         Act::Bind(local, value) => {
-            out.extend_from_slice(b"bind ")?;
-            out.extend_from_slice(names.script.local_name(*local))?;
+            out.say(b"bind ");
+            out.say(names.script.local_name(*local));
             write_with(out, names, b" =", value)
         }
-        Act::Unbind => out.extend_from_slice(b"the end of a bind"),
-        Act::Assume | Act::Isolated => out.extend_from_slice(b"assume"),
+        Act::Unbind => out.say(b"the end of a bind"),
+        Act::Assume | Act::Isolated => out.say(b"assume"),
     }
 }

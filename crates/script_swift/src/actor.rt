@@ -15,62 +15,62 @@ use script_grammar::{Actor, Decl, Expr, Field, Method, Name};
 use std::alloc::{AllocError, Global};
 
 // The executor of an actor that has one of its own is Swift's.
-fn say_executor(page: &mut Page, executor: &Option<Name>) -> Result<(), AllocError> {
+fn say_executor(page: &mut Page, executor: &Option<Name>) {
     match executor {
         Some(name) => {
-            page.begin()?;
-            page.say("nonisolated var unownedExecutor: UnownedSerialExecutor { Executors.")?;
-            say_member(page, name)?;
+            page.begin();
+            page.say("nonisolated var unownedExecutor: UnownedSerialExecutor { Executors.");
+            say_member(page, name);
             page.end(".asUnownedSerialExecutor() }")
         }
-        None => Ok(()),
+        None => {}
     }
 }
 
-fn say_field(page: &mut Page, field: &Field) -> Result<(), AllocError> {
-    page.begin()?;
-    page.say("var ")?;
-    say_value(page, &field.name)?;
-    page.say(": Int64 = ")?;
-    page.say_number(field.start)?;
+fn say_field(page: &mut Page, field: &Field) {
+    page.begin();
+    page.say("var ");
+    say_value(page, &field.name);
+    page.say(": Int64 = ");
+    page.say_number(field.start);
     page.end("")
 }
 
-fn say_invariant(page: &mut Page, scope: &Scope<'_>, test: &Expr) -> Result<(), AllocError> {
-    page.end("")?;
-    page.line("// see 5")?;
-    page.begin()?;
-    page.open("func invariantHolds() throws -> Bool {")?;
-    page.begin()?;
-    say_test(page, scope, test)?;
-    page.end("")?;
+fn say_invariant(page: &mut Page, scope: &Scope<'_>, test: &Expr) {
+    page.end("");
+    page.line("// see 5");
+    page.begin();
+    page.open("func invariantHolds() throws -> Bool {");
+    page.begin();
+    say_test(page, scope, test);
+    page.end("");
     page.close("}")
 }
 
 // The test of the invariant of an actor, from one of the same executor.
-fn say_check(page: &mut Page, actor: &Actor, other: &Actor) -> Result<(), AllocError> {
-    page.begin()?;
+fn say_check(page: &mut Page, actor: &Actor, other: &Actor) {
+    page.begin();
     if is_same(&actor.name, &other.name) {
-        page.say("Run.check(\"")?;
-        page.say_bytes(&other.name.text)?;
+        page.say("Run.check(\"");
+        page.say_bytes(&other.name.text);
         page.end("\", invariantHolds)")
     } else {
-        say_type(page, &other.name)?;
-        page.say(".shared.assumeIsolated { Run.check(\"")?;
-        page.say_bytes(&other.name.text)?;
+        say_type(page, &other.name);
+        page.say(".shared.assumeIsolated { Run.check(\"");
+        page.say_bytes(&other.name.text);
         page.end("\", $0.invariantHolds) }")
     }
 }
 
 // What is tested at the end of each turn, if anything is.
-fn say_turn_ends(page: &mut Page, decls: &[Decl], actor: &Actor) -> Result<(), AllocError> {
-    page.end("")?;
-    page.begin()?;
-    page.open("func turnEnds() {")?;
+fn say_turn_ends(page: &mut Page, decls: &[Decl], actor: &Actor) {
+    page.end("");
+    page.begin();
+    page.open("func turnEnds() {");
     for decl in decls {
         if let Decl::Actor(other) = decl {
             if other.invariant.is_some() && is_together(actor, other) {
-                say_check(page, actor, other)?;
+                say_check(page, actor, other);
             }
         }
     }
@@ -80,34 +80,34 @@ fn say_turn_ends(page: &mut Page, decls: &[Decl], actor: &Actor) -> Result<(), A
 // What stands before an actor's methods.
 fn members(alloc: Global, decls: &[Decl], actor: &Actor) -> Result<Vec<u8>, AllocError> {
     let mut page = Page::new(alloc, 1);
-    page.begin()?;
-    page.say("static let shared = ")?;
-    say_type(&mut page, &actor.name)?;
-    page.end("()")?;
-    say_executor(&mut page, &actor.executor)?;
+    page.begin();
+    page.say("static let shared = ");
+    say_type(&mut page, &actor.name);
+    page.end("()");
+    say_executor(&mut page, &actor.executor);
     if !actor.fields.is_empty() {
-        page.end("")?;
+        page.end("");
     }
     for field in &actor.fields {
-        say_field(&mut page, field)?;
+        say_field(&mut page, field);
     }
     if let Some(test) = &actor.invariant {
         let scope = Scope::new(alloc, decls, actor, &[], false);
-        say_invariant(&mut page, &scope, test)?;
+        say_invariant(&mut page, &scope, test);
     }
     if has_invariant(decls, actor) {
-        say_turn_ends(&mut page, decls, actor)?;
+        say_turn_ends(&mut page, decls, actor);
     }
-    Ok(page.into_text())
+    page.into_text()
 }
 
 // A parameter that the method sets is a variable.
-fn say_variable(page: &mut Page, param: &Name) -> Result<(), AllocError> {
-    page.begin()?;
-    page.say("var ")?;
-    say_value(page, param)?;
-    page.say(" = ")?;
-    say_value(page, param)?;
+fn say_variable(page: &mut Page, param: &Name) {
+    page.begin();
+    page.say("var ");
+    say_value(page, param);
+    page.say(" = ");
+    say_value(page, param);
     page.end("")
 }
 
@@ -122,18 +122,18 @@ fn body(
     let mut page = Page::new(alloc, 2);
     for param in &method.params {
         if assigns(&method.body, param) {
-            say_variable(&mut page, param)?;
+            say_variable(&mut page, param);
         }
     }
     if is_checked {
-        page.line("defer { turnEnds() }")?;
+        page.line("defer { turnEnds() }");
     }
     let mut scope = Scope::new(alloc, decls, actor, &method.body, is_checked);
-    say_stmts(&mut page, &mut scope, &method.body)?;
+    say_stmts(&mut page, &mut scope, &method.body);
     if !ends_with_exit(&method.body) {
-        page.line("return 0")?;
+        page.line("return 0");
     }
-    Ok(page.into_text())
+    page.into_text()
 }
 
 fn params(alloc: Global, params: &[Name]) -> Result<Vec<Vec<u8>>, AllocError>

@@ -4,7 +4,6 @@ use crate::page::Page;
 use crate::scope::Scope;
 use crate::words::{say_member, say_value};
 use script_grammar::{Expr, Name};
-use std::alloc::AllocError;
 use swift_types::Operator;
 
 /// What an expression is wanted as.
@@ -108,47 +107,41 @@ fn frame(expr: &Expr, want: Want, level: u8) -> (&'static str, &'static str) {
     }
 }
 
-fn say_name(page: &mut Page, scope: &Scope<'_>, name: &Name) -> Result<(), AllocError> {
+fn say_name(page: &mut Page, scope: &Scope<'_>, name: &Name) {
     if scope.is_assumed(name) {
-        page.say("other.")?;
+        page.say("other.");
     }
     say_value(page, name)
 }
 
-fn say_expr(
-    page: &mut Page,
-    scope: &Scope<'_>,
-    expr: &Expr,
-    want: Want,
-    level: u8,
-) -> Result<(), AllocError> {
+fn say_expr(page: &mut Page, scope: &Scope<'_>, expr: &Expr, want: Want, level: u8) {
     let (before, after) = frame(expr, want, level);
-    page.say(before)?;
+    page.say(before);
     match expr {
-        Expr::Number(number) => page.say_number(*number)?,
-        Expr::Name(name) => say_name(page, scope, name)?,
+        Expr::Number(number) => page.say_number(*number),
+        Expr::Name(name) => say_name(page, scope, name),
         Expr::Local(name) => {
-            page.say("Local.")?;
-            say_member(page, name)?;
+            page.say("Local.");
+            say_member(page, name);
         }
-        Expr::Priority => page.say("Run.priority")?,
-        Expr::Cancelled => page.say("Run.cancelled")?,
+        Expr::Priority => page.say("Run.priority"),
+        Expr::Cancelled => page.say("Run.cancelled"),
         Expr::Negate(operand) => {
-            page.say(minus(operand))?;
-            say_expr(page, scope, operand, Want::Number, ATOM)?;
+            page.say(minus(operand));
+            say_expr(page, scope, operand, Want::Number, ATOM);
         }
         Expr::Not(operand) => {
             let (sign, wanted, held, end) = inverted(operand);
-            page.say(sign)?;
-            say_expr(page, scope, operand, wanted, held)?;
-            page.say(end)?;
+            page.say(sign);
+            say_expr(page, scope, operand, wanted, held);
+            page.say(end);
         }
         Expr::Binary(sign, left, right) => {
             let written = operator(*sign);
             let (first, second) = sides(written.level);
-            say_expr(page, scope, left, written.takes, first)?;
-            page.say(written.sign)?;
-            say_expr(page, scope, right, written.takes, second)?;
+            say_expr(page, scope, left, written.takes, first);
+            page.say(written.sign);
+            say_expr(page, scope, right, written.takes, second);
         }
     }
     page.say(after)
@@ -199,30 +192,26 @@ pub(crate) fn may_throw(expr: &Expr) -> bool {
 }
 
 /// A number, after `try` where it can overflow.
-pub(crate) fn say_number(
-    page: &mut Page,
-    scope: &Scope<'_>,
-    expr: &Expr,
-) -> Result<(), AllocError> {
-    say_try(page, may_throw(expr))?;
+pub(crate) fn say_number(page: &mut Page, scope: &Scope<'_>, expr: &Expr) {
+    say_try(page, may_throw(expr));
     say_expr(page, scope, expr, Want::Number, ANY)
 }
 
 /// A test, after `try` where it can overflow.
-pub(crate) fn say_test(page: &mut Page, scope: &Scope<'_>, expr: &Expr) -> Result<(), AllocError> {
-    say_try(page, may_throw(expr))?;
+pub(crate) fn say_test(page: &mut Page, scope: &Scope<'_>, expr: &Expr) {
+    say_try(page, may_throw(expr));
     say_expr(page, scope, expr, Want::Test, ANY)
 }
 
 /// `try`, or nothing.
-pub(crate) fn say_try(page: &mut Page, may_throw: bool) -> Result<(), AllocError> {
+pub(crate) fn say_try(page: &mut Page, may_throw: bool) {
     match may_throw {
         true => page.say("try "),
-        false => Ok(()),
+        false => {}
     }
 }
 
 /// A number, where a `try` stands before it.
-pub(crate) fn say_tried(page: &mut Page, scope: &Scope<'_>, expr: &Expr) -> Result<(), AllocError> {
+pub(crate) fn say_tried(page: &mut Page, scope: &Scope<'_>, expr: &Expr) {
     say_expr(page, scope, expr, Want::Number, ANY)
 }

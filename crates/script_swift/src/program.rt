@@ -7,7 +7,6 @@ ghost use Rattle.script_swift.specs.Programs.{actor_text, method_text, next_para
 use std::alloc::{AllocError, Global};
 
 /// A method of a Swift actor (our own).
-#[derive(Drop)]
 pub struct SwiftMethod {
     /// Its name.
     pub name: Vec<u8>,
@@ -17,8 +16,16 @@ pub struct SwiftMethod {
     pub body: Vec<u8>,
 }
 
+impl Drop for SwiftMethod {
+    fn drop(self) {
+        let SwiftMethod { name, params, body } = self;
+        drop(name);
+        drop(params);
+        drop(body);
+    }
+}
+
 /// A Swift actor (our own).
-#[derive(Drop)]
 pub struct SwiftActor {
     /// Its name.
     pub name: Vec<u8>,
@@ -28,8 +35,20 @@ pub struct SwiftActor {
     pub methods: Vec<SwiftMethod>,
 }
 
+impl Drop for SwiftActor {
+    fn drop(self) {
+        let SwiftActor {
+            name,
+            members,
+            methods,
+        } = self;
+        drop(name);
+        drop(members);
+        drop(methods);
+    }
+}
+
 /// A Swift program (our own).
-#[derive(Drop)]
 pub struct SwiftProgram {
     /// The lines before its actors.
     pub head: Vec<u8>,
@@ -37,6 +56,15 @@ pub struct SwiftProgram {
     pub actors: Vec<SwiftActor>,
     /// The lines after its actors.
     pub tail: Vec<u8>,
+}
+
+impl Drop for SwiftProgram {
+    fn drop(self) {
+        let SwiftProgram { head, actors, tail } = self;
+        drop(head);
+        drop(actors);
+        drop(tail);
+    }
 }
 
 // Puts a text after what is written.

@@ -20,8 +20,14 @@ struct Known<'a> {
     handle: Handle,
 }
 
+/// What a place has that a block hides or adds to: how many tasks and groups have names, and the actor of an `assume`.
+#[derive(Clone, Copy)]
+pub(crate) struct Outside<'a> {
+    count: usize,
+    assumed: Option<&'a Actor>,
+}
+
 /// Where a statement of a method stands.
-#[derive(Drop)]
 pub(crate) struct Scope<'a> {
     /// The whole script.
     pub decls: &'a [Decl],
@@ -34,6 +40,20 @@ pub(crate) struct Scope<'a> {
     /// Whether an invariant is tested at the end of each turn.
     pub is_checked: bool,
     handles: Vec<Known<'a>>,
+}
+
+impl Drop for Scope<'_> {
+    fn drop(self) {
+        let Scope {
+            decls: _,
+            actor: _,
+            body: _,
+            assumed: _,
+            is_checked: _,
+            handles,
+        } = self;
+        drop(handles);
+    }
 }
 
 impl<'a> Scope<'a> {
@@ -55,14 +75,18 @@ impl<'a> Scope<'a> {
         }
     }
 
-    /// How many tasks and groups have names here.
-    pub(crate) fn count(&self) -> usize {
-        self.handles.len()
+    /// What the place after a block that begins here has.
+    pub(crate) fn outside(&self) -> Outside<'a> {
+        Outside {
+            count: self.handles.len(),
+            assumed: self.assumed,
+        }
     }
 
-    /// Forgets the names that came after so many.
-    pub(crate) fn forget(&mut self, count: usize) {
-        self.handles.truncate(count);
+    /// Leaves a block.
+    pub(crate) fn leave(&mut self, outside: Outside<'a>) {
+        self.handles.truncate(outside.count);
+        self.assumed = outside.assumed;
     }
 
     /// Names a task or a group.

@@ -10,7 +10,6 @@ use crate::scope::{
 };
 use crate::words::{is_same, say_member, say_type, say_value};
 use script_grammar::{Action, Expr, Head, Make, Name, Stmt, Value, Wait};
-use std::alloc::AllocError;
 
 // What becomes of what is waited for.
 #[derive(Clone, Copy)]
@@ -21,41 +20,36 @@ enum Target<'a> {
 }
 
 /// The end of a turn, where an invariant is tested there.
-pub(crate) fn say_turn_end(page: &mut Page, scope: &Scope<'_>) -> Result<(), AllocError> {
+pub(crate) fn say_turn_end(page: &mut Page, scope: &Scope<'_>) {
     match scope.is_checked {
         true => page.line("turnEnds()"),
-        false => Ok(()),
+        false => {}
     }
 }
 
 // A field or a variable that is set.
-fn say_target(page: &mut Page, scope: &Scope<'_>, name: &Name) -> Result<(), AllocError> {
+fn say_target(page: &mut Page, scope: &Scope<'_>, name: &Name) {
     if scope.is_assumed(name) {
-        page.say("other.")?;
+        page.say("other.");
     }
     say_value(page, name)
 }
 
 // A variable that is made: `var` where the method sets it again.
-fn say_new(page: &mut Page, scope: &Scope<'_>, name: &Name) -> Result<(), AllocError> {
+fn say_new(page: &mut Page, scope: &Scope<'_>, name: &Name) {
     page.say(if assigns(scope.body, name) {
         "var "
     } else {
         "let "
-    })?;
+    });
     say_value(page, name)
 }
 
-fn say_let(
-    page: &mut Page,
-    scope: &Scope<'_>,
-    name: &Name,
-    value: &Expr,
-) -> Result<(), AllocError> {
-    page.begin()?;
-    say_new(page, scope, name)?;
-    page.say(": Int64 = ")?;
-    say_number(page, scope, value)?;
+fn say_let(page: &mut Page, scope: &Scope<'_>, name: &Name, value: &Expr) {
+    page.begin();
+    say_new(page, scope, name);
+    page.say(": Int64 = ");
+    say_number(page, scope, value);
     page.end("")
 }
 
@@ -67,168 +61,131 @@ fn is_itself(name: &Name, value: &Expr) -> bool {
     }
 }
 
-fn say_assign(
-    page: &mut Page,
-    scope: &Scope<'_>,
-    name: &Name,
-    value: &Expr,
-) -> Result<(), AllocError> {
-    page.begin()?;
+fn say_assign(page: &mut Page, scope: &Scope<'_>, name: &Name, value: &Expr) {
+    page.begin();
     if is_itself(name, value) {
-        page.say("_")?;
+        page.say("_");
     } else {
-        say_target(page, scope, name)?;
+        say_target(page, scope, name);
     }
-    page.say(" = ")?;
-    say_number(page, scope, value)?;
+    page.say(" = ");
+    say_number(page, scope, value);
     page.end("")
 }
 
 // What a wait gives is set.
-fn say_set(page: &mut Page, scope: &Scope<'_>, target: Target<'_>) -> Result<(), AllocError> {
-    page.begin()?;
+fn say_set(page: &mut Page, scope: &Scope<'_>, target: Target<'_>) {
+    page.begin();
     match target {
-        Target::None => page.say("_")?,
-        Target::New(name) | Target::Known(name) => say_target(page, scope, name)?,
+        Target::None => page.say("_"),
+        Target::New(name) | Target::Known(name) => say_target(page, scope, name),
     }
     page.say(" = ")
 }
 
-fn say_wait(
-    page: &mut Page,
-    scope: &Scope<'_>,
-    target: Target<'_>,
-    wait: &Wait,
-) -> Result<(), AllocError> {
-    say_turn_end(page, scope)?;
+fn say_wait(page: &mut Page, scope: &Scope<'_>, target: Target<'_>, wait: &Wait) {
+    say_turn_end(page, scope);
     match &wait.other {
         Some(other) => say_caught(page, scope, target, wait, other),
         None => {
             match target {
                 Target::New(name) => {
-                    page.begin()?;
-                    say_new(page, scope, name)?;
-                    page.say(" = ")?;
+                    page.begin();
+                    say_new(page, scope, name);
+                    page.say(" = ");
                 }
-                _ => say_set(page, scope, target)?,
+                _ => say_set(page, scope, target),
             }
-            page.say("try await ")?;
-            say_awaited(page, scope, &wait.awaited)?;
+            page.say("try await ");
+            say_awaited(page, scope, &wait.awaited);
             page.end("")
         }
     }
 }
 
 // A wait with an `else`.
-fn say_caught(
-    page: &mut Page,
-    scope: &Scope<'_>,
-    target: Target<'_>,
-    wait: &Wait,
-    other: &Expr,
-) -> Result<(), AllocError> {
+fn say_caught(page: &mut Page, scope: &Scope<'_>, target: Target<'_>, wait: &Wait, other: &Expr) {
     if let Target::New(name) = target {
-        page.begin()?;
-        say_new(page, scope, name)?;
-        page.end(": Int64")?;
+        page.begin();
+        say_new(page, scope, name);
+        page.end(": Int64");
     }
     if is_kept(wait) {
-        page.begin()?;
-        page.open("do {")?;
-        keep_arguments(page, scope, &wait.awaited)?;
-        say_do(page, scope, target, wait, other)?;
+        page.begin();
+        page.open("do {");
+        keep_arguments(page, scope, &wait.awaited);
+        say_do(page, scope, target, wait, other);
         page.close("}")
     } else {
         say_do(page, scope, target, wait, other)
     }
 }
 
-fn say_do(
-    page: &mut Page,
-    scope: &Scope<'_>,
-    target: Target<'_>,
-    wait: &Wait,
-    other: &Expr,
-) -> Result<(), AllocError> {
-    page.begin()?;
-    page.open("do {")?;
-    say_set(page, scope, target)?;
-    page.say("try await ")?;
-    say_awaited_later(page, scope, &wait.awaited)?;
-    page.end("")?;
-    page.close_open("} catch {")?;
+fn say_do(page: &mut Page, scope: &Scope<'_>, target: Target<'_>, wait: &Wait, other: &Expr) {
+    page.begin();
+    page.open("do {");
+    say_set(page, scope, target);
+    page.say("try await ");
+    say_awaited_later(page, scope, &wait.awaited);
+    page.end("");
+    page.close_open("} catch {");
     match target {
         Target::None => {
-            page.begin()?;
-            page.say("_ = ")?;
-            say_number(page, scope, other)?;
-            page.end("")?;
+            page.begin();
+            page.say("_ = ");
+            say_number(page, scope, other);
+            page.end("");
         }
-        Target::New(name) | Target::Known(name) => say_assign(page, scope, name, other)?,
+        Target::New(name) | Target::Known(name) => say_assign(page, scope, name, other),
     }
     page.close("}")
 }
 
-fn say_task_let(
-    page: &mut Page,
-    scope: &Scope<'_>,
-    name: &Name,
-    make: &Make,
-) -> Result<(), AllocError> {
-    say_make_note(page, make)?;
-    page.begin()?;
-    page.say("let ")?;
-    say_value(page, name)?;
-    page.say(" = ")?;
+fn say_task_let(page: &mut Page, scope: &Scope<'_>, name: &Name, make: &Make) {
+    say_make_note(page, make);
+    page.begin();
+    page.say("let ");
+    say_value(page, name);
+    page.say(" = ");
     say_make(page, scope, make)
 }
 
-fn say_make_note(page: &mut Page, make: &Make) -> Result<(), AllocError> {
+fn say_make_note(page: &mut Page, make: &Make) {
     match make {
         Make::Spawn(_, None) => page.line("// see 3"),
-        _ => Ok(()),
+        _ => {}
     }
 }
 
-fn say_cancel(page: &mut Page, scope: &Scope<'_>, name: &Name) -> Result<(), AllocError> {
-    page.begin()?;
+fn say_cancel(page: &mut Page, scope: &Scope<'_>, name: &Name) {
+    page.begin();
     match scope.handle(name) {
         Some(Handle::Group) => {
-            say_value(page, name)?;
+            say_value(page, name);
             page.end(".cancelAll() // see 1")
         }
         _ => {
-            say_task(page, scope, name)?;
+            say_task(page, scope, name);
             page.end(".cancel() // see 1")
         }
     }
 }
 
 // A word, a number after it, and the end of the line.
-fn say_after(
-    page: &mut Page,
-    scope: &Scope<'_>,
-    before: &str,
-    value: &Expr,
-    after: &str,
-) -> Result<(), AllocError> {
-    page.begin()?;
-    page.say(before)?;
-    say_number(page, scope, value)?;
+fn say_after(page: &mut Page, scope: &Scope<'_>, before: &str, value: &Expr, after: &str) {
+    page.begin();
+    page.say(before);
+    say_number(page, scope, value);
     page.end(after)
 }
 
-fn say_action<'a>(
-    page: &mut Page,
-    scope: &mut Scope<'a>,
-    action: &'a Action,
-) -> Result<(), AllocError> {
+fn say_action<'a>(page: &mut Page, scope: &mut Scope<'a>, action: &'a Action) {
     match action {
         Action::Let(name, Value::Expr(value)) => say_let(page, scope, name, value),
         Action::Let(name, Value::Await(wait)) => say_wait(page, scope, Target::New(name), wait),
         Action::LetTask(name, make) => {
-            say_task_let(page, scope, name, make)?;
-            scope.know(name, Handle::Task)
+            say_task_let(page, scope, name, make);
+            page.need(scope.know(name, Handle::Task))
         }
         Action::Assign(name, Value::Expr(value)) => say_assign(page, scope, name, value),
         Action::Assign(name, Value::Await(wait)) => {
@@ -236,8 +193,8 @@ fn say_action<'a>(
         }
         Action::Await(wait) => say_wait(page, scope, Target::None, wait),
         Action::Make(make) => {
-            say_make_note(page, make)?;
-            page.begin()?;
+            say_make_note(page, make);
+            page.begin();
             say_make(page, scope, make)
         }
         Action::Add(add) => say_add(page, scope, add),
@@ -246,177 +203,152 @@ fn say_action<'a>(
         Action::Throw(value) => say_after(page, scope, "throw Fault.thrown(", value, ")"),
         Action::Check => page.line("try Task.checkCancellation() // see 2"),
         Action::Yield => {
-            say_turn_end(page, scope)?;
+            say_turn_end(page, scope);
             page.line("await Task.yield()")
         }
     }
 }
 
 // A test, and the brace after it.
-fn say_headed(
-    page: &mut Page,
-    scope: &Scope<'_>,
-    word: &str,
-    test: &Expr,
-) -> Result<(), AllocError> {
-    page.begin()?;
-    page.say(word)?;
-    say_test(page, scope, test)?;
+fn say_headed(page: &mut Page, scope: &Scope<'_>, word: &str, test: &Expr) {
+    page.begin();
+    page.say(word);
+    say_test(page, scope, test);
     page.open(" {")
 }
 
 // The line of a `bind`.
-fn say_bind(
-    page: &mut Page,
-    scope: &Scope<'_>,
-    local: &Name,
-    value: &Expr,
-    is_left: bool,
-) -> Result<(), AllocError> {
-    page.begin()?;
+fn say_bind(page: &mut Page, scope: &Scope<'_>, local: &Name, value: &Expr, is_left: bool) {
+    page.begin();
     if is_left {
-        page.say("if let m_result = ")?;
+        page.say("if let m_result = ");
     }
-    page.say("try await Local.$")?;
-    say_member(page, local)?;
-    page.say(".withValue(")?;
-    say_tried(page, scope, value)?;
+    page.say("try await Local.$");
+    say_member(page, local);
+    page.say(".withValue(");
+    say_tried(page, scope, value);
     if is_left {
-        page.open(", operation: { () async throws -> Int64? in")?;
+        page.open(", operation: { () async throws -> Int64? in");
     } else {
-        page.open(") { () async throws -> Void in")?;
+        page.open(") { () async throws -> Void in");
     }
     page.line("_ = self")
 }
 
 // The line of a group. Swift takes it for a race where a closure in its block awaits the group, so it gets a copy, which is the same group.
-fn say_group_head(page: &mut Page, name: &Name, is_copied: bool) -> Result<(), AllocError> {
-    page.begin()?;
-    page.say("try await withThrowingTaskGroup(of: Int64.self) { ")?;
+fn say_group_head(page: &mut Page, name: &Name, is_copied: bool) {
+    page.begin();
+    page.say("try await withThrowingTaskGroup(of: Int64.self) { ");
     if is_copied {
-        page.open("m_group in")?;
-        page.begin()?;
-        page.say("nonisolated(unsafe) var ")?;
-        say_value(page, name)?;
-        page.end(" = m_group")?;
+        page.open("m_group in");
+        page.begin();
+        page.say("nonisolated(unsafe) var ");
+        say_value(page, name);
+        page.end(" = m_group");
     } else {
-        say_value(page, name)?;
-        page.open(" in")?;
+        say_value(page, name);
+        page.open(" in");
     }
     page.line("_ = self")
 }
 
 // The end of a `bind`, which hands on what its block returns.
-fn say_bound(page: &mut Page, is_left: bool, block: &[Stmt]) -> Result<(), AllocError> {
+fn say_bound(page: &mut Page, is_left: bool, block: &[Stmt]) {
     if !is_left {
         return page.close("}");
     }
     if !ends_with_exit(block) {
-        page.line("return nil")?;
+        page.line("return nil");
     }
-    page.close_open("}) {")?;
-    page.line("return m_result")?;
+    page.close_open("}) {");
+    page.line("return m_result");
     page.close("}")
 }
 
+// The line of an `assume`, after which the fields are another actor's. False where it is of another executor: then its block never runs.
+fn say_assume<'a>(page: &mut Page, scope: &mut Scope<'a>, name: &Name) -> bool {
+    match find_actor(scope.decls, name) {
+        Some(actor) if is_together(actor, scope.actor) => {
+            page.begin();
+            page.say("try Run.assume(");
+            say_type(page, name);
+            page.open(".shared) { other in");
+            scope.assumed = Some(actor);
+            true
+        }
+        _ => {
+            page.line("throw Fault.isolation // see 6");
+            false
+        }
+    }
+}
+
+// What stands before a block. False where the block never runs.
+fn begin_block<'a>(page: &mut Page, scope: &mut Scope<'a>, head: &'a Head, block: &[Stmt]) -> bool {
+    match head {
+        Head::If(test) => say_headed(page, scope, "if ", test),
+        Head::While(test) => say_headed(page, scope, "while ", test),
+        Head::Bind(local, value) => say_bind(page, scope, local, value, returns(block)),
+        Head::Group(name) => {
+            say_group_head(page, name, has_closure(block));
+            page.need(scope.know(name, Handle::Group));
+        }
+        Head::Assume(name) => return say_assume(page, scope, name),
+    }
+    true
+}
+
+// What stands after a block.
+fn end_block(page: &mut Page, scope: &Scope<'_>, head: &Head, block: &[Stmt]) {
+    match head {
+        Head::Bind(_, _) => say_bound(page, returns(block), block),
+        Head::Group(_) => {
+            if !ends_with_exit(block) {
+                say_turn_end(page, scope);
+            }
+            page.close("}")
+        }
+        Head::If(_) | Head::While(_) | Head::Assume(_) => page.close("}"),
+    }
+}
+
 #[cycle(statement)]
-fn say_stmt<'a>(page: &mut Page, scope: &mut Scope<'a>, stmt: &'a Stmt) -> Result<(), AllocError> {
+fn say_stmt<'a>(page: &mut Page, scope: &mut Scope<'a>, stmt: &'a Stmt) {
     match stmt {
         Stmt::Do(action) => say_action(page, scope, action),
-        Stmt::Block(Head::If(test), block) => {
-            say_headed(page, scope, "if ", test)?;
-            say_block(page, scope, block)?;
-            page.close("}")
-        }
-        Stmt::Block(Head::While(test), block) => {
-            say_headed(page, scope, "while ", test)?;
-            say_block(page, scope, block)?;
-            page.close("}")
-        }
-        Stmt::Block(Head::Bind(local, value), block) => {
-            let is_left = returns(block);
-            say_bind(page, scope, local, value, is_left)?;
-            say_block(page, scope, block)?;
-            say_bound(page, is_left, block)
-        }
-        Stmt::Block(Head::Group(name), block) => {
-            say_group_head(page, name, has_closure(block))?;
-            say_group(page, scope, name, block)?;
-            page.close("}")
-        }
-        Stmt::Block(Head::Assume(name), block) => say_assume(page, scope, name, block),
+        Stmt::Block(head, block) => say_block(page, scope, head, block),
         Stmt::IfElse(test, held, failed) => {
-            say_headed(page, scope, "if ", test)?;
-            say_block(page, scope, held)?;
-            page.close_open("} else {")?;
-            say_block(page, scope, failed)?;
+            say_headed(page, scope, "if ", test);
+            say_inner(page, scope, held);
+            page.close_open("} else {");
+            say_inner(page, scope, failed);
             page.close("}")
         }
+    }
+}
+
+#[cycle(statement)]
+fn say_block<'a>(page: &mut Page, scope: &mut Scope<'a>, head: &'a Head, block: &'a [Stmt]) {
+    let outside = scope.outside();
+    if begin_block(page, scope, head, block) {
+        say_stmts(page, scope, block);
+        scope.leave(outside);
+        end_block(page, scope, head, block)
     }
 }
 
 // Statements whose names end with them.
 #[cycle(statement)]
-fn say_block<'a>(
-    page: &mut Page,
-    scope: &mut Scope<'a>,
-    block: &'a [Stmt],
-) -> Result<(), AllocError> {
-    let count = scope.count();
-    say_stmts(page, scope, block)?;
-    scope.forget(count);
-    Ok(())
-}
-
-#[cycle(statement)]
-fn say_group<'a>(
-    page: &mut Page,
-    scope: &mut Scope<'a>,
-    name: &'a Name,
-    block: &'a [Stmt],
-) -> Result<(), AllocError> {
-    let count = scope.count();
-    scope.know(name, Handle::Group)?;
-    say_stmts(page, scope, block)?;
-    scope.forget(count);
-    if !ends_with_exit(block) {
-        say_turn_end(page, scope)?;
-    }
-    Ok(())
-}
-
-#[cycle(statement)]
-fn say_assume<'a>(
-    page: &mut Page,
-    scope: &mut Scope<'a>,
-    name: &'a Name,
-    block: &'a [Stmt],
-) -> Result<(), AllocError> {
-    match find_actor(scope.decls, name) {
-        Some(actor) if is_together(actor, scope.actor) => {
-            page.begin()?;
-            page.say("try Run.assume(")?;
-            say_type(page, name)?;
-            page.open(".shared) { other in")?;
-            let outer = scope.assumed;
-            scope.assumed = Some(actor);
-            say_block(page, scope, block)?;
-            scope.assumed = outer;
-            page.close("}")
-        }
-        _ => page.line("throw Fault.isolation // see 6"),
-    }
+fn say_inner<'a>(page: &mut Page, scope: &mut Scope<'a>, block: &'a [Stmt]) {
+    let outside = scope.outside();
+    say_stmts(page, scope, block);
+    scope.leave(outside)
 }
 
 /// Statements, one after the other.
 #[cycle(statement)]
-pub(crate) fn say_stmts<'a>(
-    page: &mut Page,
-    scope: &mut Scope<'a>,
-    stmts: &'a [Stmt],
-) -> Result<(), AllocError> {
+pub(crate) fn say_stmts<'a>(page: &mut Page, scope: &mut Scope<'a>, stmts: &'a [Stmt]) {
     for stmt in stmts {
-        say_stmt(page, scope, stmt)?;
+        say_stmt(page, scope, stmt);
     }
-    Ok(())
 }

@@ -13,184 +13,182 @@ use crate::words::{say_member, say_type, say_value};
 use script_grammar::{Actor, Decl, Executor, ExecutorKind, Local, Name, Root};
 use std::alloc::{AllocError, Global};
 
-fn say_lines(page: &mut Page, lines: &[&str]) -> Result<(), AllocError> {
+fn say_lines(page: &mut Page, lines: &[&str]) {
     for line in lines {
-        page.end(line)?;
+        page.end(line);
     }
-    Ok(())
 }
 
-fn say_executor(page: &mut Page, executor: &Executor) -> Result<(), AllocError> {
-    page.begin()?;
-    page.say("static let ")?;
-    say_member(page, &executor.name)?;
-    page.say(" = Run.Executor(")?;
+fn say_executor(page: &mut Page, executor: &Executor) {
+    page.begin();
+    page.say("static let ");
+    say_member(page, &executor.name);
+    page.say(" = Run.Executor(");
     match executor.kind {
-        ExecutorKind::Priority => page.say(".priority")?,
-        ExecutorKind::Fifo => page.say(".fifo")?,
+        ExecutorKind::Priority => page.say(".priority"),
+        ExecutorKind::Fifo => page.say(".fifo"),
         ExecutorKind::Pinned(worker) => {
-            page.say(".pinned(")?;
-            page.say_number(worker)?;
-            page.say(")")?;
+            page.say(".pinned(");
+            page.say_number(worker);
+            page.say(")");
         }
     }
     page.end(")")
 }
 
-fn say_executors(page: &mut Page, decls: &[Decl]) -> Result<(), AllocError> {
-    page.begin()?;
-    page.open("enum Executors {")?;
+fn say_executors(page: &mut Page, decls: &[Decl]) {
+    page.begin();
+    page.open("enum Executors {");
     for decl in decls {
         if let Decl::Executor(executor) = decl {
-            say_executor(page, executor)?;
+            say_executor(page, executor);
         }
     }
-    page.close("}")?;
+    page.close("}");
     page.end("")
 }
 
-fn say_local(page: &mut Page, local: &Local) -> Result<(), AllocError> {
-    page.begin()?;
-    page.say("@TaskLocal static var ")?;
-    say_member(page, &local.name)?;
-    page.say(": Int64 = ")?;
-    page.say_number(local.default)?;
+fn say_local(page: &mut Page, local: &Local) {
+    page.begin();
+    page.say("@TaskLocal static var ");
+    say_member(page, &local.name);
+    page.say(": Int64 = ");
+    page.say_number(local.default);
     page.end("")
 }
 
-fn say_locals(page: &mut Page, decls: &[Decl]) -> Result<(), AllocError> {
-    page.begin()?;
-    page.open("enum Local {")?;
+fn say_locals(page: &mut Page, decls: &[Decl]) {
+    page.begin();
+    page.open("enum Local {");
     for decl in decls {
         if let Decl::Local(local) = decl {
-            say_local(page, local)?;
+            say_local(page, local);
         }
     }
-    page.close("}")?;
+    page.close("}");
     page.end("")
 }
 
 // What stands before the actors.
 fn head(alloc: Global, decls: &[Decl]) -> Result<Vec<u8>, AllocError> {
     let mut page = Page::new(alloc, 0);
-    say_lines(&mut page, &NOTES)?;
-    say_executors(&mut page, decls)?;
-    say_locals(&mut page, decls)?;
-    Ok(page.into_text())
+    say_lines(&mut page, &NOTES);
+    say_executors(&mut page, decls);
+    say_locals(&mut page, decls);
+    page.into_text()
 }
 
-fn say_root(page: &mut Page, decls: &[Decl], root: &Root) -> Result<(), AllocError> {
-    page.begin()?;
-    page.say("static let ")?;
-    say_member(page, &root.name)?;
-    page.say(" = Task.detached(priority: ")?;
-    page.say(priority(root.priority))?;
-    page.say(") { @Sendable @")?;
-    say_type(page, &root.actor)?;
-    page.say(" [m_task = Run.made(.root(\"")?;
-    page.say_bytes(&root.name.text)?;
-    page.open("\"))] in")?;
-    page.begin()?;
-    page.say("try await Run.noted(m_task) { try await ")?;
-    say_called(page, decls, &root.actor, &root.method)?;
-    page.say("(")?;
+fn say_root(page: &mut Page, decls: &[Decl], root: &Root) {
+    page.begin();
+    page.say("static let ");
+    say_member(page, &root.name);
+    page.say(" = Task.detached(priority: ");
+    page.say(priority(root.priority));
+    page.say(") { @Sendable @");
+    say_type(page, &root.actor);
+    page.say(" [m_task = Run.made(.root(\"");
+    page.say_bytes(&root.name.text);
+    page.open("\"))] in");
+    page.begin();
+    page.say("try await Run.noted(m_task) { try await ");
+    say_called(page, decls, &root.actor, &root.method);
+    page.say("(");
     let mut between = "";
     for arg in &root.args {
-        page.say(between)?;
-        page.say_number(*arg)?;
+        page.say(between);
+        page.say_number(*arg);
         between = ", ";
     }
-    page.end(") }")?;
+    page.end(") }");
     page.close("}")
 }
 
-fn say_roots(page: &mut Page, decls: &[Decl]) -> Result<(), AllocError> {
-    page.begin()?;
-    page.open("enum Root {")?;
+fn say_roots(page: &mut Page, decls: &[Decl]) {
+    page.begin();
+    page.open("enum Root {");
     for decl in decls {
         if let Decl::Root(root) = decl {
-            say_root(page, decls, root)?;
+            say_root(page, decls, root);
         }
     }
-    page.close("}")?;
+    page.close("}");
     page.end("")
 }
 
 // The executor of an actor is kept from its jobs until all roots are there.
-fn say_hold(page: &mut Page, actor: &Actor) -> Result<(), AllocError> {
-    page.begin()?;
-    page.say("Task.detached(priority: .high) { @Sendable @")?;
-    say_type(page, &actor.name)?;
+fn say_hold(page: &mut Page, actor: &Actor) {
+    page.begin();
+    page.say("Task.detached(priority: .high) { @Sendable @");
+    say_type(page, &actor.name);
     page.end(" in Run.hold() }")
 }
 
-fn say_fields(page: &mut Page, actor: &Actor) -> Result<(), AllocError> {
+fn say_fields(page: &mut Page, actor: &Actor) {
     for field in &actor.fields {
-        page.begin()?;
-        page.say("await print(\"")?;
-        page.say_bytes(&actor.name.text)?;
-        page.say(".")?;
-        page.say_bytes(&field.name.text)?;
-        page.say("\", ")?;
-        say_type(page, &actor.name)?;
-        page.say(".shared.")?;
-        say_value(page, &field.name)?;
-        page.end(")")?;
+        page.begin();
+        page.say("await print(\"");
+        page.say_bytes(&actor.name.text);
+        page.say(".");
+        page.say_bytes(&field.name.text);
+        page.say("\", ");
+        say_type(page, &actor.name);
+        page.say(".shared.");
+        say_value(page, &field.name);
+        page.end(")");
     }
-    Ok(())
 }
 
-fn say_start(page: &mut Page, decls: &[Decl]) -> Result<(), AllocError> {
-    page.line("Run.gate.enter()")?;
+fn say_start(page: &mut Page, decls: &[Decl]) {
+    page.line("Run.gate.enter()");
     for decl in decls {
         if let Decl::Actor(actor) = decl {
-            say_hold(page, actor)?;
+            say_hold(page, actor);
         }
     }
     for decl in decls {
         if let Decl::Root(root) = decl {
-            page.begin()?;
-            page.say("_ = Root.")?;
-            say_member(page, &root.name)?;
-            page.end("")?;
+            page.begin();
+            page.say("_ = Root.");
+            say_member(page, &root.name);
+            page.end("");
         }
     }
     page.line("Run.gate.leave()")
 }
 
-fn say_end(page: &mut Page, decls: &[Decl]) -> Result<(), AllocError> {
-    page.line("let areValues = Run.report()")?;
-    page.begin()?;
-    page.open("Task.detached {")?;
+fn say_end(page: &mut Page, decls: &[Decl]) {
+    page.line("let areValues = Run.report()");
+    page.begin();
+    page.open("Task.detached {");
     for decl in decls {
         if let Decl::Actor(actor) = decl {
-            say_fields(page, actor)?;
+            say_fields(page, actor);
         }
     }
-    page.line("exit(areValues ? 0 : 1)")?;
-    page.close("}")?;
+    page.line("exit(areValues ? 0 : 1)");
+    page.close("}");
     page.line("dispatchMain()")
 }
 
-fn say_main(page: &mut Page, decls: &[Decl]) -> Result<(), AllocError> {
-    page.begin()?;
-    page.open("@main struct Main {")?;
-    page.begin()?;
-    page.open("static func main() {")?;
-    say_start(page, decls)?;
-    say_end(page, decls)?;
-    page.close("}")?;
-    page.close("}")?;
+fn say_main(page: &mut Page, decls: &[Decl]) {
+    page.begin();
+    page.open("@main struct Main {");
+    page.begin();
+    page.open("static func main() {");
+    say_start(page, decls);
+    say_end(page, decls);
+    page.close("}");
+    page.close("}");
     page.end("")
 }
 
 // What stands after the actors.
 fn tail(alloc: Global, decls: &[Decl]) -> Result<Vec<u8>, AllocError> {
     let mut page = Page::new(alloc, 0);
-    say_roots(&mut page, decls)?;
-    say_main(&mut page, decls)?;
-    say_lines(&mut page, &PRELUDE)?;
-    Ok(page.into_text())
+    say_roots(&mut page, decls);
+    say_main(&mut page, decls);
+    say_lines(&mut page, &PRELUDE);
+    page.into_text()
 }
 
 // Puts the Swift actor of a declaration after the others, if it is one of an actor.

@@ -211,33 +211,33 @@ pub(crate) fn is_same(left: &Name, right: &Name) -> bool
 }
 
 /// An actor, by its Swift name.
-pub(crate) fn say_type(page: &mut Page, name: &Name) -> Result<(), AllocError> {
+pub(crate) fn say_type(page: &mut Page, name: &Name) {
     if !is_plain_type(&name.text) {
-        page.say("T_")?;
+        page.say("T_");
     }
     page.say_bytes(&name.text)
 }
 
 /// A field, a parameter or a variable, by its Swift name.
-pub(crate) fn say_value(page: &mut Page, name: &Name) -> Result<(), AllocError> {
+pub(crate) fn say_value(page: &mut Page, name: &Name) {
     if !is_plain_value(&name.text) {
-        page.say("v_")?;
+        page.say("v_");
     }
     page.say_bytes(&name.text)
 }
 
 /// An executor, a task local or a root, after the word for these: by its name, or else `v_` and its name.
-pub(crate) fn say_member(page: &mut Page, name: &Name) -> Result<(), AllocError> {
+pub(crate) fn say_member(page: &mut Page, name: &Name) {
     if begins_with(b'v', &name.text) || is_value_word(&name.text) {
-        page.say("v_")?;
+        page.say("v_");
     }
     page.say_bytes(&name.text)
 }
 
 /// A method, by its Swift name.
-pub(crate) fn say_method(page: &mut Page, actor: &Actor, name: &Name) -> Result<(), AllocError> {
+pub(crate) fn say_method(page: &mut Page, actor: &Actor, name: &Name) {
     if !is_plain_value(&name.text) || has_field(actor, name) {
-        page.say("m_")?;
+        page.say("m_");
     }
     page.say_bytes(&name.text)
 }

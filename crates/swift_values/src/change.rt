@@ -26,11 +26,20 @@ pub enum Outcome {
 }
 
 /// What a turn did to the fields of its executor's actors (our own).
-#[derive(Drop)]
 pub struct TurnValues {
     /// What became of it.
     pub outcome: Outcome,
     /// The fields whose value was another at its end, in the order of actors and then of fields; where it was undone, those that it
     /// would have left so.
     pub changes: Vec<Change>,
+}
+
+impl Drop for TurnValues {
+    fn drop(self) {
+        let TurnValues {
+            outcome: _,
+            changes,
+        } = self;
+        drop(changes);
+    }
 }

@@ -1,0 +1,23 @@
+use Rattle.std.proofs.Common.{arith, le_trans}
+use Rattle.nuchapay_values.proofs.Annotated.{joined, none, noted}
+use Rattle.nuchapay_values.proofs.report.write_turns.Goals as goal
+
+pub loop-turn-init : goal.loop-turn-init
+loop-turn-init c = record {
+  after = omega arith;
+  within = c.requires;
+  annotated = none c.args.text.now c.args.from c.args.out.now.items;
+}
+
+pub loop-turn-preserved : goal.loop-turn-preserved
+loop-turn-preserved c =
+    let text = c.args.text.now in
+    let at = c.loop-turn.at in
+    let next = c.in_ok-at.at in
+    let note = c.in_ok-write_notes.ensures in
+    record {
+      after = le_trans c.loop-turn.invariant.after c.in_ok-at.ensures.after;
+      within = c.in_ok-at.ensures.within;
+      annotated = joined text c.args.from at next c.args.out.now.items c.loop-turn.out.items _ c.loop-turn.invariant.after c.in_ok-at.ensures.after c.loop-turn.invariant.annotated
+          (noted text at next c.loop-turn.out.items _ _ c.in_ok-at.ensures.copied (note.0, note.2));
+    }
