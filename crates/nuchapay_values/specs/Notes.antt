@@ -3,9 +3,6 @@ use Rattle.std.specs.Prelude.{◌≡◌, ℕ, List, [], ◌∷◌, ◌++◌, cod
 use Rattle.std.specs.Fmt.{signed_decimal}
 use Rattle.swift_script.specs.Scripts.{ScriptView, actor_name, executor_actors, field_name}
 use Rattle.swift_values.specs.declared.change.Change.{Change}
-use Rattle.swift_values.specs.declared.change.Outcome.{Outcome}
-use Rattle.swift_values.specs.declared.change.Outcome.TheVariants.{Kept, Undone, Broke}
-use Rattle.swift_values.specs.Values.{ValuesView}
 
 -- the actor at a place of an executor; the first one where there is none
 abbrev pub actor_at : ScriptView → ℕ → ℕ → ℕ
@@ -29,39 +26,6 @@ note_lines = flat_map note_line
 -- Only lines of notes are put after a text.
 abbrev pub AppendsNotes : List ℕ → List ℕ → Type 0
 AppendsNotes old new = (lines : List (List ℕ)) × (new ≡ old ++ note_lines lines)
-
--- what stands in front of a change: of a turn that was undone it is one that was not made
-abbrev pub front_of : Outcome → List ℕ
-front_of Kept = []
-front_of Undone = codes "would have left "
-front_of (Broke k) = codes "would have left "
-
--- These lines tell which invariant a turn would have left false: one line where it is one, and else none.
-abbrev pub TellsBroken : Outcome → List (List ℕ) → Type 0
-TellsBroken Kept lines = lines ≡ []
-TellsBroken Undone lines = lines ≡ []
-TellsBroken (Broke k) lines = (line : List ℕ) × (lines ≡ line ∷ [])
-
--- One line is put after a text.
-abbrev pub AppendsLine : List ℕ → List ℕ → Type 0
-AppendsLine old new = (line : List ℕ) × (new ≡ old ++ note_line line)
-
--- the lines that tell the changes of a turn
-abbrev pub change_lines : ScriptView → ℕ → ValuesView → List (List ℕ)
-change_lines p e v = map (λ c. front_of v.outcome ++ change_text p e c) v.changes
-
--- The note of a turn: a line for each change, and one for the invariant that it would have left false.
-abbrev pub IsNote : ScriptView → ℕ → ValuesView → List (List ℕ) → Type 0
-IsNote p e v lines = (told : List (List ℕ)) × TellsBroken v.outcome told × (lines ≡ change_lines p e v ++ told)
-
-abbrev pub AppendsNote : ScriptView → ℕ → ValuesView → List ℕ → List ℕ → Type 0
-AppendsNote p e v old new = (lines : List (List ℕ)) × IsNote p e v lines × (new ≡ old ++ note_lines lines)
-
--- Each of these texts is the note of a turn, in order.
-abbrev pub AreNotes : ScriptView → ℕ → List ValuesView → List (List ℕ) → Type 0
-AreNotes p e [] [] = Unit {0}
-AreNotes p e (v ∷ vs) (n ∷ ns) = AppendsNote p e v [] n × AreNotes p e vs ns
-AreNotes p e _ _ = ⊥
 
 -- a part of a text, and the lines of the notes that follow it
 pub record Piece : Type 0 where

@@ -341,18 +341,15 @@ fn undone_text(
     let invariants = invariants_of(alloc, turn.script, printed, turn.executor)?;
     let mut out = Vec::from_slice(alloc, b"would have left\n")?;
     write_changes(&mut out, turn.script, turn.executor, b"", &own.changes)?;
-    if let Outcome::Broke(place) = own.outcome {
-        write_broken(
-            &mut out,
-            alloc,
-            turn.script,
-            turn.executor,
-            &invariants,
-            fields,
-            &own.changes,
-            place,
-        )?;
-    }
+    write_broken(
+        &mut out,
+        alloc,
+        turn.script,
+        turn.executor,
+        &invariants,
+        fields,
+        own,
+    )?;
     Ok(out)
 }
 

@@ -1,8 +1,7 @@
 //! What is said of one turn in a report.
 
 ghost use Rattle.std.specs.Prelude.{◌≡◌, ◌++◌, map, OnOk};
-ghost use Rattle.swift_values.specs.Values.{values_view};
-ghost use Rattle.nuchapay_values.specs.Notes.{AppendsLine, AppendsNote, actor_at as actor_among, change_text, note_line, note_lines, place_text};
+ghost use Rattle.nuchapay_values.specs.Notes.{AppendsNotes, actor_at as actor_among, change_text, note_line, note_lines, place_text};
 
 use crate::fields::{make, take_back};
 use crate::invariants::{Invariant, false_text};
@@ -86,7 +85,7 @@ fn write_line(out: &mut Vec<u8>, words: &[u8]) -> Result<(), AllocError>
     out.extend_from_slice(b"\n")
 }
 
-/// Appends a line that says of an invariant that it would have been false after these changes of these fields, by its place.
+/// Appends a line that says which invariant a turn would have left false, if it is one, on these fields from before it.
 pub(crate) fn write_broken(
     out: &mut Vec<u8>,
     alloc: Global,
@@ -94,14 +93,16 @@ pub(crate) fn write_broken(
     executor: ExecId,
     invariants: &[Invariant<'_>],
     fields: &mut [Vec<i64>],
-    changes: &[Change],
-    place: usize,
+    turn: &TurnValues,
 ) -> Result<(), AllocError>
-    ensures { OnOk result (AppendsLine out.old.items out.new.items) }
+    ensures { OnOk result (AppendsNotes out.old.items out.new.items) }
 {
-    make(fields, changes);
+    let Outcome::Broke(place) = turn.outcome else {
+        return Ok(());
+    };
+    make(fields, &turn.changes);
     let said = false_text(alloc, script, executor, invariants, place, fields)?;
-    take_back(fields, changes);
+    take_back(fields, &turn.changes);
     write_line(out, &said)?;
     Ok(())
 }
@@ -117,25 +118,13 @@ pub(crate) fn write_notes(
     fields: &mut [Vec<i64>],
     turn: &TurnValues,
 ) -> Result<(), AllocError>
-    ensures { OnOk result (AppendsNote script.now executor.0 (values_view turn.now) out.old.items out.new.items) }
+    ensures { OnOk result (AppendsNotes out.old.items out.new.items) }
 {
-    let changes = turn.changes.as_slice();
-    match turn.outcome {
-        Outcome::Kept => {
-            make(fields, changes);
-            write_changes(out, script, executor, b"", changes)?;
-            Ok(())
-        }
-        Outcome::Undone => {
-            write_changes(out, script, executor, b"would have left ", changes)?;
-            Ok(())
-        }
-        Outcome::Broke(place) => {
-            write_changes(out, script, executor, b"would have left ", changes)?;
-            write_broken(
-                out, alloc, script, executor, invariants, fields, changes, place,
-            )?;
-            Ok(())
-        }
+    if let Outcome::Kept = turn.outcome {
+        make(fields, &turn.changes);
+        return write_changes(out, script, executor, b"", &turn.changes);
     }
+    write_changes(out, script, executor, b"would have left ", &turn.changes)?;
+    write_broken(out, alloc, script, executor, invariants, fields, turn)?;
+    Ok(())
 }

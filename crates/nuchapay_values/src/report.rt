@@ -1,12 +1,11 @@
 //! The report with what is said of each turn.
 
-ghost use Rattle.std.specs.Prelude.{◌≤◌, [], false, length, map, IfOk};
+ghost use Rattle.std.specs.Prelude.{◌≤◌, false, length, IfOk};
 ghost use Rattle.swift_report.specs.Text.{report_text as text_of};
-ghost use Rattle.swift_values.specs.Values.{values_from, values_view, values_views};
-ghost use Rattle.nuchapay_values.specs.Notes.{AppendsAnnotated, AppendsNote, AreNotes, IsAnnotated};
+ghost use Rattle.nuchapay_values.specs.Notes.{AppendsAnnotated, IsAnnotated};
 
 use crate::fields::copy_of;
-use crate::invariants::{Invariant, invariants_of};
+use crate::invariants::invariants_of;
 use crate::lines::{copy_line, copy_lines};
 use crate::notes::write_notes;
 use crate::words::Words;
@@ -15,36 +14,11 @@ use swift_journal::{Checkpoint, Journal};
 use swift_report::{Report, report_text};
 use swift_script::Script;
 use swift_types::ExecId;
-use swift_values::{TurnValues, turn_values};
+use swift_values::turn_values;
 
 /// How many lines stand before those of the turns of an executor's journal: one, and one more where turns were folded.
 pub(crate) fn heading_lines(checkpoint: &Checkpoint) -> usize {
     if checkpoint.len() == 0 { 1 } else { 2 }
-}
-
-// Appends the lines of turns, of which the first begins here, with what is said of each. Where the next line begins.
-fn write_turns(
-    out: &mut Vec<u8>,
-    text: &[u8],
-    from: usize,
-    alloc: Global,
-    script: &Script,
-    executor: ExecId,
-    invariants: &[Invariant<'_>],
-    fields: &mut [Vec<i64>],
-    values: &[TurnValues],
-) -> Result<usize, AllocError>
-    requires { from ≤ length text.now }
-    ensures after { IfOk result (λ end. from ≤ end) }
-    ensures within { IfOk result (λ end. end ≤ length text.now) }
-    ensures annotated { IfOk result (λ end. AppendsAnnotated text.now from end out.old.items out.new.items) }
-{
-    let mut at = from;
-    for turn in values {
-        at = copy_line(out, text, at)?;
-        write_notes(out, alloc, script, executor, invariants, fields, turn)?;
-    }
-    Ok(at)
 }
 
 // Appends the lines of the executor at a place, with what is said of each turn. Where the next executor's begin.
@@ -71,22 +45,15 @@ fn write_executor(
         return Ok(from);
     };
     let executor = ExecId(number);
-    let at = copy_lines(out, text, from, heading_lines(checkpoint))?;
     let invariants = invariants_of(alloc, script, printed, executor)?;
-    let mut fields = copy_of(alloc, checkpoint.fields())?;
     let values = turn_values(alloc, script, checkpoint.fields(), journal)?;
-    let end = write_turns(
-        out,
-        text,
-        at,
-        alloc,
-        script,
-        executor,
-        &invariants,
-        &mut fields,
-        &values,
-    )?;
-    Ok(end)
+    let mut fields = copy_of(alloc, checkpoint.fields())?;
+    let mut at = copy_lines(out, text, from, heading_lines(checkpoint))?;
+    for turn in &values {
+        at = copy_line(out, text, at)?;
+        write_notes(out, alloc, script, executor, &invariants, &mut fields, turn)?;
+    }
+    Ok(at)
 }
 
 /// The text of a report on a script, with its journals, and below the line of each turn the fields that it changed, a line for each;
@@ -131,46 +98,24 @@ pub fn turn_notes(
     executor: ExecId,
     checkpoint: &Checkpoint,
     journal: &Journal,
-) -> Result<Vec<Vec<u8>>, AllocError>
-    ensures { IfOk result (λ notes. AreNotes script.now executor.0 (values_from script.now checkpoint.now.view.fields journal.now) (map (λ n. n.items) notes.items)) }
-{
+) -> Result<Vec<Vec<u8>>, AllocError> {
     let printed = Words::new(alloc, script.printed())?;
     let invariants = invariants_of(alloc, script, &printed, executor)?;
     let values = turn_values(alloc, script, checkpoint.fields(), journal)?;
     let mut fields = copy_of(alloc, checkpoint.fields())?;
-    notes_of(alloc, script, executor, &invariants, &mut fields, &values)
-}
-
-// The notes of turns, on the fields from before them.
-fn notes_of(
-    alloc: Global,
-    script: &Script,
-    executor: ExecId,
-    invariants: &[Invariant<'_>],
-    fields: &mut [Vec<i64>],
-    values: &[TurnValues],
-) -> Result<Vec<Vec<u8>>, AllocError>
-    ensures { IfOk result (λ notes. AreNotes script.now executor.0 (values_views values.now) (map (λ n. n.items) notes.items)) }
-{
     let mut notes = Vec::with_capacity(alloc, values.len())?;
-    for turn in values {
-        notes.push(note_of(alloc, script, executor, invariants, fields, turn)?)?;
+    for turn in &values {
+        let mut note = Vec::new(alloc);
+        write_notes(
+            &mut note,
+            alloc,
+            script,
+            executor,
+            &invariants,
+            &mut fields,
+            turn,
+        )?;
+        notes.push(note)?;
     }
     Ok(notes)
-}
-
-// The note of a turn.
-fn note_of(
-    alloc: Global,
-    script: &Script,
-    executor: ExecId,
-    invariants: &[Invariant<'_>],
-    fields: &mut [Vec<i64>],
-    turn: &TurnValues,
-) -> Result<Vec<u8>, AllocError>
-    ensures { IfOk result (λ note. AppendsNote script.now executor.0 (values_view turn.now) [] note.items) }
-{
-    let mut note = Vec::new(alloc);
-    write_notes(&mut note, alloc, script, executor, invariants, fields, turn)?;
-    Ok(note)
 }

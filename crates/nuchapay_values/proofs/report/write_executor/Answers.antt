@@ -1,13 +1,22 @@
 use Rattle.std.proofs.Common.{le_trans}
-use Rattle.nuchapay_values.proofs.Annotated.{joined, plain}
+use Rattle.nuchapay_values.proofs.Annotated.{joined, noted, plain}
 use Rattle.nuchapay_values.proofs.report.write_executor.Goals as goal
 
-pub returns-clause-after : goal.returns-clause-after
-returns-clause-after c = le_trans c.in_ok-at.ensures.after c.in_ok-end.ensures.after
+pub loop-turn-init : goal.loop-turn-init
+loop-turn-init c = record {
+  after = c.in_ok-at.ensures.after;
+  within = c.in_ok-at.ensures.within;
+  annotated = plain c.args.text.now c.args.from c.in_ok-at.at c.args.out.now.items _ c.in_ok-at.ensures.copied;
+}
 
-pub returns-clause-annotated : goal.returns-clause-annotated
-returns-clause-annotated c =
+pub loop-turn-preserved : goal.loop-turn-preserved
+loop-turn-preserved c =
     let text = c.args.text.now in
-    let at = c.in_ok-at.at in
-    joined text c.args.from at c.in_ok-end.end c.args.out.now.items _ _ c.in_ok-at.ensures.after c.in_ok-end.ensures.after
-    (plain text c.args.from at c.args.out.now.items _ c.in_ok-at.ensures.copied) c.in_ok-end.ensures.annotated
+    let at = c.loop-turn.at in
+    let next = c.in_ok-at-2.at in
+    record {
+      after = le_trans c.loop-turn.invariant.after c.in_ok-at-2.ensures.after;
+      within = c.in_ok-at-2.ensures.within;
+      annotated = joined text c.args.from at next c.args.out.now.items c.loop-turn.out.items _ c.loop-turn.invariant.after c.in_ok-at-2.ensures.after c.loop-turn.invariant.annotated
+          (noted text at next c.loop-turn.out.items _ _ c.in_ok-at-2.ensures.copied c.in_ok-write_notes.ensures);
+    }

@@ -1,6 +1,6 @@
 use Rattle.std.proofs.Common.{◌≤◌, length}
 use Rattle.nuchapay_values.specs.Notes.{AppendsAnnotated}
-use Rattle.nuchapay_values.proofs.report.write_turns.Given as goal
+use Rattle.nuchapay_values.proofs.report.write_executor.Given as goal
 
 abbrev pub invariant-loop-turn : goal.invariant-loop-turn
 invariant-loop-turn l = record {
