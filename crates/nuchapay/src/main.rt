@@ -192,7 +192,7 @@ fn translated(rt: &HostRuntime, text: &[u8]) -> Result<bool, ToolFault> {
 }
 
 fn explained(rt: &HostRuntime, topic: Topic) -> Result<bool, ToolFault> {
-    let said = explain(rt.alloc(), &page_of(topic))?;
+    let said = explain(rt.alloc(), page_of(topic))?;
     shown(rt, said.as_bytes())
 }
 
