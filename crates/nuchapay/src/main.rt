@@ -11,7 +11,7 @@ mod show;
 // Runs whose turns are explained.
 mod values;
 
-use crate::show::shown_run;
+use crate::show::show_run;
 use crate::values::{Said, explained_turn, report_of};
 use json_tool::run_json;
 use nuchapay_tool::{
@@ -92,8 +92,11 @@ where
         },
         Request::Show(source, workers, format) => match script(host, source) {
             Ok(text) => {
-                let picture = shown_run(rt, &text, name_of(source), workers, format);
-                told(host, said(host, picture))
+                let name = name_of(source);
+                told(
+                    host,
+                    show_run(rt, &text, name, workers, format, &mut host.stdout()),
+                )
             }
             Err(error) => unread(host, source, error),
         },
@@ -192,7 +195,7 @@ fn translated(rt: &HostRuntime, text: &[u8]) -> Result<bool, ToolFault> {
 }
 
 fn explained(rt: &HostRuntime, topic: Topic) -> Result<bool, ToolFault> {
-    let said = explain(rt.alloc(), &page_of(topic))?;
+    let said = explain(rt.alloc(), page_of(topic))?;
     shown(rt, said.as_bytes())
 }
 

@@ -1,32 +1,47 @@
 //! A run as a picture.
 
-use crate::values::{Said, all_ended_well, ran};
-use nuchapay_picture::{picture_of, svg_text, trace_text};
+use crate::values::{all_ended_well, ran};
+use nuchapay_picture::{PictureFault, picture_of, svg_text, write_trace};
 use nuchapay_tool::PictureFormat;
-use std::alloc::AllocGlobal;
+use std::alloc::{AllocError, AllocGlobal};
+use std::io::Write;
 use std::random::RandomSource;
 use std::sync::Wait;
 use std::thread::Threads;
+use swift_output::write_all;
 use swift_tool::ToolFault;
 
-/// Runs a script, and shows the run as a picture in this format. `name` is the script's path.
-pub fn shown_run<R>(
+/// Runs a script, and writes the run as a picture in this format. `name` is the script's path. Whether each task ended with a value.
+pub fn show_run<R, W>(
     rt: &R,
     text: &[u8],
     name: &str,
     workers: u32,
     format: PictureFormat,
-) -> Result<Said, ToolFault>
+    out: &mut W,
+) -> Result<bool, ToolFault>
 where
     R: RandomSource + AllocGlobal + Threads + Wait + Sync,
+    W: Write,
 {
     let alloc = rt.alloc();
     let (script, report) = ran(rt, text, workers)?;
     let picture = picture_of(alloc, &report)?;
-    let text = match format {
-        PictureFormat::Svg => svg_text(alloc, &script, &report, &picture, name, workers)?,
-        PictureFormat::Trace => trace_text(alloc, &script, &picture)?,
-    };
-    let is_well = all_ended_well(&report.endings);
-    Ok(Said { text, is_well })
+    match format {
+        PictureFormat::Svg => {
+            let text = svg_text(alloc, &script, &report, &picture, name, workers)?;
+            write_all(out, &text)?;
+        }
+        PictureFormat::Trace => traced(write_trace(alloc, &script, &picture, out))?,
+    }
+    Ok(all_ended_well(&report.endings))
+}
+
+// What came of writing a trace, as the fault of a tool.
+fn traced(written: Result<(), PictureFault>) -> Result<(), ToolFault> {
+    match written {
+        Ok(()) => Ok(()),
+        Err(PictureFault::Memory) => Err(ToolFault::from(AllocError)),
+        Err(PictureFault::Device) => Err(ToolFault::Device),
+    }
 }

@@ -57,11 +57,20 @@ fn add_boxes(boxes: &mut Vec<TurnBox>, executor: usize, journal: &Journal) -> Re
     Ok(())
 }
 
+// How many turns the journals have.
+fn turns(journals: &[Journal]) -> usize {
+    let mut sum = 0_usize;
+    for journal in journals {
+        sum = sum.saturating_add(journal.len());
+    }
+    sum
+}
+
 /// One box for each turn of the journals, in the order of executors and then of turns. An `Err` says that a growth was refused.
 pub(crate) fn boxes_of(alloc: Global, journals: &[Journal]) -> Result<Vec<TurnBox>, AllocError>
     ensures { IfOk result (λ boxes. boxes.items ≡ boxes_of 0 journals.now) }
 {
-    let mut boxes = Vec::new(alloc);
+    let mut boxes = Vec::with_capacity(alloc, turns(journals))?;
     for (executor, journal) in journals.iter().enumerate() {
         add_boxes(&mut boxes, executor, journal)?;
     }

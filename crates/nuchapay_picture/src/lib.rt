@@ -7,6 +7,8 @@ mod below;
 mod boxes;
 // The box of a turn, with what stands in it.
 mod card;
+// Why a picture was not written.
+mod fault;
 // What turns did to the fields.
 mod fields;
 // What the log says of each turn.
@@ -39,6 +41,7 @@ mod trace;
 mod word;
 
 pub use boxes::TurnBox;
+pub use fault::PictureFault;
 pub use picture::{Picture, picture_of};
 pub use svg::svg_text;
-pub use trace::trace_text;
+pub use trace::write_trace;

@@ -8,6 +8,7 @@ use crate::history::history_of;
 use crate::placed::{Placed, place_boxes};
 use std::alloc::{AllocError, Global};
 use swift_journal::Checkpoint;
+use swift_log::EventLog;
 use swift_report::Report;
 
 /// A run as a picture (our own): a box for each turn of the journals, and what the log says of when it ran and what made it. Turns that
@@ -40,6 +41,17 @@ fn folded_turns(alloc: Global, checkpoints: &[Checkpoint]) -> Result<Vec<usize>,
     Ok(folded)
 }
 
+// When the turn of each box ran, and what made it, by the log of a run of so many tasks.
+fn placed_by_log(
+    alloc: Global,
+    tasks: usize,
+    log: &EventLog,
+    boxes: &[TurnBox],
+) -> Result<Vec<Placed>, AllocError> {
+    let history = history_of(alloc, tasks, log)?;
+    place_boxes(alloc, &history, boxes)
+}
+
 /// The picture of a run, in time and memory linear in its report: one box for each turn of the journals, with that turn's task, number
 /// and exit, in that order.
 ///
@@ -50,8 +62,7 @@ pub fn picture_of(alloc: Global, report: &Report) -> Result<Picture, AllocError>
     ensures { IfOk result (λ picture. picture.boxes.items ≡ boxes_of 0 report.now.journals.items) }
 {
     let boxes = boxes_of(alloc, &report.journals)?;
-    let history = history_of(alloc, report.endings.len(), &report.log)?;
-    let placed = place_boxes(alloc, &history, &boxes)?;
+    let placed = placed_by_log(alloc, report.endings.len(), &report.log, &boxes)?;
     let folded = folded_turns(alloc, &report.checkpoints)?;
     Ok(Picture {
         boxes,

@@ -1,7 +1,7 @@
 //! Fonts, colours and lines.
 
 /// The classes of the picture. A character of a fixed width is 0.602 times as wide as its font is tall, so that lines can be fitted.
-pub(crate) const STYLE: &str = "<style>
+pub(crate) static STYLE: &str = "<style>
 text{font-family:'DejaVu Sans Mono',Menlo,Consolas,monospace;font-size:11px;fill:#1b1b1b;white-space:pre}
 .h{font-size:16px;font-weight:bold}
 .n{font-size:13px;font-weight:bold}

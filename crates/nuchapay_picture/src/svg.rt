@@ -267,6 +267,30 @@ fn write_boxes(
     Ok(())
 }
 
+// The whole text. In a function of its own, so that nothing has to be let go where a growth is refused.
+fn write_svg(
+    alloc: Global,
+    out: &mut Vec<u8>,
+    view: View<'_>,
+    report: &Report,
+    name: &str,
+    workers: u32,
+    scratch: &mut Scratch,
+) -> Result<(), AllocError> {
+    write_head(out, view.layout, report.endings.len(), name, workers)?;
+    write_lanes(out, view.script, view.picture, view.layout)?;
+    write_lines(out, view.layout, view.picture)?;
+    write_boxes(alloc, out, view, report, scratch)?;
+    write_legend(
+        out,
+        view.script,
+        view.layout,
+        &report.endings,
+        &mut scratch.line,
+    )?;
+    out.extend_from_slice(b"</svg>\n")
+}
+
 /// A picture of the run of a script as SVG (the form is our own): a lane for each executor, in it from left to right a box for each turn,
 /// and lines for what made what. `name` is the path of the script, of which the last part is shown. Only the last 1,000 turns that have a
 /// box are shown, and of the others the number. It stands alone: no script, and no font that has to be loaded. Each turn of a lane is
@@ -295,17 +319,6 @@ pub fn svg_text(
         line: Vec::new(alloc),
     };
     let mut out = Vec::new(alloc);
-    write_head(&mut out, &layout, report.endings.len(), name, workers)?;
-    write_lanes(&mut out, script, picture, &layout)?;
-    write_lines(&mut out, &layout, picture)?;
-    write_boxes(alloc, &mut out, view, report, &mut scratch)?;
-    write_legend(
-        &mut out,
-        script,
-        &layout,
-        &report.endings,
-        &mut scratch.line,
-    )?;
-    out.extend_from_slice(b"</svg>\n")?;
+    write_svg(alloc, &mut out, view, report, name, workers, &mut scratch)?;
     Ok(out)
 }

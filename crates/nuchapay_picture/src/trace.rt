@@ -1,14 +1,20 @@
 //! A picture as a trace.
 
 use crate::boxes::TurnBox;
+use crate::fault::PictureFault;
 use crate::links::Link;
 use crate::picture::Picture;
 use crate::pieces::{Piece, put};
 use crate::placed::Placed;
 use crate::word;
 use std::alloc::{AllocError, Global};
+use std::io::Write;
+use swift_output::{Device, write_all};
 use swift_script::Script;
 use swift_types::limits::WORKERS;
+
+// After how many bytes a piece of the text is written.
+const PIECE: usize = 65_536;
 
 // The number of an executor's process. None is 0, which stands for an idle processor.
 fn process(executor: usize) -> usize {
@@ -198,15 +204,46 @@ fn write_flow(
     )
 }
 
-fn write_processes(out: &mut Vec<u8>, script: &Script, folded: &[usize]) -> Result<(), AllocError> {
+// The flow to the turn of a box from the one that made its job, by their places.
+fn write_flow_to(
+    out: &mut Vec<u8>,
+    picture: &Picture,
+    maker: usize,
+    place: usize,
+) -> Result<(), AllocError> {
+    match (picture.at(maker), picture.at(place)) {
+        (Some(maker), Some(turn)) => write_flow(out, place, maker, turn),
+        _ => Ok(()),
+    }
+}
+
+fn write_processes(
+    piece: &mut Vec<u8>,
+    script: &Script,
+    folded: &[usize],
+) -> Result<(), AllocError> {
     for (executor, count) in folded.iter().enumerate() {
-        name_process(out, script, executor, *count)?;
+        name_process(piece, script, executor, *count)?;
+    }
+    Ok(())
+}
+
+// Writes a piece once it is long enough. A new one is begun then.
+fn hand_on<W: Write>(out: &mut W, piece: &mut Vec<u8>) -> Result<(), Device> {
+    if piece.len() >= PIECE {
+        write_all(out, piece)?;
+        piece.clear();
     }
     Ok(())
 }
 
 // The threads of workers, each once, and before its first turn.
-fn write_turns(out: &mut Vec<u8>, script: &Script, picture: &Picture) -> Result<(), AllocError> {
+fn write_turns<W: Write>(
+    out: &mut W,
+    piece: &mut Vec<u8>,
+    script: &Script,
+    picture: &Picture,
+) -> Result<(), PictureFault> {
     let mut executor = usize::MAX;
     let mut named = [false; WORKERS];
     for (turn, placed) in picture.boxes.iter().zip(&picture.placed) {
@@ -217,43 +254,51 @@ fn write_turns(out: &mut Vec<u8>, script: &Script, picture: &Picture) -> Result<
         if let Some(is_named) = named.get_mut(turn.worker as usize) {
             if !*is_named {
                 *is_named = true;
-                name_thread(out, turn)?;
+                name_thread(piece, turn)?;
             }
         }
-        write_turn(out, script, turn, placed)?;
+        write_turn(piece, script, turn, placed)?;
+        hand_on(out, piece)?;
     }
     Ok(())
 }
 
-fn write_flows(out: &mut Vec<u8>, picture: &Picture) -> Result<(), AllocError> {
-    for place in 0..picture.boxes.len() {
-        let Some(turn) = picture.at(place) else {
-            continue;
-        };
-        let Some(from) = turn.1.maker else { continue };
-        if let Some(maker) = picture.at(from) {
-            write_flow(out, place, maker, turn)?;
+fn write_flows<W: Write>(
+    out: &mut W,
+    piece: &mut Vec<u8>,
+    picture: &Picture,
+) -> Result<(), PictureFault> {
+    for (place, placed) in picture.placed.iter().enumerate() {
+        if let Some(maker) = placed.maker {
+            write_flow_to(piece, picture, maker, place)?;
+            hand_on(out, piece)?;
         }
     }
     Ok(())
 }
 
-/// A picture as JSON in the Trace Event Format, which Perfetto and chrome://tracing read (the format is Google's; what is written of a run
-/// is our own). An executor is a process, a worker a thread of it, a turn a complete event, and what made what a flow. The time is the
-/// place in the log, in microseconds. Linear in the picture. All of it is ASCII, and no character needs an escape.
+/// Writes a picture as JSON in the Trace Event Format, which Perfetto and chrome://tracing read (the format is Google's; what is written
+/// of a run is our own). An executor is a process, a worker a thread of it, a turn a complete event, and what made what a flow. The time
+/// is the place in the log, in microseconds. All of it is ASCII, and no character needs an escape.
+///
+/// In time linear in the picture. The text is written in pieces of some 64 KiB, and no more of it is kept in memory. Nothing is flushed.
 ///
 /// # Errors
 ///
-/// `AllocError` where no memory is left for the text.
-pub fn trace_text(
+/// `Memory` where there is no memory for a piece; `Device` at the first write that fails or takes no byte. What was written by then is a
+/// prefix of the text.
+pub fn write_trace<W: Write>(
     alloc: Global,
     script: &Script,
     picture: &Picture,
-) -> Result<Vec<u8>, AllocError> {
-    let mut out = Vec::from_slice(alloc, b"{\"displayTimeUnit\":\"ms\",\"traceEvents\":[")?;
-    write_processes(&mut out, script, &picture.folded)?;
-    write_turns(&mut out, script, picture)?;
-    write_flows(&mut out, picture)?;
-    out.extend_from_slice(b"\n]}\n")?;
-    Ok(out)
+    out: &mut W,
+) -> Result<(), PictureFault> {
+    let mut piece = Vec::with_capacity(alloc, 2 * PIECE)?;
+    piece.extend_from_slice(b"{\"displayTimeUnit\":\"ms\",\"traceEvents\":[")?;
+    write_processes(&mut piece, script, &picture.folded)?;
+    write_turns(out, &mut piece, script, picture)?;
+    write_flows(out, &mut piece, picture)?;
+    piece.extend_from_slice(b"\n]}\n")?;
+    write_all(out, &piece)?;
+    Ok(())
 }

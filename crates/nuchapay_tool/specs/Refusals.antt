@@ -35,16 +35,21 @@ source_text colour number text line = concat (blue colour ∷ number ∷ codes "
 abbrev pub advice_text : Bool → List ℕ → List ℕ → List ℕ
 advice_text colour gutter help = concat (gutter ∷ blue colour ∷ codes " =" ∷ plain colour ∷ codes " " ∷ bold colour ∷ codes "help" ∷ plain colour ∷ codes ": " ∷ help ∷ codes "\n" ∷ [])
 
--- where a refusal stands, with that line of the text and the mark under it, and what to do
-abbrev pub located_text : Bool → List ℕ → List ℕ → ℕ → Option Mark → List ℕ → List ℕ
-located_text colour file text line mark help = concat (
-    arrow_text colour (gutter line) file (decimal line) (column_text mark)
-    ∷ bar_text colour (gutter line)
-    ∷ source_text colour (decimal line) text line
-    ∷ mark_text colour (gutter line) mark
-    ∷ bar_text colour (gutter line)
-    ∷ advice_text colour (gutter line) help ∷ []
+-- where a refusal stands, with that line of the text and the mark under it, and what to do; with this number beside the line, and the
+-- gutter beside all else
+abbrev pub text_beside : Bool → List ℕ → List ℕ → List ℕ → List ℕ → ℕ → Option Mark → List ℕ → List ℕ
+text_beside colour gutter number file text line mark help = concat (
+    arrow_text colour gutter file number (column_text mark)
+    ∷ bar_text colour gutter
+    ∷ source_text colour number text line
+    ∷ mark_text colour gutter mark
+    ∷ bar_text colour gutter
+    ∷ advice_text colour gutter help ∷ []
     )
+
+-- the same, with the number of the line
+abbrev pub located_text : Bool → List ℕ → List ℕ → ℕ → Option Mark → List ℕ → List ℕ
+located_text colour file text line mark help = text_beside colour (gutter line) (decimal line) file text line mark help
 
 -- what follows the first line of a refusal; out of memory stands on line 0
 abbrev pub place_text : Bool → List ℕ → List ℕ → ℕ → Option Mark → List ℕ → List ℕ

@@ -53,7 +53,7 @@ fn refused(
     let span = blamed(alloc, text, fault.kind)?;
     let mark = mark_of(text, fault.line, span);
     let page = page_of(Topic::Script(fault.kind));
-    refusal(alloc, colour, file, text, fault.line, mark, &page)
+    refusal(alloc, colour, file, text, fault.line, mark, page)
 }
 
 fn accepted(alloc: Global, file: &str, script: &Script) -> Result<String, AllocError>

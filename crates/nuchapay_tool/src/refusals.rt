@@ -5,7 +5,7 @@ use crate::page::{Page, Scripts};
 // What becomes of a script that is refused.
 const NOT_RUN: &str = "nothing of the script is run";
 
-pub(crate) const NOT_TEXT: Page = Page {
+pub(crate) static NOT_TEXT: Page = Page {
     name: "S1",
     title: "byte outside ASCII text",
     when: "a byte stands in the text, perhaps in a comment, that is neither printable ASCII nor a tab, an LF or a CR",
@@ -19,7 +19,7 @@ pub(crate) const NOT_TEXT: Page = Page {
     }),
 };
 
-pub(crate) const UNEXPECTED: Page = Page {
+pub(crate) static UNEXPECTED: Page = Page {
     name: "S2",
     title: "unexpected token",
     when: "a token stands where the grammar has no place for it",
@@ -33,7 +33,7 @@ pub(crate) const UNEXPECTED: Page = Page {
     }),
 };
 
-pub(crate) const OUT_OF_RANGE: Page = Page {
+pub(crate) static OUT_OF_RANGE: Page = Page {
     name: "S3",
     title: "number out of i64",
     when: "a number is greater than 9223372036854775807",
@@ -47,7 +47,7 @@ pub(crate) const OUT_OF_RANGE: Page = Page {
     }),
 };
 
-pub(crate) const NAME_TWICE: Page = Page {
+pub(crate) static NAME_TWICE: Page = Page {
     name: "S4",
     title: "name given twice",
     when: "a name is declared that something else has at this place",
@@ -61,7 +61,7 @@ pub(crate) const NAME_TWICE: Page = Page {
     }),
 };
 
-pub(crate) const UNKNOWN_NAME: Page = Page {
+pub(crate) static UNKNOWN_NAME: Page = Page {
     name: "S5",
     title: "unknown name",
     when: "a name is used that stands for nothing at this place",
@@ -76,7 +76,7 @@ pub(crate) const UNKNOWN_NAME: Page = Page {
     }),
 };
 
-pub(crate) const ARGUMENTS: Page = Page {
+pub(crate) static ARGUMENTS: Page = Page {
     name: "S6",
     title: "wrong number of arguments",
     when: "a method is called, or run by a root, with another number of arguments than it has parameters",
@@ -90,7 +90,7 @@ pub(crate) const ARGUMENTS: Page = Page {
     }),
 };
 
-pub(crate) const CONFUSED: Page = Page {
+pub(crate) static CONFUSED: Page = Page {
     name: "S7",
     title: "task, group and number confused",
     when: "a name stands for something else than what is wanted here: a task, a group or a number",
@@ -104,7 +104,7 @@ pub(crate) const CONFUSED: Page = Page {
     }),
 };
 
-pub(crate) const INVARIANT_FALSE: Page = Page {
+pub(crate) static INVARIANT_FALSE: Page = Page {
     name: "S8",
     title: "invariant false at the start",
     when: "an actor's invariant is 0, or overflows, of the start values of the fields",
@@ -118,7 +118,7 @@ pub(crate) const INVARIANT_FALSE: Page = Page {
     }),
 };
 
-pub(crate) const BOUND_INSIDE: Page = Page {
+pub(crate) static BOUND_INSIDE: Page = Page {
     name: "S9",
     title: "add in a bind inside its group",
     when: "a child is added inside a `bind` that was opened inside its group",
@@ -132,7 +132,7 @@ pub(crate) const BOUND_INSIDE: Page = Page {
     }),
 };
 
-pub(crate) const ROOT_WAITS: Page = Page {
+pub(crate) static ROOT_WAITS: Page = Page {
     name: "S10",
     title: "a root waits for a later root",
     when: "a root may wait for itself, or for a root that is declared after it",
@@ -146,7 +146,7 @@ pub(crate) const ROOT_WAITS: Page = Page {
     }),
 };
 
-pub(crate) const LIMIT_PASSED: Page = Page {
+pub(crate) static LIMIT_PASSED: Page = Page {
     name: "S11",
     title: "a limit is passed",
     when: "the text has more than 65,536 bytes, 64 declared executors, 64 actors or 1,024 roots, or a number above 7 after `pinned`",
@@ -160,7 +160,7 @@ pub(crate) const LIMIT_PASSED: Page = Page {
     }),
 };
 
-pub(crate) const ENDS_EARLY: Page = Page {
+pub(crate) static ENDS_EARLY: Page = Page {
     name: "S12",
     title: "text ends early",
     when: "the text ends where more has to come",
@@ -174,7 +174,7 @@ pub(crate) const ENDS_EARLY: Page = Page {
     }),
 };
 
-pub(crate) const TOO_DEEP: Page = Page {
+pub(crate) static TOO_DEEP: Page = Page {
     name: "S13",
     title: "nesting over 32",
     when: "more than 32 blocks or parentheses are open at once, or an expression is higher than 32",
@@ -188,7 +188,7 @@ pub(crate) const TOO_DEEP: Page = Page {
     }),
 };
 
-pub(crate) const MEMORY: Page = Page {
+pub(crate) static MEMORY: Page = Page {
     name: "S14",
     title: "no memory",
     when: "the program ran out of memory while it read the text",

@@ -2,7 +2,8 @@
 
 ghost use Rattle.std.specs.Prelude.{◌≡◌, IfOk};
 ghost use Rattle.std.specs.String.{string_bytes};
-ghost use Rattle.nuchapay_tool.specs.Refusals.{advice_text, arrow_text, bar_text, head_text, located_text, lost_text, place_text, refusal_text, source_text};
+ghost use Rattle.nuchapay_tool.specs.Marks.{column_text};
+ghost use Rattle.nuchapay_tool.specs.Refusals.{advice_text, arrow_text, bar_text, head_text, located_text, lost_text, place_text, refusal_text, source_text, text_beside};
 
 use crate::colours::{blue, bold, plain, red};
 use crate::mark::{Mark, column_text, mark_text};
@@ -76,9 +77,34 @@ fn located(
 {
     let number = line.to_string(alloc)?;
     let gutter = " ".repeat(alloc, number.len())?;
-    let (number, gutter) = (number.as_str(), gutter.as_str());
-    let column = column_text(alloc, mark)?;
-    let arrow = arrow(alloc, colour, gutter, file, number, column.as_str())?;
+    beside(
+        alloc,
+        colour,
+        gutter.as_str(),
+        number.as_str(),
+        file,
+        text,
+        line,
+        mark,
+        help,
+    )
+}
+
+// The same with this number beside the line of the text, and the gutter beside all else.
+fn beside(
+    alloc: Global,
+    colour: bool,
+    gutter: &str,
+    number: &str,
+    file: &str,
+    text: &[u8],
+    line: u32,
+    mark: Option<Mark>,
+    help: &str,
+) -> Result<String, AllocError>
+    ensures { IfOk result (λ said. string_bytes said ≡ text_beside colour gutter.now number.now file.now text.now line mark help.now) }
+{
+    let arrow = arrow(alloc, colour, gutter, file, number, mark)?;
     let bar = bar(alloc, colour, gutter)?;
     let source = source(alloc, colour, number, text, line)?;
     let under = mark_text(alloc, colour, gutter, mark)?;
@@ -101,10 +127,11 @@ fn arrow<'a>(
     gutter: &'a str,
     file: &'a str,
     number: &'a str,
-    column: &'a str,
+    mark: Option<Mark>,
 ) -> Result<String, AllocError>
-    ensures { IfOk result (λ said. string_bytes said ≡ arrow_text colour gutter.now file.now number.now column.now) }
+    ensures { IfOk result (λ said. string_bytes said ≡ arrow_text colour gutter.now file.now number.now (column_text mark)) }
 {
+    let column = column_text(alloc, mark)?;
     let parts = [
         gutter,
         blue(colour),
@@ -113,7 +140,7 @@ fn arrow<'a>(
         file,
         ":",
         number,
-        column,
+        column.as_str(),
         "\n",
     ];
     parts.as_slice().concat(alloc)

@@ -8,7 +8,7 @@ const NO_REPORT: &str = "the run leaves no report";
 // What to do where no tested run ends so.
 const REPORT_IT: &str = "no tested run ends so: report it, with the script and the arguments";
 
-pub(crate) const WORKERS: Page = Page {
+pub(crate) static WORKERS: Page = Page {
     name: "N1",
     title: "number of workers",
     when: "a run is asked for on another number of workers than 1 to 8",
@@ -17,7 +17,7 @@ pub(crate) const WORKERS: Page = Page {
     scripts: None,
 };
 
-pub(crate) const RUN_MEMORY: Page = Page {
+pub(crate) static RUN_MEMORY: Page = Page {
     name: "N2",
     title: "no memory",
     when: "memory, or a thread could not be made",
@@ -26,7 +26,7 @@ pub(crate) const RUN_MEMORY: Page = Page {
     scripts: None,
 };
 
-pub(crate) const UNFINISHED: Page = Page {
+pub(crate) static UNFINISHED: Page = Page {
     name: "N3",
     title: "unfinished jobs",
     when: "a task has not ended, or has a group open, or a job was not run",
@@ -35,7 +35,7 @@ pub(crate) const UNFINISHED: Page = Page {
     scripts: None,
 };
 
-pub(crate) const ILLEGAL: Page = Page {
+pub(crate) static ILLEGAL: Page = Page {
     name: "N4",
     title: "report not legal",
     when: "a report that is not legal",
@@ -44,7 +44,7 @@ pub(crate) const ILLEGAL: Page = Page {
     scripts: None,
 };
 
-pub(crate) const EXECUTOR: Page = Page {
+pub(crate) static EXECUTOR: Page = Page {
     name: "N5",
     title: "executor refused",
     when: "an executor had no room, or the book refused a turn",

@@ -5,7 +5,7 @@ use crate::page::{Page, Scripts};
 // What a report calls them.
 const FAULT: &str = "(a fault of a turn)";
 
-pub(crate) const THROWN: Page = Page {
+pub(crate) static THROWN: Page = Page {
     name: "thrown",
     title: FAULT,
     when: "`throw v`",
@@ -27,7 +27,7 @@ pub(crate) const THROWN: Page = Page {
     }),
 };
 
-pub(crate) const CANCELLED: Page = Page {
+pub(crate) static CANCELLED: Page = Page {
     name: "cancelled",
     title: FAULT,
     when: "`check` in a task that was cancelled when the turn began",
@@ -49,7 +49,7 @@ pub(crate) const CANCELLED: Page = Page {
     }),
 };
 
-pub(crate) const INVARIANT: Page = Page {
+pub(crate) static INVARIANT: Page = Page {
     name: "invariant",
     title: FAULT,
     when: "the turn would leave an invariant of its executor's actors 0, or overflowing",
@@ -75,7 +75,7 @@ pub(crate) const INVARIANT: Page = Page {
     }),
 };
 
-pub(crate) const OVERFLOW: Page = Page {
+pub(crate) static OVERFLOW: Page = Page {
     name: "overflow",
     title: FAULT,
     when: "a value outside 64 bits, or a task or a group of a task that would be numbered past 32 bits",
@@ -91,7 +91,7 @@ pub(crate) const OVERFLOW: Page = Page {
     }),
 };
 
-pub(crate) const STEPS: Page = Page {
+pub(crate) static STEPS: Page = Page {
     name: "steps",
     title: FAULT,
     when: "a turn of more than 10,000 steps: each statement is one, and for a `while` each test is one",
@@ -107,7 +107,7 @@ pub(crate) const STEPS: Page = Page {
     }),
 };
 
-pub(crate) const TASKS: Page = Page {
+pub(crate) static TASKS: Page = Page {
     name: "tasks",
     title: FAULT,
     when: "more tasks than the turn may make: 16, or what is left of 1,024 once the roots, all tasks made so far (ended ones too), and those that other turns under way may still make are taken off",
@@ -123,7 +123,7 @@ pub(crate) const TASKS: Page = Page {
     }),
 };
 
-pub(crate) const ISOLATION: Page = Page {
+pub(crate) static ISOLATION: Page = Page {
     name: "isolation",
     title: FAULT,
     when: "an `assume` of an actor that runs on another executor",
@@ -142,7 +142,7 @@ pub(crate) const ISOLATION: Page = Page {
     }),
 };
 
-pub(crate) const EMPTY: Page = Page {
+pub(crate) static EMPTY: Page = Page {
     name: "empty",
     title: FAULT,
     when: "`await next` where no child is left",
@@ -158,7 +158,7 @@ pub(crate) const EMPTY: Page = Page {
     }),
 };
 
-pub(crate) const DEPTH: Page = Page {
+pub(crate) static DEPTH: Page = Page {
     name: "depth",
     title: FAULT,
     when: "a call from a task that has 64 frames",
@@ -174,7 +174,7 @@ pub(crate) const DEPTH: Page = Page {
     }),
 };
 
-pub(crate) const TURNS: Page = Page {
+pub(crate) static TURNS: Page = Page {
     name: "turns",
     title: FAULT,
     when: "each turn of a task from its 1,001st on",

@@ -1,6 +1,6 @@
 //! The words of a command line.
 
-ghost use Rattle.std.specs.Prelude.{◌≡◌, ◌≢◌, ◌≤◌, codes, IfOk, IfSome};
+ghost use Rattle.std.specs.Prelude.{◌≡◌, ◌≢◌, ◌≤◌, codes, IfOk};
 ghost use Rattle.swift_types.specs.declared.limits.TheConstants.{WORKERS};
 ghost use Rattle.nuchapay_tool.specs.Requests.{HasCrew};
 ghost use Rattle.nuchapay_tool.specs.declared.requests.Source.TheVariants.{File, Stdin};
@@ -33,53 +33,74 @@ fn workers<'a>(alloc: Global) -> Arg<'a> {
         .default_value("1")
 }
 
-fn run_command<'a>(alloc: Global) -> Result<Command<'a>, AllocError> {
-    let quiet = Arg::new(alloc, "quiet")
+fn quiet<'a>(alloc: Global) -> Arg<'a> {
+    Arg::new(alloc, "quiet")
         .long("quiet")
         .help("Leaves the journals out of the report")
-        .action(ArgAction::SetTrue);
-    let values = Arg::new(alloc, "values")
+        .action(ArgAction::SetTrue)
+}
+
+fn values<'a>(alloc: Global) -> Arg<'a> {
+    Arg::new(alloc, "values")
         .long("values")
         .help("Says below each turn which fields it changed")
-        .action(ArgAction::SetTrue);
-    let format = Arg::new(alloc, "format")
+        .action(ArgAction::SetTrue)
+}
+
+fn report_format<'a>(alloc: Global) -> Arg<'a> {
+    Arg::new(alloc, "format")
         .long("format")
         .value_name("FORMAT")
         .help("Prints the report as text, or as JSON")
         .action(ArgAction::Set)
         .value_parser(["text", "json"].as_slice())
-        .default_value("text");
-    Command::new(alloc, "run")
+        .default_value("text")
+}
+
+// The words of a command, with one argument more. In a function of its own, so that this is the one place where something is let go when
+// the words so far were refused. For the same reason arguments are made where they are handed on.
+fn with_arg<'a>(
+    words: Result<Command<'a>, AllocError>,
+    more: Arg<'a>,
+) -> Result<Command<'a>, AllocError> {
+    words?.arg(more)
+}
+
+fn run_command<'a>(alloc: Global) -> Result<Command<'a>, AllocError> {
+    let words = Command::new(alloc, "run")
         .about(
             "Runs a script, and prints the journal of each executor, how each task ended, and the fields",
         )
         .after_help("Example: nuchapay run --workers 4 examples/account.actors")
-        .arg(file(alloc))?
-        .arg(workers(alloc))?
-        .arg(quiet)?
-        .arg(values)?
-        .arg(format)
+        .arg(file(alloc));
+    let words = with_arg(words, workers(alloc));
+    let words = with_arg(words, quiet(alloc));
+    let words = with_arg(words, values(alloc));
+    with_arg(words, report_format(alloc))
 }
 
-fn why_command<'a>(alloc: Global) -> Result<Command<'a>, AllocError> {
-    let turn = Arg::new(alloc, "turn")
+fn turn<'a>(alloc: Global) -> Arg<'a> {
+    Arg::new(alloc, "turn")
         .value_name("TURN")
         .help("The turn, as the journal names it: t1.0 is the first turn of task 1")
         .action(ArgAction::Set)
-        .required(true);
+        .required(true)
+}
+
+fn why_command<'a>(alloc: Global) -> Result<Command<'a>, AllocError> {
     let script = Arg::new(alloc, "file")
         .value_name("FILE")
         .help("The script; standard input where it is -")
         .action(ArgAction::Set)
         .required(true);
-    Command::new(alloc, "why")
+    let words = Command::new(alloc, "why")
         .about(
             "Runs a script, and explains one of its turns: what it began with, what it did to the fields, and who changed them meanwhile",
         )
         .after_help("Example: nuchapay why examples/account.actors t1.1")
-        .arg(script)?
-        .arg(turn)?
-        .arg(workers(alloc))
+        .arg(script);
+    let words = with_arg(words, turn(alloc));
+    with_arg(words, workers(alloc))
 }
 
 fn check_command<'a>(alloc: Global) -> Result<Command<'a>, AllocError> {
@@ -89,11 +110,11 @@ fn check_command<'a>(alloc: Global) -> Result<Command<'a>, AllocError> {
         .help("Colours what is said of a refusal: always or never")
         .action(ArgAction::Set)
         .default_value("never");
-    Command::new(alloc, "check")
+    let words = Command::new(alloc, "check")
         .about("Says whether a script is accepted; else why not, where, and what to do")
         .after_help("Example: nuchapay check examples/account.actors")
-        .arg(file(alloc))?
-        .arg(colour)
+        .arg(file(alloc));
+    with_arg(words, colour)
 }
 
 fn explain_command<'a>(alloc: Global) -> Result<Command<'a>, AllocError> {
@@ -115,13 +136,13 @@ fn print_command<'a>(alloc: Global) -> Result<Command<'a>, AllocError> {
         .long("pretty")
         .help("Lays the script out: indented, one statement on a line")
         .action(ArgAction::SetTrue);
-    Command::new(alloc, "print")
+    let words = Command::new(alloc, "print")
         .about(
             "Prints the printed form of a script, which is the same for texts that spell one script",
         )
         .after_help("Example: nuchapay print examples/account.actors")
-        .arg(file(alloc))?
-        .arg(pretty)
+        .arg(file(alloc));
+    with_arg(words, pretty)
 }
 
 fn show_command<'a>(alloc: Global) -> Result<Command<'a>, AllocError> {
@@ -132,12 +153,12 @@ fn show_command<'a>(alloc: Global) -> Result<Command<'a>, AllocError> {
         .action(ArgAction::Set)
         .value_parser(["svg", "trace"].as_slice())
         .default_value("svg");
-    Command::new(alloc, "show")
+    let words = Command::new(alloc, "show")
         .about("Runs a script, and shows the run as a picture")
         .after_help("Example: nuchapay show examples/account.actors > account.svg")
-        .arg(file(alloc))?
-        .arg(workers(alloc))?
-        .arg(format)
+        .arg(file(alloc));
+    let words = with_arg(words, workers(alloc));
+    with_arg(words, format)
 }
 
 fn swift_command<'a>(alloc: Global) -> Result<Command<'a>, AllocError> {
@@ -147,20 +168,31 @@ fn swift_command<'a>(alloc: Global) -> Result<Command<'a>, AllocError> {
         .arg(file(alloc))
 }
 
+// The words that the program takes, with one command more, as `with_arg`.
+fn with_command<'a>(
+    words: Result<Command<'a>, AllocError>,
+    more: Result<Command<'a>, AllocError>,
+) -> Result<Command<'a>, AllocError> {
+    let more = more?;
+    words?.subcommand(more)
+}
+
 // The words that the program takes.
 fn command<'a>(alloc: Global) -> Result<Command<'a>, AllocError> {
-    Command::new(alloc, "nuchapay")
-        .about("Runs scripts of actors, and answers questions about them")
-        .version("0.1.0")
-        .subcommand_required(true)
-        .arg_required_else_help(true)
-        .subcommand(run_command(alloc)?)?
-        .subcommand(why_command(alloc)?)?
-        .subcommand(check_command(alloc)?)?
-        .subcommand(explain_command(alloc)?)?
-        .subcommand(print_command(alloc)?)?
-        .subcommand(show_command(alloc)?)?
-        .subcommand(swift_command(alloc)?)
+    let words = Ok(
+        Command::new(alloc, "nuchapay")
+            .about("Runs scripts of actors, and answers questions about them")
+            .version("0.1.0")
+            .subcommand_required(true)
+            .arg_required_else_help(true),
+    );
+    let words = with_command(words, run_command(alloc));
+    let words = with_command(words, why_command(alloc));
+    let words = with_command(words, check_command(alloc));
+    let words = with_command(words, explain_command(alloc));
+    let words = with_command(words, print_command(alloc));
+    let words = with_command(words, show_command(alloc));
+    with_command(words, swift_command(alloc))
 }
 
 // The file that was named.
@@ -183,19 +215,33 @@ fn source_of(path: &str) -> Source<'_>
     }
 }
 
+// Words that were read, and that ask for nothing that there is.
+#[derive(Clone, Copy)]
+struct Refused {
+    kind: ErrorKind,
+    said: &'static str,
+}
+
 // What the words of `run` ask for.
-fn run_request<'a>(matches: &ArgMatches<'a>) -> Request<'a>
-    ensures { HasCrew result }
+fn run_request<'a>(matches: &ArgMatches<'a>) -> Result<Request<'a>, Refused>
+    ensures { IfOk result HasCrew }
 {
     let workers = workers_of(matches);
     let quiet = matches.get_flag("quiet");
+    let values = matches.get_flag("values");
     if is_json(matches) {
-        return Request::RunJson(source(matches), workers, quiet);
+        if values {
+            return Err(Refused {
+                kind: ErrorKind::ArgumentConflict,
+                said: "--values is for text, and not for JSON",
+            });
+        }
+        return Ok(Request::RunJson(source(matches), workers, quiet));
     }
-    if matches.get_flag("values") && !quiet {
-        return Request::Values(source(matches), workers);
+    if values && !quiet {
+        return Ok(Request::Values(source(matches), workers));
     }
-    Request::Run(source(matches), workers, quiet)
+    Ok(Request::Run(source(matches), workers, quiet))
 }
 
 // Whether a report is to be JSON.
@@ -224,11 +270,70 @@ fn show_request<'a>(matches: &ArgMatches<'a>) -> Request<'a>
 }
 
 // What the words of `why` ask for, if they name a turn.
-fn why_request<'a>(matches: &ArgMatches<'a>) -> Option<Request<'a>>
-    ensures { IfSome result HasCrew }
+fn why_request<'a>(matches: &ArgMatches<'a>) -> Result<Request<'a>, Refused>
+    ensures { IfOk result HasCrew }
 {
-    let name = turn_name(matches.get_str("turn")?)?;
-    Some(Request::Why(source(matches), name, workers_of(matches)))
+    match matches.get_str("turn").and_then(turn_name) {
+        Some(name) => Ok(Request::Why(source(matches), name, workers_of(matches))),
+        None => Err(Refused {
+            kind: ErrorKind::InvalidValue,
+            said: "a turn is named as in a journal: t1.0 is the first turn of task 1",
+        }),
+    }
+}
+
+// What the words of `check` ask for, if they name a colour that there is.
+fn check_request<'a>(matches: &ArgMatches<'a>) -> Result<Request<'a>, Refused>
+    ensures { IfOk result HasCrew }
+{
+    match is_second(matches, "color", "never", "always") {
+        Some(colour) => Ok(Request::Check(source(matches), colour)),
+        None => Err(Refused {
+            kind: ErrorKind::InvalidValue,
+            said: "a colour is always or never",
+        }),
+    }
+}
+
+// What the words of `explain` ask for, if they name a topic.
+fn explain_request<'a>(word: Option<&'a str>) -> Result<Request<'a>, Refused>
+    ensures { IfOk result HasCrew }
+{
+    match word.and_then(find_topic) {
+        Some(topic) => Ok(Request::Explain(topic)),
+        None => Err(Refused {
+            kind: ErrorKind::InvalidValue,
+            said: "a topic is S1 to S14, N1 to N5, or the word of a fault",
+        }),
+    }
+}
+
+// What the words of a command line ask for.
+fn requested<'a>(matches: &ArgMatches<'a>) -> Result<Request<'a>, Refused>
+    ensures { IfOk result HasCrew }
+{
+    if let Some(found) = matches.subcommand_matches("run") {
+        return run_request(found);
+    }
+    if let Some(found) = matches.subcommand_matches("check") {
+        return check_request(found);
+    }
+    if let Some(found) = matches.subcommand_matches("print") {
+        return Ok(Request::Print(source(found), found.get_flag("pretty")));
+    }
+    if let Some(found) = matches.subcommand_matches("show") {
+        return Ok(show_request(found));
+    }
+    if let Some(found) = matches.subcommand_matches("why") {
+        return why_request(found);
+    }
+    if let Some(found) = matches.subcommand_matches("swift") {
+        return Ok(Request::Swift(source(found)));
+    }
+    match matches.subcommand_matches("explain") {
+        Some(found) => explain_request(found.get_str("topic")),
+        None => explain_request(None),
+    }
 }
 
 // Whether the second of two words is what an argument says, and not the first, which is meant where it is missing; none where it is
@@ -263,49 +368,18 @@ pub fn request<'a>(alloc: Global, words: &'a [String]) -> Result<Request<'a>, Er
     ensures { IfOk result HasCrew }
 {
     let mut command = command(alloc)?;
+    request_of(&mut command, words)
+}
+
+// The same by the words that the program takes.
+fn request_of<'a>(command: &mut Command<'a>, words: &'a [String]) -> Result<Request<'a>, Error>
+    ensures { IfOk result HasCrew }
+{
     let matches = command.try_get_matches_from_mut(words)?;
-    if let Some(found) = matches.subcommand_matches("run") {
-        if is_json(found) && found.get_flag("values") {
-            return Err(command.error(
-                ErrorKind::ArgumentConflict,
-                "--values is for text, and not for JSON",
-            )?);
-        }
-        return Ok(run_request(found));
-    }
-    if let Some(found) = matches.subcommand_matches("check") {
-        return match is_second(found, "color", "never", "always") {
-            Some(colour) => Ok(Request::Check(source(found), colour)),
-            None => Err(command.error(ErrorKind::InvalidValue, "a colour is always or never")?),
-        };
-    }
-    if let Some(found) = matches.subcommand_matches("print") {
-        return Ok(Request::Print(source(found), found.get_flag("pretty")));
-    }
-    if let Some(found) = matches.subcommand_matches("show") {
-        return Ok(show_request(found));
-    }
-    if let Some(found) = matches.subcommand_matches("why") {
-        return match why_request(found) {
-            Some(request) => Ok(request),
-            None => Err(command.error(
-                ErrorKind::InvalidValue,
-                "a turn is named as in a journal: t1.0 is the first turn of task 1",
-            )?),
-        };
-    }
-    if let Some(found) = matches.subcommand_matches("swift") {
-        return Ok(Request::Swift(source(found)));
-    }
-    let asked = matches.subcommand_matches("explain");
-    match asked
-        .and_then(|found| found.get_str("topic"))
-        .and_then(find_topic)
-    {
-        Some(topic) => Ok(Request::Explain(topic)),
-        None => Err(command.error(
-            ErrorKind::InvalidValue,
-            "a topic is S1 to S14, N1 to N5, or the word of a fault",
-        )?),
+    let found = requested(&matches);
+    drop(matches);
+    match found {
+        Ok(request) => Ok(request),
+        Err(refused) => Err(command.error(refused.kind, refused.said)?),
     }
 }

@@ -1,10 +1,32 @@
 //! The text of tokens.
 
+ghost use Rattle.std.specs.Prelude.{◌≡◌, ◌⊎◌, ◌∷◌, ◌++◌, [], true, List, IfOk, OnOk};
+ghost use Rattle.script_tokens.specs.declared.mark.Mark.TheVariants.{Open, Close};
+ghost use Rattle.script_tokens.specs.declared.token.Token.{Token};
+ghost use Rattle.script_tokens.specs.declared.token.Token.TheVariants.{Sign};
+ghost use Rattle.script_layout.specs.Layouts.{LaysOut, token_text};
+
 use crate::gap::{Gap, gap_before};
 use crate::needless::needless;
 use crate::part::{Part, part_at};
-use script_tokens::Token;
+use script_tokens::{Mark, Token};
 use std::alloc::{AllocError, Global};
+
+// In how many blocks a token stands, by that of the token before it.
+fn depth_before(part: Part, depth: usize) -> usize {
+    match part {
+        Part::CloseBrace => depth.saturating_sub(1),
+        _ => depth,
+    }
+}
+
+// In how many blocks what follows a token stands.
+fn depth_after(part: Part, depth: usize) -> usize {
+    match part {
+        Part::OpenBrace => depth.saturating_add(1),
+        _ => depth,
+    }
+}
 
 // A text that is written.
 #[derive(Drop)]
@@ -18,7 +40,9 @@ struct Written {
 
 impl Written {
     // Begins a line.
-    fn line(&mut self) -> Result<(), AllocError> {
+    fn line(&mut self) -> Result<(), AllocError>
+        ensures { (ts : List Token) → LaysOut ts self.old.text.items → OnOk result (LaysOut ts self.new.text.items) }
+    {
         self.text.push(b'\n')?;
         for _ in 0..self.depth {
             self.text.extend_from_slice(b"    ")?;
@@ -26,7 +50,9 @@ impl Written {
         Ok(())
     }
 
-    fn space(&mut self, gap: Gap) -> Result<(), AllocError> {
+    fn space(&mut self, gap: Gap) -> Result<(), AllocError>
+        ensures { (ts : List Token) → LaysOut ts self.old.text.items → OnOk result (LaysOut ts self.new.text.items) }
+    {
         match gap {
             Gap::Nothing => Ok(()),
             Gap::Space => {
@@ -41,24 +67,59 @@ impl Written {
         }
     }
 
+    // Puts what stands before a token after the others.
+    fn begin(&mut self, part: Part) -> Result<(), AllocError>
+        ensures { (ts : List Token) → LaysOut ts self.old.text.items → OnOk result (LaysOut ts self.new.text.items) }
+    {
+        self.depth = depth_before(part, self.depth);
+        if self.text.is_empty() {
+            return Ok(());
+        }
+        self.space(gap_before(self.last, part, self.depth))
+    }
+
     // Puts a token after the others.
-    fn token(&mut self, alloc: Global, part: Part, token: &Token) -> Result<(), AllocError> {
-        if matches!(part, Part::CloseBrace) {
-            self.depth = self.depth.saturating_sub(1);
-        }
-        if !self.text.is_empty() {
-            self.space(gap_before(self.last, part, self.depth))?;
-        }
+    fn token(&mut self, alloc: Global, part: Part, token: &Token) -> Result<(), AllocError>
+        ensures { (ts : List Token) → LaysOut ts self.old.text.items → OnOk result (LaysOut (ts ++ token.now ∷ []) self.new.text.items) }
+    {
+        self.begin(part)?;
         self.word(alloc, token)?;
-        if matches!(part, Part::OpenBrace) {
-            self.depth = self.depth.saturating_add(1);
-        }
+        self.depth = depth_after(part, self.depth);
         self.last = part;
         Ok(())
     }
 
+    // The same, unless it is a parenthesis that is needless.
+    fn token_unless(
+        &mut self,
+        alloc: Global,
+        is_needless: bool,
+        part: Part,
+        token: &Token,
+    ) -> Result<(), AllocError>
+        ensures { (ts : List Token) → LaysOut ts self.old.text.items → OnOk result (LaysOut (ts ++ token.now ∷ []) self.new.text.items) }
+    {
+        if is_left_out(is_needless, token) {
+            return Ok(());
+        }
+        self.token(alloc, part, token)
+    }
+
+    // Ends the last line, if there is one.
+    fn end(&mut self) -> Result<(), AllocError>
+        ensures { (ts : List Token) → LaysOut ts self.old.text.items → OnOk result (LaysOut ts self.new.text.items) }
+    {
+        if self.text.is_empty() {
+            return Ok(());
+        }
+        self.text.push(b'\n')?;
+        Ok(())
+    }
+
     // Puts the bytes of a token after the others.
-    fn word(&mut self, alloc: Global, token: &Token) -> Result<(), AllocError> {
+    fn word(&mut self, alloc: Global, token: &Token) -> Result<(), AllocError>
+        ensures { OnOk result (self.new.text.items ≡ self.old.text.items ++ token_text token.now) }
+    {
         match token {
             Token::Num(number) => {
                 let digits = number.to_string(alloc)?;
@@ -72,14 +133,35 @@ impl Written {
     }
 }
 
+// Whether a token is a parenthesis.
+fn is_parenthesis(token: &Token) -> bool
+    ensures { result ≡ true → (token.now ≡ Sign Open) ⊎ (token.now ≡ Sign Close) }
+{
+    matches!(token, Token::Sign(Mark::Open | Mark::Close))
+}
+
+// Whether a token is left out: a parenthesis that is needless.
+fn is_left_out(is_needless: bool, token: &Token) -> bool
+    ensures { result ≡ true → (token.now ≡ Sign Open) ⊎ (token.now ≡ Sign Close) }
+{
+    if is_needless {
+        is_parenthesis(token)
+    } else {
+        false
+    }
+}
+
 /// The tokens of a printed form as a person would lay them out (our own): four spaces of indentation for each block, one statement on a
-/// line, an empty line round actors and between methods, and no parenthesis without which the same is read. That the text spells the
-/// same script is not said here: who prints it has to read it again. Linear in the text.
+/// line, an empty line round actors and between methods, and no parenthesis without which the same is read. The text has each token's
+/// bytes, in order, but for such parentheses. That it spells the same script is not said here: who prints it has to read it again. Linear
+/// in the text.
 ///
 /// # Errors
 ///
 /// `AllocError` where there is no memory for the text.
-pub fn layout(alloc: Global, tokens: &[Token]) -> Result<Vec<u8>, AllocError> {
+pub fn layout(alloc: Global, tokens: &[Token]) -> Result<Vec<u8>, AllocError>
+    ensures { IfOk result (λ text. LaysOut tokens.now text.items) }
+{
     let needless = needless(alloc, tokens)?;
     let mut written = Written {
         text: Vec::new(alloc),
@@ -87,12 +169,9 @@ pub fn layout(alloc: Global, tokens: &[Token]) -> Result<Vec<u8>, AllocError> {
         last: Part::Word,
     };
     for (place, token) in tokens.iter().enumerate() {
-        if !needless.get(place).copied().unwrap_or(false) {
-            written.token(alloc, part_at(tokens, place), token)?;
-        }
+        let is_needless = needless.get(place).copied().unwrap_or(false);
+        written.token_unless(alloc, is_needless, part_at(tokens, place), token)?;
     }
-    if !written.text.is_empty() {
-        written.text.push(b'\n')?;
-    }
+    written.end()?;
     Ok(written.text)
 }
