@@ -55,7 +55,7 @@ fn head_part(alloc: Global, tokens: Tokens<'_>) -> Result<(Head, Tokens<'_>), Re
     }
 }
 
-// The same, where it may stand.
+// What stands in front of a block, in a region in which it may stand.
 #[tactic(auto, unfolding(crate::specs::Model::Statements::head_at))]
 fn head(alloc: Global, region: Region, tokens: Tokens<'_>) -> Result<(Head, Tokens<'_>), ReadError>
     ensures { Gives (λ x. (view_head x.0, map piece x.1.now)) result (head_at NESTING region (map piece tokens.now)) }
@@ -102,7 +102,7 @@ fn headed(
     Ok((Stmt::Block(head, body), rest))
 }
 
-// One statement, where so many blocks may still be opened.
+// One statement, where `blocks` blocks may still be opened.
 #[cycle(statement)]
 #[tactic(auto, unfolding(crate::specs::Model::Statements::stmt_at))]
 fn stmt(
@@ -172,7 +172,7 @@ fn statements(
     Err(refused(Kind::EndsEarly, rest))
 }
 
-// A block, where so many may still be opened.
+// A block, where `blocks` blocks may still be opened, itself among them.
 #[cycle(statement)]
 #[tactic(auto, unfolding(crate::specs::Model::Statements::block_at))]
 pub(crate) fn block(

@@ -77,7 +77,7 @@ region_in r (Group g) = region.Group
 region_in r (Assume a) = region.Assume
 
 abbrev mutual
-  -- statements, where so many further blocks may be opened
+  -- a statement, where at most `blocks` further blocks may be open at once
   pub StmtFits : ℕ → Region → ℕ → StmtTree → Type 0
   StmtFits limit r blocks (Do a) = ActionFits limit r a
   StmtFits limit r blocks (Headed h ss) = HeadFits limit r h × (0 < blocks) × BlockFits limit (region_in r h) (blocks - 1) ss

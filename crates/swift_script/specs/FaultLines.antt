@@ -47,7 +47,7 @@ abbrev pub is_root : Piece → Bool
 is_root (Key key.Root) = true
 is_root _ = false
 
--- the place of the token that passes a test and before which so many others do
+-- the place of the token that passes a test and has `before` others before it that do
 abbrev pub place_of : (Piece → Bool) → ℕ → List Piece → ℕ
 place_of test before [] = 0
 place_of test before (p ∷ ps) = if test p then (if before == 0 then 0 else suc (place_of test (before - 1) ps)) else suc (place_of test before ps)
