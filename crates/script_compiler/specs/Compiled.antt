@@ -63,6 +63,7 @@ abbrev pub members_from : Plan → ℕ → ℕ → List ActorTree → List ℕ
 members_from p e k [] = []
 members_from p e k (a ∷ others) = if executor_at p k == e then k ∷ members_from p e (suc k) others else members_from p e (suc k) others
 
+-- the numbers of the actors that run on executor e, in text order
 abbrev pub members_of : Plan → ℕ → List ActorTree → List ℕ
 members_of p e actors = members_from p e 0 actors
 
@@ -98,6 +99,7 @@ method_scope p k m = with_parameters (fields_alone p.directory k) m.params
 abbrev pub places_of : Scope → MethodTree → Counts
 places_of s m = most_of (counts_of s.kinds) (block_tree m.body)
 
+-- what a method of the actor at place k is compiled to
 abbrev pub method_of : Plan → ℕ → MethodTree → MethodView
 method_of p k m = record {
   name = m.name;
@@ -113,9 +115,11 @@ abbrev pub methods_from : Plan → ℕ → List ActorTree → List MethodView
 methods_from p k [] = []
 methods_from p k (a ∷ others) = map (method_of p k) a.methods ++ methods_from p (suc k) others
 
+-- what a root is compiled to: its method has a number in place of its name
 abbrev pub root_of : Plan → RootTree → RootView
 root_of p r = record { name = r.name; method = method_place p.directory r.actor r.method; args = r.args; priority = r.priority }
 
+-- what a script is compiled to, by a plan
 abbrev pub compiled_by : Plan → ScriptTree → CompiledView
 compiled_by p tree = record {
   executors = executors_from p tree.actors 0 (tree.executors ++ own_executors tree.actors);

@@ -4,6 +4,7 @@ use Rattle.std.specs.List.{count_by}
 use Rattle.script_tokens.specs.Lexes.{front_at}
 use Rattle.script_tokens.specs.Pieces.{Piece}
 
+-- a byte is an LF
 abbrev pub is_line_feed : ℕ → Bool
 is_line_feed b = b == 10
 

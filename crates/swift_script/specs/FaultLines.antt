@@ -35,14 +35,17 @@ pub record AreTokens (text : List ℕ) (pieces : List Piece) (lines : List ℕ) 
 abbrev pub line_at : List ℕ → List ℕ → ℕ → ℕ
 line_at text lines place = slice_index_or lines place (last_line text)
 
+-- a token is a name
 abbrev pub is_name : Piece → Bool
 is_name (Name n) = true
 is_name _ = false
 
+-- a token is the keyword `invariant`
 abbrev pub is_invariant : Piece → Bool
 is_invariant (Key key.Invariant) = true
 is_invariant _ = false
 
+-- a token is the keyword `root`
 abbrev pub is_root : Piece → Bool
 is_root (Key key.Root) = true
 is_root _ = false
