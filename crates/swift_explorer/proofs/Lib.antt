@@ -1,0 +1,7 @@
+mod Given
+mod Led
+mod Followed
+mod First
+mod Ended
+mod Rows
+mod Shorter

@@ -1,0 +1,11 @@
+use Rattle.std.proofs.Common.{◌≡◌}
+use Rattle.std.specs.Prelude.{All}
+use Rattle.std.specs.Arc.{arc_value}
+use Rattle.swift_explorer.specs.Outcomes.{IsOutcomeOf}
+use Rattle.swift_explorer.proofs.search.Search.expand.Given as goal
+
+abbrev pub invariant-loop-step : goal.invariant-loop-step
+invariant-loop-step l = record {
+  script : l.self.script ≡ l.fn.self.script;
+  outcomes : All (IsOutcomeOf (arc_value l.fn.self.script)) l.self.outcomes.items;
+}

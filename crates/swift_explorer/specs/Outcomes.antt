@@ -1,0 +1,15 @@
+-- Outcomes (our own).
+use Rattle.std.specs.Prelude.{◌≡◌, map}
+use Rattle.script_code.specs.Seen.{rows_of}
+use Rattle.swift_script.specs.Scripts.{ScriptView}
+use Rattle.swift_history.specs.Histories.{IsLegal, ReportView}
+use Rattle.swift_digest.specs.Explored.{FoldsNone}
+use Rattle.swift_explorer.specs.declared.outcome.Outcome.{Outcome}
+
+-- Some legal report, in which no executor has folded turns, has these endings and these fields.
+pub record IsOutcomeOf (script : ScriptView) (outcome : Outcome) : Type 0 where
+  pub report : ReportView
+  pub legal : IsLegal script report
+  pub folds : FoldsNone report
+  pub endings : report.endings ≡ outcome.endings.items
+  pub fields : report.fields ≡ map (λ rows. rows_of rows.items) outcome.fields.items

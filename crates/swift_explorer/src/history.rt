@@ -1,0 +1,444 @@
+//! One history, followed from its beginning.
+
+ghost use Rattle.std.specs.Prelude.{◌≡◌, ◌<◌, ℕ, [], ◌∷◌, ◌++◌, IfOk, IfSome, IsSome, Some, length, map, true};
+ghost use Rattle.std.specs.Arc.{arc_value};
+ghost use Rattle.script_code.specs.Seen.{rows_of};
+ghost use Rattle.swift_events.specs.declared.life.Stage.TheVariants.{Begun};
+ghost use Rattle.swift_events.specs.Lives.{life_of};
+ghost use Rattle.swift_history.specs.Histories.{Block};
+ghost use Rattle.swift_script.specs.Scripts.{executor_start};
+ghost use Rattle.swift_turn.specs.Body.{IsRunning};
+ghost use Rattle.swift_interpreter.specs.Frames.{effect_views};
+ghost use Rattle.swift_interpreter.specs.TurnStates.{exit_view};
+ghost use Rattle.swift_events.specs.Relations.{opened_by, is_closed};
+ghost use Rattle.swift_explorer.specs.Outcomes.{IsOutcomeOf};
+ghost use Rattle.swift_explorer.specs.HistoryInside.{Applies, AreFirst, GoesOn, HaveEnded, IsHistory, IsSomeHistory, RunsAt, WasDone, rows_at};
+
+use crate::digest::put_card;
+use crate::frames::{put_fields, put_ready};
+use crate::moves::Move;
+use crate::outcome::Outcome;
+use crate::waiting::{Ready, give_all_up, put, put_all, take};
+use std::alloc::{AllocError, Global};
+use std::mem;
+use std::sync::Arc;
+use swift_events::{Event, Origin};
+use swift_interpreter::{Effect, Exit};
+use swift_log::EventLog;
+use swift_queue::Job;
+use swift_script::Script;
+use swift_tasks::{Book, BookFault};
+use swift_turn::{Body, replay_turn};
+use swift_types::{Ending, ExecId, Fault, RootId, TaskId};
+
+/// Whether a step could be done.
+#[derive(Clone, Copy, PartialEq, Eq)]
+pub enum Followed {
+    /// It may not follow. What is left of the history means nothing.
+    No,
+    /// It was done.
+    Yes,
+    /// It was done, and its turn ended with the fault `invariant`: it was undone, or a turn before it was.
+    Broken,
+}
+
+/// A book that was led along a history, the jobs of its tasks, and the fields. It can't be dropped: `close` gives it up.
+pub struct History {
+    pub alloc: Global,
+    pub script: Arc<Script>,
+    pub book: Book,
+    // By the number of the task. A task that waits or has ended has none.
+    pub tasks: Vec<Option<Ready>>,
+    // By the number of the executor.
+    pub fields: Vec<Vec<Vec<i64>>>,
+    // How many roots were added.
+    pub roots: u32,
+    // It is empty: the jobs that a turn makes come here.
+    pub jobs: Vec<Job<Body>>,
+}
+
+// The fields of each executor at the start.
+fn first_fields(alloc: Global, script: &Script) -> Result<Vec<Vec<Vec<i64>>>, AllocError>
+    ensures { IfOk result (λ fields. AreFirst script.now (map (λ rows. rows_of rows.items) fields.items)) }
+{
+    script.facts();
+    let count = script.executor_count();
+    let mut fields = Vec::with_capacity(alloc, count)?;
+    for place in 0..count {
+        fields.push(script.executor_start(alloc, ExecId(place as u32))?)?;
+    }
+    Ok(fields)
+}
+
+// What follows from a refusal of the book.
+fn refused(fault: BookFault) -> Result<Followed, AllocError>
+    ensures { IfOk result (λ f. f ≡ Followed.No) }
+{
+    match fault {
+        BookFault::Memory => Err(AllocError),
+        BookFault::Unknown | BookFault::Completed | BookFault::Refused => Ok(Followed::No),
+    }
+}
+
+// What is told of a turn that ended so.
+fn told(exit: &Exit) -> Followed {
+    match exit {
+        Exit::Fault(Fault::Invariant) | Exit::Close(_, Some(Fault::Invariant)) => Followed::Broken,
+        _ => Followed::Yes,
+    }
+}
+
+impl History {
+    /// Nothing has happened.
+    pub fn new(alloc: Global, script: &Arc<Script>) -> Result<History, AllocError>
+        ensures script { IfOk result (λ x. arc_value x.script ≡ arc_value script.now) }
+        ensures first { IfOk result (IsHistory (arc_value script.now) []) }
+    {
+        let fields = first_fields(alloc, script)?;
+        let own = Arc::clone(script)?;
+        let Ok(book) = Book::new(alloc, Arc::clone(script)?) else {
+            return Err(AllocError);
+        };
+        Ok(History {
+            alloc,
+            script: own,
+            book,
+            tasks: Vec::new(alloc),
+            fields,
+            roots: 0,
+            jobs: Vec::new(alloc),
+        })
+    }
+
+    // The next root is added.
+    fn add(&mut self) -> Result<Followed, AllocError>
+        requires { IsSomeHistory self.old }
+        ensures script { self.new.script ≡ self.old.script }
+        ensures follows { IfOk result (λ f. WasDone f → GoesOn Move.Add self.old self.new) }
+    {
+        let Some(next) = self.roots.checked_add(1) else {
+            return Ok(Followed::No);
+        };
+        match self.book.add_root(RootId(self.roots)) {
+            Ok(job) => {
+                let (task, ready) = Ready::from_job(job);
+                put(&mut self.tasks, task, ready)?;
+                self.roots = next;
+                Ok(Followed::Yes)
+            }
+            Err(fault) => refused(fault),
+        }
+    }
+
+    // The next turn of a task begins.
+    fn begin(&mut self, task: TaskId) -> Result<Followed, AllocError>
+        requires { IsSomeHistory self.old }
+        ensures script { self.new.script ≡ self.old.script }
+        ensures follows { IfOk result (λ f. WasDone f → GoesOn (Move.Begin task) self.old self.new) }
+    {
+        let Some(ready) = take(&mut self.tasks, task) else {
+            return Ok(Followed::No);
+        };
+        let job = ready.into_job(task);
+        let begun = self.book.begin_known(&job);
+        let (task, ready) = Ready::from_job(job);
+        match begun {
+            Ok(_) => {
+                put(&mut self.tasks, task, ready)?;
+                Ok(Followed::Yes)
+            }
+            Err(fault) => refused(fault),
+        }
+    }
+
+    // What a turn did takes effect.
+    fn apply(
+        &mut self,
+        task: TaskId,
+        ready: Ready,
+        exit: &Exit,
+        effects: Vec<Effect>,
+    ) -> Result<Followed, AllocError>
+        requires running { IsRunning ready.body }
+        requires none { self.old.jobs.items ≡ [] }
+        requires same { ready.body.script ≡ self.old.book.script }
+        ensures script { self.new.script ≡ self.old.script }
+        ensures applies { IfOk result (λ f. WasDone f → Applies self.old self.new task ready (effect_views effects.items) (exit_view exit.now)) }
+    {
+        let job = ready.into_job(task);
+        match self.book.apply_known(job, exit, effects, &mut self.jobs) {
+            Ok(()) => {
+                put_all(&mut self.tasks, &mut self.jobs)?;
+                Ok(told(exit))
+            }
+            Err((job, _effects, fault)) => {
+                let (_task, _ready) = Ready::from_job(job);
+                refused(fault)
+            }
+        }
+    }
+
+    // The turn that a task has begun runs.
+    fn run(&mut self, task: TaskId) -> Result<Followed, AllocError>
+        requires { IsSomeHistory self.old }
+        ensures script { self.new.script ≡ self.old.script }
+        ensures follows { IfOk result (λ f. WasDone f → GoesOn (Move.Run task) self.old self.new) }
+    {
+        let Some(env) = self.book.begun(task) else {
+            return Ok(Followed::No);
+        };
+        let Some(place) = self.executor_of(task) else {
+            return Ok(Followed::No);
+        };
+        if place >= self.fields.len() {
+            return Ok(Followed::No);
+        }
+        let Some(mut ready) = take(&mut self.tasks, task) else {
+            return Ok(Followed::No);
+        };
+        let fields = mem::replace(&mut self.fields[place], Vec::new(self.alloc));
+        let Ok((fields, effects, exit)) = replay_turn(&mut ready.body, fields, ready.resume, env)
+        else {
+            return Err(AllocError);
+        };
+        self.fields[place] = fields;
+        self.apply(task, ready, &exit, effects)
+    }
+
+    /// One more step is done.
+    pub fn step(&mut self, step: Move) -> Result<Followed, AllocError>
+        requires { IsSomeHistory self.old }
+        ensures script { self.new.script ≡ self.old.script }
+        ensures follows { IfOk result (λ f. WasDone f → GoesOn step self.old self.new) }
+    {
+        match step {
+            Move::Add => self.add(),
+            Move::Begin(task) => self.begin(task),
+            Move::Run(task) => self.run(task),
+        }
+    }
+
+    // The number of the executor of the actor of a task that has a job.
+    fn executor_of(&self, task: TaskId) -> Option<usize>
+        ensures { IfSome result (RunsAt (arc_value self.now.script) self.now.tasks.items task) }
+    {
+        let place = task.0 as usize;
+        if place >= self.tasks.len() {
+            return None;
+        }
+        let Some(ready) = &self.tasks[place] else {
+            return None;
+        };
+        if !ready.body.is_running() {
+            return None;
+        }
+        Some(self.script.actor_executor(ready.body.actor()).0 as usize)
+    }
+
+    // Whether a turn is under way at an executor.
+    fn is_busy(&self, executor: usize) -> bool {
+        for place in 0..self.tasks.len() {
+            let Ok(number) = u32::try_from(place) else {
+                return true;
+            };
+            let task = TaskId(number);
+            if self.book.begun(task).is_some() && self.executor_of(task) == Some(executor) {
+                return true;
+            }
+        }
+        false
+    }
+
+    // Whether the turn of a task may run, which has begun.
+    fn can_run(&self, task: TaskId) -> bool {
+        self.executor_of(task).is_some() && self.book.begun(task).is_some()
+    }
+
+    // Whether the next turn of a task may begin.
+    fn can_begin(&self, task: TaskId) -> bool {
+        let Some(executor) = self.executor_of(task) else {
+            return false;
+        };
+        self.book.begun(task).is_none() && !self.is_busy(executor)
+    }
+
+    // The turns that have begun and may run, and the turns that may begin.
+    fn turns(&self, moves: &mut Vec<Move>) -> Result<(), AllocError> {
+        for place in 0..self.tasks.len() {
+            let Ok(number) = u32::try_from(place) else {
+                return Ok(());
+            };
+            if self.can_run(TaskId(number)) {
+                moves.push(Move::Run(TaskId(number)))?;
+            }
+        }
+        for place in 0..self.tasks.len() {
+            let Ok(number) = u32::try_from(place) else {
+                return Ok(());
+            };
+            if self.can_begin(TaskId(number)) {
+                moves.push(Move::Begin(TaskId(number)))?;
+            }
+        }
+        Ok(())
+    }
+
+    /// The steps that may follow: the next root, until all are there; then each turn that has begun may run, and at each executor
+    /// that has no turn under way each turn may begin. Those that run come first, so that of schedules of one length a search meets
+    /// one first whose turns overlap less.
+    pub fn next(&self) -> Result<Vec<Move>, AllocError> {
+        let mut moves = Vec::new(self.alloc);
+        if (self.roots as usize) < self.script.root_count() {
+            moves.push(Move::Add)?;
+        } else {
+            self.turns(&mut moves)?;
+        }
+        Ok(moves)
+    }
+
+    // A copy of the fields.
+    fn fields(&self) -> Result<Vec<Vec<Vec<i64>>>, AllocError>
+        ensures { IfOk result (λ copy. map (λ rows. rows_of rows.items) copy.items ≡ rows_at self.now) }
+    {
+        let mut copy = Vec::with_capacity(self.alloc, self.fields.len())?;
+        for rows in &self.fields {
+            copy.push(copy_of(self.alloc, rows)?)?;
+        }
+        Ok(copy)
+    }
+
+    // Where a task comes from and how it has ended, if it has, and has closed its groups.
+    fn ended(&self, task: TaskId) -> Option<(Origin, Ending)>
+        ensures origin { IfSome result (λ x. (life_of task.0 self.now.book.log).origin ≡ Some x.0) }
+        ensures ending { IfSome result (λ x. (life_of task.0 self.now.book.log).ending ≡ Some x.1) }
+        ensures closed { IsSome result → (g : ℕ) → g < opened_by task.0 self.now.book.log → is_closed task.0 g self.now.book.log ≡ true }
+    {
+        if !self.book.has_closed_all(task) {
+            return None;
+        }
+        let origin = self.book.origin(task)?;
+        let ending = self.book.ending(task)?;
+        Some((origin, ending))
+    }
+
+    // The same of each task, if all have.
+    fn endings(&self) -> Result<Option<Vec<(Origin, Ending)>>, AllocError>
+        ensures { IfOk result (λ o. IfSome o (λ endings. HaveEnded self.now.book.script self.now.book.log endings.items)) }
+    {
+        let mut endings = Vec::new(self.alloc);
+        for place in 0..self.book.tasks() {
+            let Ok(number) = u32::try_from(place) else {
+                return Ok(None);
+            };
+            let Some(ended) = self.ended(TaskId(number)) else {
+                return Ok(None);
+            };
+            endings.push(ended)?;
+        }
+        Ok(Some(endings))
+    }
+
+    /// The outcome, where each root was added and each task has ended.
+    pub fn outcome(&self, place: usize) -> Result<Option<Outcome>, AllocError>
+        requires { IsSomeHistory self.now }
+        ensures { IfOk result (λ o. IfSome o (λ outcome. IsOutcomeOf (arc_value self.now.script) outcome)) }
+    {
+        if self.roots as usize != self.script.root_count() {
+            return Ok(None);
+        }
+        let Some(endings) = self.endings()? else {
+            return Ok(None);
+        };
+        Ok(Some(Outcome {
+            place,
+            endings,
+            fields: self.fields()?,
+        }))
+    }
+
+    /// All that counts for what may come next, as numbers. It gives the history up.
+    pub fn into_key(self) -> Result<Vec<i64>, AllocError> {
+        let History {
+            alloc,
+            script: _,
+            book,
+            mut tasks,
+            fields,
+            roots,
+            jobs,
+        } = self;
+        give_all_up(jobs);
+        let count = book.tasks();
+        let (log, mut waiting) = book.close();
+        let kept = put_all(&mut tasks, &mut waiting);
+        give_all_up(waiting);
+        kept?;
+        let mut key = Vec::new(alloc);
+        key.push(i64::from(roots))?;
+        put_tasks(&mut key, &events_of(alloc, &log)?, tasks, count)?;
+        put_fields(&mut key, &fields)?;
+        Ok(key)
+    }
+
+    /// Gives the history up.
+    pub fn close(self) {
+        let History {
+            alloc: _,
+            script: _,
+            book,
+            tasks: _,
+            fields: _,
+            roots: _,
+            jobs,
+        } = self;
+        give_all_up(jobs);
+        let (_log, waiting) = book.close();
+        give_all_up(waiting);
+    }
+}
+
+// A copy of the fields of an executor.
+fn copy_of(alloc: Global, rows: &[Vec<i64>]) -> Result<Vec<Vec<i64>>, AllocError>
+    ensures { IfOk result (λ copy. rows_of copy.items ≡ rows_of rows.now) }
+{
+    let mut copy = Vec::with_capacity(alloc, rows.len())?;
+    for row in rows {
+        copy.push(Vec::from_slice(alloc, row)?)?;
+    }
+    Ok(copy)
+}
+
+// The events of a log.
+fn events_of(alloc: Global, log: &EventLog) -> Result<Vec<Event>, AllocError>
+    ensures { IfOk result (λ events. events.items ≡ log.now.events) }
+{
+    let mut events = Vec::with_capacity(alloc, log.len())?;
+    for place in 0..log.len() {
+        events.push(log.event(place))?;
+    }
+    Ok(events)
+}
+
+// So many tasks: their cards, and what is left of them to do.
+fn put_tasks(
+    key: &mut Vec<i64>,
+    log: &[Event],
+    mut tasks: Vec<Option<Ready>>,
+    count: usize,
+) -> Result<(), AllocError> {
+    for place in 0..count {
+        let Ok(number) = u32::try_from(place) else {
+            return Err(AllocError);
+        };
+        let task = TaskId(number);
+        put_card(key, log, task)?;
+        match take(&mut tasks, task) {
+            None => key.push(0)?,
+            Some(ready) => {
+                key.push(1)?;
+                put_ready(key, ready)?;
+            }
+        }
+    }
+    Ok(())
+}

@@ -1,0 +1,28 @@
+//! Every outcome that some order of turns of a script leads to.
+#![tactic(auto)]
+
+// What a log says of tasks and groups, as numbers.
+mod digest;
+// What is left of tasks to do, as numbers.
+mod frames;
+// Lists of numbers as bytes.
+mod key;
+// One history, followed from its beginning.
+mod history;
+// Steps of a history.
+mod moves;
+// How a history has ended.
+mod outcome;
+// The search.
+mod search;
+// What a search has found, as a text.
+mod text;
+// Small values as numbers.
+mod values;
+// What the next turn of each task begins with.
+mod waiting;
+
+pub use moves::Move;
+pub use outcome::Outcome;
+pub use search::{Found, explore};
+pub use text::found_text;
