@@ -18,7 +18,7 @@ use Rattle.swift_history.specs.TurnEnds.{HeldView}
 use Rattle.swift_course.specs.Course.{start_of, starts}
 use Rattle.swift_course.proofs.Starts.{many_starts}
 use Rattle.swift_explorer.specs.declared.waiting.Ready.{Ready}
-use Rattle.swift_explorer.specs.HistoryInside.{AreEnded, HaveEnded, IsLed}
+use Rattle.swift_explorer.specs.HistoryInside.{AreEnded, HaveClosed, IsLed}
 use Rattle.swift_explorer.proofs.First.{mapped, range_at, range_length}
 
 -- what stands at a place of a list with one more
@@ -32,45 +32,31 @@ push_at (z ∷ xs) x y (suc t) at = elim (push_at xs x y t at) [
 ]
 
 pub ended_none : (log : List Event) → AreEnded log []
-ended_none log = record { each = λ t x at. absurd (none-some x at); closed = λ t g lt below. absurd (omega (arith, lt)) }
+ended_none log t x at = absurd (none-some x at)
 
-push_length : {A : Type 0} (xs : List A) (x : A) → length (xs ++ x ∷ []) ≡ length xs + 1
-push_length [] x = refl
-push_length (y ∷ xs) x = ap suc (push_length xs x)
-
-lt_or : (t n : ℕ) → t < n + 1 → (t < n) ⊎ (t ≡ n)
-lt_or t n lt = grind (arith, lt)
-
-pub ended_push : (log : List Event) (es : List (Origin × Ending)) (x : Origin × Ending) → AreEnded log es → (life_of (length es) log).origin ≡ Some x.0 → (life_of (length es) log).ending ≡ Some x.1
-    → ((g : ℕ) → g < opened_by (length es) log → is_closed (length es) g log ≡ true) → AreEnded log (es ++ x ∷ [])
-ended_push log es x are origin ending closed = record {
-  each = λ t y at. elim (push_at es x y t at) [
-    | inl old ↦ are.each t y old
-    | inr new ↦ (
-      ap (λ (u : ℕ). (life_of u log).origin) new.0 ∙ origin ∙ ap (λ (z : Origin × Ending). Some z.0) new.1,
-      ap (λ (u : ℕ). (life_of u log).ending) new.0 ∙ ending ∙ ap (λ (z : Origin × Ending). Some z.1) new.1,
-    )
-  ];
-  closed = λ t g lt below. elim (lt_or t (length es) (subst (λ (n : ℕ). t < n) (push_length es x) lt)) [
-    | inl old ↦ are.closed t g old below
-    | inr new ↦ ap (λ (u : ℕ). is_closed u g log) new ∙ closed g (subst (λ (u : ℕ). g < opened_by u log) new below)
-  ];
-}
+pub ended_push : (log : List Event) (es : List (Origin × Ending)) (x : Origin × Ending) → AreEnded log es → (life_of (length es) log).origin ≡ Some x.0 → (life_of (length es) log).ending ≡ Some x.1 → AreEnded log (es ++ x ∷ [])
+ended_push log es x are origin ending t y at = elim (push_at es x y t at) [
+  | inl old ↦ are t y old
+  | inr new ↦ (
+    ap (λ (u : ℕ). (life_of u log).origin) new.0 ∙ origin ∙ ap (λ (z : Origin × Ending). Some z.0) new.1,
+    ap (λ (u : ℕ). (life_of u log).ending) new.0 ∙ ending ∙ ap (λ (z : Origin × Ending). Some z.1) new.1,
+  )
+]
 
 pub starts_at : (script : ScriptView) (e : ℕ) (c : CheckpointView) → slice_get (starts script) e ≡ Some c → c ≡ start_of script e
 starts_at script e c at =
     let one = mapped (start_of script) (slice_get (range_with_len 0 (executor_count script)) e) c (sym (slice_get-map (start_of script) (range_with_len 0 (executor_count script)) e) ∙ at) in
-    let place = range_at 0 (executor_count script) e one.0 one.1.0 in
+    let place = range_at 0 (executor_count script) e one.0 one.1 in
     let is : one.0 ≡ e = place.0 in
-    sym one.1.1 ∙ ap (start_of script) is
+    sym one.2 ∙ ap (start_of script) is
 
 journals_at : (script : ScriptView) (bs : List Block) (e : ℕ) (rs : List RecordView) → slice_get (map (λ (k : ℕ). records_of k bs) (range_with_len 0 (executor_count script))) e ≡ Some rs → rs ≡ records_of e bs
 journals_at script bs e rs at =
     let f = λ (k : ℕ). records_of k bs in
     let one = mapped f (slice_get (range_with_len 0 (executor_count script)) e) rs (sym (slice_get-map f (range_with_len 0 (executor_count script)) e) ∙ at) in
-    let place = range_at 0 (executor_count script) e one.0 one.1.0 in
+    let place = range_at 0 (executor_count script) e one.0 one.1 in
     let is : one.0 ≡ e = place.0 in
-    sym one.1.1 ∙ ap f is
+    sym one.2 ∙ ap f is
 
 -- the report that such a history has made
 abbrev pub report_of : ScriptView → List Block → List Event → List (Origin × Ending) → List (List (List ℤ)) → ReportView
@@ -83,8 +69,8 @@ report_of script bs log es fields = record {
 }
 
 pub legal_is : (script : ScriptView) (bs : List Block) (log : List Event) (held : List (Option HeldView)) (tasks : List (Option Ready)) (fields : List (List (List ℤ))) (roots : ℕ) (es : List (Origin × Ending))
-    → IsLed script bs log held tasks fields roots → roots ≡ root_count script → HaveEnded script log es → IsLegal script (report_of script bs log es fields)
-legal_is script bs log held tasks fields roots es f all have = record {
+    → IsLed script bs log held tasks fields roots → roots ≡ root_count script → length es ≡ tasks_of (root_count script) log → AreEnded log es → HaveClosed log (length es) → IsLegal script (report_of script bs log es fields)
+legal_is script bs log held tasks fields roots es f all many are closed = record {
   blocks = bs;
   stand = f.stand;
   roots = f.roots_are ∙ ap (range_with_len 0) all;
@@ -94,9 +80,9 @@ legal_is script bs log held tasks fields roots es f all have = record {
   folded = λ e c at. ap (λ (x : CheckpointView). x.folded) (starts_at script e c at) ∙ sym (f.none_folded e);
   start = λ e c at none. ap (λ (x : CheckpointView). x.fields) (starts_at script e c at);
   fields = λ e rows at. f.fields_are e rows at;
-  tasks = have.many;
-  endings = have.are.each;
-  groups = have.are.closed;
+  tasks = many;
+  endings = are;
+  groups = closed;
 }
 
 pub folds_none : (script : ScriptView) (e : ℕ) (c : CheckpointView) → slice_get (starts script) e ≡ Some c → c.folded ≡ []

@@ -1,6 +1,7 @@
 -- A history of which nothing was followed.
-use Rattle.std.proofs.Common.{◌≡◌, ◌<◌, ℕ, zero, suc, ◌+◌, List, [], ◌∷◌, ◌++◌, length, map, refl, sym, subst, ap, ◌∙◌, ℤ, arith}
-use Rattle.std.specs.Prelude.{Option, Some, None, option_map, slice_get}
+use Rattle.std.proofs.Common.{Bool, false, ◌≡◌, ◌<◌, ℕ, zero, suc, ◌+◌, List, [], ◌∷◌, ◌++◌, length, map, refl, sym, subst, ap, ◌∙◌, ℤ, arith}
+use Rattle.std.specs.Prelude.{Option, Some, None, slice_get, slice_index_or, replicate}
+use Rattle.std.specs.Option.{option_map}
 use Rattle.std.specs.List.{range_with_len}
 use Rattle.std.proofs.lemmas.List.{length-map}
 use Rattle.std.proofs.lemmas.Option.{none-some, slice_get-map}
@@ -37,9 +38,14 @@ fields_first : (script : ScriptView) (fields : List (List (List ℤ))) (e : ℕ)
 fields_first script fields e rows first at =
     let one = mapped (executor_start script) (slice_get (range_with_len 0 (executor_count script)) e) rows
     (sym (slice_get-map (executor_start script) (range_with_len 0 (executor_count script)) e) ∙ ap (λ (fs : List (List (List ℤ))). slice_get fs e) (sym first) ∙ at) in
-    let place = range_at 0 (executor_count script) e one.0 one.1.0 in
+    let place = range_at 0 (executor_count script) e one.0 one.1 in
     let is : one.0 ≡ e = place.0 in
-    (sym one.1.1 ∙ ap (executor_start script) is, place.1)
+    (sym one.2 ∙ ap (executor_start script) is, place.1)
+
+replicate_at : (n e : ℕ) → slice_index_or (replicate n false) e false ≡ false
+replicate_at zero e = refl
+replicate_at (suc n) zero = refl
+replicate_at (suc n) (suc e) = replicate_at n e
 
 pub first_led : (script : ScriptView) (fields : List (List (List ℤ))) (b : BookView) (tasks : List (Option Ready)) → tasks ≡ [] → AreFirst script fields → b ≡ empty_book script
     → IsLed script [] b.log b.held tasks fields 0
@@ -55,3 +61,7 @@ first_led script fields b tasks no_tasks first empty = record {
       is.0 ∙ sym (start_fields script e is.1));
   roots_are = refl;
 }
+
+pub none_used : (used : List Bool) (n : ℕ) → used ≡ replicate n false → (e : ℕ) → slice_index_or used e false ≡ false
+none_used used n is e = ap (λ (us : List Bool). slice_index_or us e false) is ∙ replicate_at n e
+

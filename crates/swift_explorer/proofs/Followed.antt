@@ -16,7 +16,7 @@ use Rattle.swift_tasks.specs.Books.{BookView, IsJobOf, job_view}
 use Rattle.swift_tasks.specs.Refusals.{refusal_of_begin, refusal_of_root}
 use Rattle.swift_explorer.specs.declared.waiting.Ready.{Ready}
 use Rattle.swift_explorer.specs.declared.history.History.{History}
-use Rattle.swift_explorer.specs.HistoryInside.{AreOf, IsHistory, IsLed, given_at, given_view, job_of, rows_at, with_given}
+use Rattle.swift_explorer.specs.HistoryInside.{AreOf, IsHistory, IsLed, IsReadyOf, given_at, given_view, job_of, rows_at, with_given}
 use Rattle.swift_explorer.proofs.Given.{of_put, of_taken}
 use Rattle.swift_explorer.proofs.Led.{led_begin, led_root}
 
@@ -42,7 +42,7 @@ root_step script blocks x b tasks j t g is ok may job of at made put =
     let more = led_root own blocks x.book.log x.book.held x.tasks.items tasks (rows_at x) x.roots t g before may (view_is j t g at made ∙ job) put in
     record {
       book_is = ap (λ (c : BookView). c.script) ok ∙ is.book_is;
-      scripts = of_put script x.tasks.items tasks t.0 g is.scripts put (ap (λ (h : Ready). h.body.script) made ∙ of.script_is ∙ is.book_is);
+      scripts = of_put script x.tasks.items tasks t.0 g is.scripts put (subst (IsReadyOf script) (sym made) (record { script_is = of.script_is ∙ is.book_is; runs = of.runs }));
       led = subst (λ (c : BookView). IsLed script (blocks ++ added x.roots ∷ []) c.log c.held tasks (rows_at x) (x.roots + 1)) (sym ok)
           (subst (λ (sc : ScriptView). IsLed sc (blocks ++ added x.roots ∷ []) (x.book.log ++ root_events own x.roots) x.book.held tasks (rows_at x) (x.roots + 1)) is.book_is more);
     }

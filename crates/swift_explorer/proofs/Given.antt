@@ -15,7 +15,7 @@ use Rattle.swift_history.specs.Histories.{taken, with_jobs}
 use Rattle.swift_history.specs.TurnEnds.{JobView}
 use Rattle.swift_explorer.specs.declared.waiting.Ready.{Ready}
 use Rattle.std.specs.Option.{option_map}
-use Rattle.swift_explorer.specs.HistoryInside.{AreGiven, AreOf, given_at, given_view, with_given}
+use Rattle.swift_explorer.specs.HistoryInside.{AreGiven, AreOf, IsReadyOf, given_at, given_view, with_given}
 
 same_one : {A : Type 0} (x y : A) → Some x ≡ Some y → x ≡ y
 same_one x y is = ap (λ o. unwrap_or o x) is
@@ -104,12 +104,12 @@ given_step now tasks tasks' js j t g at is given put = (
 -- the bodies of jobs
 
 pub of_put : (script : ScriptView) (tasks tasks' : List (Option Ready)) (t : ℕ) (g : Ready)
-    → AreOf script tasks → ((u : ℕ) → given_at tasks' u ≡ with_given t (Some g) (given_at tasks) u) → g.body.script ≡ script → AreOf script tasks'
+    → AreOf script tasks → ((u : ℕ) → given_at tasks' u ≡ with_given t (Some g) (given_at tasks) u) → IsReadyOf script g → AreOf script tasks'
 of_put script tasks tasks' t g all put own u h is = elim (cases_eq u t) [
   | inl e ↦
       let here : with_given t (Some g) (given_at tasks) u ≡ Some g = ap (λ b. if b then Some g else given_at tasks u) (equal u t e) in
       let same : g ≡ h = same_one g h (sym here ∙ sym (put u) ∙ is) in
-      ap (λ (x : Ready). x.body.script) (sym same) ∙ own
+      subst (IsReadyOf script) same own
   | inr ne ↦
       let here = ap (λ b. if b then Some g else given_at tasks u) (unequal u t ne) in
       all u h (sym here ∙ sym (put u) ∙ is)
@@ -137,5 +137,5 @@ all_turned script (j ∷ js) all = subst (AllByRecursion (IsJobOf script)) (sym 
 pub of_step : (script : ScriptView) (tasks tasks' : List (Option Ready)) (js : List (JobIs BodyView)) (j : JobIs BodyView) (t : TaskId) (g : Ready)
     → g ≡ record { number = j.number; resume = j.resume; body = j.body } → ((u : ℕ) → given_at tasks' u ≡ with_given t.0 (Some g) (given_at tasks) u)
     → AllByRecursion (IsJobOf script) (js ++ j ∷ []) × AreOf script tasks → AllByRecursion (IsJobOf script) js × AreOf script tasks'
-of_step script tasks tasks' [] j t g is put (all, of) = (tt, of_put script tasks tasks' t.0 g of put (ap (λ (x : Ready). x.body.script) is ∙ all.0.script_is))
+of_step script tasks tasks' [] j t g is put (all, of) = (tt, of_put script tasks tasks' t.0 g of put (subst (IsReadyOf script) (sym is) (record { script_is = all.0.script_is; runs = all.0.runs })))
 of_step script tasks tasks' (k ∷ js) j t g is put (all, of) = (let rest = of_step script tasks tasks' js j t g is put (all.1, of) in ((all.0, rest.0), rest.1))

@@ -5,3 +5,5 @@ mod First
 mod Ended
 mod Rows
 mod Shorter
+mod Ran
+mod Used

@@ -1,5 +1,5 @@
 -- While a history is followed. No public clause names these.
-use Rattle.std.specs.Prelude.{◌≡◌, ◌<◌, ℕ, ℤ, ◌==◌, true, if◌then◌else◌, Option, Some, None, List, [], ◌∷◌, ◌++◌, length, map, slice_get, slice_index_or}
+use Rattle.std.specs.Prelude.{◌≡◌, ◌<◌, ℕ, ℤ, ◌==◌, Bool, true, false, is_some, if◌then◌else◌, Option, Some, None, List, [], ◌∷◌, ◌++◌, length, map, slice_get, slice_index_or}
 use Rattle.std.specs.Option.{option_map}
 use Rattle.std.specs.List.{range_with_len}
 use Rattle.std.specs.Arc.{arc_value}
@@ -13,11 +13,14 @@ use Rattle.swift_types.specs.declared.outcome.Ending.{Ending}
 use Rattle.swift_events.specs.Events.{tasks_of}
 use Rattle.swift_events.specs.Lives.{life_of}
 use Rattle.swift_events.specs.Relations.{opened_by, is_closed}
-use Rattle.swift_history.specs.Histories.{AllStand, Block, fields_of, folded_of, roots_of, with_jobs}
+use Rattle.swift_history.specs.Checks.{is_begun}
+use Rattle.swift_history.specs.Histories.{AllStand, Block, fields_of, folded_of, records_of, roots_of, with_jobs}
+use Rattle.swift_journal.specs.Records.{RecordView}
+use Rattle.swift_digest.specs.Explored.{frames_executor}
 use Rattle.swift_history.specs.TurnEnds.{HeldView, JobView}
 use Rattle.swift_course.specs.Course.{standing, starts}
 use Rattle.swift_queue.specs.Job.{JobIs}
-use Rattle.swift_turn.specs.Body.{BodyView, HasFrames, IfRunning}
+use Rattle.swift_turn.specs.Body.{BodyView, HasFrames, IfRunning, IsRunning}
 use Rattle.swift_tasks.specs.Books.{IsEndOf}
 use Rattle.swift_tasks.specs.Refusals.{refusal_of_apply}
 use Rattle.swift_explorer.specs.declared.moves.Move.{Move}
@@ -47,13 +50,44 @@ given_view t g = record { task = t; number = g.number; resume = g.resume; frames
 abbrev pub AreGiven : (ℕ → Option JobView) → List (Option Ready) → Type 0
 AreGiven seen tasks = (t : ℕ) → seen t ≡ option_map (given_view t) (given_at tasks t)
 
--- the body of each is of the script
-abbrev pub AreOf : ScriptView → List (Option Ready) → Type 0
-AreOf script tasks = (t : ℕ) (g : Ready) → given_at tasks t ≡ Some g → g.body.script ≡ script
+-- the body of what a task goes on with is of the script, and has not ended
+pub record IsReadyOf (script : ScriptView) (g : Ready) : Type 0 where
+  pub script_is : g.body.script ≡ script
+  pub runs : IsRunning g.body
 
--- the fields of each executor, as rows
-abbrev pub rows_at : History → List (List (List ℤ))
-rows_at x = map (λ rows. rows_of rows.items) x.fields.items
+abbrev pub AreOf : ScriptView → List (Option Ready) → Type 0
+AreOf script tasks = (t : ℕ) (g : Ready) → given_at tasks t ≡ Some g → IsReadyOf script g
+
+-- the executor of the actor whose method a task runs next
+abbrev pub seat_if : ScriptView → Option Ready → Option ℕ
+seat_if script None = None
+seat_if script (Some g) = frames_executor script g.body.task.frames
+
+abbrev pub seat_of : ScriptView → List (Option Ready) → ℕ → Option ℕ
+seat_of script tasks t = seat_if script (given_at tasks t)
+
+-- some record is there
+abbrev pub has_records : List RecordView → Bool
+has_records [] = false
+has_records (r ∷ rs) = true
+
+-- each root that comes before this one was added
+abbrev pub AreThere : ℕ → List Event → Type 0
+AreThere r log = (u : ℕ) → u < r → is_some (life_of u log).origin ≡ true
+
+-- this is the first root that was not added
+pub record IsMissing (script : ScriptView) (log : List Event) (r : ℕ) : Type 0 where
+  pub below : r < root_count script
+  pub missing : (life_of r log).origin ≡ None
+  pub before : AreThere r log
+
+-- a task was made and has ended
+abbrev pub HasEnded : List Event → ℕ → Type 0
+HasEnded log t = (is_some (life_of t log).origin ≡ true) × (is_some (life_of t log).ending ≡ true)
+
+-- each of the first tasks has closed its groups
+abbrev pub HaveClosed : List Event → ℕ → Type 0
+HaveClosed log n = (t g : ℕ) → t < n → g < opened_by t log → is_closed t g log ≡ true
 
 -- The blocks stand, and lead to this log, these waiting tasks, jobs and fields; so many roots were added, in order.
 pub record IsLed (script : ScriptView) (blocks : List Block) (log : List Event) (held : List (Option HeldView)) (tasks : List (Option Ready)) (fields : List (List (List ℤ))) (roots : ℕ) : Type 0 where
@@ -72,6 +106,7 @@ pub record IsHistory (script : ScriptView) (blocks : List Block) (x : History) :
   pub book_is : x.book.script ≡ script
   pub none : x.jobs.items ≡ []
   pub scripts : AreOf script x.tasks.items
+  pub used : (e : ℕ) → slice_index_or x.used.items e false ≡ has_records (records_of e blocks)
   pub led : IsLed script blocks x.book.log x.book.held x.tasks.items (rows_at x) x.roots
 
 -- some blocks were
@@ -80,7 +115,7 @@ IsSomeHistory x = (blocks : List Block) × IsHistory (arc_value x.script) blocks
 
 -- whatever was followed before, one block more was, which is what the step does
 abbrev pub GoesOn : Move → History → History → Type 0
-GoesOn step old new = (blocks : List Block) → IsHistory (arc_value old.script) blocks old → (b : Block) × IsStep step b × IsHistory (arc_value old.script) (blocks ++ b ∷ []) new
+GoesOn step old new = (blocks : List Block) → IsHistory (arc_value old.script) blocks old → (b : Block) × IsStep old.roots step b × IsHistory (arc_value old.script) (blocks ++ b ∷ []) new
 
 -- the job of a turn that is to be applied
 abbrev pub job_of : TaskId → Ready → JobIs BodyView
@@ -92,6 +127,7 @@ pub record Applies (old new : History) (task : TaskId) (ready : Ready) (effects 
   pub book_is : new.book.script ≡ old.book.script
   pub none : new.jobs.items ≡ []
   pub fields_are : new.fields ≡ old.fields
+  pub used_are : new.used ≡ old.used
   pub roots_are : new.roots ≡ old.roots
   pub fits : refusal_of_apply old.book.script old.book.log (job_of task ready) effects exit ≡ None
   pub jobs : List JobView
@@ -108,12 +144,18 @@ pub record RunsAt (script : ScriptView) (tasks : List (Option Ready)) (t : TaskI
 abbrev pub AreFirst : ScriptView → List (List (List ℤ)) → Type 0
 AreFirst script fields = fields ≡ map (executor_start script) (range_with_len 0 (executor_count script))
 
--- Of the first tasks each has ended, as these say, and has closed its groups.
-pub record AreEnded (log : List Event) (endings : List (Origin × Ending)) : Type 0 where
-  pub each : (t : ℕ) (x : Origin × Ending) → slice_get endings t ≡ Some x → ((life_of t log).origin ≡ Some x.0) × ((life_of t log).ending ≡ Some x.1)
-  pub closed : (t g : ℕ) → t < length endings → g < opened_by t log → is_closed t g log ≡ true
+-- Of the first tasks each has ended, as these say.
+abbrev pub AreEnded : List Event → List (Origin × Ending) → Type 0
+AreEnded log endings = (t : ℕ) (x : Origin × Ending) → slice_get endings t ≡ Some x → ((life_of t log).origin ≡ Some x.0) × ((life_of t log).ending ≡ Some x.1)
 
--- all tasks have
-pub record HaveEnded (script : ScriptView) (log : List Event) (endings : List (Origin × Ending)) : Type 0 where
-  pub many : length endings ≡ tasks_of (root_count script) log
-  pub are : AreEnded log endings
+-- a task has begun a turn, and has a job that runs it
+pub record CanRun (x : History) (t : ℕ) : Type 0 where
+  pub of : AreOf (arc_value x.script) x.tasks.items
+  pub there : is_some (given_at x.tasks.items t) ≡ true
+  pub begun : is_begun (life_of t x.book.log).stage ≡ true
+
+-- a task has a job, and no turn is under way at its executor
+pub record CanBegin (x : History) (t : ℕ) : Type 0 where
+  pub of : AreOf (arc_value x.script) x.tasks.items
+  pub there : is_some (given_at x.tasks.items t) ≡ true
+  pub free : (u : ℕ) → seat_of (arc_value x.script) x.tasks.items u ≡ seat_of (arc_value x.script) x.tasks.items t → is_begun (life_of u x.book.log).stage ≡ false

@@ -1,5 +1,5 @@
 -- What the steps of a history do (our own).
-use Rattle.std.specs.Prelude.{◌≡◌, List, [], ◌∷◌}
+use Rattle.std.specs.Prelude.{◌≡◌, ℕ, ◌+◌, List, [], ◌∷◌}
 use Rattle.swift_interpreter.specs.Turn.{ExitView, closing, failing}
 use Rattle.swift_types.specs.declared.outcome.Fault.TheVariants.{Invariant}
 use Rattle.std.specs.Prelude.{Some}
@@ -7,18 +7,23 @@ use Rattle.swift_history.specs.Histories.{Block, added, begun, ran}
 use Rattle.swift_explorer.specs.declared.moves.Move.{Move}
 use Rattle.swift_explorer.specs.declared.moves.Move.TheVariants as step
 
--- a block is what a step does
-abbrev pub IsStep : Move → Block → Type 0
-IsStep step.Add (added r) = Unit {0}
-IsStep (step.Begin t) (begun u n env) = u ≡ t.0
-IsStep (step.Run t) (ran e r) = r.task ≡ t.0
-IsStep _ _ = ⊥
+-- a block is what a step does, where so many roots were added
+abbrev pub IsStep : ℕ → Move → Block → Type 0
+IsStep roots step.Add (added r) = r ≡ roots
+IsStep roots (step.Begin t) (begun u n env) = u ≡ t.0
+IsStep roots (step.Run t) (ran e r) = r.task ≡ t.0
+IsStep _ _ _ = ⊥
+
+-- how many roots were added after it
+abbrev pub roots_after : ℕ → Move → ℕ
+roots_after roots step.Add = roots + 1
+roots_after roots _ = roots
 
 -- the blocks of a history are what these steps do, in order
-abbrev pub AreSteps : List Move → List Block → Type 0
-AreSteps [] [] = Unit {0}
-AreSteps (m ∷ ms) (b ∷ bs) = IsStep m b × AreSteps ms bs
-AreSteps _ _ = ⊥
+abbrev pub AreSteps : ℕ → List Move → List Block → Type 0
+AreSteps roots [] [] = Unit {0}
+AreSteps roots (m ∷ ms) (b ∷ bs) = IsStep roots m b × AreSteps (roots_after roots m) ms bs
+AreSteps _ _ _ = ⊥
 
 -- a turn ends so where it is undone since it would break an invariant, or where such a fault leaves its frame
 abbrev pub IsBroken : ExitView → Type 0

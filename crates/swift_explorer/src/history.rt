@@ -1,23 +1,25 @@
 //! One history, followed from its beginning.
 
-ghost use Rattle.std.specs.Prelude.{◌≡◌, ◌<◌, ℕ, [], ◌∷◌, ◌++◌, IfOk, IfSome, IsSome, Some, length, map, true};
+ghost use Rattle.std.specs.Prelude.{◌≡◌, ◌<◌, ℕ, [], ◌∷◌, ◌++◌, Contains, IfOk, IfSome, IsSome, IsTrue, None, Some, false, length, map, replicate, true};
 ghost use Rattle.std.specs.Arc.{arc_value};
 ghost use Rattle.script_code.specs.Seen.{rows_of};
 ghost use Rattle.swift_events.specs.declared.life.Stage.TheVariants.{Begun};
 ghost use Rattle.swift_events.specs.Lives.{life_of};
 ghost use Rattle.swift_history.specs.Histories.{Block};
-ghost use Rattle.swift_script.specs.Scripts.{executor_start};
+ghost use Rattle.swift_history.specs.Checks.{is_begun};
+ghost use Rattle.swift_script.specs.Scripts.{executor_start, root_count};
 ghost use Rattle.swift_turn.specs.Body.{IsRunning};
 ghost use Rattle.swift_interpreter.specs.Frames.{effect_views};
 ghost use Rattle.swift_interpreter.specs.TurnStates.{exit_view};
 ghost use Rattle.swift_events.specs.Relations.{opened_by, is_closed};
-ghost use Rattle.swift_explorer.specs.Outcomes.{IsOutcomeOf};
-ghost use Rattle.swift_explorer.specs.HistoryInside.{Applies, AreFirst, GoesOn, HaveEnded, IsHistory, IsSomeHistory, RunsAt, WasDone, rows_at};
+ghost use Rattle.swift_explorer.specs.Outcomes.{IfReached, IsOutcomeOf};
+ghost use Rattle.swift_explorer.specs.HistoryInside.{Applies, AreEnded, AreFirst, AreOf, AreThere, CanBegin, CanRun, GoesOn, HasEnded, HaveClosed, IsHistory, IsMissing, IsSomeHistory, RunsAt, WasDone, rows_at, seat_of};
 
 use crate::digest::put_card;
 use crate::frames::{put_fields, put_ready};
 use crate::moves::Move;
-use crate::outcome::Outcome;
+use crate::outcome::{End, Outcome};
+use crate::values::put_flag;
 use crate::waiting::{Ready, give_all_up, put, put_all, take};
 use std::alloc::{AllocError, Global};
 use std::mem;
@@ -51,6 +53,8 @@ pub struct History {
     pub tasks: Vec<Option<Ready>>,
     // By the number of the executor.
     pub fields: Vec<Vec<Vec<i64>>>,
+    // Whether some turn has run there, by the number of the executor.
+    pub used: Vec<bool>,
     // How many roots were added.
     pub roots: u32,
     // It is empty: the jobs that a turn makes come here.
@@ -68,6 +72,17 @@ fn first_fields(alloc: Global, script: &Script) -> Result<Vec<Vec<Vec<i64>>>, Al
         fields.push(script.executor_start(alloc, ExecId(place as u32))?)?;
     }
     Ok(fields)
+}
+
+// Of so many executors none has run a turn.
+fn none_used(alloc: Global, executors: usize) -> Result<Vec<bool>, AllocError>
+    ensures { IfOk result (λ used. used.items ≡ replicate executors false) }
+{
+    let mut used = Vec::with_capacity(alloc, executors)?;
+    for _ in 0..executors {
+        used.push(false)?;
+    }
+    Ok(used)
 }
 
 // What follows from a refusal of the book.
@@ -95,6 +110,7 @@ impl History {
         ensures first { IfOk result (IsHistory (arc_value script.now) []) }
     {
         let fields = first_fields(alloc, script)?;
+        let used = none_used(alloc, fields.len())?;
         let own = Arc::clone(script)?;
         let Ok(book) = Book::new(alloc, Arc::clone(script)?) else {
             return Err(AllocError);
@@ -105,6 +121,7 @@ impl History {
             book,
             tasks: Vec::new(alloc),
             fields,
+            used,
             roots: 0,
             jobs: Vec::new(alloc),
         })
@@ -190,7 +207,7 @@ impl History {
         let Some(place) = self.executor_of(task) else {
             return Ok(Followed::No);
         };
-        if place >= self.fields.len() {
+        if place >= self.fields.len() || place >= self.used.len() {
             return Ok(Followed::No);
         }
         let Some(mut ready) = take(&mut self.tasks, task) else {
@@ -202,6 +219,7 @@ impl History {
             return Err(AllocError);
         };
         self.fields[place] = fields;
+        self.used[place] = true;
         self.apply(task, ready, &exit, effects)
     }
 
@@ -220,7 +238,8 @@ impl History {
 
     // The number of the executor of the actor of a task that has a job.
     fn executor_of(&self, task: TaskId) -> Option<usize>
-        ensures { IfSome result (RunsAt (arc_value self.now.script) self.now.tasks.items task) }
+        ensures runs { IfSome result (RunsAt (arc_value self.now.script) self.now.tasks.items task) }
+        ensures seat { AreOf (arc_value self.now.script) self.now.tasks.items → result ≡ seat_of (arc_value self.now.script) self.now.tasks.items task.0 }
     {
         let place = task.0 as usize;
         if place >= self.tasks.len() {
@@ -235,13 +254,12 @@ impl History {
         Some(self.script.actor_executor(ready.body.actor()).0 as usize)
     }
 
-    // Whether a turn is under way at an executor.
-    fn is_busy(&self, executor: usize) -> bool {
-        for place in 0..self.tasks.len() {
-            let Ok(number) = u32::try_from(place) else {
-                return true;
-            };
-            let task = TaskId(number);
+    // Whether a turn of one of the first tasks is under way at an executor.
+    fn is_busy(&self, tasks: u32, executor: usize) -> bool
+        ensures { IsTrue result → AreOf (arc_value self.now.script) self.now.tasks.items → (u : ℕ) × (seat_of (arc_value self.now.script) self.now.tasks.items u ≡ Some executor) × (is_begun (life_of u self.now.book.log).stage ≡ true) }
+    {
+        for place in 0..tasks {
+            let task = TaskId(place);
             if self.book.begun(task).is_some() && self.executor_of(task) == Some(executor) {
                 return true;
             }
@@ -250,50 +268,76 @@ impl History {
     }
 
     // Whether the turn of a task may run, which has begun.
-    fn can_run(&self, task: TaskId) -> bool {
+    fn can_run(&self, task: TaskId) -> bool
+        ensures { CanRun self.now task.0 → IsTrue result }
+    {
         self.executor_of(task).is_some() && self.book.begun(task).is_some()
     }
 
     // Whether the next turn of a task may begin.
-    fn can_begin(&self, task: TaskId) -> bool {
+    fn can_begin(&self, tasks: u32, task: TaskId) -> bool
+        ensures { CanBegin self.now task.0 → IsTrue result }
+    {
         let Some(executor) = self.executor_of(task) else {
             return false;
         };
-        self.book.begun(task).is_none() && !self.is_busy(executor)
+        self.book.begun(task).is_none() && !self.is_busy(tasks, executor)
     }
 
-    // The turns that have begun and may run, and the turns that may begin.
-    fn turns(&self, moves: &mut Vec<Move>) -> Result<(), AllocError> {
-        for place in 0..self.tasks.len() {
-            let Ok(number) = u32::try_from(place) else {
-                return Ok(());
-            };
-            if self.can_run(TaskId(number)) {
-                moves.push(Move::Run(TaskId(number)))?;
+    // The turns that have begun and may run, and the turns that may begin. Nothing where there are more tasks than numbers for them.
+    fn turns(&self) -> Result<Option<Vec<Move>>, AllocError>
+        ensures runs { IfOk result (λ o. IfSome o (λ moves. (t : TaskId) → CanRun self.now t.0 → Contains moves.items (Move.Run t))) }
+        ensures begins { IfOk result (λ o. IfSome o (λ moves. (t : TaskId) → CanBegin self.now t.0 → Contains moves.items (Move.Begin t))) }
+    {
+        let Ok(tasks) = u32::try_from(self.tasks.len()) else {
+            return Ok(None);
+        };
+        let mut moves = Vec::new(self.alloc);
+        for place in 0..tasks {
+            if self.can_run(TaskId(place)) {
+                moves.push(Move::Run(TaskId(place)))?;
             }
         }
-        for place in 0..self.tasks.len() {
-            let Ok(number) = u32::try_from(place) else {
-                return Ok(());
-            };
-            if self.can_begin(TaskId(number)) {
-                moves.push(Move::Begin(TaskId(number)))?;
+        for place in 0..tasks {
+            if self.can_begin(tasks, TaskId(place)) {
+                moves.push(Move::Begin(TaskId(place)))?;
             }
         }
-        Ok(())
+        Ok(Some(moves))
+    }
+
+    // The first root that was not added.
+    fn missing_root(&self) -> Option<u32>
+        ensures some { IfSome result (λ r. IsMissing (arc_value self.now.script) self.now.book.log r) }
+        ensures none { result ≡ None → AreThere (root_count (arc_value self.now.script)) self.now.book.log }
+    {
+        self.script.facts();
+        for root in 0..self.script.root_count() {
+            let root = root as u32;
+            if self.book.origin(TaskId(root)).is_none() {
+                return Some(root);
+            }
+        }
+        None
     }
 
     /// The steps that may follow: the next root, until all are there; then each turn that has begun may run, and at each executor
     /// that has no turn under way each turn may begin. Those that run come first, so that of schedules of one length a search meets
-    /// one first whose turns overlap less.
-    pub fn next(&self) -> Result<Vec<Move>, AllocError> {
-        let mut moves = Vec::new(self.alloc);
-        if (self.roots as usize) < self.script.root_count() {
+    /// one first whose turns overlap less. Nothing where it is not known which: the roots were not added in order.
+    pub fn next(&self) -> Result<Option<Vec<Move>>, AllocError>
+    {
+        if let Some(root) = self.missing_root() {
+            if root != self.roots {
+                return Ok(None);
+            }
+            let mut moves = Vec::new(self.alloc);
             moves.push(Move::Add)?;
-        } else {
-            self.turns(&mut moves)?;
+            return Ok(Some(moves));
         }
-        Ok(moves)
+        if self.roots as usize != self.script.root_count() {
+            return Ok(None);
+        }
+        self.turns()
     }
 
     // A copy of the fields.
@@ -307,30 +351,25 @@ impl History {
         Ok(copy)
     }
 
-    // Where a task comes from and how it has ended, if it has, and has closed its groups.
+    // Where a task comes from and how it has ended, if it has.
     fn ended(&self, task: TaskId) -> Option<(Origin, Ending)>
         ensures origin { IfSome result (λ x. (life_of task.0 self.now.book.log).origin ≡ Some x.0) }
         ensures ending { IfSome result (λ x. (life_of task.0 self.now.book.log).ending ≡ Some x.1) }
-        ensures closed { IsSome result → (g : ℕ) → g < opened_by task.0 self.now.book.log → is_closed task.0 g self.now.book.log ≡ true }
+        ensures none { result ≡ None → HasEnded self.now.book.log task.0 → ⊥ }
     {
-        if !self.book.has_closed_all(task) {
-            return None;
-        }
         let origin = self.book.origin(task)?;
         let ending = self.book.ending(task)?;
         Some((origin, ending))
     }
 
-    // The same of each task, if all have.
-    fn endings(&self) -> Result<Option<Vec<(Origin, Ending)>>, AllocError>
-        ensures { IfOk result (λ o. IfSome o (λ endings. HaveEnded self.now.book.script self.now.book.log endings.items)) }
+    // The same of each of the first tasks, if all have ended.
+    fn endings(&self, tasks: u32) -> Result<Option<Vec<(Origin, Ending)>>, AllocError>
+        ensures some { IfOk result (λ o. IfSome o (λ endings. (length endings.items ≡ tasks) × AreEnded self.now.book.log endings.items)) }
+        ensures none { IfOk result (λ o. o ≡ None → ((t : ℕ) → t < tasks → HasEnded self.now.book.log t) → ⊥) }
     {
         let mut endings = Vec::new(self.alloc);
-        for place in 0..self.book.tasks() {
-            let Ok(number) = u32::try_from(place) else {
-                return Ok(None);
-            };
-            let Some(ended) = self.ended(TaskId(number)) else {
+        for place in 0..tasks {
+            let Some(ended) = self.ended(TaskId(place)) else {
                 return Ok(None);
             };
             endings.push(ended)?;
@@ -338,18 +377,33 @@ impl History {
         Ok(Some(endings))
     }
 
-    /// The outcome, where each root was added and each task has ended.
-    pub fn outcome(&self, place: usize) -> Result<Option<Outcome>, AllocError>
-        requires { IsSomeHistory self.now }
-        ensures { IfOk result (λ o. IfSome o (λ outcome. IsOutcomeOf (arc_value self.now.script) outcome)) }
+    // True only where each of the first tasks has closed its groups.
+    fn has_closed_all(&self, tasks: u32) -> bool
+        ensures { IsTrue result → HaveClosed self.now.book.log tasks }
     {
-        if self.roots as usize != self.script.root_count() {
-            return Ok(None);
+        for place in 0..tasks {
+            if !self.book.has_closed_all(TaskId(place)) {
+                return false;
+            }
         }
-        let Some(endings) = self.endings()? else {
-            return Ok(None);
+        true
+    }
+
+    /// The outcome, where each root was added and each task has ended. The place is written into it.
+    pub fn outcome(&self, place: usize) -> Result<End, AllocError>
+        requires { IsSomeHistory self.now }
+        ensures sound { IfOk result (IfReached (IsOutcomeOf (arc_value self.now.script))) }
+    {
+        let Ok(tasks) = u32::try_from(self.book.tasks()) else {
+            return Ok(End::Unknown);
         };
-        Ok(Some(Outcome {
+        let Some(endings) = self.endings(tasks)? else {
+            return Ok(End::NotYet);
+        };
+        if self.roots as usize != self.script.root_count() || !self.has_closed_all(tasks) {
+            return Ok(End::Unknown);
+        }
+        Ok(End::Reached(Outcome {
             place,
             endings,
             fields: self.fields()?,
@@ -364,6 +418,7 @@ impl History {
             book,
             mut tasks,
             fields,
+            used,
             roots,
             jobs,
         } = self;
@@ -375,6 +430,7 @@ impl History {
         kept?;
         let mut key = Vec::new(alloc);
         key.push(i64::from(roots))?;
+        put_used(&mut key, &used)?;
         put_tasks(&mut key, &events_of(alloc, &log)?, tasks, count)?;
         put_fields(&mut key, &fields)?;
         Ok(key)
@@ -388,6 +444,7 @@ impl History {
             book,
             tasks: _,
             fields: _,
+            used: _,
             roots: _,
             jobs,
         } = self;
@@ -417,6 +474,14 @@ fn events_of(alloc: Global, log: &EventLog) -> Result<Vec<Event>, AllocError>
         events.push(log.event(place))?;
     }
     Ok(events)
+}
+
+// Which executors have run a turn.
+fn put_used(key: &mut Vec<i64>, used: &[bool]) -> Result<(), AllocError> {
+    for flag in used {
+        put_flag(key, *flag)?;
+    }
+    Ok(())
 }
 
 // So many tasks: their cards, and what is left of them to do.

@@ -13,3 +13,14 @@ pub struct Outcome {
     /// The fields of the actors of each executor, in the order of executors, and of each one's actors in text order.
     pub fields: Vec<Vec<Vec<i64>>>,
 }
+
+/// What is known of the end of a history.
+#[derive(Drop)]
+pub enum End {
+    /// Some task has not ended, or was not made.
+    NotYet,
+    /// Each task has ended; but a root was left out, or a group may be open. No history that was followed comes to it.
+    Unknown,
+    /// Each task has ended so.
+    Reached(Outcome),
+}

@@ -2,16 +2,16 @@
 
 ghost use Rattle.std.specs.Prelude.{◌≡◌, ◌<◌, All, IfOk, IfSome, OnOk, Some};
 ghost use Rattle.std.specs.Arc.{arc_value};
-ghost use Rattle.swift_explorer.specs.Outcomes.{IsOutcomeOf};
+ghost use Rattle.swift_explorer.specs.Outcomes.{IfReached, IsOutcomeOf};
 ghost use Rattle.swift_explorer.specs.HistoryInside.{IsSomeHistory, WasDone};
 
 use crate::frames::put_fields;
 use crate::history::{Followed, History};
 use crate::key::pack;
 use crate::moves::Move;
-use crate::outcome::Outcome;
+use crate::outcome::{End, Outcome};
 use crate::values::{put_ending, put_origin};
-use indexmap::IndexSet;
+use script_names::{Names, Seed};
 use std::alloc::{AllocError, Global};
 use std::sync::Arc;
 use swift_script::Script;
@@ -44,10 +44,10 @@ struct Search {
     limit: usize,
     nodes: Vec<Node>,
     // A key for each node, in the same order.
-    keys: IndexSet<Vec<u8>>,
+    keys: Names,
     outcomes: Vec<Outcome>,
     // A key for each outcome, in the same order.
-    ends: IndexSet<Vec<u8>>,
+    ends: Names,
     broken: Option<usize>,
     is_complete: bool,
 }
@@ -105,25 +105,29 @@ fn follow(history: &mut History, path: &[Move], step: Move) -> Result<Followed, 
     history.step(step)
 }
 
-// What may come after these steps, and the outcome where nothing may. Nothing where they may not follow.
+// What may come after these steps, and whether they lead to an outcome. Nothing where that is not known.
 fn look_ahead(
     history: &mut History,
     path: &[Move],
     place: usize,
-) -> Result<Option<(Vec<Move>, Option<Outcome>)>, AllocError>
+) -> Result<Option<(Vec<Move>, End)>, AllocError>
     requires { IsSomeHistory history.old }
-    ensures { IfOk result (λ o. IfSome o (λ ahead. IfSome ahead.1 (IsOutcomeOf (arc_value history.old.script)))) }
+    ensures outcomes { IfOk result (λ o. IfSome o (λ ahead. IfReached (IsOutcomeOf (arc_value history.old.script)) ahead.1)) }
 {
     if let Followed::No = follow_all(history, path)? {
         return Ok(None);
     }
-    let moves = history.next()?;
-    if moves.is_empty() {
-        let outcome = history.outcome(place)?;
-        Ok(Some((moves, outcome)))
-    } else {
-        Ok(Some((moves, None)))
-    }
+    let Some(moves) = history.next()? else {
+        return Ok(None);
+    };
+    let outcome = history.outcome(place)?;
+    Ok(Some((moves, outcome)))
+}
+
+// The key of a history.
+fn key_of(alloc: Global, history: History) -> Result<Vec<u8>, AllocError> {
+    let numbers = history.into_key()?;
+    pack(alloc, &numbers)
 }
 
 impl Search {
@@ -136,9 +140,9 @@ impl Search {
             script: Arc::clone(script)?,
             limit,
             nodes: Vec::new(alloc),
-            keys: IndexSet::new(alloc),
+            keys: Names::new(alloc, Seed::of(b"")),
             outcomes: Vec::new(alloc),
-            ends: IndexSet::new(alloc),
+            ends: Names::new(alloc, Seed::of(b"")),
             broken: None,
             is_complete: true,
         })
@@ -155,8 +159,7 @@ impl Search {
         ensures script { self.new.script ≡ self.old.script }
         ensures outcomes { self.new.outcomes ≡ self.old.outcomes }
     {
-        let numbers = history.into_key()?;
-        let key = pack(self.alloc, &numbers)?;
+        let key = key_of(self.alloc, history)?;
         if self.keys.contains(&key) {
             return Ok(());
         }
@@ -169,7 +172,7 @@ impl Search {
                 self.broken = Some(self.nodes.len());
             }
         }
-        self.keys.insert(key)?;
+        self.keys.add(self.alloc, &key)?;
         self.nodes.push(Node { before, step })?;
         Ok(())
     }
@@ -205,12 +208,69 @@ impl Search {
         if self.ends.contains(&key) {
             return Ok(());
         }
-        self.ends.insert(key)?;
+        self.ends.add(self.alloc, &key)?;
         self.outcomes.push(outcome)?;
         Ok(())
     }
 
-    // Goes on from a history.
+    // Writes what is known of the end of a history.
+    fn note(&mut self, outcome: End) -> Result<(), AllocError>
+        requires outcome { IfReached (IsOutcomeOf (arc_value self.old.script)) outcome }
+        requires outcomes { All (IsOutcomeOf (arc_value self.old.script)) self.old.outcomes.items }
+        ensures script { self.new.script ≡ self.old.script }
+        ensures outcomes { All (IsOutcomeOf (arc_value self.old.script)) self.new.outcomes.items }
+    {
+        match outcome {
+            End::NotYet => Ok(()),
+            End::Unknown => {
+                self.is_complete = false;
+                Ok(())
+            }
+            End::Reached(outcome) => self.note_outcome(outcome),
+        }
+    }
+
+    // Follows each of these steps after a history, and keeps where it leads.
+    fn try_all(&mut self, path: &[Move], place: usize, moves: &[Move]) -> Result<(), AllocError>
+        ensures script { self.new.script ≡ self.old.script }
+        ensures outcomes { OnOk result (self.new.outcomes ≡ self.old.outcomes) }
+    {
+        for step in moves {
+            self.try_step(path, place, *step)?;
+        }
+        Ok(())
+    }
+
+    // Whether the history that is kept at a place has this key.
+    fn is_kept_at(&self, place: usize, key: &[u8]) -> bool {
+        self.keys.place(key) == Some(place)
+    }
+
+    // Goes on from a history that was followed, and after which these steps may come. Where it leads elsewhere than when it was kept,
+    // nothing is known of what follows; this does not come to pass.
+    fn go_on(
+        &mut self,
+        history: History,
+        path: &[Move],
+        place: usize,
+        moves: &[Move],
+        outcome: End,
+    ) -> Result<(), AllocError>
+        requires outcome { IfReached (IsOutcomeOf (arc_value self.old.script)) outcome }
+        requires outcomes { All (IsOutcomeOf (arc_value self.old.script)) self.old.outcomes.items }
+        ensures script { self.new.script ≡ self.old.script }
+        ensures outcomes { OnOk result (All (IsOutcomeOf (arc_value self.old.script)) self.new.outcomes.items) }
+    {
+        let key = key_of(self.alloc, history)?;
+        if !self.is_kept_at(place, &key) {
+            self.is_complete = false;
+            return Ok(());
+        }
+        self.note(outcome)?;
+        self.try_all(path, place, moves)
+    }
+
+    // Goes on from a history that is kept.
     fn expand(&mut self, place: usize) -> Result<(), AllocError>
         requires { All (IsOutcomeOf (arc_value self.old.script)) self.old.outcomes.items }
         ensures script { self.new.script ≡ self.old.script }
@@ -218,23 +278,22 @@ impl Search {
     {
         let path = path_to(self.alloc, &self.nodes, place)?;
         let mut history = History::new(self.alloc, &self.script)?;
-        let ahead = look_ahead(&mut history, &path, place);
-        history.close();
-        let Some((moves, outcome)) = ahead? else {
-            self.is_complete = false;
-            return Ok(());
-        };
-        if let Some(outcome) = outcome {
-            self.note_outcome(outcome)?;
+        match look_ahead(&mut history, &path, place) {
+            Err(fault) => {
+                history.close();
+                Err(fault)
+            }
+            Ok(None) => {
+                history.close();
+                self.is_complete = false;
+                Ok(())
+            }
+            Ok(Some((moves, outcome))) => self.go_on(history, &path, place, &moves, outcome),
         }
-        for step in &moves {
-            self.try_step(&path, place, *step)?;
-        }
-        Ok(())
     }
 
     // Goes on from each history that is kept.
-    fn run(&mut self) -> Result<(), AllocError>
+    fn go_through(&mut self) -> Result<(), AllocError>
         requires { All (IsOutcomeOf (arc_value self.old.script)) self.old.outcomes.items }
         ensures script { self.new.script ≡ self.old.script }
         ensures outcomes { OnOk result (All (IsOutcomeOf (arc_value self.old.script)) self.new.outcomes.items) }
@@ -266,7 +325,7 @@ pub fn explore(alloc: Global, script: &Arc<Script>, limit: usize) -> Result<Foun
     let mut search = Search::new(alloc, script, limit)?;
     let first = History::new(alloc, script)?;
     search.keep(first, 0, Move::Add, Followed::Yes)?;
-    search.run()?;
+    search.go_through()?;
     let Search {
         alloc: _,
         script: _,

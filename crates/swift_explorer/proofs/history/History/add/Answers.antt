@@ -1,7 +1,8 @@
-use Rattle.std.proofs.Common.{rules, ◌≡◌, ◌+◌, [], ◌∷◌, ◌++◌, sym, subst, ℕ}
+use Rattle.std.proofs.Common.{rules, refl, ◌≡◌, ◌+◌, [], ◌∷◌, ◌++◌, sym, subst, ℕ}
 use Rattle.std.specs.Arc.{arc_value}
 use Rattle.swift_history.specs.Histories.{added}
 use Rattle.swift_explorer.specs.HistoryInside.{IsLed, rows_at}
+use Rattle.swift_explorer.proofs.Used.{used_same}
 use Rattle.swift_explorer.proofs.Followed.{root_step}
 use Rattle.swift_explorer.proofs.history.History.add.Goals as goal
 
@@ -14,12 +15,13 @@ returns-in_ok-put-in-Ok-clause-follows c = λ done blocks h.
     let is = root_step script blocks x c.add_root.new.self c.put.new.tasks.items c.in-Ok.job c.from_job-ready.result.0 c.from_job-ready.result.1
     h (search rules) (search rules) (search rules) c.in-Ok.ensures.body made.task made.ready c.in_ok-put-in-Ok.ensures in (
       added x.roots,
-      tt,
+      refl,
       record {
         script_is = h.script_is;
         book_is = is.book_is;
         none = h.none;
         scripts = is.scripts;
+        used = used_same x.used.items blocks (added x.roots) (λ e. refl) h.used;
         led = subst (λ (n : ℕ). IsLed script (blocks ++ added x.roots ∷ []) c.add_root.new.self.log c.add_root.new.self.held c.put.new.tasks.items (rows_at x) n) (sym next) is.led;
       },
     ))

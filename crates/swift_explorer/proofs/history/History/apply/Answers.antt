@@ -22,6 +22,7 @@ returns-in-Ok-clause-applies c = λ _.
       book_is = c.apply_known.ensures.script;
       none = put.none;
       fields_are = refl;
+      used_are = refl;
       roots_are = refl;
       fits = subst (λ (j : JobIs BodyView). refusal_of_apply book.script book.log j effects exit ≡ None) c.into_job-job.ensures c.in-Ok.ensures.refused;
       jobs = jobs;

@@ -5,7 +5,7 @@ use Rattle.std.specs.Arc.{arc_value}
 use Rattle.swift_tasks.specs.Books.{BookView, empty_book}
 use Rattle.swift_explorer.specs.declared.waiting.Ready.{Ready}
 use Rattle.swift_explorer.specs.HistoryInside.{given_at}
-use Rattle.swift_explorer.proofs.First.{first_led}
+use Rattle.swift_explorer.proofs.First.{first_led, none_used}
 use Rattle.swift_explorer.proofs.history.History.new.Goals as goal
 
 pub returns-clause-first : goal.returns-clause-first
@@ -17,5 +17,6 @@ returns-clause-first c =
       book_is = ap (λ (b : BookView). b.script) empty;
       none = search rules;
       scripts = λ t g is. absurd (none-some g (ap (λ (gs : List (Option Ready)). given_at gs t) (sym c.new-2.ensures.items) ∙ is));
+      used = none_used c.none_used-used.items _ (search rules);
       led = first_led script _ c.in-Ok.book c.new-2.result.items c.new-2.ensures.items (search rules) empty;
     }

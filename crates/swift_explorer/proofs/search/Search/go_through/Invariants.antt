@@ -2,7 +2,7 @@ use Rattle.std.proofs.Common.{◌≡◌}
 use Rattle.std.specs.Prelude.{All}
 use Rattle.std.specs.Arc.{arc_value}
 use Rattle.swift_explorer.specs.Outcomes.{IsOutcomeOf}
-use Rattle.swift_explorer.proofs.search.Search.run.Given as goal
+use Rattle.swift_explorer.proofs.search.Search.go_through.Given as goal
 
 abbrev pub invariant-loop-place : goal.invariant-loop-place
 invariant-loop-place l = record {
