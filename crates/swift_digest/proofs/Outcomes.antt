@@ -11,7 +11,7 @@ use Rattle.swift_journal.specs.Checkpoints.{FoldedView, CheckpointView}
 use Rattle.swift_laws.specs.Laws.{ActorsHaveExecutors}
 use Rattle.swift_laws.proofs.HistoriesApplied.{there}
 use Rattle.swift_history.specs.Histories.{Block, added, begun, ran, folded, folded_in, folded_of, at_first, after_blocks, Stands, AllStand, ReportView, IsLegal}
-use Rattle.swift_digest.specs.Explored.{State, state_of, StartsFresh, IsNotFolded, AllAllowed, AreExplored, IsAnyBlock, IsOrderly, IsOutcome, FoldsNone, ExploredHasEachOutcome, ExploredHasEachOrderlyOutcome, AreRepresented, RepresentedHasEachOutcome, job_executor, frames_executor}
+use Rattle.swift_digest.specs.Explored.{State, state_of, StartsFresh, IsNotFolded, AllAllowed, AreExplored, IsAnyBlock, IsOrderly, IsOutcome, FoldsNone, IsOrderlyLegal, ExploredHasEachOutcome, ExploredHasEachOrderlyOutcome, AreRepresented, RepresentedHasEachOutcome, job_executor, frames_executor}
 use Rattle.swift_digest.proofs.Answers.{tasks_of_is, life_of_is}
 use Rattle.swift_digest.proofs.SameStands.{all_push, block_stands, lead_push}
 use Rattle.swift_digest.proofs.SameLogs.{same_life}
@@ -177,9 +177,21 @@ outcome_too script cps report a b lead is =
       fields = λ e f at. is.fields e f at ∙ lead.fields e;
     }
 
+-- the history of a legal report in order leads alike to one of the histories of a closed list
+pub represented : (script : ScriptView) (histories : List (List Block)) (report : ReportView) → ActorsHaveExecutors script → AreRepresented script histories → (orderly : IsOrderlyLegal script report) → FoldsNone report
+    → (h : List Block) × Contains histories h × LeadAlike script report.checkpoints orderly.legal.blocks h
+represented script histories report on reps orderly folds =
+    let legal = orderly.legal in
+    let m = made script report legal folds in
+    has_all script histories reps on report.checkpoints m.fresh legal.blocks [] tt legal.stand orderly.orderly m.none (reps.first report.checkpoints m.fresh)
+
+-- such a report starts with the fields of the script
+pub starts_fresh : (script : ScriptView) (report : ReportView) → IsLegal script report → FoldsNone report → StartsFresh script report.checkpoints
+starts_fresh script report legal folds = (made script report legal folds).fresh
+
 pub each_represented : RepresentedHasEachOutcome
 each_represented script histories report on reps orderly folds =
     let legal = orderly.legal in
     let m = made script report legal folds in
-    let one = has_all script histories reps on report.checkpoints m.fresh legal.blocks [] tt legal.stand orderly.orderly m.none (reps.first report.checkpoints m.fresh) in
+    let one = represented script histories report on reps orderly folds in
     (one.0, one.1, outcome_too script report.checkpoints report legal.blocks one.0 one.2 m.outcome)

@@ -64,4 +64,3 @@ first_led script fields b tasks no_tasks first empty = record {
 
 pub none_used : (used : List Bool) (n : ℕ) → used ≡ replicate n false → (e : ℕ) → slice_index_or used e false ≡ false
 none_used used n is e = ap (λ (us : List Bool). slice_index_or us e false) is ∙ replicate_at n e
-

@@ -7,3 +7,10 @@ mod Rows
 mod Shorter
 mod Ran
 mod Used
+mod SameSteps
+mod NextMoves
+mod Closed
+mod Alike
+mod Paths
+mod Searched
+mod Listed

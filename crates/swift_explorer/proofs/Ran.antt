@@ -6,12 +6,13 @@ use Rattle.std.specs.Arc.{arc_value}
 use Rattle.script_code.specs.Seen.{rows_of}
 use Rattle.script_code.specs.declared.env.Env.{Env}
 use Rattle.swift_types.specs.declared.id.TaskId.{TaskId}
+use Rattle.swift_types.specs.declared.outcome.Resume.{Resume}
 use Rattle.swift_script.specs.Scripts.{ScriptView, actor_executor, method_actor}
 use Rattle.swift_interpreter.specs.Frames.{FrameView}
 use Rattle.swift_interpreter.specs.Turn.{EffectView, ExitView}
 use Rattle.swift_events.specs.declared.life.Stage.TheVariants.{Begun}
 use Rattle.swift_events.specs.Lives.{life_of}
-use Rattle.swift_turn.specs.Body.{BodyView, IfRunning, Polls, entered, left}
+use Rattle.swift_turn.specs.Body.{BodyView, HasFrames, IfRunning, Polls, entered, left}
 use Rattle.swift_history.specs.Histories.{Block, ran}
 use Rattle.swift_tasks.specs.Books.{BookView, IsEndOf}
 use Rattle.swift_tasks.specs.Refusals.{refusal_of_apply}
@@ -37,7 +38,7 @@ pub run_step : (script : ScriptView) (blocks : List Block) (x y z : History) (t 
     → body ≡ record g.body { task = record g.body.task { frames = body.task.frames }; phase = body.phase }
     → y.script ≡ x.script → y.book ≡ x.book → y.roots ≡ x.roots
     → k < length x.used.items → y.used.items ≡ set x.used.items k true → Applies y z t (record g { body = body }) effects exit
-    → (b : Block) × IsStep x.roots (step.Run t) b × IsHistory script (blocks ++ b ∷ []) z
+    → (b : Block) × IsStep x.roots (step.Run t) b × IsHistory script (blocks ++ b ∷ []) z × (z.roots ≡ x.roots)
 run_step script blocks x y z t g k env rows rows' body effects exit h was took begun at rows_are fields_are many polls rest same_script same_book same_roots in_used used a =
     let own = x.book.script in
     let mine : g.body.script ≡ own = (h.scripts t.0 g was).script_is ∙ sym h.book_is in
@@ -77,4 +78,12 @@ run_step script blocks x y z t g k env rows rows' body effects exit h was took b
         used = λ e. ap (λ (us : Vec Bool Global). slice_index_or us.items e false) a.used_are ∙ ap (λ (us : List Bool). slice_index_or us e false) used ∙ used_set x.used.items blocks k more.0 in_used h.used e;
         led = subst (λ (n : ℕ). IsLed script (blocks ++ b ∷ []) z.book.log z.book.held z.tasks.items (rows_at z) n) (sym same_roots ∙ sym a.roots_are) led'';
       },
+      a.roots_are ∙ same_roots,
     )
+
+-- a task that has had a turn has frames still
+pub still_runs : (script : ScriptView) (outer : List (ℕ × ℤ)) (fs gs : List FrameView) (rows rows' : List (List ℤ)) (resume : Resume) (env : Env) (effects : List EffectView) (exit : ExitView)
+    → HasFrames fs → Polls script outer fs (entered rows resume env) gs (left rows' effects exit) → HasFrames gs
+still_runs script outer [] gs rows rows' resume env effects exit has polls = absurd has
+still_runs script outer (p ∷ callers) [] rows rows' resume env effects exit has polls = absurd polls
+still_runs script outer (p ∷ callers) (q ∷ others) rows rows' resume env effects exit has polls = tt

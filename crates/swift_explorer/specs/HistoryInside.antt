@@ -1,7 +1,7 @@
 -- While a history is followed. No public clause names these.
 use Rattle.std.specs.Prelude.{◌≡◌, ◌<◌, ℕ, ℤ, ◌==◌, Bool, true, false, is_some, if◌then◌else◌, Option, Some, None, List, [], ◌∷◌, ◌++◌, length, map, slice_get, slice_index_or}
 use Rattle.std.specs.Option.{option_map}
-use Rattle.std.specs.List.{range_with_len}
+use Rattle.std.specs.List.{Contains, range_with_len}
 use Rattle.std.specs.Arc.{arc_value}
 use Rattle.script_code.specs.Seen.{rows_of}
 use Rattle.swift_types.specs.declared.id.TaskId.{TaskId}
@@ -23,12 +23,15 @@ use Rattle.swift_queue.specs.Job.{JobIs}
 use Rattle.swift_turn.specs.Body.{BodyView, HasFrames, IfRunning, IsRunning}
 use Rattle.swift_tasks.specs.Books.{IsEndOf}
 use Rattle.swift_tasks.specs.Refusals.{refusal_of_apply}
+use Rattle.swift_explorer.specs.declared.outcome.End.{End}
+use Rattle.swift_explorer.specs.declared.outcome.End.TheVariants.{NotYet, Unknown, Reached}
 use Rattle.swift_explorer.specs.declared.moves.Move.{Move}
+use Rattle.swift_explorer.specs.declared.moves.Move.TheVariants as step
 use Rattle.swift_explorer.specs.declared.waiting.Ready.{Ready}
 use Rattle.swift_explorer.specs.declared.history.History.{History}
 use Rattle.swift_explorer.specs.declared.history.Followed.{Followed}
 use Rattle.swift_explorer.specs.declared.history.Followed.TheVariants.{No}
-use Rattle.swift_explorer.specs.Steps.{IsStep}
+use Rattle.swift_explorer.specs.Steps.{IsStep, roots_after}
 
 -- a step was done
 abbrev pub WasDone : Followed → Type 0
@@ -115,7 +118,7 @@ IsSomeHistory x = (blocks : List Block) × IsHistory (arc_value x.script) blocks
 
 -- whatever was followed before, one block more was, which is what the step does
 abbrev pub GoesOn : Move → History → History → Type 0
-GoesOn step old new = (blocks : List Block) → IsHistory (arc_value old.script) blocks old → (b : Block) × IsStep old.roots step b × IsHistory (arc_value old.script) (blocks ++ b ∷ []) new
+GoesOn step old new = (blocks : List Block) → IsHistory (arc_value old.script) blocks old → (b : Block) × IsStep old.roots step b × IsHistory (arc_value old.script) (blocks ++ b ∷ []) new × (new.roots ≡ roots_after old.roots step)
 
 -- the job of a turn that is to be applied
 abbrev pub job_of : TaskId → Ready → JobIs BodyView
@@ -159,3 +162,15 @@ pub record CanBegin (x : History) (t : ℕ) : Type 0 where
   pub of : AreOf (arc_value x.script) x.tasks.items
   pub there : is_some (given_at x.tasks.items t) ≡ true
   pub free : (u : ℕ) → seat_of (arc_value x.script) x.tasks.items u ≡ seat_of (arc_value x.script) x.tasks.items t → is_begun (life_of u x.book.log).stage ≡ false
+
+-- Each step that may follow is one of these.
+pub record HasEachMove (x : History) (moves : List Move) : Type 0 where
+  pub runs : (t : TaskId) → CanRun x t.0 → Contains moves (step.Run t)
+  pub adds : (r : ℕ) → IsMissing (arc_value x.script) x.book.log r → (r ≡ x.roots) × Contains moves step.Add
+  pub begins : AreThere (root_count (arc_value x.script)) x.book.log → (t : TaskId) → CanBegin x t.0 → Contains moves (step.Begin t)
+
+-- what is known of a history's end: where it is not reached, some task has not ended
+abbrev pub EndsAt : History → End → Type 0
+EndsAt x NotYet = ((t : ℕ) → t < tasks_of (root_count (arc_value x.script)) x.book.log → HasEnded x.book.log t) → ⊥
+EndsAt x Unknown = Unit {0}
+EndsAt x (Reached o) = (length o.endings.items ≡ tasks_of (root_count (arc_value x.script)) x.book.log) × AreEnded x.book.log o.endings.items × (map (λ rows. rows_of rows.items) o.fields.items ≡ rows_at x)

@@ -1,3 +1,5 @@
 pub mod Steps
 pub mod Outcomes
 pub mod HistoryInside
+pub mod KeysInside
+pub mod SearchInside

@@ -19,6 +19,10 @@ abbrev pub roots_after : ℕ → Move → ℕ
 roots_after roots step.Add = roots + 1
 roots_after roots _ = roots
 
+abbrev pub roots_over : ℕ → List Move → ℕ
+roots_over roots [] = roots
+roots_over roots (m ∷ ms) = roots_over (roots_after roots m) ms
+
 -- the blocks of a history are what these steps do, in order
 abbrev pub AreSteps : ℕ → List Move → List Block → Type 0
 AreSteps roots [] [] = Unit {0}

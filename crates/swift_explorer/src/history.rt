@@ -1,6 +1,6 @@
 //! One history, followed from its beginning.
 
-ghost use Rattle.std.specs.Prelude.{◌≡◌, ◌<◌, ℕ, [], ◌∷◌, ◌++◌, Contains, IfOk, IfSome, IsSome, IsTrue, None, Some, false, length, map, replicate, true};
+ghost use Rattle.std.specs.Prelude.{◌≡◌, ◌<◌, ℕ, [], ◌∷◌, ◌++◌, Contains, IfOk, IfSome, IsSome, IsTrue, None, OnOk, Some, false, length, map, replicate, true};
 ghost use Rattle.std.specs.Arc.{arc_value};
 ghost use Rattle.script_code.specs.Seen.{rows_of};
 ghost use Rattle.swift_events.specs.declared.life.Stage.TheVariants.{Begun};
@@ -13,7 +13,7 @@ ghost use Rattle.swift_interpreter.specs.Frames.{effect_views};
 ghost use Rattle.swift_interpreter.specs.TurnStates.{exit_view};
 ghost use Rattle.swift_events.specs.Relations.{opened_by, is_closed};
 ghost use Rattle.swift_explorer.specs.Outcomes.{IfReached, IsOutcomeOf};
-ghost use Rattle.swift_explorer.specs.HistoryInside.{Applies, AreEnded, AreFirst, AreOf, AreThere, CanBegin, CanRun, GoesOn, HasEnded, HaveClosed, IsHistory, IsMissing, IsSomeHistory, RunsAt, WasDone, rows_at, seat_of};
+ghost use Rattle.swift_explorer.specs.HistoryInside.{Applies, AreEnded, AreFirst, AreOf, AreThere, CanBegin, CanRun, EndsAt, GoesOn, HasEachMove, HasEnded, HaveClosed, IsHistory, IsMissing, IsSomeHistory, RunsAt, WasDone, rows_at, seat_of};
 
 use crate::digest::put_card;
 use crate::frames::{put_fields, put_ready};
@@ -79,8 +79,8 @@ fn none_used(alloc: Global, executors: usize) -> Result<Vec<bool>, AllocError>
     ensures { IfOk result (λ used. used.items ≡ replicate executors false) }
 {
     let mut used = Vec::with_capacity(alloc, executors)?;
-    for _ in 0..executors {
-        used.push(false)?;
+    'fill: while used.len() < executors {
+        used.push_reserved(false);
     }
     Ok(used)
 }
@@ -108,6 +108,7 @@ impl History {
     pub fn new(alloc: Global, script: &Arc<Script>) -> Result<History, AllocError>
         ensures script { IfOk result (λ x. arc_value x.script ≡ arc_value script.now) }
         ensures first { IfOk result (IsHistory (arc_value script.now) []) }
+        ensures roots { IfOk result (λ x. x.roots ≡ 0) }
     {
         let fields = first_fields(alloc, script)?;
         let used = none_used(alloc, fields.len())?;
@@ -284,26 +285,30 @@ impl History {
         self.book.begun(task).is_none() && !self.is_busy(tasks, executor)
     }
 
-    // The turns that have begun and may run, and the turns that may begin. Nothing where there are more tasks than numbers for them.
-    fn turns(&self) -> Result<Option<Vec<Move>>, AllocError>
-        ensures runs { IfOk result (λ o. IfSome o (λ moves. (t : TaskId) → CanRun self.now t.0 → Contains moves.items (Move.Run t))) }
-        ensures begins { IfOk result (λ o. IfSome o (λ moves. (t : TaskId) → CanBegin self.now t.0 → Contains moves.items (Move.Begin t))) }
+    // Writes the turns that have begun and may run, of the first tasks.
+    fn push_runs(&self, tasks: u32, moves: &mut Vec<Move>) -> Result<(), AllocError>
+        ensures kept { OnOk result ((m : Move) → Contains moves.old.items m → Contains moves.new.items m) }
+        ensures runs { OnOk result ((t : TaskId) → t.0 < tasks → CanRun self.now t.0 → Contains moves.new.items (Move.Run t)) }
     {
-        let Ok(tasks) = u32::try_from(self.tasks.len()) else {
-            return Ok(None);
-        };
-        let mut moves = Vec::new(self.alloc);
         for place in 0..tasks {
             if self.can_run(TaskId(place)) {
                 moves.push(Move::Run(TaskId(place)))?;
             }
         }
+        Ok(())
+    }
+
+    // Writes the turns that may begin, of the first tasks.
+    fn push_begins(&self, tasks: u32, moves: &mut Vec<Move>) -> Result<(), AllocError>
+        ensures kept { OnOk result ((m : Move) → Contains moves.old.items m → Contains moves.new.items m) }
+        ensures begins { OnOk result ((t : TaskId) → t.0 < tasks → CanBegin self.now t.0 → Contains moves.new.items (Move.Begin t)) }
+    {
         for place in 0..tasks {
             if self.can_begin(tasks, TaskId(place)) {
                 moves.push(Move::Begin(TaskId(place)))?;
             }
         }
-        Ok(Some(moves))
+        Ok(())
     }
 
     // The first root that was not added.
@@ -312,8 +317,8 @@ impl History {
         ensures none { result ≡ None → AreThere (root_count (arc_value self.now.script)) self.now.book.log }
     {
         self.script.facts();
-        for root in 0..self.script.root_count() {
-            let root = root as u32;
+        for place in 0..self.script.root_count() {
+            let root = place as u32;
             if self.book.origin(TaskId(root)).is_none() {
                 return Some(root);
             }
@@ -321,23 +326,33 @@ impl History {
         None
     }
 
-    /// The steps that may follow: the next root, until all are there; then each turn that has begun may run, and at each executor
-    /// that has no turn under way each turn may begin. Those that run come first, so that of schedules of one length a search meets
-    /// one first whose turns overlap less. Nothing where it is not known which: the roots were not added in order.
+    /// The steps that may follow: each turn that has begun may run; and the next root is added, until all are there, and then at each
+    /// executor that has no turn under way each turn may begin. Those that run come first, so that of schedules of one length a search
+    /// meets one first whose turns overlap less. Nothing where that is not known: roots were not added in order, or there are more
+    /// tasks than numbers for them.
     pub fn next(&self) -> Result<Option<Vec<Move>>, AllocError>
+        ensures { IfOk result (λ o. IfSome o (λ moves. HasEachMove self.now moves.items)) }
     {
-        if let Some(root) = self.missing_root() {
-            if root != self.roots {
-                return Ok(None);
-            }
-            let mut moves = Vec::new(self.alloc);
-            moves.push(Move::Add)?;
-            return Ok(Some(moves));
-        }
-        if self.roots as usize != self.script.root_count() {
+        let Ok(tasks) = u32::try_from(self.tasks.len()) else {
             return Ok(None);
+        };
+        let mut moves = Vec::new(self.alloc);
+        self.push_runs(tasks, &mut moves)?;
+        match self.missing_root() {
+            Some(root) => {
+                if root != self.roots {
+                    return Ok(None);
+                }
+                moves.push(Move::Add)?;
+            }
+            None => {
+                if self.roots as usize != self.script.root_count() {
+                    return Ok(None);
+                }
+                self.push_begins(tasks, &mut moves)?;
+            }
         }
-        self.turns()
+        Ok(Some(moves))
     }
 
     // A copy of the fields.
@@ -393,6 +408,7 @@ impl History {
     pub fn outcome(&self, place: usize) -> Result<End, AllocError>
         requires { IsSomeHistory self.now }
         ensures sound { IfOk result (IfReached (IsOutcomeOf (arc_value self.now.script))) }
+        ensures ends { IfOk result (EndsAt self.now) }
     {
         let Ok(tasks) = u32::try_from(self.book.tasks()) else {
             return Ok(End::Unknown);

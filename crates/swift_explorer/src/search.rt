@@ -1,9 +1,15 @@
 //! The search.
 
-ghost use Rattle.std.specs.Prelude.{◌≡◌, ◌<◌, All, IfOk, IfSome, OnOk, Some};
+ghost use Rattle.std.specs.Prelude.{◌≡◌, ◌<◌, ℕ, ℤ, List, [], ◌∷◌, All, Contains, IfOk, IfSome, IsTrue, OnOk, Some, length, map, slice_get, true};
 ghost use Rattle.std.specs.Arc.{arc_value};
-ghost use Rattle.swift_explorer.specs.Outcomes.{IfReached, IsOutcomeOf};
-ghost use Rattle.swift_explorer.specs.HistoryInside.{IsSomeHistory, WasDone};
+ghost use Rattle.swift_explorer.specs.Outcomes.{HasEachOutcome, IfReached, IsOutcomeOf};
+ghost use Rattle.script_code.specs.Seen.{rows_of};
+ghost use Rattle.swift_script.specs.Scripts.{root_count};
+ghost use Rattle.swift_history.specs.Histories.{Block};
+ghost use Rattle.swift_explorer.specs.HistoryInside.{EndsAt, HasEachMove, IsHistory, IsSomeHistory, WasDone};
+ghost use Rattle.swift_explorer.specs.KeysInside.{history_key, outcome_key};
+ghost use Rattle.swift_explorer.specs.SearchInside.{AreDone, AreEnds, Grows, IsDone, IsKept, IsKeyFor, IsListed, IsPath, Follows, ListsEnd, StepIsKept};
+ghost use Rattle.swift_explorer.specs.Steps.{IsStep, roots_over};
 
 use crate::frames::put_fields;
 use crate::history::{Followed, History};
@@ -14,6 +20,7 @@ use crate::values::{put_ending, put_origin};
 use script_names::{Names, Seed};
 use std::alloc::{AllocError, Global};
 use std::sync::Arc;
+use swift_laws::accepted::accepted_scripts_have_executors;
 use swift_script::Script;
 
 // A history that was kept: one step after another that was.
@@ -69,7 +76,9 @@ fn path_to(alloc: Global, nodes: &[Node], place: usize) -> Result<Vec<Move>, All
 }
 
 // An outcome, as numbers.
-fn outcome_key(alloc: Global, outcome: &Outcome) -> Result<Vec<u8>, AllocError> {
+fn outcome_key(alloc: Global, outcome: &Outcome) -> Result<Vec<u8>, AllocError>
+    ensures { IfOk result (λ key. key.items ≡ outcome_key outcome.now) }
+{
     let mut key = Vec::new(alloc);
     for (origin, ending) in &outcome.endings {
         key.push(1)?;
@@ -85,7 +94,8 @@ fn outcome_key(alloc: Global, outcome: &Outcome) -> Result<Vec<u8>, AllocError> 
 fn follow_all(history: &mut History, path: &[Move]) -> Result<Followed, AllocError>
     requires { IsSomeHistory history.old }
     ensures script { history.new.script ≡ history.old.script }
-    ensures follows { IfOk result (λ f. WasDone f → IsSomeHistory history.new) }
+    ensures follows { IfOk result (λ f. WasDone f → IsPath (arc_value history.old.script) [] history.old → IsPath (arc_value history.old.script) path.now history.new) }
+    ensures some { IfOk result (λ f. WasDone f → IsSomeHistory history.new) }
 {
     for step in path {
         if let Followed::No = history.step(*step)? {
@@ -97,7 +107,9 @@ fn follow_all(history: &mut History, path: &[Move]) -> Result<Followed, AllocErr
 
 // Follows these steps, and then this one.
 fn follow(history: &mut History, path: &[Move], step: Move) -> Result<Followed, AllocError>
-    requires { IsSomeHistory history.old }
+    requires { IsPath (arc_value history.old.script) [] history.old }
+    ensures script { history.new.script ≡ history.old.script }
+    ensures follows { IfOk result (λ f. WasDone f → Follows (arc_value history.old.script) path.now step history.new) }
 {
     if let Followed::No = follow_all(history, path)? {
         return Ok(Followed::No);
@@ -111,8 +123,12 @@ fn look_ahead(
     path: &[Move],
     place: usize,
 ) -> Result<Option<(Vec<Move>, End)>, AllocError>
-    requires { IsSomeHistory history.old }
+    requires { IsPath (arc_value history.old.script) [] history.old }
+    ensures script { history.new.script ≡ history.old.script }
     ensures outcomes { IfOk result (λ o. IfSome o (λ ahead. IfReached (IsOutcomeOf (arc_value history.old.script)) ahead.1)) }
+    ensures path { IfOk result (λ o. IfSome o (λ ahead. IsPath (arc_value history.old.script) path.now history.new)) }
+    ensures moves { IfOk result (λ o. IfSome o (λ ahead. HasEachMove history.new ahead.0.items)) }
+    ensures last { IfOk result (λ o. IfSome o (λ ahead. EndsAt history.new ahead.1)) }
 {
     if let Followed::No = follow_all(history, path)? {
         return Ok(None);
@@ -125,7 +141,9 @@ fn look_ahead(
 }
 
 // The key of a history.
-fn key_of(alloc: Global, history: History) -> Result<Vec<u8>, AllocError> {
+fn key_of(alloc: Global, history: History) -> Result<Vec<u8>, AllocError>
+    ensures { IfOk result (λ key. key.items ≡ history_key history) }
+{
     let numbers = history.into_key()?;
     pack(alloc, &numbers)
 }
@@ -134,6 +152,7 @@ impl Search {
     fn new(alloc: Global, script: &Arc<Script>, limit: usize) -> Result<Search, AllocError>
         ensures script { IfOk result (λ x. arc_value x.script ≡ arc_value script.now) }
         ensures outcomes { IfOk result (λ x. All (IsOutcomeOf (arc_value script.now)) x.outcomes.items) }
+        ensures ends { IfOk result (λ x. AreEnds x.ends x.outcomes.items) }
     {
         Ok(Search {
             alloc,
@@ -156,14 +175,16 @@ impl Search {
         step: Move,
         done: Followed,
     ) -> Result<(), AllocError>
+        ensures grows { OnOk result (Grows self.old self.new) }
         ensures script { self.new.script ≡ self.old.script }
         ensures outcomes { self.new.outcomes ≡ self.old.outcomes }
+        ensures kept { OnOk result (self.new.is_complete ≡ true → (k : ℕ) × (slice_get self.new.keys k ≡ Some (history_key history))) }
     {
         let key = key_of(self.alloc, history)?;
         if self.keys.contains(&key) {
             return Ok(());
         }
-        if self.nodes.len() >= self.limit {
+        if self.keys.len() >= self.limit {
             self.is_complete = false;
             return Ok(());
         }
@@ -179,8 +200,10 @@ impl Search {
 
     // Follows one more step after these, and keeps the history that it leads to.
     fn try_step(&mut self, path: &[Move], before: usize, step: Move) -> Result<(), AllocError>
+        ensures grows { OnOk result (Grows self.old self.new) }
         ensures script { self.new.script ≡ self.old.script }
-        ensures outcomes { self.new.outcomes ≡ self.old.outcomes }
+        ensures outcomes { OnOk result (self.new.outcomes ≡ self.old.outcomes) }
+        ensures kept { OnOk result (self.new.is_complete ≡ true → StepIsKept (arc_value self.old.script) self.new.keys path.now step) }
     {
         let mut history = History::new(self.alloc, &self.script)?;
         match follow(&mut history, path, step) {
@@ -203,6 +226,9 @@ impl Search {
         requires outcomes { All (IsOutcomeOf (arc_value self.old.script)) self.old.outcomes.items }
         ensures script { self.new.script ≡ self.old.script }
         ensures outcomes { All (IsOutcomeOf (arc_value self.old.script)) self.new.outcomes.items }
+        ensures grows { OnOk result (Grows self.old self.new) }
+        ensures keys { self.new.keys ≡ self.old.keys }
+        ensures listed { OnOk result (AreEnds self.old.ends self.old.outcomes.items → IsListed self.new.outcomes.items outcome.endings.items (map (λ rows. rows_of rows.items) outcome.fields.items)) }
     {
         let key = outcome_key(self.alloc, &outcome)?;
         if self.ends.contains(&key) {
@@ -219,6 +245,9 @@ impl Search {
         requires outcomes { All (IsOutcomeOf (arc_value self.old.script)) self.old.outcomes.items }
         ensures script { self.new.script ≡ self.old.script }
         ensures outcomes { All (IsOutcomeOf (arc_value self.old.script)) self.new.outcomes.items }
+        ensures grows { OnOk result (Grows self.old self.new) }
+        ensures keys { self.new.keys ≡ self.old.keys }
+        ensures listed { OnOk result (AreEnds self.old.ends self.old.outcomes.items → self.new.is_complete ≡ true → ListsEnd self.new.outcomes.items outcome) }
     {
         match outcome {
             End::NotYet => Ok(()),
@@ -232,8 +261,10 @@ impl Search {
 
     // Follows each of these steps after a history, and keeps where it leads.
     fn try_all(&mut self, path: &[Move], place: usize, moves: &[Move]) -> Result<(), AllocError>
+        ensures grows { OnOk result (Grows self.old self.new) }
         ensures script { self.new.script ≡ self.old.script }
         ensures outcomes { OnOk result (self.new.outcomes ≡ self.old.outcomes) }
+        ensures kept { OnOk result (self.new.is_complete ≡ true → (m : Move) → Contains moves.now m → StepIsKept (arc_value self.old.script) self.new.keys path.now m) }
     {
         for step in moves {
             self.try_step(path, place, *step)?;
@@ -242,7 +273,9 @@ impl Search {
     }
 
     // Whether the history that is kept at a place has this key.
-    fn is_kept_at(&self, place: usize, key: &[u8]) -> bool {
+    fn is_kept_at(&self, place: usize, key: &[u8]) -> bool
+        ensures { IsTrue result → slice_get self.now.keys place ≡ Some key.now }
+    {
         self.keys.place(key) == Some(place)
     }
 
@@ -258,8 +291,13 @@ impl Search {
     ) -> Result<(), AllocError>
         requires outcome { IfReached (IsOutcomeOf (arc_value self.old.script)) outcome }
         requires outcomes { All (IsOutcomeOf (arc_value self.old.script)) self.old.outcomes.items }
+        requires path { IsPath (arc_value self.old.script) path.now history }
+        requires moves { HasEachMove history moves.now }
+        requires last { EndsAt history outcome }
         ensures script { self.new.script ≡ self.old.script }
         ensures outcomes { OnOk result (All (IsOutcomeOf (arc_value self.old.script)) self.new.outcomes.items) }
+        ensures grows { OnOk result (Grows self.old self.new) }
+        ensures done { OnOk result (AreEnds self.old.ends self.old.outcomes.items → self.new.is_complete ≡ true → (key : List ℕ) → slice_get self.old.keys place ≡ Some key → IsDone (arc_value self.old.script) self.new.keys self.new.outcomes.items key) }
     {
         let key = key_of(self.alloc, history)?;
         if !self.is_kept_at(place, &key) {
@@ -275,6 +313,8 @@ impl Search {
         requires { All (IsOutcomeOf (arc_value self.old.script)) self.old.outcomes.items }
         ensures script { self.new.script ≡ self.old.script }
         ensures outcomes { OnOk result (All (IsOutcomeOf (arc_value self.old.script)) self.new.outcomes.items) }
+        ensures grows { OnOk result (Grows self.old self.new) }
+        ensures done { OnOk result (AreEnds self.old.ends self.old.outcomes.items → self.new.is_complete ≡ true → (key : List ℕ) → slice_get self.old.keys place ≡ Some key → IsDone (arc_value self.old.script) self.new.keys self.new.outcomes.items key) }
     {
         let path = path_to(self.alloc, &self.nodes, place)?;
         let mut history = History::new(self.alloc, &self.script)?;
@@ -294,15 +334,20 @@ impl Search {
 
     // Goes on from each history that is kept.
     fn go_through(&mut self) -> Result<(), AllocError>
-        requires { All (IsOutcomeOf (arc_value self.old.script)) self.old.outcomes.items }
+        requires outcomes { All (IsOutcomeOf (arc_value self.old.script)) self.old.outcomes.items }
+        requires ends { AreEnds self.old.ends self.old.outcomes.items }
         ensures script { self.new.script ≡ self.old.script }
         ensures outcomes { OnOk result (All (IsOutcomeOf (arc_value self.old.script)) self.new.outcomes.items) }
+        ensures done { OnOk result ((self.old.is_complete ≡ true → IsKept (arc_value self.old.script) self.old.keys []) → self.new.is_complete ≡ true → AreDone (arc_value self.old.script) self.new.keys self.new.outcomes.items (length self.new.keys)) }
     {
         for place in 0..self.limit {
-            if place >= self.nodes.len() {
+            if place >= self.keys.len() {
                 return Ok(());
             }
             self.expand(place)?;
+        }
+        if self.keys.len() > self.limit {
+            self.is_complete = false;
         }
         Ok(())
     }
@@ -321,7 +366,10 @@ impl Search {
 /// `AllocError` where no memory was left.
 pub fn explore(alloc: Global, script: &Arc<Script>, limit: usize) -> Result<Found, AllocError>
     ensures outcomes { IfOk result (λ found. All (IsOutcomeOf (arc_value script.now)) found.outcomes.items) }
+    ensures each { IfOk result (λ found. found.is_complete ≡ true → 0 < root_count (arc_value script.now) → HasEachOutcome (arc_value script.now) found.outcomes.items) }
 {
+    script.facts();
+    accepted_scripts_have_executors();
     let mut search = Search::new(alloc, script, limit)?;
     let first = History::new(alloc, script)?;
     search.keep(first, 0, Move::Add, Followed::Yes)?;

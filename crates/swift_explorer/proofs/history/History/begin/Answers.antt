@@ -13,4 +13,4 @@ returns-in_ok-put-in-Ok-clause-follows c = λ done blocks h.
     let was : given_at x.tasks.items c.args.task.0 ≡ Some c.in-Some.ready = sym c.take.ensures.found ∙ c.in-Some.is in
     let is = begin_step (arc_value x.script) blocks x c.begin_known-begun.new.self c.take.new.tasks.items c.put.new.tasks.items c.into_job-job.result c.args.task c.from_job-ready.result.0 c.in-Some.ready c.from_job-ready.result.1 c.in-Ok.field-0
     h was c.into_job-job.ensures (search rules) (search rules) (search rules) made.task made.ready c.take.ensures.rest c.in_ok-put-in-Ok.ensures in
-    (begun c.args.task.0 c.in-Some.ready.number c.in-Ok.field-0, refl, record { script_is = h.script_is; book_is = is.book_is; none = h.none; scripts = is.scripts; used = used_same x.used.items blocks (begun c.args.task.0 c.in-Some.ready.number c.in-Ok.field-0) (λ e. refl) h.used; led = is.led }))
+    (begun c.args.task.0 c.in-Some.ready.number c.in-Ok.field-0, refl, record { script_is = h.script_is; book_is = is.book_is; none = h.none; scripts = is.scripts; used = used_same x.used.items blocks (begun c.args.task.0 c.in-Some.ready.number c.in-Ok.field-0) (λ e. refl) h.used; led = is.led }, refl))
