@@ -52,7 +52,6 @@ seat_map script t None = refl
 seat_map script t (Some g) = refl
 
 module _ (blocks : List Block) (x : History) (h : IsHistory (arc_value x.script) blocks x) where
-
   log_is : (standing (arc_value x.script) blocks).log ≡ x.book.log
   log_is = sym h.led.log_is
 

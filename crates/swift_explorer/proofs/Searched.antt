@@ -23,8 +23,8 @@ use Rattle.swift_explorer.specs.declared.history.History.{History}
 use Rattle.swift_explorer.specs.declared.search.Search.{Search}
 use Rattle.swift_explorer.specs.Steps.{IsStep, roots_over}
 use Rattle.swift_explorer.specs.HistoryInside.{AreEnded, EndsAt, HasEachMove, HasEnded, IsHistory, IsLed, rows_at}
-use Rattle.swift_explorer.specs.KeysInside.{history_key}
-use Rattle.swift_explorer.specs.SearchInside.{AreEnds, Finds, Follows, Grows, IsDone, IsKept, IsKeyFor, IsListed, IsPath, ListsEnd, StepIsKept}
+use Rattle.swift_explorer.specs.KeysInside.{IsKeyOf}
+use Rattle.swift_explorer.specs.SearchInside.{AreEnds, Finds, Follows, Grows, IsDone, IsKept, IsKeyFor, IsListed, IsPath, KeyIsKept, ListsEnd, StepIsKept}
 use Rattle.swift_explorer.proofs.Closed.{same_lists}
 use Rattle.swift_explorer.proofs.NextMoves.{each_move}
 use Rattle.swift_explorer.proofs.Paths.{all_split}
@@ -66,21 +66,21 @@ done_on script ks ls os ps key more most d = record {
 }
 
 -- a step that was followed, and whose history has a key that is kept
-pub step_kept : (script : ScriptView) (keys : List (List ℕ)) (path : List Move) (m : Move) (x : History) (place : ℕ) → Follows script path m x → slice_get keys place ≡ Some (history_key x) → StepIsKept script keys path m
-step_kept script keys path m x place f at bs b stood steps stands is =
+pub step_kept : (script : ScriptView) (keys : List (List ℕ)) (path : List Move) (m : Move) (x : History) → Follows script path m x → KeyIsKept keys x → StepIsKept script keys path m
+step_kept script keys path m x f k bs b stood steps stands is =
     let parts = all_split script (starts script) f.blocks [] f.block f.is.led.stand in
     let lead = same_steps script path 0 bs f.blocks stood parts.0 steps f.steps in
     record {
       history = f.blocks ++ f.block ∷ [];
-      key = history_key x;
-      place = place;
-      at = at;
-      is_key = (x, f.is, refl);
+      key = k.key;
+      place = k.place;
+      at = k.at;
+      is_key = (x, f.is, k.is_key);
       lead = next_alike script bs f.blocks (roots_over 0 path) m b f.block stood parts.0 lead stands parts.1 is f.last;
     }
 
-pub first_kept : (script : ScriptView) (keys : List (List ℕ)) (x : History) (place : ℕ) → IsHistory script [] x → slice_get keys place ≡ Some (history_key x) → IsKept script keys []
-first_kept script keys x place is at = record { history = []; key = history_key x; place = place; at = at; is_key = (x, is, refl); lead = alike script [] }
+pub first_kept : (script : ScriptView) (keys : List (List ℕ)) (x : History) → IsHistory script [] x → KeyIsKept keys x → IsKept script keys []
+first_kept script keys x is k = record { history = []; key = k.key; place = k.place; at = k.at; is_key = (x, is, k.is_key); lead = alike script [] }
 
 -- endings that a log gives are one list
 one_origin : (o : Option Origin) (a b : Origin) → o ≡ Some a → o ≡ Some b → a ≡ b
@@ -137,7 +137,7 @@ module _ (script : ScriptView) (bs : List Block) (x : History) (own : arc_value 
 
 -- a history that was gone on from
 pub gone_on : (script : ScriptView) (keys : List (List ℕ)) (outcomes : List Outcome) (path : List Move) (x : History) (moves : List Move) (last : End) (key : List ℕ)
-    → arc_value x.script ≡ script → IsPath script path x → HasEachMove x moves → EndsAt x last → key ≡ history_key x → ((m : Move) → Contains moves m → StepIsKept script keys path m) → ListsEnd outcomes last → IsDone script keys outcomes key
+    → arc_value x.script ≡ script → IsPath script path x → HasEachMove x moves → EndsAt x last → IsKeyOf x key → ((m : Move) → Contains moves m → StepIsKept script keys path m) → ListsEnd outcomes last → IsDone script keys outcomes key
 gone_on script keys outcomes path x moves last key own p has at is kept lists =
     let mine : IsHistory (arc_value x.script) p.blocks x = subst (λ (s : ScriptView). IsHistory s p.blocks x) (sym own) p.is in
     record {

@@ -92,6 +92,10 @@ HasEnded log t = (is_some (life_of t log).origin ≡ true) × (is_some (life_of 
 abbrev pub HaveClosed : List Event → ℕ → Type 0
 HaveClosed log n = (t g : ℕ) → t < n → g < opened_by t log → is_closed t g log ≡ true
 
+-- the fields of each executor, as rows
+abbrev pub rows_at : History → List (List (List ℤ))
+rows_at x = map (λ rows. rows_of rows.items) x.fields.items
+
 -- The blocks stand, and lead to this log, these waiting tasks, jobs and fields; so many roots were added, in order.
 pub record IsLed (script : ScriptView) (blocks : List Block) (log : List Event) (held : List (Option HeldView)) (tasks : List (Option Ready)) (fields : List (List (List ℤ))) (roots : ℕ) : Type 0 where
   pub stand : AllStand script (starts script) [] blocks

@@ -18,11 +18,11 @@ use Rattle.swift_explorer.specs.HistoryInside.{AreEnded, HaveClosed, IsHistory}
 use Rattle.swift_explorer.specs.declared.moves.Move.{Move}
 use Rattle.swift_explorer.specs.declared.search.Search.{Search}
 use Rattle.swift_explorer.specs.Steps.{AreSteps, IsStep, roots_over}
-use Rattle.swift_explorer.specs.KeysInside.{history_key, outcome_key}
+use Rattle.swift_explorer.specs.KeysInside.{IsKeyOf, outcome_key}
 
 -- a history that was followed has this key
 abbrev pub IsKeyFor : ScriptView → List Block → List ℕ → Type 0
-IsKeyFor script bs key = (x : History) × IsHistory script bs x × (key ≡ history_key x)
+IsKeyFor script bs key = (x : History) × IsHistory script bs x × IsKeyOf x key
 
 -- one that leads alike has one of these keys
 pub record IsKept (script : ScriptView) (keys : List (List ℕ)) (bs : List Block) : Type 0 where
@@ -97,3 +97,10 @@ abbrev pub ListsEnd : List Outcome → End → Type 0
 ListsEnd outcomes (Reached o) = IsListed outcomes o.endings.items (map (λ rows. rows_of rows.items) o.fields.items)
 ListsEnd outcomes Unknown = ⊥
 ListsEnd outcomes NotYet = Unit {0}
+
+-- a key of this history is kept
+pub record KeyIsKept (keys : List (List ℕ)) (x : History) : Type 0 where
+  pub place : ℕ
+  pub key : List ℕ
+  pub at : slice_get keys place ≡ Some key
+  pub is_key : IsKeyOf x key

@@ -7,8 +7,8 @@ ghost use Rattle.script_code.specs.Seen.{rows_of};
 ghost use Rattle.swift_script.specs.Scripts.{root_count};
 ghost use Rattle.swift_history.specs.Histories.{Block};
 ghost use Rattle.swift_explorer.specs.HistoryInside.{EndsAt, HasEachMove, IsHistory, IsSomeHistory, WasDone};
-ghost use Rattle.swift_explorer.specs.KeysInside.{history_key, outcome_key};
-ghost use Rattle.swift_explorer.specs.SearchInside.{AreDone, AreEnds, Grows, IsDone, IsKept, IsKeyFor, IsListed, IsPath, Follows, ListsEnd, StepIsKept};
+ghost use Rattle.swift_explorer.specs.KeysInside.{IsKeyOf, outcome_key};
+ghost use Rattle.swift_explorer.specs.SearchInside.{AreDone, AreEnds, Grows, IsDone, IsKept, IsKeyFor, IsListed, IsPath, KeyIsKept, Follows, ListsEnd, StepIsKept};
 ghost use Rattle.swift_explorer.specs.Steps.{IsStep, roots_over};
 
 use crate::frames::put_fields;
@@ -142,7 +142,7 @@ fn look_ahead(
 
 // The key of a history.
 fn key_of(alloc: Global, history: History) -> Result<Vec<u8>, AllocError>
-    ensures { IfOk result (λ key. key.items ≡ history_key history) }
+    ensures { IfOk result (λ key. IsKeyOf history key.items) }
 {
     let numbers = history.into_key()?;
     pack(alloc, &numbers)
@@ -178,7 +178,7 @@ impl Search {
         ensures grows { OnOk result (Grows self.old self.new) }
         ensures script { self.new.script ≡ self.old.script }
         ensures outcomes { self.new.outcomes ≡ self.old.outcomes }
-        ensures kept { OnOk result (self.new.is_complete ≡ true → (k : ℕ) × (slice_get self.new.keys k ≡ Some (history_key history))) }
+        ensures kept { OnOk result (self.new.is_complete ≡ true → KeyIsKept self.new.keys history) }
     {
         let key = key_of(self.alloc, history)?;
         if self.keys.contains(&key) {
