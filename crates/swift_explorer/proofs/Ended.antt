@@ -47,7 +47,8 @@ pub starts_at : (script : ScriptView) (e : ℕ) (c : CheckpointView) → slice_g
 starts_at script e c at =
     let one = mapped (start_of script) (slice_get (range_with_len 0 (executor_count script)) e) c (sym (slice_get-map (start_of script) (range_with_len 0 (executor_count script)) e) ∙ at) in
     let place = range_at 0 (executor_count script) e one.0 one.1 in
-    let is : one.0 ≡ e = place.0 in
+    let zero_is : 0 + e ≡ e = omega arith in
+    let is : one.0 ≡ e = place.0 ∙ zero_is in
     sym one.2 ∙ ap (start_of script) is
 
 journals_at : (script : ScriptView) (bs : List Block) (e : ℕ) (rs : List RecordView) → slice_get (map (λ (k : ℕ). records_of k bs) (range_with_len 0 (executor_count script))) e ≡ Some rs → rs ≡ records_of e bs
@@ -55,7 +56,8 @@ journals_at script bs e rs at =
     let f = λ (k : ℕ). records_of k bs in
     let one = mapped f (slice_get (range_with_len 0 (executor_count script)) e) rs (sym (slice_get-map f (range_with_len 0 (executor_count script)) e) ∙ at) in
     let place = range_at 0 (executor_count script) e one.0 one.1 in
-    let is : one.0 ≡ e = place.0 in
+    let zero_is : 0 + e ≡ e = omega arith in
+    let is : one.0 ≡ e = place.0 ∙ zero_is in
     sym one.2 ∙ ap f is
 
 -- the report that such a history has made
@@ -75,7 +77,7 @@ legal_is script bs log held tasks fields roots es f all many are closed = record
   stand = f.stand;
   roots = f.roots_are ∙ ap (range_with_len 0) all;
   log = f.log_is;
-  executors = (length-map (λ (k : ℕ). records_of k bs) (range_with_len 0 (executor_count script)) ∙ range_length 0 (executor_count script), many_starts script, f.many);
+  executors = (length-map (range_with_len 0 (executor_count script)) (λ (k : ℕ). records_of k bs) ∙ range_length 0 (executor_count script), many_starts script, f.many);
   journals = journals_at script bs;
   folded = λ e c at. ap (λ (x : CheckpointView). x.folded) (starts_at script e c at) ∙ sym (f.none_folded e);
   start = λ e c at none. ap (λ (x : CheckpointView). x.fields) (starts_at script e c at);

@@ -39,7 +39,8 @@ fields_first script fields e rows first at =
     let one = mapped (executor_start script) (slice_get (range_with_len 0 (executor_count script)) e) rows
     (sym (slice_get-map (executor_start script) (range_with_len 0 (executor_count script)) e) ∙ ap (λ (fs : List (List (List ℤ))). slice_get fs e) (sym first) ∙ at) in
     let place = range_at 0 (executor_count script) e one.0 one.1 in
-    let is : one.0 ≡ e = place.0 in
+    let zero_is : 0 + e ≡ e = omega arith in
+    let is : one.0 ≡ e = place.0 ∙ zero_is in
     (sym one.2 ∙ ap (executor_start script) is, place.1)
 
 replicate_at : (n e : ℕ) → slice_index_or (replicate n false) e false ≡ false
@@ -55,7 +56,7 @@ first_led script fields b tasks no_tasks first empty = record {
   log_is = ap (λ (x : BookView). x.log) empty;
   held_is = ap (λ (x : BookView). x.held) empty;
   given = λ t. ap (λ (gs : List (Option Ready)). option_map _ (given_at gs t)) (sym no_tasks);
-  many = ap length first ∙ length-map (executor_start script) (range_with_len 0 (executor_count script)) ∙ range_length 0 (executor_count script);
+  many = ap length first ∙ length-map (range_with_len 0 (executor_count script)) (executor_start script) ∙ range_length 0 (executor_count script);
   fields_are = λ e rows at.
       (let is = fields_first script fields e rows first at in
       is.0 ∙ sym (start_fields script e is.1));

@@ -1,5 +1,5 @@
 -- Each step of a history that is followed adds one block.
-use Rattle.std.proofs.Common.{◌≡◌, ◌≢◌, ℕ, zero, suc, ◌+◌, ◌<◌, List, [], ◌∷◌, ◌++◌, length, map, set, refl, sym, subst, ap, ◌∙◌, Bool, true, false, ℤ}
+use Rattle.std.proofs.Common.{inl, inr, ◌≡◌, ◌≢◌, ℕ, zero, suc, ◌+◌, ◌<◌, List, [], ◌∷◌, ◌++◌, length, map, set, refl, sym, subst, ap, ◌∙◌, Bool, true, false, ℤ}
 use Rattle.std.specs.Prelude.{Option, Some, None, if◌then◌else◌, is_none, ◌&&◌, ◌==◌, slice_get, slice_set, unwrap_or}
 use Rattle.std.specs.Option.{option_map}
 use Rattle.std.specs.List.{cons_option}
@@ -199,13 +199,13 @@ fields_go_on script bs fields fields' k rows rows' r were at are ran_is e x here
 -- where the turn of a job leads
 module _ (b b' : BookView) (bs : List Block) (tasks between tasks' : List (Option Ready)) (fields fields' : List (List (List ℤ))) (roots : ℕ) (t : TaskId) (g : Ready) (k : ℕ) (env : Env) (rows rows' : List (List ℤ)) (body : BodyView) (effects : List EffectView) (exit : ExitView) (jobs : List JobView)
     (f : IsLed b.script bs b.log b.held tasks fields roots) (x : Runs b b' tasks between tasks' fields fields' t g k env rows rows' body effects exit jobs) where
-  s : Standing
+  abbrev s : Standing
   s = standing b.script bs
 
-  j : JobIs BodyView
+  abbrev j : JobIs BodyView
   j = record (job_of t g) { body = body }
 
-  outer : List (ℕ × ℤ)
+  abbrev outer : List (ℕ × ℤ)
   outer = g.body.task.outer
 
   current : is_current (life_of t.0 b.log) g.number g.resume ≡ true
@@ -222,10 +222,10 @@ module _ (b b' : BookView) (bs : List Block) (tasks between tasks' : List (Optio
   -- the frames before and after
   module _ (p q : FrameView) (callers : List FrameView) (before : g.body.task.frames ≡ p ∷ callers) (after : body.task.frames ≡ q ∷ callers)
       (turns : IsTurnOf b.script p outer rows g.resume env q (left rows' effects exit)) (on : actor_executor b.script (method_actor b.script p.method) ≡ k) where
-    r : RecordView
+    abbrev r : RecordView
     r = turn_of t g p env effects exit q
 
-    e : TurnEnd
+    abbrev e : TurnEnd
     e = turn_end b.script b.log b.held t.0 g.number (begun_priority (life_of t.0 b.log).stage) effects exit (advanced b.script (left_as p effects (kept_frame exit q)) callers outer exit)
 
     ends_is : end_of_turn b j effects exit ≡ e

@@ -25,7 +25,7 @@ rows_set f xs ys k y z lt is e = elim (cases_eq e k) [
 ]
 
 pub rows_many : {A B : Type 0} (f : A → B) (xs ys : List A) (k : ℕ) (y z : A) → ys ≡ set (set xs k z) k y → length (map f ys) ≡ length (map f xs)
-rows_many f xs ys k y z is = length-map f ys ∙ ap length is ∙ length-set (set xs k z) k y ∙ length-set xs k z ∙ sym (length-map f xs)
+rows_many f xs ys k y z is = length-map ys f ∙ ap length is ∙ length-set (set xs k z) k y ∙ length-set xs k z ∙ sym (length-map xs f)
 
 pub rows_here : {A B : Type 0} (f : A → B) (xs : List A) (k : ℕ) (x : A) → slice_get xs k ≡ Some x → slice_get (map f xs) k ≡ Some (f x)
 rows_here f xs k x at = slice_get-map f xs k ∙ ap (option_map f) at

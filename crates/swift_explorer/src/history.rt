@@ -359,11 +359,7 @@ impl History {
     fn fields(&self) -> Result<Vec<Vec<Vec<i64>>>, AllocError>
         ensures { IfOk result (λ copy. map (λ rows. rows_of rows.items) copy.items ≡ rows_at self.now) }
     {
-        let mut copy = Vec::with_capacity(self.alloc, self.fields.len())?;
-        for rows in &self.fields {
-            copy.push(copy_of(self.alloc, rows)?)?;
-        }
-        Ok(copy)
+        all_copied(self.alloc, &self.fields)
     }
 
     // Where a task comes from and how it has ended, if it has.
@@ -477,6 +473,17 @@ fn copy_of(alloc: Global, rows: &[Vec<i64>]) -> Result<Vec<Vec<i64>>, AllocError
     let mut copy = Vec::with_capacity(alloc, rows.len())?;
     for row in rows {
         copy.push(Vec::from_slice(alloc, row)?)?;
+    }
+    Ok(copy)
+}
+
+// A copy of the fields of all executors.
+fn all_copied(alloc: Global, all: &[Vec<Vec<i64>>]) -> Result<Vec<Vec<Vec<i64>>>, AllocError>
+    ensures { IfOk result (λ copy. map (λ rows. rows_of rows.items) copy.items ≡ map (λ rows. rows_of rows.items) all.now) }
+{
+    let mut copy = Vec::with_capacity(alloc, all.len())?;
+    for rows in all {
+        copy.push(copy_of(alloc, rows)?)?;
     }
     Ok(copy)
 }

@@ -17,6 +17,6 @@ returns-clause-first c =
       book_is = ap (λ (b : BookView). b.script) empty;
       none = search rules;
       scripts = λ t g is. absurd (none-some g (ap (λ (gs : List (Option Ready)). given_at gs t) (sym c.new-2.ensures.items) ∙ is));
-      used = none_used c.none_used-used.items _ (search rules);
+      used = none_used c.in_ok-used.used.items _ c.in_ok-used.ensures;
       led = first_led script _ c.in-Ok.book c.new-2.result.items c.new-2.ensures.items (search rules) empty;
     }
