@@ -34,6 +34,13 @@ push_at (z ∷ xs) x y (suc t) at = elim (push_at xs x y t at) [
 pub ended_none : (log : List Event) → AreEnded log []
 ended_none log t x at = absurd (none-some x at)
 
+pub push_length : {A : Type 0} (xs : List A) (x : A) → length (xs ++ x ∷ []) ≡ length xs + 1
+push_length [] x = refl
+push_length (y ∷ xs) x = ap suc (push_length xs x)
+
+pub lt_or : (t n : ℕ) → t < n + 1 → (t < n) ⊎ (t ≡ n)
+lt_or t n lt = grind (arith, lt)
+
 pub ended_push : (log : List Event) (es : List (Origin × Ending)) (x : Origin × Ending) → AreEnded log es → (life_of (length es) log).origin ≡ Some x.0 → (life_of (length es) log).ending ≡ Some x.1 → AreEnded log (es ++ x ∷ [])
 ended_push log es x are origin ending t y at = elim (push_at es x y t at) [
   | inl old ↦ are t y old

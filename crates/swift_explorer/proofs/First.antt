@@ -10,7 +10,7 @@ use Rattle.swift_tasks.specs.Books.{BookView, empty_book}
 use Rattle.swift_course.specs.Course.{starts}
 use Rattle.swift_course.proofs.Starts.{start_fields}
 use Rattle.swift_explorer.specs.declared.waiting.Ready.{Ready}
-use Rattle.swift_explorer.specs.HistoryInside.{AreFirst, IsLed, given_at}
+use Rattle.swift_explorer.specs.HistoryInside.{AreFirst, IsLed, given_at, given_view}
 
 pub range_length : (a n : ℕ) → length (range_with_len a n) ≡ n
 range_length a zero = refl
@@ -55,7 +55,7 @@ first_led script fields b tasks no_tasks first empty = record {
   none_folded = λ e. refl;
   log_is = ap (λ (x : BookView). x.log) empty;
   held_is = ap (λ (x : BookView). x.held) empty;
-  given = λ t. ap (λ (gs : List (Option Ready)). option_map _ (given_at gs t)) (sym no_tasks);
+  given = λ t. ap (λ (gs : List (Option Ready)). option_map (given_view t) (given_at gs t)) (sym no_tasks);
   many = ap length first ∙ length-map (range_with_len 0 (executor_count script)) (executor_start script) ∙ range_length 0 (executor_count script);
   fields_are = λ e rows at.
       (let is = fields_first script fields e rows first at in

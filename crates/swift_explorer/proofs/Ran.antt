@@ -1,6 +1,6 @@
 -- A turn of a history that is followed runs.
 use Rattle.std.proofs.Common.{Bool, true, false, ◌≡◌, ℕ, ◌<◌, List, [], ◌∷◌, ◌++◌, length, map, set, refl, sym, subst, ap, ◌∙◌, ℤ, Vec}
-use Rattle.std.specs.Prelude.{Option, Some, None, if◌then◌else◌, ◌==◌, slice_get, slice_index_or}
+use Rattle.std.specs.Prelude.{Result, Ok, Err, IfOk, Option, Some, None, if◌then◌else◌, ◌==◌, slice_get, slice_index_or}
 use Rattle.std.specs.declared.alloc.Global.{Global}
 use Rattle.std.specs.Arc.{arc_value}
 use Rattle.script_code.specs.Seen.{rows_of}
@@ -18,9 +18,11 @@ use Rattle.swift_tasks.specs.Books.{BookView, IsEndOf}
 use Rattle.swift_tasks.specs.Refusals.{refusal_of_apply}
 use Rattle.swift_explorer.specs.declared.moves.Move.TheVariants as step
 use Rattle.swift_explorer.specs.declared.waiting.Ready.{Ready}
+use Rattle.std.specs.declared.alloc.AllocError.{AllocError}
+use Rattle.swift_explorer.specs.declared.history.Followed.{Followed}
 use Rattle.swift_explorer.specs.declared.history.History.{History}
 use Rattle.swift_explorer.specs.Steps.{IsStep}
-use Rattle.swift_explorer.specs.HistoryInside.{Applies, AreOf, IsHistory, IsLed, RunsAt, given_at, job_of, rows_at, with_given}
+use Rattle.swift_explorer.specs.HistoryInside.{WasDone, Applies, AreOf, IsHistory, IsLed, RunsAt, given_at, job_of, rows_at, with_given}
 use Rattle.swift_explorer.proofs.Given.{of_taken}
 use Rattle.swift_explorer.proofs.Led.{Runs, led_run}
 use Rattle.swift_explorer.proofs.Used.{used_set}
@@ -87,3 +89,8 @@ pub still_runs : (script : ScriptView) (outer : List (ℕ × ℤ)) (fs gs : List
 still_runs script outer [] gs rows rows' resume env effects exit has polls = absurd has
 still_runs script outer (p ∷ callers) [] rows rows' resume env effects exit has polls = absurd polls
 still_runs script outer (p ∷ callers) (q ∷ others) rows rows' resume env effects exit has polls = tt
+
+-- what holds where a step was done
+pub if_done : (r : Result Followed AllocError) (P Q : Type 0) → (P → Q) → IfOk r (λ f. WasDone f → P) → IfOk r (λ f. WasDone f → Q)
+if_done (Ok f) P Q leads was = λ done. leads (was done)
+if_done (Err e) P Q leads was = tt

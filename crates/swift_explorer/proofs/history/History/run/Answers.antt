@@ -1,4 +1,26 @@
+use Rattle.std.proofs.Common.{rules, ◌≡◌, ◌<◌, ◌∙◌, ℕ, ℤ, List, Vec, length, set, refl, sym, true, arith}
+use Rattle.std.specs.Prelude.{Some, slice_get}
+use Rattle.std.specs.declared.alloc.Global.{Global}
+use Rattle.std.specs.Arc.{arc_value}
+use Rattle.script_code.specs.Seen.{rows_of}
+use Rattle.swift_interpreter.specs.Frames.{effect_views}
+use Rattle.swift_interpreter.specs.TurnStates.{exit_view}
+use Rattle.swift_explorer.proofs.Ran.{if_done, run_step}
+use Rattle.swift_explorer.proofs.Rows.{rows_here, rows_many, rows_set}
 use Rattle.swift_explorer.proofs.history.History.run.Goals as goal
 
 pub returns-clause-follows : goal.returns-clause-follows
-returns-clause-follows c = ?
+returns-clause-follows c =
+    let x = c.args.self.now in
+    let k = c.in-Some-executor_of.place in
+    let f = λ (rows : Vec (Vec ℤ Global) Global). rows_of rows.items in
+    let old = c.replace-fields.result in
+    let new = c.in-Ok.fields in
+    let lt : k < length x.fields.items = omega (arith, c.if-place-len.false, c.len.ensures) in
+    let in_used : k < length x.used.items = omega (arith, c.if-place-len-2.false, c.len-else-place-len.ensures) in
+    let there : slice_get x.fields.items k ≡ Some old = ? in
+    if_done c.apply.result _ _ (λ applies blocks h.
+        run_step (arc_value x.script) blocks x _ c.apply.new.self c.args.task c.in-Some-take.ready k c.in-Some.env (f old) (f new) c.replay_turn.new.body (effect_views c.in-Ok.effects.items) (exit_view c.in-Ok.exit)
+        h (sym c.take.ensures.found ∙ c.in-Some-take.is) c.take.ensures.rest c.in-Some.ensures.some c.in-Some-executor_of.ensures.runs
+        (rows_here f x.fields.items k old there) ? ? ? ? refl refl refl in_used ? applies)
+    c.apply.ensures.applies
