@@ -36,7 +36,9 @@ ended_none log t x at = absurd (none-some x at)
 
 pub push_length : {A : Type 0} (xs : List A) (x : A) → length (xs ++ x ∷ []) ≡ length xs + 1
 push_length [] x = refl
-push_length (y ∷ xs) x = ap suc (push_length xs x)
+push_length (y ∷ xs) x =
+    let after : suc (length xs + 1) ≡ suc (length xs) + 1 = omega arith in
+    ap suc (push_length xs x) ∙ after
 
 pub lt_or : (t n : ℕ) → t < n + 1 → (t < n) ⊎ (t ≡ n)
 lt_or t n lt = grind (arith, lt)

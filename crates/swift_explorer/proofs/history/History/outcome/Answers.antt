@@ -1,4 +1,4 @@
-use Rattle.std.proofs.Common.{rules, ◌≡◌, ◌∙◌, ℕ, length, sym, subst, ap}
+use Rattle.std.proofs.Common.{rules, refl, ◌≡◌, ◌∙◌, ℕ, length, sym, subst, ap}
 use Rattle.std.specs.Arc.{arc_value}
 use Rattle.swift_script.specs.Scripts.{ScriptView, root_count}
 use Rattle.swift_events.specs.Events.{tasks_of}
@@ -17,7 +17,7 @@ returns-clause-sound c =
     let ended : length es ≡ c.in-Ok.tasks = search rules in
     let counted : c.in-Ok.tasks ≡ tasks_of (root_count x.book.script) x.book.log = search rules in
     let many : length es ≡ tasks_of (root_count script) x.book.log = ended ∙ counted ∙ ap (λ (s : ScriptView). tasks_of (root_count s) x.book.log) h.book_is in
-    let shut : HaveClosed x.book.log c.in-Ok.tasks = search rules in
+    let shut : HaveClosed x.book.log c.in-Ok.tasks = c.if-not-has_closed_all.ensures refl in
     record {
       report = report_of script bs x.book.log es (rows_at x);
       legal = legal_is script bs x.book.log x.book.held x.tasks.items (rows_at x) x.roots es h.led all many (search rules) (subst (HaveClosed x.book.log) (sym ended) shut);
