@@ -20,7 +20,7 @@ from racy_scripts import Writer
 
 def listed(program: str, script: str, states: int) -> tuple[str, set[str]]:
     """The first line of what a program prints, and the outcomes."""
-    ran = subprocess.run([program, "explore", "--states", str(states)], input=script, capture_output=True, text=True, check=True)
+    ran = subprocess.run([program, "explore", "--limit", str(states)], input=script, capture_output=True, text=True, check=True)
     head, *parts = re.split(r"\noutcome \d+\nschedule[^\n]*\n", ran.stdout)
     return head.split("\n")[0], {part.rstrip("\n") + "\n" for part in parts}
 
