@@ -13,19 +13,21 @@ ghost use Rattle.swift_interpreter.specs.Frames.{effect_views};
 ghost use Rattle.swift_interpreter.specs.TurnStates.{exit_view};
 ghost use Rattle.swift_events.specs.Relations.{opened_by, is_closed};
 ghost use Rattle.swift_explorer.specs.Outcomes.{IfReached, IsOutcomeOf};
+ghost use Rattle.std.specs.Option.{option_map};
+ghost use Rattle.swift_tasks.specs.Books.{job_view};
+ghost use Rattle.swift_explorer.specs.KeysInside.{AreNumbers, IsNumbered, ready_view};
 ghost use Rattle.swift_explorer.specs.HistoryInside.{Applies, AreEnded, AreFirst, AreOf, AreThere, CanBegin, CanRun, EndsAt, GoesOn, HasEachMove, HasEnded, HaveClosed, IsHistory, IsMissing, IsSomeHistory, RunsAt, WasDone, rows_at, seat_of};
 
-use crate::digest::put_card;
-use crate::frames::{put_fields, put_ready};
+use crate::frames::{put_ready, put_waiting};
 use crate::moves::Move;
 use crate::outcome::{End, Outcome};
-use crate::values::put_flag;
 use crate::waiting::{Ready, give_all_up, put, put_all, take};
 use std::alloc::{AllocError, Global};
 use std::mem;
 use std::sync::Arc;
 use swift_events::{Event, Origin};
 use swift_interpreter::{Effect, Exit};
+use swift_keys::{put_digest, put_fields, put_flags};
 use swift_log::EventLog;
 use swift_queue::Job;
 use swift_script::Script;
@@ -427,29 +429,25 @@ impl History {
     }
 
     /// All that counts for what may come next, as numbers. It gives the history up.
-    pub fn into_key(self) -> Result<Vec<i64>, AllocError> {
+    pub fn into_key(self) -> Result<Vec<i64>, AllocError>
+        ensures { IfOk result (λ key. IsNumbered self key.items) }
+    {
         let History {
             alloc,
             script: _,
             book,
-            mut tasks,
+            tasks,
             fields,
             used,
-            roots,
+            roots: _,
             jobs,
         } = self;
         give_all_up(jobs);
-        let count = book.tasks();
-        let (log, mut waiting) = book.close();
-        let kept = put_all(&mut tasks, &mut waiting);
+        book.facts();
+        let (log, waiting) = book.close();
+        let key = key_numbers(alloc, &log, &used, &tasks, &waiting, &fields);
         give_all_up(waiting);
-        kept?;
-        let mut key = Vec::new(alloc);
-        key.push(i64::from(roots))?;
-        put_used(&mut key, &used)?;
-        put_tasks(&mut key, &events_of(alloc, &log)?, tasks, count)?;
-        put_fields(&mut key, &fields)?;
-        Ok(key)
+        key
     }
 
     /// Gives the history up.
@@ -492,34 +490,23 @@ fn events_of(alloc: Global, log: &EventLog) -> Result<Vec<Event>, AllocError>
     Ok(events)
 }
 
-// Which executors have run a turn.
-fn put_used(key: &mut Vec<i64>, used: &[bool]) -> Result<(), AllocError> {
-    for flag in used {
-        put_flag(key, *flag)?;
-    }
-    Ok(())
-}
-
-// So many tasks: their cards, and what is left of them to do.
-fn put_tasks(
-    key: &mut Vec<i64>,
-    log: &[Event],
-    mut tasks: Vec<Option<Ready>>,
-    count: usize,
-) -> Result<(), AllocError> {
-    for place in 0..count {
-        let Ok(number) = u32::try_from(place) else {
-            return Err(AllocError);
-        };
-        let task = TaskId(number);
-        put_card(key, log, task)?;
-        match take(&mut tasks, task) {
-            None => key.push(0)?,
-            Some(ready) => {
-                key.push(1)?;
-                put_ready(key, ready)?;
-            }
-        }
-    }
-    Ok(())
+// The digest of a log, and then all else that counts.
+fn key_numbers(
+    alloc: Global,
+    log: &EventLog,
+    used: &[bool],
+    tasks: &[Option<Ready>],
+    waiting: &[Job<Body>],
+    fields: &[Vec<Vec<i64>>],
+) -> Result<Vec<i64>, AllocError>
+    ensures { IfOk result (λ key. AreNumbers log.now.events used.now (map (option_map ready_view) tasks.now) (map job_view waiting.now) (map (λ rows. rows_of rows.items) fields.now) key.items) }
+{
+    let events = events_of(alloc, log)?;
+    let mut key = Vec::new(alloc);
+    put_digest(alloc, &mut key, &events)?;
+    put_flags(&mut key, used)?;
+    put_ready(&mut key, tasks)?;
+    put_waiting(&mut key, waiting)?;
+    put_fields(&mut key, fields)?;
+    Ok(key)
 }

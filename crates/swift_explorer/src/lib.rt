@@ -1,12 +1,8 @@
 //! Every outcome that some order of turns of a script leads to.
 #![tactic(auto)]
 
-// What a log says of tasks and groups, as numbers.
-mod digest;
 // What is left of tasks to do, as numbers.
 mod frames;
-// Lists of numbers as bytes.
-mod key;
 // One history, followed from its beginning.
 mod history;
 // Steps of a history.
@@ -17,8 +13,6 @@ mod outcome;
 mod search;
 // What a search has found, as a text.
 mod text;
-// Small values as numbers.
-mod values;
 // What the next turn of each task begins with.
 mod waiting;
 

@@ -11,16 +11,14 @@ ghost use Rattle.swift_explorer.specs.KeysInside.{IsKeyOf, outcome_key};
 ghost use Rattle.swift_explorer.specs.SearchInside.{AreDone, AreEnds, Grows, IsDone, IsKept, IsKeyFor, IsListed, IsPath, KeyIsKept, Follows, ListsEnd, StepIsKept};
 ghost use Rattle.swift_explorer.specs.Steps.{IsStep, roots_over};
 
-use crate::frames::put_fields;
 use crate::history::{Followed, History};
-use crate::key::pack;
 use crate::moves::Move;
 use crate::outcome::{End, Outcome};
-use crate::values::{put_ending, put_origin};
 use script_names::{Names, Seed};
 use std::alloc::{AllocError, Global};
 use std::sync::Arc;
 use swift_laws::accepted::accepted_scripts_have_executors;
+use swift_keys::{pack, put_ending, put_fields, put_origin};
 use swift_script::Script;
 
 // A history that was kept: one step after another that was.
@@ -82,7 +80,7 @@ fn outcome_key(alloc: Global, outcome: &Outcome) -> Result<Vec<u8>, AllocError>
     let mut key = Vec::new(alloc);
     for (origin, ending) in &outcome.endings {
         key.push(1)?;
-        put_origin(&mut key, Some(*origin))?;
+        put_origin(&mut key, *origin)?;
         put_ending(&mut key, *ending)?;
     }
     key.push(0)?;
