@@ -1,16 +1,20 @@
 //! Answers questions about scripts of actors: runs them, checks them, prints them, and explains their refusals and faults.
 //!
-//! Its first argument is a command: `run`, `why`, `check`, `explain`, `print`, `show` or `swift`; `--help` and `--version` are taken too.
+//! Its first argument is a command: `run`, `why`, `check`, `explain`, `print`, `show`, `swift` or `explore`; `--help` and `--version` are
+//! taken too.
 //! Status 0 stands for a run whose tasks all ended with a value, a script that is accepted, and for help; 1 for a run with a task that ended
 //! with a fault, 2 for words that were refused, 3 for a script that was refused, 4 for a run that was refused, or a file or device that
 //! failed.
 #![tactic(auto)]
 
+// Every order of turns.
+mod explore;
 // Runs as pictures.
 mod show;
 // Runs whose turns are explained.
 mod values;
 
+use crate::explore::explored;
 use crate::show::shown_run;
 use crate::values::{Said, explained_turn, report_of};
 use json_tool::run_json;
@@ -101,6 +105,10 @@ where
             Ok(text) => told(host, translated(host, &text)),
             Err(error) => unread(host, source, error),
         },
+        Request::Explore(source, limit) => match script(host, source) {
+            Ok(text) => told(host, listed(host, &text, limit)),
+            Err(error) => unread(host, source, error),
+        },
         Request::Explain(topic) => told(host, explained(host, topic)),
     }
 }
@@ -188,6 +196,11 @@ fn printed(rt: &HostRuntime, text: &[u8], is_pretty: bool) -> Result<bool, ToolF
 
 fn translated(rt: &HostRuntime, text: &[u8]) -> Result<bool, ToolFault> {
     let said = translate(rt.alloc(), text)?;
+    shown(rt, &said)
+}
+
+fn listed(rt: &HostRuntime, text: &[u8], limit: u32) -> Result<bool, ToolFault> {
+    let said = explored(rt.alloc(), text, limit)?;
     shown(rt, &said)
 }
 

@@ -42,4 +42,6 @@ pub enum Request<'a> {
     Show(Source<'a>, u32, PictureFormat),
     /// To print the Swift program of a script.
     Swift(Source<'a>),
+    /// To list the outcomes of a script, of which at most so many histories are kept.
+    Explore(Source<'a>, u32),
 }

@@ -147,6 +147,23 @@ fn swift_command<'a>(alloc: Global) -> Result<Command<'a>, AllocError> {
         .arg(file(alloc))
 }
 
+fn explore_command<'a>(alloc: Global) -> Result<Command<'a>, AllocError> {
+    let limit = Arg::new(alloc, "limit")
+        .long("limit")
+        .value_name("N")
+        .help("Keeps at most N states, from 1 to 10000000")
+        .action(ArgAction::Set)
+        .value_parser(value_parser!(u32).range(1..10_000_001))
+        .default_value("100000");
+    Command::new(alloc, "explore")
+        .about(
+            "Lists each outcome that some order of turns leads to, whatever the priorities and the kinds of executors, with a shortest schedule",
+        )
+        .after_help("Example: nuchapay explore examples/races/early_read.actors")
+        .arg(file(alloc))?
+        .arg(limit)
+}
+
 // The words that the program takes.
 fn command<'a>(alloc: Global) -> Result<Command<'a>, AllocError> {
     Command::new(alloc, "nuchapay")
@@ -160,7 +177,8 @@ fn command<'a>(alloc: Global) -> Result<Command<'a>, AllocError> {
         .subcommand(explain_command(alloc)?)?
         .subcommand(print_command(alloc)?)?
         .subcommand(show_command(alloc)?)?
-        .subcommand(swift_command(alloc)?)
+        .subcommand(swift_command(alloc)?)?
+        .subcommand(explore_command(alloc)?)
 }
 
 // The file that was named.
@@ -247,6 +265,7 @@ fn is_second(matches: &ArgMatches<'_>, argument: &str, first: &str, second: &str
 ///   is not given, and `--values`, for which there is no place where `--quiet` is given, and which is refused beside `json`;
 /// - `why`, with a file, the name of a turn, and `--workers N`;
 /// - `swift`, with a file;
+/// - `explore`, with a file, and `--limit N`, 100000 where it is not given;
 /// - `show`, with a file, `--workers N`, and `--format` with `svg` or `trace`, `svg` where it is not given;
 /// - `check`, with a file and `--color always` or `never`, which is meant where it is not given;
 /// - `print`, with a file and `--pretty`;
@@ -296,6 +315,10 @@ pub fn request<'a>(alloc: Global, words: &'a [String]) -> Result<Request<'a>, Er
     }
     if let Some(found) = matches.subcommand_matches("swift") {
         return Ok(Request::Swift(source(found)));
+    }
+    if let Some(found) = matches.subcommand_matches("explore") {
+        let limit = found.get_one::<u32>("limit").unwrap_or(100_000);
+        return Ok(Request::Explore(source(found), limit));
     }
     let asked = matches.subcommand_matches("explain");
     match asked
