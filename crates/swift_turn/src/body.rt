@@ -1,12 +1,12 @@
 //! A task's frames, as a future.
 
-ghost use Rattle.std.specs.Prelude.{◌≡◌, ℕ, ◌+◌, ◌<◌, ◌≤◌, ◌⊎◌, ◌↔◌, ◌∷◌, true, false, [], IsTrue, IfOk, OnOk, IfErr, OnErr, None, Some, is_some, length};
+ghost use Rattle.std.specs.Prelude.{◌≡◌, ℕ, ◌+◌, ◌<◌, ◌≤◌, ◌⊎◌, ◌↔◌, ◌∷◌, true, false, [], IsTrue, IfOk, OnOk, IfErr, OnErr, None, Some, is_some, length, slice_index_or};
 ghost use Rattle.std.specs.Arc.{arc_value};
 ghost use Rattle.futures.specs.Poll.{IfReady, OnPending};
 ghost use Rattle.futures.specs.Task.{Covers, Keeps};
 ghost use Rattle.script_code.specs.Seen.{rows_of};
 ghost use Rattle.swift_script.specs.Scripts.{method_actor, method_count};
-ghost use Rattle.swift_interpreter.specs.Frames.{effect_views, frame_view, invocation_view};
+ghost use Rattle.swift_interpreter.specs.Frames.{FrameView, effect_views, frame_view, invocation_view};
 ghost use Rattle.swift_interpreter.specs.TurnStates.{exit_view};
 ghost use Rattle.swift_interpreter.specs.Turn.{calling};
 ghost use Rattle.swift_turn.specs.Body.{AdvancesTo, BeginsFrame, BeginsToWait, CanAdvance, GoesOn, Hands, IfRunning, IsPolled, IsRunning, KeepsSlot, Polls, Registers, WaitsIn, Resumes, answer_of, at_rest, callers_of, ending_if, ends_with, entered, idle, invariants_at, kept_turn, left, opening, out_of_memory, poll_of, state_at};
@@ -431,6 +431,21 @@ impl Body {
         ensures { IfRunning self.now.task.frames (λ p. p ≡ frame_view result.now) }
     {
         &self.inside.turn.frame
+    }
+
+    /// How many callers the frame that runs has: none where the task has ended. Constant time.
+    pub fn callers(&self) -> usize
+        ensures { result ≡ length (callers_of self.now.task.frames) }
+    {
+        self.inside.callers.len()
+    }
+
+    /// The caller at a place, from 0 for the one that called the frame that runs. Constant time, and it takes no memory.
+    pub fn caller(&self, place: usize) -> &Frame
+        requires { place < length (callers_of self.now.task.frames) }
+        ensures { (d : FrameView) → slice_index_or (callers_of self.now.task.frames) place d ≡ frame_view result.now }
+    {
+        self.inside.callers.at(place)
     }
 
     /// A copy of the frame that runs, with the bindings that it has made. It costs and takes memory for its variables,

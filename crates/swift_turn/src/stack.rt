@@ -1,7 +1,7 @@
 //! The frames below the one that runs.
 
-ghost use Rattle.std.specs.Prelude.{◌≡◌, ◌↔◌, ◌∷◌, [], IsTrue, OnOk, IfErr, length};
-ghost use Rattle.swift_interpreter.specs.Frames.{frame_view};
+ghost use Rattle.std.specs.Prelude.{◌≡◌, ◌<◌, ◌↔◌, ◌∷◌, [], IsTrue, OnOk, IfErr, length, slice_index_or};
+ghost use Rattle.swift_interpreter.specs.Frames.{FrameView, frame_view};
 ghost use Rattle.swift_turn.specs.Stack.{frame_if, first_of, rest_of};
 
 use std::alloc::{AllocFailed, Global};
@@ -42,6 +42,14 @@ impl Stack {
         ensures { IsTrue result ↔ (self.now ≡ []) }
     {
         self.items.is_empty()
+    }
+
+    /// The frame at a place, from 0 for the nearest. Constant time.
+    pub fn at(&self, place: usize) -> &Frame
+        requires { place < length self.now }
+        ensures { (d : FrameView) → slice_index_or self.now place d ≡ frame_view result.now }
+    {
+        &self.items[self.items.len() - 1 - place]
     }
 
     pub fn pop(&mut self) -> Option<Frame>

@@ -1,0 +1,8 @@
+pub mod Bytes
+pub mod Codes
+pub mod FrameCodes
+pub mod DigestCodes
+pub mod DigestPush
+pub mod Within
+pub mod Steps
+pub mod CardSteps

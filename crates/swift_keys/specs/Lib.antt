@@ -1,0 +1,7 @@
+pub mod Numbers
+pub mod Digests
+pub mod DigestNumbers
+pub mod CardsInside
+pub mod FrameNumbers
+pub mod Laws
+pub mod Bytes
