@@ -36,10 +36,13 @@ pos_read a b true false r s p q e = let same : a ≡ 253 = cc in absurd (grind a
 pos_read a b false true r s p q e = let same : 253 ≡ b = cc in absurd (grind arith)
 pos_read a b false false r s p q e = let rest : bytes_8 a ++ r ≡ bytes_8 b ++ s = cc in read_8 a b r s rest
 
+same_head : (m n : ℕ) (r s : List ℕ) → m ∷ r ≡ n ∷ s → m ≡ n
+same_head m n r s e = cc
+
 -- a number that is none starts with 254, which no other does
 neg_read : (a b : ℕ) (x : Bool) (r s : List ℕ) → nat_lt a 253 ≡ x → (if x then a ∷ [] else 253 ∷ bytes_8 a) ++ r ≡ 254 ∷ (bytes_8 b ++ s) → ⊥
 neg_read a b true r s p e = let same : a ≡ 254 = cc in grind arith
-neg_read a b false r s p e = cc
+neg_read a b false r s p e = let same : 253 ≡ 254 = same_head 253 254 (bytes_8 a ++ r) (bytes_8 b ++ s) e in absurd (omega arith)
 
 packed_read : (a b : ℤ) (r s : List ℕ) → packed a ++ r ≡ packed b ++ s → (a ≡ b) × (r ≡ s)
 packed_read (pos a) (pos b) r s e = let one = pos_read a b (nat_lt a 253) (nat_lt b 253) r s refl refl e in (ap (λ n. pos n) one.0, one.1)

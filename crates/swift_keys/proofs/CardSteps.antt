@@ -9,13 +9,13 @@ use Rattle.swift_events.specs.declared.life.Life.{Life}
 use Rattle.swift_events.specs.Events.{task_of, is_made}
 use Rattle.swift_events.specs.Lives.{lived, unborn}
 use Rattle.swift_events.specs.Relations.{own_in, waiter_in, names_task, opens, child_in, ending_among, asks, closes, names_group}
-use Rattle.swift_keys.specs.Digests.{Card as CardView, GroupCard as GroupView, Digest, no_digest, digest_of, noted, card_noted, group_noted, one_if, own_link, said}
+use Rattle.swift_digest.specs.Digests.{Card as CardView, GroupCard as GroupView, Digest, no_digest, digest_of, noted, card_noted, group_noted, one_if, own_link, said}
 use Rattle.swift_keys.specs.Numbers.{some_numbers, task_numbers, link_numbers}
 use Rattle.swift_keys.specs.DigestNumbers.{ended_numbers, card_numbers, group_numbers, IsWithin, other_of, group_end}
 use Rattle.swift_keys.specs.CardsInside.{IsCard, IsGroup, card_of_parts, group_of_parts}
 use Rattle.swift_keys.specs.declared.digest.Card.{Card}
 use Rattle.swift_keys.specs.declared.digest.Group.{Group}
-use Rattle.swift_keys.proofs.DigestPush.{digest_of-push, digest_of-none}
+use Rattle.swift_digest.proofs.Cards.{digest_of-push, digest_of-none}
 use Rattle.swift_keys.proofs.Steps.{some-append}
 use Rattle.swift_keys.proofs.Within.{within_none, within_more}
 

@@ -2,7 +2,6 @@ pub mod Bytes
 pub mod Codes
 pub mod FrameCodes
 pub mod DigestCodes
-pub mod DigestPush
 pub mod Within
 pub mod Steps
 pub mod CardSteps

@@ -5,7 +5,7 @@ use Rattle.std.proofs.lemmas.Bool.{ne_eqb}
 use Rattle.swift_events.specs.declared.event.Event.{Event}
 use Rattle.swift_events.specs.declared.event.Event.TheVariants.{Root, Begin, Apply, Free, Open, Child, Skip, CancelTask, CancelGroup, Wait, Next, Close, End, Give}
 use Rattle.swift_events.specs.Events.{task_of}
-use Rattle.swift_keys.specs.Digests.{Card, GroupCard, Digest, no_card, no_group, no_digest, card_noted, group_noted, noted, digest_of}
+use Rattle.swift_digest.specs.Digests.{Card, GroupCard, Digest, no_card, no_group, no_digest, card_noted, group_noted, noted, digest_of}
 use Rattle.swift_keys.specs.DigestNumbers.{IsWithin, other_of, group_end}
 
 -- an event that does not name a task leaves its card blank

@@ -3,7 +3,7 @@ use Rattle.std.specs.Prelude.{◌≡◌, ℕ, ℤ, pos, Bool, List, [], ◌∷�
 use Rattle.swift_events.specs.declared.life.Life.{Life}
 use Rattle.swift_keys.specs.Numbers.{some_numbers, task_numbers, link_numbers, flag_numbers, wide_numbers, life_numbers}
 use Rattle.swift_keys.specs.DigestNumbers.{ended_numbers}
-use Rattle.swift_keys.specs.Digests.{Card as CardView, GroupCard as GroupView}
+use Rattle.swift_digest.specs.Digests.{Card as CardView, GroupCard as GroupView}
 use Rattle.swift_keys.specs.declared.digest.Card.{Card}
 use Rattle.swift_keys.specs.declared.digest.Group.{Group}
 

@@ -5,7 +5,7 @@ use Rattle.swift_types.specs.declared.outcome.Ending.{Ending}
 use Rattle.swift_events.specs.declared.event.Event.{Event}
 use Rattle.swift_events.specs.declared.event.Event.TheVariants.{Free, Child, Wait, Next, Close, CancelGroup}
 use Rattle.swift_events.specs.Events.{task_of}
-use Rattle.swift_keys.specs.Digests.{Card, GroupCard, Digest, no_card, no_group}
+use Rattle.swift_digest.specs.Digests.{Card, GroupCard, Digest, no_card, no_group}
 use Rattle.swift_keys.specs.Numbers.{pair_numbers, list_numbers, each_numbers, number_numbers, wide_numbers, flag_numbers, task_numbers, ending_numbers, life_numbers, link_numbers}
 
 abbrev pub card_numbers : Card → List ℤ

@@ -1,5 +1,4 @@
 pub mod Numbers
-pub mod Digests
 pub mod DigestNumbers
 pub mod CardsInside
 pub mod FrameNumbers

@@ -8,7 +8,7 @@ ghost use Rattle.swift_events.specs.Relations.{asks, child_in, closes, ending_am
 ghost use Rattle.swift_groups.specs.Groups.{is_among};
 ghost use Rattle.swift_keys.specs.CardsInside.{IsCard, IsGroup, card_of_parts, group_of_parts};
 ghost use Rattle.swift_keys.specs.DigestNumbers.{IsWithin, IsWritten, card_numbers, ended_numbers, group_end, groups_numbers, head_numbers, other_of};
-ghost use Rattle.swift_keys.specs.Digests.{digest_of, one_if, own_link};
+ghost use Rattle.swift_digest.specs.Digests.{digest_of, one_if, own_link};
 ghost use Rattle.swift_keys.specs.Numbers.{each_numbers, link_numbers, some_numbers, task_numbers};
 
 use crate::values::{put_ending, put_flag, put_life, put_link, put_task, put_wide};

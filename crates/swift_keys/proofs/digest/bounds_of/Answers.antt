@@ -1,7 +1,7 @@
 use Rattle.std.proofs.Common.{◌≡◌, List, refl, sym, ◌∙◌, ap, subst, arith, rules, take}
 use Rattle.std.proofs.lemmas.List.{take_all}
 use Rattle.swift_events.specs.declared.event.Event.{Event}
-use Rattle.swift_keys.specs.Digests.{digest_of}
+use Rattle.swift_digest.specs.Digests.{digest_of}
 use Rattle.swift_keys.specs.DigestNumbers.{IsWithin}
 use Rattle.swift_keys.proofs.CardSteps.{bounds_none, bounds_step, made_none, made_step, one_at_most}
 use Rattle.swift_keys.proofs.digest.bounds_of.Goals as goal
@@ -22,7 +22,7 @@ loop-event-preserved c =
     }
 
 pub returns-clause-within : goal.returns-clause-within
-returns-clause-within c = subst (λ (l : List Event). IsWithin _ _ (digest_of l)) (take_all c.loop-event.event-index c.args.log.now (omega (arith, c.loop-event-test.false))) c.loop-event.invariant.within
+returns-clause-within c = subst (λ (l : List Event). IsWithin c.loop-event.bounds.tasks c.loop-event.bounds.groups (digest_of l)) (take_all c.loop-event.event-index c.args.log.now (omega (arith, c.loop-event-test.false))) c.loop-event.invariant.within
 
 pub returns-clause-made : goal.returns-clause-made
 returns-clause-made c = c.loop-event.invariant.made ∙ ap (λ (l : List Event). (digest_of l).made) (take_all c.loop-event.event-index c.args.log.now (omega (arith, c.loop-event-test.false)))

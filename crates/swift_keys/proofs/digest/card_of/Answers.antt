@@ -1,7 +1,7 @@
 use Rattle.std.proofs.Common.{◌≡◌, List, refl, subst, arith, rules, take}
 use Rattle.std.proofs.lemmas.List.{take_all}
 use Rattle.swift_events.specs.declared.event.Event.{Event}
-use Rattle.swift_keys.specs.Digests.{digest_of}
+use Rattle.swift_digest.specs.Digests.{digest_of}
 use Rattle.swift_keys.specs.CardsInside.{IsCard}
 use Rattle.swift_keys.proofs.CardSteps.{card_none, card_step, one_at_most}
 use Rattle.swift_keys.proofs.digest.card_of.Goals as goal
@@ -21,4 +21,4 @@ loop-event-preserved c =
     }
 
 pub returns : goal.returns
-returns c = subst (λ (l : List Event). IsCard _ ((digest_of l).cards c.args.task.0)) (take_all c.loop-event.event-index c.args.log.now (omega (arith, c.loop-event-test.false))) c.loop-event.invariant.card
+returns c = subst (λ (l : List Event). IsCard c.loop-event.card ((digest_of l).cards c.args.task.0)) (take_all c.loop-event.event-index c.args.log.now (omega (arith, c.loop-event-test.false))) c.loop-event.invariant.card

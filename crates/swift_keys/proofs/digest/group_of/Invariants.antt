@@ -1,6 +1,6 @@
 use Rattle.std.proofs.Common.{◌≤◌, take}
 use Rattle.swift_keys.specs.CardsInside.{IsGroup}
-use Rattle.swift_keys.specs.Digests.{digest_of}
+use Rattle.swift_digest.specs.Digests.{digest_of}
 use Rattle.swift_keys.proofs.digest.group_of.Given as goal
 
 abbrev pub invariant-loop-event : goal.invariant-loop-event

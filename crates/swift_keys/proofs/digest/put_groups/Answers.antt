@@ -1,6 +1,6 @@
 use Rattle.std.proofs.Common.{◌≡◌, ◌++◌}
 use Rattle.swift_keys.specs.DigestNumbers.{groups_numbers}
-use Rattle.swift_keys.specs.Digests.{digest_of}
+use Rattle.swift_digest.specs.Digests.{digest_of}
 use Rattle.swift_keys.proofs.Steps.{each_step}
 use Rattle.swift_keys.proofs.digest.put_groups.Goals as goal
 

@@ -16,9 +16,10 @@ loop-rows-preserved c =
     let k = c.loop-rows.rows-index in
     let len = length-map fields rows_in in
     some_step rows_numbers (map rows_in fields) k [] _ _ _ _ (omega (arith, len)) (get_or-map rows_in fields k _ [] (omega arith)) c.loop-rows.invariant
-    (two_writes _ _ _ _ _ c.in_ok-push.ensures.items c.in_ok-put_rows.ensures)
+    (two_writes c.loop-rows.key.items c.push.new.self.items c.put_rows.new.key.items (pos 1 ∷ []) _ c.in_ok-push.ensures.items
+    (c.in_ok-put_rows.ensures ∙ ap (λ (l : List (Vec ℤ)). c.push.new.self.items ++ rows_numbers (rows_of l)) c.deref.ensures.value))
 
 pub returns : goal.returns
 returns c =
     let len = length-map c.args.fields.now rows_in in
-    some_all rows_numbers (map rows_in c.args.fields.now) c.loop-rows.rows-index _ _ _ (omega (arith, len, c.loop-rows-test.false)) c.loop-rows.invariant c.in_ok-push.ensures.items
+    some_all rows_numbers (map rows_in c.args.fields.now) c.loop-rows.rows-index _ _ _ (omega (arith, len, c.loop-rows-test.false)) c.loop-rows.invariant c.in_ok-push-2.ensures.items

@@ -10,4 +10,4 @@ loop-flag-preserved c =
     (two_writes _ _ _ _ _ c.in_ok-push.ensures.items c.in_ok-put_flag.ensures)
 
 pub returns : goal.returns
-returns c = some_all flag_numbers c.args.flags.now c.loop-flag.flag-index _ _ _ (omega (arith, c.loop-flag-test.false)) c.loop-flag.invariant c.in_ok-push.ensures.items
+returns c = some_all flag_numbers c.args.flags.now c.loop-flag.flag-index _ _ _ (omega (arith, c.loop-flag-test.false)) c.loop-flag.invariant c.in_ok-push-2.ensures.items

@@ -10,4 +10,4 @@ loop-id-preserved c =
     (two_writes _ _ _ _ _ c.in_ok-push.ensures.items c.in_ok-put_number.ensures)
 
 pub returns : goal.returns
-returns c = some_all number_numbers c.args.ids.now c.loop-id.id-index _ _ _ (omega (arith, c.loop-id-test.false)) c.loop-id.invariant c.in_ok-push.ensures.items
+returns c = some_all number_numbers c.args.ids.now c.loop-id.id-index _ _ _ (omega (arith, c.loop-id-test.false)) c.loop-id.invariant c.in_ok-push-2.ensures.items
