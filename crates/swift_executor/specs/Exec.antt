@@ -109,7 +109,8 @@ chosen_task None = None
 chosen_task (Some c) = Some c.job.task
 
 -- What came behind other jobs is what the end of a turn of this task has made: a turn that an executor of this script has
--- journalled, and that a book of an equal script has taken.
+-- journalled, and that a book of an equal script has taken. It is some such book, since that of a run is under a lock. So this says that
+-- nothing else came; that all of this turn's jobs came it does not say: another turn of the task may make none.
 pub record IsMadeBy (script : ScriptView) (task : Option TaskId) (jobs jobs' : List JobView) : Type 0 where
   pub old : ExecView
   pub new : ExecView

@@ -110,7 +110,8 @@ fn first_state(
     requires unused { taker.taken ≡ [] }
     requires book { site.now.book ≡ Some seat.lock }
     requires seat { IsOpened site.now.script site.now.executor seat }
-    ensures { IfOk result (λ r. (site_of r.seat.lock r.state ≡ site.now) × (r.taker ≡ taker) × (r.seat ≡ seat)) }
+    ensures of { IfOk result (λ r. (site_of r.seat.lock r.state ≡ site.now) × (r.taker ≡ taker) × (r.seat ≡ seat)) }
+    ensures room { IfOk result (λ r. r.state.ready.room ≡ room) }
 {
     new_has_taken_none();
     new_knows_no_turn();

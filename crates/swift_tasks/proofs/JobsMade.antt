@@ -51,7 +51,7 @@ added_jobs script g unless i p bindings t roots log body jobs jobs' started coun
 
 -- a task that was started runs
 pub started_fits : (script : ScriptView) (m : ℕ) (args : List ℤ) (bindings : List (ℕ × ℤ)) (t : ℕ) (body : BodyView) → IsStarted script (Some (beginning script m args bindings)) (Some body) → IsJobOf script (first_of t body)
-started_fits script m args bindings t body started = record { script_is = started.0; runs = subst (λ (k : TaskView). HasFrames k.frames) (sym started.1) tt }
+started_fits script m args bindings t body started = record { script_is = started.0; runs = subst (λ (k : TaskView). HasFrames k.frames) (sym started.1) tt; rests = started.2 }
 
 pub added_fit : (b : Bool) (script : ScriptView) (jobs jobs' : List (JobIs BodyView)) (t : ℕ) (body : BodyView) → IsJobOf script (first_of t body) → jobs' ≡ jobs ++ add_jobs b t body
     → AllByRecursion (IsJobOf script) jobs → AllByRecursion (IsJobOf script) jobs'

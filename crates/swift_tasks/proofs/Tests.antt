@@ -1,7 +1,7 @@
 -- Tests of groups, and elements of lists.
 use Rattle.std.proofs.Common.{◌≡◌, ℕ, ◌+◌, ◌<◌, ◌≤◌, Bool, true, false, leb, arith, List, [], ◌∷◌, length, zero, suc, refl, ap, ◌∙◌, inl, inr, get_or}
 use Rattle.std.specs.Prelude.{◌&&◌, not, nat_lt}
-use Rattle.std.proofs.lemmas.Bool.{cases_eq}
+use Rattle.std.proofs.lemmas.Bool.{cases_eq, false≢true}
 use Rattle.std.proofs.lemmas.Bool.Decides.{nat_tests}
 use Rattle.swift_events.specs.declared.event.Event.{Event}
 use Rattle.swift_events.specs.Relations.{is_closed, is_open_group, opened_by}
@@ -20,6 +20,12 @@ closed_next t k log before lt shut g le = elim (cases_eq g k) [
     not_open : (closed : Bool) → (nat_lt k (opened_by t log) && not closed) ≡ false → closed ≡ true
     not_open true h = refl
     not_open false h = grind (arith, nat_tests)
+
+-- a group that is open is not closed
+pub open_unclosed : (lt closed : Bool) → (lt && not closed) ≡ true → closed ≡ true → ⊥
+open_unclosed true true h is = false≢true h
+open_unclosed false true h is = false≢true h
+open_unclosed lt false h is = false≢true is
 
 -- past no end, the default does not count
 pub get_or_any : {A : Type 0} (xs : List A) (k : ℕ) (d e : A) → k < length xs → get_or xs k d ≡ get_or xs k e

@@ -2,7 +2,7 @@
 use Rattle.std.specs.Prelude.{◌≡◌, ◌<◌, Option, Some, None, List, [], ◌∷◌}
 use Rattle.swift_script.specs.Scripts.{ScriptView, method_count}
 use Rattle.swift_interpreter.specs.Turn.{EffectView, spawning, detaching, adding}
-use Rattle.swift_turn.specs.Body.{BodyView, TaskView}
+use Rattle.swift_turn.specs.Body.{BodyView, TaskView, idle}
 use Rattle.swift_history.specs.TurnEnds.{beginning}
 
 -- the method of a task that is made is one of the script
@@ -19,10 +19,10 @@ task_made script (detaching i p) = Some (beginning script i.method i.args [])
 task_made script (adding g unless i p bindings) = Some (beginning script i.method i.args bindings)
 task_made script _ = None
 
--- a body for that task, where there is one
+-- a body for that task, where there is one, with no turn under way
 abbrev pub IsStarted : ScriptView → Option TaskView → Option BodyView → Type 0
 IsStarted script None None = Unit {0}
-IsStarted script (Some task) (Some b) = (b.script ≡ script) × (b.task ≡ task)
+IsStarted script (Some task) (Some b) = (b.script ≡ script) × (b.task ≡ task) × (b.phase ≡ idle)
 IsStarted script _ _ = ⊥
 
 abbrev pub IsBodyOf : ScriptView → EffectView → Option BodyView → Type 0

@@ -2,7 +2,7 @@
 use Rattle.std.specs.Prelude.{◌≡◌, ℕ, Option, Some, None, List, map}
 use Rattle.std.specs.List.{AllByRecursion}
 use Rattle.swift_script.specs.Scripts.{ScriptView, root_count}
-use Rattle.swift_turn.specs.Body.{IsRunning}
+use Rattle.swift_turn.specs.Body.{IsRunning, idle}
 use Rattle.swift_events.specs.declared.event.Event.{Event}
 use Rattle.swift_history.specs.TurnEnds.{HeldView}
 use Rattle.swift_tasks.specs.declared.held.Held.{Held}
@@ -16,10 +16,10 @@ held_view (Some h) = Some (record { number = h.number; frames = h.body.task })
 abbrev pub held_views : List (Option Held) → List (Option HeldView)
 held_views = map held_view
 
--- what is held is of the script, and has not ended
+-- what is held is of the script, has not ended, and no turn is under way in it
 abbrev pub FitsScript : ScriptView → Option Held → Type 0
 FitsScript script None = Unit {0}
-FitsScript script (Some h) = (h.body.script ≡ script) × IsRunning h.body
+FitsScript script (Some h) = (h.body.script ≡ script) × IsRunning h.body × (h.body.phase ≡ idle)
 
 pub record BookInvariant (script : ScriptView) (roots : ℕ) (log : List Event) (held : List (Option Held)) : Type 0 where
   pub roots_are : roots ≡ root_count script

@@ -5,7 +5,7 @@ use Rattle.swift_script.specs.Scripts.{ScriptView, root_count}
 use Rattle.swift_queue.specs.Job.{JobIs}
 use Rattle.swift_interpreter.specs.Frames.{FrameView}
 use Rattle.swift_interpreter.specs.Turn.{EffectView, ExitView}
-use Rattle.swift_turn.specs.Body.{BodyView, IsRunning, advanced}
+use Rattle.swift_turn.specs.Body.{BodyView, IsRunning, advanced, idle}
 use Rattle.swift_events.specs.declared.event.Event.{Event}
 use Rattle.swift_events.specs.Events.{tasks_of}
 use Rattle.swift_events.specs.Lives.{life_of, is_open, is_waiting}
@@ -26,10 +26,11 @@ empty_book script = record { script = script; log = []; held = replicate (root_c
 abbrev pub job_view : JobIs BodyView → JobView
 job_view j = record { task = j.task.0; number = j.number; resume = j.resume; frames = j.body.task }
 
--- a job's body is of the script, and has not ended
+-- a job's body is of the script, has not ended, and no turn is under way in it
 pub record IsJobOf (script : ScriptView) (j : JobIs BodyView) : Type 0 where
   pub script_is : j.body.script ≡ script
   pub runs : IsRunning j.body
+  pub rests : j.body.phase ≡ idle
 
 -- A task is held exactly where the log says that it waits, and only a task that was made and has not ended waits.
 pub record HoldsWaiting {A : Type 0} (roots : ℕ) (log : List Event) (held : List (Option A)) : Type 0 where

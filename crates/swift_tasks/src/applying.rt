@@ -5,7 +5,7 @@ ghost use Rattle.std.specs.List.{AllByRecursion};
 ghost use Rattle.swift_interpreter.specs.Turn.{InvocationView, calling, yielding};
 ghost use Rattle.swift_interpreter.specs.Frames.{effect_views};
 ghost use Rattle.swift_interpreter.specs.TurnStates.{exit_view};
-ghost use Rattle.swift_turn.specs.Body.{IsRunning};
+ghost use Rattle.swift_turn.specs.Body.{IsRunning, at_rest};
 ghost use Rattle.swift_ledger.specs.Ledgers.{IsMade};
 ghost use Rattle.swift_tasks.specs.Applying.{CanApply, next_of, went_on};
 ghost use Rattle.swift_tasks.specs.Books.{job_view, IsJobOf, IsEndOf};
@@ -31,7 +31,7 @@ fn go_on(
     task: TaskId,
     number: u32,
     next: Resume,
-    body: Body,
+    mut body: Body,
 )
     requires mine { IsMade ledger.old.log task }
     requires small { number + 1 < 2 ^ 32 }
@@ -39,12 +39,13 @@ fn go_on(
     requires room { vec_len jobs.old < vec_capacity jobs.old }
     ensures roots { ledger.new.roots ≡ ledger.old.roots }
     ensures log { ledger.new.log ≡ went_on ledger.old.log task number next }
-    ensures jobs { jobs.new.items ≡ jobs.old.items ++ next_of task number next body ∷ [] }
+    ensures jobs { jobs.new.items ≡ jobs.old.items ++ next_of task number next (at_rest body) ∷ [] }
 {
     let later = number + 1;
     let resume = resume_at(later, next);
     ledger.note_apply(task, number);
     ledger.note_give(task, later, resume);
+    body.rest();
     jobs.push_reserved(Job::new(task, later, resume, body));
 }
 

@@ -5,6 +5,7 @@ ghost use Rattle.std.specs.Arc.{arc_value};
 ghost use Rattle.std.specs.List.{AllByRecursion};
 ghost use Rattle.swift_script.specs.Scripts.{method_count};
 ghost use Rattle.swift_interpreter.specs.Frames.{invocation_view, effect_view, effect_views};
+ghost use Rattle.swift_turn.specs.Body.{idle};
 ghost use Rattle.swift_history.specs.TurnEnds.{beginning};
 ghost use Rattle.swift_tasks.specs.Bodies.{CanStart, IsBodyOf, AreBodiesOf};
 
@@ -25,6 +26,7 @@ fn start(
     requires { invocation.now.method.0 < method_count (arc_value script.now) }
     ensures script { IfOk result (λ body. body.script ≡ arc_value script.now) }
     ensures task { IfOk result (λ body. let i = invocation_view invocation.now in body.task ≡ beginning (arc_value script.now) i.method i.args bindings) }
+    ensures rest { IfOk result (λ body. body.phase ≡ idle) }
 {
     let args = invocation.args.to_vec(alloc)?;
     Body::start(alloc, script.clone()?, invocation.method, args, bindings)

@@ -1,6 +1,6 @@
 //! The book.
 
-ghost use Rattle.std.specs.Prelude.{◌≡◌, ◌≢◌, ℕ, ◌+◌, ◌<◌, ◌≤◌, [], ◌∷◌, ◌++◌, None, Some, true, IfOk, IfErr, IfNone, IfSome, IsTrue, replicate};
+ghost use Rattle.std.specs.Prelude.{◌≡◌, ◌≢◌, ℕ, ◌+◌, ◌<◌, ◌≤◌, ◌^◌, [], ◌∷◌, ◌++◌, None, Some, true, IfOk, IfErr, IfNone, IfSome, IsTrue, replicate};
 ghost use Rattle.std.specs.Arc.{arc_value};
 ghost use Rattle.swift_script.specs.Scripts.{root_count};
 ghost use Rattle.swift_events.specs.declared.life.Stage.TheVariants.{Begun};
@@ -133,9 +133,11 @@ impl Book {
         self.ledger.life(task).origin
     }
 
-    /// True only where a task has closed each group that it has opened (SE-0304). Time linear in these groups.
+    /// Whether a task has closed each group that it has opened (SE-0304); false where it has opened more than 2^32. Time linear in these
+    /// groups.
     pub fn has_closed_all(&self, task: TaskId) -> bool
-        ensures { IsTrue result → (g : ℕ) → g < opened_by task.0 self.now.log → is_closed task.0 g self.now.log ≡ true }
+        ensures closed { IsTrue result → (g : ℕ) → g < opened_by task.0 self.now.log → is_closed task.0 g self.now.log ≡ true }
+        ensures all { opened_by task.0 self.now.log ≤ 2 ^ 32 → ((g : ℕ) → g < opened_by task.0 self.now.log → is_closed task.0 g self.now.log ≡ true) → IsTrue result }
     {
         for group in 0..self.ledger.opened(task) {
             let Ok(group) = u32::try_from(group) else {

@@ -14,6 +14,7 @@ ghost use Rattle.swift_ledger.specs.Levels.{AreLevels};
 ghost use Rattle.swift_events.specs.Lives.{life_of};
 ghost use Rattle.swift_escalation.specs.Waits.{IsPriority};
 ghost use Rattle.swift_events.specs.Relations.{links_of};
+ghost use Rattle.swift_turn.specs.Body.{idle};
 ghost use Rattle.swift_history.specs.TurnEnds.{root_job, root_events};
 ghost use Rattle.swift_tasks.specs.BookInvariant.{FitsScript, held_views};
 ghost use Rattle.swift_tasks.specs.Books.{IsJobOf, job_view, jobs_held};
@@ -147,6 +148,7 @@ fn root_body(alloc: Global, script: &Arc<Script>, root: RootId) -> Result<Body, 
     requires { root.0 < root_count (arc_value script.now) }
     ensures script { IfOk result (λ body. body.script ≡ arc_value script.now) }
     ensures task { IfOk result (λ body. body.task ≡ (root_job (arc_value script.now) root.0).frames) }
+    ensures rest { IfOk result (λ body. body.phase ≡ idle) }
     ensures err { IfErr result (λ fault. fault ≡ BookFault.Memory) }
 {
     script.facts();

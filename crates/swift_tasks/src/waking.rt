@@ -4,7 +4,7 @@ ghost use Rattle.std.specs.Prelude.{◌≡◌, ◌+◌, ◌<◌, ◌≤◌, [], 
 ghost use Rattle.std.specs.List.{AllByRecursion};
 ghost use Rattle.swift_script.specs.Scripts.{ScriptView};
 ghost use Rattle.swift_groups.specs.Close.{close_of};
-ghost use Rattle.swift_turn.specs.Body.{IsRunning, GoesOn};
+ghost use Rattle.swift_turn.specs.Body.{IsRunning, GoesOn, at_rest};
 ghost use Rattle.swift_events.specs.Lives.{life_of};
 ghost use Rattle.swift_events.specs.Relations.{waiters_of, group_of, parent_of};
 ghost use Rattle.swift_history.specs.TurnEnds.{wake, wake_each, wake_closing, wake_owner, wake_parent, wake_all, resume_at, followed};
@@ -154,21 +154,23 @@ fn wake_all(
 }
 
 // A task goes on with this in its turn of this number.
-fn go_on(jobs: &mut Vec<Job<Body>>, task: TaskId, number: u32, resume: Resume, body: Body)
+fn go_on(jobs: &mut Vec<Job<Body>>, task: TaskId, number: u32, resume: Resume, mut body: Body)
     requires running { IsRunning body }
     requires room { vec_len jobs.old < vec_capacity jobs.old }
-    ensures jobs { jobs.new.items ≡ jobs.old.items ++ record { task = task; number = number; resume = resume_at number resume; body = body } ∷ [] }
+    ensures jobs { jobs.new.items ≡ jobs.old.items ++ record { task = task; number = number; resume = resume_at number resume; body = at_rest body } ∷ [] }
     ensures capacity { vec_capacity jobs.new ≡ vec_capacity jobs.old }
 {
     let resume = resume_at(number, resume);
+    body.rest();
     jobs.push_reserved(Job::new(task, number, resume, body));
 }
 
 // A task waits, before its turn of this number.
-fn hold(held: &mut [Option<Held>], task: TaskId, number: u32, body: Body)
+fn hold(held: &mut [Option<Held>], task: TaskId, number: u32, mut body: Body)
     requires there { task.0 < length held.old }
-    ensures held { held.new ≡ slice_set held.old task.0 (Some (record { number = number; body = body })) }
+    ensures held { held.new ≡ slice_set held.old task.0 (Some (record { number = number; body = at_rest body })) }
 {
+    body.rest();
     held[task.0 as usize] = Some(Held { number, body });
 }
 

@@ -8,7 +8,7 @@ loop-place-preserved c = λ t g lt below.
     elim (cases_eq t c.loop-place.place) [
       | inl same ↦
           let at : t ≡ c.in-Ok.task = same ∙ sym c.in-Ok.ensures.1 in
-          subst (λ (n : ℕ). is_closed n g c.args.book.now.log ≡ true) (sym at) (c.if-not-has_closed_all.ensures refl g (subst (λ (n : ℕ). g < opened_by n c.args.book.now.log) at below))
+          subst (λ (n : ℕ). is_closed n g c.args.book.now.log ≡ true) (sym at) (c.if-not-has_closed_all.ensures.closed refl g (subst (λ (n : ℕ). g < opened_by n c.args.book.now.log) at below))
       | inr other ↦ c.loop-place.invariant t g (omega (arith, lt, other)) below
     ]
 

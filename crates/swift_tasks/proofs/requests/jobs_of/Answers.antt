@@ -27,7 +27,7 @@ loop-waiting-preserved-in-Some-waiting c =
           let both = subst (AllByRecursion (FitsScript script)) is b.0 in
           let last = all-back (FitsScript script) c.pop.new.self.items (Some h ∷ []) both in (
             all-front (FitsScript script) c.pop.new.self.items (Some h ∷ []) both,
-            subst (AllByRecursion (IsJobOf script)) (sym more) (all-append (IsJobOf script) c.loop-waiting.jobs.items (c.new.result ∷ []) b.1 (record { script_is = ap (λ (b : BodyView). b.script) body ∙ last.0.0; runs = subst IsRunning (sym body) last.0.1 }, tt)),
+            subst (AllByRecursion (IsJobOf script)) (sym more) (all-append (IsJobOf script) c.loop-waiting.jobs.items (c.new.result ∷ []) b.1 (record { script_is = ap (λ (b : BodyView). b.script) body ∙ last.0.0; runs = subst IsRunning (sym body) last.0.1; rests = ap (λ (b : BodyView). b.phase) body ∙ last.0.2 }, tt)),
           ));
     }
 

@@ -6,5 +6,5 @@ returns c = record {
   origin = search rules;
   ending = search rules;
   root = search rules;
-  groups = c.has_closed_all.ensures (search rules);
+  groups = c.has_closed_all.ensures.closed (search rules);
 }

@@ -6,7 +6,7 @@ use Rattle.swift_interpreter.specs.TurnStates.{exit_view}
 use Rattle.swift_queue.specs.Job.{JobIs}
 use Rattle.swift_turn.specs.declared.step.Step.{Step}
 use Rattle.swift_turn.specs.declared.step.Step.TheVariants.{Run}
-use Rattle.swift_turn.specs.Body.{BodyView, GoesOn, AdvancesTo, CanAdvance}
+use Rattle.swift_turn.specs.Body.{BodyView, at_rest, GoesOn, AdvancesTo, CanAdvance}
 use Rattle.swift_ledger.specs.Ledgers.{LedgerView}
 use Rattle.swift_tasks.specs.Applying.{CanApply, went_on, next_of}
 use Rattle.swift_tasks.specs.BookInvariant.{held_views}
@@ -58,8 +58,8 @@ returns-in-Ok-Run-clause-ok c =
     let log = c.go_on.ensures.log ∙ ap (λ (n : Resume). went_on c.reserve-2.new.self.log c.spend-number.result.0 c.spend-number.result.1 n) c.in-Ok-Run.next-is
     ∙ ap (λ (r : Parts). went_on c.reserve-2.new.self.log r.0 r.1 next) c.spend-number.ensures ∙ ap (λ (l : LedgerView). went_on l.log job.task job.number next) c.reserve-2.ensures.same
     ∙ ap (λ (b : BookView). went_on b.log job.task job.number next) c.self.view_is in
-    let jobs = c.go_on.ensures.jobs ∙ ap (λ (n : Resume). c.reserve.new.self.items ++ next_of c.spend-number.result.0 c.spend-number.result.1 n body ∷ []) c.in-Ok-Run.next-is
-    ∙ ap (λ (r : Parts). c.reserve.new.self.items ++ next_of r.0 r.1 next body ∷ []) c.spend-number.ensures ∙ ap (λ (js : List (JobIs BodyView)). js ++ next_of job.task job.number next body ∷ []) c.reserve.ensures.items in
+    let jobs = c.go_on.ensures.jobs ∙ ap (λ (n : Resume). c.reserve.new.self.items ++ next_of c.spend-number.result.0 c.spend-number.result.1 n (at_rest body) ∷ []) c.in-Ok-Run.next-is
+    ∙ ap (λ (r : Parts). c.reserve.new.self.items ++ next_of r.0 r.1 next (at_rest body) ∷ []) c.spend-number.ensures ∙ ap (λ (js : List (JobIs BodyView)). js ++ next_of job.task job.number next (at_rest body) ∷ []) c.reserve.ensures.items in
     let end = plain_ends c.args.self.now (map job_view c.args.jobs.now.items) (map job_view c.go_on.new.jobs.items) job (exit_view c.args.exit.now) body next c.go_on.new.ledger.log (held_views c.self.inside.held.items) (can_of c) (next_by c)
-    log (ap (λ (b : BookView). b.held) c.self.view_is) (more_views c.args.jobs.now.items c.go_on.new.jobs.items job next body jobs) in
+    log (ap (λ (b : BookView). b.held) c.self.view_is) (more_views c.args.jobs.now.items c.go_on.new.jobs.items job next (at_rest body) jobs) in
     subst (λ (o : Option (JobIs BodyView)). IsSomeAnd o (λ j. IsEndOf c.args.self.now (map job_view c.args.jobs.now.items) j [] (exit_view c.args.exit.now) c.go_on.new.ledger.log (held_views c.self.inside.held.items) (map job_view c.go_on.new.jobs.items))) c.in-Some.ensures.value end
