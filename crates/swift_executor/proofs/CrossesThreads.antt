@@ -14,11 +14,13 @@ use Rattle.swift_journal.proofs.journal.Journal.TheSendSync as Journal
 use Rattle.swift_journal.proofs.checkpoint.Checkpoint.TheSendSync as Checkpoint
 use Rattle.swift_inbox.proofs.CrossesThreads.{body_send, inbox_sync, pass_send, script_send, script_sync, taker_send}
 use Rattle.swift_executor.proofs.tasks.ReadyTasks.TheSendSync as ReadyTasks
-use Rattle.swift_executor.proofs.fields.Fields.TheSendSync as Fields
+use Rattle.swift_interpreter.proofs.saved.SavedRows.TheSendSync as SavedRows
+use Rattle.swift_executor.specs.contracts.fields.Fields as fields
 use Rattle.swift_executor.specs.contracts.state.ExecState as state
 use Rattle.swift_executor.specs.contracts.resting.Resting as resting
 use Rattle.swift_executor.specs.contracts.resting.Held as held
 use Rattle.swift_executor.specs.contracts.chosen.Chosen as chosen
+use Rattle.swift_executor.specs.contracts.chosen.Played as played
 use Rattle.swift_executor.specs.contracts.exec.Spare as spare
 use Rattle.swift_executor.specs.contracts.exec.Exec as exec
 use Rattle.swift_executor.specs.contracts.desk.Desk as desk
@@ -42,8 +44,14 @@ body_sync = search (plain, script_send, script_sync, TurnState.the_field_sync, U
 chosen_send : IsSend (chosen.the_field).row
 chosen_send = search (plain, body_send) depth 60 fits 20000
 
+fields_send : IsSend fields.the_row
+fields_send = search (plain, SavedRows.the_send) depth 60 fits 20000
+
+pub played_send : IsSend (played.the_field).row
+played_send = search (plain, fields_send) depth 60 fits 20000
+
 state_send : IsSend state.the_row
-state_send = search (plain, script_send, script_sync, body_send, chosen_send, ReadyTasks.the_send, Fields.the_send, Journal.the_send, Checkpoint.the_send) depth 60 fits 20000
+state_send = search (plain, script_send, script_sync, body_send, chosen_send, played_send, ReadyTasks.the_send, Journal.the_send, Checkpoint.the_send) depth 60 fits 20000
 
 pub book_seat_send : IsSend book_seat.the_row
 book_seat_send = search (plain, Badge.the_send) depth 60 fits 20000

@@ -6,8 +6,7 @@ use Rattle.swift_inbox.proofs.CrossesThreads.{body_send, inbox_send, script_send
 use Rattle.swift_journal.proofs.journal.Journal.TheSendSync as Journal
 use Rattle.swift_journal.proofs.checkpoint.Checkpoint.TheSendSync as Checkpoint
 use Rattle.swift_executor.proofs.tasks.ReadyTasks.TheSendSync as ReadyTasks
-use Rattle.swift_executor.proofs.fields.Fields.TheSendSync as Fields
-use Rattle.swift_executor.proofs.CrossesThreads.{book_lock_send, book_lock_sync, book_seat_send, desk_send, exec_sync}
+use Rattle.swift_executor.proofs.CrossesThreads.{book_lock_send, book_lock_sync, book_seat_send, desk_send, exec_sync, played_send}
 use Rattle.swift_executor.specs.contracts.chosen.Chosen as chosen
 use Rattle.swift_executor.specs.contracts.state.ExecState as state
 use Rattle.swift_executor.specs.contracts.resting.Held as held
@@ -26,7 +25,7 @@ chosen_send : IsSend (chosen.the_field).row
 chosen_send = search (plain, body_send) depth 60 fits 20000
 
 state_send : IsSend state.the_row
-state_send = search (plain, script_send, script_sync, body_send, chosen_send, ReadyTasks.the_send, Fields.the_send, Journal.the_send, Checkpoint.the_send) depth 60 fits 20000
+state_send = search (plain, script_send, script_sync, body_send, chosen_send, played_send, ReadyTasks.the_send, Journal.the_send, Checkpoint.the_send) depth 60 fits 20000
 
 held_send : IsSend (held.the_field).row
 held_send = search (plain, state_send, taker_send, book_seat_send) depth 60 fits 20000
