@@ -131,8 +131,15 @@ class Crate:
             return {edits[0]: f"BAD EDIT: {first[:160]}"}
         if len(edits) == 1:
             return {edits[0]: "refused" if "\nlogic=not-proved" in said else "NOT REFUSED"}
-        unproved = {name.rsplit("::", 1)[-1].strip("<>") for name in re.findall(r"(?m)^fn (\S+): (?:not proved|no proof|could not tell)", said)}
-        return {edit: "refused" if edit.function in unproved else "NOT REFUSED" for edit in edits}
+        # Of a function that only calls one that is not proved nothing is known: its edit is tried alone.
+        unproved, calls = set(), set()
+        for name, why in re.findall(r"(?m)^fn (\S+): ((?:not proved|no proof|could not tell).*)", said):
+            (calls if "it calls" in why else unproved).add(name.rsplit("::", 1)[-1].strip("<>"))
+        found = {edit: "refused" if edit.function in unproved else "NOT REFUSED" for edit in edits}
+        for edit in edits:
+            if edit.function in calls - unproved:
+                found |= self.judge([edit])
+        return found
 
     def halves(self, edits):
         half = len(edits) // 2
