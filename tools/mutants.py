@@ -134,7 +134,7 @@ class Crate:
         # Of a function that only calls one that is not proved nothing is known: its edit is tried alone.
         unproved, calls = set(), set()
         for name, why in re.findall(r"(?m)^fn (\S+): ((?:not proved|no proof|could not tell).*)", said):
-            (calls if "it calls" in why else unproved).add(name.rsplit("::", 1)[-1].strip("<>"))
+            (calls if re.match("no proof: it calls|not proved; it calls", why) else unproved).add(name.rsplit("::", 1)[-1].strip("<>"))
         found = {edit: "refused" if edit.function in unproved else "NOT REFUSED" for edit in edits}
         for edit in edits:
             if edit.function in calls - unproved:
