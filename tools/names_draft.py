@@ -1216,7 +1216,7 @@ def jobs_apart(tree):
     )
     tree.files["crates/swift_job/proofs/job/spend_all/Invariants.antt"] = (
         "use Rattle.std.proofs.Common.{length}\nuse Rattle.swift_job.proofs.job.spend_all.Given as goal\n\n"
-        "abbrev pub decreases-loop-job : goal.decreases-loop-job\ndecreases-loop-job l = length l.jobs.items\n"
+        "abbrev pub decreases-loop-job : goal.decreases-loop-job\ndecreases-loop-job g l = length l.jobs.items\n"
     )
     for crate, module, name in (
         ("swift_certificate", "waiting", "give_all_up"),
@@ -1658,6 +1658,10 @@ def main():
             before = len(problems)
             group(tree)
             print(f"{group.__name__}: {len(problems) - before} problems", flush=True)
+    # A record of a bound names a trait's part by the trait.
+    at = "crates/swift_lock/proofs/lock/Lock/unlock/Answers.antt"
+    if at in tree.files and "UnlockOutcome" in tree.files.get("crates/swift_lock/src/rule.rt", ""):
+        tree.files[at] = tree.files[at].replace("g.O.Outcome.", "g.O.UnlockOutcome.")
     for n in notes:
         print("note:", n)
     for p in problems:
