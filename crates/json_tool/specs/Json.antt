@@ -21,7 +21,7 @@ pub record WritesJson (bytes : List ℕ) (quiet well : Bool) (old new : Option (
   pub appended : Appends old new text
 
 -- A prefix of the JSON of a run of this script is appended to what was written, and not all of it.
-pub record WritesPrefix (bytes : List ℕ) (quiet : Bool) (old new : Option (List ℕ)) : Type 0 where
+pub record WritesJsonPrefix (bytes : List ℕ) (quiet : Bool) (old new : Option (List ℕ)) : Type 0 where
   pub text : List ℕ
   pub well : Bool
   pub is : IsJsonOf bytes quiet text well
@@ -32,4 +32,4 @@ pub record WritesPrefix (bytes : List ℕ) (quiet : Bool) (old new : Option (Lis
 abbrev pub Leaves : List ℕ → ℕ → Bool → Option (List ℕ) → Option (List ℕ) → ToolFault → Type 0
 Leaves bytes workers quiet old new (tool.Script f) = IsRefusal bytes workers (tool.Script f) × (new ≡ old)
 Leaves bytes workers quiet old new (tool.Run f) = IsRefusal bytes workers (tool.Run f) × (new ≡ old)
-Leaves bytes workers quiet old new tool.Device = WritesPrefix bytes quiet old new
+Leaves bytes workers quiet old new tool.Device = WritesJsonPrefix bytes quiet old new

@@ -43,7 +43,7 @@ fn main(rt: HostRuntime) -> ExitCode {
         Ok(request) => ExitCode::from(answer(&rt, &rt, request)),
         Err(refused) => match refused.print(&rt) {
             Ok(()) => ExitCode::from(refused.exit_code() as u8),
-            Err(_) => ExitCode::from(told(&rt, Err(ToolFault::Device))),
+            Err(_) => ExitCode::from(tell(&rt, Err(ToolFault::Device))),
         },
     }
 }
@@ -61,39 +61,39 @@ where
 {
     match request {
         Request::Run(source, workers, quiet) => match script(host, source) {
-            Ok(text) => told(
+            Ok(text) => tell(
                 host,
                 run_text(rt, &text, workers, quiet, &Open, &mut host.stdout()),
             ),
             Err(error) => unread(host, source, error),
         },
         Request::RunJson(source, workers, quiet) => match script(host, source) {
-            Ok(text) => told(
+            Ok(text) => tell(
                 host,
                 run_json(rt, &text, workers, quiet, &Open, &mut host.stdout()),
             ),
             Err(error) => unread(host, source, error),
         },
         Request::Values(source, workers) => match script(host, source) {
-            Ok(text) => told(host, said(host, report_of(rt, &text, workers))),
+            Ok(text) => tell(host, write_said(host, report_of(rt, &text, workers))),
             Err(error) => unread(host, source, error),
         },
         Request::Why(source, name, workers) => match script(host, source) {
-            Ok(text) => answered(host, name, explained_turn(rt, &text, name, workers)),
+            Ok(text) => say_turn(host, name, explained_turn(rt, &text, name, workers)),
             Err(error) => unread(host, source, error),
         },
         Request::Check(source, colour) => match script(host, source) {
-            Ok(text) => checked(host, source, &text, colour),
+            Ok(text) => say_check(host, source, &text, colour),
             Err(error) => unread(host, source, error),
         },
         Request::Print(source, is_pretty) => match script(host, source) {
-            Ok(text) => told(host, printed(host, &text, is_pretty)),
+            Ok(text) => tell(host, write_printed(host, &text, is_pretty)),
             Err(error) => unread(host, source, error),
         },
         Request::Show(source, workers, format) => match script(host, source) {
             Ok(text) => {
                 let name = name_of(source);
-                told(
+                tell(
                     host,
                     show_run(rt, &text, name, workers, format, &mut host.stdout()),
                 )
@@ -101,10 +101,10 @@ where
             Err(error) => unread(host, source, error),
         },
         Request::Swift(source) => match script(host, source) {
-            Ok(text) => told(host, translated(host, &text)),
+            Ok(text) => tell(host, write_swift(host, &text)),
             Err(error) => unread(host, source, error),
         },
-        Request::Explain(topic) => told(host, explained(host, topic)),
+        Request::Explain(topic) => tell(host, write_page(host, topic)),
     }
 }
 
@@ -135,7 +135,7 @@ fn unread(rt: &HostRuntime, source: Source<'_>, error: io::Error) -> u8 {
 }
 
 // Says what went wrong, if anything did. The status to end with.
-fn told(rt: &HostRuntime, ended: Result<bool, ToolFault>) -> u8 {
+fn tell(rt: &HostRuntime, ended: Result<bool, ToolFault>) -> u8 {
     if let Err(fault) = ended {
         let _ = eprintln!(rt; "nuchapay: {fault}");
     }
@@ -143,29 +143,29 @@ fn told(rt: &HostRuntime, ended: Result<bool, ToolFault>) -> u8 {
 }
 
 // Says whether a text is a script. The status to end with.
-fn checked(rt: &HostRuntime, source: Source<'_>, text: &[u8], colour: bool) -> u8 {
+fn say_check(rt: &HostRuntime, source: Source<'_>, text: &[u8], colour: bool) -> u8 {
     match check(rt.alloc(), name_of(source), text, colour) {
-        Ok(Checked::Accepted(said)) => told(rt, shown(rt, said.as_bytes())),
+        Ok(Checked::Accepted(said)) => tell(rt, write_out(rt, said.as_bytes())),
         Ok(Checked::Refused(said)) => match write_all(&mut rt.stderr(), said.as_bytes()) {
             Ok(()) => 3,
             Err(_) => 4,
         },
-        Err(fault) => told(rt, Err(ToolFault::from(fault))),
+        Err(fault) => tell(rt, Err(ToolFault::from(fault))),
     }
 }
 
 // Writes what is said of a run. Whether each task ended with a value.
-fn said(rt: &HostRuntime, said: Result<Said, ToolFault>) -> Result<bool, ToolFault> {
+fn write_said(rt: &HostRuntime, said: Result<Said, ToolFault>) -> Result<bool, ToolFault> {
     let said = said?;
     write_all(&mut rt.stdout(), &said.text)?;
     Ok(said.is_well)
 }
 
 // Says what is known of a turn. The status to end with.
-fn answered(rt: &HostRuntime, name: TurnName, found: Result<Explained, ToolFault>) -> u8 {
+fn say_turn(rt: &HostRuntime, name: TurnName, found: Result<Explained, ToolFault>) -> u8 {
     let TurnName { task, number } = name;
     match found {
-        Ok(Explained::Found(said)) => told(rt, shown(rt, &said)),
+        Ok(Explained::Found(said)) => tell(rt, write_out(rt, &said)),
         Ok(Explained::Folded) => {
             let _ = eprintln!(rt;
                 "nuchapay: t{task}.{number} was folded into a checkpoint, which keeps no fields of it"
@@ -176,31 +176,31 @@ fn answered(rt: &HostRuntime, name: TurnName, found: Result<Explained, ToolFault
             let _ = eprintln!(rt; "nuchapay: the run has no turn t{task}.{number}");
             2
         }
-        Err(fault) => told(rt, Err(fault)),
+        Err(fault) => tell(rt, Err(fault)),
     }
 }
 
-fn printed(rt: &HostRuntime, text: &[u8], is_pretty: bool) -> Result<bool, ToolFault> {
+fn write_printed(rt: &HostRuntime, text: &[u8], is_pretty: bool) -> Result<bool, ToolFault> {
     if is_pretty {
         let said = pretty(rt.alloc(), text)?;
-        return shown(rt, &said);
+        return write_out(rt, &said);
     }
     let said = print(rt.alloc(), text)?;
-    shown(rt, said.as_bytes())
+    write_out(rt, said.as_bytes())
 }
 
-fn translated(rt: &HostRuntime, text: &[u8]) -> Result<bool, ToolFault> {
+fn write_swift(rt: &HostRuntime, text: &[u8]) -> Result<bool, ToolFault> {
     let said = translate(rt.alloc(), text)?;
-    shown(rt, &said)
+    write_out(rt, &said)
 }
 
-fn explained(rt: &HostRuntime, topic: Topic) -> Result<bool, ToolFault> {
+fn write_page(rt: &HostRuntime, topic: Topic) -> Result<bool, ToolFault> {
     let said = explain(rt.alloc(), page_of(topic))?;
-    shown(rt, said.as_bytes())
+    write_out(rt, said.as_bytes())
 }
 
 // Writes a text to standard output.
-fn shown(rt: &HostRuntime, text: &[u8]) -> Result<bool, ToolFault> {
+fn write_out(rt: &HostRuntime, text: &[u8]) -> Result<bool, ToolFault> {
     write_all(&mut rt.stdout(), text)?;
     Ok(true)
 }

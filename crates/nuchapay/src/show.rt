@@ -1,6 +1,6 @@
 //! A run as a picture.
 
-use crate::values::{all_ended_well, ran};
+use crate::values::{all_ended_well, run_text};
 use nuchapay_picture::{PictureFault, picture_of, svg_text, write_trace};
 use nuchapay_tool::PictureFormat;
 use std::alloc::{AllocError, AllocGlobal};
@@ -25,7 +25,7 @@ where
     W: Write,
 {
     let alloc = rt.alloc();
-    let (script, report) = ran(rt, text, workers)?;
+    let (script, report) = run_text(rt, text, workers)?;
     let picture = picture_of(alloc, &report)?;
     match format {
         PictureFormat::Svg => {

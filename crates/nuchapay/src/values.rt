@@ -21,7 +21,7 @@ pub struct Said {
 }
 
 /// Runs the script that a text spells.
-pub fn ran<R>(rt: &R, text: &[u8], workers: u32) -> Result<(Arc<Script>, Report), ToolFault>
+pub fn run_text<R>(rt: &R, text: &[u8], workers: u32) -> Result<(Arc<Script>, Report), ToolFault>
 where
     R: RandomSource + AllocGlobal + Threads + Wait + Sync,
 {
@@ -47,7 +47,7 @@ pub fn report_of<R>(rt: &R, text: &[u8], workers: u32) -> Result<Said, ToolFault
 where
     R: RandomSource + AllocGlobal + Threads + Wait + Sync,
 {
-    let (script, report) = ran(rt, text, workers)?;
+    let (script, report) = run_text(rt, text, workers)?;
     let is_well = all_ended_well(&report.endings);
     let text = report_with_values(rt.alloc(), &script, &report)?;
     Ok(Said { text, is_well })
@@ -63,7 +63,7 @@ pub fn explained_turn<R>(
 where
     R: RandomSource + AllocGlobal + Threads + Wait + Sync,
 {
-    let (script, report) = ran(rt, text, workers)?;
+    let (script, report) = run_text(rt, text, workers)?;
     let found = explain_turn(rt.alloc(), &script, &report, TaskId(name.task), name.number)?;
     Ok(found)
 }

@@ -1,6 +1,6 @@
 //! What stands below a box: what its turn did, in lines.
 
-use crate::pieces::{Piece, put};
+use crate::pieces::{TextPiece, put};
 use crate::text::{begin_text, end_text, write_text};
 use std::alloc::AllocError;
 
@@ -46,9 +46,9 @@ pub(crate) fn write_below(
             put(
                 out,
                 &[
-                    Piece::Text("and "),
-                    Piece::Number(more),
-                    Piece::Text(" more"),
+                    TextPiece::Text("and "),
+                    TextPiece::Number(more),
+                    TextPiece::Text(" more"),
                 ],
             )?;
             end_text(out)?;

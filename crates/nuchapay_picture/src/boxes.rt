@@ -4,10 +4,9 @@ ghost use Rattle.std.specs.Prelude.{◌≡◌, ◌<◌, ◌++◌, length, map, s
 ghost use Rattle.swift_journal.specs.Records.{RecordView};
 ghost use Rattle.nuchapay_picture.specs.Boxes.{box_of, boxes_of};
 
-use script_code::Env;
 use std::alloc::{AllocError, Global};
 use swift_journal::{BriefExit, Journal};
-use swift_types::{MethodId, Resume, TaskId};
+use swift_types::{Env, MethodId, Resume, TaskId};
 
 /// The box of a turn, with what the turn's journal says of it (our own).
 #[derive(Clone, Copy)]

@@ -4,8 +4,8 @@ use crate::below::{write_below, write_beside};
 use crate::boxes::TurnBox;
 use crate::layout::{Layout, TALL, WIDE, colour};
 use crate::picture::Picture;
-use crate::pieces::{Piece, put, put_fitting};
-use crate::placed::Placed;
+use crate::pieces::{TextPiece, put, put_fitting};
+use crate::placed::PlacedTurn;
 use crate::text::{begin_text, end_text, write_text};
 use crate::word;
 use std::alloc::AllocError;
@@ -30,9 +30,9 @@ fn write_title(
     put(
         out,
         &[
-            Piece::Text(" w"),
-            Piece::Number(turn.worker as usize),
-            Piece::Text(" "),
+            TextPiece::Text(" w"),
+            TextPiece::Number(turn.worker as usize),
+            TextPiece::Text(" "),
         ],
     )?;
     word::method(out, script, turn.method)?;
@@ -61,20 +61,23 @@ fn write_outline(
     if is_undone {
         out.extend_from_slice(b"x")?;
     } else {
-        put(out, &[Piece::Text("c"), Piece::Number(colour(turn.task))])?;
+        put(
+            out,
+            &[TextPiece::Text("c"), TextPiece::Number(colour(turn.task))],
+        )?;
     }
     put(
         out,
         &[
-            Piece::Text("\" x=\""),
-            Piece::Number(at.0),
-            Piece::Text("\" y=\""),
-            Piece::Number(at.1),
-            Piece::Text("\" width=\""),
-            Piece::Number(width),
-            Piece::Text("\" height=\""),
-            Piece::Number(TALL),
-            Piece::Text("\" rx=\"6\"/>\n"),
+            TextPiece::Text("\" x=\""),
+            TextPiece::Number(at.0),
+            TextPiece::Text("\" y=\""),
+            TextPiece::Number(at.1),
+            TextPiece::Text("\" width=\""),
+            TextPiece::Number(width),
+            TextPiece::Text("\" height=\""),
+            TextPiece::Number(TALL),
+            TextPiece::Text("\" rx=\"6\"/>\n"),
         ],
     )?;
     if !is_undone {
@@ -83,23 +86,23 @@ fn write_outline(
     put(
         out,
         &[
-            Piece::Text("<path class=\"y\" d=\"M"),
-            Piece::Number(at.0.saturating_add(4)),
-            Piece::Text(","),
-            Piece::Number(at.1.saturating_add(4)),
-            Piece::Text("L"),
-            Piece::Number(at.0.saturating_add(width).saturating_sub(4)),
-            Piece::Text(","),
-            Piece::Number(at.1.saturating_add(TALL - 4)),
-            Piece::Text("M"),
-            Piece::Number(at.0.saturating_add(width).saturating_sub(4)),
-            Piece::Text(","),
-            Piece::Number(at.1.saturating_add(4)),
-            Piece::Text("L"),
-            Piece::Number(at.0.saturating_add(4)),
-            Piece::Text(","),
-            Piece::Number(at.1.saturating_add(TALL - 4)),
-            Piece::Text("\"/>\n"),
+            TextPiece::Text("<path class=\"y\" d=\"M"),
+            TextPiece::Number(at.0.saturating_add(4)),
+            TextPiece::Text(","),
+            TextPiece::Number(at.1.saturating_add(4)),
+            TextPiece::Text("L"),
+            TextPiece::Number(at.0.saturating_add(width).saturating_sub(4)),
+            TextPiece::Text(","),
+            TextPiece::Number(at.1.saturating_add(TALL - 4)),
+            TextPiece::Text("M"),
+            TextPiece::Number(at.0.saturating_add(width).saturating_sub(4)),
+            TextPiece::Text(","),
+            TextPiece::Number(at.1.saturating_add(4)),
+            TextPiece::Text("L"),
+            TextPiece::Number(at.0.saturating_add(4)),
+            TextPiece::Text(","),
+            TextPiece::Number(at.1.saturating_add(TALL - 4)),
+            TextPiece::Text("\"/>\n"),
         ],
     )
 }
@@ -124,8 +127,8 @@ fn short_method(out: &mut Vec<u8>, script: &Script, turn: &TurnBox) -> Result<()
 fn short_exit(out: &mut Vec<u8>, script: &Script, exit: BriefExit) -> Result<(), AllocError> {
     if let BriefExit::Call(_, called) = exit {
         if (called.0 as usize) < script.method_count() {
-            let name = Piece::Name(script.method_name(called));
-            return put(out, &[Piece::Text("call "), name]);
+            let name = TextPiece::Name(script.method_name(called));
+            return put(out, &[TextPiece::Text("call "), name]);
         }
     }
     word::exit(out, script, exit)
@@ -183,7 +186,7 @@ fn write_other_lines(
 }
 
 // Whether a task's priority was raised between its turn before and this one.
-fn was_raised(picture: &Picture, turn: &TurnBox, placed: &Placed) -> bool {
+fn was_raised(picture: &Picture, turn: &TurnBox, placed: &PlacedTurn) -> bool {
     let Some(place) = placed.before else {
         return false;
     };
@@ -207,7 +210,7 @@ pub(crate) fn write_card(
     out: &mut Vec<u8>,
     view: View<'_>,
     turn: &TurnBox,
-    placed: &Placed,
+    placed: &PlacedTurn,
     lines: &[u8],
     line: &mut Vec<u8>,
 ) -> Result<(), AllocError> {

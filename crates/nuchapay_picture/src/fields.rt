@@ -1,6 +1,6 @@
 //! What a turn did to the fields, in lines.
 
-use crate::pieces::{Piece, number, put};
+use crate::pieces::{TextPiece, number, put};
 use std::alloc::AllocError;
 use swift_script::Script;
 use swift_types::ExecId;
@@ -20,7 +20,10 @@ fn write_field(
     if actors.len() > 1 {
         put(
             out,
-            &[Piece::Name(script.actor_name(*actor)), Piece::Text(".")],
+            &[
+                TextPiece::Name(script.actor_name(*actor)),
+                TextPiece::Text("."),
+            ],
         )?;
     }
     out.extend_from_slice(script.field_name(*actor, change.field))

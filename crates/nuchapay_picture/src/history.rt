@@ -7,7 +7,7 @@ use swift_types::TaskId;
 
 /// What the log says of a turn.
 #[derive(Clone, Copy)]
-pub(crate) struct Moment {
+pub(crate) struct TurnMoment {
     /// The place in the log at which it began.
     pub begin: usize,
     /// The place in the log at which it was applied. What follows there, to the next block, it has done.
@@ -20,8 +20,8 @@ pub(crate) struct Moment {
     pub maker: Option<usize>,
 }
 
-impl Moment {
-    const NONE: Moment = Moment {
+impl TurnMoment {
+    const NONE: TurnMoment = TurnMoment {
         begin: 0,
         end: 0,
         column: 0,
@@ -35,7 +35,7 @@ impl Moment {
 pub(crate) struct History {
     // The slot of the first turn of each task.
     firsts: Vec<usize>,
-    moments: Vec<Moment>,
+    moments: Vec<TurnMoment>,
     /// How many turns began.
     pub columns: usize,
 }
@@ -55,14 +55,14 @@ impl History {
     }
 
     /// What the log says of the turn of this slot; nothing where there is none.
-    pub fn moment(&self, slot: usize) -> Moment {
+    pub fn moment(&self, slot: usize) -> TurnMoment {
         match self.moments.get(slot) {
             Some(moment) => *moment,
-            None => Moment::NONE,
+            None => TurnMoment::NONE,
         }
     }
 
-    fn change(&mut self, slot: usize) -> Option<&mut Moment> {
+    fn change(&mut self, slot: usize) -> Option<&mut TurnMoment> {
         self.moments.get_mut(slot)
     }
 }
@@ -138,7 +138,7 @@ pub(crate) fn history_of(
 ) -> Result<History, AllocError> {
     let mut firsts = turns_of_tasks(alloc, tasks, log)?;
     let turns = sum_up(&mut firsts);
-    let moments = vec![in alloc; Moment::NONE; turns]?;
+    let moments = vec![in alloc; TurnMoment::NONE; turns]?;
     let mut history = History {
         firsts,
         moments,

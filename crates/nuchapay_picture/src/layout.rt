@@ -1,7 +1,7 @@
 //! Where things stand in a picture. Lengths are in pixels, from the left and from the top.
 
 use crate::picture::Picture;
-use crate::placed::Placed;
+use crate::placed::PlacedTurn;
 use std::alloc::{AllocError, Global};
 use swift_types::TaskId;
 
@@ -151,7 +151,7 @@ impl Layout {
     }
 
     /// Whether the box of a turn is shown.
-    pub fn shows(&self, placed: &Placed) -> bool {
+    pub fn shows(&self, placed: &PlacedTurn) -> bool {
         placed.moment.column >= self.first_column
     }
 
@@ -164,12 +164,12 @@ impl Layout {
     }
 
     /// Where the box of a turn begins.
-    pub fn left(&self, placed: &Placed) -> usize {
+    pub fn left(&self, placed: &PlacedTurn) -> usize {
         self.column_left(placed.moment.column)
     }
 
     /// Where it ends: in the column of the last turn that began before its own end.
-    pub fn right(&self, placed: &Placed) -> usize {
+    pub fn right(&self, placed: &PlacedTurn) -> usize {
         self.column_left(placed.moment.last_column.max(placed.moment.column))
             .saturating_add(WIDE)
     }

@@ -3,7 +3,7 @@
 ghost use Rattle.std.specs.Prelude.{◌≤◌};
 
 use crate::layout::Layout;
-use crate::pieces::{Piece, put};
+use crate::pieces::{TextPiece, put};
 use crate::text::{begin_text, end_text, write_text};
 use crate::word;
 use std::alloc::AllocError;
@@ -60,19 +60,23 @@ fn write_task(
     put(
         out,
         &[
-            Piece::Text("<rect class=\"c"),
-            Piece::Number(task % 12),
-            Piece::Text("\" x=\""),
-            Piece::Number(at.0),
-            Piece::Text("\" y=\""),
-            Piece::Number(at.1),
-            Piece::Text("\" width=\"14\" height=\"12\" rx=\"3\"/>\n"),
+            TextPiece::Text("<rect class=\"c"),
+            TextPiece::Number(task % 12),
+            TextPiece::Text("\" x=\""),
+            TextPiece::Number(at.0),
+            TextPiece::Text("\" y=\""),
+            TextPiece::Number(at.1),
+            TextPiece::Text("\" width=\"14\" height=\"12\" rx=\"3\"/>\n"),
         ],
     )?;
     line.clear();
     put(
         line,
-        &[Piece::Text("t"), Piece::Number(task), Piece::Text(" ")],
+        &[
+            TextPiece::Text("t"),
+            TextPiece::Number(task),
+            TextPiece::Text(" "),
+        ],
     )?;
     word::origin(line, script, task, ended.0)?;
     line.extend_from_slice(b": ")?;
@@ -112,13 +116,13 @@ fn write_sample(
     put(
         out,
         &[
-            Piece::Text("<path class=\""),
-            Piece::Text(class),
-            Piece::Text(" s8\" d=\"M"),
-            Piece::Number(x),
-            Piece::Text(","),
-            Piece::Number(y.saturating_sub(4)),
-            Piece::Text("h40\"/>\n"),
+            TextPiece::Text("<path class=\""),
+            TextPiece::Text(class),
+            TextPiece::Text(" s8\" d=\"M"),
+            TextPiece::Number(x),
+            TextPiece::Text(","),
+            TextPiece::Number(y.saturating_sub(4)),
+            TextPiece::Text("h40\"/>\n"),
         ],
     )?;
     begin_text(out, "t", x.saturating_add(48), y)?;
@@ -153,9 +157,9 @@ pub(crate) fn write_legend(
         put(
             out,
             &[
-                Piece::Text(" Not listed: "),
-                Piece::Number(endings.len().saturating_sub(TOLD)),
-                Piece::Text(" tasks."),
+                TextPiece::Text(" Not listed: "),
+                TextPiece::Number(endings.len().saturating_sub(TOLD)),
+                TextPiece::Text(" tasks."),
             ],
         )?;
     }

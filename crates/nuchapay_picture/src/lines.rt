@@ -4,8 +4,8 @@ use crate::boxes::TurnBox;
 use crate::layout::{Layout, colour, level};
 use crate::links::Link;
 use crate::picture::Picture;
-use crate::pieces::{Piece, put};
-use crate::placed::Placed;
+use crate::pieces::{TextPiece, put};
+use crate::placed::PlacedTurn;
 use std::alloc::AllocError;
 
 // How the lines of a link are drawn, by their classes.
@@ -24,23 +24,23 @@ fn begin_line(
     out: &mut Vec<u8>,
     layout: &Layout,
     class: &str,
-    from: (&TurnBox, &Placed),
+    from: (&TurnBox, &PlacedTurn),
     to: &TurnBox,
 ) -> Result<(), AllocError> {
     let top = layout.box_top(from.0.executor);
     put(
         out,
         &[
-            Piece::Text("<path class=\""),
-            Piece::Text(class),
-            Piece::Text(" s"),
-            Piece::Number(colour(to.task)),
-            Piece::Text("\" d=\"M"),
-            Piece::Number(layout.right(from.1).saturating_sub(12)),
-            Piece::Text(","),
-            Piece::Number(top),
-            Piece::Text("V"),
-            Piece::Number(top.saturating_sub(level(to.task))),
+            TextPiece::Text("<path class=\""),
+            TextPiece::Text(class),
+            TextPiece::Text(" s"),
+            TextPiece::Number(colour(to.task)),
+            TextPiece::Text("\" d=\"M"),
+            TextPiece::Number(layout.right(from.1).saturating_sub(12)),
+            TextPiece::Text(","),
+            TextPiece::Number(top),
+            TextPiece::Text("V"),
+            TextPiece::Number(top.saturating_sub(level(to.task))),
         ],
     )
 }
@@ -49,7 +49,7 @@ fn begin_line(
 fn end_above(
     out: &mut Vec<u8>,
     layout: &Layout,
-    to: (&TurnBox, &Placed),
+    to: (&TurnBox, &PlacedTurn),
     along: usize,
 ) -> Result<(), AllocError> {
     let at = layout.left(to.1).saturating_add(along);
@@ -57,17 +57,17 @@ fn end_above(
     put(
         out,
         &[
-            Piece::Text("H"),
-            Piece::Number(at),
-            Piece::Text("V"),
-            Piece::Number(top),
-            Piece::Text("\"/>\n<path class=\"f"),
-            Piece::Number(colour(to.0.task)),
-            Piece::Text("\" d=\"M"),
-            Piece::Number(at.saturating_sub(4)),
-            Piece::Text(","),
-            Piece::Number(top.saturating_sub(8)),
-            Piece::Text("h8l-4,8z\"/>\n"),
+            TextPiece::Text("H"),
+            TextPiece::Number(at),
+            TextPiece::Text("V"),
+            TextPiece::Number(top),
+            TextPiece::Text("\"/>\n<path class=\"f"),
+            TextPiece::Number(colour(to.0.task)),
+            TextPiece::Text("\" d=\"M"),
+            TextPiece::Number(at.saturating_sub(4)),
+            TextPiece::Text(","),
+            TextPiece::Number(top.saturating_sub(8)),
+            TextPiece::Text("h8l-4,8z\"/>\n"),
         ],
     )
 }
@@ -76,26 +76,26 @@ fn end_above(
 fn end_beside(
     out: &mut Vec<u8>,
     layout: &Layout,
-    to: (&TurnBox, &Placed),
+    to: (&TurnBox, &PlacedTurn),
 ) -> Result<(), AllocError> {
     let left = layout.left(to.1);
     let at = layout.box_top(to.0.executor).saturating_add(12);
     put(
         out,
         &[
-            Piece::Text("H"),
-            Piece::Number(left.saturating_sub(10)),
-            Piece::Text("V"),
-            Piece::Number(at),
-            Piece::Text("H"),
-            Piece::Number(left),
-            Piece::Text("\"/>\n<path class=\"f"),
-            Piece::Number(colour(to.0.task)),
-            Piece::Text("\" d=\"M"),
-            Piece::Number(left.saturating_sub(8)),
-            Piece::Text(","),
-            Piece::Number(at.saturating_sub(4)),
-            Piece::Text("v8l8,-4z\"/>\n"),
+            TextPiece::Text("H"),
+            TextPiece::Number(left.saturating_sub(10)),
+            TextPiece::Text("V"),
+            TextPiece::Number(at),
+            TextPiece::Text("H"),
+            TextPiece::Number(left),
+            TextPiece::Text("\"/>\n<path class=\"f"),
+            TextPiece::Number(colour(to.0.task)),
+            TextPiece::Text("\" d=\"M"),
+            TextPiece::Number(left.saturating_sub(8)),
+            TextPiece::Text(","),
+            TextPiece::Number(at.saturating_sub(4)),
+            TextPiece::Text("v8l8,-4z\"/>\n"),
         ],
     )
 }
@@ -104,8 +104,8 @@ fn end_beside(
 fn write_link(
     out: &mut Vec<u8>,
     layout: &Layout,
-    maker: (&TurnBox, &Placed),
-    turn: (&TurnBox, &Placed),
+    maker: (&TurnBox, &PlacedTurn),
+    turn: (&TurnBox, &PlacedTurn),
 ) -> Result<(), AllocError> {
     let link = Link::between(maker.0, turn.0);
     begin_line(out, layout, class_of(link), maker, turn.0)?;
@@ -120,8 +120,8 @@ fn write_link(
 fn write_wait(
     out: &mut Vec<u8>,
     layout: &Layout,
-    before: (&TurnBox, &Placed),
-    turn: (&TurnBox, &Placed),
+    before: (&TurnBox, &PlacedTurn),
+    turn: (&TurnBox, &PlacedTurn),
 ) -> Result<(), AllocError> {
     begin_line(out, layout, "lw", before, turn.0)?;
     if before.0.executor == turn.0.executor {
@@ -136,7 +136,7 @@ fn shown_at<'a>(
     layout: &Layout,
     picture: &'a Picture,
     place: Option<usize>,
-) -> Option<(&'a TurnBox, &'a Placed)> {
+) -> Option<(&'a TurnBox, &'a PlacedTurn)> {
     let found = picture.at(place?)?;
     if layout.shows(found.1) {
         Some(found)
@@ -151,7 +151,7 @@ fn write_lines_to(
     layout: &Layout,
     picture: &Picture,
     turn: &TurnBox,
-    placed: &Placed,
+    placed: &PlacedTurn,
 ) -> Result<(), AllocError> {
     let Some(maker) = shown_at(layout, picture, placed.maker) else {
         return Ok(());

@@ -1,6 +1,6 @@
 //! What a turn did with groups, and whom it cancelled.
 
-use crate::pieces::{Piece, put};
+use crate::pieces::{TextPiece, put};
 use std::alloc::AllocError;
 use swift_events::Event;
 use swift_log::EventLog;
@@ -34,7 +34,11 @@ pub(crate) fn write_marks(out: &mut Vec<u8>, log: &EventLog, end: usize) -> Resu
         if let Some((word, number)) = mark_of(&event) {
             put(
                 out,
-                &[Piece::Text(word), Piece::Number(number), Piece::Text("\n")],
+                &[
+                    TextPiece::Text(word),
+                    TextPiece::Number(number),
+                    TextPiece::Text("\n"),
+                ],
             )?;
         }
     }

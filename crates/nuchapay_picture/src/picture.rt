@@ -5,7 +5,7 @@ ghost use Rattle.nuchapay_picture.specs.Boxes.{boxes_of};
 
 use crate::boxes::{TurnBox, boxes_of};
 use crate::history::history_of;
-use crate::placed::{Placed, place_boxes};
+use crate::placed::{PlacedTurn, place_boxes};
 use std::alloc::{AllocError, Global};
 use swift_journal::Checkpoint;
 use swift_log::EventLog;
@@ -18,14 +18,14 @@ pub struct Picture {
     /// The boxes.
     pub boxes: Vec<TurnBox>,
     // When the turn of each box ran, in the order of boxes.
-    pub(crate) placed: Vec<Placed>,
+    pub(crate) placed: Vec<PlacedTurn>,
     // How many turns of each executor were folded.
     pub(crate) folded: Vec<usize>,
 }
 
 impl Picture {
     // The box at a place, with when its turn ran.
-    pub(crate) fn at(&self, place: usize) -> Option<(&TurnBox, &Placed)> {
+    pub(crate) fn at(&self, place: usize) -> Option<(&TurnBox, &PlacedTurn)> {
         let turn = self.boxes.get(place)?;
         let placed = self.placed.get(place)?;
         Some((turn, placed))
@@ -47,7 +47,7 @@ fn placed_by_log(
     tasks: usize,
     log: &EventLog,
     boxes: &[TurnBox],
-) -> Result<Vec<Placed>, AllocError> {
+) -> Result<Vec<PlacedTurn>, AllocError> {
     let history = history_of(alloc, tasks, log)?;
     place_boxes(alloc, &history, boxes)
 }

@@ -7,7 +7,7 @@ use std::alloc::AllocError;
 
 /// A piece of a text.
 #[derive(Clone, Copy)]
-pub(crate) enum Piece<'a> {
+pub(crate) enum TextPiece<'a> {
     /// These characters.
     Text(&'a str),
     /// These bytes, as those of a name.
@@ -25,12 +25,12 @@ pub(crate) fn number<I: Integer>(out: &mut Vec<u8>, value: I) -> Result<(), Allo
 }
 
 /// Appends pieces, one after the other.
-pub(crate) fn put(out: &mut Vec<u8>, pieces: &[Piece<'_>]) -> Result<(), AllocError> {
+pub(crate) fn put(out: &mut Vec<u8>, pieces: &[TextPiece<'_>]) -> Result<(), AllocError> {
     for piece in pieces {
         match *piece {
-            Piece::Text(text) => out.extend_from_slice(text.as_bytes())?,
-            Piece::Name(name) => out.extend_from_slice(name)?,
-            Piece::Number(value) => number(out, value)?,
+            TextPiece::Text(text) => out.extend_from_slice(text.as_bytes())?,
+            TextPiece::Name(name) => out.extend_from_slice(name)?,
+            TextPiece::Number(value) => number(out, value)?,
         }
     }
     Ok(())

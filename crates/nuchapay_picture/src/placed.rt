@@ -1,16 +1,16 @@
 //! When the turn of each box ran, and what made it.
 
 use crate::boxes::TurnBox;
-use crate::history::{History, Moment, sum_up};
+use crate::history::{History, TurnMoment, sum_up};
 use std::alloc::{AllocError, Global};
 use swift_journal::BriefExit;
 use swift_types::{Fault, Resume, TaskId};
 
 /// When the turn of a box ran, what made it, and whether it was undone.
 #[derive(Clone, Copy)]
-pub(crate) struct Placed {
+pub(crate) struct PlacedTurn {
     /// What the log says of it. Its columns count only turns that have a box.
-    pub moment: Moment,
+    pub moment: TurnMoment,
     /// The box of the turn that made its job, if it has one.
     pub maker: Option<usize>,
     /// The box of the turn before it of the same task, if it has one.
@@ -88,7 +88,11 @@ fn box_before(history: &History, by_slot: &[Option<usize>], turn: &TurnBox) -> O
 }
 
 // Leaves out the columns of turns that have no box.
-fn close_columns(alloc: Global, columns: usize, placed: &mut [Placed]) -> Result<(), AllocError> {
+fn close_columns(
+    alloc: Global,
+    columns: usize,
+    placed: &mut [PlacedTurn],
+) -> Result<(), AllocError> {
     let mut before = vec![in alloc; 0_usize; columns.saturating_add(1)]?;
     for one in placed.iter() {
         if let Some(count) = before.get_mut(one.moment.column) {
@@ -110,7 +114,7 @@ pub(crate) fn place_boxes(
     alloc: Global,
     history: &History,
     boxes: &[TurnBox],
-) -> Result<Vec<Placed>, AllocError> {
+) -> Result<Vec<PlacedTurn>, AllocError> {
     let by_slot = boxes_by_slot(alloc, history, boxes)?;
     let mut placed = Vec::with_capacity(alloc, boxes.len())?;
     for turn in boxes {
@@ -124,7 +128,7 @@ pub(crate) fn place_boxes(
             Some(place) => is_undone(turn, boxes.get(place)),
             None => is_undone(turn, None),
         };
-        placed.push(Placed {
+        placed.push(PlacedTurn {
             moment,
             maker,
             before,

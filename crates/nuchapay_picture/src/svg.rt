@@ -7,15 +7,14 @@ use crate::legend::{legend_height, write_legend};
 use crate::lines::write_lines;
 use crate::marks::write_marks;
 use crate::picture::Picture;
-use crate::pieces::{Piece, number, put, put_file_name};
+use crate::pieces::{TextPiece, number, put, put_file_name};
 use crate::style::STYLE;
 use crate::text::{begin_text, end_text, write_text};
 use crate::word;
-use script_grammar::ExecutorKind;
 use std::alloc::{AllocError, Global};
 use swift_report::Report;
 use swift_script::Script;
-use swift_types::ExecId;
+use swift_types::{ExecId, ExecutorKind};
 use swift_values::{TurnValues, turn_values};
 
 // How many characters of 13 pixels find room before the lanes.
@@ -27,9 +26,9 @@ fn write_heading(out: &mut Vec<u8>, name: &str, workers: u32) -> Result<(), Allo
     put(
         out,
         &[
-            Piece::Text(", "),
-            Piece::Number(workers as usize),
-            Piece::Text(if workers == 1 { " worker" } else { " workers" }),
+            TextPiece::Text(", "),
+            TextPiece::Number(workers as usize),
+            TextPiece::Text(if workers == 1 { " worker" } else { " workers" }),
         ],
     )
 }
@@ -46,15 +45,15 @@ fn write_head(
     put(
         out,
         &[
-            Piece::Text("<svg xmlns=\"http://www.w3.org/2000/svg\" width=\""),
-            Piece::Number(layout.width),
-            Piece::Text("\" height=\""),
-            Piece::Number(height),
-            Piece::Text("\" viewBox=\"0 0 "),
-            Piece::Number(layout.width),
-            Piece::Text(" "),
-            Piece::Number(height),
-            Piece::Text("\">\n<title>"),
+            TextPiece::Text("<svg xmlns=\"http://www.w3.org/2000/svg\" width=\""),
+            TextPiece::Number(layout.width),
+            TextPiece::Text("\" height=\""),
+            TextPiece::Number(height),
+            TextPiece::Text("\" viewBox=\"0 0 "),
+            TextPiece::Number(layout.width),
+            TextPiece::Text(" "),
+            TextPiece::Number(height),
+            TextPiece::Text("\">\n<title>"),
         ],
     )?;
     write_heading(out, name, workers)?;
@@ -72,9 +71,9 @@ fn write_head(
         put(
             out,
             &[
-                Piece::Text(" Not shown: "),
-                Piece::Number(layout.earlier),
-                Piece::Text(" earlier turns."),
+                TextPiece::Text(" Not shown: "),
+                TextPiece::Number(layout.earlier),
+                TextPiece::Text(" earlier turns."),
             ],
         )?;
     }
@@ -116,14 +115,17 @@ fn write_gutter(
     begin_text(out, "g", 16, top.saturating_add(32))?;
     let turns = lane.boxes.saturating_add(folded);
     let word = if turns == 1 { " turn" } else { " turns" };
-    put(out, &[Piece::Number(turns), Piece::Text(word)])?;
+    put(out, &[TextPiece::Number(turns), TextPiece::Text(word)])?;
     end_text(out)?;
     let earlier = turns.saturating_sub(lane.shown);
     if earlier == 0 {
         return Ok(());
     }
     begin_text(out, "g", 16, top.saturating_add(48))?;
-    put(out, &[Piece::Number(earlier), Piece::Text(" not shown")])?;
+    put(
+        out,
+        &[TextPiece::Number(earlier), TextPiece::Text(" not shown")],
+    )?;
     end_text(out)
 }
 
@@ -134,24 +136,24 @@ fn write_rails(out: &mut Vec<u8>, layout: &Layout, lane: &Lane) -> Result<(), Al
         put(
             out,
             &[
-                Piece::Text("<path class=\"o\" d=\"M"),
-                Piece::Number(LEFT - 8),
-                Piece::Text(","),
-                Piece::Number(middle),
-                Piece::Text("H"),
-                Piece::Number(layout.width),
-                Piece::Text("\"/>\n"),
+                TextPiece::Text("<path class=\"o\" d=\"M"),
+                TextPiece::Number(LEFT - 8),
+                TextPiece::Text(","),
+                TextPiece::Number(middle),
+                TextPiece::Text("H"),
+                TextPiece::Number(layout.width),
+                TextPiece::Text("\"/>\n"),
             ],
         )?;
     }
     put(
         out,
         &[
-            Piece::Text("<path class=\"o\" d=\"M0,"),
-            Piece::Number(lane.bottom),
-            Piece::Text("H"),
-            Piece::Number(layout.width),
-            Piece::Text("\"/>\n"),
+            TextPiece::Text("<path class=\"o\" d=\"M0,"),
+            TextPiece::Number(lane.bottom),
+            TextPiece::Text("H"),
+            TextPiece::Number(layout.width),
+            TextPiece::Text("\"/>\n"),
         ],
     )
 }

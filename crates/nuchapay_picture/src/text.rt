@@ -1,6 +1,6 @@
 //! Lines of text.
 
-use crate::pieces::{Piece, put, put_fitting};
+use crate::pieces::{TextPiece, put, put_fitting};
 use std::alloc::AllocError;
 
 /// Begins a line of text of these classes at a place.
@@ -13,13 +13,13 @@ pub(crate) fn begin_text(
     put(
         out,
         &[
-            Piece::Text("<text class=\""),
-            Piece::Text(class),
-            Piece::Text("\" x=\""),
-            Piece::Number(x),
-            Piece::Text("\" y=\""),
-            Piece::Number(y),
-            Piece::Text("\">"),
+            TextPiece::Text("<text class=\""),
+            TextPiece::Text(class),
+            TextPiece::Text("\" x=\""),
+            TextPiece::Number(x),
+            TextPiece::Text("\" y=\""),
+            TextPiece::Number(y),
+            TextPiece::Text("\">"),
         ],
     )
 }

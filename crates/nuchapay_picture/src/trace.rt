@@ -4,8 +4,8 @@ use crate::boxes::TurnBox;
 use crate::fault::PictureFault;
 use crate::links::Link;
 use crate::picture::Picture;
-use crate::pieces::{Piece, put};
-use crate::placed::Placed;
+use crate::pieces::{TextPiece, put};
+use crate::placed::PlacedTurn;
 use crate::word;
 use std::alloc::{AllocError, Global};
 use std::io::Write;
@@ -34,11 +34,11 @@ fn begin_event(out: &mut Vec<u8>, kind: &str, executor: usize) -> Result<(), All
     put(
         out,
         &[
-            Piece::Text(between),
-            Piece::Text("{\"ph\":\""),
-            Piece::Text(kind),
-            Piece::Text("\",\"pid\":"),
-            Piece::Number(process(executor)),
+            TextPiece::Text(between),
+            TextPiece::Text("{\"ph\":\""),
+            TextPiece::Text(kind),
+            TextPiece::Text("\",\"pid\":"),
+            TextPiece::Number(process(executor)),
         ],
     )
 }
@@ -54,9 +54,9 @@ fn name_process(
     put(
         out,
         &[
-            Piece::Text(",\"name\":\"process_name\",\"args\":{\"name\":\""),
-            Piece::Name(word::executor_name(script, executor)),
-            Piece::Text("\"}}"),
+            TextPiece::Text(",\"name\":\"process_name\",\"args\":{\"name\":\""),
+            TextPiece::Name(word::executor_name(script, executor)),
+            TextPiece::Text("\"}}"),
         ],
     )?;
     if folded == 0 {
@@ -66,9 +66,9 @@ fn name_process(
     put(
         out,
         &[
-            Piece::Text(",\"name\":\"process_labels\",\"args\":{\"labels\":\"folded "),
-            Piece::Number(folded),
-            Piece::Text("\"}}"),
+            TextPiece::Text(",\"name\":\"process_labels\",\"args\":{\"labels\":\"folded "),
+            TextPiece::Number(folded),
+            TextPiece::Text("\"}}"),
         ],
     )
 }
@@ -79,11 +79,11 @@ fn name_thread(out: &mut Vec<u8>, turn: &TurnBox) -> Result<(), AllocError> {
     put(
         out,
         &[
-            Piece::Text(",\"tid\":"),
-            Piece::Number(thread(turn)),
-            Piece::Text(",\"name\":\"thread_name\",\"args\":{\"name\":\"worker "),
-            Piece::Number(turn.worker as usize),
-            Piece::Text("\"}}"),
+            TextPiece::Text(",\"tid\":"),
+            TextPiece::Number(thread(turn)),
+            TextPiece::Text(",\"name\":\"thread_name\",\"args\":{\"name\":\"worker "),
+            TextPiece::Number(turn.worker as usize),
+            TextPiece::Text("\"}}"),
         ],
     )
 }
@@ -98,15 +98,15 @@ fn write_arguments(
     put(
         out,
         &[
-            Piece::Text(",\"args\":{\"task\":\"t"),
-            Piece::Number(turn.task.0 as usize),
-            Piece::Text("\",\"number\":"),
-            Piece::Number(turn.number as usize),
-            Piece::Text(",\"priority\":"),
-            Piece::Number(turn.env.priority.number() as usize),
-            Piece::Text(",\"cancelled\":"),
-            Piece::Text(if turn.env.cancelled { "true" } else { "false" }),
-            Piece::Text(",\"resume\":\""),
+            TextPiece::Text(",\"args\":{\"task\":\"t"),
+            TextPiece::Number(turn.task.0 as usize),
+            TextPiece::Text("\",\"number\":"),
+            TextPiece::Number(turn.number as usize),
+            TextPiece::Text(",\"priority\":"),
+            TextPiece::Number(turn.env.priority.number() as usize),
+            TextPiece::Text(",\"cancelled\":"),
+            TextPiece::Text(if turn.env.cancelled { "true" } else { "false" }),
+            TextPiece::Text(",\"resume\":\""),
         ],
     )?;
     word::resume(out, turn.resume)?;
@@ -115,9 +115,9 @@ fn write_arguments(
     put(
         out,
         &[
-            Piece::Text("\",\"undone\":"),
-            Piece::Text(if is_undone { "true" } else { "false" }),
-            Piece::Text("}}"),
+            TextPiece::Text("\",\"undone\":"),
+            TextPiece::Text(if is_undone { "true" } else { "false" }),
+            TextPiece::Text("}}"),
         ],
     )
 }
@@ -127,20 +127,20 @@ fn write_turn(
     out: &mut Vec<u8>,
     script: &Script,
     turn: &TurnBox,
-    placed: &Placed,
+    placed: &PlacedTurn,
 ) -> Result<(), AllocError> {
     let moment = &placed.moment;
     begin_event(out, "X", turn.executor)?;
     put(
         out,
         &[
-            Piece::Text(",\"tid\":"),
-            Piece::Number(thread(turn)),
-            Piece::Text(",\"ts\":"),
-            Piece::Number(moment.begin),
-            Piece::Text(",\"dur\":"),
-            Piece::Number(moment.end.saturating_sub(moment.begin)),
-            Piece::Text(",\"cat\":\"turn\",\"name\":\""),
+            TextPiece::Text(",\"tid\":"),
+            TextPiece::Number(thread(turn)),
+            TextPiece::Text(",\"ts\":"),
+            TextPiece::Number(moment.begin),
+            TextPiece::Text(",\"dur\":"),
+            TextPiece::Number(moment.end.saturating_sub(moment.begin)),
+            TextPiece::Text(",\"cat\":\"turn\",\"name\":\""),
         ],
     )?;
     word::turn(out, turn)?;
@@ -167,13 +167,13 @@ fn write_flow_end(
     put(
         out,
         &[
-            Piece::Text(",\"tid\":"),
-            Piece::Number(thread(turn)),
-            Piece::Text(",\"id\":"),
-            Piece::Number(number),
-            Piece::Text(",\"cat\":\"job\",\"name\":\""),
-            Piece::Text(link.word()),
-            Piece::Text("\",\"ts\":"),
+            TextPiece::Text(",\"tid\":"),
+            TextPiece::Number(thread(turn)),
+            TextPiece::Text(",\"id\":"),
+            TextPiece::Number(number),
+            TextPiece::Text(",\"cat\":\"job\",\"name\":\""),
+            TextPiece::Text(link.word()),
+            TextPiece::Text("\",\"ts\":"),
         ],
     )
 }
@@ -182,24 +182,24 @@ fn write_flow_end(
 fn write_flow(
     out: &mut Vec<u8>,
     number: usize,
-    maker: (&TurnBox, &Placed),
-    turn: (&TurnBox, &Placed),
+    maker: (&TurnBox, &PlacedTurn),
+    turn: (&TurnBox, &PlacedTurn),
 ) -> Result<(), AllocError> {
     let link = Link::between(maker.0, turn.0);
     write_flow_end(out, "s", link, number, maker.0)?;
     put(
         out,
         &[
-            Piece::Number(maker.1.moment.end.saturating_sub(1)),
-            Piece::Text(".5}"),
+            TextPiece::Number(maker.1.moment.end.saturating_sub(1)),
+            TextPiece::Text(".5}"),
         ],
     )?;
     write_flow_end(out, "f", link, number, turn.0)?;
     put(
         out,
         &[
-            Piece::Number(turn.1.moment.begin),
-            Piece::Text(",\"bp\":\"e\"}"),
+            TextPiece::Number(turn.1.moment.begin),
+            TextPiece::Text(",\"bp\":\"e\"}"),
         ],
     )
 }

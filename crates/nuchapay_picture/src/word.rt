@@ -4,7 +4,7 @@ ghost use Rattle.std.specs.Prelude.{◌≡◌, ◌++◌, OnOk};
 ghost use Rattle.swift_report.specs.Text.{ending_text, exit_text, fault_text, method_text, pending_text, resume_text};
 
 use crate::boxes::TurnBox;
-use crate::pieces::{Piece, number, put};
+use crate::pieces::{TextPiece, number, put};
 use std::alloc::AllocError;
 use swift_events::Origin;
 use swift_journal::BriefExit;
@@ -78,19 +78,28 @@ pub(crate) fn origin(
                 Ok(root) => script.root_name(RootId(root)),
                 Err(_) => &[],
             };
-            put(out, &[Piece::Text("root "), Piece::Name(name)])
+            put(out, &[TextPiece::Text("root "), TextPiece::Name(name)])
         }
         Origin::Child(owner, _) => put(
             out,
-            &[Piece::Text("child t"), Piece::Number(owner.0 as usize)],
+            &[
+                TextPiece::Text("child t"),
+                TextPiece::Number(owner.0 as usize),
+            ],
         ),
         Origin::Spawned(by) => put(
             out,
-            &[Piece::Text("spawned t"), Piece::Number(by.0 as usize)],
+            &[
+                TextPiece::Text("spawned t"),
+                TextPiece::Number(by.0 as usize),
+            ],
         ),
         Origin::Detached(by) => put(
             out,
-            &[Piece::Text("detached t"), Piece::Number(by.0 as usize)],
+            &[
+                TextPiece::Text("detached t"),
+                TextPiece::Number(by.0 as usize),
+            ],
         ),
     }
 }
@@ -152,10 +161,10 @@ pub(crate) fn turn(out: &mut Vec<u8>, turn: &TurnBox) -> Result<(), AllocError> 
     put(
         out,
         &[
-            Piece::Text("t"),
-            Piece::Number(turn.task.0 as usize),
-            Piece::Text("."),
-            Piece::Number(turn.number as usize),
+            TextPiece::Text("t"),
+            TextPiece::Number(turn.task.0 as usize),
+            TextPiece::Text("."),
+            TextPiece::Number(turn.number as usize),
         ],
     )
 }
@@ -166,9 +175,9 @@ pub(crate) fn env(out: &mut Vec<u8>, turn: &TurnBox) -> Result<(), AllocError> {
     put(
         out,
         &[
-            Piece::Text("p"),
-            Piece::Number(turn.env.priority.number() as usize),
-            Piece::Text(cancelled),
+            TextPiece::Text("p"),
+            TextPiece::Number(turn.env.priority.number() as usize),
+            TextPiece::Text(cancelled),
         ],
     )
 }

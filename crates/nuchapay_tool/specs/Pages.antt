@@ -2,10 +2,10 @@
 use Rattle.std.specs.Prelude.{ℕ, Option, Some, None, List, [], ◌∷◌, codes}
 use Rattle.std.specs.List.{concat}
 use Rattle.nuchapay_tool.specs.declared.page.Page.{Page}
-use Rattle.nuchapay_tool.specs.declared.page.Scripts.{Scripts}
+use Rattle.nuchapay_tool.specs.declared.page.ScriptPair.{ScriptPair}
 
 -- the scripts of a page: one with the mistake, and the mended one
-abbrev pub scripts_text : Option Scripts → List ℕ
+abbrev pub scripts_text : Option ScriptPair → List ℕ
 scripts_text None = []
 scripts_text (Some s) = concat (codes "\nFor example:\n\n" ∷ s.wrong.now ∷ codes "\nMended:\n\n" ∷ s.mended.now ∷ [])
 

@@ -1,7 +1,7 @@
 -- The text of a refusal (our own).
 use Rattle.std.specs.Prelude.{ℕ, ◌==◌, Bool, Option, List, [], ◌∷◌, length, codes, decimal, if◌then◌else◌}
 use Rattle.std.specs.List.{concat, repeat}
-use Rattle.nuchapay_tool.specs.declared.mark.Mark.{Mark}
+use Rattle.nuchapay_tool.specs.declared.mark.LineMark.{LineMark}
 use Rattle.nuchapay_tool.specs.declared.page.Page.{Page}
 use Rattle.nuchapay_tool.specs.Colours.{red, blue, bold, plain}
 use Rattle.nuchapay_tool.specs.Marks.{column_text, mark_text}
@@ -37,7 +37,7 @@ advice_text colour gutter help = concat (gutter ∷ blue colour ∷ codes " =" �
 
 -- where a refusal stands, with that line of the text and the mark under it, and what to do; with this number beside the line, and the
 -- gutter beside all else
-abbrev pub text_beside : Bool → List ℕ → List ℕ → List ℕ → List ℕ → ℕ → Option Mark → List ℕ → List ℕ
+abbrev pub text_beside : Bool → List ℕ → List ℕ → List ℕ → List ℕ → ℕ → Option LineMark → List ℕ → List ℕ
 text_beside colour gutter number file text line mark help = concat (
     arrow_text colour gutter file number (column_text mark)
     ∷ bar_text colour gutter
@@ -48,13 +48,13 @@ text_beside colour gutter number file text line mark help = concat (
     )
 
 -- the same, with the number of the line
-abbrev pub located_text : Bool → List ℕ → List ℕ → ℕ → Option Mark → List ℕ → List ℕ
+abbrev pub located_text : Bool → List ℕ → List ℕ → ℕ → Option LineMark → List ℕ → List ℕ
 located_text colour file text line mark help = text_beside colour (gutter line) (decimal line) file text line mark help
 
 -- what follows the first line of a refusal; out of memory stands on line 0
-abbrev pub place_text : Bool → List ℕ → List ℕ → ℕ → Option Mark → List ℕ → List ℕ
+abbrev pub place_text : Bool → List ℕ → List ℕ → ℕ → Option LineMark → List ℕ → List ℕ
 place_text colour file text line mark help = if line == 0 then lost_text colour help else located_text colour file text line mark help
 
 -- what is said of a refusal
-abbrev pub refusal_text : Bool → List ℕ → List ℕ → ℕ → Option Mark → Page → List ℕ
+abbrev pub refusal_text : Bool → List ℕ → List ℕ → ℕ → Option LineMark → Page → List ℕ
 refusal_text colour file text line mark p = concat (head_text colour p ∷ place_text colour file text line mark p.help.now ∷ [])

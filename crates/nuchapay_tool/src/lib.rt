@@ -41,7 +41,7 @@ mod words;
 pub use checks::{Checked, check};
 pub use input::read_input;
 pub use laid::pretty;
-pub use page::{Page, Scripts, explain};
+pub use page::{Page, ScriptPair, explain};
 pub use pages::page_of;
 pub use printed::print;
 pub use requests::{PictureFormat, Request, Source};

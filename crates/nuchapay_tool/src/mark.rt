@@ -11,7 +11,7 @@ use std::alloc::{AllocError, Global};
 
 /// Where on its line stands what is to blame (our own).
 #[derive(Clone, Copy)]
-pub(crate) struct Mark {
+pub(crate) struct LineMark {
     /// The place of its first byte on the line, from 1.
     pub column: usize,
     /// How many bytes it is.
@@ -20,7 +20,7 @@ pub(crate) struct Mark {
 
 /// Where on a line some bytes of a text stand; none where they do not lie on it. The place behind the last byte of the text lies on its
 /// last line.
-pub(crate) fn mark_of(text: &[u8], line: u32, span: Option<Span>) -> Option<Mark>
+pub(crate) fn mark_of(text: &[u8], line: u32, span: Option<Span>) -> Option<LineMark>
     ensures { result ≡ mark_of text.now line span }
 {
     let Some(span) = span else {
@@ -34,7 +34,7 @@ pub(crate) fn mark_of(text: &[u8], line: u32, span: Option<Span>) -> Option<Mark
         && span.from <= text.len()
         && span.to.min(text.len()) <= end
     {
-        Some(Mark {
+        Some(LineMark {
             column: span.from - start + 1,
             width: span.to - span.from,
         })
@@ -44,7 +44,7 @@ pub(crate) fn mark_of(text: &[u8], line: u32, span: Option<Span>) -> Option<Mark
 }
 
 /// What is said of the column, which counts bytes from 1.
-pub(crate) fn column_text(alloc: Global, mark: Option<Mark>) -> Result<String, AllocError>
+pub(crate) fn column_text(alloc: Global, mark: Option<LineMark>) -> Result<String, AllocError>
     ensures { IfOk result (λ said. string_bytes said ≡ column_text mark) }
 {
     match mark {
@@ -62,7 +62,7 @@ pub(crate) fn mark_text(
     alloc: Global,
     colour: bool,
     gutter: &str,
-    mark: Option<Mark>,
+    mark: Option<LineMark>,
 ) -> Result<String, AllocError>
     ensures { IfOk result (λ said. string_bytes said ≡ mark_text colour gutter.now mark) }
 {
@@ -79,7 +79,7 @@ pub(crate) fn mark_text(
     }
 }
 
-fn drawn(alloc: Global, colour: bool, gutter: &str, mark: Mark) -> Result<String, AllocError>
+fn drawn(alloc: Global, colour: bool, gutter: &str, mark: LineMark) -> Result<String, AllocError>
     ensures { IfOk result (λ said. string_bytes said ≡ drawn_text colour gutter.now mark) }
 {
     let before = " ".repeat(alloc, mark.column.saturating_sub(1))?;

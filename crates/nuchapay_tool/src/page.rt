@@ -20,12 +20,12 @@ pub struct Page {
     /// What to do.
     pub help: &'static str,
     /// A script for which it comes; none where no script makes it come.
-    pub scripts: Option<Scripts>,
+    pub scripts: Option<ScriptPair>,
 }
 
 /// A script with a mistake, and the same one mended (our own). Each line is indented by four spaces and ended by a line feed.
 #[derive(Clone, Copy)]
-pub struct Scripts {
+pub struct ScriptPair {
     /// The script that is refused, or of which a task ends with the fault.
     pub wrong: &'static str,
     /// The script that is accepted, and whose tasks all end with a value.
@@ -58,7 +58,7 @@ pub fn explain(alloc: Global, page: &Page) -> Result<String, AllocError>
 }
 
 // The part of a page that has its scripts; empty where it has none.
-fn example(alloc: Global, scripts: Option<Scripts>) -> Result<String, AllocError>
+fn example(alloc: Global, scripts: Option<ScriptPair>) -> Result<String, AllocError>
     ensures { IfOk result (λ text. string_bytes text ≡ scripts_text scripts) }
 {
     let Some(found) = scripts else {

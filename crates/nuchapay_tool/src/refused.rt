@@ -6,7 +6,7 @@ ghost use Rattle.nuchapay_tool.specs.Marks.{column_text};
 ghost use Rattle.nuchapay_tool.specs.Refusals.{advice_text, arrow_text, bar_text, head_text, located_text, lost_text, place_text, refusal_text, source_text, text_beside};
 
 use crate::colours::{blue, bold, plain, red};
-use crate::mark::{Mark, column_text, mark_text};
+use crate::mark::{LineMark, column_text, mark_text};
 use crate::page::Page;
 use crate::source::shown_line;
 use std::alloc::{AllocError, Global};
@@ -23,7 +23,7 @@ pub(crate) fn refusal(
     file: &str,
     text: &[u8],
     line: u32,
-    mark: Option<Mark>,
+    mark: Option<LineMark>,
     page: &Page,
 ) -> Result<String, AllocError>
     ensures { IfOk result (λ said. string_bytes said ≡ refusal_text colour file.now text.now line mark page.now) }
@@ -70,7 +70,7 @@ fn located(
     file: &str,
     text: &[u8],
     line: u32,
-    mark: Option<Mark>,
+    mark: Option<LineMark>,
     help: &str,
 ) -> Result<String, AllocError>
     ensures { IfOk result (λ said. string_bytes said ≡ located_text colour file.now text.now line mark help.now) }
@@ -99,7 +99,7 @@ fn beside(
     file: &str,
     text: &[u8],
     line: u32,
-    mark: Option<Mark>,
+    mark: Option<LineMark>,
     help: &str,
 ) -> Result<String, AllocError>
     ensures { IfOk result (λ said. string_bytes said ≡ text_beside colour gutter.now number.now file.now text.now line mark help.now) }
@@ -127,7 +127,7 @@ fn arrow<'a>(
     gutter: &'a str,
     file: &'a str,
     number: &'a str,
-    mark: Option<Mark>,
+    mark: Option<LineMark>,
 ) -> Result<String, AllocError>
     ensures { IfOk result (λ said. string_bytes said ≡ arrow_text colour gutter.now file.now number.now (column_text mark)) }
 {

@@ -1,6 +1,6 @@
 //! The pages of the faults of a turn, in the order of docs/LANGUAGE.md.
 
-use crate::page::{Page, Scripts};
+use crate::page::{Page, ScriptPair};
 
 // What a report calls them.
 const FAULT: &str = "(a fault of a turn)";
@@ -11,7 +11,7 @@ pub(crate) static THROWN: Page = Page {
     when: "`throw v`",
     outcome: "the turn is kept, where the invariants hold",
     help: "it is the script's own: give another value by `else` where the call is awaited",
-    scripts: Some(Scripts {
+    scripts: Some(ScriptPair {
         wrong: "    actor A {
         func f() { throw 7; }
         func g() { let v = await A.f(); return v; }
@@ -33,7 +33,7 @@ pub(crate) static CANCELLED: Page = Page {
     when: "`check` in a task that was cancelled when the turn began",
     outcome: "the turn is kept, where the invariants hold",
     help: "nothing, where the task was to end so; else test `cancelled`, and return a value",
-    scripts: Some(Scripts {
+    scripts: Some(ScriptPair {
         wrong: "    actor A {
         func f() { check; return 1; }
         func g() { let h = spawn A.f(); cancel h; let v = await task h else 0; return v; }
@@ -55,7 +55,7 @@ pub(crate) static INVARIANT: Page = Page {
     when: "the turn would leave an invariant of its executor's actors 0, or overflowing",
     outcome: "the turn is undone: fields are as before it, and no task is made",
     help: "test again after each `await` and `yield`, or test and change in one turn",
-    scripts: Some(Scripts {
+    scripts: Some(ScriptPair {
         wrong: "    actor Account {
         var balance = 10;
         invariant balance >= 0;
@@ -81,7 +81,7 @@ pub(crate) static OVERFLOW: Page = Page {
     when: "a value outside 64 bits, or a task or a group of a task that would be numbered past 32 bits",
     outcome: "the turn is undone",
     help: "test before you compute, or choose smaller values",
-    scripts: Some(Scripts {
+    scripts: Some(ScriptPair {
         wrong: "    actor A { func square(x) { return x * x; } }
     root a = A.square(4000000000);
 ",
@@ -97,7 +97,7 @@ pub(crate) static STEPS: Page = Page {
     when: "a turn of more than 10,000 steps: each statement is one, and for a `while` each test is one",
     outcome: "the turn is undone",
     help: "let the loop end earlier, or `yield` in it, which ends the turn",
-    scripts: Some(Scripts {
+    scripts: Some(ScriptPair {
         wrong: "    actor A { func f() { let n = 0; while n < 6000 { n = n + 1; } return n; } }
     root a = A.f();
 ",
@@ -113,7 +113,7 @@ pub(crate) static TASKS: Page = Page {
     when: "more tasks than the turn may make: 16, or what is left of 1,024 once the roots, all tasks made so far (ended ones too), and those that other turns under way may still make are taken off",
     outcome: "the turn is undone",
     help: "make at most 16 tasks in a turn, and 1,024 in a run",
-    scripts: Some(Scripts {
+    scripts: Some(ScriptPair {
         wrong: "    actor A { func k() { } func f() { let n = 0; while n < 17 { detach A.k(); n = n + 1; } } }
     root a = A.f();
 ",
@@ -129,7 +129,7 @@ pub(crate) static ISOLATION: Page = Page {
     when: "an `assume` of an actor that runs on another executor",
     outcome: "the turn is undone",
     help: "let both actors run on one executor, or await a method of the other actor",
-    scripts: Some(Scripts {
+    scripts: Some(ScriptPair {
         wrong: "    actor A { var x = 1; }
     actor B { func f() { assume A { x = 2; } } }
     root b = B.f();
@@ -148,7 +148,7 @@ pub(crate) static EMPTY: Page = Page {
     when: "`await next` where no child is left",
     outcome: "the turn begins with the fault",
     help: "wait for each child of the group once, or give a value by `else`",
-    scripts: Some(Scripts {
+    scripts: Some(ScriptPair {
         wrong: "    actor A { func k() { } func f() { group g { add g A.k(); await next g; await next g; } } }
     root a = A.f();
 ",
@@ -164,7 +164,7 @@ pub(crate) static DEPTH: Page = Page {
     when: "a call from a task that has 64 frames",
     outcome: "the turn is kept; the caller's next turn begins with the fault",
     help: "let the calls end earlier, or write a loop",
-    scripts: Some(Scripts {
+    scripts: Some(ScriptPair {
         wrong: "    actor A { func f(n) { if n == 0 { return 0; } let v = await A.f(n - 1); return v; } }
     root a = A.f(64);
 ",
@@ -180,7 +180,7 @@ pub(crate) static TURNS: Page = Page {
     when: "each turn of a task from its 1,001st on",
     outcome: "the turn runs no statement; no `else` catches it",
     help: "let the task end earlier, or spawn another that goes on",
-    scripts: Some(Scripts {
+    scripts: Some(ScriptPair {
         wrong: "    actor A { func f() { while 1 { yield; } } }
     root a = A.f();
 ",

@@ -1,13 +1,13 @@
 -- Texts with lines of notes in them, part by part.
 use Rattle.std.proofs.Common.{◌≡◌, ℕ, ◌+◌, ◌-◌, ◌≤◌, List, [], ◌∷◌, ◌++◌, take, drop, length, refl, sym, ap, ap₂, ◌∙◌, append_assoc, append-nil, drop-drop, take-add, take_all, arith}
 use Rattle.std.specs.Prelude.{slice_range}
-use Rattle.nuchapay_values.specs.Notes.{AppendsAnnotated, AppendsNotes, IsAnnotated, Piece, note_line, note_lines, with_notes, without_notes}
+use Rattle.nuchapay_values.specs.Notes.{AppendsAnnotated, AppendsNotes, IsAnnotated, NotedPart, note_line, note_lines, with_notes, without_notes}
 
-pub without_append : (ps qs : List Piece) → without_notes (ps ++ qs) ≡ without_notes ps ++ without_notes qs
+pub without_append : (ps qs : List NotedPart) → without_notes (ps ++ qs) ≡ without_notes ps ++ without_notes qs
 without_append [] qs = refl
 without_append (p ∷ ps) qs = ap (λ (xs : List ℕ). p.part ++ xs) (without_append ps qs) ∙ sym (append_assoc p.part (without_notes ps) (without_notes qs))
 
-pub with_append : (ps qs : List Piece) → with_notes (ps ++ qs) ≡ with_notes ps ++ with_notes qs
+pub with_append : (ps qs : List NotedPart) → with_notes (ps ++ qs) ≡ with_notes ps ++ with_notes qs
 with_append [] qs = refl
 with_append (p ∷ ps) qs = ap (λ (xs : List ℕ). (p.part ++ note_lines p.notes) ++ xs) (with_append ps qs) ∙ sym (append_assoc (p.part ++ note_lines p.notes) (with_notes ps) (with_notes qs))
 

@@ -28,22 +28,22 @@ abbrev pub AppendsNotes : List ℕ → List ℕ → Type 0
 AppendsNotes old new = (lines : List (List ℕ)) × (new ≡ old ++ note_lines lines)
 
 -- a part of a text, and the lines of the notes that follow it
-pub record Piece : Type 0 where
+pub record NotedPart : Type 0 where
   pub part : List ℕ
   pub notes : List (List ℕ)
 
-abbrev pub with_notes : List Piece → List ℕ
+abbrev pub with_notes : List NotedPart → List ℕ
 with_notes [] = []
 with_notes (p ∷ ps) = (p.part ++ note_lines p.notes) ++ with_notes ps
 
-abbrev pub without_notes : List Piece → List ℕ
+abbrev pub without_notes : List NotedPart → List ℕ
 without_notes [] = []
 without_notes (p ∷ ps) = p.part ++ without_notes ps
 
 -- A text with lines of notes in it: without these it is the other text.
 abbrev pub IsAnnotated : List ℕ → List ℕ → Type 0
-IsAnnotated text annotated = (pieces : List Piece) × (without_notes pieces ≡ text) × (with_notes pieces ≡ annotated)
+IsAnnotated text annotated = (pieces : List NotedPart) × (without_notes pieces ≡ text) × (with_notes pieces ≡ annotated)
 
 -- The part of a text from one place to another is appended, with lines of notes in it.
 abbrev pub AppendsAnnotated : List ℕ → ℕ → ℕ → List ℕ → List ℕ → Type 0
-AppendsAnnotated text from to old new = (pieces : List Piece) × (without_notes pieces ≡ slice_range text from to) × (new ≡ old ++ with_notes pieces)
+AppendsAnnotated text from to old new = (pieces : List NotedPart) × (without_notes pieces ≡ slice_range text from to) × (new ≡ old ++ with_notes pieces)

@@ -7,7 +7,7 @@ use crate::names::{Found, find_turn};
 use crate::notes::{write_broken, write_changes};
 use crate::printed::{method_text, method_word};
 use crate::report::heading_lines;
-use crate::statement::{Names, write_statement, write_variable};
+use crate::statement::{NamesAt, write_statement, write_variable};
 use crate::text::Text;
 use crate::words::Words;
 use script_code::Instruction;
@@ -31,7 +31,7 @@ pub enum Explained {
 
 // A turn of an executor's journal.
 #[derive(Clone, Copy)]
-struct Turn<'a> {
+struct ExplainedTurn<'a> {
     script: &'a Script,
     executor: ExecId,
     // The fields from before the journal.
@@ -96,7 +96,7 @@ fn explain_at(
         return Ok(Explained::Nowhere);
     }
     let actor = script.method_actor(method);
-    let turn = Turn {
+    let turn = ExplainedTurn {
         script,
         executor: ExecId(number),
         start: checkpoint.fields(),
@@ -124,7 +124,7 @@ fn explain_at(
 // The text of a turn, with its line in the report, where the last turn of its task there was at this place.
 fn turn_text(
     alloc: Global,
-    turn: &Turn<'_>,
+    turn: &ExplainedTurn<'_>,
     record: &OwnedRecord,
     line: &[u8],
     last: Option<usize>,
@@ -143,13 +143,13 @@ fn turn_text(
 // The method of a turn, at which statement it began and its frame goes on, what it began with, its variables and the bindings.
 fn write_begin(
     out: &mut Text,
-    turn: &Turn<'_>,
+    turn: &ExplainedTurn<'_>,
     printed: &Words<'_>,
     record: &OwnedRecord,
     line: &Words<'_>,
 ) {
     let word = method_word(printed, turn.actor.0 as usize, turn.name);
-    let names = Names {
+    let names = NamesAt {
         script: turn.script,
         printed,
         word,
@@ -213,20 +213,20 @@ fn write_env(out: &mut Text, record: &OwnedRecord) {
 // At which statement a turn began, and at which its frame goes on, where it does.
 fn write_ends(
     out: &mut Text,
-    names: &Names<'_>,
+    names: &NamesAt<'_>,
     instructions: &[Instruction],
     record: &OwnedRecord,
 ) {
     out.say(b"\n    began at ");
-    write_statement(out, names, instructions, record.frame.line as usize);
+    write_statement(out, names, instructions, record.frame.instruction as usize);
     if let Some(after) = &record.after {
         out.say(b"\n    goes on at ");
-        write_statement(out, names, instructions, after.line as usize);
+        write_statement(out, names, instructions, after.instruction as usize);
     }
 }
 
 // A line for each variable: a parameter by its name, any other by its number.
-fn write_variables(out: &mut Text, names: &Names<'_>, variables: &[i64]) {
+fn write_variables(out: &mut Text, names: &NamesAt<'_>, variables: &[i64]) {
     for (place, value) in variables.iter().enumerate() {
         out.say(b"    ");
         write_variable(out, names, place);
@@ -258,7 +258,7 @@ fn write_bindings(out: &mut Text, script: &Script, record: &OwnedRecord) {
 // The fields from before a turn.
 fn fields_before(
     alloc: Global,
-    turn: &Turn<'_>,
+    turn: &ExplainedTurn<'_>,
     values: &[TurnValues],
 ) -> Result<Vec<Vec<i64>>, AllocError> {
     let mut fields = copy_of(alloc, turn.start)?;
@@ -282,7 +282,7 @@ fn changed_to(changes: &[Change], actor: usize, field: usize) -> Option<i64> {
 }
 
 // The fields of a turn's actor before it, and those that it changed, its actor's or another one's.
-fn write_row(out: &mut Text, turn: &Turn<'_>, fields: &[Vec<i64>], changes: &[Change]) {
+fn write_row(out: &mut Text, turn: &ExplainedTurn<'_>, fields: &[Vec<i64>], changes: &[Change]) {
     out.say(b"fields\n");
     if let Some(row) = fields.get(turn.row) {
         for (field, value) in row.iter().enumerate() {
@@ -309,7 +309,7 @@ fn write_row(out: &mut Text, turn: &Turn<'_>, fields: &[Vec<i64>], changes: &[Ch
 // The fields, and of a turn that was undone what it would have left.
 fn fields_text(
     alloc: Global,
-    turn: &Turn<'_>,
+    turn: &ExplainedTurn<'_>,
     printed: &Words<'_>,
     values: &[TurnValues],
 ) -> Result<Vec<u8>, AllocError> {
@@ -330,7 +330,7 @@ fn fields_text(
 // What a turn that was undone would have left, where that is another thing than it found.
 fn undone_text(
     alloc: Global,
-    turn: &Turn<'_>,
+    turn: &ExplainedTurn<'_>,
     printed: &Words<'_>,
     fields: &mut [Vec<i64>],
     own: &TurnValues,
@@ -356,7 +356,7 @@ fn undone_text(
 // A line for each change of a field of a turn's actor since the last turn of its task there.
 fn write_meanwhile(
     out: &mut Text,
-    turn: &Turn<'_>,
+    turn: &ExplainedTurn<'_>,
     last: Option<usize>,
     task: u32,
     values: &[TurnValues],
@@ -373,7 +373,13 @@ fn write_meanwhile(
 }
 
 // A line for each change of a field of a turn's actor that the turn at a place made.
-fn write_changed(out: &mut Text, turn: &Turn<'_>, task: u32, place: usize, changes: &[Change]) {
+fn write_changed(
+    out: &mut Text,
+    turn: &ExplainedTurn<'_>,
+    task: u32,
+    place: usize,
+    changes: &[Change],
+) {
     if place >= turn.journal.len() {
         return;
     }

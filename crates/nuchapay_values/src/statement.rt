@@ -4,13 +4,15 @@ use crate::notes::actor_at;
 use crate::printed::parameter;
 use crate::text::Text;
 use crate::words::Words;
-use script_code::{Act, Awaited, Call, Cancelled, FieldPlace, Formula, Instruction, Place};
+use script_code::{
+    Act, Cancelled, CompiledAwait, CompiledCall, FieldPlace, Formula, Instruction, NumberPlace,
+};
 use swift_script::Script;
 use swift_types::{ActorId, ExecId, MethodId, Operator, RootId};
 
 /// What names are found by: the method, its actor and its executor, the printed form of the script, and where the method stands there.
 #[derive(Clone, Copy)]
-pub struct Names<'a> {
+pub struct NamesAt<'a> {
     pub script: &'a Script,
     pub printed: &'a Words<'a>,
     pub word: usize,
@@ -20,7 +22,7 @@ pub struct Names<'a> {
 }
 
 /// Appends a variable by its name where it is a parameter, and else by its number: `variable 2`.
-pub fn write_variable(out: &mut Text, names: &Names<'_>, variable: usize) {
+pub fn write_variable(out: &mut Text, names: &NamesAt<'_>, variable: usize) {
     if variable < names.params {
         out.say(parameter(names.printed, names.word, variable))
     } else {
@@ -30,7 +32,7 @@ pub fn write_variable(out: &mut Text, names: &Names<'_>, variable: usize) {
 }
 
 // A field by its name, and for one of another actor that in front.
-fn write_field(out: &mut Text, names: &Names<'_>, place: FieldPlace) {
+fn write_field(out: &mut Text, names: &NamesAt<'_>, place: FieldPlace) {
     let actor = actor_at(names.script, names.executor, place.actor as usize);
     if actor != names.actor {
         out.say(names.script.actor_name(actor));
@@ -39,10 +41,10 @@ fn write_field(out: &mut Text, names: &Names<'_>, place: FieldPlace) {
     out.say(names.script.field_name(actor, place.field as usize))
 }
 
-fn write_place(out: &mut Text, names: &Names<'_>, place: Place) {
+fn write_place(out: &mut Text, names: &NamesAt<'_>, place: NumberPlace) {
     match place {
-        Place::Variable(variable) => write_variable(out, names, variable as usize),
-        Place::Field(field) => write_field(out, names, field),
+        NumberPlace::Variable(variable) => write_variable(out, names, variable as usize),
+        NumberPlace::Field(field) => write_field(out, names, field),
     }
 }
 
@@ -63,7 +65,7 @@ fn sign(operator: Operator) -> &'static [u8] {
 }
 
 // An expression, with each use of an operator in a parenthesis, as the printed form has it.
-fn write_formula(out: &mut Text, names: &Names<'_>, formula: &Formula) {
+fn write_formula(out: &mut Text, names: &NamesAt<'_>, formula: &Formula) {
     match formula {
         Formula::Number(value) => out.number(*value),
         Formula::Variable(variable) => write_variable(out, names, *variable as usize),
@@ -95,13 +97,13 @@ fn write_formula(out: &mut Text, names: &Names<'_>, formula: &Formula) {
 }
 
 // A statement of one word and an expression.
-fn write_with(out: &mut Text, names: &Names<'_>, word: &[u8], formula: &Formula) {
+fn write_with(out: &mut Text, names: &NamesAt<'_>, word: &[u8], formula: &Formula) {
     out.say(word);
     out.say(b" ");
     write_formula(out, names, formula)
 }
 
-fn write_method(out: &mut Text, names: &Names<'_>, actor: ActorId, method: MethodId) {
+fn write_method(out: &mut Text, names: &NamesAt<'_>, actor: ActorId, method: MethodId) {
     out.say(names.script.actor_name(actor));
     out.say(b" . ");
     if (method.0 as usize) < names.script.method_count() {
@@ -109,7 +111,7 @@ fn write_method(out: &mut Text, names: &Names<'_>, actor: ActorId, method: Metho
     }
 }
 
-fn write_call(out: &mut Text, names: &Names<'_>, word: &[u8], call: &Call) {
+fn write_call(out: &mut Text, names: &NamesAt<'_>, word: &[u8], call: &CompiledCall) {
     out.say(word);
     out.say(b" ");
     write_method(out, names, call.actor, call.method);
@@ -123,22 +125,22 @@ fn write_call(out: &mut Text, names: &Names<'_>, word: &[u8], call: &Call) {
     out.say(b" )")
 }
 
-fn write_root(out: &mut Text, names: &Names<'_>, word: &[u8], root: RootId) {
+fn write_root(out: &mut Text, names: &NamesAt<'_>, word: &[u8], root: RootId) {
     out.say(word);
     out.say(b" ");
     out.say(names.script.root_name(root))
 }
 
-fn write_awaited(out: &mut Text, names: &Names<'_>, awaited: &Awaited) {
+fn write_awaited(out: &mut Text, names: &NamesAt<'_>, awaited: &CompiledAwait) {
     match awaited {
-        Awaited::Call(call) => write_call(out, names, b"await", call),
-        Awaited::Root(root) => write_root(out, names, b"await root", *root),
-        Awaited::Task(_) => out.say(b"await task"),
-        Awaited::Next(_) => out.say(b"await next"),
+        CompiledAwait::Call(call) => write_call(out, names, b"await", call),
+        CompiledAwait::Root(root) => write_root(out, names, b"await root", *root),
+        CompiledAwait::Task(_) => out.say(b"await task"),
+        CompiledAwait::Next(_) => out.say(b"await next"),
     }
 }
 
-fn write_cancel(out: &mut Text, names: &Names<'_>, cancelled: Cancelled) {
+fn write_cancel(out: &mut Text, names: &NamesAt<'_>, cancelled: Cancelled) {
     match cancelled {
         Cancelled::Root(root) => write_root(out, names, b"cancel root", root),
         Cancelled::Task(_) => out.say(b"cancel task"),
@@ -149,10 +151,10 @@ fn write_cancel(out: &mut Text, names: &Names<'_>, cancelled: Cancelled) {
 // The await that stands open at an instruction: what is waited for there, and where its value goes.
 fn write_open_await(
     out: &mut Text,
-    names: &Names<'_>,
+    names: &NamesAt<'_>,
     instructions: &[Instruction],
     line: usize,
-    place: Option<Place>,
+    place: Option<NumberPlace>,
 ) {
     if let Some(place) = place {
         write_place(out, names, place);
@@ -172,7 +174,7 @@ fn write_open_await(
 /// `while`. In time linear in the method.
 pub fn write_statement(
     out: &mut Text,
-    names: &Names<'_>,
+    names: &NamesAt<'_>,
     instructions: &[Instruction],
     line: usize,
 ) {

@@ -4,7 +4,7 @@ use std::alloc::{AllocError, Global};
 
 // Where a word stands.
 #[derive(Clone, Copy)]
-struct Span {
+struct WordSpan {
     start: usize,
     end: usize,
 }
@@ -12,7 +12,7 @@ struct Span {
 /// A text, and its words: what stands between spaces and line feeds.
 pub struct Words<'a> {
     text: &'a [u8],
-    spans: Vec<Span>,
+    spans: Vec<WordSpan>,
 }
 
 impl Drop for Words<'_> {
@@ -43,13 +43,13 @@ impl<'a> Words<'a> {
         for (place, byte) in text.iter().enumerate() {
             if is_space(*byte) {
                 if start < place {
-                    spans.push(Span { start, end: place })?;
+                    spans.push(WordSpan { start, end: place })?;
                 }
                 start = place + 1;
             }
         }
         if start < text.len() {
-            spans.push(Span {
+            spans.push(WordSpan {
                 start,
                 end: text.len(),
             })?;

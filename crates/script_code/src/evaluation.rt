@@ -7,12 +7,11 @@ ghost use Rattle.script_code.specs.Tree.{term_of};
 ghost use Rattle.script_code.specs.Value.{ev, flag, field_at, holds as holds_spec, joined, number_at};
 
 use crate::cells::value_of_cells;
-use crate::env::Env;
 use crate::formula::{FieldPlace, Formula};
 use crate::sight::{Binding, Sight};
 use std::alloc::Global;
 use swift_locals::Bindings;
-use swift_types::{LocalId, Operator, Priority};
+use swift_types::{Env, LocalId, Operator, Priority};
 
 /// The value of a formula, or None where a value on the way leaves 64 bits (our own). A variable or field that is not
 /// there counts as 0. Its cost is at most the formula's size.
@@ -30,7 +29,7 @@ fn evaluate(formula: &Formula, sight: &Sight<'_>) -> Option<i64>
         Formula::Number(n) => Some(*n),
         Formula::Variable(x) => Some(number(sight.variables, *x)),
         Formula::Field(place) => Some(field(sight.fields, *place)),
-        Formula::Local(local, default) => Some(read(sight, *local).unwrap_or(*default)),
+        Formula::Local(local, default) => Some(read_local(sight, *local).unwrap_or(*default)),
         Formula::Priority => Some(i64::from(sight.env.priority.number())),
         Formula::Cancelled => Some(flag_of(sight.env.cancelled)),
         Formula::Negate(e) => evaluate(e, sight)?.checked_neg(),
@@ -81,7 +80,7 @@ pub fn holds(alloc: Global, invariant: Option<&Formula>, fields: &[Vec<i64>]) ->
 
 // The value of a local's innermost binding: one of the frame's own, or else one that stood when the frame began.
 #[tactic(auto, using(crate::proofs::LocalReads::value_joined))]
-fn read(sight: &Sight<'_>, local: LocalId) -> Option<i64>
+fn read_local(sight: &Sight<'_>, local: LocalId) -> Option<i64>
     ensures { result ≡ value_of (scene_of sight.now).bindings local.0 }
 {
     match read_own(sight.own, local) {

@@ -35,7 +35,7 @@ pub enum Formula {
 }
 
 /// A call of a method of an actor (SE-0306), with its arguments from left to right.
-pub struct Call {
+pub struct CompiledCall {
     /// The actor that the method is of.
     pub actor: ActorId,
     /// The method, by its number among all methods of the script.
@@ -44,9 +44,9 @@ pub struct Call {
     pub args: Vec<Formula>,
 }
 
-impl Drop for Call {
+impl Drop for CompiledCall {
     fn drop(self) {
-        let Call {
+        let CompiledCall {
             actor: _,
             method: _,
             args,

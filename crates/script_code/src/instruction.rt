@@ -1,11 +1,11 @@
 //! A method as numbered instructions.
 
-use crate::formula::{Call, FieldPlace, Formula};
+use crate::formula::{CompiledCall, FieldPlace, Formula};
 use swift_types::{LocalId, Priority, RootId};
 
 /// Where a number is kept: in a variable of the frame, or in a field.
 #[derive(Clone, Copy)]
-pub enum Place {
+pub enum NumberPlace {
     /// A variable, by its number within its method.
     Variable(u32),
     /// A field of an actor of the executor.
@@ -14,9 +14,9 @@ pub enum Place {
 
 /// What a turn can wait for. Handles, which hold the numbers of tasks and groups, are numbered from 0 within their
 /// method.
-pub enum Awaited {
+pub enum CompiledAwait {
     /// What a call gives (SE-0306).
-    Call(Call),
+    Call(CompiledCall),
     /// What a root's task ends with (SE-0304).
     Root(RootId),
     /// What the task of a handle ends with (SE-0304).
@@ -25,11 +25,11 @@ pub enum Awaited {
     Next(u32),
 }
 
-impl Drop for Awaited {
+impl Drop for CompiledAwait {
     fn drop(self) {
         match self {
-            Awaited::Call(call) => drop(call),
-            Awaited::Root(_) | Awaited::Task(_) | Awaited::Next(_) => {}
+            CompiledAwait::Call(call) => drop(call),
+            CompiledAwait::Root(_) | CompiledAwait::Task(_) | CompiledAwait::Next(_) => {}
         }
     }
 }
@@ -64,17 +64,17 @@ pub enum Act {
     /// The turn ends, and the next one goes on after it.
     Yield,
     /// The turn ends by waiting. The answer is taken by the instruction `next`, a `Receive`.
-    Wait(Awaited),
+    Wait(CompiledAwait),
     /// An await that stands open (SE-0306). The value that it is given goes to the place, if there is one. A fault
     /// gives way to the value of the second formula, if there is one. It is no step.
-    Receive(Option<Place>, Option<Formula>),
+    Receive(Option<NumberPlace>, Option<Formula>),
     /// An unstructured task is made, with its maker's priority where none is given. The handle gets its number, if
     /// there is one.
-    Spawn(Call, Option<Priority>, Option<u32>),
+    Spawn(CompiledCall, Option<Priority>, Option<u32>),
     /// A detached task is made. The handle gets its number, if there is one.
-    Detach(Call, Priority, Option<u32>),
+    Detach(CompiledCall, Priority, Option<u32>),
     /// A child is added to the group of a handle; where the flag is set, only if the group is not cancelled by then.
-    Add(u32, bool, Call, Option<Priority>),
+    Add(u32, bool, CompiledCall, Option<Priority>),
     /// A task or a group is cancelled.
     Cancel(Cancelled),
     /// A group is opened, and the handle gets its number.

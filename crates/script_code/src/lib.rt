@@ -4,7 +4,6 @@
 
 mod cells;
 mod emit;
-mod env;
 mod evaluation;
 mod formula;
 mod instruction;
@@ -13,8 +12,7 @@ mod sight;
 
 pub use cells::value_of_cells;
 pub use emit::{link, push_instruction, renumber};
-pub use env::Env;
 pub use evaluation::{holds, value};
-pub use formula::{Call, FieldPlace, Formula};
-pub use instruction::{Act, Awaited, Cancelled, Instruction, Place};
+pub use formula::{CompiledCall, FieldPlace, Formula};
+pub use instruction::{Act, Cancelled, CompiledAwait, Instruction, NumberPlace};
 pub use sight::{Binding, Sight};

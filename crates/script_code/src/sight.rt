@@ -1,8 +1,7 @@
 //! What a formula is read against.
 
-use crate::env::Env;
 use swift_locals::Bindings;
-use swift_types::LocalId;
+use swift_types::{Env, LocalId};
 
 /// A binding of a task local that a frame has made (SE-0311).
 #[derive(Clone, Copy)]

@@ -4,9 +4,9 @@ use Rattle.std.specs.Prelude.{if◌then◌else◌}
 use Rattle.script_grammar.specs.Tree.{MethodTree, ActorTree, DeclTree, Executes, Binds, Acts, Roots}
 use Rattle.script_names.specs.Texts.{is_among, place_of}
 use Rattle.script_names.specs.Methods.{method_key}
-use Rattle.script_names.specs.Directory.{Directory, with_method, with_methods, with_actor, with_names, with_decl, with_decls, nothing_declared, directory_of, executors_in}
-use Rattle.script_lowering.specs.Plan.{Plan, plan_of, defaults_in, executors_from, on_executor}
-use Rattle.script_printing.specs.Script.{ScriptTree, declarations_of, script_in}
+use Rattle.script_names.specs.Directory.{DirectoryView, with_method, with_methods, with_actor, with_names, with_decl, with_decls, nothing_declared, directory_of, executors_in}
+use Rattle.script_lowering.specs.Plan.{PlanView, plan_of, defaults_in, executors_from, on_executor}
+use Rattle.script_printing.specs.Script.{ScriptView, declarations_of, script_in}
 use Rattle.script_printing.proofs.ByKind.{script_again}
 use Rattle.script_compiler.specs.Compiled.{plan_in}
 
@@ -16,59 +16,59 @@ record Named : Type 0 where
   locals : List (List ℕ)
   roots : List (List ℕ)
 
-abbrev named : Directory → Named
+abbrev named : DirectoryView → Named
 named d = record { executors = d.executors; locals = d.locals; roots = d.roots }
 
 -- and what it has of actors
-abbrev acting : Directory → Directory
+abbrev acting : DirectoryView → DirectoryView
 acting d = record d { executors = []; locals = []; roots = [] }
 
-named_if : (b : Bool) (x y : Directory) (n : Named) → named x ≡ n → named y ≡ n → named (if b then x else y) ≡ n
+named_if : (b : Bool) (x y : DirectoryView) (n : Named) → named x ≡ n → named y ≡ n → named (if b then x else y) ≡ n
 named_if true x y n e f = e
 named_if false x y n e f = f
 
-acting_if : (b : Bool) (x y : Directory) → acting (if b then x else y) ≡ (if b then acting x else acting y)
+acting_if : (b : Bool) (x y : DirectoryView) → acting (if b then x else y) ≡ (if b then acting x else acting y)
 acting_if true x y = refl
 acting_if false x y = refl
 
-named_method : (k : ℕ) (m : MethodTree) (d : Directory) → named (with_method k m d) ≡ named d
+named_method : (k : ℕ) (m : MethodTree) (d : DirectoryView) → named (with_method k m d) ≡ named d
 named_method k m d = named_if (is_among d.methods (method_key k m.name)) d _ (named d) refl refl
 
-named_methods : (k : ℕ) (ms : List MethodTree) (d : Directory) → named (with_methods k ms d) ≡ named d
+named_methods : (k : ℕ) (ms : List MethodTree) (d : DirectoryView) → named (with_methods k ms d) ≡ named d
 named_methods k [] d = refl
 named_methods k (m ∷ ms) d = named_methods k ms (with_method k m d) ∙ named_method k m d
 
-named_actor : (a : ActorTree) (d : Directory) → named (with_actor a d) ≡ named d
+named_actor : (a : ActorTree) (d : DirectoryView) → named (with_actor a d) ≡ named d
 named_actor a d = named_if (is_among d.actors a.name) d _ (named d) refl (named_methods (length d.actors) a.methods _)
 
-acting_method : (k : ℕ) (m : MethodTree) (d : Directory) → acting (with_method k m d) ≡ with_method k m (acting d)
+acting_method : (k : ℕ) (m : MethodTree) (d : DirectoryView) → acting (with_method k m d) ≡ with_method k m (acting d)
 acting_method k m d = acting_if (is_among d.methods (method_key k m.name)) d _
 
-acting_methods : (k : ℕ) (ms : List MethodTree) (d : Directory) → acting (with_methods k ms d) ≡ with_methods k ms (acting d)
+acting_methods : (k : ℕ) (ms : List MethodTree) (d : DirectoryView) → acting (with_methods k ms d) ≡ with_methods k ms (acting d)
 acting_methods k [] d = refl
 acting_methods k (m ∷ ms) d = acting_methods k ms (with_method k m d) ∙ ap (with_methods k ms) (acting_method k m d)
 
-acting_actor : (a : ActorTree) (d : Directory) → acting (with_actor a d) ≡ with_actor a (acting d)
+acting_actor : (a : ActorTree) (d : DirectoryView) → acting (with_actor a d) ≡ with_actor a (acting d)
 acting_actor a d =
     acting_if (is_among d.actors a.name) d _
-    ∙ ap (λ (x : Directory). if is_among d.actors a.name then acting d else x) (acting_methods (length d.actors) a.methods _)
+    ∙ ap (λ (x : DirectoryView). if is_among d.actors a.name then acting d else x) (acting_methods (length d.actors) a.methods _)
 
-abbrev with_actors : List ActorTree → Directory → Directory
+abbrev with_actors : List ActorTree → DirectoryView → DirectoryView
 with_actors [] d = d
 with_actors (a ∷ others) d = with_actors others (with_actor a d)
 
 -- the names that a script adds
-abbrev names_after : ScriptTree → Named → Named
+abbrev names_after : ScriptView → Named → Named
 names_after s n = record { executors = with_names n.executors (map (λ x. x.name) s.executors); locals = with_names n.locals (map (λ l. l.name) s.locals); roots = with_names n.roots (map (λ r. r.name) s.roots) }
 
-acting_kinds : (xs : List DeclTree) (d : Directory) → acting (with_decls xs d) ≡ with_actors (script_in xs).actors (acting d)
+acting_kinds : (xs : List DeclTree) (d : DirectoryView) → acting (with_decls xs d) ≡ with_actors (script_in xs).actors (acting d)
 acting_kinds [] d = refl
 acting_kinds (Executes x ∷ xs) d = acting_kinds xs (with_decl (Executes x) d)
 acting_kinds (Binds l ∷ xs) d = acting_kinds xs (with_decl (Binds l) d)
 acting_kinds (Acts a ∷ xs) d = acting_kinds xs (with_actor a d) ∙ ap (with_actors (script_in xs).actors) (acting_actor a d)
 acting_kinds (Roots r ∷ xs) d = acting_kinds xs (with_decl (Roots r) d)
 
-named_kinds : (xs : List DeclTree) (d : Directory) → named (with_decls xs d) ≡ names_after (script_in xs) (named d)
+named_kinds : (xs : List DeclTree) (d : DirectoryView) → named (with_decls xs d) ≡ names_after (script_in xs) (named d)
 named_kinds [] d = refl
 named_kinds (Executes x ∷ xs) d = named_kinds xs (with_decl (Executes x) d)
 named_kinds (Binds l ∷ xs) d = named_kinds xs (with_decl (Binds l) d)
@@ -76,10 +76,10 @@ named_kinds (Acts a ∷ xs) d = named_kinds xs (with_actor a d) ∙ ap (names_af
 named_kinds (Roots r ∷ xs) d = named_kinds xs (with_decl (Roots r) d)
 
 -- both together
-abbrev whole : Named → Directory → Directory
+abbrev whole : Named → DirectoryView → DirectoryView
 whole n d = record d { executors = n.executors; locals = n.locals; roots = n.roots }
 
-abbrev directory_by : ScriptTree → Directory
+abbrev directory_by : ScriptView → DirectoryView
 directory_by s = whole (names_after s (named nothing_declared)) (with_actors s.actors (acting nothing_declared))
 
 directory_kinds : (xs : List DeclTree) → directory_of xs ≡ directory_by (script_in xs)
@@ -117,14 +117,14 @@ executors_kinds declared own (Binds l ∷ xs) = executors_kinds declared own xs
 executors_kinds declared own (Acts a ∷ xs) = on_same declared own a.executor _ _ (λ n. executors_kinds declared n xs)
 executors_kinds declared own (Roots r ∷ xs) = executors_kinds declared own xs
 
-abbrev plan_by : ScriptTree → Plan
+abbrev plan_by : ScriptView → PlanView
 plan_by s = let names = map (λ x. x.name) s.executors in record { directory = directory_by s; defaults = map (λ l. l.default) s.locals; executors = executors_on names (length names) s.actors }
 
 plan_kinds : (xs : List DeclTree) → plan_of xs ≡ plan_by (script_in xs)
 plan_kinds xs =
     let s = script_in xs in
     let here : List (List ℕ) → List ℕ = λ names. executors_on names (length names) s.actors in
-    ap (λ (d : Directory). record { directory = d; defaults = defaults_in xs; executors = executors_from (executors_in xs) (length (executors_in xs)) xs }) (directory_kinds xs)
+    ap (λ (d : DirectoryView). record { directory = d; defaults = defaults_in xs; executors = executors_from (executors_in xs) (length (executors_in xs)) xs }) (directory_kinds xs)
     ∙ ap (λ (ds : List ℤ). record { directory = directory_by s; defaults = ds; executors = executors_from (executors_in xs) (length (executors_in xs)) xs }) (defaults_kinds xs)
     ∙ ap (λ (es : List ℕ). record { directory = directory_by s; defaults = map (λ l. l.default) s.locals; executors = es }) (executors_kinds (executors_in xs) (length (executors_in xs)) xs ∙ ap here (names_kinds xs))
 

@@ -14,11 +14,11 @@ use Rattle.script_names.specs.declared.scope.NameKind.TheVariants as kind
 use Rattle.script_names.specs.Texts.{is_among, place_of}
 use Rattle.script_names.specs.Methods.{method_key}
 use Rattle.script_names.specs.Directory as directory
-use Rattle.script_names.specs.Directory.{Directory, key_of, has_method, method_place, arity_of, params_in, declared_in, directory_of}
-use Rattle.script_names.specs.Scope.{Scope, fields_alone, with_standing}
-use Rattle.script_names.specs.Rules.{Seen, earlier, at_name, where_so, with_parameters, repeat_error, parameters_error, block_error, past_names, past_method, past_decl, past_if, past_fields, past_name_if, fields_error, on_error, optional_error, method_error, methods_error, actor_error, root_error, target_error, seen_after, declarations_error, names_error}
+use Rattle.script_names.specs.Directory.{DirectoryView, key_of, has_method, method_place, arity_of, params_in, declared_in, directory_of}
+use Rattle.script_names.specs.Scope.{ScopeView, fields_alone, with_standing}
+use Rattle.script_names.specs.Rules.{SeenView, earlier, at_name, where_so, with_parameters, repeat_error, parameters_error, block_error, past_names, past_method, past_decl, past_if, past_fields, past_name_if, fields_error, on_error, optional_error, method_error, methods_error, actor_error, root_error, target_error, seen_after, declarations_error, names_error}
 use Rattle.script_names.proofs.LeftOut.{nothing_left_out}
-use Rattle.script_lowering.specs.Plan.{Plan, plan_of}
+use Rattle.script_lowering.specs.Plan.{PlanView, plan_of}
 use Rattle.script_lowering.specs.Lowered.{block_code}
 use Rattle.script_printing.specs.Script.{script_in}
 use Rattle.script_compiler.specs.Compiled.{MethodView, RootView, method_of, methods_from, root_of, compiled_by}
@@ -28,19 +28,19 @@ use Rattle.script_compiler.proofs.Membership.{Has, has_cases, has_contained}
 use Rattle.script_compiler.proofs.ByKinds.{same_plan}
 use Rattle.script_compiler.proofs.CallsNamed.{IsNamed, AreNamed, earlier_none, target_named, block_named}
 
-directory_parameters : (s : Scope) (ns : List (List ℕ)) → (with_parameters s ns).directory ≡ s.directory
+directory_parameters : (s : ScopeView) (ns : List (List ℕ)) → (with_parameters s ns).directory ≡ s.directory
 directory_parameters s [] = refl
 directory_parameters s (n ∷ ns) = directory_parameters (with_standing s n kind.Number) ns
 
-method_named : (p : Plan) (k : ℕ) (seen : List (List ℕ)) (at : ℕ) (m : MethodTree) → method_error (fields_alone p.directory k) seen at m ≡ None → AreNamed p.directory (method_of p k m).code
+method_named : (p : PlanView) (k : ℕ) (seen : List (List ℕ)) (at : ℕ) (m : MethodTree) → method_error (fields_alone p.directory k) seen at m ≡ None → AreNamed p.directory (method_of p k m).code
 method_named p k seen at m h =
     let s = fields_alone p.directory k in
     let body = block_tree m.body in
     let e = earlier_none (repeat_error seen at m.name) (earlier (parameters_error s (suc at) m.params) (block_error (with_parameters s m.params) (past_names m.params (suc at)) body)) h in
     let f = earlier_none (parameters_error s (suc at) m.params) (block_error (with_parameters s m.params) (past_names m.params (suc at)) body) e.1 in
-    subst (λ (d : Directory). AreNamed d (block_code p (with_parameters s m.params) body)) (directory_parameters s m.params) (block_named p (with_parameters s m.params) (past_names m.params (suc at)) body f.1)
+    subst (λ (d : DirectoryView). AreNamed d (block_code p (with_parameters s m.params) body)) (directory_parameters s m.params) (block_named p (with_parameters s m.params) (past_names m.params (suc at)) body f.1)
 
-methods_named : (p : Plan) (k : ℕ) (seen : List (List ℕ)) (at : ℕ) (ms : List MethodTree) → methods_error (fields_alone p.directory k) seen at ms ≡ None → (x : MethodView) → Has (map (method_of p k) ms) x → AreNamed p.directory x.code
+methods_named : (p : PlanView) (k : ℕ) (seen : List (List ℕ)) (at : ℕ) (ms : List MethodTree) → methods_error (fields_alone p.directory k) seen at ms ≡ None → (x : MethodView) → Has (map (method_of p k) ms) x → AreNamed p.directory x.code
 methods_named p k seen at [] h x i = absurd i
 methods_named p k seen at (m ∷ ms) h x i =
     let e = earlier_none (method_error (fields_alone p.directory k) seen at m) (methods_error (fields_alone p.directory k) (seen ++ m.name ∷ []) (past_method m at) ms) h in
@@ -49,7 +49,7 @@ methods_named p k seen at (m ∷ ms) h x i =
       | inr j ↦ methods_named p k (seen ++ m.name ∷ []) (past_method m at) ms e.1 x j
     ]
 
-actor_named : (p : Plan) (seen : Seen) (at : ℕ) (a : ActorTree) → actor_error p.directory seen at a ≡ None → (x : MethodView) → Has (map (method_of p seen.actors) a.methods) x → AreNamed p.directory x.code
+actor_named : (p : PlanView) (seen : SeenView) (at : ℕ) (a : ActorTree) → actor_error p.directory seen at a ≡ None → (x : MethodView) → Has (map (method_of p seen.actors) a.methods) x → AreNamed p.directory x.code
 actor_named p seen at a h x i =
     let s = fields_alone p.directory seen.actors in
     let fields = past_name_if a.executor (suc at) in
@@ -66,7 +66,7 @@ actor_named p seen at a h x i =
     let j = earlier_none of_fields (earlier of_invariant last) g.1 in
     methods_named p seen.actors [] (past_if a.invariant invariant) a.methods (earlier_none of_invariant last j.1).1 x i
 
-decls_named : (p : Plan) (seen : Seen) (at : ℕ) (xs : List DeclTree) → declarations_error p.directory seen at xs ≡ None → (x : MethodView) → Has (methods_from p seen.actors (script_in xs).actors) x → AreNamed p.directory x.code
+decls_named : (p : PlanView) (seen : SeenView) (at : ℕ) (xs : List DeclTree) → declarations_error p.directory seen at xs ≡ None → (x : MethodView) → Has (methods_from p seen.actors (script_in xs).actors) x → AreNamed p.directory x.code
 decls_named p seen at [] h x i = absurd i
 decls_named p seen at (Executes e ∷ xs) h x i = decls_named p (seen_after seen (Executes e)) (past_decl (Executes e) at) xs (earlier_none _ (declarations_error p.directory (seen_after seen (Executes e)) (past_decl (Executes e) at) xs) h).1 x i
 decls_named p seen at (Binds l ∷ xs) h x i = decls_named p (seen_after seen (Binds l)) (past_decl (Binds l) at) xs (earlier_none _ (declarations_error p.directory (seen_after seen (Binds l)) (past_decl (Binds l) at) xs) h).1 x i
@@ -79,15 +79,15 @@ decls_named p seen at (Acts a ∷ xs) h x i =
     ]
 
 -- a root names a method
-abbrev IsRootNamed : Directory → RootView → Type 0
+abbrev IsRootNamed : DirectoryView → RootView → Type 0
 IsRootNamed d r = (actor : ℕ) × IsNamed d actor r.method (length r.args)
 
-root_named : (p : Plan) (seen : Seen) (at : ℕ) (r : RootTree) → root_error p.directory seen at r ≡ None → IsRootNamed p.directory (root_of p r)
+root_named : (p : PlanView) (seen : SeenView) (at : ℕ) (r : RootTree) → root_error p.directory seen at r ≡ None → IsRootNamed p.directory (root_of p r)
 root_named p seen at r h =
     let e = (earlier_none _ (target_error p.directory (suc at) r.actor r.method (length r.args)) (earlier_none _ _ h).1).1 in
     (place_of p.directory.actors r.actor, target_named p.directory (suc at) r.actor r.method (length r.args) e)
 
-roots_named : (p : Plan) (seen : Seen) (at : ℕ) (xs : List DeclTree) → declarations_error p.directory seen at xs ≡ None → (x : RootView) → Has (map (root_of p) (script_in xs).roots) x → IsRootNamed p.directory x
+roots_named : (p : PlanView) (seen : SeenView) (at : ℕ) (xs : List DeclTree) → declarations_error p.directory seen at xs ≡ None → (x : RootView) → Has (map (root_of p) (script_in xs).roots) x → IsRootNamed p.directory x
 roots_named p seen at [] h x i = absurd i
 roots_named p seen at (Executes e ∷ xs) h x i = roots_named p (seen_after seen (Executes e)) (past_decl (Executes e) at) xs (earlier_none _ (declarations_error p.directory (seen_after seen (Executes e)) (past_decl (Executes e) at) xs) h).1 x i
 roots_named p seen at (Binds l ∷ xs) h x i = roots_named p (seen_after seen (Binds l)) (past_decl (Binds l) at) xs (earlier_none _ (declarations_error p.directory (seen_after seen (Binds l)) (past_decl (Binds l) at) xs) h).1 x i
@@ -103,11 +103,11 @@ roots_named p seen at (Roots r ∷ xs) h x i =
 abbrev key : MethodView → List ℕ
 key x = method_key x.actor x.name
 
-map_keys : (p : Plan) (k : ℕ) (ms : List MethodTree) → map (λ m. method_key k m.name) ms ≡ map key (map (method_of p k) ms)
+map_keys : (p : PlanView) (k : ℕ) (ms : List MethodTree) → map (λ m. method_key k m.name) ms ≡ map key (map (method_of p k) ms)
 map_keys p k [] = refl
 map_keys p k (m ∷ ms) = ap (λ (ks : List (List ℕ)). method_key k m.name ∷ ks) (map_keys p k ms)
 
-keys_are : (p : Plan) (k : ℕ) (xs : List DeclTree) → directory.methods_from k xs ≡ map key (methods_from p k (script_in xs).actors)
+keys_are : (p : PlanView) (k : ℕ) (xs : List DeclTree) → directory.methods_from k xs ≡ map key (methods_from p k (script_in xs).actors)
 keys_are p k [] = refl
 keys_are p k (Executes e ∷ xs) = keys_are p k xs
 keys_are p k (Binds l ∷ xs) = keys_are p k xs
@@ -120,11 +120,11 @@ keys_are p k (Roots r ∷ xs) = keys_are p k xs
 abbrev count_of : MethodView → ℕ
 count_of x = x.params
 
-map_counts : (p : Plan) (k : ℕ) (ms : List MethodTree) → map (λ m. length m.params) ms ≡ map count_of (map (method_of p k) ms)
+map_counts : (p : PlanView) (k : ℕ) (ms : List MethodTree) → map (λ m. length m.params) ms ≡ map count_of (map (method_of p k) ms)
 map_counts p k [] = refl
 map_counts p k (m ∷ ms) = ap (λ (ns : List ℕ). length m.params ∷ ns) (map_counts p k ms)
 
-counts_are : (p : Plan) (k : ℕ) (xs : List DeclTree) → params_in xs ≡ map count_of (methods_from p k (script_in xs).actors)
+counts_are : (p : PlanView) (k : ℕ) (xs : List DeclTree) → params_in xs ≡ map count_of (methods_from p k (script_in xs).actors)
 counts_are p k [] = refl
 counts_are p k (Executes e ∷ xs) = counts_are p k xs
 counts_are p k (Binds l ∷ xs) = counts_are p k xs
@@ -165,14 +165,14 @@ record IsThere (views : List MethodView) (actor number count : ℕ) : Type 0 whe
   of_actor : method.actor ≡ actor
   as_many : method.params ≡ count
 
-is_there : (p : Plan) (decls : List DeclTree) (actor number count : ℕ) → names_error decls ≡ None → IsNamed (directory_of decls) actor number count → IsThere (methods_from p 0 (script_in decls).actors) actor number count
+is_there : (p : PlanView) (decls : List DeclTree) (actor number count : ℕ) → names_error decls ≡ None → IsNamed (directory_of decls) actor number count → IsThere (methods_from p 0 (script_in decls).actors) actor number count
 is_there p decls actor number count ok n =
     let d = directory_of decls in
     let views = methods_from p 0 (script_in decls).actors in
     let k = key_of d n.actor_name n.method_name in
     let all : d ≡ declared_in decls = nothing_left_out decls ok in
-    let keys : d.methods ≡ map key views = ap (λ (e : Directory). e.methods) all ∙ keys_are p 0 decls in
-    let counts : d.params ≡ map count_of views = ap (λ (e : Directory). e.params) all ∙ counts_are p 0 decls in
+    let keys : d.methods ≡ map key views = ap (λ (e : DirectoryView). e.methods) all ∙ keys_are p 0 decls in
+    let counts : d.params ≡ map count_of views = ap (λ (e : DirectoryView). e.params) all ∙ counts_are p 0 decls in
     let among : is_among d.methods k ≡ true = (and_parts (is_among d.actors n.actor_name) (is_among d.methods k) n.declared).1 in
     let at_key : option_map key (slice_get views number) ≡ Some k =
     sym (slice_get-map key views number) ∙ ap (λ ks. slice_get ks number) (sym keys) ∙ ap (slice_get d.methods) n.method_is ∙ found_at d.methods k among in
@@ -201,7 +201,7 @@ roots_there decls ok x i =
     record { method = r.method; there = r.there; as_many = r.as_many }
 
 pub checked_calls : CheckedCalls
-checked_calls decls ok = subst (λ (p : Plan). CallsAreThere (compiled_by p (script_in decls))) (same_plan decls) (calls_there decls ok)
+checked_calls decls ok = subst (λ (p : PlanView). CallsAreThere (compiled_by p (script_in decls))) (same_plan decls) (calls_there decls ok)
 
 pub checked_roots : CheckedRoots
-checked_roots decls ok = subst (λ (p : Plan). RootsAreThere (compiled_by p (script_in decls))) (same_plan decls) (roots_there decls ok)
+checked_roots decls ok = subst (λ (p : PlanView). RootsAreThere (compiled_by p (script_in decls))) (same_plan decls) (roots_there decls ok)

@@ -3,7 +3,7 @@ use Rattle.std.proofs.Common.{◌≡◌, ℕ, suc, ◌+◌, Option, Some, List, 
 use Rattle.std.specs.Prelude.{◌==◌, if◌then◌else◌, All}
 use Rattle.std.proofs.lemmas.List.{length-map}
 use Rattle.script_grammar.specs.Tree.{ExecutorTree, ActorTree}
-use Rattle.script_lowering.specs.Plan.{Plan, executor_at}
+use Rattle.script_lowering.specs.Plan.{PlanView, executor_at}
 use denote.Bor.{Bor}
 use Rattle.script_code.specs.declared.formula.Formula.{Formula}
 use Rattle.script_code.specs.Tree.{Term, term_of, terms_of}
@@ -14,22 +14,22 @@ use Rattle.script_compiler.specs.Compiled.{ActorView, ExecutorView, members_from
 use Rattle.script_compiler.specs.IsCompiled.{actor_view, executor_view, HasInvariants}
 use Rattle.script_compiler.specs.Members.{members_below, executors_by}
 
-same_members : (p : Plan) (e k : ℕ) (ts : List ActorTree) → members_below p e k (length ts) ≡ members_from p e k ts
+same_members : (p : PlanView) (e k : ℕ) (ts : List ActorTree) → members_below p e k (length ts) ≡ members_from p e k ts
 same_members p e k [] = refl
 same_members p e k (t ∷ ts) = ap (λ (ms : List ℕ). if executor_at p k == e then k ∷ ms else ms) (same_members p e (suc k) ts)
 
-same_executors : (p : Plan) (ts : List ActorTree) (e : ℕ) (xs : List ExecutorTree) → executors_by p (length ts) e xs ≡ executors_from p ts e xs
+same_executors : (p : PlanView) (ts : List ActorTree) (e : ℕ) (xs : List ExecutorTree) → executors_by p (length ts) e xs ≡ executors_from p ts e xs
 same_executors p ts e [] = refl
 same_executors p ts e (x ∷ xs) =
     ap (λ (ms : List ℕ). record { name = x.name; kind = x.kind; actors = ms } ∷ executors_by p (length ts) (suc e) xs) (same_members p e 0 ts)
     ∙ ap (λ (vs : List ExecutorView). record { name = x.name; kind = x.kind; actors = members_from p e 0 ts } ∷ vs) (same_executors p ts (suc e) xs)
 
-as_many : (p : Plan) (k : ℕ) (ts : List ActorTree) → length (actors_from p k ts) ≡ length ts
+as_many : (p : PlanView) (k : ℕ) (ts : List ActorTree) → length (actors_from p k ts) ≡ length ts
 as_many p k [] = refl
 as_many p k (t ∷ ts) = ap suc (as_many p (suc k) ts)
 
 -- the executors of a script whose actors are these
-pub by_actors : (p : Plan) (some actors : List CompiledActor) (ts : List ActorTree) (xs : List ExecutorTree) (vs : List ExecutorView) → some ≡ actors → map actor_view actors ≡ actors_from p 0 ts
+pub by_actors : (p : PlanView) (some actors : List CompiledActor) (ts : List ActorTree) (xs : List ExecutorTree) (vs : List ExecutorView) → some ≡ actors → map actor_view actors ≡ actors_from p 0 ts
     → vs ≡ executors_by p (length some) 0 xs → vs ≡ executors_from p ts 0 xs
 by_actors p some actors ts xs vs same made is =
     let count : length actors ≡ length ts = sym (length-map actors actor_view) ∙ ap length made ∙ as_many p 0 ts in
@@ -38,17 +38,17 @@ by_actors p some actors ts xs vs same made is =
 more : (e n : ℕ) → suc e + n ≡ e + suc n
 more e n = omega arith
 
-executors_then : (p : Plan) (n e : ℕ) (xs ys : List ExecutorTree) → executors_by p n e (xs ++ ys) ≡ executors_by p n e xs ++ executors_by p n (e + length xs) ys
+executors_then : (p : PlanView) (n e : ℕ) (xs ys : List ExecutorTree) → executors_by p n e (xs ++ ys) ≡ executors_by p n e xs ++ executors_by p n (e + length xs) ys
 executors_then p n e [] ys = ap (λ k. executors_by p n k ys) (sym (add-zero e))
 executors_then p n e (x ∷ xs) ys =
     ap (λ (vs : List ExecutorView). record { name = x.name; kind = x.kind; actors = members_below p e 0 n } ∷ vs) (executors_then p n (suc e) xs ys ∙ ap (λ k. executors_by p n (suc e) xs ++ executors_by p n k ys) (more e (length xs)))
 
-length_executors : (p : Plan) (n e : ℕ) (xs : List ExecutorTree) → length (executors_by p n e xs) ≡ length xs
+length_executors : (p : PlanView) (n e : ℕ) (xs : List ExecutorTree) → length (executors_by p n e xs) ≡ length xs
 length_executors p n e [] = refl
 length_executors p n e (x ∷ xs) = ap suc (length_executors p n (suc e) xs)
 
 -- the declared ones, and then those that actors have of their own
-pub both_kinds : (p : Plan) (n : ℕ) (some all : List CompiledExecutor) (xs ys : List ExecutorTree) → map executor_view some ≡ executors_by p n 0 xs
+pub both_kinds : (p : PlanView) (n : ℕ) (some all : List CompiledExecutor) (xs ys : List ExecutorTree) → map executor_view some ≡ executors_by p n 0 xs
     → map executor_view all ≡ map executor_view some ++ executors_by p n (length some) ys
     → map executor_view all ≡ executors_by p n 0 (xs ++ ys)
 both_kinds p n some all xs ys first then_own =

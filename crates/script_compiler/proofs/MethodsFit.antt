@@ -4,25 +4,25 @@ use Rattle.std.specs.List.{AllByRecursion}
 use Rattle.script_grammar.specs.Tree.{MethodTree, DeclTree, Executes, Binds, Acts, Roots}
 use Rattle.script_names.specs.Rules.{names_error}
 use Rattle.script_printing.specs.Script.{script_in}
-use Rattle.script_lowering.specs.Plan.{Plan, plan_of}
-use Rattle.script_lowering.specs.Methods.{MethodFits, ScriptFits}
+use Rattle.script_lowering.specs.Plan.{PlanView, plan_of}
+use Rattle.script_lowering.specs.Methods.{CodeFits, ScriptFits}
 use Rattle.script_lowering.proofs.WholeScripts.{script_fits}
 use Rattle.script_compiler.specs.Compiled.{MethodView, method_of, methods_from, compiled_by}
 use Rattle.script_compiler.specs.Fits.{IsFitting, MethodsFit, CheckedMethods}
 use Rattle.script_compiler.proofs.Membership.{Has, has_cases, has_contained}
 use Rattle.script_compiler.proofs.ByKinds.{same_plan}
 
-method_fits : (p : Plan) (k : ℕ) (m : MethodTree) → MethodFits p k m → IsFitting (method_of p k m)
+method_fits : (p : PlanView) (k : ℕ) (m : MethodTree) → CodeFits p k m → IsFitting (method_of p k m)
 method_fits p k m f = record { places = f.places; handles = f.handles }
 
-methods_fit : (p : Plan) (k : ℕ) (ms : List MethodTree) → AllByRecursion (MethodFits p k) ms → (x : MethodView) → Has (map (method_of p k) ms) x → IsFitting x
+methods_fit : (p : PlanView) (k : ℕ) (ms : List MethodTree) → AllByRecursion (CodeFits p k) ms → (x : MethodView) → Has (map (method_of p k) ms) x → IsFitting x
 methods_fit p k [] f x i = absurd i
 methods_fit p k (m ∷ ms) f x i = elim i [
   | inl is ↦ subst IsFitting is (method_fits p k m f.0)
   | inr j ↦ methods_fit p k ms f.1 x j
 ]
 
-decls_fit : (p : Plan) (k : ℕ) (xs : List DeclTree) → ScriptFits p k xs → (x : MethodView) → Has (methods_from p k (script_in xs).actors) x → IsFitting x
+decls_fit : (p : PlanView) (k : ℕ) (xs : List DeclTree) → ScriptFits p k xs → (x : MethodView) → Has (methods_from p k (script_in xs).actors) x → IsFitting x
 decls_fit p k [] f x i = absurd i
 decls_fit p k (Executes e ∷ xs) f x i = decls_fit p k xs f x i
 decls_fit p k (Binds l ∷ xs) f x i = decls_fit p k xs f x i
@@ -36,4 +36,4 @@ fitting : (decls : List DeclTree) → names_error decls ≡ None → MethodsFit 
 fitting decls ok m i = decls_fit (plan_of decls) 0 decls (script_fits decls ok) m (has_contained _ m i)
 
 pub checked_methods : CheckedMethods
-checked_methods decls ok = subst (λ (p : Plan). MethodsFit (compiled_by p (script_in decls))) (same_plan decls) (fitting decls ok)
+checked_methods decls ok = subst (λ (p : PlanView). MethodsFit (compiled_by p (script_in decls))) (same_plan decls) (fitting decls ok)

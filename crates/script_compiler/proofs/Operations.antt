@@ -7,7 +7,7 @@ use Rattle.script_code.specs.Tree.{Term, Operation, Code, followed, end, act, ch
 use Rattle.script_code.specs.declared.instruction.Act.{Act}
 use Rattle.script_code.specs.declared.instruction.Act.TheVariants as acts
 use Rattle.script_code.specs.declared.instruction.Instruction.{Instruction}
-use Rattle.script_code.specs.Instructions.{ends, does, tests, first, first_by, first_if, Follows}
+use Rattle.script_code.specs.Instructions.{ends, does, tests, first, first_by, first_if, FollowsCode}
 use Rattle.script_code.specs.Layout.{entry, stands_for, code_written, exchanged, code_at}
 use Rattle.script_compiler.specs.Waiting.{operations_in}
 use Rattle.script_compiler.specs.Acts.{operation_of}
@@ -207,7 +207,7 @@ there_if at None d c e = absurd (not_ends d c e)
 there_if at (Some x) d c e = (x, refl, operation_done at x.act x.next x.other d c e)
 
 -- the operations of the instructions are those of the code
-pub along_in : (lines : List Instruction) (body : Code) → Follows lines body (code_at body) → (d : Operation) → Has (operations_along lines) d → Has (operations_in body) d
+pub along_in : (lines : List Instruction) (body : Code) → FollowsCode lines body (code_at body) → (d : Operation) → Has (operations_along lines) d → Has (operations_in body) d
 along_in lines body f d h =
     let at = code_at body in
     let l = line_of lines d h in
@@ -216,7 +216,7 @@ along_in lines body f d h =
     let r = begins_act (at l.number) d (at l.line.next) begins in
     at_stands body l.number d r.0 r.1
 
-pub in_along : (lines : List Instruction) (body : Code) → Follows lines body (code_at body) → (d : Operation) → Has (operations_in body) d → Has (operations_along lines) d
+pub in_along : (lines : List Instruction) (body : Code) → FollowsCode lines body (code_at body) → (d : Operation) → Has (operations_in body) d → Has (operations_along lines) d
 in_along lines body f d h =
     let at = code_at body in
     let s = stands_at body d h in

@@ -1,17 +1,17 @@
 -- A root as it is compiled.
 use Rattle.std.proofs.Common.{◌≡◌, ℕ, ℤ, List, ap, ◌∙◌}
 use Rattle.script_grammar.specs.Tree.{RootTree}
-use Rattle.script_names.specs.Directory.{Directory, method_place}
-use Rattle.script_lowering.specs.Plan.{Plan}
+use Rattle.script_names.specs.Directory.{DirectoryView, method_place}
+use Rattle.script_lowering.specs.Plan.{PlanView}
 use Rattle.script_compiler.specs.Compiled.{RootView, root_of}
 
-pub root_made : (p : Plan) (r : RootTree) (d : Directory) (actor method name : List ℕ) (args : List ℤ) (k : ℕ)
+pub root_made : (p : PlanView) (r : RootTree) (d : DirectoryView) (actor method name : List ℕ) (args : List ℤ) (k : ℕ)
     → d ≡ p.directory → actor ≡ r.actor → method ≡ r.method → k ≡ method_place d actor method → name ≡ r.name → args ≡ r.args
     → ◌≡◌ {A = RootView} (record { name = name; method = k; args = args; priority = r.priority }) (root_of p r)
 root_made p r d actor method name args k directory actors methods number named given =
     let place : k ≡ method_place p.directory r.actor r.method =
     number
-    ∙ ap (λ (x : Directory). method_place x actor method) directory
+    ∙ ap (λ (x : DirectoryView). method_place x actor method) directory
     ∙ ap (λ (x : List ℕ). method_place p.directory x method) actors
     ∙ ap (λ (x : List ℕ). method_place p.directory r.actor x) methods in
     ap (λ (x : List ℕ). record { name = x; method = k; args = args; priority = r.priority }) named

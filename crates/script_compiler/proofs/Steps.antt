@@ -8,7 +8,7 @@ use Rattle.swift_types.specs.declared.id.ActorId.{ActorId}
 use Rattle.script_grammar.specs.Tree.{MethodTree, DeclTree, Executes, Binds, Acts, Roots, view_method, view_decl}
 use Rattle.script_grammar.specs.declared.declaration.Method.{Method}
 use Rattle.script_grammar.specs.declared.declaration.Decl.{Decl}
-use Rattle.script_lowering.specs.Plan.{Plan, executor_at}
+use Rattle.script_lowering.specs.Plan.{PlanView, executor_at}
 use Rattle.script_printing.specs.Script.{script_in}
 use Rattle.script_compiler.specs.declared.compiled.CompiledMethod.{CompiledMethod}
 use Rattle.script_compiler.specs.Compiled.{MethodView, method_of, methods_from}
@@ -45,7 +45,7 @@ elsewhere false h = refl
 next_left : (n k : ℕ) → k < n → n - k ≡ suc (n - (k + 1))
 next_left n k lt = omega arith
 
-pub member_here : (p : Plan) (e k n : ℕ) (done more : List ActorId) (m : ActorId) (whole : List ℕ) → k < n → executor_at p k ≡ e → m.0 ≡ k → more ≡ done ++ m ∷ []
+pub member_here : (p : PlanView) (e k n : ℕ) (done more : List ActorId) (m : ActorId) (whole : List ℕ) → k < n → executor_at p k ≡ e → m.0 ≡ k → more ≡ done ++ m ∷ []
     → map actor_number done ++ members_below p e k (n - k) ≡ whole
     → map actor_number more ++ members_below p e (k + 1) (n - (k + 1)) ≡ whole
 member_here p e k n done more m whole lt on is pushed before =
@@ -56,7 +56,7 @@ member_here p e k n done more m whole lt on is pushed before =
     ∙ ap (λ i. k ∷ members_below p e i j) (sym (add-one k)) in
     one_more actor_number done more m k (members_below p e k (n - k)) (members_below p e (k + 1) j) whole pushed is here before
 
-pub member_not : (p : Plan) (e k n : ℕ) (done more : List ActorId) (whole : List ℕ) → k < n → (executor_at p k ≡ e → ⊥) → more ≡ done
+pub member_not : (p : PlanView) (e k n : ℕ) (done more : List ActorId) (whole : List ℕ) → k < n → (executor_at p k ≡ e → ⊥) → more ≡ done
     → map actor_number done ++ members_below p e k (n - k) ≡ whole
     → map actor_number more ++ members_below p e (k + 1) (n - (k + 1)) ≡ whole
 member_not p e k n done more whole lt off same before =
@@ -87,19 +87,19 @@ method_more f ms i m all more x done lt is pushed made before =
     (zip_push IsMethod all (done ++ so_far) x (f (view_method m)) before made))
 
 -- the methods of one declaration more
-next_methods : (p : Plan) (k : ℕ) (d : DeclTree) (ds : List DeclTree) → methods_from p k (script_in (d ∷ ds)).actors ≡ methods_here p k d ++ methods_from p (number_after k d) (script_in ds).actors
+next_methods : (p : PlanView) (k : ℕ) (d : DeclTree) (ds : List DeclTree) → methods_from p k (script_in (d ∷ ds)).actors ≡ methods_here p k d ++ methods_from p (number_after k d) (script_in ds).actors
 next_methods p k (Executes x) ds = refl
 next_methods p k (Binds l) ds = refl
 next_methods p k (Acts a) ds = ap (λ n. map (method_of p k) a.methods ++ methods_from p n (script_in ds).actors) (sym (add-one k))
 next_methods p k (Roots r) ds = refl
 
 -- So much is done: what is compiled, and with what is left it is the whole.
-pub record AreDone (p : Plan) (k : ℕ) (all : List CompiledMethod) (left : List Decl) (whole : List MethodView) : Type 0 where
+pub record AreDone (p : PlanView) (k : ℕ) (all : List CompiledMethod) (left : List Decl) (whole : List MethodView) : Type 0 where
   pub views : List MethodView
   pub compiled : AllZip IsMethod all views
   pub with_left : views ++ methods_from p k (script_in (map view_decl left)).actors ≡ whole
 
-pub decl_more : (p : Plan) (decls : List Decl) (i : ℕ) (d : Decl) (k next : ℕ) (all more : List CompiledMethod) (whole : List MethodView)
+pub decl_more : (p : PlanView) (decls : List Decl) (i : ℕ) (d : Decl) (k next : ℕ) (all more : List CompiledMethod) (whole : List MethodView)
     → i < length decls → d ≡ get_or decls i d
     → ((done : List MethodView) → AllZip IsMethod all done → AllZip IsMethod more (done ++ methods_here p k (view_decl d)))
     → next ≡ number_after k (view_decl d)

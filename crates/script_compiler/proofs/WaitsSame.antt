@@ -2,8 +2,8 @@
 use Rattle.std.proofs.Common.{◌≡◌, ℕ, suc, inl, inr, Option, Some, None, Result, Ok, Err, List, [], ◌∷◌, ◌++◌, refl, sym, ap, ◌∙◌, subst}
 use Rattle.std.specs.Prelude.{Contains, map, IfSome, IfNone, IfOk}
 use Rattle.std.specs.List.{AllZip, flat_map}
-use Rattle.script_waits.specs.declared.first.Edge.{Edge}
-use Rattle.script_waits.specs.declared.first.Wait.{Wait}
+use Rattle.script_waits.specs.declared.first.CallEdge.{CallEdge}
+use Rattle.script_waits.specs.declared.first.RootWait.{RootWait}
 use Rattle.script_waits.specs.Waits.{Leads, WaitsForLater, NoneBefore, NoneWaits}
 use Rattle.script_waits.specs.Waits.Leads.{here, on}
 use Rattle.script_code.specs.Tree.{Operation}
@@ -59,11 +59,11 @@ compiled_within made ms vs xs z e x c = contains_had (made_by made 0 vs) x (thro
 pub within_compiled : {A : Type 0} (made : ℕ → Operation → List A) (ms : List CompiledMethod) (vs : List MethodView) (xs : List A) → AllZip IsMethod ms vs → xs ≡ made_through made 0 ms → Within (made_by made 0 vs) xs
 within_compiled made ms vs xs z e x c = contains_had xs x (subst (λ ys. Has ys x) (sym e) (by_through made 0 ms vs z x (has_contained (made_by made 0 vs) x c)))
 
-leads_within : (es fs : List Edge) → Within es fs → {m n : ℕ} → Leads es m n → Leads fs m n
+leads_within : (es fs : List CallEdge) → Within es fs → {m n : ℕ} → Leads es m n → Leads fs m n
 leads_within es fs w here = here
 leads_within es fs w (on {m = m} {k = k} c l) = on (w (record { from = m; to = k }) c) (leads_within es fs w l)
 
-pub waits_within : (es fs : List Edge) (ws xs : List Wait) (roots : List ℕ) (place : ℕ) → Within es fs → Within ws xs → WaitsForLater es ws roots place → WaitsForLater fs xs roots place
+pub waits_within : (es fs : List CallEdge) (ws xs : List RootWait) (roots : List ℕ) (place : ℕ) → Within es fs → Within ws xs → WaitsForLater es ws roots place → WaitsForLater fs xs roots place
 waits_within es fs ws xs roots place we ww r = record {
   method = r.method;
   is = r.is;
@@ -75,28 +75,28 @@ waits_within es fs ws xs roots place we ww r = record {
 }
 
 -- The code's edges, waits and roots are those of the view.
-pub record AreSame (es fs : List Edge) (ws xs : List Wait) (rs qs : List ℕ) : Type 0 where
+pub record AreSame (es fs : List CallEdge) (ws xs : List RootWait) (rs qs : List ℕ) : Type 0 where
   pub edges_there : Within es fs
   pub edges_back : Within fs es
   pub waits_there : Within ws xs
   pub waits_back : Within xs ws
   pub roots : rs ≡ qs
 
-pub same_there : (es fs : List Edge) (ws xs : List Wait) (rs qs : List ℕ) (place : ℕ) → AreSame es fs ws xs rs qs → WaitsForLater es ws rs place → WaitsForLater fs xs qs place
+pub same_there : (es fs : List CallEdge) (ws xs : List RootWait) (rs qs : List ℕ) (place : ℕ) → AreSame es fs ws xs rs qs → WaitsForLater es ws rs place → WaitsForLater fs xs qs place
 same_there es fs ws xs rs qs place s w = subst (λ (ns : List ℕ). WaitsForLater fs xs ns place) s.roots (waits_within es fs ws xs rs place s.edges_there s.waits_there w)
 
-pub same_back : (es fs : List Edge) (ws xs : List Wait) (rs qs : List ℕ) (place : ℕ) → AreSame es fs ws xs rs qs → WaitsForLater fs xs qs place → WaitsForLater es ws rs place
+pub same_back : (es fs : List CallEdge) (ws xs : List RootWait) (rs qs : List ℕ) (place : ℕ) → AreSame es fs ws xs rs qs → WaitsForLater fs xs qs place → WaitsForLater es ws rs place
 same_back es fs ws xs rs qs place s w = subst (λ (ns : List ℕ). WaitsForLater es ws ns place) (sym s.roots) (waits_within fs es xs ws qs place s.edges_back s.waits_back w)
 
-pub same_found : (es fs : List Edge) (ws xs : List Wait) (rs qs : List ℕ) (o : Option ℕ) → AreSame es fs ws xs rs qs → IfSome o (WaitsForLater es ws rs) → IfSome o (WaitsForLater fs xs qs)
+pub same_found : (es fs : List CallEdge) (ws xs : List RootWait) (rs qs : List ℕ) (o : Option ℕ) → AreSame es fs ws xs rs qs → IfSome o (WaitsForLater es ws rs) → IfSome o (WaitsForLater fs xs qs)
 same_found es fs ws xs rs qs None s h = h
 same_found es fs ws xs rs qs (Some p) s h = same_there es fs ws xs rs qs p s h
 
-pub same_first : (es fs : List Edge) (ws xs : List Wait) (rs qs : List ℕ) (o : Option ℕ) → AreSame es fs ws xs rs qs → IfSome o (NoneBefore es ws rs) → IfSome o (NoneBefore fs xs qs)
+pub same_first : (es fs : List CallEdge) (ws xs : List RootWait) (rs qs : List ℕ) (o : Option ℕ) → AreSame es fs ws xs rs qs → IfSome o (NoneBefore es ws rs) → IfSome o (NoneBefore fs xs qs)
 same_first es fs ws xs rs qs None s h = h
 same_first es fs ws xs rs qs (Some p) s h = λ earlier lt w. h earlier lt (same_back es fs ws xs rs qs earlier s w)
 
-pub same_none : (es fs : List Edge) (ws xs : List Wait) (rs qs : List ℕ) (o : Option ℕ) → AreSame es fs ws xs rs qs → IfNone o (NoneWaits es ws rs) → IfNone o (NoneWaits fs xs qs)
+pub same_none : (es fs : List CallEdge) (ws xs : List RootWait) (rs qs : List ℕ) (o : Option ℕ) → AreSame es fs ws xs rs qs → IfNone o (NoneWaits es ws rs) → IfNone o (NoneWaits fs xs qs)
 same_none es fs ws xs rs qs None s h = λ place w. h place (same_back es fs ws xs rs qs place s w)
 same_none es fs ws xs rs qs (Some p) s h = h
 
@@ -105,7 +105,7 @@ ok_then (Ok x) P Q h f = f x h
 ok_then (Err e) P Q h f = h
 
 -- what a search was given, by way of slices
-pub same_as_view : (c : Compiled) (ms : List CompiledMethod) (roots : List CompiledRoot) (es es' : List Edge) (ws ws' : List Wait) (rs rs' : List ℕ)
+pub same_as_view : (c : Compiled) (ms : List CompiledMethod) (roots : List CompiledRoot) (es es' : List CallEdge) (ws ws' : List RootWait) (rs rs' : List ℕ)
     → ms ≡ c.methods.items → roots ≡ c.roots.items
     → es' ≡ es → es ≡ made_through edges_made 0 ms
     → ws' ≡ ws → ws ≡ made_through waits_made 0 ms

@@ -2,18 +2,19 @@
 -- executors by SE-0392.)
 use Rattle.std.specs.Prelude.{ℕ, suc, ◌==◌, ℤ, Option, Some, None, List, [], ◌∷◌, ◌++◌, length, map, slice_get, if◌then◌else◌}
 use Rattle.swift_types.specs.declared.priority.Priority.{Priority}
-use Rattle.script_grammar.specs.declared.declaration.ExecutorKind.{ExecutorKind}
-use Rattle.script_grammar.specs.declared.declaration.ExecutorKind.TheVariants as kind
+use Rattle.swift_types.specs.declared.executor_kind.ExecutorKind.{ExecutorKind}
+use Rattle.swift_types.specs.declared.executor_kind.ExecutorKind.TheVariants as kind
 use Rattle.script_grammar.specs.Tree.{ExecutorTree, LocalTree, FieldTree, MethodTree, ActorTree, RootTree, block_tree}
 use Rattle.script_names.specs.Directory.{method_place}
-use Rattle.script_names.specs.Scope.{Scope, fields_alone}
+use Rattle.script_names.specs.Scope.{ScopeView, fields_alone}
 use Rattle.script_names.specs.Rules.{with_parameters}
 use Rattle.script_code.specs.Tree.{Term, Code}
-use Rattle.script_lowering.specs.Plan.{Plan, plan_of, executor_at}
+use Rattle.script_lowering.specs.Plan.{PlanView, plan_of, executor_at}
 use Rattle.script_lowering.specs.Lowered.{lowered_if, block_code}
 use Rattle.script_lowering.specs.Counts.{counts_of, most_of}
-use Rattle.script_lowering.specs.declared.counts.Counts.{Counts}
-use Rattle.script_printing.specs.Script.{ScriptTree, declarations_of}
+use Rattle.script_lowering.specs.declared.counts.PlaceCounts.{PlaceCounts}
+use Rattle.script_printing.specs.Script.{ScriptView, declarations_of}
+use Rattle.script_lowering.specs.Methods.{method_scope, places_in}
 
 -- An executor has a name, a kind, and the numbers of its actors, in text order.
 pub record ExecutorView : Type 0 where
@@ -55,15 +56,15 @@ pub record CompiledView : Type 0 where
   pub roots : List RootView
 
 -- the plan of a script
-abbrev pub plan_in : ScriptTree → Plan
+abbrev pub plan_in : ScriptView → PlanView
 plan_in tree = plan_of (declarations_of tree)
 
 -- the numbers, from k on, of the actors that run on an executor
-abbrev pub members_from : Plan → ℕ → ℕ → List ActorTree → List ℕ
+abbrev pub members_from : PlanView → ℕ → ℕ → List ActorTree → List ℕ
 members_from p e k [] = []
 members_from p e k (a ∷ others) = if executor_at p k == e then k ∷ members_from p e (suc k) others else members_from p e (suc k) others
 
-abbrev pub members_of : Plan → ℕ → List ActorTree → List ℕ
+abbrev pub members_of : PlanView → ℕ → List ActorTree → List ℕ
 members_of p e actors = members_from p e 0 actors
 
 -- an actor's own executor, if it names none
@@ -77,46 +78,38 @@ own_executors [] = []
 own_executors (a ∷ others) = own_executor a a.executor ++ own_executors others
 
 -- executors from number e on
-abbrev pub executors_from : Plan → List ActorTree → ℕ → List ExecutorTree → List ExecutorView
+abbrev pub executors_from : PlanView → List ActorTree → ℕ → List ExecutorTree → List ExecutorView
 executors_from p actors e [] = []
 executors_from p actors e (x ∷ xs) = record { name = x.name; kind = x.kind; actors = members_of p e actors } ∷ executors_from p actors (suc e) xs
 
 -- the actor with number k
-abbrev pub actor_of : Plan → ℕ → ActorTree → ActorView
+abbrev pub actor_of : PlanView → ℕ → ActorTree → ActorView
 actor_of p k a = record { name = a.name; executor = executor_at p k; fields = a.fields; invariant = lowered_if p (fields_alone p.directory k) a.invariant }
 
 -- actors from number k on
-abbrev pub actors_from : Plan → ℕ → List ActorTree → List ActorView
+abbrev pub actors_from : PlanView → ℕ → List ActorTree → List ActorView
 actors_from p k [] = []
 actors_from p k (a ∷ others) = actor_of p k a ∷ actors_from p (suc k) others
 
--- what stands at the beginning of a method of the actor at a place
-abbrev pub method_scope : Plan → ℕ → MethodTree → Scope
-method_scope p k m = with_parameters (fields_alone p.directory k) m.params
-
--- how many numbers and handles stand at most in a method
-abbrev pub places_of : Scope → MethodTree → Counts
-places_of s m = most_of (counts_of s.kinds) (block_tree m.body)
-
-abbrev pub method_of : Plan → ℕ → MethodTree → MethodView
+abbrev pub method_of : PlanView → ℕ → MethodTree → MethodView
 method_of p k m = record {
   name = m.name;
   actor = k;
   params = length m.params;
-  numbers = (places_of (method_scope p k m) m).numbers;
-  handles = (places_of (method_scope p k m) m).handles;
+  numbers = (places_in (method_scope p k m) m).numbers;
+  handles = (places_in (method_scope p k m) m).handles;
   code = block_code p (method_scope p k m) (block_tree m.body);
 }
 
 -- the methods of actors from number k on
-abbrev pub methods_from : Plan → ℕ → List ActorTree → List MethodView
+abbrev pub methods_from : PlanView → ℕ → List ActorTree → List MethodView
 methods_from p k [] = []
 methods_from p k (a ∷ others) = map (method_of p k) a.methods ++ methods_from p (suc k) others
 
-abbrev pub root_of : Plan → RootTree → RootView
+abbrev pub root_of : PlanView → RootTree → RootView
 root_of p r = record { name = r.name; method = method_place p.directory r.actor r.method; args = r.args; priority = r.priority }
 
-abbrev pub compiled_by : Plan → ScriptTree → CompiledView
+abbrev pub compiled_by : PlanView → ScriptView → CompiledView
 compiled_by p tree = record {
   executors = executors_from p tree.actors 0 (tree.executors ++ own_executors tree.actors);
   locals = tree.locals;
@@ -126,7 +119,7 @@ compiled_by p tree = record {
 }
 
 -- what a script is compiled to
-abbrev pub compiled_of : ScriptTree → CompiledView
+abbrev pub compiled_of : ScriptView → CompiledView
 compiled_of tree = compiled_by (plan_in tree) tree
 
 -- the numbers of an executor's actors, if there is one

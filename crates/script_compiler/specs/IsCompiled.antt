@@ -5,7 +5,7 @@ use Rattle.std.specs.List.{AllZip}
 use Rattle.swift_types.specs.declared.id.ActorId.{ActorId}
 use Rattle.script_grammar.specs.Tree.{LocalTree, FieldTree}
 use Rattle.script_code.specs.Tree.{terms_of, term_if}
-use Rattle.script_code.specs.Instructions.{Follows}
+use Rattle.script_code.specs.Instructions.{FollowsCode}
 use Rattle.script_code.specs.Layout.{code_at}
 use Rattle.script_compiler.specs.declared.compiled.CompiledExecutor.{CompiledExecutor}
 use Rattle.script_compiler.specs.declared.compiled.CompiledLocal.{CompiledLocal}
@@ -42,7 +42,7 @@ pub record IsMethod (m : CompiledMethod) (v : MethodView) : Type 0 where
   pub params : m.params ≡ v.params
   pub numbers : m.numbers ≡ v.numbers
   pub handles : m.handles ≡ v.handles
-  pub stands : Follows m.instructions.items v.code (code_at v.code)
+  pub stands : FollowsCode m.instructions.items v.code (code_at v.code)
 
 -- An executor has the invariants of its actors.
 abbrev pub HasInvariants : List ActorView → CompiledExecutor → Type 0

@@ -2,21 +2,21 @@
 -- name these.
 use Rattle.std.specs.Prelude.{ℕ, zero, suc, ◌+◌, ◌==◌, List, map, [], ◌∷◌, if◌then◌else◌}
 use Rattle.script_grammar.specs.Tree.{ExecutorTree, DeclTree, Acts}
-use Rattle.script_lowering.specs.Plan.{Plan, executor_at}
+use Rattle.script_lowering.specs.Plan.{PlanView, executor_at}
 use Rattle.script_compiler.specs.Compiled.{ExecutorView, MethodView, method_of}
 
 -- of so many actors from number k on, the numbers of those that run on an executor
-abbrev pub members_below : Plan → ℕ → ℕ → ℕ → List ℕ
+abbrev pub members_below : PlanView → ℕ → ℕ → ℕ → List ℕ
 members_below p e k zero = []
 members_below p e k (suc n) = if executor_at p k == e then k ∷ members_below p e (suc k) n else members_below p e (suc k) n
 
 -- executors from number e on, where there are so many actors
-abbrev pub executors_by : Plan → ℕ → ℕ → List ExecutorTree → List ExecutorView
+abbrev pub executors_by : PlanView → ℕ → ℕ → List ExecutorTree → List ExecutorView
 executors_by p n e [] = []
 executors_by p n e (x ∷ xs) = record { name = x.name; kind = x.kind; actors = members_below p e 0 n } ∷ executors_by p n (suc e) xs
 
 -- the methods of a declaration, where the next actor has this number
-abbrev pub methods_here : Plan → ℕ → DeclTree → List MethodView
+abbrev pub methods_here : PlanView → ℕ → DeclTree → List MethodView
 methods_here p k (Acts a) = map (method_of p k) a.methods
 methods_here p k _ = []
 

@@ -2,8 +2,8 @@
 -- reached or not. (Own.)
 use Rattle.std.specs.Prelude.{ℕ, suc, Option, Some, None, List, [], ◌∷◌, ◌++◌, map}
 use Rattle.std.specs.List.{flat_map}
-use Rattle.script_waits.specs.declared.first.Edge.{Edge}
-use Rattle.script_waits.specs.declared.first.Wait.{Wait}
+use Rattle.script_waits.specs.declared.first.CallEdge.{CallEdge}
+use Rattle.script_waits.specs.declared.first.RootWait.{RootWait}
 use Rattle.script_code.specs.Tree as code
 use Rattle.script_code.specs.Tree.{Wanted, Operation, Code, end, act, choice, loop}
 use Rattle.script_compiler.specs.Compiled.{MethodView, CompiledView}
@@ -39,20 +39,20 @@ root_awaited (code.wait w) = root_wanted w
 root_awaited _ = None
 
 -- the edge from a method to that one, if there is one
-abbrev pub edge_to : ℕ → Option ℕ → List Edge
+abbrev pub edge_to : ℕ → Option ℕ → List CallEdge
 edge_to m None = []
 edge_to m (Some k) = record { from = m; to = k } ∷ []
 
 -- the wait of a method for that root, if there is one
-abbrev pub wait_for : ℕ → Option ℕ → List Wait
+abbrev pub wait_for : ℕ → Option ℕ → List RootWait
 wait_for m None = []
 wait_for m (Some r) = record { method = m; root = r } ∷ []
 
 -- the edges that an operation of a method makes, and the waits
-abbrev pub edges_made : ℕ → Operation → List Edge
+abbrev pub edges_made : ℕ → Operation → List CallEdge
 edges_made m d = edge_to m (method_called d)
 
-abbrev pub waits_made : ℕ → Operation → List Wait
+abbrev pub waits_made : ℕ → Operation → List RootWait
 waits_made m d = wait_for m (root_awaited d)
 
 -- what each operation makes of methods from number m on
@@ -60,10 +60,10 @@ abbrev pub made_by : {A : Type 0} → (ℕ → Operation → List A) → ℕ →
 made_by made m [] = []
 made_by made m (x ∷ others) = flat_map (made m) (operations_in x.code) ++ made_by made (suc m) others
 
-abbrev pub edges_of : CompiledView → List Edge
+abbrev pub edges_of : CompiledView → List CallEdge
 edges_of c = made_by edges_made 0 c.methods
 
-abbrev pub waits_of : CompiledView → List Wait
+abbrev pub waits_of : CompiledView → List RootWait
 waits_of c = made_by waits_made 0 c.methods
 
 -- the method of each root

@@ -1,8 +1,7 @@
 //! What a script is compiled to.
 
 use script_code::{Formula, Instruction};
-use script_grammar::ExecutorKind;
-use swift_types::{ActorId, ExecId, MethodId, Priority};
+use swift_types::{ActorId, ExecId, ExecutorKind, MethodId, Priority};
 
 /// A serial executor (SE-0392).
 #[derive(Drop)]

@@ -7,7 +7,7 @@ use script_code::Formula;
 use std::alloc::{AllocError, Global};
 
 /// A second formula that says the same, in time and memory linear in it.
-pub(crate) fn copied(alloc: Global, formula: &Formula) -> Result<Formula, AllocError>
+pub(crate) fn copy_formula(alloc: Global, formula: &Formula) -> Result<Formula, AllocError>
     ensures { IfOk result (λ f. term_of f ≡ term_of formula.now) }
 {
     match formula {
@@ -18,16 +18,16 @@ pub(crate) fn copied(alloc: Global, formula: &Formula) -> Result<Formula, AllocE
         Formula::Priority => Ok(Formula::Priority),
         Formula::Cancelled => Ok(Formula::Cancelled),
         Formula::Negate(operand) => {
-            let operand = copied(alloc, operand)?;
+            let operand = copy_formula(alloc, operand)?;
             Ok(Formula::Negate(Box::new(alloc, operand)?))
         }
         Formula::Not(operand) => {
-            let operand = copied(alloc, operand)?;
+            let operand = copy_formula(alloc, operand)?;
             Ok(Formula::Not(Box::new(alloc, operand)?))
         }
         Formula::Binary(operator, left, right) => {
-            let left = copied(alloc, left)?;
-            let right = copied(alloc, right)?;
+            let left = copy_formula(alloc, left)?;
+            let right = copy_formula(alloc, right)?;
             Ok(Formula::Binary(*operator, Box::new(alloc, left)?, Box::new(alloc, right)?))
         }
     }

@@ -10,13 +10,13 @@ ghost use Rattle.script_compiler.specs.IsCompiled.{actor_number, actor_view, exe
 ghost use Rattle.script_compiler.specs.Members.{members_below, executors_by};
 
 use crate::compiled::{CompiledActor, CompiledExecutor};
-use crate::copy::copied;
+use crate::copy::copy_formula;
 use crate::number::to_u32;
 use script_code::Formula;
-use script_grammar::{Decl, ExecutorKind};
+use script_grammar::Decl;
 use script_lowering::Plan;
 use std::alloc::{AllocError, Global};
-use swift_types::ActorId;
+use swift_types::{ActorId, ExecutorKind};
 
 // The actors of an executor, of so many actors.
 fn members(
@@ -57,7 +57,7 @@ fn add_copy(
     let Some(formula) = formula else {
         return Ok(());
     };
-    all.push(copied(alloc, formula)?)?;
+    all.push(copy_formula(alloc, formula)?)?;
     Ok(())
 }
 
@@ -116,7 +116,7 @@ fn add(
     Ok(())
 }
 
-fn declared(
+fn compile_declared(
     alloc: Global,
     plan: &Plan,
     actors: &[CompiledActor],
@@ -186,7 +186,7 @@ pub(crate) fn compile_executors(
         IfOk result (λ v. map executor_view v.items ≡ executors_by plan.now (length actors.now) 0 (script.executors ++ own_executors script.actors)) }
     ensures invariants { IfOk result (λ v. All (HasInvariants (map actor_view actors.now)) v.items) }
 {
-    let mut all = declared(alloc, plan, actors, decls)?;
+    let mut all = compile_declared(alloc, plan, actors, decls)?;
     add_own(alloc, plan, actors, decls, &mut all)?;
     Ok(all)
 }

@@ -10,32 +10,32 @@ ghost use Rattle.script_compiler.specs.Acts.{operation_of, made_if, made_along, 
 
 use crate::compiled::{Compiled, CompiledMethod, CompiledRoot};
 use crate::number::to_u32;
-use script_code::{Act, Awaited, Instruction};
-use script_waits::{Edge, Wait, first_waiting};
+use script_code::{Act, CompiledAwait, Instruction};
+use script_waits::{CallEdge, RootWait, first_waiting};
 use std::alloc::{AllocError, Global};
 
 // What the methods call and wait for.
 #[derive(Drop)]
-struct Named {
-    edges: Vec<Edge>,
-    waits: Vec<Wait>,
+struct CallsAndWaits {
+    edges: Vec<CallEdge>,
+    waits: Vec<RootWait>,
 }
 
-fn method_wanted(awaited: &Awaited) -> Option<u32>
+fn method_wanted(awaited: &CompiledAwait) -> Option<u32>
     ensures { result ≡ method_wanted (wanted_of awaited.now) }
 {
     match awaited {
-        Awaited::Call(call) => Some(call.method.0),
-        Awaited::Root(_) | Awaited::Task(_) | Awaited::Next(_) => None,
+        CompiledAwait::Call(call) => Some(call.method.0),
+        CompiledAwait::Root(_) | CompiledAwait::Task(_) | CompiledAwait::Next(_) => None,
     }
 }
 
-fn root_wanted(awaited: &Awaited) -> Option<u32>
+fn root_wanted(awaited: &CompiledAwait) -> Option<u32>
     ensures { result ≡ root_wanted (wanted_of awaited.now) }
 {
     match awaited {
-        Awaited::Root(root) => Some(root.0),
-        Awaited::Call(_) | Awaited::Task(_) | Awaited::Next(_) => None,
+        CompiledAwait::Root(root) => Some(root.0),
+        CompiledAwait::Call(_) | CompiledAwait::Task(_) | CompiledAwait::Next(_) => None,
     }
 }
 
@@ -62,27 +62,27 @@ fn root_awaited(act: &Act) -> Option<u32>
     }
 }
 
-fn add_edge(edges: &mut Vec<Edge>, from: u32, to: Option<u32>) -> Result<(), AllocError>
+fn add_edge(edges: &mut Vec<CallEdge>, from: u32, to: Option<u32>) -> Result<(), AllocError>
     ensures { OnOk result (edges.new.items ≡ edges.old.items ++ edge_to from to) }
 {
     if let Some(to) = to {
-        edges.push(Edge { from, to })?;
+        edges.push(CallEdge { from, to })?;
     }
     Ok(())
 }
 
-fn add_wait(waits: &mut Vec<Wait>, method: u32, root: Option<u32>) -> Result<(), AllocError>
+fn add_wait(waits: &mut Vec<RootWait>, method: u32, root: Option<u32>) -> Result<(), AllocError>
     ensures { OnOk result (waits.new.items ≡ waits.old.items ++ wait_for method root) }
 {
     if let Some(root) = root {
-        waits.push(Wait { method, root })?;
+        waits.push(RootWait { method, root })?;
     }
     Ok(())
 }
 
 // What one method calls and waits for, after those before it.
 fn add_method(
-    named: &mut Named,
+    named: &mut CallsAndWaits,
     method: u32,
     instructions: &[Instruction],
 ) -> Result<(), AllocError>
@@ -96,11 +96,11 @@ fn add_method(
     Ok(())
 }
 
-fn named_by(alloc: Global, methods: &[CompiledMethod]) -> Result<Named, AllocError>
+fn named_by(alloc: Global, methods: &[CompiledMethod]) -> Result<CallsAndWaits, AllocError>
     ensures edges { IfOk result (λ n. n.edges.items ≡ made_through edges_made 0 methods.now) }
     ensures waits { IfOk result (λ n. n.waits.items ≡ made_through waits_made 0 methods.now) }
 {
-    let mut named = Named {
+    let mut named = CallsAndWaits {
         edges: Vec::new(alloc),
         waits: Vec::new(alloc),
     };
@@ -121,7 +121,7 @@ fn methods_of(alloc: Global, roots: &[CompiledRoot]) -> Result<Vec<u32>, AllocEr
 }
 
 // A count that is past each method of some edges.
-fn past_edges(edges: &[Edge], least: usize) -> usize
+fn past_edges(edges: &[CallEdge], least: usize) -> usize
     ensures least { least ≤ result }
     ensures from { All (λ e. e.from < result) edges.now }
     ensures to { All (λ e. e.to < result) edges.now }
@@ -135,7 +135,7 @@ fn past_edges(edges: &[Edge], least: usize) -> usize
 }
 
 // The same for waits.
-fn past_waits(waits: &[Wait], least: usize) -> usize
+fn past_waits(waits: &[RootWait], least: usize) -> usize
     ensures least { least ≤ result }
     ensures method { All (λ w. w.method < result) waits.now }
 {

@@ -22,7 +22,7 @@ use Rattle.script_grammar.specs.declared.statement.Stmt.{Stmt}
 use Rattle.script_grammar.specs.declared.statement.Stmt.TheOpen.{Stmt-F}
 use Rattle.script_grammar.specs.declared.statement.Stmt.TheOpen as stmt
 use Rattle.script_grammar.specs.declared.statement.Stmt.TheFolds.{fold-Stmt}
-use Rattle.script_grammar.specs.declared.declaration.ExecutorKind.{ExecutorKind}
+use Rattle.swift_types.specs.declared.executor_kind.ExecutorKind.{ExecutorKind}
 use Rattle.script_grammar.specs.declared.declaration.Executor.{Executor}
 use Rattle.script_grammar.specs.declared.declaration.Local.{Local as LocalDecl}
 use Rattle.script_grammar.specs.declared.declaration.Field.{Field}

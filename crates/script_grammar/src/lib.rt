@@ -12,7 +12,7 @@ mod region;
 // Statements and blocks.
 mod statement;
 
-pub use declaration::{Actor, Decl, Executor, ExecutorKind, Field, Local, Method, Root};
+pub use declaration::{Actor, Decl, Executor, Field, Local, Method, Root};
 pub use expression::{Awaited, Call, Expr, Name, Value, Wait};
 pub use region::{Atoms, Region};
 pub use statement::{Action, Add, Head, Make, Stmt};

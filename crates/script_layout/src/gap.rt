@@ -1,6 +1,6 @@
 //! What stands between two tokens.
 
-use crate::part::Part;
+use crate::part::LayoutPart;
 
 /// What stands between two tokens.
 #[derive(Clone, Copy)]
@@ -14,28 +14,32 @@ pub(crate) enum Gap {
 }
 
 /// What stands before a token in so many blocks, by what is before it.
-pub(crate) fn gap_before(before: Part, part: Part, depth: usize) -> Gap {
+pub(crate) fn gap_before(before: LayoutPart, part: LayoutPart, depth: usize) -> Gap {
     match part {
-        Part::Open | Part::Close | Part::Semicolon | Part::Comma | Part::Dot => Gap::Nothing,
-        Part::CloseBrace => match before {
-            Part::OpenBrace => Gap::Space,
+        LayoutPart::Open
+        | LayoutPart::Close
+        | LayoutPart::Semicolon
+        | LayoutPart::Comma
+        | LayoutPart::Dot => Gap::Nothing,
+        LayoutPart::CloseBrace => match before {
+            LayoutPart::OpenBrace => Gap::Space,
             _ => Gap::Line,
         },
-        Part::Else => Gap::Space,
+        LayoutPart::Else => Gap::Space,
         _ => gap_after(before, part, depth),
     }
 }
 
 // What stands before a token that is no sign of its own, by what is before it.
-fn gap_after(before: Part, part: Part, depth: usize) -> Gap {
-    let is_apart = matches!(part, Part::Head);
+fn gap_after(before: LayoutPart, part: LayoutPart, depth: usize) -> Gap {
+    let is_apart = matches!(part, LayoutPart::Head);
     match before {
-        Part::Open | Part::Round | Part::Dot | Part::Prefix => Gap::Nothing,
-        Part::OpenBrace => Gap::Line,
-        Part::Semicolon if is_apart => Gap::EmptyLine,
-        Part::Semicolon => Gap::Line,
-        Part::CloseBrace if is_apart || depth == 0 => Gap::EmptyLine,
-        Part::CloseBrace => Gap::Line,
+        LayoutPart::Open | LayoutPart::Round | LayoutPart::Dot | LayoutPart::Prefix => Gap::Nothing,
+        LayoutPart::OpenBrace => Gap::Line,
+        LayoutPart::Semicolon if is_apart => Gap::EmptyLine,
+        LayoutPart::Semicolon => Gap::Line,
+        LayoutPart::CloseBrace if is_apart || depth == 0 => Gap::EmptyLine,
+        LayoutPart::CloseBrace => Gap::Line,
         _ => Gap::Space,
     }
 }

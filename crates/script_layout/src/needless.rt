@@ -1,14 +1,14 @@
 //! Parentheses that say nothing.
 
-use crate::part::{Part, part_at};
+use crate::part::{LayoutPart, part_at};
 use script_tokens::{Mark, Token};
 use std::alloc::{AllocError, Global};
 
 // How tightly an operator binds: 1 to 5 for those between two operands, 6 for `-` and `!` in front of one, 0 for no operator.
-fn binding(part: Part, mark: Mark) -> u32 {
+fn binding(part: LayoutPart, mark: Mark) -> u32 {
     match part {
-        Part::Prefix => 6,
-        Part::Infix => infix_binding(mark),
+        LayoutPart::Prefix => 6,
+        LayoutPart::Infix => infix_binding(mark),
         _ => 0,
     }
 }
@@ -70,10 +70,10 @@ struct Parentheses {
 
 impl Parentheses {
     // Goes past the token at a place.
-    fn pass(&mut self, tokens: &[Token], place: usize, part: Part) -> Result<(), AllocError> {
+    fn pass(&mut self, tokens: &[Token], place: usize, part: LayoutPart) -> Result<(), AllocError> {
         match part {
-            Part::Round | Part::Open => {
-                let is_round = matches!(part, Part::Round);
+            LayoutPart::Round | LayoutPart::Open => {
+                let is_round = matches!(part, LayoutPart::Round);
                 self.opened.push(Opened {
                     place,
                     is_round,
@@ -81,8 +81,8 @@ impl Parentheses {
                 })?;
                 Ok(())
             }
-            Part::Prefix | Part::Infix => self.pass_operator(tokens, place, part),
-            Part::Close => self.close(tokens, place),
+            LayoutPart::Prefix | LayoutPart::Infix => self.pass_operator(tokens, place, part),
+            LayoutPart::Close => self.close(tokens, place),
             _ => Ok(()),
         }
     }
@@ -92,7 +92,7 @@ impl Parentheses {
         &mut self,
         tokens: &[Token],
         place: usize,
-        part: Part,
+        part: LayoutPart,
     ) -> Result<(), AllocError> {
         let Some(Token::Sign(mark)) = tokens.get(place) else {
             return Ok(());

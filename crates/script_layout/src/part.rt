@@ -4,7 +4,7 @@ use script_tokens::{Keyword, Mark, Token};
 
 /// What a token is to the layout.
 #[derive(Clone, Copy)]
-pub(crate) enum Part {
+pub(crate) enum LayoutPart {
     /// A name, a number or a keyword.
     Word,
     /// The keyword that an actor or a method begins with.
@@ -34,11 +34,11 @@ pub(crate) enum Part {
 }
 
 // What a keyword is to the layout.
-fn part_of_keyword(keyword: Keyword) -> Part {
+fn part_of_keyword(keyword: Keyword) -> LayoutPart {
     match keyword {
-        Keyword::Actor | Keyword::Func => Part::Head,
-        Keyword::Else => Part::Else,
-        _ => Part::Word,
+        Keyword::Actor | Keyword::Func => LayoutPart::Head,
+        Keyword::Else => LayoutPart::Else,
+        _ => LayoutPart::Word,
     }
 }
 
@@ -53,26 +53,26 @@ fn begins(before: &Token) -> bool {
 }
 
 // What a mark is to the layout, by the token before it.
-fn part_of_mark(before: &Token, mark: Mark) -> Part {
+fn part_of_mark(before: &Token, mark: Mark) -> LayoutPart {
     match mark {
-        Mark::Open if matches!(before, Token::Name(_)) => Part::Open,
-        Mark::Open => Part::Round,
-        Mark::Close => Part::Close,
-        Mark::OpenBrace => Part::OpenBrace,
-        Mark::CloseBrace => Part::CloseBrace,
-        Mark::Semicolon => Part::Semicolon,
-        Mark::Comma => Part::Comma,
-        Mark::Dot => Part::Dot,
-        Mark::At | Mark::Bang => Part::Prefix,
-        Mark::Minus if begins(before) => Part::Prefix,
-        _ => Part::Infix,
+        Mark::Open if matches!(before, Token::Name(_)) => LayoutPart::Open,
+        Mark::Open => LayoutPart::Round,
+        Mark::Close => LayoutPart::Close,
+        Mark::OpenBrace => LayoutPart::OpenBrace,
+        Mark::CloseBrace => LayoutPart::CloseBrace,
+        Mark::Semicolon => LayoutPart::Semicolon,
+        Mark::Comma => LayoutPart::Comma,
+        Mark::Dot => LayoutPart::Dot,
+        Mark::At | Mark::Bang => LayoutPart::Prefix,
+        Mark::Minus if begins(before) => LayoutPart::Prefix,
+        _ => LayoutPart::Infix,
     }
 }
 
 /// What the token at a place is to the layout.
-pub(crate) fn part_at(tokens: &[Token], place: usize) -> Part {
+pub(crate) fn part_at(tokens: &[Token], place: usize) -> LayoutPart {
     let Some(token) = tokens.get(place) else {
-        return Part::Word;
+        return LayoutPart::Word;
     };
     if place == 0 {
         return part_of(&Token::Stray, token);
@@ -81,10 +81,10 @@ pub(crate) fn part_at(tokens: &[Token], place: usize) -> Part {
 }
 
 // What a token is to the layout, by the token before it.
-fn part_of(before: &Token, token: &Token) -> Part {
+fn part_of(before: &Token, token: &Token) -> LayoutPart {
     match token {
         Token::Key(keyword) => part_of_keyword(*keyword),
         Token::Sign(mark) => part_of_mark(before, *mark),
-        _ => Part::Word,
+        _ => LayoutPart::Word,
     }
 }

@@ -8,37 +8,37 @@ ghost use Rattle.script_layout.specs.Layouts.{LaysOut, token_text};
 
 use crate::gap::{Gap, gap_before};
 use crate::needless::needless;
-use crate::part::{Part, part_at};
+use crate::part::{LayoutPart, part_at};
 use script_tokens::{Mark, Token};
 use std::alloc::{AllocError, Global};
 
 // In how many blocks a token stands, by that of the token before it.
-fn depth_before(part: Part, depth: usize) -> usize {
+fn depth_before(part: LayoutPart, depth: usize) -> usize {
     match part {
-        Part::CloseBrace => depth.saturating_sub(1),
+        LayoutPart::CloseBrace => depth.saturating_sub(1),
         _ => depth,
     }
 }
 
 // In how many blocks what follows a token stands.
-fn depth_after(part: Part, depth: usize) -> usize {
+fn depth_after(part: LayoutPart, depth: usize) -> usize {
     match part {
-        Part::OpenBrace => depth.saturating_add(1),
+        LayoutPart::OpenBrace => depth.saturating_add(1),
         _ => depth,
     }
 }
 
 // A text that is written.
 #[derive(Drop)]
-struct Written {
+struct WrittenLayout {
     text: Vec<u8>,
     // In how many blocks what comes next stands.
     depth: usize,
     // What was written last.
-    last: Part,
+    last: LayoutPart,
 }
 
-impl Written {
+impl WrittenLayout {
     // Begins a line.
     fn line(&mut self) -> Result<(), AllocError>
         ensures { (ts : List Token) → LaysOut ts self.old.text.items → OnOk result (LaysOut ts self.new.text.items) }
@@ -68,7 +68,7 @@ impl Written {
     }
 
     // Puts what stands before a token after the others.
-    fn begin(&mut self, part: Part) -> Result<(), AllocError>
+    fn begin(&mut self, part: LayoutPart) -> Result<(), AllocError>
         ensures { (ts : List Token) → LaysOut ts self.old.text.items → OnOk result (LaysOut ts self.new.text.items) }
     {
         self.depth = depth_before(part, self.depth);
@@ -79,7 +79,7 @@ impl Written {
     }
 
     // Puts a token after the others.
-    fn token(&mut self, alloc: Global, part: Part, token: &Token) -> Result<(), AllocError>
+    fn token(&mut self, alloc: Global, part: LayoutPart, token: &Token) -> Result<(), AllocError>
         ensures { (ts : List Token) → LaysOut ts self.old.text.items → OnOk result (LaysOut (ts ++ token.now ∷ []) self.new.text.items) }
     {
         self.begin(part)?;
@@ -94,7 +94,7 @@ impl Written {
         &mut self,
         alloc: Global,
         is_needless: bool,
-        part: Part,
+        part: LayoutPart,
         token: &Token,
     ) -> Result<(), AllocError>
         ensures { (ts : List Token) → LaysOut ts self.old.text.items → OnOk result (LaysOut (ts ++ token.now ∷ []) self.new.text.items) }
@@ -163,10 +163,10 @@ pub fn layout(alloc: Global, tokens: &[Token]) -> Result<Vec<u8>, AllocError>
     ensures { IfOk result (λ text. LaysOut tokens.now text.items) }
 {
     let needless = needless(alloc, tokens)?;
-    let mut written = Written {
+    let mut written = WrittenLayout {
         text: Vec::new(alloc),
         depth: 0,
-        last: Part::Word,
+        last: LayoutPart::Word,
     };
     for (place, token) in tokens.iter().enumerate() {
         let is_needless = needless.get(place).copied().unwrap_or(false);

@@ -10,7 +10,7 @@ use Rattle.script_names.specs.declared.scope.NameKind.{NameKind}
 use Rattle.script_names.specs.declared.scope.NameKind.TheVariants as kind
 use Rattle.script_names.specs.Texts.{is_among, place_of}
 use Rattle.script_names.specs.Directory.{fields_at}
-use Rattle.script_names.specs.Scope.{Scope, with_standing, meaning_of}
+use Rattle.script_names.specs.Scope.{ScopeView, with_standing, meaning_of}
 use Rattle.script_names.specs.Rules.{scope_after, with_parameters}
 use Rattle.script_lowering.specs.Lowered.{is_handle, handle_place}
 use Rattle.script_lowering.specs.Handles.{Held, none_held, held_at}
@@ -77,17 +77,17 @@ one_handle held ks k g i x at is = by_place (cases_lt i (length ks))
         ∙ cond-true _ (Some k) (held (count_by is_handle ks)) (eq-eqb (count_by is_handle ks) (count_by is_handle ks) refl) ∙ sym last.1
 
 -- what stood before a statement
-pub before_statement : (s : Scope) (x : StmtTree) (held : Held) → Agrees held (scope_after s x).kinds → Agrees held s.kinds
+pub before_statement : (s : ScopeView) (x : StmtTree) (held : Held) → Agrees held (scope_after s x).kinds → Agrees held s.kinds
 before_statement s (Do (Let n v)) held g = one_less held s.kinds kind.Number g
 before_statement s (Do (LetTask n m)) held g = one_less held s.kinds kind.Task g
 before_statement s _ held g = g
 
 -- the handle of a name
-pub holds_named : (held : Held) (s : Scope) (name : List ℕ) (k : NameKind) → Agrees held s.kinds → is_handle k ≡ true → meaning_of s name ≡ Some k → held (handle_place s name) ≡ Some k
+pub holds_named : (held : Held) (s : ScopeView) (name : List ℕ) (k : NameKind) → Agrees held s.kinds → is_handle k ≡ true → meaning_of s name ≡ Some k → held (handle_place s name) ≡ Some k
 holds_named held s name k g is e =
     g (place_of s.names name) k (own_meaning (is_among (fields_at s.directory s.actor) name) (slice_get s.kinds (place_of s.names name)) k is e) is
 
 -- Parameters are numbers.
-pub none_agrees : (s : Scope) (names : List (List ℕ)) → Agrees none_held s.kinds → Agrees none_held (with_parameters s names).kinds
+pub none_agrees : (s : ScopeView) (names : List (List ℕ)) → Agrees none_held s.kinds → Agrees none_held (with_parameters s names).kinds
 none_agrees s [] g = g
 none_agrees s (n ∷ names) g = none_agrees (with_standing s n kind.Number) names (one_number none_held s.kinds g)

@@ -7,53 +7,53 @@ use Rattle.script_grammar.specs.Tree.{CallTree, AwaitedTree, Called, TaskOf, Nex
 use Rattle.script_names.specs.declared.scope.NameKind.{NameKind}
 use Rattle.script_names.specs.declared.scope.NameKind.TheVariants as kind
 use Rattle.script_names.specs.Texts.{place_of}
-use Rattle.script_names.specs.Directory.{Directory, method_place}
-use Rattle.script_names.specs.Scope.{Scope, meaning_of}
+use Rattle.script_names.specs.Directory.{DirectoryView, method_place}
+use Rattle.script_names.specs.Scope.{ScopeView, meaning_of}
 use Rattle.script_names.specs.Rules.{past, past_head, past_stmt, past_block, at_name, number_fault, group_fault, bind_fault, or_else, new_fault, expression_error, target_error, call_error, awaited_error, wait_error, value_error, make_error, action_error, head_error, stmt_error, block_error, scope_after, scope_within}
-use Rattle.script_code.specs.declared.instruction.Place.{Place}
-use Rattle.script_code.specs.declared.instruction.Place.TheVariants.{Variable, Field}
+use Rattle.script_code.specs.declared.instruction.NumberPlace.{NumberPlace}
+use Rattle.script_code.specs.declared.instruction.NumberPlace.TheVariants.{Variable, Field}
 use Rattle.script_code.specs.Tree as code
 use Rattle.script_code.specs.Tree.{Term, Code, end, act}
-use Rattle.script_lowering.specs.Plan.{Plan, executor_at}
+use Rattle.script_lowering.specs.Plan.{PlanView, executor_at}
 use Rattle.script_lowering.specs.Lowered.{numbers_in, handles_in, place_named, lowered, target_of, task_named, wanted_of, wait_to, set_at, value_to, make_to, action_code, headed_code, stmt_code, block_code}
-use Rattle.script_lowering.specs.Calls.{IsCallable, TargetFits, WantedFits, OperationFits, TargetsFit}
+use Rattle.script_lowering.specs.Calls.{IsDeclaredCall, TargetFits, WantedFits, OperationFits, TargetsFit}
 use Rattle.script_lowering.proofs.Clear.{earlier_none}
 use Rattle.script_lowering.proofs.Joined.{each_then}
 use Rattle.script_lowering.proofs.Callable.{callable}
 
-target_fits : (p : Plan) (s : Scope) (at : ℕ) (x : CallTree) → call_error s at x ≡ None → TargetFits s.directory (target_of p s x)
+target_fits : (p : PlanView) (s : ScopeView) (at : ℕ) (x : CallTree) → call_error s at x ≡ None → TargetFits s.directory (target_of p s x)
 target_fits p s at x e =
     let target = (earlier_none (target_error s.directory at x.actor x.method (length x.args)) _ e).0 in
-    subst (IsCallable s.directory (place_of s.directory.actors x.actor) (method_place s.directory x.actor x.method)) (sym (length-map x.args (lowered p s))) (callable s.directory at x.actor x.method (length x.args) target)
+    subst (IsDeclaredCall s.directory (place_of s.directory.actors x.actor) (method_place s.directory x.actor x.method)) (sym (length-map x.args (lowered p s))) (callable s.directory at x.actor x.method (length x.args) target)
 
-task_fits : (d : Directory) (s : Scope) (name : List ℕ) (o : Option NameKind) → WantedFits d (task_named s name o)
+task_fits : (d : DirectoryView) (s : ScopeView) (name : List ℕ) (o : Option NameKind) → WantedFits d (task_named s name o)
 task_fits d s name None = tt
 task_fits d s name (Some kind.Field) = tt
 task_fits d s name (Some kind.Number) = tt
 task_fits d s name (Some kind.Task) = tt
 task_fits d s name (Some kind.Group) = tt
 
-wanted_fits : (p : Plan) (s : Scope) (at : ℕ) (w : AwaitedTree) → awaited_error s at w ≡ None → WantedFits s.directory (wanted_of p s w)
+wanted_fits : (p : PlanView) (s : ScopeView) (at : ℕ) (w : AwaitedTree) → awaited_error s at w ≡ None → WantedFits s.directory (wanted_of p s w)
 wanted_fits p s at (Called x) e = target_fits p s at x e
 wanted_fits p s at (TaskOf n) e = task_fits s.directory s n (meaning_of s n)
 wanted_fits p s at (NextOf n) e = tt
 
-wait_fits : (p : Plan) (s : Scope) (at : ℕ) (place : Option Place) (w : WaitTree) → wait_error s at w ≡ None → TargetsFit s.directory (wait_to p s place w)
+wait_fits : (p : PlanView) (s : ScopeView) (at : ℕ) (place : Option NumberPlace) (w : WaitTree) → wait_error s at w ≡ None → TargetsFit s.directory (wait_to p s place w)
 wait_fits p s at place w e = (wanted_fits p s at w.for (earlier_none (awaited_error s at w.for) _ e).0, (tt, tt))
 
-set_fits : (d : Directory) (place : Place) (t : Term) → OperationFits d (set_at place t)
+set_fits : (d : DirectoryView) (place : NumberPlace) (t : Term) → OperationFits d (set_at place t)
 set_fits d (Variable x) t = tt
 set_fits d (Field p) t = tt
 
-value_fits : (p : Plan) (s : Scope) (at : ℕ) (place : Place) (v : ValueTree) → value_error s at v ≡ None → TargetsFit s.directory (value_to p s place v)
+value_fits : (p : PlanView) (s : ScopeView) (at : ℕ) (place : NumberPlace) (v : ValueTree) → value_error s at v ≡ None → TargetsFit s.directory (value_to p s place v)
 value_fits p s at place (Computed t) e = (set_fits s.directory place (lowered p s t), tt)
 value_fits p s at place (Waited w) e = wait_fits p s at (Some place) w e
 
-make_fits : (p : Plan) (s : Scope) (at : ℕ) (handle : Option ℕ) (m : MakeTree) → make_error s at m ≡ None → OperationFits s.directory (make_to p s handle m)
+make_fits : (p : PlanView) (s : ScopeView) (at : ℕ) (handle : Option ℕ) (m : MakeTree) → make_error s at m ≡ None → OperationFits s.directory (make_to p s handle m)
 make_fits p s at handle (Spawned x given) e = target_fits p s at x e
 make_fits p s at handle (Detached x given) e = target_fits p s at x e
 
-action_fits : (p : Plan) (s : Scope) (at : ℕ) (a : ActionTree) → action_error s at a ≡ None → TargetsFit s.directory (action_code p s a)
+action_fits : (p : PlanView) (s : ScopeView) (at : ℕ) (a : ActionTree) → action_error s at a ≡ None → TargetsFit s.directory (action_code p s a)
 action_fits p s at (Let n v) e = value_fits p s (suc at) (Variable (numbers_in s)) v (earlier_none (at_name at (new_fault (meaning_of s n))) _ e).1
 action_fits p s at (LetTask n m) e = (make_fits p s (suc at) (Some (handles_in s)) m (earlier_none (at_name at (new_fault (meaning_of s n))) _ e).1, tt)
 action_fits p s at (Assign n v) e = value_fits p s (suc at) (place_named p s n) v (earlier_none (at_name at (number_fault (meaning_of s n))) _ e).1
@@ -66,7 +66,7 @@ action_fits p s at (Throw t) e = (tt, tt)
 action_fits p s at Check e = (tt, tt)
 action_fits p s at Yield e = (tt, tt)
 
-headed_fits : (d : Directory) (p : Plan) (s : Scope) (h : HeadTree) (inner : Code) → TargetsFit d inner → TargetsFit d (headed_code p s h inner)
+headed_fits : (d : DirectoryView) (p : PlanView) (s : ScopeView) (h : HeadTree) (inner : Code) → TargetsFit d inner → TargetsFit d (headed_code p s h inner)
 headed_fits d p s (If t) inner k = (tt, k, tt, tt)
 headed_fits d p s (While t) inner k = (tt, k, tt)
 headed_fits d p s (Bind n t) inner k = (tt, each_then (OperationFits d) (λ _. Unit {0}) inner (act code.unbind end) k (tt, tt))
@@ -75,12 +75,12 @@ headed_fits d p s (Assume n) inner k =
     cond_both (executor_at p (place_of s.directory.actors n) == executor_at p s.actor) (act code.assume inner) (act code.isolated end) (TargetsFit d) (λ _. (tt, k)) (λ _. (tt, tt))
 
 -- a script's directory stays
-after_directory : (s : Scope) (x : StmtTree) → (scope_after s x).directory ≡ s.directory
+after_directory : (s : ScopeView) (x : StmtTree) → (scope_after s x).directory ≡ s.directory
 after_directory s (Do (Let n v)) = refl
 after_directory s (Do (LetTask n m)) = refl
 after_directory s _ = refl
 
-within_directory : (s : Scope) (h : HeadTree) → (scope_within s h).directory ≡ s.directory
+within_directory : (s : ScopeView) (h : HeadTree) → (scope_within s h).directory ≡ s.directory
 within_directory s (If t) = refl
 within_directory s (While t) = refl
 within_directory s (Bind n t) = refl
@@ -88,7 +88,7 @@ within_directory s (Group n) = refl
 within_directory s (Assume n) = refl
 
 mutual
-  stmt_fits : (x : StmtTree) (p : Plan) (s : Scope) (d : Directory) (at : ℕ) → s.directory ≡ d → stmt_error s at x ≡ None → TargetsFit d (stmt_code p s x)
+  stmt_fits : (x : StmtTree) (p : PlanView) (s : ScopeView) (d : DirectoryView) (at : ℕ) → s.directory ≡ d → stmt_error s at x ≡ None → TargetsFit d (stmt_code p s x)
   stmt_fits (Do a) p s d at same e = subst (λ y. TargetsFit y (action_code p s a)) same (action_fits p s at a e)
   stmt_fits (Headed head b) p s d at same e =
       headed_fits d p s head (block_code p (scope_within s head) b)
@@ -97,7 +97,7 @@ mutual
       let blocks = earlier_none (block_error s (past t at) a) _ (earlier_none (expression_error s at t) _ e).1 in
       (tt, block_fits a p s d (past t at) same blocks.0, block_fits b p s d (past_block a (past t at)) same blocks.1, tt)
 
-  pub block_fits : (b : BlockTree) (p : Plan) (s : Scope) (d : Directory) (at : ℕ) → s.directory ≡ d → block_error s at b ≡ None → TargetsFit d (block_code p s b)
+  pub block_fits : (b : BlockTree) (p : PlanView) (s : ScopeView) (d : DirectoryView) (at : ℕ) → s.directory ≡ d → block_error s at b ≡ None → TargetsFit d (block_code p s b)
   block_fits nothing p s d at same e = tt
   block_fits (first_then x xs) p s d at same e =
       let parts = earlier_none (stmt_error s at x) _ e in
@@ -105,5 +105,5 @@ mutual
       (stmt_fits x p s d at same parts.0)
       (block_fits xs p (scope_after s x) d (past_stmt x at) (after_directory s x ∙ same) parts.1)
 
-pub block_calls : (p : Plan) (s : Scope) (at : ℕ) (b : BlockTree) → block_error s at b ≡ None → TargetsFit s.directory (block_code p s b)
+pub block_calls : (p : PlanView) (s : ScopeView) (at : ℕ) (b : BlockTree) → block_error s at b ≡ None → TargetsFit s.directory (block_code p s b)
 block_calls p s at b e = block_fits b p s s.directory at refl e

@@ -6,14 +6,14 @@ use Rattle.script_grammar.specs.Tree.{AwaitedTree, Called, TaskOf, NextOf, WaitT
 use Rattle.script_names.specs.declared.scope.NameKind.{NameKind}
 use Rattle.script_names.specs.declared.scope.NameKind.TheVariants as kind
 use Rattle.script_names.specs.Texts.{place_of}
-use Rattle.script_names.specs.Scope.{Scope, meaning_of}
+use Rattle.script_names.specs.Scope.{ScopeView, meaning_of}
 use Rattle.script_names.specs.Rules.{past, past_head, past_stmt, past_block, at_name, number_fault, group_fault, bind_fault, or_else, new_fault, expression_error, awaited_error, wait_error, value_error, action_error, head_error, stmt_error, block_error, scope_after, scope_within}
-use Rattle.script_code.specs.declared.instruction.Place.{Place}
-use Rattle.script_code.specs.declared.instruction.Place.TheVariants.{Variable, Field}
+use Rattle.script_code.specs.declared.instruction.NumberPlace.{NumberPlace}
+use Rattle.script_code.specs.declared.instruction.NumberPlace.TheVariants.{Variable, Field}
 use Rattle.script_code.specs.Tree as code
 use Rattle.script_code.specs.Tree.{Term, Operation, Code, followed, end, act, choice, loop}
 use Rattle.script_code.proofs.Layouts.{then_end}
-use Rattle.script_lowering.specs.Plan.{Plan, executor_at}
+use Rattle.script_lowering.specs.Plan.{PlanView, executor_at}
 use Rattle.script_lowering.specs.Lowered.{numbers_in, handles_in, handle_place, place_named, lowered, lowered_if, target_of, task_named, wanted_of, wait_to, set_at, value_to, make_to, cancelled_named, action_code, headed_code, stmt_code, block_code}
 use Rattle.script_lowering.specs.Handles.{Held, held_after, WantedMatches, CancelledMatches, OperationMatches, HandlesMatch}
 use Rattle.script_lowering.proofs.Clear.{earlier_none, at_name_none, or_else_none, is_group}
@@ -47,50 +47,50 @@ loop_first t a n ks c inner rest (suc m) small zero l held g = tt
 loop_first t a n ks c inner rest (suc m) small (suc j) l held g =
     (inner m (loop t a c) (loop_first t a n ks c inner rest m (omega (arith, small))) j (omega (arith, l)) held g, rest j (omega (arith, l, small)) held g)
 
-set_first : (place : Place) (t : Term) (n : ℕ) (ks : List NameKind) (c : Code) → Fine n ks c → Fine n ks (act (set_at place t) c)
+set_first : (place : NumberPlace) (t : Term) (n : ℕ) (ks : List NameKind) (c : Code) → Fine n ks c → Fine n ks (act (set_at place t) c)
 set_first (Variable x) t n ks c rest = operation_first (code.set_variable x t) n ks ks c (λ held g. (tt, g)) rest
 set_first (Field p) t n ks c rest = operation_first (code.set_field p t) n ks ks c (λ held g. (tt, g)) rest
 
-task_matches : (held : Held) (s : Scope) (name : List ℕ) (o : Option NameKind) → (o ≡ Some kind.Task → held (handle_place s name) ≡ Some kind.Task) → WantedMatches held (task_named s name o)
+task_matches : (held : Held) (s : ScopeView) (name : List ℕ) (o : Option NameKind) → (o ≡ Some kind.Task → held (handle_place s name) ≡ Some kind.Task) → WantedMatches held (task_named s name o)
 task_matches held s name None h = tt
 task_matches held s name (Some kind.Field) h = tt
 task_matches held s name (Some kind.Number) h = tt
 task_matches held s name (Some kind.Task) h = h refl
 task_matches held s name (Some kind.Group) h = tt
 
-cancelled_matches : (held : Held) (s : Scope) (name : List ℕ) (o : Option NameKind) → (o ≡ Some kind.Task → held (handle_place s name) ≡ Some kind.Task) → (o ≡ Some kind.Group → held (handle_place s name) ≡ Some kind.Group) → CancelledMatches held (cancelled_named s name o)
+cancelled_matches : (held : Held) (s : ScopeView) (name : List ℕ) (o : Option NameKind) → (o ≡ Some kind.Task → held (handle_place s name) ≡ Some kind.Task) → (o ≡ Some kind.Group → held (handle_place s name) ≡ Some kind.Group) → CancelledMatches held (cancelled_named s name o)
 cancelled_matches held s name None h k = tt
 cancelled_matches held s name (Some kind.Field) h k = tt
 cancelled_matches held s name (Some kind.Number) h k = tt
 cancelled_matches held s name (Some kind.Task) h k = h refl
 cancelled_matches held s name (Some kind.Group) h k = k refl
 
-wanted_matches : (p : Plan) (s : Scope) (at : ℕ) (w : AwaitedTree) (held : Held) → awaited_error s at w ≡ None → Agrees held s.kinds → WantedMatches held (wanted_of p s w)
+wanted_matches : (p : PlanView) (s : ScopeView) (at : ℕ) (w : AwaitedTree) (held : Held) → awaited_error s at w ≡ None → Agrees held s.kinds → WantedMatches held (wanted_of p s w)
 wanted_matches p s at (Called x) held e g = tt
 wanted_matches p s at (TaskOf n) held e g = task_matches held s n (meaning_of s n) (holds_named held s n kind.Task g refl)
 wanted_matches p s at (NextOf n) held e g = holds_named held s n kind.Group g refl (is_group (meaning_of s n) (at_name_none at _ e))
 
-wait_first : (p : Plan) (s : Scope) (at : ℕ) (place : Option Place) (w : WaitTree) (n : ℕ) (c : Code) → wait_error s at w ≡ None → Fine n s.kinds c → Fine n s.kinds (followed (wait_to p s place w) c)
+wait_first : (p : PlanView) (s : ScopeView) (at : ℕ) (place : Option NumberPlace) (w : WaitTree) (n : ℕ) (c : Code) → wait_error s at w ≡ None → Fine n s.kinds c → Fine n s.kinds (followed (wait_to p s place w) c)
 wait_first p s at place w n c e rest =
     let for = (earlier_none (awaited_error s at w.for) _ e).0 in
     let answer = code.receive place (lowered_if p s w.other) in
     operation_first (code.wait (wanted_of p s w.for)) n s.kinds s.kinds (act answer c) (λ held g. (wanted_matches p s at w.for held for g, g))
     (operation_first answer n s.kinds s.kinds c (λ held g. (tt, g)) rest)
 
-value_first : (p : Plan) (s : Scope) (at : ℕ) (place : Place) (v : ValueTree) (n : ℕ) (c : Code) → value_error s at v ≡ None → Fine n s.kinds c → Fine n s.kinds (followed (value_to p s place v) c)
+value_first : (p : PlanView) (s : ScopeView) (at : ℕ) (place : NumberPlace) (v : ValueTree) (n : ℕ) (c : Code) → value_error s at v ≡ None → Fine n s.kinds c → Fine n s.kinds (followed (value_to p s place v) c)
 value_first p s at place (Computed t) n c e rest = set_first place (lowered p s t) n s.kinds c rest
 value_first p s at place (Waited w) n c e rest = wait_first p s at (Some place) w n c e rest
 
 -- a task that is made, and is not kept or is
-make_first : (p : Plan) (s : Scope) (m : MakeTree) (n : ℕ) (c : Code) → Fine n s.kinds c → Fine n s.kinds (act (make_to p s None m) c)
+make_first : (p : PlanView) (s : ScopeView) (m : MakeTree) (n : ℕ) (c : Code) → Fine n s.kinds c → Fine n s.kinds (act (make_to p s None m) c)
 make_first p s (Spawned x given) n c rest = operation_first (code.spawn (target_of p s x) given None) n s.kinds s.kinds c (λ held g. (tt, g)) rest
 make_first p s (Detached x given) n c rest = operation_first (code.detach (target_of p s x) given None) n s.kinds s.kinds c (λ held g. (tt, g)) rest
 
-keep_first : (p : Plan) (s : Scope) (m : MakeTree) (n : ℕ) (c : Code) → Fine n (s.kinds ++ kind.Task ∷ []) c → Fine n s.kinds (act (make_to p s (Some (handles_in s)) m) c)
+keep_first : (p : PlanView) (s : ScopeView) (m : MakeTree) (n : ℕ) (c : Code) → Fine n (s.kinds ++ kind.Task ∷ []) c → Fine n s.kinds (act (make_to p s (Some (handles_in s)) m) c)
 keep_first p s (Spawned x given) n c rest = operation_first (code.spawn (target_of p s x) given (Some (handles_in s))) n s.kinds (s.kinds ++ kind.Task ∷ []) c (λ held g. (tt, one_handle held s.kinds kind.Task g)) rest
 keep_first p s (Detached x given) n c rest = operation_first (code.detach (target_of p s x) given (Some (handles_in s))) n s.kinds (s.kinds ++ kind.Task ∷ []) c (λ held g. (tt, one_handle held s.kinds kind.Task g)) rest
 
-action_first : (p : Plan) (s : Scope) (at : ℕ) (a : ActionTree) (n : ℕ) (c : Code) → action_error s at a ≡ None → Fine n (scope_after s (Do a)).kinds c → Fine n s.kinds (followed (action_code p s a) c)
+action_first : (p : PlanView) (s : ScopeView) (at : ℕ) (a : ActionTree) (n : ℕ) (c : Code) → action_error s at a ≡ None → Fine n (scope_after s (Do a)).kinds c → Fine n s.kinds (followed (action_code p s a) c)
 action_first p s at (Let name v) n c e rest =
     value_first p s (suc at) (Variable (numbers_in s)) v n c (earlier_none (at_name at (new_fault (meaning_of s name))) _ e).1 (λ j l held g. rest j l held (one_number held s.kinds g))
 action_first p s at (LetTask name m) n c e rest = keep_first p s m n c rest
@@ -113,7 +113,7 @@ action_first p s at Yield n c e rest = operation_first code.yield n s.kinds s.ki
 abbrev Inner : List NameKind → Code → Type 0
 Inner ks a = (m : ℕ) (after : Code) → Fine m ks after → Fine m ks (followed a after)
 
-headed_first : (p : Plan) (s : Scope) (h : HeadTree) (a : Code) (n : ℕ) (c : Code) → Inner (scope_within s h).kinds a → Fine n s.kinds c → Fine n s.kinds (followed (headed_code p s h a) c)
+headed_first : (p : PlanView) (s : ScopeView) (h : HeadTree) (a : Code) (n : ℕ) (c : Code) → Inner (scope_within s h).kinds a → Fine n s.kinds c → Fine n s.kinds (followed (headed_code p s h a) c)
 headed_first p s (If t) a n c inner rest = choice_first (lowered p s t) a end n s.kinds c (inner n c rest) rest
 headed_first p s (While t) a n c inner rest = loop_first (lowered p s t) a n s.kinds c inner rest n (omega arith)
 headed_first p s (Bind name t) a n c inner rest =
@@ -131,7 +131,7 @@ headed_first p s (Assume name) a n c inner rest =
     (λ _. operation_first code.isolated n s.kinds s.kinds c (λ held g. (tt, g)) rest)
 
 mutual
-  stmt_first : (x : StmtTree) (p : Plan) (s : Scope) (at n : ℕ) (c : Code) → stmt_error s at x ≡ None → Fine n (scope_after s x).kinds c → Fine n s.kinds (followed (stmt_code p s x) c)
+  stmt_first : (x : StmtTree) (p : PlanView) (s : ScopeView) (at n : ℕ) (c : Code) → stmt_error s at x ≡ None → Fine n (scope_after s x).kinds c → Fine n s.kinds (followed (stmt_code p s x) c)
   stmt_first (Do a) p s at n c e rest = action_first p s at a n c e rest
   stmt_first (Headed head b) p s at n c e rest =
       let body = (earlier_none (head_error s at head) _ e).1 in
@@ -142,7 +142,7 @@ mutual
       (block_first a p s (past t at) n c blocks.0 rest)
       (block_first b p s (past_block a (past t at)) n c blocks.1 rest)
 
-  block_first : (b : BlockTree) (p : Plan) (s : Scope) (at n : ℕ) (c : Code) → block_error s at b ≡ None → Fine n s.kinds c → Fine n s.kinds (followed (block_code p s b) c)
+  block_first : (b : BlockTree) (p : PlanView) (s : ScopeView) (at n : ℕ) (c : Code) → block_error s at b ≡ None → Fine n s.kinds c → Fine n s.kinds (followed (block_code p s b) c)
   block_first nothing p s at n c e rest = rest
   block_first (first_then x xs) p s at n c e rest =
       let parts = earlier_none (stmt_error s at x) _ e in
@@ -155,7 +155,7 @@ nothing_first zero held = tt
 nothing_first (suc j) held = tt
 
 -- a whole block, where what handles hold agrees with the names that stand
-pub block_handles : (b : BlockTree) (p : Plan) (s : Scope) (at : ℕ) (held : Held) (n : ℕ) → block_error s at b ≡ None → Agrees held s.kinds → HandlesMatch n held (block_code p s b)
+pub block_handles : (b : BlockTree) (p : PlanView) (s : ScopeView) (at : ℕ) (held : Held) (n : ℕ) → block_error s at b ≡ None → Agrees held s.kinds → HandlesMatch n held (block_code p s b)
 block_handles b p s at held n e g =
     let alone = block_first b p s at n end e (λ j l now h. nothing_first j now) n (omega arith) held g in
     subst (HandlesMatch n held) (then_end (block_code p s b)) alone

@@ -10,15 +10,15 @@ use Rattle.script_code.specs.declared.instruction.Act.{Act}
 use Rattle.script_code.specs.declared.instruction.Instruction.{Instruction}
 use Rattle.script_code.proofs.Layouts.{then_end}
 use Rattle.script_names.specs.Texts.{place_of}
-use Rattle.script_names.specs.Scope.{Scope}
+use Rattle.script_names.specs.Scope.{ScopeView}
 use Rattle.script_grammar.specs.Tree.{ExprTree, HeadTree, If, While, Bind, Group, Assume}
-use Rattle.script_lowering.specs.Plan.{Plan, executor_at}
+use Rattle.script_lowering.specs.Plan.{PlanView, executor_at}
 use Rattle.script_lowering.specs.Lowered.{lowered, headed_code}
 use Rattle.script_lowering.specs.Heads.{foot, HeadsAs, is_isolated, is_loop}
 use Rattle.script_lowering.proofs.Lines.{IsWritten, lines_then, start_then, operation_lines, operation_start, choice_lines, choice_start}
 
 -- What a block with its head becomes, where it is no loop and is run: its foot, its block, and an instruction of its head.
-pub record HasParts (p : Plan) (s : Scope) (h : HeadTree) (inner : Code) (a : Act) (l m n o : List Instruction) (q last first number : ℕ) : Type 0 where
+pub record HasParts (p : PlanView) (s : ScopeView) (h : HeadTree) (inner : Code) (a : Act) (l m n o : List Instruction) (q last first number : ℕ) : Type 0 where
   pub heads : HeadsAs a p s h
   pub foot_lines : map meaning_of m ≡ map meaning_of l ++ written (foot h) (length l) q
   pub foot_start : last ≡ entry (foot h) (length l) q
@@ -27,7 +27,7 @@ pub record HasParts (p : Plan) (s : Scope) (h : HeadTree) (inner : Code) (a : Ac
   pub head_line : map meaning_of o ≡ map meaning_of n ++ meaning_of (record { act = a; next = first; other = q }) ∷ []
   pub head_number : number ≡ length n
 
-if_written : (p : Plan) (s : Scope) (t : ExprTree) (inner : Code) (a : Act) (l m n o : List Instruction) (q last first number : ℕ) → HasParts p s (If t) inner a l m n o q last first number → IsWritten (headed_code p s (If t) inner) l o q number
+if_written : (p : PlanView) (s : ScopeView) (t : ExprTree) (inner : Code) (a : Act) (l m n o : List Instruction) (q last first number : ℕ) → HasParts p s (If t) inner a l m n o q last first number → IsWritten (headed_code p s (If t) inner) l o q number
 if_written p s t inner a l m n o q last first number h =
     let none : map meaning_of l ≡ map meaning_of l ++ [] = sym (append-nil (map meaning_of l)) in
     let lines : map meaning_of n ≡ map meaning_of l ++ written inner (length l) q = lines_then inner end l m n q last h.foot_lines h.foot_start h.block_lines ∙ ap (λ c. map meaning_of l ++ written c (length l) q) (then_end inner) in
@@ -38,7 +38,7 @@ if_written p s t inner a l m n o q last first number h =
     }
 
 -- an operation in front of a block
-operation_written : (p : Plan) (s : Scope) (h : HeadTree) (d : code.Operation) (inner : Code) (a : Act) (l m n o : List Instruction) (q last first number : ℕ)
+operation_written : (p : PlanView) (s : ScopeView) (h : HeadTree) (d : code.Operation) (inner : Code) (a : Act) (l m n o : List Instruction) (q last first number : ℕ)
     → ((at : ℕ → Code) (next : ℕ) → first_by at a next q ≡ does d (at next))
     → HasParts p s h inner a l m n o q last first number → IsWritten (act d (followed inner (foot h))) l o q number
 operation_written p s h d inner a l m n o q last first number is k =
@@ -53,7 +53,7 @@ assumed : (b : Bool) (inner : Code) → not b ≡ false → act code.assume inne
 assumed true inner e = refl
 assumed false inner e = absurd (cc)
 
-pub head_written : (p : Plan) (s : Scope) (h : HeadTree) (inner : Code) (a : Act) (l m n o : List Instruction) (q last first number : ℕ)
+pub head_written : (p : PlanView) (s : ScopeView) (h : HeadTree) (inner : Code) (a : Act) (l m n o : List Instruction) (q last first number : ℕ)
     → is_loop h ≡ false → is_isolated p s h ≡ false
     → HasParts p s h inner a l m n o q last first number → IsWritten (headed_code p s h inner) l o q number
 head_written p s (If t) inner a l m n o q last first number x y k = if_written p s t inner a l m n o q last first number k

@@ -16,9 +16,9 @@ use Rattle.script_code.specs.declared.instruction.Act.{Act}
 use Rattle.script_code.specs.declared.instruction.Instruction.{Instruction}
 use Rattle.script_names.specs.declared.scope.NameKind.TheVariants as kind
 use Rattle.script_names.specs.declared.scope.Outside.{Outside}
-use Rattle.script_names.specs.Scope.{Scope}
+use Rattle.script_names.specs.Scope.{ScopeView}
 use Rattle.script_names.specs.Rules.{scope_within}
-use Rattle.script_lowering.specs.Plan.{Plan}
+use Rattle.script_lowering.specs.Plan.{PlanView}
 use Rattle.script_lowering.specs.Lowered.{lowered, headed_code, stmt_code, block_code}
 use Rattle.script_lowering.specs.Standing.{outside_of, left}
 use Rattle.script_lowering.specs.Heads.{is_isolated, is_loop}
@@ -32,17 +32,17 @@ view-IfElse : (e : Expr) (a b : Vec Stmt) → view_stmt (IfElse e a b) ≡ tree.
 view-IfElse e a b = search (rules, the_lemmas)
 
 -- the code of a block
-abbrev pub code_in : Plan → Scope → List Stmt → Code
+abbrev pub code_in : PlanView → ScopeView → List Stmt → Code
 code_in p s body = block_code p s (block_tree (map view_stmt body))
 
 -- a statement with these parts
-headed_is : (p : Plan) (s : Scope) (x : Stmt) (h : Head) (b : Vec Stmt) (body : List Stmt) → x ≡ Block h b → body ≡ b.items
+headed_is : (p : PlanView) (s : ScopeView) (x : Stmt) (h : Head) (b : Vec Stmt) (body : List Stmt) → x ≡ Block h b → body ≡ b.items
     → headed_code p s (view_head h) (code_in p (scope_within s (view_head h)) body) ≡ stmt_code p s (view_stmt x)
 headed_is p s x h b body is same =
     ap (λ xs. headed_code p s (view_head h) (code_in p (scope_within s (view_head h)) xs)) same
     ∙ ap (stmt_code p s) (sym (ap view_stmt is ∙ view-Block h b))
 
-pub while_written : (p : Plan) (s : Scope) (x : Stmt) (h : Head) (b : Vec Stmt) (body : List Stmt) (e : Expr) (t : Term) (f : Meaning) (l m n o : List Instruction) (q first here : ℕ)
+pub while_written : (p : PlanView) (s : ScopeView) (x : Stmt) (h : Head) (b : Vec Stmt) (body : List Stmt) (e : Expr) (t : Term) (f : Meaning) (l m n o : List Instruction) (q first here : ℕ)
     → x ≡ Block h b → h ≡ head.While e → body ≡ b.items → t ≡ lowered p s (view e)
     → map meaning_of m ≡ map meaning_of l ++ f ∷ [] → here ≡ length l
     → IsWritten (code_in p s body) m n here first
@@ -56,7 +56,7 @@ while_written p s x h b body e t f l m n o q first here is loops same made kept 
       start = loop_start (lowered p s (view e)) (code_in p s body) l q here at;
     })
 
-pub block_written : (p : Plan) (s : Scope) (x : Stmt) (h : Head) (b : Vec Stmt) (body : List Stmt) (a : Act) (l m n o : List Instruction) (q last first number : ℕ)
+pub block_written : (p : PlanView) (s : ScopeView) (x : Stmt) (h : Head) (b : Vec Stmt) (body : List Stmt) (a : Act) (l m n o : List Instruction) (q last first number : ℕ)
     → x ≡ Block h b → body ≡ b.items → is_loop (view_head h) ≡ false → is_isolated p s (view_head h) ≡ false
     → HasParts p s (view_head h) (code_in p (scope_within s (view_head h)) body) a l m n o q last first number
     → IsWritten (stmt_code p s (view_stmt x)) l o q number
@@ -64,7 +64,7 @@ block_written p s x h b body a l m n o q last first number is same once run part
     subst (λ (c : Code). IsWritten c l o q number) (headed_is p s x h b body is same)
     (head_written p s (view_head h) (code_in p (scope_within s (view_head h)) body) a l m n o q last first number once run parts)
 
-pub else_written : (p : Plan) (s : Scope) (x : Stmt) (e : Expr) (a b : Vec Stmt) (held failed : List Stmt) (t : Term) (l m n o : List Instruction) (q first other number : ℕ)
+pub else_written : (p : PlanView) (s : ScopeView) (x : Stmt) (e : Expr) (a b : Vec Stmt) (held failed : List Stmt) (t : Term) (l m n o : List Instruction) (q first other number : ℕ)
     → x ≡ IfElse e a b → held ≡ a.items → failed ≡ b.items → t ≡ lowered p s (view e)
     → IsWritten (code_in p s failed) l m q other
     → IsWritten (code_in p s held) m n q first
@@ -99,7 +99,7 @@ taken xs n e = ap (λ (k : ℕ). take k xs) e ∙ take-length xs
 taken_back : {X : Type 0} (xs ys : List X) (n : ℕ) → n ≡ length xs → take n (xs ++ ys) ≡ xs
 taken_back xs ys n e = ap (λ (k : ℕ). take k (xs ++ ys)) e ∙ take-append_seam xs ys
 
-left_so : (s : Scope) (h : HeadTree) → length s.names ≡ length s.kinds → left (outside_of s) (scope_within s h) ≡ s
+left_so : (s : ScopeView) (h : HeadTree) → length s.names ≡ length s.kinds → left (outside_of s) (scope_within s h) ≡ s
 left_so s (tree.If t) e = λ i. record s { names = taken s.names (length s.names) refl i; kinds = taken s.kinds (length s.names) e i }
 left_so s (tree.While t) e = λ i. record s { names = taken s.names (length s.names) refl i; kinds = taken s.kinds (length s.names) e i }
 left_so s (tree.Bind name t) e = λ i. record s { names = taken s.names (length s.names) refl i; kinds = taken s.kinds (length s.names) e i }
@@ -107,7 +107,7 @@ left_so s (tree.Group name) e = λ i. record s { names = taken_back s.names (nam
 left_so s (tree.Assume name) e = λ i. record s { names = taken s.names (length s.names) refl i; kinds = taken s.kinds (length s.names) e i }
 
 -- what stood outside a block stands after it
-pub left_is : (s t : Scope) (h : HeadTree) (o : Outside) → length s.kinds ≡ length s.names → o ≡ outside_of s → t ≡ scope_within s h → left o t ≡ s
+pub left_is : (s t : ScopeView) (h : HeadTree) (o : Outside) → length s.kinds ≡ length s.names → o ≡ outside_of s → t ≡ scope_within s h → left o t ≡ s
 left_is s t h o e out inside = ap (λ x. left x t) out ∙ ap (left (outside_of s)) inside ∙ left_so s h (sym e)
 
 pub not_loop : (h : Head) → ((e : Expr) → h ≡ head.While e → ⊥) → is_loop (view_head h) ≡ false

@@ -4,47 +4,47 @@ use Rattle.script_grammar.specs.Tree.{Let, LetTask, HeadTree, Group, StmtTree, D
 use Rattle.script_names.specs.declared.scope.NameKind.{NameKind}
 use Rattle.script_names.specs.declared.scope.NameKind.TheVariants as kind
 use Rattle.script_lowering.specs.Lowered.{is_number, is_handle}
-use Rattle.script_lowering.specs.declared.counts.Counts.{Counts}
+use Rattle.script_lowering.specs.declared.counts.PlaceCounts.{PlaceCounts}
 
 -- how many of each stand under names of these kinds
-abbrev pub counts_of : List NameKind → Counts
+abbrev pub counts_of : List NameKind → PlaceCounts
 counts_of kinds = record { numbers = count_by is_number kinds; handles = count_by is_handle kinds }
 
 -- one name more
-abbrev pub counted : Counts → NameKind → Counts
+abbrev pub counted : PlaceCounts → NameKind → PlaceCounts
 counted c kind.Field = c
 counted c kind.Number = record { numbers = c.numbers + 1; handles = c.handles }
 counted c kind.Task = record { numbers = c.numbers; handles = c.handles + 1 }
 counted c kind.Group = record { numbers = c.numbers; handles = c.handles + 1 }
 
 -- the greater of two counts, of numbers and of handles
-abbrev pub greater : Counts → Counts → Counts
+abbrev pub greater : PlaceCounts → PlaceCounts → PlaceCounts
 greater a b = record { numbers = max a.numbers b.numbers; handles = max a.handles b.handles }
 
 -- how many stand after a statement
-abbrev pub counts_after : Counts → StmtTree → Counts
+abbrev pub counts_after : PlaceCounts → StmtTree → PlaceCounts
 counts_after c (Do (Let n v)) = counted c kind.Number
 counts_after c (Do (LetTask n m)) = counted c kind.Task
 counts_after c _ = c
 
 -- how many stand in a block, by its head
-abbrev pub counts_within : Counts → HeadTree → Counts
+abbrev pub counts_within : PlaceCounts → HeadTree → PlaceCounts
 counts_within c (Group n) = counted c kind.Group
 counts_within c _ = c
 
 abbrev mutual
   -- how many stand at most in a statement, where so many stand before it
-  pub most_in : Counts → StmtTree → Counts
+  pub most_in : PlaceCounts → StmtTree → PlaceCounts
   most_in c (Do a) = counts_after c (Do a)
   most_in c (Headed h b) = most_of (counts_within c h) b
   most_in c (IfElse t a b) = greater (most_of c a) (most_of c b)
 
   -- and in a block
-  pub most_of : Counts → BlockTree → Counts
+  pub most_of : PlaceCounts → BlockTree → PlaceCounts
   most_of c nothing = c
   most_of c (first_then x xs) = greater (most_in c x) (most_of (counts_after c x) xs)
 
 -- These are the counts before each name, and `here` those after the last. By them a name's place is found at once.
-pub record AreCounts (kinds : List NameKind) (counts : List Counts) (here : Counts) : Type 0 where
+pub record AreCounts (kinds : List NameKind) (counts : List PlaceCounts) (here : PlaceCounts) : Type 0 where
   pub as_many : length counts ≡ length kinds
   pub each : (n : ℕ) → get_or counts n here ≡ counts_of (take n kinds)

@@ -5,16 +5,16 @@ use Rattle.script_names.specs.declared.scope.NameKind.{NameKind}
 use Rattle.script_names.specs.declared.scope.NameKind.TheVariants as kind
 use Rattle.script_names.specs.Texts.{is_among, place_of}
 use Rattle.script_names.specs.Directory.{fields_at, method_place}
-use Rattle.script_names.specs.Scope.{Scope, meaning_of}
+use Rattle.script_names.specs.Scope.{ScopeView, meaning_of}
 use Rattle.script_names.specs.Rules.{scope_after, scope_within}
 use Rattle.script_code.specs.declared.formula.FieldPlace.{FieldPlace}
-use Rattle.script_code.specs.declared.instruction.Place.{Place}
-use Rattle.script_code.specs.declared.instruction.Place.TheVariants.{Variable, Field}
+use Rattle.script_code.specs.declared.instruction.NumberPlace.{NumberPlace}
+use Rattle.script_code.specs.declared.instruction.NumberPlace.TheVariants.{Variable, Field}
 use Rattle.script_code.specs.declared.instruction.Cancelled.{Cancelled}
 use Rattle.script_code.specs.declared.instruction.Cancelled.TheVariants as cancelled_one
 use Rattle.script_code.specs.Tree as code
-use Rattle.script_code.specs.Tree.{Term, Target, Wanted, Operation, Code, followed, end, act, choice, loop}
-use Rattle.script_lowering.specs.Plan.{Plan, executor_at, actor_place_of}
+use Rattle.script_code.specs.Tree.{Term, CallTarget, Wanted, Operation, Code, followed, end, act, choice, loop}
+use Rattle.script_lowering.specs.Plan.{PlanView, executor_at, actor_place_of}
 
 -- whether what stands under a name is a number
 abbrev pub is_number : NameKind → Bool
@@ -31,38 +31,38 @@ is_handle kind.Task = true
 is_handle kind.Group = true
 
 -- how many numbers and how many handles stand there: the places of the next ones
-abbrev pub numbers_in : Scope → ℕ
+abbrev pub numbers_in : ScopeView → ℕ
 numbers_in s = count_by is_number s.kinds
 
-abbrev pub handles_in : Scope → ℕ
+abbrev pub handles_in : ScopeView → ℕ
 handles_in s = count_by is_handle s.kinds
 
 -- the place of a number among the numbers that stand there, the oldest first, and of a handle among the handles
-abbrev pub number_place : Scope → List ℕ → ℕ
+abbrev pub number_place : ScopeView → List ℕ → ℕ
 number_place s name = count_by is_number (take (place_of s.names name) s.kinds)
 
-abbrev pub handle_place : Scope → List ℕ → ℕ
+abbrev pub handle_place : ScopeView → List ℕ → ℕ
 handle_place s name = count_by is_handle (take (place_of s.names name) s.kinds)
 
 -- the place of a field: that of its actor among the actors of its executor, and its own in the actor
-abbrev pub field_place : Plan → Scope → List ℕ → FieldPlace
+abbrev pub field_place : PlanView → ScopeView → List ℕ → FieldPlace
 field_place p s name = record { actor = actor_place_of p s.actor; field = place_of (fields_at s.directory s.actor) name }
 
 -- the place that a name stands for: the field of that name, or else the variable
-unfoldable pub place_named : Plan → Scope → List ℕ → Place
+unfoldable pub place_named : PlanView → ScopeView → List ℕ → NumberPlace
 place_named p s name = if is_among (fields_at s.directory s.actor) name then Field (field_place p s name) else Variable (number_place s name)
 
 -- what a place holds
-abbrev pub term_at : Place → Term
+abbrev pub term_at : NumberPlace → Term
 term_at (Variable k) = code.variable k
 term_at (Field f) = code.field f
 
 -- the default of a task local
-unfoldable pub default_of : Plan → List ℕ → ℤ
+unfoldable pub default_of : PlanView → List ℕ → ℤ
 default_of p name = unwrap_or (slice_get p.defaults (place_of p.directory.locals name)) (pos 0)
 
 -- an expression, with places for its names
-abbrev pub lowered : Plan → Scope → ExprTree → Term
+abbrev pub lowered : PlanView → ScopeView → ExprTree → Term
 lowered p s (Number n) = code.number n
 lowered p s (Named name) = term_at (place_named p s name)
 lowered p s (Local name) = code.local (place_of p.directory.locals name) (default_of p name)
@@ -72,50 +72,50 @@ lowered p s (Negated a) = code.opposite (lowered p s a)
 lowered p s (Inverted a) = code.denial (lowered p s a)
 lowered p s (Both o a b) = code.binary o (lowered p s a) (lowered p s b)
 
-abbrev pub lowered_if : Plan → Scope → Option ExprTree → Option Term
+abbrev pub lowered_if : PlanView → ScopeView → Option ExprTree → Option Term
 lowered_if p s None = None
 lowered_if p s (Some t) = Some (lowered p s t)
 
 -- a call, by the numbers of its actor and method
-abbrev pub target_of : Plan → Scope → CallTree → Target
+abbrev pub target_of : PlanView → ScopeView → CallTree → CallTarget
 target_of p s c = record { actor = place_of s.directory.actors c.actor; method = method_place s.directory c.actor c.method; args = map (lowered p s) c.args }
 
 -- A name after `task` is the task variable of that name, or else the root.
-abbrev pub task_named : Scope → List ℕ → Option NameKind → Wanted
+abbrev pub task_named : ScopeView → List ℕ → Option NameKind → Wanted
 task_named s name (Some kind.Task) = code.task (handle_place s name)
 task_named s name _ = code.root (place_of s.directory.roots name)
 
-abbrev pub wanted_of : Plan → Scope → AwaitedTree → Wanted
+abbrev pub wanted_of : PlanView → ScopeView → AwaitedTree → Wanted
 wanted_of p s (Called c) = code.call (target_of p s c)
 wanted_of p s (TaskOf name) = task_named s name (meaning_of s name)
 wanted_of p s (NextOf name) = code.next (handle_place s name)
 
 -- A wait ends the turn, and what is given goes to a place, if there is one.
-abbrev pub wait_to : Plan → Scope → Option Place → WaitTree → Code
+abbrev pub wait_to : PlanView → ScopeView → Option NumberPlace → WaitTree → Code
 wait_to p s place w = act (code.wait (wanted_of p s w.for)) (act (code.receive place (lowered_if p s w.other)) end)
 
 -- what is set to an expression: a variable or a field
-abbrev pub set_at : Place → Term → Operation
+abbrev pub set_at : NumberPlace → Term → Operation
 set_at (Variable k) t = code.set_variable k t
 set_at (Field f) t = code.set_field f t
 
-abbrev pub value_to : Plan → Scope → Place → ValueTree → Code
+abbrev pub value_to : PlanView → ScopeView → NumberPlace → ValueTree → Code
 value_to p s place (Computed t) = act (set_at place (lowered p s t)) end
 value_to p s place (Waited w) = wait_to p s (Some place) w
 
 -- a task that is made, whose number goes to a handle, if there is one
-abbrev pub make_to : Plan → Scope → Option ℕ → MakeTree → Operation
+abbrev pub make_to : PlanView → ScopeView → Option ℕ → MakeTree → Operation
 make_to p s handle (Spawned c priority) = code.spawn (target_of p s c) priority handle
 make_to p s handle (Detached c priority) = code.detach (target_of p s c) priority handle
 
 -- A name after `cancel` is the task variable or the group of that name, or else the root.
-abbrev pub cancelled_named : Scope → List ℕ → Option NameKind → Cancelled
+abbrev pub cancelled_named : ScopeView → List ℕ → Option NameKind → Cancelled
 cancelled_named s name (Some kind.Task) = cancelled_one.Task (handle_place s name)
 cancelled_named s name (Some kind.Group) = cancelled_one.Group (handle_place s name)
 cancelled_named s name _ = cancelled_one.Root (record { 0 = place_of s.directory.roots name })
 
 -- a statement without a block
-abbrev pub action_code : Plan → Scope → ActionTree → Code
+abbrev pub action_code : PlanView → ScopeView → ActionTree → Code
 action_code p s (Let name v) = value_to p s (Variable (numbers_in s)) v
 action_code p s (LetTask name m) = act (make_to p s (Some (handles_in s)) m) end
 action_code p s (Assign name v) = value_to p s (place_named p s name) v
@@ -129,7 +129,7 @@ action_code p s Check = act code.check end
 action_code p s Yield = act code.yield end
 
 -- a block with its head, where `inner` is the code of the block; an `assume` of an actor of another executor is a fault
-abbrev pub headed_code : Plan → Scope → HeadTree → Code → Code
+abbrev pub headed_code : PlanView → ScopeView → HeadTree → Code → Code
 headed_code p s (If t) inner = choice (lowered p s t) inner end end
 headed_code p s (While t) inner = loop (lowered p s t) inner end
 headed_code p s (Bind name t) inner = act (code.bind (place_of p.directory.locals name) (lowered p s t)) (followed inner (act code.unbind end))
@@ -139,12 +139,12 @@ headed_code p s (Assume name) inner =
     else act code.isolated end
 
 abbrev mutual
-  pub stmt_code : Plan → Scope → StmtTree → Code
+  pub stmt_code : PlanView → ScopeView → StmtTree → Code
   stmt_code p s (Do a) = action_code p s a
   stmt_code p s (Headed h b) = headed_code p s h (block_code p (scope_within s h) b)
   stmt_code p s (IfElse t a b) = choice (lowered p s t) (block_code p s a) (block_code p s b) end
 
   -- the statements of a block, one after the other
-  pub block_code : Plan → Scope → BlockTree → Code
+  pub block_code : PlanView → ScopeView → BlockTree → Code
   block_code p s nothing = end
   block_code p s (first_then x xs) = followed (stmt_code p s x) (block_code p (scope_after s x) xs)

@@ -4,17 +4,17 @@ use Rattle.std.specs.Prelude.{◌≡◌, ◌<◌, Bool, true, false, IfSome}
 use Rattle.std.specs.List.{list_any, AllByRecursion}
 use Rattle.script_names.specs.declared.scope.NameKind.{NameKind}
 use Rattle.script_names.specs.declared.scope.NameKind.TheVariants as kind
-use Rattle.script_names.specs.Scope.{Scope}
-use Rattle.script_code.specs.declared.instruction.Place.{Place}
-use Rattle.script_code.specs.declared.instruction.Place.TheVariants.{Variable, Field}
+use Rattle.script_names.specs.Scope.{ScopeView}
+use Rattle.script_code.specs.declared.instruction.NumberPlace.{NumberPlace}
+use Rattle.script_code.specs.declared.instruction.NumberPlace.TheVariants.{Variable, Field}
 use Rattle.script_code.specs.declared.instruction.Cancelled.{Cancelled}
 use Rattle.script_code.specs.declared.instruction.Cancelled.TheVariants as cancelled_one
-use Rattle.script_code.specs.Tree.{Term, number, variable, field, local, priority, cancelled, opposite, denial, binary, Target, Wanted, call, root, task, next, Operation, set_variable, set_field, return, throw, check, yield, wait, receive, spawn, detach, add, cancel, open_group, close_group, bind, unbind, assume, isolated, Code}
-use Rattle.script_lowering.specs.declared.counts.Counts.{Counts}
+use Rattle.script_code.specs.Tree.{Term, number, variable, field, local, priority, cancelled, opposite, denial, binary, CallTarget, Wanted, call, root, task, next, Operation, set_variable, set_field, return, throw, check, yield, wait, receive, spawn, detach, add, cancel, open_group, close_group, bind, unbind, assume, isolated, Code}
+use Rattle.script_lowering.specs.declared.counts.PlaceCounts.{PlaceCounts}
 use Rattle.script_lowering.specs.Parts.{EachPart}
 
 -- The variables that an expression reads are below the number of numbers.
-abbrev pub TermBelow : Counts → Term → Type 0
+abbrev pub TermBelow : PlaceCounts → Term → Type 0
 TermBelow c (number n) = Unit {0}
 TermBelow c (variable x) = x < c.numbers
 TermBelow c (field p) = Unit {0}
@@ -26,29 +26,29 @@ TermBelow c (denial a) = TermBelow c a
 TermBelow c (binary o a b) = TermBelow c a × TermBelow c b
 
 -- So is the variable that is set.
-abbrev pub PlaceBelow : Counts → Place → Type 0
+abbrev pub PlaceBelow : PlaceCounts → NumberPlace → Type 0
 PlaceBelow c (Variable x) = x < c.numbers
 PlaceBelow c (Field p) = Unit {0}
 
 -- So are those that a call's arguments read.
-abbrev pub TargetBelow : Counts → Target → Type 0
+abbrev pub TargetBelow : PlaceCounts → CallTarget → Type 0
 TargetBelow c t = AllByRecursion (TermBelow c) t.args
 
 -- The handle of a task or a group that is waited for is below the number of handles.
-abbrev pub WantedBelow : Counts → Wanted → Type 0
+abbrev pub WantedBelow : PlaceCounts → Wanted → Type 0
 WantedBelow c (call t) = TargetBelow c t
 WantedBelow c (root r) = Unit {0}
 WantedBelow c (task h) = h < c.handles
 WantedBelow c (next h) = h < c.handles
 
 -- So is that of a task or a group that is cancelled.
-abbrev pub CancelledBelow : Counts → Cancelled → Type 0
+abbrev pub CancelledBelow : PlaceCounts → Cancelled → Type 0
 CancelledBelow c (cancelled_one.Task h) = h < c.handles
 CancelledBelow c (cancelled_one.Group h) = h < c.handles
 CancelledBelow c (cancelled_one.Root r) = Unit {0}
 
 -- All places of a statement are below: those that it reads, sets, uses and keeps.
-abbrev pub OperationBelow : Counts → Operation → Type 0
+abbrev pub OperationBelow : PlaceCounts → Operation → Type 0
 OperationBelow c (set_variable x t) = (x < c.numbers) × TermBelow c t
 OperationBelow c (set_field p t) = TermBelow c t
 OperationBelow c (return t) = TermBelow c t
@@ -69,7 +69,7 @@ OperationBelow c assume = Unit {0}
 OperationBelow c isolated = Unit {0}
 
 -- Every place that code names is below the number of places.
-abbrev pub PlacesBelow : Counts → Code → Type 0
+abbrev pub PlacesBelow : PlaceCounts → Code → Type 0
 PlacesBelow c body = EachPart (OperationBelow c) (TermBelow c) body
 
 -- whether a kind is that of a field
@@ -80,5 +80,5 @@ is_field kind.Task = false
 is_field kind.Group = false
 
 -- The names of the method that stand there are numbers and handles: none has the kind of a field.
-abbrev pub HoldsNoField : Scope → Type 0
+abbrev pub HoldsNoField : ScopeView → Type 0
 HoldsNoField s = list_any is_field s.kinds ≡ false

@@ -3,11 +3,11 @@
 use Rattle.std.specs.Prelude.{◌≡◌, ℕ, ℤ, ◌+◌, ◌<◌, ◌==◌, get_or, List, [], ◌∷◌, length, take, slice_get, unwrap_or, count_by, Option, Some, None}
 use Rattle.script_grammar.specs.Tree.{DeclTree, Binds, Acts}
 use Rattle.script_names.specs.Texts.{place_of}
-use Rattle.script_names.specs.Directory.{Directory, directory_of, executors_in}
+use Rattle.script_names.specs.Directory.{DirectoryView, directory_of, executors_in}
 
 -- the directory, the default of each task local, and the executor of each actor
-pub record Plan : Type 0 where
-  pub directory : Directory
+pub record PlanView : Type 0 where
+  pub directory : DirectoryView
   pub defaults : List ℤ
   pub executors : List ℕ
 
@@ -29,11 +29,11 @@ executors_from declared own [] = []
 executors_from declared own (Acts a ∷ xs) = on_executor declared own a.executor (λ next. executors_from declared next xs)
 executors_from declared own (_ ∷ xs) = executors_from declared own xs
 
-abbrev pub plan_of : List DeclTree → Plan
+abbrev pub plan_of : List DeclTree → PlanView
 plan_of decls = record { directory = directory_of decls; defaults = defaults_in decls; executors = executors_from (executors_in decls) (length (executors_in decls)) decls }
 
 -- the executor of the actor at a place
-abbrev pub executor_at : Plan → ℕ → ℕ
+abbrev pub executor_at : PlanView → ℕ → ℕ
 executor_at p actor = unwrap_or (slice_get p.executors actor) 0
 
 -- the place of an actor among the actors of its executor, by the executor of each actor: how many of those stand before
@@ -41,7 +41,7 @@ executor_at p actor = unwrap_or (slice_get p.executors actor) 0
 abbrev pub actor_place_in : List ℕ → ℕ → ℕ
 actor_place_in executors actor = count_by (λ e. e == unwrap_or (slice_get executors actor) 0) (take actor executors)
 
-abbrev pub actor_place_of : Plan → ℕ → ℕ
+abbrev pub actor_place_of : PlanView → ℕ → ℕ
 actor_place_of p actor = actor_place_in p.executors actor
 
 -- the place of each actor among those of its executor

@@ -1,19 +1,19 @@
 -- What stands after statements, and what stands again after a block.
 use Rattle.std.specs.Prelude.{List, [], ◌∷◌, take, length}
 use Rattle.script_grammar.specs.Tree.{StmtTree}
-use Rattle.script_names.specs.Scope.{Scope}
+use Rattle.script_names.specs.Scope.{ScopeView}
 use Rattle.script_names.specs.Rules.{scope_after}
 use Rattle.script_names.specs.declared.scope.Outside.{Outside}
 
 -- what stands outside a block in which this stands
-abbrev pub outside_of : Scope → Outside
+abbrev pub outside_of : ScopeView → Outside
 outside_of s = record { actor = s.actor; names = length s.names; bound = s.bound }
 
 -- what stands after a block at whose end this stands
-abbrev pub left : Outside → Scope → Scope
+abbrev pub left : Outside → ScopeView → ScopeView
 left o s = record s { actor = o.actor; names = take o.names s.names; kinds = take o.names s.kinds; bound = o.bound }
 
 -- what stands after some statements
-abbrev pub scope_through : Scope → List StmtTree → Scope
+abbrev pub scope_through : ScopeView → List StmtTree → ScopeView
 scope_through s [] = s
 scope_through s (x ∷ xs) = scope_through (scope_after s x) xs

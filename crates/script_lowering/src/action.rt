@@ -7,12 +7,12 @@ ghost use Rattle.script_code.specs.Tree.{term_of, act, end};
 ghost use Rattle.script_code.specs.Layout.{meaning_of, entry, written};
 ghost use Rattle.script_lowering.specs.Lowered.{wait_to, set_at, value_to, make_to, action_code};
 
-use crate::call::{awaited, call, cancelled};
+use crate::call::{call, lower_awaited, lower_cancelled};
 use crate::expression::{expression, expression_if, place};
 use crate::instruction::write;
 use crate::plan::Plan;
-use crate::standing::Standing;
-use script_code::{Act, Formula, Instruction, Place};
+use crate::standing::StandingNames;
+use script_code::{Act, Formula, Instruction, NumberPlace};
 use script_grammar::{Action, Make, Value, Wait};
 use std::alloc::{AllocError, Global};
 
@@ -20,24 +20,24 @@ use std::alloc::{AllocError, Global};
 fn wait(
     alloc: Global,
     plan: &Plan,
-    scope: &Standing<'_>,
+    scope: &StandingNames<'_>,
     instructions: &mut Vec<Instruction>,
-    place: Option<Place>,
+    place: Option<NumberPlace>,
     wait: &Wait,
     next: u32,
 ) -> Result<u32, AllocError>
     ensures lines { OnOk result (map meaning_of instructions.new.items ≡ map meaning_of instructions.old.items ++ written (wait_to plan.now scope.now place (view_wait wait.now)) (length instructions.old.items) next) }
     ensures start { IfOk result (λ n. n ≡ entry (wait_to plan.now scope.now place (view_wait wait.now)) (length instructions.old.items) next) }
 {
-    let awaited = awaited(alloc, plan, scope, &wait.awaited)?;
+    let awaited = lower_awaited(alloc, plan, scope, &wait.awaited)?;
     let other = expression_if(alloc, plan, scope, &wait.other)?;
     let answer = write(instructions, Act::Receive(place, other), next)?;
     write(instructions, Act::Wait(awaited), answer)
 }
 
-fn set(
+fn write_set(
     instructions: &mut Vec<Instruction>,
-    place: Place,
+    place: NumberPlace,
     formula: Formula,
     next: u32,
 ) -> Result<u32, AllocError>
@@ -45,8 +45,8 @@ fn set(
     ensures start { IfOk result (λ n. n ≡ entry (act (set_at place (term_of formula)) end) (length instructions.old.items) next) }
 {
     let act = match place {
-        Place::Variable(k) => Act::SetVariable(k, formula),
-        Place::Field(k) => Act::SetField(k, formula),
+        NumberPlace::Variable(k) => Act::SetVariable(k, formula),
+        NumberPlace::Field(k) => Act::SetField(k, formula),
     };
     write(instructions, act, next)
 }
@@ -55,9 +55,9 @@ fn set(
 fn assignment(
     alloc: Global,
     plan: &Plan,
-    scope: &Standing<'_>,
+    scope: &StandingNames<'_>,
     instructions: &mut Vec<Instruction>,
-    place: Place,
+    place: NumberPlace,
     value: &Value,
     next: u32,
 ) -> Result<u32, AllocError>
@@ -67,7 +67,7 @@ fn assignment(
     match value {
         Value::Expr(expr) => {
             let formula = expression(alloc, plan, scope, expr)?;
-            set(instructions, place, formula, next)
+            write_set(instructions, place, formula, next)
         }
         Value::Await(awaited) => wait(alloc, plan, scope, instructions, Some(place), awaited, next),
     }
@@ -77,7 +77,7 @@ fn assignment(
 fn make(
     alloc: Global,
     plan: &Plan,
-    scope: &Standing<'_>,
+    scope: &StandingNames<'_>,
     instructions: &mut Vec<Instruction>,
     handle: Option<u32>,
     make: &Make,
@@ -101,7 +101,7 @@ fn make(
 pub(crate) fn action(
     alloc: Global,
     plan: &Plan,
-    scope: &Standing<'_>,
+    scope: &StandingNames<'_>,
     instructions: &mut Vec<Instruction>,
     action: &Action,
     next: u32,
@@ -111,7 +111,7 @@ pub(crate) fn action(
 {
     match action {
         Action::Let(_, value) => {
-            let place = Place::Variable(scope.counts().numbers);
+            let place = NumberPlace::Variable(scope.counts().numbers);
             assignment(alloc, plan, scope, instructions, place, value, next)
         }
         Action::LetTask(_, made) => {
@@ -131,7 +131,7 @@ pub(crate) fn action(
             write(instructions, act, next)
         }
         Action::Cancel(name) => {
-            let cancelled = cancelled(scope, &name.text)?;
+            let cancelled = lower_cancelled(scope, &name.text)?;
             write(instructions, Act::Cancel(cancelled), next)
         }
         Action::Return(expr) => {

@@ -3,7 +3,7 @@
 
 ghost use Rattle.std.specs.Prelude.{◌≡◌, ◌++◌, length, map, IfOk, OnOk};
 ghost use Rattle.script_grammar.specs.Tree.{view_head, view_stmt, block_tree};
-ghost use Rattle.script_names.specs.Scope.{Scope as ScopeView};
+ghost use Rattle.script_names.specs.Scope.{ScopeView};
 ghost use Rattle.script_names.specs.Rules.{scope_after, scope_within};
 ghost use Rattle.script_code.specs.Layout.{meaning_of, entry, written};
 ghost use Rattle.script_lowering.specs.Lowered.{stmt_code, block_code};
@@ -15,14 +15,14 @@ use crate::expression::expression;
 use crate::instruction::{write, write_test};
 use crate::number::declared;
 use crate::plan::Plan;
-use crate::standing::Standing;
+use crate::standing::StandingNames;
 use script_code::{Act, Instruction, link};
 use script_grammar::{Action, Head, Stmt};
 use script_names::NameKind;
 use std::alloc::{AllocError, Global};
 
 // After a statement what it makes stands.
-fn pass(alloc: Global, scope: &mut Standing<'_>, stmt: &Stmt) -> Result<(), AllocError>
+fn pass(alloc: Global, scope: &mut StandingNames<'_>, stmt: &Stmt) -> Result<(), AllocError>
     ensures { OnOk result (scope.new ≡ scope_after scope.old (view_stmt stmt.now)) }
 {
     match stmt {
@@ -33,7 +33,7 @@ fn pass(alloc: Global, scope: &mut Standing<'_>, stmt: &Stmt) -> Result<(), Allo
 }
 
 // Before a statement what it makes stands no more.
-fn pass_back(scope: &mut Standing<'_>, stmt: &Stmt)
+fn pass_back(scope: &mut StandingNames<'_>, stmt: &Stmt)
     ensures { (s : ScopeView) → scope.old ≡ scope_after s (view_stmt stmt.now) → scope.new ≡ s }
 {
     match stmt {
@@ -43,7 +43,7 @@ fn pass_back(scope: &mut Standing<'_>, stmt: &Stmt)
 }
 
 // What stands in a block, by its head.
-fn enter(alloc: Global, scope: &mut Standing<'_>, head: &Head) -> Result<(), AllocError>
+fn enter(alloc: Global, scope: &mut StandingNames<'_>, head: &Head) -> Result<(), AllocError>
     ensures { OnOk result (scope.new ≡ scope_within scope.old (view_head head.now)) }
 {
     match head {
@@ -59,7 +59,7 @@ fn enter(alloc: Global, scope: &mut Standing<'_>, head: &Head) -> Result<(), All
 }
 
 // Whether an `assume` names an actor of another executor, so that its block is not run.
-fn is_isolated(plan: &Plan, scope: &Standing<'_>, head: &Head) -> Result<bool, AllocError>
+fn is_isolated(plan: &Plan, scope: &StandingNames<'_>, head: &Head) -> Result<bool, AllocError>
     ensures { IfOk result (λ b. b ≡ is_isolated plan.now scope.now (view_head head.now)) }
 {
     match head {
@@ -91,7 +91,7 @@ fn write_foot(
 fn head_act(
     alloc: Global,
     plan: &Plan,
-    scope: &Standing<'_>,
+    scope: &StandingNames<'_>,
     head: &Head,
 ) -> Result<Act, AllocError>
     ensures { IfOk result (λ a. HeadsAs a plan.now scope.now (view_head head.now)) }
@@ -112,7 +112,7 @@ fn head_act(
 fn statement(
     alloc: Global,
     plan: &Plan,
-    scope: &mut Standing<'_>,
+    scope: &mut StandingNames<'_>,
     instructions: &mut Vec<Instruction>,
     stmt: &Stmt,
     next: u32,
@@ -159,7 +159,7 @@ fn statement(
 pub(crate) fn block(
     alloc: Global,
     plan: &Plan,
-    scope: &mut Standing<'_>,
+    scope: &mut StandingNames<'_>,
     instructions: &mut Vec<Instruction>,
     block: &[Stmt],
     next: u32,

@@ -10,7 +10,7 @@ ghost use Rattle.script_lowering.specs.Lowered.{target_of, task_named, wanted_of
 use crate::expression::expressions;
 use crate::number::declared;
 use crate::plan::Plan;
-use crate::standing::Standing;
+use crate::standing::StandingNames;
 use script_code::Cancelled;
 use script_grammar::{Awaited, Call};
 use script_names::NameKind;
@@ -21,56 +21,59 @@ use swift_types::{ActorId, MethodId, RootId};
 pub(crate) fn call(
     alloc: Global,
     plan: &Plan,
-    scope: &Standing<'_>,
+    scope: &StandingNames<'_>,
     call: &Call,
-) -> Result<script_code::Call, AllocError>
+) -> Result<script_code::CompiledCall, AllocError>
     ensures { IfOk result (λ c. target_said c ≡ target_of plan.now scope.now (view_call call.now)) }
 {
     let (actor, method) = (&call.actor.text, &call.method.text);
     let script = scope.declared();
-    Ok(script_code::Call {
+    Ok(script_code::CompiledCall {
         actor: ActorId(declared(script.actor(actor))?),
         method: MethodId(declared(script.method(alloc, actor, method)?)?),
         args: expressions(alloc, plan, scope, &call.args)?,
     })
 }
 
-fn root(scope: &Standing<'_>, name: &[u8]) -> Result<RootId, AllocError>
+fn root(scope: &StandingNames<'_>, name: &[u8]) -> Result<RootId, AllocError>
     ensures { IfOk result (λ r. r.0 ≡ place_of scope.now.directory.roots name.now) }
 {
     Ok(RootId(declared(scope.declared().root(name))?))
 }
 
 // A name after `task` is the task variable of that name, or else the root.
-fn task(scope: &Standing<'_>, name: &[u8]) -> Result<script_code::Awaited, AllocError>
+fn task(scope: &StandingNames<'_>, name: &[u8]) -> Result<script_code::CompiledAwait, AllocError>
     ensures { IfOk result (λ w. wanted_said w ≡ task_named scope.now name.now (meaning_of scope.now name.now)) }
 {
     match scope.meaning(name) {
-        Some(NameKind::Task) => Ok(script_code::Awaited::Task(scope.handle_place(name))),
-        _ => Ok(script_code::Awaited::Root(root(scope, name)?)),
+        Some(NameKind::Task) => Ok(script_code::CompiledAwait::Task(scope.handle_place(name))),
+        _ => Ok(script_code::CompiledAwait::Root(root(scope, name)?)),
     }
 }
 
 /// What is waited for.
-pub(crate) fn awaited(
+pub(crate) fn lower_awaited(
     alloc: Global,
     plan: &Plan,
-    scope: &Standing<'_>,
+    scope: &StandingNames<'_>,
     awaited: &Awaited,
-) -> Result<script_code::Awaited, AllocError>
+) -> Result<script_code::CompiledAwait, AllocError>
     ensures { IfOk result (λ w. wanted_said w ≡ wanted_of plan.now scope.now (view_awaited awaited.now)) }
 {
     match awaited {
-        Awaited::Call(awaited) => Ok(script_code::Awaited::Call(call(
+        Awaited::Call(awaited) => Ok(script_code::CompiledAwait::Call(call(
             alloc, plan, scope, awaited,
         )?)),
         Awaited::Task(name) => task(scope, &name.text),
-        Awaited::Next(name) => Ok(script_code::Awaited::Next(scope.handle_place(&name.text))),
+        Awaited::Next(name) => Ok(script_code::CompiledAwait::Next(scope.handle_place(&name.text))),
     }
 }
 
 /// A name after `cancel` is the task variable or the group of that name, or else the root.
-pub(crate) fn cancelled(scope: &Standing<'_>, name: &[u8]) -> Result<Cancelled, AllocError>
+pub(crate) fn lower_cancelled(
+    scope: &StandingNames<'_>,
+    name: &[u8],
+) -> Result<Cancelled, AllocError>
     ensures { IfOk result (λ k. k ≡ cancelled_named scope.now name.now (meaning_of scope.now name.now)) }
 {
     match scope.meaning(name) {

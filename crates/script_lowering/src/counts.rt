@@ -12,7 +12,7 @@ use std::alloc::AllocError;
 /// How many numbers and how many handles stand: the places of the next ones. Parameters and variables hold numbers; task
 /// variables and groups are handles.
 #[derive(Clone, Copy)]
-pub struct Counts {
+pub struct PlaceCounts {
     /// How many numbers.
     pub numbers: u32,
     /// How many handles.
@@ -20,53 +20,53 @@ pub struct Counts {
 }
 
 /// One name more.
-pub(crate) fn counted(counts: Counts, kind: NameKind) -> Result<Counts, AllocError>
+pub(crate) fn count_name(counts: PlaceCounts, kind: NameKind) -> Result<PlaceCounts, AllocError>
     ensures { IfOk result (λ c. c ≡ counted counts kind) }
 {
-    let Counts { numbers, handles } = counts;
+    let PlaceCounts { numbers, handles } = counts;
     match kind {
         NameKind::Field => Ok(counts),
-        NameKind::Number => Ok(Counts {
+        NameKind::Number => Ok(PlaceCounts {
             numbers: sum(numbers, 1)?,
             handles,
         }),
-        NameKind::Task | NameKind::Group => Ok(Counts {
+        NameKind::Task | NameKind::Group => Ok(PlaceCounts {
             numbers,
             handles: sum(handles, 1)?,
         }),
     }
 }
 
-fn greater(a: Counts, b: Counts) -> Counts
+fn greater(a: PlaceCounts, b: PlaceCounts) -> PlaceCounts
     ensures { result ≡ greater a b }
 {
-    Counts {
+    PlaceCounts {
         numbers: a.numbers.max(b.numbers),
         handles: a.handles.max(b.handles),
     }
 }
 
-fn counts_after(counts: Counts, stmt: &Stmt) -> Result<Counts, AllocError>
+fn counts_after(counts: PlaceCounts, stmt: &Stmt) -> Result<PlaceCounts, AllocError>
     ensures { IfOk result (λ c. c ≡ counts_after counts (view_stmt stmt.now)) }
 {
     match stmt {
-        Stmt::Do(Action::Let(_, _)) => counted(counts, NameKind::Number),
-        Stmt::Do(Action::LetTask(_, _)) => counted(counts, NameKind::Task),
+        Stmt::Do(Action::Let(_, _)) => count_name(counts, NameKind::Number),
+        Stmt::Do(Action::LetTask(_, _)) => count_name(counts, NameKind::Task),
         _ => Ok(counts),
     }
 }
 
-fn counts_within(counts: Counts, head: &Head) -> Result<Counts, AllocError>
+fn counts_within(counts: PlaceCounts, head: &Head) -> Result<PlaceCounts, AllocError>
     ensures { IfOk result (λ c. c ≡ counts_within counts (view_head head.now)) }
 {
     match head {
-        Head::Group(_) => counted(counts, NameKind::Group),
+        Head::Group(_) => count_name(counts, NameKind::Group),
         _ => Ok(counts),
     }
 }
 
 #[cycle(most)]
-fn most_in(counts: Counts, stmt: &Stmt) -> Result<Counts, AllocError>
+fn most_in(counts: PlaceCounts, stmt: &Stmt) -> Result<PlaceCounts, AllocError>
     ensures { IfOk result (λ c. c ≡ most_in counts (view_stmt stmt.now)) }
 {
     match stmt {
@@ -81,10 +81,10 @@ fn most_in(counts: Counts, stmt: &Stmt) -> Result<Counts, AllocError>
 /// How many numbers and handles stand at most in the statements of a block, where so many stand before it, in time linear
 /// in these and in all within them.
 #[cycle(most)]
-pub(crate) fn most_of(counts: Counts, block: &[Stmt]) -> Result<Counts, AllocError>
+pub(crate) fn most_of(counts: PlaceCounts, block: &[Stmt]) -> Result<PlaceCounts, AllocError>
     ensures { IfOk result (λ c. c ≡ most_of counts (block_tree (map view_stmt block.now))) }
 {
-    let mut most = Counts {
+    let mut most = PlaceCounts {
         numbers: 0,
         handles: 0,
     };

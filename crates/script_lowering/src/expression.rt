@@ -8,33 +8,37 @@ ghost use Rattle.script_lowering.specs.Lowered.{default_of, place_named, lowered
 
 use crate::number::to_u32;
 use crate::plan::Plan;
-use crate::standing::Standing;
-use script_code::{FieldPlace, Formula, Place};
+use crate::standing::StandingNames;
+use script_code::{FieldPlace, Formula, NumberPlace};
 use script_grammar::Expr;
 use std::alloc::{AllocError, Global};
 
 /// The field of that name, or else the variable, found by hashes. A name that stands nowhere is taken as the variable
 /// after the last.
 #[tactic(auto, unfolding(crate::specs::Lowered::place_named))]
-pub(crate) fn place(plan: &Plan, scope: &Standing<'_>, name: &[u8]) -> Result<Place, AllocError>
+pub(crate) fn place(
+    plan: &Plan,
+    scope: &StandingNames<'_>,
+    name: &[u8],
+) -> Result<NumberPlace, AllocError>
     ensures { IfOk result (λ p. p ≡ place_named plan.now scope.now name.now) }
 {
     match scope.field(name) {
-        Some(field) => Ok(Place::Field(FieldPlace {
+        Some(field) => Ok(NumberPlace::Field(FieldPlace {
             actor: plan.actor_place(scope.actor())?,
             field: to_u32(field)?,
         })),
-        None => Ok(Place::Variable(scope.number_place(name))),
+        None => Ok(NumberPlace::Variable(scope.number_place(name))),
     }
 }
 
 // What the place of a name holds.
-fn named(plan: &Plan, scope: &Standing<'_>, name: &[u8]) -> Result<Formula, AllocError>
+fn lower_name(plan: &Plan, scope: &StandingNames<'_>, name: &[u8]) -> Result<Formula, AllocError>
     ensures { IfOk result (λ f. term_of f ≡ lowered plan.now scope.now (Named name.now)) }
 {
     match place(plan, scope, name)? {
-        Place::Variable(k) => Ok(Formula::Variable(k)),
-        Place::Field(k) => Ok(Formula::Field(k)),
+        NumberPlace::Variable(k) => Ok(Formula::Variable(k)),
+        NumberPlace::Field(k) => Ok(Formula::Field(k)),
     }
 }
 
@@ -50,14 +54,14 @@ fn local(plan: &Plan, name: &[u8]) -> Result<Formula, AllocError>
 pub(crate) fn expression(
     alloc: Global,
     plan: &Plan,
-    scope: &Standing<'_>,
+    scope: &StandingNames<'_>,
     expr: &Expr,
 ) -> Result<Formula, AllocError>
     ensures { IfOk result (λ f. term_of f ≡ lowered plan.now scope.now (view expr.now)) }
 {
     match expr {
         Expr::Number(n) => Ok(Formula::Number(*n)),
-        Expr::Name(name) => named(plan, scope, &name.text),
+        Expr::Name(name) => lower_name(plan, scope, &name.text),
         Expr::Local(name) => local(plan, &name.text),
         Expr::Priority => Ok(Formula::Priority),
         Expr::Cancelled => Ok(Formula::Cancelled),
@@ -81,7 +85,7 @@ pub(crate) fn expression(
 pub(crate) fn expressions(
     alloc: Global,
     plan: &Plan,
-    scope: &Standing<'_>,
+    scope: &StandingNames<'_>,
     exprs: &[Expr],
 ) -> Result<Vec<Formula>, AllocError>
     ensures { IfOk result (λ v. terms_of v.items ≡ map (lowered plan.now scope.now) (map view exprs.now)) }
@@ -97,7 +101,7 @@ pub(crate) fn expressions(
 pub(crate) fn expression_if(
     alloc: Global,
     plan: &Plan,
-    scope: &Standing<'_>,
+    scope: &StandingNames<'_>,
     expr: &Option<Expr>,
 ) -> Result<Option<Formula>, AllocError>
     ensures { IfOk result (λ f. term_if f ≡ lowered_if plan.now scope.now (view_if expr.now)) }

@@ -24,6 +24,6 @@ mod plan;
 // What stands at a place of a method.
 mod standing;
 
-pub use counts::Counts;
+pub use counts::PlaceCounts;
 pub use method::{Lowered, formula, lower};
 pub use plan::Plan;

@@ -5,7 +5,7 @@ ghost use Rattle.script_grammar.specs.Tree.{text_of, view, view_stmt, block_tree
 ghost use Rattle.script_names.specs.Scope.{fields_alone};
 ghost use Rattle.script_names.specs.Rules.{with_parameters};
 ghost use Rattle.script_code.specs.Tree.{term_of};
-ghost use Rattle.script_code.specs.Instructions.{Follows};
+ghost use Rattle.script_code.specs.Instructions.{FollowsCode};
 ghost use Rattle.script_code.specs.Layout.{code_at};
 ghost use Rattle.script_lowering.specs.Counts.{counts_of, most_of};
 ghost use Rattle.script_lowering.specs.Lowered.{lowered, block_code};
@@ -15,7 +15,7 @@ use crate::counts::most_of;
 use crate::expression::expression;
 use crate::instruction::write;
 use crate::plan::Plan;
-use crate::standing::Standing;
+use crate::standing::StandingNames;
 use script_code::laws::written_code_implements;
 use script_code::{Act, Formula, Instruction, renumber};
 use script_grammar::{Expr, Name, Stmt};
@@ -47,12 +47,12 @@ pub fn lower(
 ) -> Result<Lowered, AllocError>
     // To follow the instructions from instruction 0 on is to do the statements.
     ensures stands { let code = block_code plan.now (with_parameters (fields_alone plan.now.directory actor) (map text_of params.now)) (block_tree (map view_stmt body.now)) in
-        IfOk result (λ l. Follows l.instructions.items code (code_at code)) }
+        IfOk result (λ l. FollowsCode l.instructions.items code (code_at code)) }
     // Each number and each handle has a place, and no place is spare.
     ensures places { let scope = with_parameters (fields_alone plan.now.directory actor) (map text_of params.now) in
         IfOk result (λ l. record { numbers = l.numbers; handles = l.handles } ≡ most_of (counts_of scope.kinds) (block_tree (map view_stmt body.now))) }
 {
-    let mut scope = Standing::fields_alone(alloc, plan.declared(), actor);
+    let mut scope = StandingNames::fields_alone(alloc, plan.declared(), actor);
     parameters(alloc, &mut scope, params)?;
     let most = most_of(scope.counts(), body)?;
     let instructions = instructions(alloc, plan, &mut scope, body)?;
@@ -67,12 +67,16 @@ pub fn lower(
 pub fn formula(alloc: Global, plan: &Plan, actor: usize, expr: &Expr) -> Result<Formula, AllocError>
     ensures { IfOk result (λ f. term_of f ≡ lowered plan.now (fields_alone plan.now.directory actor) (view expr.now)) }
 {
-    let scope = Standing::fields_alone(alloc, plan.declared(), actor);
+    let scope = StandingNames::fields_alone(alloc, plan.declared(), actor);
     expression(alloc, plan, &scope, expr)
 }
 
 // The parameters stand.
-fn parameters(alloc: Global, scope: &mut Standing<'_>, params: &[Name]) -> Result<(), AllocError>
+fn parameters(
+    alloc: Global,
+    scope: &mut StandingNames<'_>,
+    params: &[Name],
+) -> Result<(), AllocError>
     ensures { OnOk result (scope.new ≡ with_parameters scope.old (map text_of params.now)) }
 {
     for param in params {
@@ -85,11 +89,11 @@ fn parameters(alloc: Global, scope: &mut Standing<'_>, params: &[Name]) -> Resul
 fn instructions(
     alloc: Global,
     plan: &Plan,
-    scope: &mut Standing<'_>,
+    scope: &mut StandingNames<'_>,
     body: &[Stmt],
 ) -> Result<Vec<Instruction>, AllocError>
     ensures { let code = block_code plan.now scope.old (block_tree (map view_stmt body.now)) in
-        IfOk result (λ v. Follows v.items code (code_at code)) }
+        IfOk result (λ v. FollowsCode v.items code (code_at code)) }
 {
     let mut instructions = Vec::new(alloc);
     write(&mut instructions, Act::End, 0)?;

@@ -39,9 +39,9 @@ impl Drop for Plan {
 }
 
 impl Model for Plan {
-    ghost use Rattle.script_lowering.specs.Plan.{Plan, AreActorPlaces};
+    ghost use Rattle.script_lowering.specs.Plan.{PlanView, AreActorPlaces};
 
-    ghost Value = { Plan };
+    ghost Value = { PlanView };
 
     ghost view = { λ p. record { directory = p.declared; defaults = p.defaults.items; executors = p.executors.items } };
 

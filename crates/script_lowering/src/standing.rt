@@ -3,27 +3,27 @@
 ghost use Rattle.std.specs.Prelude.{◌≡◌, is_some, length, take, ℕ, List, IfSome, OnOk};
 ghost use Rattle.script_names.specs.Texts.{is_among, place_of};
 ghost use Rattle.script_names.specs.Directory.{fields_at};
-ghost use Rattle.script_names.specs.Scope.{fields_alone, with_standing, meaning_of, Scope as ScopeView};
+ghost use Rattle.script_names.specs.Scope.{fields_alone, with_standing, meaning_of, ScopeView};
 ghost use Rattle.script_lowering.specs.Counts.{counts_of};
 ghost use Rattle.script_lowering.specs.Lowered.{numbers_in, handles_in, number_place, handle_place};
 ghost use Rattle.script_lowering.specs.Standing.{outside_of, left};
 
-use crate::counts::{Counts, counted};
+use crate::counts::{PlaceCounts, count_name};
 use script_names::{Declared, NameKind, Outside, Scope};
 use std::alloc::{AllocError, Global};
 use std::marker::Model;
 
 /// The names that stand at a place of a method, each with how many numbers and handles stand before it. So the place of a
 /// name is found in time linear in the name.
-pub(crate) struct Standing<'a> {
+pub(crate) struct StandingNames<'a> {
     scope: Scope<'a>,
-    counts: Vec<Counts>,
-    here: Counts,
+    counts: Vec<PlaceCounts>,
+    here: PlaceCounts,
 }
 
-impl Drop for Standing<'_> {
+impl Drop for StandingNames<'_> {
     fn drop(self) {
-        let Standing {
+        let StandingNames {
             scope,
             counts,
             here: _,
@@ -33,27 +33,31 @@ impl Drop for Standing<'_> {
     }
 }
 
-impl<'a> Model for Standing<'a> {
+impl<'a> Model for StandingNames<'a> {
     ghost use Rattle.std.specs.Prelude.{◌≡◌, length};
-    ghost use Rattle.script_names.specs.Scope.{Scope};
+    ghost use Rattle.script_names.specs.Scope.{ScopeView};
     ghost use Rattle.script_lowering.specs.Counts.{AreCounts};
 
-    ghost Value = { Scope };
+    ghost Value = { ScopeView };
 
     ghost view = { λ s. s.scope };
 
     ghost invariant = { λ s. AreCounts s.scope.kinds s.counts.items s.here };
 }
 
-impl<'a> Standing<'a> {
+impl<'a> StandingNames<'a> {
     /// Nothing stands there but the fields of the actor at a place.
-    pub(crate) fn fields_alone(alloc: Global, declared: &'a Declared, actor: usize) -> Standing<'a>
+    pub(crate) fn fields_alone(
+        alloc: Global,
+        declared: &'a Declared,
+        actor: usize,
+    ) -> StandingNames<'a>
         ensures { result ≡ fields_alone declared.now actor }
     {
-        Standing {
+        StandingNames {
             scope: Scope::fields_alone(alloc, declared, actor),
             counts: Vec::new(alloc),
-            here: Counts {
+            here: PlaceCounts {
                 numbers: 0,
                 handles: 0,
             },
@@ -93,7 +97,7 @@ impl<'a> Standing<'a> {
     }
 
     // How many stand before the name at a place, or how many stand there.
-    fn counts_at(&self, place: usize) -> Counts
+    fn counts_at(&self, place: usize) -> PlaceCounts
         ensures { result ≡ counts_of (take place self.now.kinds) }
     {
         self.counts.get(place).copied().unwrap_or(self.here)
@@ -114,7 +118,7 @@ impl<'a> Standing<'a> {
     }
 
     /// How many numbers and handles stand there.
-    pub(crate) fn counts(&self) -> Counts
+    pub(crate) fn counts(&self) -> PlaceCounts
         ensures { result ≡ counts_of self.now.kinds }
     {
         self.here
@@ -133,7 +137,7 @@ impl<'a> Standing<'a> {
         if self.scope.meaning(name).is_some() {
             return Err(AllocError);
         }
-        let here = counted(self.here, kind)?;
+        let here = count_name(self.here, kind)?;
         self.counts.push(self.here)?;
         match self.scope.add(alloc, name, kind) {
             Ok(()) => {

@@ -1,10 +1,10 @@
 -- At which token a text fails, from what the parser and the names answer.
 use Rattle.std.proofs.Common.{◌≡◌, ℕ, ◌+◌, ◌-◌, Some, Err, List, length, inl, inr, sym, subst}
 use Rattle.script_tokens.specs.Lexes.{Lexes}
-use Rattle.script_tokens.specs.Pieces.{Piece}
+use Rattle.script_tokens.specs.Pieces.{TokenView}
 use Rattle.script_grammar.specs.Tree.{DeclTree}
 use Rattle.script_grammar.specs.Grammar.{IsScript}
-use Rattle.script_parser.specs.declared.fault.Fault.{Fault}
+use Rattle.script_parser.specs.declared.fault.ParseFault.{ParseFault}
 use Rattle.script_parser.specs.declared.fault.Kind.{Kind}
 use Rattle.script_parser.specs.declared.fault.Kind.TheVariants as grammar
 use Rattle.script_parser.specs.declared.limits.TheConstants.{NESTING}
@@ -24,7 +24,7 @@ of_grammar text grammar.OutOfRange place f = f
 of_grammar text grammar.EndsEarly place f = f
 of_grammar text grammar.TooDeep place f = f
 
-pub grammar_fails : (text : List ℕ) (pieces : List Piece) (f : Fault) (k : ScriptFaultKind) (place : ℕ) → Lexes text pieces → decls_at NESTING pieces ≡ Err f → k ≡ grammar_kind f.kind → place ≡ length pieces - f.tokens_left → FailsAt k text place
+pub grammar_fails : (text : List ℕ) (pieces : List TokenView) (f : ParseFault) (k : ScriptFaultKind) (place : ℕ) → Lexes text pieces → decls_at NESTING pieces ≡ Err f → k ≡ grammar_kind f.kind → place ≡ length pieces - f.tokens_left → FailsAt k text place
 grammar_fails text pieces f k place lexed first is at =
     subst (λ (q : ScriptFaultKind). FailsAt q text place) (sym is) (of_grammar text f.kind place (record { pieces = pieces; lexed = lexed; left = f.tokens_left; first = first; at = at }))
 
@@ -37,6 +37,6 @@ of_names text names.BoundInside place f = f
 of_names text names.TooMany place f = inl f
 of_names text names.TooGreat place f = inr f
 
-pub name_fails : (text : List ℕ) (pieces : List Piece) (decls : List DeclTree) (e : NameError) (k : ScriptFaultKind) (place : ℕ) → Lexes text pieces → IsScript NESTING pieces decls → names_error decls ≡ Some e → k ≡ names_kind e.kind → place ≡ place_of is_name e.names_before pieces + past_name e.kind → FailsAt k text place
+pub name_fails : (text : List ℕ) (pieces : List TokenView) (decls : List DeclTree) (e : NameError) (k : ScriptFaultKind) (place : ℕ) → Lexes text pieces → IsScript NESTING pieces decls → names_error decls ≡ Some e → k ≡ names_kind e.kind → place ≡ place_of is_name e.names_before pieces + past_name e.kind → FailsAt k text place
 name_fails text pieces decls e k place lexed spelled first is at =
     subst (λ (q : ScriptFaultKind). FailsAt q text place) (sym is) (of_names text e.kind place (record { pieces = pieces; lexed = lexed; decls = decls; spelled = spelled; before = e.names_before; first = first; at = at }))

@@ -2,17 +2,17 @@
 use Rattle.std.proofs.Common.{◌≡◌, ◌<◌, ◌-◌, ℕ, suc, true, false, Option, Some, None, List, [], ◌∷◌, length, sym, ap, arith}
 use Rattle.std.specs.Prelude.{is_some}
 use Rattle.script_tokens.specs.Lexes.{front_at, front_of}
-use Rattle.script_tokens.specs.Pieces.{Piece}
+use Rattle.script_tokens.specs.Pieces.{TokenView}
 use Rattle.script_marks.specs.Spans.{StandsAt, passed, earlier, here}
 
 abbrev Front : Type 0
-Front = Option Piece × List ℕ
+Front = Option TokenView × List ℕ
 
 no_piece : (x : Front) (rest : List ℕ) → is_some x.0 ≡ false → rest ≡ x.1 → x ≡ (None, rest)
 no_piece (None, r) rest none is = ap (λ (y : List ℕ). let f : Front = (None, y) in f) (sym is)
 no_piece (Some p, r) rest none is = absurd cc
 
-a_piece : (x : Front) (rest : List ℕ) → is_some x.0 ≡ true → rest ≡ x.1 → (p : Piece) × (x ≡ (Some p, rest))
+a_piece : (x : Front) (rest : List ℕ) → is_some x.0 ≡ true → rest ≡ x.1 → (p : TokenView) × (x ≡ (Some p, rest))
 a_piece (None, r) rest here_is is = absurd cc
 a_piece (Some p, r) rest here_is is = (p, ap (λ (y : List ℕ). let f : Front = (Some p, y) in f) (sym is))
 

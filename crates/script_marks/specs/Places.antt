@@ -1,7 +1,7 @@
 -- At which token a text is refused.
 use Rattle.std.specs.Prelude.{◌≡◌, ◌⊎◌, ◌<◌, ◌+◌, ◌-◌, ℕ, Some, Err, List, length}
 use Rattle.script_tokens.specs.Lexes.{Lexes}
-use Rattle.script_tokens.specs.Pieces.{Piece}
+use Rattle.script_tokens.specs.Pieces.{TokenView}
 use Rattle.script_grammar.specs.Tree.{DeclTree}
 use Rattle.script_grammar.specs.Grammar.{IsScript}
 use Rattle.script_parser.specs.declared.fault.Kind.{Kind}
@@ -19,7 +19,7 @@ use Rattle.swift_script.specs.FaultLines.{is_name, is_invariant, is_root, place_
 
 -- Reading the tokens of a text from left to right meets this fault first, at the token at this place.
 pub record GrammarFailsAt (text : List ℕ) (kind : Kind) (place : ℕ) : Type 0 where
-  pub pieces : List Piece
+  pub pieces : List TokenView
   pub lexed : Lexes text pieces
   pub left : ℕ
   pub first : decls_at NESTING pieces ≡ Err (record { kind = kind; tokens_left = left })
@@ -27,7 +27,7 @@ pub record GrammarFailsAt (text : List ℕ) (kind : Kind) (place : ℕ) : Type 0
 
 -- What a text spells has this as the first error of its names and counts, which concerns the token at this place.
 pub record NameFailsAt (text : List ℕ) (kind : NameErrorKind) (place : ℕ) : Type 0 where
-  pub pieces : List Piece
+  pub pieces : List TokenView
   pub lexed : Lexes text pieces
   pub decls : List DeclTree
   pub spelled : IsScript NESTING pieces decls
@@ -37,7 +37,7 @@ pub record NameFailsAt (text : List ℕ) (kind : NameErrorKind) (place : ℕ) : 
 
 -- Of what a text spells, the keyword of the first invariant that is false at the start stands at this place.
 pub record InvariantFailsAt (text : List ℕ) (place : ℕ) : Type 0 where
-  pub pieces : List Piece
+  pub pieces : List TokenView
   pub lexed : Lexes text pieces
   pub decls : List DeclTree
   pub spelled : IsScript NESTING pieces decls
@@ -47,7 +47,7 @@ pub record InvariantFailsAt (text : List ℕ) (place : ℕ) : Type 0 where
 
 -- Of what a text spells, the keyword of the first root that waits for itself or for a later one stands at this place.
 pub record RootFailsAt (text : List ℕ) (place : ℕ) : Type 0 where
-  pub pieces : List Piece
+  pub pieces : List TokenView
   pub lexed : Lexes text pieces
   pub decls : List DeclTree
   pub spelled : IsScript NESTING pieces decls

@@ -1,12 +1,12 @@
 -- Which tokens are of a kind that is looked for. No public clause names these words.
 use Rattle.std.specs.Prelude.{Bool}
-use Rattle.script_tokens.specs.Pieces.{Piece}
+use Rattle.script_tokens.specs.Pieces.{TokenView}
 use Rattle.swift_script.specs.FaultLines.{is_name, is_invariant, is_root}
-use Rattle.script_marks.specs.declared.sought.Sought.{Sought}
-use Rattle.script_marks.specs.declared.sought.Sought.TheVariants as sought
+use Rattle.script_marks.specs.declared.sought.SoughtSpan.{SoughtSpan}
+use Rattle.script_marks.specs.declared.sought.SoughtSpan.TheVariants as sought
 
 -- the test of what is looked for
-abbrev pub passes : Sought → Piece → Bool
+abbrev pub passes : SoughtSpan → TokenView → Bool
 passes sought.Name p = is_name p
 passes sought.Invariant p = is_invariant p
 passes sought.Root p = is_root p

@@ -15,11 +15,11 @@ ghost use Rattle.swift_script.specs.FaultLines.{is_name, past_name, place_of};
 ghost use Rattle.script_marks.specs.Places.{FailsAt, InvariantFailsAt, RootFailsAt};
 
 use crate::invariants::invariants_before;
-use crate::sought::{Sought, place_of};
+use crate::sought::{SoughtSpan, place_of};
 use script_compiler::{Compiled, compile, first_false, first_waiting_root};
 use script_grammar::Decl;
 use script_names::{CheckError, Declared, NameError, NameErrorKind, Seed, check};
-use script_parser::{Fault, Kind, ReadError, parse};
+use script_parser::{Kind, ParseFault, ReadError, parse};
 use script_tokens::{Token, tokens};
 use std::alloc::{AllocError, Global};
 use swift_script::ScriptFaultKind;
@@ -50,7 +50,7 @@ pub fn first_failure(alloc: Global, text: &[u8]) -> Result<Option<Failure>, Allo
     }
 }
 
-fn of_grammar(count: usize, fault: Fault) -> Failure
+fn of_grammar(count: usize, fault: ParseFault) -> Failure
     ensures kind { result.kind ≡ grammar_kind fault.kind }
     ensures place { result.place ≡ count - fault.tokens_left }
 {
@@ -92,7 +92,7 @@ fn of_name(tokens: &[Token], error: NameError) -> Failure
     ensures kind { result.kind ≡ names_kind error.kind }
     ensures place { result.place ≡ place_of is_name error.names_before (map piece tokens.now) + past_name error.kind }
 {
-    let name = place_of(tokens, Sought::Name, error.names_before as usize);
+    let name = place_of(tokens, SoughtSpan::Name, error.names_before as usize);
     Failure {
         kind: kind_of_name(error.kind),
         place: name + past_name(error.kind),
@@ -165,7 +165,7 @@ fn false_invariant(
     match first_false(alloc, compiled)? {
         Some(actor) => {
             let before = invariants_before(decls, actor);
-            Ok(Some(place_of(tokens, Sought::Invariant, before)))
+            Ok(Some(place_of(tokens, SoughtSpan::Invariant, before)))
         }
         None => Ok(None),
     }
@@ -185,7 +185,7 @@ fn waiting_root(
     // The clauses alone speak of the declarations.
     let _ = decls;
     match first_waiting_root(alloc, compiled)? {
-        Some(root) => Ok(Some(place_of(tokens, Sought::Root, root))),
+        Some(root) => Ok(Some(place_of(tokens, SoughtSpan::Root, root))),
         None => Ok(None),
     }
 }

@@ -9,25 +9,25 @@ use script_tokens::{Keyword, Token};
 
 /// What is looked for among tokens.
 #[derive(Clone, Copy)]
-pub(crate) enum Sought {
+pub(crate) enum SoughtSpan {
     Name,
     Invariant,
     Root,
 }
 
-fn passes(sought: Sought, token: &Token) -> bool
+fn passes(sought: SoughtSpan, token: &Token) -> bool
     ensures { result ≡ passes sought (piece token.now) }
 {
     match sought {
-        Sought::Name => matches!(token, Token::Name(_)),
-        Sought::Invariant => matches!(token, Token::Key(Keyword::Invariant)),
-        Sought::Root => matches!(token, Token::Key(Keyword::Root)),
+        SoughtSpan::Name => matches!(token, Token::Name(_)),
+        SoughtSpan::Invariant => matches!(token, Token::Key(Keyword::Invariant)),
+        SoughtSpan::Root => matches!(token, Token::Key(Keyword::Root)),
     }
 }
 
 /// The place of the token that is of a kind and before which so many others are of it; the number of tokens where there
 /// is none. Linear in the tokens.
-pub(crate) fn place_of(tokens: &[Token], sought: Sought, before: usize) -> usize
+pub(crate) fn place_of(tokens: &[Token], sought: SoughtSpan, before: usize) -> usize
     ensures place { result ≡ place_of (passes sought) before (map piece tokens.now) }
     ensures within { result ≤ length tokens.now }
 {

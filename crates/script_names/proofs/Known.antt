@@ -2,15 +2,15 @@
 use Rattle.std.proofs.Common.{◌≡◌, ℕ, List, [], ◌∷◌, ◌++◌, None, map, min, take, length, get_or, sym, ap, subst, ◌∙◌, arith, length-append}
 use Rattle.std.proofs.lemmas.List.{take-append-le, take-take, length-take}
 use Rattle.std.proofs.Math.ListN.{get_or-map}
-use Rattle.script_names.specs.Directory.{Directory, fields_at}
+use Rattle.script_names.specs.Directory.{DirectoryView, fields_at}
 use Rattle.script_names.specs.Texts.{with_name}
-use Rattle.script_names.specs.Scope.{Scope, meaning_of, share_a_name}
+use Rattle.script_names.specs.Scope.{ScopeView, meaning_of, share_a_name}
 use Rattle.script_names.specs.ScopeInvariant.{AreCleared}
 use Rattle.script_names.proofs.Standing.{new_name}
 use Rattle.script_names.proofs.Shared.{fewer}
 
 -- with a name more
-with_name_more : (d : Directory) (names : List (List ℕ)) (w : List ℕ) (counts : List ℕ) → AreCleared d names counts → AreCleared d (names ++ w ∷ []) counts
+with_name_more : (d : DirectoryView) (names : List (List ℕ)) (w : List ℕ) (counts : List ℕ) → AreCleared d names counts → AreCleared d (names ++ w ∷ []) counts
 with_name_more d names w counts c = record {
   none = λ a. ap (share_a_name (fields_at d a)) (take-append-le (get_or counts a 0) names (w ∷ []) (c.within a)) ∙ c.none a;
   within = λ a. let h = c.within a in let l = length-append names (w ∷ []) in omega arith;
@@ -26,7 +26,7 @@ lowered_at : (n : ℕ) (counts : List ℕ) (a : ℕ) → get_or (map (min n) cou
 lowered_at n counts a = subst (λ (z : ℕ). get_or (map (min n) counts) a z ≡ min n (get_or counts a 0)) (min_of_none n) (get_or-map (min n) counts a 0)
 
 -- with fewer names
-with_fewer : (d : Directory) (names : List (List ℕ)) (counts : List ℕ) (n : ℕ) → AreCleared d names counts → AreCleared d (take n names) (map (min n) counts)
+with_fewer : (d : DirectoryView) (names : List (List ℕ)) (counts : List ℕ) (n : ℕ) → AreCleared d names counts → AreCleared d (take n names) (map (min n) counts)
 with_fewer d names counts n c = record {
   none = λ a.
       let k = get_or counts a 0 in
@@ -36,11 +36,11 @@ with_fewer d names counts n c = record {
 }
 
 -- after a block
-pub left : (d : Directory) (names names' : List (List ℕ)) (counts counts' : List ℕ) (n : ℕ) → AreCleared d names counts → names' ≡ take n names → counts' ≡ map (min n) counts → AreCleared d names' counts'
+pub left : (d : DirectoryView) (names names' : List (List ℕ)) (counts counts' : List ℕ) (n : ℕ) → AreCleared d names counts → names' ≡ take n names → counts' ≡ map (min n) counts → AreCleared d names' counts'
 left d names names' counts counts' n c e f = subst (λ (x : List (List ℕ)). AreCleared d x counts') (sym e) (subst (AreCleared d (take n names)) (sym f) (with_fewer d names counts n c))
 
 -- with a name that did not stand there
-pub with_new : (s t : Scope) (w : List ℕ) (ns : List (List ℕ)) (counts : List ℕ) → length s.kinds ≡ length s.names → s ≡ t → meaning_of t w ≡ None → ns ≡ with_name s.names w → AreCleared s.directory s.names counts → AreCleared s.directory ns counts
+pub with_new : (s t : ScopeView) (w : List ℕ) (ns : List (List ℕ)) (counts : List ℕ) → length s.kinds ≡ length s.names → s ≡ t → meaning_of t w ≡ None → ns ≡ with_name s.names w → AreCleared s.directory s.names counts → AreCleared s.directory ns counts
 with_new s t w ns counts l same none e c =
-    let none_there : meaning_of s w ≡ None = subst (λ (x : Scope). meaning_of x w ≡ None) (sym same) none in
+    let none_there : meaning_of s w ≡ None = subst (λ (x : ScopeView). meaning_of x w ≡ None) (sym same) none in
     subst (λ (x : List (List ℕ)). AreCleared s.directory x counts) (sym (e ∙ new_name s w l none_there)) (with_name_more s.directory s.names w counts c)

@@ -12,9 +12,9 @@ use Rattle.script_names.specs.declared.error.NameErrorKind.{NameErrorKind}
 use Rattle.script_names.specs.declared.error.NameErrorKind.TheVariants.{Twice, TooMany}
 use Rattle.script_names.specs.Texts.{is_among, with_name}
 use Rattle.script_names.specs.Methods.{method_key}
-use Rattle.script_names.specs.Directory.{Directory, field_names, with_names, with_method, with_methods, with_actor, with_decls, directory_of, nothing_declared, executors_in, locals_in, roots_in, actors_in, fields_in, methods_from, params_in, declared_in}
-use Rattle.script_names.specs.Scope.{Scope, fields_alone}
-use Rattle.script_names.specs.Rules.{Seen, earlier, at_name, where_so, past_name_if, past_fields, past_if, past_method, past_decl, optional_error, repeat_error, method_error, methods_error, fields_error, on_error, executor_error, kind_error, actor_error, root_error, target_error, seen_after, declarations_error, names_error}
+use Rattle.script_names.specs.Directory.{DirectoryView, field_names, with_names, with_method, with_methods, with_actor, with_decls, directory_of, nothing_declared, executors_in, locals_in, roots_in, actors_in, fields_in, methods_from, params_in, declared_in}
+use Rattle.script_names.specs.Scope.{ScopeView, fields_alone}
+use Rattle.script_names.specs.Rules.{SeenView, earlier, at_name, where_so, past_name_if, past_fields, past_if, past_method, past_decl, optional_error, repeat_error, method_error, methods_error, fields_error, on_error, executor_error, kind_error, actor_error, root_error, target_error, seen_after, declarations_error, names_error}
 
 earlier_none : (f g : Option NameError) → earlier f g ≡ None → (f ≡ None) × (g ≡ None)
 earlier_none None g e = (refl, e)
@@ -66,15 +66,15 @@ fields_kept seen at (f ∷ fs) e =
     ∙ fields_kept (seen ++ f.name ∷ []) (suc at) fs parts.1 ∙ append_assoc seen (f.name ∷ []) (field_names fs)
 
 -- a directory with these methods after the others
-abbrev more_methods : Directory → List (List ℕ) → List ℕ → Directory
+abbrev more_methods : DirectoryView → List (List ℕ) → List ℕ → DirectoryView
 more_methods d ms ps = record d { methods = d.methods ++ ms; params = d.params ++ ps }
 
 -- one method of a name that is not there yet
-added : (actor : ℕ) (m : MethodTree) (d : Directory) → is_among d.methods (method_key actor m.name) ≡ false → with_method actor m d ≡ more_methods d (method_key actor m.name ∷ []) (length m.params ∷ [])
+added : (actor : ℕ) (m : MethodTree) (d : DirectoryView) → is_among d.methods (method_key actor m.name) ≡ false → with_method actor m d ≡ more_methods d (method_key actor m.name ∷ []) (length m.params ∷ [])
 added actor m d e = ap (λ (b : Bool). cond b d (more_methods d (method_key actor m.name ∷ []) (length m.params ∷ []))) e
 
 -- all methods of an actor
-methods_kept : (s : Scope) (actor at : ℕ) (seen : List (List ℕ)) (ms : List MethodTree) (d : Directory) → ((n : List ℕ) → is_among seen n ≡ false → is_among d.methods (method_key actor n) ≡ false) → methods_error s seen at ms ≡ None → with_methods actor ms d ≡ more_methods d (map (λ m. method_key actor m.name) ms) (map (λ m. length m.params) ms)
+methods_kept : (s : ScopeView) (actor at : ℕ) (seen : List (List ℕ)) (ms : List MethodTree) (d : DirectoryView) → ((n : List ℕ) → is_among seen n ≡ false → is_among d.methods (method_key actor n) ≡ false) → methods_error s seen at ms ≡ None → with_methods actor ms d ≡ more_methods d (map (λ m. method_key actor m.name) ms) (map (λ m. length m.params) ms)
 methods_kept s actor at seen [] d new e = rw (append-nil d.methods, append-nil d.params)
 methods_kept s actor at seen (m ∷ ms) d new e =
     let one = method_error s seen at m in
@@ -87,7 +87,7 @@ methods_kept s actor at seen (m ∷ ms) d new e =
     first ∙ rest ∙ (rw (append_assoc d.methods _ _, append_assoc d.params _ _))
 
 -- a directory, and what stands in the rest of the text
-abbrev and_more : Directory → List DeclTree → Directory
+abbrev and_more : DirectoryView → List DeclTree → DirectoryView
 and_more d xs = record {
   executors = d.executors ++ executors_in xs;
   locals = d.locals ++ locals_in xs;
@@ -99,7 +99,7 @@ and_more d xs = record {
 }
 
 -- the directory of what was seen
-record Holds (d : Directory) (seen : Seen) : Type 0 where
+record Holds (d : DirectoryView) (seen : SeenView) : Type 0 where
   executors : (n : List ℕ) → is_among seen.places n ≡ false → is_among d.executors n ≡ false
   actors : (n : List ℕ) → is_among seen.places n ≡ false → is_among d.actors n ≡ false
   locals : d.locals ≡ seen.locals
@@ -113,10 +113,10 @@ more_places seen names name h n e =
     not_among-append names (name ∷ []) n (h n p.0) (or_from _ _ p.1 refl)
 
 -- an actor that is new
-abbrev with_new_actor : ActorTree → Directory → Directory
+abbrev with_new_actor : ActorTree → DirectoryView → DirectoryView
 with_new_actor a d = record d { actors = d.actors ++ a.name ∷ []; fields = d.fields ++ field_names a.fields ∷ []; methods = d.methods ++ map (λ m. method_key (length d.actors) m.name) a.methods; params = d.params ++ map (λ m. length m.params) a.methods }
 
-actor_kept : (all d : Directory) (seen : Seen) (at : ℕ) (a : ActorTree) → Holds d seen → actor_error all seen at a ≡ None → with_actor a d ≡ with_new_actor a d
+actor_kept : (all d : DirectoryView) (seen : SeenView) (at : ℕ) (a : ActorTree) → Holds d seen → actor_error all seen at a ≡ None → with_actor a d ≡ with_new_actor a d
 actor_kept all d seen at a h e =
     let s = fields_alone all seen.actors in
     let fields = past_name_if a.executor (suc at) in
@@ -137,7 +137,7 @@ actor_kept all d seen at a h e =
     ∙ methods_kept s (length d.actors) (past_if a.invariant invariant) [] a.methods d' (λ n k. h.methods (length d.actors) n (omega arith)) e4.1
     ∙ ap (λ (ns : List (List ℕ)). record (with_new_actor a d) { fields = d.fields ++ ns ∷ [] }) (fields_kept [] fields a.fields e3.0)
 
-still_holds : (d : Directory) (seen : Seen) (a : ActorTree) → Holds d seen → Holds (with_new_actor a d) (seen_after seen (Acts a))
+still_holds : (d : DirectoryView) (seen : SeenView) (a : ActorTree) → Holds d seen → Holds (with_new_actor a d) (seen_after seen (Acts a))
 still_holds d seen a h =
     let longer : length (d.actors ++ a.name ∷ []) ≡ length d.actors + 1 = length-append d.actors (a.name ∷ []) in
     let own = map (λ (m : MethodTree). method_key (length d.actors) m.name) a.methods in
@@ -149,7 +149,7 @@ still_holds d seen a h =
       methods = λ k n l. not_among-append d.methods own (method_key k n) (h.methods k n (omega (arith, longer))) (others (length d.actors) k n a.methods (ne_eqb k (length d.actors) (λ same. omega (arith, longer))));
     }
 
-actor_more : (d : Directory) (a : ActorTree) (xs : List DeclTree) → and_more (with_new_actor a d) xs ≡ and_more d (Acts a ∷ xs)
+actor_more : (d : DirectoryView) (a : ActorTree) (xs : List DeclTree) → and_more (with_new_actor a d) xs ≡ and_more d (Acts a ∷ xs)
 actor_more d a xs =
     let longer : length (d.actors ++ a.name ∷ []) ≡ length d.actors + 1 = length-append d.actors (a.name ∷ []) in
     let own = map (λ (m : MethodTree). method_key (length d.actors) m.name) a.methods in
@@ -157,7 +157,7 @@ actor_more d a xs =
     ∙ (rw (append_assoc d.actors _ _, append_assoc d.fields _ _, append_assoc d.methods _ _, append_assoc d.params _ _))
 
 -- all declarations
-decls_kept : (all d : Directory) (seen : Seen) (at : ℕ) (xs : List DeclTree) → Holds d seen → declarations_error all seen at xs ≡ None → with_decls xs d ≡ and_more d xs
+decls_kept : (all d : DirectoryView) (seen : SeenView) (at : ℕ) (xs : List DeclTree) → Holds d seen → declarations_error all seen at xs ≡ None → with_decls xs d ≡ and_more d xs
 decls_kept all d seen at [] h e = rw (append-nil d.executors, append-nil d.locals, append-nil d.roots, append-nil d.actors, append-nil d.fields, append-nil d.methods, append-nil d.params)
 decls_kept all d seen at (Executes x ∷ xs) h e =
     let parts = earlier_none (executor_error seen at x) (declarations_error all (seen_after seen (Executes x)) (suc at) xs) e in

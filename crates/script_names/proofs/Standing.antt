@@ -6,7 +6,7 @@ use Rattle.script_names.specs.declared.scope.NameKind.{NameKind}
 use Rattle.script_names.specs.declared.scope.NameKind.TheVariants as kinds
 use Rattle.script_names.specs.Texts.{is_among, place_of, with_name}
 use Rattle.script_names.specs.Directory.{fields_at}
-use Rattle.script_names.specs.Scope.{Scope, with_standing, meaning_of, share_a_name}
+use Rattle.script_names.specs.Scope.{ScopeView, with_standing, meaning_of, share_a_name}
 
 past_first : (b : Bool) (k : NameKind) (ks : List NameKind) (p : ℕ) (r : Bool) → (slice_get ks p ≡ None → r ≡ false) → slice_get (k ∷ ks) (cond (not b) (1 + p) 0) ≡ None → (b || r) ≡ false
 past_first true k ks p r h e = absurd (cc)
@@ -26,26 +26,26 @@ without_kind : (b : Bool) (k : NameKind) (o : Option NameKind) → (if b then So
 without_kind true k o e = absurd (cc)
 without_kind false k o e = e
 
-pub new_name : (s : Scope) (w : List ℕ) → length s.kinds ≡ length s.names → meaning_of s w ≡ None → with_name s.names w ≡ s.names ++ w ∷ []
+pub new_name : (s : ScopeView) (w : List ℕ) → length s.kinds ≡ length s.names → meaning_of s w ≡ None → with_name s.names w ≡ s.names ++ w ∷ []
 new_name s w l e =
     let fresh = not_among s.names s.kinds w l (without_kind (is_among (fields_at s.directory s.actor) w) kinds.Field _ e) in
     ap (λ (b : Bool). cond b s.names (s.names ++ w ∷ [])) fresh
 
 -- what stands there with the name
-pub added : (s t : Scope) (w : List ℕ) (k : NameKind) (ns : List (List ℕ)) (ks : List NameKind) → length s.kinds ≡ length s.names → s ≡ t → meaning_of t w ≡ None → ns ≡ with_name s.names w → ks ≡ s.kinds ++ k ∷ [] → record s { names = ns; kinds = ks } ≡ with_standing t w k
+pub added : (s t : ScopeView) (w : List ℕ) (k : NameKind) (ns : List (List ℕ)) (ks : List NameKind) → length s.kinds ≡ length s.names → s ≡ t → meaning_of t w ≡ None → ns ≡ with_name s.names w → ks ≡ s.kinds ++ k ∷ [] → record s { names = ns; kinds = ks } ≡ with_standing t w k
 added s t w k ns ks l same none names kinds =
-    let none_there : meaning_of s w ≡ None = subst (λ (x : Scope). meaning_of x w ≡ None) (sym same) none in
+    let none_there : meaning_of s w ≡ None = subst (λ (x : ScopeView). meaning_of x w ≡ None) (sym same) none in
     let both : ns ≡ s.names ++ w ∷ [] = names ∙ new_name s w l none_there in
-    (λ i. record s { names = both i; kinds = kinds i }) ∙ ap (λ (x : Scope). with_standing x w k) same
+    (λ i. record s { names = both i; kinds = kinds i }) ∙ ap (λ (x : ScopeView). with_standing x w k) same
 
 -- as many kinds as names
-pub as_many : (s t : Scope) (w : List ℕ) (k : NameKind) (ns : List (List ℕ)) (ks : List NameKind) → length s.kinds ≡ length s.names → s ≡ t → meaning_of t w ≡ None → ns ≡ with_name s.names w → ks ≡ s.kinds ++ k ∷ [] → length ks ≡ length ns
+pub as_many : (s t : ScopeView) (w : List ℕ) (k : NameKind) (ns : List (List ℕ)) (ks : List NameKind) → length s.kinds ≡ length s.names → s ≡ t → meaning_of t w ≡ None → ns ≡ with_name s.names w → ks ≡ s.kinds ++ k ∷ [] → length ks ≡ length ns
 as_many s t w k ns ks l same none names kinds =
     let e = added s t w k ns ks l same none names kinds in
-    let number : length ks ≡ length t.kinds + 1 = ap (λ (x : Scope). length x.kinds) e ∙ length-append t.kinds (k ∷ []) in
-    let number' : length ns ≡ length t.names + 1 = ap (λ (x : Scope). length x.names) e ∙ length-append t.names (w ∷ []) in
-    let same_kinds : length s.kinds ≡ length t.kinds = ap (λ (x : Scope). length x.kinds) same in
-    let same_names : length s.names ≡ length t.names = ap (λ (x : Scope). length x.names) same in
+    let number : length ks ≡ length t.kinds + 1 = ap (λ (x : ScopeView). length x.kinds) e ∙ length-append t.kinds (k ∷ []) in
+    let number' : length ns ≡ length t.names + 1 = ap (λ (x : ScopeView). length x.names) e ∙ length-append t.names (w ∷ []) in
+    let same_kinds : length s.kinds ≡ length t.kinds = ap (λ (x : ScopeView). length x.kinds) same in
+    let same_names : length s.names ≡ length t.names = ap (λ (x : ScopeView). length x.names) same in
     omega arith
 
 -- of no names none is shared

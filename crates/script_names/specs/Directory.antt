@@ -6,7 +6,7 @@ use Rattle.script_names.specs.Methods.{method_key}
 
 -- the executors, task locals and roots; the actors and the fields of each; the keys of the actors' methods, and how many
 -- parameters each method has
-pub record Directory : Type 0 where
+pub record DirectoryView : Type 0 where
   pub executors : List (List ℕ)
   pub locals : List (List ℕ)
   pub roots : List (List ℕ)
@@ -16,23 +16,23 @@ pub record Directory : Type 0 where
   pub params : List ℕ
 
 -- the key of an actor's method
-abbrev pub key_of : Directory → List ℕ → List ℕ → List ℕ
+abbrev pub key_of : DirectoryView → List ℕ → List ℕ → List ℕ
 key_of d actor method = method_key (place_of d.actors actor) method
 
 -- whether an actor is declared, and has a method of that name
-abbrev pub has_method : Directory → List ℕ → List ℕ → Bool
+abbrev pub has_method : DirectoryView → List ℕ → List ℕ → Bool
 has_method d actor method = is_among d.actors actor && is_among d.methods (key_of d actor method)
 
 -- the place of an actor's method among the methods of all actors
-abbrev pub method_place : Directory → List ℕ → List ℕ → ℕ
+abbrev pub method_place : DirectoryView → List ℕ → List ℕ → ℕ
 method_place d actor method = place_of d.methods (key_of d actor method)
 
 -- how many parameters an actor's method has
-abbrev pub arity_of : Directory → List ℕ → List ℕ → ℕ
+abbrev pub arity_of : DirectoryView → List ℕ → List ℕ → ℕ
 arity_of d actor method = unwrap_or (slice_get d.params (method_place d actor method)) 0
 
 -- the fields of the actor at a place
-abbrev pub fields_at : Directory → ℕ → List (List ℕ)
+abbrev pub fields_at : DirectoryView → ℕ → List (List ℕ)
 fields_at d actor = unwrap_or (slice_get d.fields actor) []
 
 -- the names of fields
@@ -45,36 +45,36 @@ with_names seen [] = seen
 with_names seen (n ∷ ns) = with_names (with_name seen n) ns
 
 -- a method of the actor at a place
-abbrev pub with_method : ℕ → MethodTree → Directory → Directory
+abbrev pub with_method : ℕ → MethodTree → DirectoryView → DirectoryView
 with_method actor m d =
     if is_among d.methods (method_key actor m.name) then d
     else record d { methods = d.methods ++ method_key actor m.name ∷ []; params = d.params ++ length m.params ∷ [] }
 
-abbrev pub with_methods : ℕ → List MethodTree → Directory → Directory
+abbrev pub with_methods : ℕ → List MethodTree → DirectoryView → DirectoryView
 with_methods actor [] d = d
 with_methods actor (m ∷ ms) d = with_methods actor ms (with_method actor m d)
 
 -- An actor goes after the others, with its fields and methods. A second one of its name adds nothing.
-abbrev pub with_actor : ActorTree → Directory → Directory
+abbrev pub with_actor : ActorTree → DirectoryView → DirectoryView
 with_actor a d =
     if is_among d.actors a.name then d
     else with_methods (length d.actors) a.methods (record d { actors = d.actors ++ a.name ∷ []; fields = d.fields ++ with_names [] (field_names a.fields) ∷ [] })
 
-abbrev pub with_decl : DeclTree → Directory → Directory
+abbrev pub with_decl : DeclTree → DirectoryView → DirectoryView
 with_decl (Executes x) d = record d { executors = with_name d.executors x.name }
 with_decl (Binds l) d = record d { locals = with_name d.locals l.name }
 with_decl (Acts a) d = with_actor a d
 with_decl (Roots r) d = record d { roots = with_name d.roots r.name }
 
-abbrev pub with_decls : List DeclTree → Directory → Directory
+abbrev pub with_decls : List DeclTree → DirectoryView → DirectoryView
 with_decls [] d = d
 with_decls (x ∷ xs) d = with_decls xs (with_decl x d)
 
-abbrev pub nothing_declared : Directory
+abbrev pub nothing_declared : DirectoryView
 nothing_declared = record { executors = []; locals = []; roots = []; actors = []; fields = []; methods = []; params = [] }
 
 -- what a script declares
-abbrev pub directory_of : List DeclTree → Directory
+abbrev pub directory_of : List DeclTree → DirectoryView
 directory_of decls = with_decls decls nothing_declared
 
 -- the executors in the order of the text, each as often as it stands there
@@ -120,5 +120,5 @@ params_in (Acts a ∷ xs) = map (λ m. length m.params) a.methods ++ params_in x
 params_in (_ ∷ xs) = params_in xs
 
 -- all that stands in the text, with nothing left out
-abbrev pub declared_in : List DeclTree → Directory
+abbrev pub declared_in : List DeclTree → DirectoryView
 declared_in decls = record { executors = executors_in decls; locals = locals_in decls; roots = roots_in decls; actors = actors_in decls; fields = fields_in decls; methods = methods_from 0 decls; params = params_in decls }

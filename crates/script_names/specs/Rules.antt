@@ -2,8 +2,8 @@
 -- how many names stand before it in the text. The rule on roots that wait for one another is none of these. (Own.)
 use Rattle.std.specs.Prelude.{ℕ, pos, negsuc, suc, Bool, true, false, ◌==◌, nat_le, nat_lt, if◌then◌else◌, Option, Some, None, List, [], ◌∷◌, ◌++◌, length}
 use Rattle.swift_types.specs.declared.limits.TheConstants.{ACTORS, EXECUTORS, TASKS, WORKERS}
-use Rattle.script_grammar.specs.declared.declaration.ExecutorKind.{ExecutorKind}
-use Rattle.script_grammar.specs.declared.declaration.ExecutorKind.TheVariants as executor
+use Rattle.swift_types.specs.declared.executor_kind.ExecutorKind.{ExecutorKind}
+use Rattle.swift_types.specs.declared.executor_kind.ExecutorKind.TheVariants as executor
 use Rattle.script_grammar.specs.Tree.{ExprTree, Number, Named, Local, OwnPriority, IsCancelled, Negated, Inverted, Both, CallTree, AwaitedTree, Called, TaskOf, NextOf, WaitTree, ValueTree, Computed, Waited, MakeTree, Spawned, Detached, ActionTree, Let, LetTask, Assign, Await, Makes, Adds, Cancel, Return, Throw, Check, Yield, HeadTree, If, While, Bind, Group, Assume, StmtTree, Do, Headed, IfElse, BlockTree, nothing, first_then, block_tree, ExecutorTree, FieldTree, MethodTree, ActorTree, RootTree, DeclTree, Executes, Binds, Acts, Roots}
 use Rattle.script_names.specs.declared.scope.NameKind.{NameKind}
 use Rattle.script_names.specs.declared.scope.NameKind.TheVariants as kind
@@ -11,8 +11,8 @@ use Rattle.script_names.specs.declared.error.NameErrorKind.{NameErrorKind}
 use Rattle.script_names.specs.declared.error.NameErrorKind.TheVariants.{Twice, Unknown, Arguments, Confused, BoundInside, TooMany, TooGreat}
 use Rattle.script_names.specs.declared.error.NameError.{NameError}
 use Rattle.script_names.specs.Texts.{is_among, place_of}
-use Rattle.script_names.specs.Directory.{Directory, has_method, arity_of, fields_at, directory_of}
-use Rattle.script_names.specs.Scope.{Scope, fields_alone, with_standing, meaning_of, share_a_name}
+use Rattle.script_names.specs.Directory.{DirectoryView, has_method, arity_of, fields_at, directory_of}
+use Rattle.script_names.specs.Scope.{ScopeView, fields_alone, with_standing, meaning_of, share_a_name}
 
 -- the earlier of two errors
 abbrev pub earlier : Option NameError → Option NameError → Option NameError
@@ -168,7 +168,7 @@ abbrev pub declared_fault : List (List ℕ) → List ℕ → Option NameErrorKin
 declared_fault names name = if is_among names name then None else Some Unknown
 
 -- A child is added to a group that was opened inside the innermost open `bind`.
-abbrev pub bind_fault : Scope → List ℕ → Option NameErrorKind
+abbrev pub bind_fault : ScopeView → List ℕ → Option NameErrorKind
 bind_fault s group = where_so (nat_lt (place_of s.names group) s.bound) BoundInside
 
 -- the first of two faults of one name
@@ -176,7 +176,7 @@ abbrev pub or_else : Option NameErrorKind → Option NameErrorKind → Option Na
 or_else None other = other
 or_else (Some k) other = Some k
 
-abbrev pub expression_error : Scope → ℕ → ExprTree → Option NameError
+abbrev pub expression_error : ScopeView → ℕ → ExprTree → Option NameError
 expression_error s at (Number n) = None
 expression_error s at (Named n) = at_name at (number_fault (meaning_of s n))
 expression_error s at (Local n) = at_name at (declared_fault s.directory.locals n)
@@ -186,44 +186,44 @@ expression_error s at (Negated a) = expression_error s at a
 expression_error s at (Inverted a) = expression_error s at a
 expression_error s at (Both o a b) = earlier (expression_error s at a) (expression_error s (past a at) b)
 
-abbrev pub expressions_error : Scope → ℕ → List ExprTree → Option NameError
+abbrev pub expressions_error : ScopeView → ℕ → List ExprTree → Option NameError
 expressions_error s at [] = None
 expressions_error s at (e ∷ es) = earlier (expression_error s at e) (expressions_error s (past e at) es)
 
-abbrev pub optional_error : Scope → ℕ → Option ExprTree → Option NameError
+abbrev pub optional_error : ScopeView → ℕ → Option ExprTree → Option NameError
 optional_error s at None = None
 optional_error s at (Some e) = expression_error s at e
 
 -- A call names an actor, one of its methods, and as many arguments as that has parameters. An error stands at the actor
 -- where none has that name, and else at the method.
-abbrev pub target_error : Directory → ℕ → List ℕ → List ℕ → ℕ → Option NameError
+abbrev pub target_error : DirectoryView → ℕ → List ℕ → List ℕ → ℕ → Option NameError
 target_error d at actor method count =
     if is_among d.actors actor
     then at_name (suc at) (if has_method d actor method then (if arity_of d actor method == count then None else Some Arguments) else Some Unknown)
     else at_name at (Some Unknown)
 
 -- The target comes first, and then the arguments.
-abbrev pub call_error : Scope → ℕ → CallTree → Option NameError
+abbrev pub call_error : ScopeView → ℕ → CallTree → Option NameError
 call_error s at c = earlier (target_error s.directory at c.actor c.method (length c.args)) (expressions_error s (suc (suc at)) c.args)
 
-abbrev pub awaited_error : Scope → ℕ → AwaitedTree → Option NameError
+abbrev pub awaited_error : ScopeView → ℕ → AwaitedTree → Option NameError
 awaited_error s at (Called c) = call_error s at c
 awaited_error s at (TaskOf n) = at_name at (task_fault (is_among s.directory.roots n) (meaning_of s n))
 awaited_error s at (NextOf n) = at_name at (group_fault (meaning_of s n))
 
-abbrev pub wait_error : Scope → ℕ → WaitTree → Option NameError
+abbrev pub wait_error : ScopeView → ℕ → WaitTree → Option NameError
 wait_error s at w = earlier (awaited_error s at w.for) (optional_error s (past_awaited w.for at) w.other)
 
-abbrev pub value_error : Scope → ℕ → ValueTree → Option NameError
+abbrev pub value_error : ScopeView → ℕ → ValueTree → Option NameError
 value_error s at (Computed e) = expression_error s at e
 value_error s at (Waited w) = wait_error s at w
 
-abbrev pub make_error : Scope → ℕ → MakeTree → Option NameError
+abbrev pub make_error : ScopeView → ℕ → MakeTree → Option NameError
 make_error s at (Spawned c p) = call_error s at c
 make_error s at (Detached c p) = call_error s at c
 
 -- A `let` takes a name that does not stand there, and its own name does not stand in its value.
-abbrev pub action_error : Scope → ℕ → ActionTree → Option NameError
+abbrev pub action_error : ScopeView → ℕ → ActionTree → Option NameError
 action_error s at (Let n v) = earlier (at_name at (new_fault (meaning_of s n))) (value_error s (suc at) v)
 action_error s at (LetTask n m) = earlier (at_name at (new_fault (meaning_of s n))) (make_error s (suc at) m)
 action_error s at (Assign n v) = earlier (at_name at (number_fault (meaning_of s n))) (value_error s (suc at) v)
@@ -237,13 +237,13 @@ action_error s at Check = None
 action_error s at Yield = None
 
 -- what stands after a statement: a `let` stands from its end on
-abbrev pub scope_after : Scope → StmtTree → Scope
+abbrev pub scope_after : ScopeView → StmtTree → ScopeView
 scope_after s (Do (Let n v)) = with_standing s n kind.Number
 scope_after s (Do (LetTask n m)) = with_standing s n kind.Task
 scope_after s _ = s
 
 -- what stands in a block, by its head: a group stands in its block, and an `assume` brings another actor's fields
-abbrev pub scope_within : Scope → HeadTree → Scope
+abbrev pub scope_within : ScopeView → HeadTree → ScopeView
 scope_within s (If e) = s
 scope_within s (While e) = s
 scope_within s (Bind n e) = record s { bound = length s.names }
@@ -251,13 +251,13 @@ scope_within s (Group n) = with_standing s n kind.Group
 scope_within s (Assume n) = record s { actor = place_of s.directory.actors n }
 
 -- An `assume` names an actor, none of whose fields has a name that stands there.
-abbrev pub assume_fault : Scope → List ℕ → Option NameErrorKind
+abbrev pub assume_fault : ScopeView → List ℕ → Option NameErrorKind
 assume_fault s actor =
     if is_among s.directory.actors actor
     then where_so (share_a_name (fields_at s.directory (place_of s.directory.actors actor)) s.names) Twice
     else Some Unknown
 
-abbrev pub head_error : Scope → ℕ → HeadTree → Option NameError
+abbrev pub head_error : ScopeView → ℕ → HeadTree → Option NameError
 head_error s at (If e) = expression_error s at e
 head_error s at (While e) = expression_error s at e
 head_error s at (Bind n e) = earlier (at_name at (declared_fault s.directory.locals n)) (expression_error s (suc at) e)
@@ -265,22 +265,22 @@ head_error s at (Group n) = at_name at (new_fault (meaning_of s n))
 head_error s at (Assume n) = at_name at (assume_fault s n)
 
 abbrev mutual
-  pub stmt_error : Scope → ℕ → StmtTree → Option NameError
+  pub stmt_error : ScopeView → ℕ → StmtTree → Option NameError
   stmt_error s at (Do a) = action_error s at a
   stmt_error s at (Headed h b) = earlier (head_error s at h) (block_error (scope_within s h) (past_head h at) b)
   stmt_error s at (IfElse t a b) = earlier (expression_error s at t) (earlier (block_error s (past t at) a) (block_error s (past_block a (past t at)) b))
 
   -- A block's own names stand to its end.
-  pub block_error : Scope → ℕ → BlockTree → Option NameError
+  pub block_error : ScopeView → ℕ → BlockTree → Option NameError
   block_error s at nothing = None
   block_error s at (first_then x xs) = earlier (stmt_error s at x) (block_error (scope_after s x) (past_stmt x at) xs)
 
 -- Parameters are distinct, and distinct from the fields.
-abbrev pub parameters_error : Scope → ℕ → List (List ℕ) → Option NameError
+abbrev pub parameters_error : ScopeView → ℕ → List (List ℕ) → Option NameError
 parameters_error s at [] = None
 parameters_error s at (n ∷ ns) = earlier (at_name at (new_fault (meaning_of s n))) (parameters_error (with_standing s n kind.Number) (suc at) ns)
 
-abbrev pub with_parameters : Scope → List (List ℕ) → Scope
+abbrev pub with_parameters : ScopeView → List (List ℕ) → ScopeView
 with_parameters s [] = s
 with_parameters s (n ∷ ns) = with_parameters (with_standing s n kind.Number) ns
 
@@ -288,14 +288,14 @@ with_parameters s (n ∷ ns) = with_parameters (with_standing s n kind.Number) n
 abbrev pub repeat_error : List (List ℕ) → ℕ → List ℕ → Option NameError
 repeat_error seen at name = at_name at (where_so (is_among seen name) Twice)
 
-abbrev pub method_error : Scope → List (List ℕ) → ℕ → MethodTree → Option NameError
+abbrev pub method_error : ScopeView → List (List ℕ) → ℕ → MethodTree → Option NameError
 method_error s seen at m =
     earlier (repeat_error seen at m.name)
     (earlier (parameters_error s (suc at) m.params)
     (block_error (with_parameters s m.params) (past_names m.params (suc at)) (block_tree m.body)))
 
 -- An actor's methods are distinct.
-abbrev pub methods_error : Scope → List (List ℕ) → ℕ → List MethodTree → Option NameError
+abbrev pub methods_error : ScopeView → List (List ℕ) → ℕ → List MethodTree → Option NameError
 methods_error s seen at [] = None
 methods_error s seen at (m ∷ ms) = earlier (method_error s seen at m) (methods_error s (seen ++ m.name ∷ []) (past_method m at) ms)
 
@@ -305,13 +305,13 @@ fields_error seen at [] = None
 fields_error seen at (f ∷ fs) = earlier (repeat_error seen at f.name) (fields_error (seen ++ f.name ∷ []) (suc at) fs)
 
 -- An actor runs on an executor that is declared.
-abbrev pub on_error : Directory → ℕ → Option (List ℕ) → Option NameError
+abbrev pub on_error : DirectoryView → ℕ → Option (List ℕ) → Option NameError
 on_error d at None = None
 on_error d at (Some n) = at_name at (declared_fault d.executors n)
 
 -- what stands before a declaration: the names of executors and actors together, those of task locals and of roots, and
 -- how many executors and actors there are
-pub record Seen : Type 0 where
+pub record SeenView : Type 0 where
   pub places : List (List ℕ)
   pub locals : List (List ℕ)
   pub roots : List (List ℕ)
@@ -326,13 +326,13 @@ kind_error at (executor.Pinned (pos k)) = at_name at (where_so (nat_le WORKERS k
 kind_error at (executor.Pinned (negsuc k)) = None
 
 -- Executors are distinct, also from actors, and at most 64.
-abbrev pub executor_error : Seen → ℕ → ExecutorTree → Option NameError
+abbrev pub executor_error : SeenView → ℕ → ExecutorTree → Option NameError
 executor_error seen at x =
     earlier (repeat_error seen.places at x.name)
     (earlier (at_name at (where_so (nat_le EXECUTORS seen.executors) TooMany)) (kind_error at x.kind))
 
 -- Actors are distinct, also from executors, and at most 64. An invariant names fields alone.
-abbrev pub actor_error : Directory → Seen → ℕ → ActorTree → Option NameError
+abbrev pub actor_error : DirectoryView → SeenView → ℕ → ActorTree → Option NameError
 actor_error d seen at a =
     let s = fields_alone d seen.actors in
     let fields = past_name_if a.executor (suc at) in
@@ -344,24 +344,24 @@ actor_error d seen at a =
     (earlier (optional_error s invariant a.invariant) (methods_error s [] (past_if a.invariant invariant) a.methods)))))
 
 -- Roots are distinct and at most 1,024, and each calls a method.
-abbrev pub root_error : Directory → Seen → ℕ → RootTree → Option NameError
+abbrev pub root_error : DirectoryView → SeenView → ℕ → RootTree → Option NameError
 root_error d seen at r =
     earlier (repeat_error seen.roots at r.name)
     (earlier (at_name at (where_so (nat_le TASKS (length seen.roots)) TooMany)) (target_error d (suc at) r.actor r.method (length r.args)))
 
-abbrev pub decl_error : Directory → Seen → ℕ → DeclTree → Option NameError
+abbrev pub decl_error : DirectoryView → SeenView → ℕ → DeclTree → Option NameError
 decl_error d seen at (Executes x) = executor_error seen at x
 decl_error d seen at (Binds l) = repeat_error seen.locals at l.name
 decl_error d seen at (Acts a) = actor_error d seen at a
 decl_error d seen at (Roots r) = root_error d seen at r
 
-abbrev pub seen_after : Seen → DeclTree → Seen
+abbrev pub seen_after : SeenView → DeclTree → SeenView
 seen_after seen (Executes x) = record seen { places = seen.places ++ x.name ∷ []; executors = suc seen.executors }
 seen_after seen (Binds l) = record seen { locals = seen.locals ++ l.name ∷ [] }
 seen_after seen (Acts a) = record seen { places = seen.places ++ a.name ∷ []; actors = suc seen.actors }
 seen_after seen (Roots r) = record seen { roots = seen.roots ++ r.name ∷ [] }
 
-abbrev pub declarations_error : Directory → Seen → ℕ → List DeclTree → Option NameError
+abbrev pub declarations_error : DirectoryView → SeenView → ℕ → List DeclTree → Option NameError
 declarations_error d seen at [] = None
 declarations_error d seen at (x ∷ xs) = earlier (decl_error d seen at x) (declarations_error d (seen_after seen x) (past_decl x at) xs)
 

@@ -3,28 +3,28 @@ use Rattle.std.specs.Prelude.{ℕ, Bool, false, ◌||◌, List, [], ◌∷◌, �
 use Rattle.script_names.specs.declared.scope.NameKind.{NameKind}
 use Rattle.script_names.specs.declared.scope.NameKind.TheVariants as kind
 use Rattle.script_names.specs.Texts.{is_among, place_of}
-use Rattle.script_names.specs.Directory.{Directory, fields_at}
+use Rattle.script_names.specs.Directory.{DirectoryView, fields_at}
 
 -- The parameters, variables, task variables and groups that stand there are `names`, the oldest first, and `kinds` says
 -- what each is. The fields that stand there are those of one actor. So many names stood where the innermost open
 -- `bind` began.
-pub record Scope : Type 0 where
-  pub directory : Directory
+pub record ScopeView : Type 0 where
+  pub directory : DirectoryView
   pub actor : ℕ
   pub names : List (List ℕ)
   pub kinds : List NameKind
   pub bound : ℕ
 
 -- nothing stands there but the fields of an actor
-abbrev pub fields_alone : Directory → ℕ → Scope
+abbrev pub fields_alone : DirectoryView → ℕ → ScopeView
 fields_alone d actor = record { directory = d; actor = actor; names = []; kinds = []; bound = 0 }
 
 -- a name more
-abbrev pub with_standing : Scope → List ℕ → NameKind → Scope
+abbrev pub with_standing : ScopeView → List ℕ → NameKind → ScopeView
 with_standing s name kind = record s { names = s.names ++ name ∷ []; kinds = s.kinds ++ kind ∷ [] }
 
 -- what a name stands for there, if it stands there: a field, or what it was made as
-abbrev pub meaning_of : Scope → List ℕ → Option NameKind
+abbrev pub meaning_of : ScopeView → List ℕ → Option NameKind
 meaning_of s name =
     if is_among (fields_at s.directory s.actor) name then Some kind.Field
     else slice_get s.kinds (place_of s.names name)

@@ -14,7 +14,7 @@ use crate::expressions::optional;
 use crate::fault::{at_name, declared_fault, where_so};
 use crate::scope::{NameKind, Scope};
 use crate::seed::Seed;
-use crate::seen::{Seen, unless_seen};
+use crate::seen::{SeenNames, unless_seen};
 use crate::texts::Names;
 use script_grammar::{Actor, Expr, Field, Method, Name};
 use std::alloc::Global;
@@ -120,7 +120,7 @@ fn invariant(
 pub(crate) fn actor(
     alloc: Global,
     declared: &Declared,
-    seen: &mut Seen,
+    seen: &mut SeenNames,
     at: u32,
     actor: &Actor,
 ) -> Result<u32, CheckError>

@@ -57,7 +57,12 @@ pub(crate) fn call(
     expressions(scope, at, &call.args)
 }
 
-fn awaited(alloc: Global, scope: &Scope<'_>, at: u32, awaited: &Awaited) -> Result<u32, CheckError>
+fn check_awaited(
+    alloc: Global,
+    scope: &Scope<'_>,
+    at: u32,
+    awaited: &Awaited,
+) -> Result<u32, CheckError>
     ensures finds { Finds result (awaited_error scope.now at (view_awaited awaited.now)) }
     ensures after { IfOk result (λ n. n ≡ past_awaited (view_awaited awaited.now) at) }
 {
@@ -81,7 +86,7 @@ pub(crate) fn wait(
     ensures finds { Finds result (wait_error scope.now at (view_wait wait.now)) }
     ensures after { IfOk result (λ n. n ≡ past_wait (view_wait wait.now) at) }
 {
-    let at = awaited(alloc, scope, at, &wait.awaited)?;
+    let at = check_awaited(alloc, scope, at, &wait.awaited)?;
     optional(scope, at, &wait.other)
 }
 

@@ -12,9 +12,10 @@ use crate::directory::Declared;
 use crate::error::{CheckError, NameErrorKind};
 use crate::fault::{at_name, where_so};
 use crate::seed::Seed;
-use crate::seen::{Seen, unless_seen};
-use script_grammar::{Decl, Executor, ExecutorKind, Local, Root};
+use crate::seen::{SeenNames, unless_seen};
+use script_grammar::{Decl, Executor, Local, Root};
 use std::alloc::Global;
+use swift_types::ExecutorKind;
 use swift_types::limits::{EXECUTORS, TASKS, WORKERS};
 
 // A worker's number is below the greatest number of workers.
@@ -30,7 +31,12 @@ fn kind(at: u32, kind: ExecutorKind) -> Result<u32, CheckError>
 }
 
 // Executors are distinct, also from actors, and not too many.
-fn executor(alloc: Global, seen: &mut Seen, at: u32, executor: &Executor) -> Result<u32, CheckError>
+fn executor(
+    alloc: Global,
+    seen: &mut SeenNames,
+    at: u32,
+    executor: &Executor,
+) -> Result<u32, CheckError>
     ensures finds { Finds result (executor_error seen.old at (view_executor executor.now)) }
     ensures after { IfOk result (λ n. n ≡ suc at) }
     ensures seen { OnOk result (seen.new ≡ seen_after seen.old (Executes (view_executor executor.now))) }
@@ -45,7 +51,7 @@ fn executor(alloc: Global, seen: &mut Seen, at: u32, executor: &Executor) -> Res
 }
 
 // Task locals are distinct.
-fn local(alloc: Global, seen: &mut Seen, at: u32, local: &Local) -> Result<u32, CheckError>
+fn local(alloc: Global, seen: &mut SeenNames, at: u32, local: &Local) -> Result<u32, CheckError>
     ensures finds { Finds result (repeat_error seen.old.locals at (view_local local.now).name) }
     ensures after { IfOk result (λ n. n ≡ suc at) }
     ensures seen { OnOk result (seen.new ≡ seen_after seen.old (Binds (view_local local.now))) }
@@ -59,7 +65,7 @@ fn local(alloc: Global, seen: &mut Seen, at: u32, local: &Local) -> Result<u32, 
 fn root(
     alloc: Global,
     declared: &Declared,
-    seen: &mut Seen,
+    seen: &mut SeenNames,
     at: u32,
     root: &Root,
 ) -> Result<u32, CheckError>
@@ -86,7 +92,7 @@ fn root(
 fn declaration(
     alloc: Global,
     declared: &Declared,
-    seen: &mut Seen,
+    seen: &mut SeenNames,
     at: u32,
     decl: &Decl,
 ) -> Result<u32, CheckError>
@@ -105,7 +111,7 @@ fn declaration(
 fn declarations(alloc: Global, declared: &Declared, decls: &[Decl]) -> Result<(), CheckError>
     ensures { Finds result (declarations_error declared.now (record { places = []; locals = []; roots = []; executors = 0; actors = 0 }) 0 (map view_decl decls.now)) }
 {
-    let mut seen = Seen::nothing(alloc, declared.seed());
+    let mut seen = SeenNames::nothing(alloc, declared.seed());
     let mut at = 0;
     for decl in decls {
         at = declaration(alloc, declared, &mut seen, at, decl)?;

@@ -51,9 +51,9 @@ impl Drop for Declared {
 }
 
 impl Model for Declared {
-    ghost use Rattle.script_names.specs.Directory.{Directory};
+    ghost use Rattle.script_names.specs.Directory.{DirectoryView};
 
-    ghost Value = { Directory };
+    ghost Value = { DirectoryView };
 
     ghost view = { λ d. record { executors = d.executors; locals = d.locals; roots = d.roots; actors = d.actors; fields = d.fields.items; methods = d.methods; params = d.params.items } };
 }

@@ -10,7 +10,7 @@ mod blocks;
 // Calls, waits and tasks that are made.
 mod calls;
 // What is known of the names that stand and of the fields of other actors.
-mod cleared;
+mod checked_names;
 // Declarations, and whole scripts.
 mod declarations;
 // What a script declares.
@@ -37,7 +37,7 @@ mod texts;
 pub use declarations::check;
 pub use directory::Declared;
 pub use error::{CheckError, NameError, NameErrorKind};
-pub use laws::nothing_left_out;
+pub use laws::names_errors_are_complete;
 pub use scope::{NameKind, Outside, Scope};
 pub use seed::Seed;
 pub use texts::Names;

@@ -7,7 +7,7 @@ ghost use Rattle.script_names.specs.Scope.{fields_alone, with_standing, meaning_
 ghost use Rattle.script_names.specs.Rules.{bind_fault};
 ghost use Rattle.script_names.specs.Finds.{Finds};
 
-use crate::cleared::Cleared;
+use crate::checked_names::CheckedNames;
 use crate::directory::Declared;
 use crate::error::{CheckError, NameErrorKind};
 use crate::fault::where_so;
@@ -36,7 +36,7 @@ pub struct Scope<'a> {
     names: Names,
     kinds: Vec<NameKind>,
     bound: usize,
-    cleared: Cleared,
+    cleared: CheckedNames,
 }
 
 impl Drop for Scope<'_> {
@@ -57,10 +57,10 @@ impl Drop for Scope<'_> {
 
 impl<'a> Model for Scope<'a> {
     ghost use Rattle.std.specs.Prelude.{◌≡◌, length};
-    ghost use Rattle.script_names.specs.Scope.{Scope};
+    ghost use Rattle.script_names.specs.Scope.{ScopeView};
     ghost use Rattle.script_names.specs.ScopeInvariant.{AreCleared};
 
-    ghost Value = { Scope };
+    ghost Value = { ScopeView };
 
     ghost view = { λ s. record { directory = s.declared.now; actor = s.actor; names = s.names; kinds = s.kinds.items; bound = s.bound } };
 
@@ -89,7 +89,7 @@ impl<'a> Scope<'a> {
             names: Names::new(alloc, declared.seed()),
             kinds: Vec::new(alloc),
             bound: 0,
-            cleared: Cleared::nothing(alloc),
+            cleared: CheckedNames::nothing(alloc),
         }
     }
 

@@ -15,7 +15,7 @@ use std::marker::Model;
 
 /// What stands before a declaration: the names of executors and actors together, those of task locals and of roots, and
 /// how many executors and actors there are.
-pub(crate) struct Seen {
+pub(crate) struct SeenNames {
     pub(crate) places: Names,
     pub(crate) locals: Names,
     pub(crate) roots: Names,
@@ -23,9 +23,9 @@ pub(crate) struct Seen {
     pub(crate) actors: usize,
 }
 
-impl Drop for Seen {
+impl Drop for SeenNames {
     fn drop(self) {
-        let Seen {
+        let SeenNames {
             places,
             locals,
             roots,
@@ -38,20 +38,20 @@ impl Drop for Seen {
     }
 }
 
-impl Model for Seen {
-    ghost use Rattle.script_names.specs.Rules.{Seen};
+impl Model for SeenNames {
+    ghost use Rattle.script_names.specs.Rules.{SeenView};
 
-    ghost Value = { Seen };
+    ghost Value = { SeenView };
 
     ghost view = { λ s. record { places = s.places; locals = s.locals; roots = s.roots; executors = s.executors; actors = s.actors } };
 }
 
-impl Seen {
+impl SeenNames {
     /// Nothing stands before the first declaration.
-    pub(crate) fn nothing(alloc: Global, seed: Seed) -> Seen
+    pub(crate) fn nothing(alloc: Global, seed: Seed) -> SeenNames
         ensures { result ≡ record { places = []; locals = []; roots = []; executors = 0; actors = 0 } }
     {
-        Seen {
+        SeenNames {
             places: Names::new(alloc, seed),
             locals: Names::new(alloc, seed),
             roots: Names::new(alloc, seed),

@@ -2,10 +2,10 @@
 use Rattle.std.proofs.Common.{◌≡◌, ◌≤◌, ◌<◌, ℕ, zero, suc, ◌+◌, ◌-◌, false, List, Option, Some, None, Result, Ok, Err, refl, sym, ap, subst, ◌∙◌, arith}
 use Rattle.std.specs.Prelude.{is_some}
 use Rattle.std.specs.Option.{option_map}
-use Rattle.script_parser.specs.declared.fault.Fault.{Fault}
+use Rattle.script_parser.specs.declared.fault.ParseFault.{ParseFault}
 use Rattle.script_parser.specs.declared.fault.ReadError.{ReadError}
 use Rattle.script_parser.specs.declared.fault.ReadError.TheVariants as errors
-use Rattle.script_tokens.specs.Pieces.{Piece}
+use Rattle.script_tokens.specs.Pieces.{TokenView}
 use Rattle.script_grammar.specs.declared.region.Atoms.{Atoms}
 use Rattle.script_grammar.specs.Tree.{ExprTree}
 use Rattle.script_parser.specs.declared.limits.TheConstants.{NESTING}
@@ -17,23 +17,23 @@ pub not_found : {A B : Type 0} (f : A → B) (o : Option A) (there : Option B) �
 not_found f None there e found = sym found
 not_found f (Some x) there e found = absurd (cc)
 
-no_operand : (operand : Read) (k most : ℕ) (left : ExprTree) (rest : List Piece) → operator_at k rest ≡ None → operands_at NESTING operand k most left rest ≡ Ok (left, rest)
+no_operand : (operand : Read) (k most : ℕ) (left : ExprTree) (rest : List TokenView) → operator_at k rest ≡ None → operands_at NESTING operand k most left rest ≡ Ok (left, rest)
 unfolding operands_at
 no_operand operand k zero left rest e = refl
 no_operand operand k (suc n) left rest e = rw e refl
 
 module _ (atoms : Atoms) (inside : ReadInside) where
   -- the first level
-  pub first_level : (ts : List Piece) (r : Result (ExprTree × List Piece) Fault) → unary_at atoms NESTING inside ts (NESTING - 1) ts ≡ r → level_at atoms NESTING inside 0 ts ≡ r
+  pub first_level : (ts : List TokenView) (r : Result (ExprTree × List TokenView) ParseFault) → unary_at atoms NESTING inside ts (NESTING - 1) ts ≡ r → level_at atoms NESTING inside 0 ts ≡ r
   unfolding level_at
   first_level ts r e = e
 
-  next_level : (k : ℕ) (ts : List Piece) (left : ExprTree) (rest : List Piece) → level_at atoms NESTING inside k ts ≡ Ok (left, rest) → level_at atoms NESTING inside (suc k) ts ≡ operands_at NESTING (level_at atoms NESTING inside k) (suc k) (most_operators NESTING (suc k)) left rest
+  next_level : (k : ℕ) (ts : List TokenView) (left : ExprTree) (rest : List TokenView) → level_at atoms NESTING inside k ts ≡ Ok (left, rest) → level_at atoms NESTING inside (suc k) ts ≡ operands_at NESTING (level_at atoms NESTING inside k) (suc k) (most_operators NESTING (suc k)) left rest
   unfolding level_at
   next_level k ts left rest e = rw e refl
 
   -- the next level has further operands
-  pub level_with : (k most : ℕ) (ts : List Piece) (left : ExprTree) (rest : List Piece) → most ≡ most_operators NESTING (k + 1) → level_at atoms NESTING inside k ts ≡ Ok (left, rest) → level_at atoms NESTING inside (k + 1) ts ≡ operands_at NESTING (level_at atoms NESTING inside ((k + 1) - 1)) (k + 1) most left rest
+  pub level_with : (k most : ℕ) (ts : List TokenView) (left : ExprTree) (rest : List TokenView) → most ≡ most_operators NESTING (k + 1) → level_at atoms NESTING inside k ts ≡ Ok (left, rest) → level_at atoms NESTING inside (k + 1) ts ≡ operands_at NESTING (level_at atoms NESTING inside ((k + 1) - 1)) (k + 1) most left rest
   level_with k most ts left rest m e =
       let up : k + 1 ≡ suc k = omega arith in
       let down : k ≡ (k + 1) - 1 = omega arith in
@@ -41,14 +41,14 @@ module _ (atoms : Atoms) (inside : ReadInside) where
       (λ i. level_at atoms NESTING inside (up i) ts) ∙ next_level k ts left rest e ∙ (λ i. operands_at NESTING (level_at atoms NESTING inside (down i)) (sym up i) (as_many i) left rest)
 
   -- or none, where no operator stands
-  pub level_without : (k : ℕ) (ts : List Piece) (left : ExprTree) (rest : List Piece) → operator_at (k + 1) rest ≡ None → level_at atoms NESTING inside k ts ≡ Ok (left, rest) → level_at atoms NESTING inside (k + 1) ts ≡ Ok (left, rest)
+  pub level_without : (k : ℕ) (ts : List TokenView) (left : ExprTree) (rest : List TokenView) → operator_at (k + 1) rest ≡ None → level_at atoms NESTING inside k ts ≡ Ok (left, rest) → level_at atoms NESTING inside (k + 1) ts ≡ Ok (left, rest)
   level_without k ts left rest none e = level_with k (most_operators NESTING (k + 1)) ts left rest refl e ∙ no_operand (level_at atoms NESTING inside ((k + 1) - 1)) (k + 1) (most_operators NESTING (k + 1)) left rest none
 
-  next_fails : (f : Fault) (k : ℕ) (ts : List Piece) → level_at atoms NESTING inside k ts ≡ Err f → level_at atoms NESTING inside (suc k) ts ≡ Err f
+  next_fails : (f : ParseFault) (k : ℕ) (ts : List TokenView) → level_at atoms NESTING inside k ts ≡ Err f → level_at atoms NESTING inside (suc k) ts ≡ Err f
   unfolding level_at
   next_fails f k ts e = rw e refl
 
-  later_fails : (f : Fault) (d k : ℕ) (ts : List Piece) → level_at atoms NESTING inside k ts ≡ Err f → level_at atoms NESTING inside (d + k) ts ≡ Err f
+  later_fails : (f : ParseFault) (d k : ℕ) (ts : List TokenView) → level_at atoms NESTING inside k ts ≡ Err f → level_at atoms NESTING inside (d + k) ts ≡ Err f
   later_fails f zero k ts e =
       let same : k ≡ 0 + k = omega arith in
       subst (λ (m : ℕ). level_at atoms NESTING inside m ts ≡ Err f) same e
@@ -56,16 +56,16 @@ module _ (atoms : Atoms) (inside : ReadInside) where
       let same : suc (d + k) ≡ suc d + k = omega arith in
       subst (λ (m : ℕ). level_at atoms NESTING inside m ts ≡ Err f) same (next_fails f (d + k) ts (later_fails f d k ts e))
 
-  level_fails : (e : ReadError) (k n : ℕ) (ts : List Piece) → k ≤ n → Fails e (level_at atoms NESTING inside k ts) → Fails e (level_at atoms NESTING inside n ts)
+  level_fails : (e : ReadError) (k n : ℕ) (ts : List TokenView) → k ≤ n → Fails e (level_at atoms NESTING inside k ts) → Fails e (level_at atoms NESTING inside n ts)
   level_fails errors.Memory k n ts le fails = tt
   level_fails (errors.Fault f) k n ts le fails =
       let whole : (n - k) + k ≡ n = omega arith in
       subst (λ (m : ℕ). level_at atoms NESTING inside m ts ≡ Err f) whole (later_fails f (n - k) k ts fails)
 
   -- what fails at the first level fails at each
-  pub first_fails : (e : ReadError) (n : ℕ) (ts : List Piece) → Fails e (unary_at atoms NESTING inside ts (NESTING - 1) ts) → Fails e (level_at atoms NESTING inside n ts)
+  pub first_fails : (e : ReadError) (n : ℕ) (ts : List TokenView) → Fails e (unary_at atoms NESTING inside ts (NESTING - 1) ts) → Fails e (level_at atoms NESTING inside n ts)
   first_fails e n ts fails = level_fails e 0 n ts (omega arith) (subst (Fails e) (sym (first_level ts _ refl)) fails)
 
   -- and so for the further operands of a level
-  pub operands_fail : (e : ReadError) (k n most : ℕ) (ts : List Piece) (left : ExprTree) (rest : List Piece) → k < n → most ≡ most_operators NESTING (k + 1) → level_at atoms NESTING inside k ts ≡ Ok (left, rest) → Fails e (operands_at NESTING (level_at atoms NESTING inside ((k + 1) - 1)) (k + 1) most left rest) → Fails e (level_at atoms NESTING inside n ts)
+  pub operands_fail : (e : ReadError) (k n most : ℕ) (ts : List TokenView) (left : ExprTree) (rest : List TokenView) → k < n → most ≡ most_operators NESTING (k + 1) → level_at atoms NESTING inside k ts ≡ Ok (left, rest) → Fails e (operands_at NESTING (level_at atoms NESTING inside ((k + 1) - 1)) (k + 1) most left rest) → Fails e (level_at atoms NESTING inside n ts)
   operands_fail e k n most ts left rest lt m read fails = level_fails e (k + 1) n ts (omega arith) (subst (Fails e) (sym (level_with k most ts left rest m read)) fails)

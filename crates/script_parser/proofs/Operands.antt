@@ -1,17 +1,17 @@
 -- Reading operands one after the other, as a loop does.
 use Rattle.std.proofs.Common.{◌≡◌, ℕ, suc, ◌+◌, ◌-◌, ◌<◌, List, Some, Result, Ok, Err, refl, sym, ◌∙◌, arith}
-use Rattle.script_parser.specs.declared.fault.Fault.{Fault}
+use Rattle.script_parser.specs.declared.fault.ParseFault.{ParseFault}
 use Rattle.script_parser.specs.declared.fault.ReadError.{ReadError}
 use Rattle.script_parser.specs.declared.fault.ReadError.TheVariants as errors
 use Rattle.swift_types.specs.declared.operator.Operator.{Operator}
-use Rattle.script_tokens.specs.Pieces.{Piece}
+use Rattle.script_tokens.specs.Pieces.{TokenView}
 use Rattle.script_grammar.specs.Tree.{ExprTree, Both}
 use Rattle.script_parser.specs.declared.limits.TheConstants.{NESTING}
 use Rattle.script_parser.specs.Model.Steps.{Fails}
 use Rattle.script_parser.specs.Model.Expressions.{Read, operator_at, checked, operands_at}
 
 module _ (operand : Read) (k : ℕ) where
-  pub next_operand : (count i : ℕ) (a : ExprTree) (ts : List Piece) (o : Operator) (following : List Piece) (b t : ExprTree) (after : List Piece) (total : Result (ExprTree × List Piece) Fault) → i < count
+  pub next_operand : (count i : ℕ) (a : ExprTree) (ts : List TokenView) (o : Operator) (following : List TokenView) (b t : ExprTree) (after : List TokenView) (total : Result (ExprTree × List TokenView) ParseFault) → i < count
       → operator_at k ts ≡ Some (o, following) → operand following ≡ Ok (b, after) → checked NESTING ts (Both o a b) ≡ Ok t
       → operands_at NESTING operand k (count - i) a ts ≡ total → operands_at NESTING operand k (count - (i + 1)) t after ≡ total
   unfolding operands_at
@@ -20,7 +20,7 @@ module _ (operand : Read) (k : ℕ) where
       let one : operands_at NESTING operand k (count - i) a ts ≡ operands_at NESTING operand k (count - (i + 1)) t after = rw (n, at, read, low) refl in
       sym one ∙ so_far
 
-  pub operand_fails : (e : ReadError) (count i : ℕ) (a : ExprTree) (ts : List Piece) (o : Operator) (following : List Piece) (total : Result (ExprTree × List Piece) Fault) → i < count
+  pub operand_fails : (e : ReadError) (count i : ℕ) (a : ExprTree) (ts : List TokenView) (o : Operator) (following : List TokenView) (total : Result (ExprTree × List TokenView) ParseFault) → i < count
       → operator_at k ts ≡ Some (o, following) → Fails e (operand following)
       → operands_at NESTING operand k (count - i) a ts ≡ total → Fails e total
   unfolding operands_at
@@ -30,7 +30,7 @@ module _ (operand : Read) (k : ℕ) where
       let one : operands_at NESTING operand k (count - i) a ts ≡ Err f = rw (n, at, fails) refl in
       sym so_far ∙ one
 
-  pub operand_too_high : (e : ReadError) (count i : ℕ) (a : ExprTree) (ts : List Piece) (o : Operator) (following : List Piece) (b : ExprTree) (after : List Piece) (total : Result (ExprTree × List Piece) Fault) → i < count
+  pub operand_too_high : (e : ReadError) (count i : ℕ) (a : ExprTree) (ts : List TokenView) (o : Operator) (following : List TokenView) (b : ExprTree) (after : List TokenView) (total : Result (ExprTree × List TokenView) ParseFault) → i < count
       → operator_at k ts ≡ Some (o, following) → operand following ≡ Ok (b, after) → Fails e (checked NESTING ts (Both o a b))
       → operands_at NESTING operand k (count - i) a ts ≡ total → Fails e total
   unfolding operands_at

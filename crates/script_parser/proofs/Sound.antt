@@ -2,92 +2,92 @@
 use Rattle.std.proofs.Common.{◌≡◌, ◌≢◌, ℕ, zero, suc, ◌-◌, ◌<◌, ◌≤◌, ◌⊎◌, inl, inr, Bool, true, false, cond, eqb, ltb, List, [], ◌∷◌, ◌++◌, Option, Some, None, Ok, Err, refl, sym, ap, subst, ◌∙◌, append_assoc, arith}
 use Rattle.std.proofs.lemmas.Bool.{ltb-false, eqb-true}
 use Rattle.std.proofs.lemmas.Bool.Decides.{nat_tests}
-use Rattle.script_parser.specs.declared.fault.Fault.{Fault}
+use Rattle.script_parser.specs.declared.fault.ParseFault.{ParseFault}
 use Rattle.swift_types.specs.declared.operator.Operator.{Operator}
 use Rattle.swift_types.specs.declared.operator.Operator.TheVariants as op
 use Rattle.script_tokens.specs.declared.keyword.Keyword.TheVariants as key
 use Rattle.script_tokens.specs.declared.mark.Mark.{Mark}
 use Rattle.script_tokens.specs.declared.mark.Mark.TheVariants as mark
-use Rattle.script_tokens.specs.Pieces.{Piece, Num, Name, Key, Sign}
+use Rattle.script_tokens.specs.Pieces.{TokenView, Num, Name, Key, Sign}
 use Rattle.script_grammar.specs.declared.region.Atoms.{Atoms}
 use Rattle.script_grammar.specs.Tree.{ExprTree, Number, Named, Local, OwnPriority, IsCancelled, Negated, Inverted, Both, height_of}
-use Rattle.script_grammar.specs.Grammar.{mark_of, tightness_of, has_every_atom, Spells, IsExpression, number, name, local, own_priority, is_cancelled, parenthesis, negated, inverted, alone, chained, compared}
+use Rattle.script_grammar.specs.Grammar.{mark_of, precedence_of, has_every_atom, SpellsExpr, IsExpression, number, name, local, own_priority, is_cancelled, parenthesis, negated, inverted, alone, chained, compared}
 use Rattle.script_parser.specs.Model.Steps.{◌>>=◌}
-use Rattle.script_parser.specs.Model.Expressions.{Read, operator_in, of_tightness, with_rest, operator_at, most_operators, checked, closed_at, on_operator, atom_at, unary_at, operands_at, level_at, inside_at, expr_in}
+use Rattle.script_parser.specs.Model.Expressions.{Read, operator_in, of_precedence, with_rest, operator_at, most_operators, checked, closed_at, on_operator, atom_at, unary_at, operands_at, level_at, inside_at, expr_in}
 use Rattle.script_parser.proofs.Steps.{done, ok_is, some_is, step_ok, allowed_is}
 use Rattle.script_parser.proofs.Tokens.{name_is}
 
 -- a test that did not fail
-guard_ok : {A : Type 0} (b : Bool) (d : Fault) (x y : A) → cond b (Err d) (Ok x) ≡ Ok y → (b ≡ false) × (x ≡ y)
+guard_ok : {A : Type 0} (b : Bool) (d : ParseFault) (x y : A) → cond b (Err d) (Ok x) ≡ Ok y → (b ≡ false) × (x ≡ y)
 guard_ok true d x y e = absurd cc
 guard_ok false d x y e = (refl, cc)
 
 -- What was taken from the front, and what is left.
-pub record Takes (atoms : Atoms) (limit o k : ℕ) (ts : List Piece) (t : ExprTree) (rest : List Piece) : Type 0 where
-  pub front : List Piece
+pub record Takes (atoms : Atoms) (limit o k : ℕ) (ts : List TokenView) (t : ExprTree) (rest : List TokenView) : Type 0 where
+  pub front : List TokenView
   pub parts : ts ≡ front ++ rest
-  pub spells : Spells atoms o k front t
+  pub spells : SpellsExpr atoms o k front t
   pub low : height_of t ≤ limit
 
 abbrev IsSound : Atoms → ℕ → ℕ → ℕ → Read → Type 0
-IsSound atoms limit o k read = (ts : List Piece) (x : ExprTree × List Piece) → read ts ≡ Ok x → Takes atoms limit o k ts x.0 x.1
+IsSound atoms limit o k read = (ts : List TokenView) (x : ExprTree × List TokenView) → read ts ≡ Ok x → Takes atoms limit o k ts x.0 x.1
 
 -- what is read after an opening parenthesis
 abbrev IsSoundInside : Atoms → ℕ → ℕ → Type 0
-IsSoundInside atoms limit o = (paren ts : List Piece) (x : ExprTree × List Piece) → inside_at atoms limit o paren ts ≡ Ok x → (p : ℕ) × (o ≡ suc p) × Takes atoms limit p 5 ts x.0 x.1
+IsSoundInside atoms limit o = (paren ts : List TokenView) (x : ExprTree × List TokenView) → inside_at atoms limit o paren ts ≡ Ok x → (p : ℕ) × (o ≡ suc p) × Takes atoms limit p 5 ts x.0 x.1
 
 -- An expression that is read is spelled by what was taken.
-pub record TakesExpr (atoms : Atoms) (limit o : ℕ) (ts : List Piece) (t : ExprTree) (rest : List Piece) : Type 0 where
-  pub front : List Piece
+pub record TakesExpr (atoms : Atoms) (limit o : ℕ) (ts : List TokenView) (t : ExprTree) (rest : List TokenView) : Type 0 where
+  pub front : List TokenView
   pub parts : ts ≡ front ++ rest
   pub spells : IsExpression atoms limit o front t
 
 module _ (atoms : Atoms) (limit : ℕ) (positive : 0 < limit) where
-  checked_ok : (ts : List Piece) (t u : ExprTree) → checked limit ts t ≡ Ok u → (t ≡ u) × (height_of t ≤ limit)
+  checked_ok : (ts : List TokenView) (t u : ExprTree) → checked limit ts t ≡ Ok u → (t ≡ u) × (height_of t ≤ limit)
   unfolding checked
   checked_ok ts t u e =
       let g = guard_ok (ltb limit (height_of t)) _ t u e in
       (g.1, ltb-false _ _ g.0)
 
-  closed_ok : (t : ExprTree) (ts : List Piece) (x : ExprTree × List Piece) → closed_at t ts ≡ Ok x → (t ≡ x.0) × (ts ≡ Sign mark.Close ∷ x.1)
+  closed_ok : (t : ExprTree) (ts : List TokenView) (x : ExprTree × List TokenView) → closed_at t ts ≡ Ok x → (t ≡ x.0) × (ts ≡ Sign mark.Close ∷ x.1)
   unfolding closed_at
   closed_ok t [] x e = absurd cc
-  closed_ok t (Sign mark.Close ∷ ts) x e = let is = ok_is (t, ts) x e in (ap (λ (y : ExprTree × List Piece). y.0) is, ap (λ (y : ExprTree × List Piece). Sign mark.Close ∷ y.1) is)
+  closed_ok t (Sign mark.Close ∷ ts) x e = let is = ok_is (t, ts) x e in (ap (λ (y : ExprTree × List TokenView). y.0) is, ap (λ (y : ExprTree × List TokenView). Sign mark.Close ∷ y.1) is)
   closed_ok t (_ ∷ ts) x e = absurd cc
 
-  inside_takes : (o : ℕ) → IsSoundInside atoms limit o → (ts : List Piece) (x : ExprTree × List Piece) → (inside_at atoms limit o (Sign mark.Open ∷ ts) ts >>= λ a. closed_at a.0 a.1) ≡ Ok x → Takes atoms limit o zero (Sign mark.Open ∷ ts) x.0 x.1
+  inside_takes : (o : ℕ) → IsSoundInside atoms limit o → (ts : List TokenView) (x : ExprTree × List TokenView) → (inside_at atoms limit o (Sign mark.Open ∷ ts) ts >>= λ a. closed_at a.0 a.1) ≡ Ok x → Takes atoms limit o zero (Sign mark.Open ∷ ts) x.0 x.1
   inside_takes o sound ts x e =
       let b = step_ok e in
       let c = closed_ok b.0.0 b.0.1 x b.2 in
       let s = sound (Sign mark.Open ∷ ts) ts b.0 b.1 in
       let low : height_of x.0 ≤ limit = subst (λ (t : ExprTree). height_of t ≤ limit) c.0 s.2.low in
-      let spells : Spells atoms (suc s.0) zero (Sign mark.Open ∷ (s.2.front ++ Sign mark.Close ∷ [])) x.0 = subst (λ (t : ExprTree). Spells atoms (suc s.0) zero (Sign mark.Open ∷ (s.2.front ++ Sign mark.Close ∷ [])) t) c.0 (parenthesis s.2.spells) in
+      let spells : SpellsExpr atoms (suc s.0) zero (Sign mark.Open ∷ (s.2.front ++ Sign mark.Close ∷ [])) x.0 = subst (λ (t : ExprTree). SpellsExpr atoms (suc s.0) zero (Sign mark.Open ∷ (s.2.front ++ Sign mark.Close ∷ [])) t) c.0 (parenthesis s.2.spells) in
       record {
         front = Sign mark.Open ∷ (s.2.front ++ Sign mark.Close ∷ []);
-        parts = ap (λ (w : List Piece). Sign mark.Open ∷ w) (s.2.parts ∙ ap (λ (w : List Piece). s.2.front ++ w) c.1 ∙ sym (append_assoc s.2.front (Sign mark.Close ∷ []) x.1));
-        spells = subst (λ (p : ℕ). Spells atoms p zero (Sign mark.Open ∷ (s.2.front ++ Sign mark.Close ∷ [])) x.0) (sym s.1) spells;
+        parts = ap (λ (w : List TokenView). Sign mark.Open ∷ w) (s.2.parts ∙ ap (λ (w : List TokenView). s.2.front ++ w) c.1 ∙ sym (append_assoc s.2.front (Sign mark.Close ∷ []) x.1));
+        spells = subst (λ (p : ℕ). SpellsExpr atoms p zero (Sign mark.Open ∷ (s.2.front ++ Sign mark.Close ∷ [])) x.0) (sym s.1) spells;
         low = low;
       }
 
-  negated_takes : (o : ℕ) (ts : List Piece) (a : ExprTree × List Piece) (x : ExprTree × List Piece) → Takes atoms limit o zero ts a.0 a.1 → (checked limit (Sign mark.Minus ∷ ts) (Negated a.0) >>= λ t. Ok (t, a.1)) ≡ Ok x → Takes atoms limit o zero (Sign mark.Minus ∷ ts) x.0 x.1
+  negated_takes : (o : ℕ) (ts : List TokenView) (a : ExprTree × List TokenView) (x : ExprTree × List TokenView) → Takes atoms limit o zero ts a.0 a.1 → (checked limit (Sign mark.Minus ∷ ts) (Negated a.0) >>= λ t. Ok (t, a.1)) ≡ Ok x → Takes atoms limit o zero (Sign mark.Minus ∷ ts) x.0 x.1
   negated_takes o ts a x taken e =
       let b = step_ok e in
       let c = checked_ok (Sign mark.Minus ∷ ts) (Negated a.0) b.0 b.1 in
       let is : (Negated a.0, a.1) ≡ x = ap (λ (t : ExprTree). (t, a.1)) c.0 ∙ ok_is (b.0, a.1) x b.2 in
-      subst (λ (y : ExprTree × List Piece). Takes atoms limit o zero (Sign mark.Minus ∷ ts) y.0 y.1) is (record { front = Sign mark.Minus ∷ taken.front; parts = ap (λ (w : List Piece). Sign mark.Minus ∷ w) taken.parts; spells = negated taken.spells; low = c.1 })
+      subst (λ (y : ExprTree × List TokenView). Takes atoms limit o zero (Sign mark.Minus ∷ ts) y.0 y.1) is (record { front = Sign mark.Minus ∷ taken.front; parts = ap (λ (w : List TokenView). Sign mark.Minus ∷ w) taken.parts; spells = negated taken.spells; low = c.1 })
 
-  inverted_takes : (o : ℕ) (ts : List Piece) (a : ExprTree × List Piece) (x : ExprTree × List Piece) → Takes atoms limit o zero ts a.0 a.1 → (checked limit (Sign mark.Bang ∷ ts) (Inverted a.0) >>= λ t. Ok (t, a.1)) ≡ Ok x → Takes atoms limit o zero (Sign mark.Bang ∷ ts) x.0 x.1
+  inverted_takes : (o : ℕ) (ts : List TokenView) (a : ExprTree × List TokenView) (x : ExprTree × List TokenView) → Takes atoms limit o zero ts a.0 a.1 → (checked limit (Sign mark.Bang ∷ ts) (Inverted a.0) >>= λ t. Ok (t, a.1)) ≡ Ok x → Takes atoms limit o zero (Sign mark.Bang ∷ ts) x.0 x.1
   inverted_takes o ts a x taken e =
       let b = step_ok e in
       let c = checked_ok (Sign mark.Bang ∷ ts) (Inverted a.0) b.0 b.1 in
       let is : (Inverted a.0, a.1) ≡ x = ap (λ (t : ExprTree). (t, a.1)) c.0 ∙ ok_is (b.0, a.1) x b.2 in
-      subst (λ (y : ExprTree × List Piece). Takes atoms limit o zero (Sign mark.Bang ∷ ts) y.0 y.1) is (record { front = Sign mark.Bang ∷ taken.front; parts = ap (λ (w : List Piece). Sign mark.Bang ∷ w) taken.parts; spells = inverted taken.spells; low = c.1 })
+      subst (λ (y : ExprTree × List TokenView). Takes atoms limit o zero (Sign mark.Bang ∷ ts) y.0 y.1) is (record { front = Sign mark.Bang ∷ taken.front; parts = ap (λ (w : List TokenView). Sign mark.Bang ∷ w) taken.parts; spells = inverted taken.spells; low = c.1 })
 
-  atom_made : (o : ℕ) (ts front rest : List Piece) (t : ExprTree) (x : ExprTree × List Piece) → ts ≡ front ++ rest → Spells atoms o zero front t → height_of t ≡ 1 → done (t, rest) ≡ Ok x → Takes atoms limit o zero ts x.0 x.1
+  atom_made : (o : ℕ) (ts front rest : List TokenView) (t : ExprTree) (x : ExprTree × List TokenView) → ts ≡ front ++ rest → SpellsExpr atoms o zero front t → height_of t ≡ 1 → done (t, rest) ≡ Ok x → Takes atoms limit o zero ts x.0 x.1
   atom_made o ts front rest t x parts spells low e =
-      subst (λ (y : ExprTree × List Piece). Takes atoms limit o zero ts y.0 y.1) (ok_is (t, rest) x e) (record { front = front; parts = parts; spells = spells; low = omega (arith, low, positive) })
+      subst (λ (y : ExprTree × List TokenView). Takes atoms limit o zero ts y.0 y.1) (ok_is (t, rest) x e) (record { front = front; parts = parts; spells = spells; low = omega (arith, low, positive) })
 
-  atom_takes : (o : ℕ) (ts : List Piece) (x : ExprTree × List Piece) → atom_at atoms ts ≡ Ok x → Takes atoms limit o zero ts x.0 x.1
+  atom_takes : (o : ℕ) (ts : List TokenView) (x : ExprTree × List TokenView) → atom_at atoms ts ≡ Ok x → Takes atoms limit o zero ts x.0 x.1
   unfolding atom_at
   atom_takes o [] x e = absurd cc
   atom_takes o (Num v ∷ ts) x e = atom_made o (Num v ∷ ts) (Num v ∷ []) ts (Number v) x refl (number v) refl e
@@ -96,7 +96,7 @@ module _ (atoms : Atoms) (limit : ℕ) (positive : 0 < limit) where
       let b = step_ok e in
       let n = step_ok b.2 in
       let may = allowed_is (has_every_atom atoms) (Sign mark.At ∷ ts) b.0 b.1 in
-      atom_made o (Sign mark.At ∷ ts) (Sign mark.At ∷ Name n.0.0 ∷ []) n.0.1 (Local n.0.0) x (ap (λ (w : List Piece). Sign mark.At ∷ w) (name_is ts n.0 n.1)) (local n.0.0 may.0) refl n.2
+      atom_made o (Sign mark.At ∷ ts) (Sign mark.At ∷ Name n.0.0 ∷ []) n.0.1 (Local n.0.0) x (ap (λ (w : List TokenView). Sign mark.At ∷ w) (name_is ts n.0 n.1)) (local n.0.0 may.0) refl n.2
   atom_takes o (Key key.Priority ∷ ts) x e =
       let b = step_ok e in
       let may = allowed_is (has_every_atom atoms) (Key key.Priority ∷ ts) b.0 b.1 in
@@ -107,7 +107,7 @@ module _ (atoms : Atoms) (limit : ℕ) (positive : 0 < limit) where
       atom_made o (Key key.Cancelled ∷ ts) (Key key.Cancelled ∷ []) ts IsCancelled x refl (is_cancelled may.0) refl b.2
   atom_takes o (_ ∷ ts) x e = absurd cc
 
-  unary_takes : (o : ℕ) → IsSoundInside atoms limit o → (first : List Piece) (n : ℕ) (ts : List Piece) (x : ExprTree × List Piece) → unary_at atoms limit (inside_at atoms limit o) first n ts ≡ Ok x → Takes atoms limit o zero ts x.0 x.1
+  unary_takes : (o : ℕ) → IsSoundInside atoms limit o → (first : List TokenView) (n : ℕ) (ts : List TokenView) (x : ExprTree × List TokenView) → unary_at atoms limit (inside_at atoms limit o) first n ts ≡ Ok x → Takes atoms limit o zero ts x.0 x.1
   unfolding unary_at
   unary_takes o sound first n (Sign mark.Open ∷ ts) x e = inside_takes o sound ts x e
   unary_takes o sound first zero (Sign mark.Minus ∷ ts) x e = absurd cc
@@ -134,32 +134,32 @@ module _ (atoms : Atoms) (limit : ℕ) (positive : 0 < limit) where
   mark_from mark.Times o e = ap mark_of (some_is op.Times o e)
   mark_from _ o e = absurd cc
 
-  chosen_is : (b : Bool) (q o : Operator) (ts following : List Piece) → with_rest (cond b (Some q) None) ts ≡ Some (o, following) → (b ≡ true) × (q ≡ o) × (ts ≡ following)
+  chosen_is : (b : Bool) (q o : Operator) (ts following : List TokenView) → with_rest (cond b (Some q) None) ts ≡ Some (o, following) → (b ≡ true) × (q ≡ o) × (ts ≡ following)
   chosen_is true q o ts following e =
       let is = some_is (q, ts) (o, following) e in
-      (refl, ap (λ (p : Operator × List Piece). p.0) is, ap (λ (p : Operator × List Piece). p.1) is)
+      (refl, ap (λ (p : Operator × List TokenView). p.0) is, ap (λ (p : Operator × List TokenView). p.1) is)
   chosen_is false q o ts following e = absurd cc
 
-  of_mark_is : (k : ℕ) (q : Option Operator) (o : Operator) (ts following : List Piece) → with_rest (of_tightness k q) ts ≡ Some (o, following) → (q ≡ Some o) × (tightness_of o ≡ k) × (ts ≡ following)
+  of_mark_is : (k : ℕ) (q : Option Operator) (o : Operator) (ts following : List TokenView) → with_rest (of_precedence k q) ts ≡ Some (o, following) → (q ≡ Some o) × (precedence_of o ≡ k) × (ts ≡ following)
   of_mark_is k None o ts following e = absurd cc
   of_mark_is k (Some q) o ts following e =
-      let c = chosen_is (eqb (tightness_of q) k) q o ts following e in
-      (ap (λ (p : Operator). Some p) c.1, sym (ap tightness_of c.1) ∙ eqb-true (tightness_of q) k c.0, c.2)
+      let c = chosen_is (eqb (precedence_of q) k) q o ts following e in
+      (ap (λ (p : Operator). Some p) c.1, sym (ap precedence_of c.1) ∙ eqb-true (precedence_of q) k c.0, c.2)
 
-  operator_at_is : (k : ℕ) (ts : List Piece) (o : Operator) (following : List Piece) → operator_at k ts ≡ Some (o, following) → (ts ≡ Sign (mark_of o) ∷ following) × (k ≡ tightness_of o)
+  operator_at_is : (k : ℕ) (ts : List TokenView) (o : Operator) (following : List TokenView) → operator_at k ts ≡ Some (o, following) → (ts ≡ Sign (mark_of o) ∷ following) × (k ≡ precedence_of o)
   unfolding operator_at
   operator_at_is k [] o following e = absurd cc
   operator_at_is k (Sign m ∷ ts) o following e =
       let c = of_mark_is k (operator_in m) o ts following e in
-      (ap (λ (w : Mark). Sign w ∷ ts) (mark_from m o c.0) ∙ ap (λ (w : List Piece). Sign (mark_of o) ∷ w) c.2, sym c.1)
+      (ap (λ (w : Mark). Sign w ∷ ts) (mark_from m o c.0) ∙ ap (λ (w : List TokenView). Sign (mark_of o) ∷ w) c.2, sym c.1)
   operator_at_is k (_ ∷ ts) o following e = absurd cc
 
   -- what reading of operands stands on: it may join a further one
-  abbrev MayJoin : ℕ → ℕ → ℕ → List Piece → ExprTree → Type 0
-  MayJoin o k n front left = (m : ℕ) → n ≡ suc m → (suc k ≢ 3) ⊎ ((m ≡ 0) × Spells atoms o k front left)
+  abbrev MayJoin : ℕ → ℕ → ℕ → List TokenView → ExprTree → Type 0
+  MayJoin o k n front left = (m : ℕ) → n ≡ suc m → (suc k ≢ 3) ⊎ ((m ≡ 0) × SpellsExpr atoms o k front left)
 
-  joined : (o k m : ℕ) (q : Operator) (front rs : List Piece) (left right : ExprTree) → suc k ≡ tightness_of q → (suc k ≢ 3) ⊎ ((m ≡ 0) × Spells atoms o k front left) → Spells atoms o (suc k) front left → Spells atoms o k rs right → suc k ≡ 3 ⊎ (suc k ≢ 3)
-      → Spells atoms o (suc k) (front ++ Sign (mark_of q) ∷ rs) (Both q left right)
+  joined : (o k m : ℕ) (q : Operator) (front rs : List TokenView) (left right : ExprTree) → suc k ≡ precedence_of q → (suc k ≢ 3) ⊎ ((m ≡ 0) × SpellsExpr atoms o k front left) → SpellsExpr atoms o (suc k) front left → SpellsExpr atoms o k rs right → suc k ≡ 3 ⊎ (suc k ≢ 3)
+      → SpellsExpr atoms o (suc k) (front ++ Sign (mark_of q) ∷ rs) (Both q left right)
   joined o k m q front rs left right e (inl ne) whole operand d = chained q e ne whole operand
   joined o k m q front rs left right e (inr p) whole operand (inl three) = compared q e three p.1 operand
   joined o k m q front rs left right e (inr p) whole operand (inr ne) = chained q e ne whole operand
@@ -167,17 +167,17 @@ module _ (atoms : Atoms) (limit : ℕ) (positive : 0 < limit) where
   is_three : (k : ℕ) → k ≡ 3 ⊎ (k ≢ 3)
   is_three k = search (arith, nat_tests)
 
-  may_join_next : (o k n : ℕ) (front : List Piece) (left : ExprTree) (front' : List Piece) (left' : ExprTree) → (suc k ≢ 3) ⊎ ((n ≡ 0) × Spells atoms o k front left) → MayJoin o k n front' left'
+  may_join_next : (o k n : ℕ) (front : List TokenView) (left : ExprTree) (front' : List TokenView) (left' : ExprTree) → (suc k ≢ 3) ⊎ ((n ≡ 0) × SpellsExpr atoms o k front left) → MayJoin o k n front' left'
   may_join_next o k n front left front' left' (inl ne) = λ m e. inl ne
   may_join_next o k n front left front' left' (inr p) = λ m e. absurd (omega (arith, p.0))
 
   -- how one further operand is joined, where the rest is sound
-  operands_step : (o k : ℕ) → IsSound atoms limit o k (level_at atoms limit (inside_at atoms limit o) k) → (n : ℕ) (left : ExprTree) (all front ts : List Piece) (x : ExprTree × List Piece) → all ≡ front ++ ts → Spells atoms o (suc k) front left → height_of left ≤ limit → MayJoin o k (suc n) front left
-      → ((left' : ExprTree) (front' ts' : List Piece) → all ≡ front' ++ ts' → Spells atoms o (suc k) front' left' → height_of left' ≤ limit → MayJoin o k n front' left' → operands_at limit (level_at atoms limit (inside_at atoms limit o) k) (suc k) n left' ts' ≡ Ok x → Takes atoms limit o (suc k) all x.0 x.1)
-      → (found : Option (Operator × List Piece)) → operator_at (suc k) ts ≡ found
+  operands_step : (o k : ℕ) → IsSound atoms limit o k (level_at atoms limit (inside_at atoms limit o) k) → (n : ℕ) (left : ExprTree) (all front ts : List TokenView) (x : ExprTree × List TokenView) → all ≡ front ++ ts → SpellsExpr atoms o (suc k) front left → height_of left ≤ limit → MayJoin o k (suc n) front left
+      → ((left' : ExprTree) (front' ts' : List TokenView) → all ≡ front' ++ ts' → SpellsExpr atoms o (suc k) front' left' → height_of left' ≤ limit → MayJoin o k n front' left' → operands_at limit (level_at atoms limit (inside_at atoms limit o) k) (suc k) n left' ts' ≡ Ok x → Takes atoms limit o (suc k) all x.0 x.1)
+      → (found : Option (Operator × List TokenView)) → operator_at (suc k) ts ≡ found
       → on_operator found (Ok (left, ts)) (λ q rest. level_at atoms limit (inside_at atoms limit o) k rest >>= λ right. checked limit ts (Both q left right.0) >>= λ t. operands_at limit (level_at atoms limit (inside_at atoms limit o) k) (suc k) n t right.1) ≡ Ok x
       → Takes atoms limit o (suc k) all x.0 x.1
-  operands_step o k sound n left all front ts x parts spells low may next None is e = subst (λ (y : ExprTree × List Piece). Takes atoms limit o (suc k) all y.0 y.1) (ok_is (left, ts) x e) (record { front = front; parts = parts; spells = spells; low = low })
+  operands_step o k sound n left all front ts x parts spells low may next None is e = subst (λ (y : ExprTree × List TokenView). Takes atoms limit o (suc k) all y.0 y.1) (ok_is (left, ts) x e) (record { front = front; parts = parts; spells = spells; low = low })
   operands_step o k sound n left all front ts x parts spells low may next (Some f) is e =
       let b = step_ok e in
       let c = step_ok b.2 in
@@ -185,18 +185,18 @@ module _ (atoms : Atoms) (limit : ℕ) (positive : 0 < limit) where
       let at = operator_at_is (suc k) ts f.0 f.1 is in
       let right = sound f.1 b.0 b.1 in
       let front' = front ++ (Sign (mark_of f.0) ∷ right.front) in
-      let parts' : all ≡ front' ++ b.0.1 = parts ∙ ap (λ (w : List Piece). front ++ w) (at.0 ∙ ap (λ (w : List Piece). Sign (mark_of f.0) ∷ w) right.parts) ∙ sym (append_assoc front (Sign (mark_of f.0) ∷ right.front) b.0.1) in
+      let parts' : all ≡ front' ++ b.0.1 = parts ∙ ap (λ (w : List TokenView). front ++ w) (at.0 ∙ ap (λ (w : List TokenView). Sign (mark_of f.0) ∷ w) right.parts) ∙ sym (append_assoc front (Sign (mark_of f.0) ∷ right.front) b.0.1) in
       let whole = joined o k n f.0 front right.front left b.0.0 at.1 (may n refl) spells right.spells (is_three (suc k)) in
       next c.0 front' b.0.1 parts'
-      (subst (λ (t : ExprTree). Spells atoms o (suc k) front' t) d.0 whole)
+      (subst (λ (t : ExprTree). SpellsExpr atoms o (suc k) front' t) d.0 whole)
       (subst (λ (t : ExprTree). height_of t ≤ limit) d.0 d.1)
       (may_join_next o k n front left front' c.0 (may n refl))
       c.2
 
-  operands_takes : (o k : ℕ) → IsSound atoms limit o k (level_at atoms limit (inside_at atoms limit o) k) → (n : ℕ) (left : ExprTree) (all front ts : List Piece) (x : ExprTree × List Piece) → all ≡ front ++ ts → Spells atoms o (suc k) front left → height_of left ≤ limit → MayJoin o k n front left
+  operands_takes : (o k : ℕ) → IsSound atoms limit o k (level_at atoms limit (inside_at atoms limit o) k) → (n : ℕ) (left : ExprTree) (all front ts : List TokenView) (x : ExprTree × List TokenView) → all ≡ front ++ ts → SpellsExpr atoms o (suc k) front left → height_of left ≤ limit → MayJoin o k n front left
       → operands_at limit (level_at atoms limit (inside_at atoms limit o) k) (suc k) n left ts ≡ Ok x → Takes atoms limit o (suc k) all x.0 x.1
   unfolding operands_at
-  operands_takes o k sound zero left all front ts x parts spells low may e = subst (λ (y : ExprTree × List Piece). Takes atoms limit o (suc k) all y.0 y.1) (ok_is (left, ts) x e) (record { front = front; parts = parts; spells = spells; low = low })
+  operands_takes o k sound zero left all front ts x parts spells low may e = subst (λ (y : ExprTree × List TokenView). Takes atoms limit o (suc k) all y.0 y.1) (ok_is (left, ts) x e) (record { front = front; parts = parts; spells = spells; low = low })
   operands_takes o k sound (suc n) left all front ts x parts spells low may e =
       operands_step o k sound n left all front ts x parts spells low may
       (λ left' front' ts' parts' spells' low' may' e'. operands_takes o k sound n left' all front' ts' x parts' spells' low' may' e')
@@ -205,7 +205,7 @@ module _ (atoms : Atoms) (limit : ℕ) (positive : 0 < limit) where
   one_more : (k m : ℕ) → k ≡ 3 → most_operators limit k ≡ suc m → m ≡ 0
   one_more k m three e = grind (arith, nat_tests)
 
-  may_join_first : (o k : ℕ) (front : List Piece) (left : ExprTree) → Spells atoms o k front left → (suc k ≡ 3) ⊎ (suc k ≢ 3) → MayJoin o k (most_operators limit (suc k)) front left
+  may_join_first : (o k : ℕ) (front : List TokenView) (left : ExprTree) → SpellsExpr atoms o k front left → (suc k ≡ 3) ⊎ (suc k ≢ 3) → MayJoin o k (most_operators limit (suc k)) front left
   may_join_first o k front left spells (inl three) = λ m e. inr (one_more (suc k) m three e, spells)
   may_join_first o k front left spells (inr ne) = λ m e. inl ne
 
@@ -222,7 +222,7 @@ module _ (atoms : Atoms) (limit : ℕ) (positive : 0 < limit) where
   inside_sound zero paren ts x e = absurd cc
   inside_sound (suc p) paren ts x e = (p, refl, level_takes p (inside_sound p) 5 ts x e)
 
-  pub expr_takes : (o : ℕ) (ts : List Piece) (x : ExprTree × List Piece) → expr_in atoms limit o ts ≡ Ok x → TakesExpr atoms limit o ts x.0 x.1
+  pub expr_takes : (o : ℕ) (ts : List TokenView) (x : ExprTree × List TokenView) → expr_in atoms limit o ts ≡ Ok x → TakesExpr atoms limit o ts x.0 x.1
   expr_takes o ts x e =
       let t = level_takes o (inside_sound o) 5 ts x e in
       record { front = t.front; parts = t.parts; spells = record { spelled = t.spells; low = t.low } }

@@ -1,10 +1,10 @@
 -- What was read where one token was taken.
 use Rattle.std.proofs.Common.{◌≡◌, ℕ, zero, suc, Bool, true, false, cond, eqb, List, [], ◌∷◌, Some, Ok, Err, refl, sym, ap, ◌∙◌}
 use Rattle.std.proofs.lemmas.Bool.{eqb-true}
-use Rattle.script_parser.specs.declared.fault.Fault.{Fault}
+use Rattle.script_parser.specs.declared.fault.ParseFault.{ParseFault}
 use Rattle.script_tokens.specs.declared.mark.Mark.{Mark}
 use Rattle.script_tokens.specs.declared.mark.Mark.TheVariants as mark
-use Rattle.script_tokens.specs.Pieces.{Piece, Name, Sign}
+use Rattle.script_tokens.specs.Pieces.{TokenView, Name, Sign}
 use Rattle.script_parser.specs.Model.Parts.{code_of, name_at, sign_at, brace_at, close_at}
 use Rattle.script_parser.proofs.Steps.{ok_is, some_is}
 
@@ -58,40 +58,40 @@ mark_at-code_of mark.At = refl
 same_mark : (a b : Mark) → code_of a ≡ code_of b → a ≡ b
 same_mark a b e = sym (mark_at-code_of a) ∙ ap mark_at e ∙ mark_at-code_of b
 
-chosen_mark : (b : Bool) (f : Fault) (ts rest : List Piece) → cond b (Ok ts) (Err f) ≡ Ok rest → (b ≡ true) × (ts ≡ rest)
+chosen_mark : (b : Bool) (f : ParseFault) (ts rest : List TokenView) → cond b (Ok ts) (Err f) ≡ Ok rest → (b ≡ true) × (ts ≡ rest)
 chosen_mark true f ts rest e = (refl, ok_is ts rest e)
 chosen_mark false f ts rest e = absurd cc
 
-pub sign_is : (m : Mark) (ts rest : List Piece) → sign_at m ts ≡ Ok rest → ts ≡ Sign m ∷ rest
+pub sign_is : (m : Mark) (ts rest : List TokenView) → sign_at m ts ≡ Ok rest → ts ≡ Sign m ∷ rest
 unfolding sign_at
 sign_is m [] rest e = absurd cc
 sign_is m (Sign found ∷ ts) rest e =
     let c = chosen_mark (eqb (code_of found) (code_of m)) _ ts rest e in
-    ap (λ (k : Mark). Sign k ∷ ts) (same_mark found m (eqb-true _ _ c.0)) ∙ ap (λ (w : List Piece). Sign m ∷ w) c.1
+    ap (λ (k : Mark). Sign k ∷ ts) (same_mark found m (eqb-true _ _ c.0)) ∙ ap (λ (w : List TokenView). Sign m ∷ w) c.1
 sign_is m (_ ∷ ts) rest e = absurd cc
 
-pub name_is : (ts : List Piece) (x : List ℕ × List Piece) → name_at ts ≡ Ok x → ts ≡ Name x.0 ∷ x.1
+pub name_is : (ts : List TokenView) (x : List ℕ × List TokenView) → name_at ts ≡ Ok x → ts ≡ Name x.0 ∷ x.1
 unfolding name_at
 name_is [] x e = absurd cc
-name_is (Name n ∷ ts) x e = ap (λ (y : List ℕ × List Piece). Name y.0 ∷ y.1) (ok_is (n, ts) x e)
+name_is (Name n ∷ ts) x e = ap (λ (y : List ℕ × List TokenView). Name y.0 ∷ y.1) (ok_is (n, ts) x e)
 name_is (_ ∷ ts) x e = absurd cc
 
-pub brace_is : (ts rest : List Piece) → brace_at ts ≡ Some rest → ts ≡ Sign mark.CloseBrace ∷ rest
+pub brace_is : (ts rest : List TokenView) → brace_at ts ≡ Some rest → ts ≡ Sign mark.CloseBrace ∷ rest
 unfolding brace_at
 brace_is [] rest e = absurd cc
-brace_is (Sign mark.CloseBrace ∷ ts) rest e = ap (λ (w : List Piece). Sign mark.CloseBrace ∷ w) (some_is ts rest e)
+brace_is (Sign mark.CloseBrace ∷ ts) rest e = ap (λ (w : List TokenView). Sign mark.CloseBrace ∷ w) (some_is ts rest e)
 brace_is (_ ∷ ts) rest e = absurd cc
 
-pub brace_now : (rest : List Piece) → brace_at (Sign mark.CloseBrace ∷ rest) ≡ Some rest
+pub brace_now : (rest : List TokenView) → brace_at (Sign mark.CloseBrace ∷ rest) ≡ Some rest
 unfolding brace_at
 brace_now rest = refl
 
-pub close_is : (ts rest : List Piece) → close_at ts ≡ Some rest → ts ≡ Sign mark.Close ∷ rest
+pub close_is : (ts rest : List TokenView) → close_at ts ≡ Some rest → ts ≡ Sign mark.Close ∷ rest
 unfolding close_at
 close_is [] rest e = absurd cc
-close_is (Sign mark.Close ∷ ts) rest e = ap (λ (w : List Piece). Sign mark.Close ∷ w) (some_is ts rest e)
+close_is (Sign mark.Close ∷ ts) rest e = ap (λ (w : List TokenView). Sign mark.Close ∷ w) (some_is ts rest e)
 close_is (_ ∷ ts) rest e = absurd cc
 
-pub close_now : (rest : List Piece) → close_at (Sign mark.Close ∷ rest) ≡ Some rest
+pub close_now : (rest : List TokenView) → close_at (Sign mark.Close ∷ rest) ≡ Some rest
 unfolding close_at
 close_now rest = refl

@@ -2,7 +2,7 @@
 use Rattle.std.specs.Prelude.{◌≡◌, List, map, Result, Ok, Err}
 use Rattle.std.specs.declared.vec.Vec.{Vec}
 use Rattle.std.specs.declared.alloc.Global.{Global}
-use Rattle.script_tokens.specs.Pieces.{Piece}
+use Rattle.script_tokens.specs.Pieces.{TokenView}
 use Rattle.script_grammar.specs.declared.declaration.Decl.{Decl}
 use Rattle.script_grammar.specs.Tree.{DeclTree, view_decl}
 use Rattle.script_grammar.specs.Grammar.{IsScript}
@@ -18,11 +18,11 @@ IsReadAs tree (Err errors.Memory) = Unit {0}
 IsReadAs tree (Err (errors.Fault f)) = ⊥
 
 -- The tokens spell no script within the limits, unless memory ran out.
-abbrev pub SpellsNothing : List Piece → ReadError → Type 0
+abbrev pub SpellsNothing : List TokenView → ReadError → Type 0
 SpellsNothing ts errors.Memory = Unit {0}
 SpellsNothing ts (errors.Fault f) = (tree : List DeclTree) → IsScript NESTING ts tree → ⊥
 
 -- The fault is the one that is met first, reading from left to right, unless memory ran out.
-abbrev pub IsFirstFault : List Piece → ReadError → Type 0
+abbrev pub IsFirstFault : List TokenView → ReadError → Type 0
 IsFirstFault ts errors.Memory = Unit {0}
 IsFirstFault ts (errors.Fault f) = decls_at NESTING ts ≡ Err f

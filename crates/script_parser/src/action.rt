@@ -11,7 +11,7 @@ use crate::expression::expr;
 use crate::fault::{Kind, ReadError};
 use crate::limits::NESTING;
 use crate::make::{add, make};
-use crate::one_token::{Tokens, allowed, name, name_of, refused, sign};
+use crate::one_token::{TokenSlice, allow, name, name_of, refusal, sign};
 use crate::wait::{value, wait};
 use script_grammar::{Action, Atoms, Name, Region};
 use script_tokens::{Keyword, Mark, Token};
@@ -37,7 +37,7 @@ fn may_return_in(region: Region) -> bool
 
 // Whether a statement or a value may begin so in the region.
 #[tactic(auto, unfolding(crate::specs::Model::Actions::may_begin))]
-fn may_begin_in(region: Region, tokens: Tokens<'_>) -> bool
+fn may_begin_in(region: Region, tokens: TokenSlice<'_>) -> bool
     ensures { result ≡ may_begin region (map piece tokens.now) }
 {
     match tokens {
@@ -61,10 +61,13 @@ fn may_begin_in(region: Region, tokens: Tokens<'_>) -> bool
 
 // The tokens, where a statement or a value may begin so in the region.
 #[tactic(auto, unfolding(crate::specs::Model::Actions::begun_at))]
-pub(crate) fn begun(region: Region, tokens: Tokens<'_>) -> Result<Tokens<'_>, ReadError>
+pub(crate) fn allow_begin(
+    region: Region,
+    tokens: TokenSlice<'_>,
+) -> Result<TokenSlice<'_>, ReadError>
     ensures { Gives (λ x. map piece x.now) result (begun_at region (map piece tokens.now)) }
 {
-    allowed(may_begin_in(region, tokens), tokens)
+    allow(may_begin_in(region, tokens), tokens)
 }
 
 // A variable, after its `=`.
@@ -72,8 +75,8 @@ pub(crate) fn begun(region: Region, tokens: Tokens<'_>) -> Result<Tokens<'_>, Re
 fn variable(
     alloc: Global,
     variable: Name,
-    tokens: Tokens<'_>,
-) -> Result<(Action, Tokens<'_>), ReadError>
+    tokens: TokenSlice<'_>,
+) -> Result<(Action, TokenSlice<'_>), ReadError>
     ensures { Gives (λ x. (view_action x.0, map piece x.1.now)) result (variable_at NESTING (text_of variable) (map piece tokens.now)) }
 {
     match tokens {
@@ -93,13 +96,13 @@ fn variable(
 fn definition(
     alloc: Global,
     region: Region,
-    tokens: Tokens<'_>,
-) -> Result<(Action, Tokens<'_>), ReadError>
+    tokens: TokenSlice<'_>,
+) -> Result<(Action, TokenSlice<'_>), ReadError>
     ensures { Gives (λ x. (view_action x.0, map piece x.1.now)) result (let_at NESTING region (map piece tokens.now)) }
 {
     let (name, rest) = name(alloc, tokens)?;
     let rest = sign(Mark::Assign, rest)?;
-    let rest = begun(region, rest)?;
+    let rest = allow_begin(region, rest)?;
     variable(alloc, name, rest)
 }
 
@@ -109,13 +112,13 @@ fn assignment<'a>(
     alloc: Global,
     region: Region,
     text: &[u8],
-    tokens: Tokens<'a>,
-) -> Result<(Action, Tokens<'a>), ReadError>
+    tokens: TokenSlice<'a>,
+) -> Result<(Action, TokenSlice<'a>), ReadError>
     ensures { Gives (λ x. (view_action x.0, map piece x.1.now)) result (assign_at NESTING region text.now (map piece tokens.now)) }
 {
     let variable = name_of(alloc, text)?;
     let rest = sign(Mark::Assign, tokens)?;
-    let rest = begun(region, rest)?;
+    let rest = allow_begin(region, rest)?;
     let (value, rest) = value(alloc, rest)?;
     Ok((Action::Assign(variable, value), rest))
 }
@@ -125,12 +128,12 @@ fn assignment<'a>(
 fn part(
     alloc: Global,
     region: Region,
-    tokens: Tokens<'_>,
-) -> Result<(Action, Tokens<'_>), ReadError>
+    tokens: TokenSlice<'_>,
+) -> Result<(Action, TokenSlice<'_>), ReadError>
     ensures { Gives (λ x. (view_action x.0, map piece x.1.now)) result (part_at NESTING region (map piece tokens.now)) }
 {
     match tokens {
-        [] => Err(refused(Kind::EndsEarly, tokens)),
+        [] => Err(refusal(Kind::EndsEarly, tokens)),
         [Token::Name(text), rest @ ..] => assignment(alloc, region, text, rest),
         [Token::Key(Keyword::Let), rest @ ..] => definition(alloc, region, rest),
         [Token::Key(Keyword::Await), rest @ ..] => {
@@ -159,7 +162,7 @@ fn part(
         }
         [Token::Key(Keyword::Check), rest @ ..] => Ok((Action::Check, rest)),
         [Token::Key(Keyword::Yield), rest @ ..] => Ok((Action::Yield, rest)),
-        _ => Err(refused(Kind::Unexpected, tokens)),
+        _ => Err(refusal(Kind::Unexpected, tokens)),
     }
 }
 
@@ -168,11 +171,11 @@ fn part(
 pub(crate) fn action(
     alloc: Global,
     region: Region,
-    tokens: Tokens<'_>,
-) -> Result<(Action, Tokens<'_>), ReadError>
+    tokens: TokenSlice<'_>,
+) -> Result<(Action, TokenSlice<'_>), ReadError>
     ensures { Gives (λ x. (view_action x.0, map piece x.1.now)) result (action_at NESTING region (map piece tokens.now)) }
 {
-    let tokens = begun(region, tokens)?;
+    let tokens = allow_begin(region, tokens)?;
     let (action, rest) = part(alloc, region, tokens)?;
     let rest = sign(Mark::Semicolon, rest)?;
     Ok((action, rest))

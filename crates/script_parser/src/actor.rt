@@ -12,14 +12,14 @@ use crate::expression::expr;
 use crate::fault::{Kind, ReadError};
 use crate::limits::NESTING;
 use crate::number::setting;
-use crate::one_token::{Tokens, closing, closing_brace, name, refused, sign};
+use crate::one_token::{TokenSlice, closing, closing_brace, name, refusal, sign};
 use crate::statement::block;
 use script_grammar::{Actor, Atoms, Expr, Field, Method, Name, Region};
 use script_tokens::{Keyword, Mark, Token};
 use std::alloc::Global;
 
 #[tactic(auto, unfolding(crate::specs::Model::Parts::comma_at))]
-fn next_name(alloc: Global, tokens: Tokens<'_>) -> Result<(Name, Tokens<'_>), ReadError>
+fn next_name(alloc: Global, tokens: TokenSlice<'_>) -> Result<(Name, TokenSlice<'_>), ReadError>
     ensures { Gives (λ x. (text_of x.0, map piece x.1.now)) result (comma_at name_at (map piece tokens.now)) }
 {
     let rest = sign(Mark::Comma, tokens)?;
@@ -29,8 +29,8 @@ fn next_name(alloc: Global, tokens: Tokens<'_>) -> Result<(Name, Tokens<'_>), Re
 fn more_names(
     alloc: Global,
     first: Name,
-    tokens: Tokens<'_>,
-) -> Result<(Vec<Name>, Tokens<'_>), ReadError>
+    tokens: TokenSlice<'_>,
+) -> Result<(Vec<Name>, TokenSlice<'_>), ReadError>
     ensures { Gives (λ x. (map text_of x.0.items, map piece x.1.now)) result (with_first (text_of first) (items_at close_at (comma_at name_at) (length tokens.now + 1) (map piece tokens.now))) }
 {
     let mut items = Vec::new(alloc);
@@ -45,11 +45,11 @@ fn more_names(
         items.push(next)?;
         rest = after;
     }
-    Err(refused(Kind::EndsEarly, rest))
+    Err(refusal(Kind::EndsEarly, rest))
 }
 
 #[tactic(auto, unfolding(crate::specs::Model::Parts::list_at))]
-fn params(alloc: Global, tokens: Tokens<'_>) -> Result<(Vec<Name>, Tokens<'_>), ReadError>
+fn params(alloc: Global, tokens: TokenSlice<'_>) -> Result<(Vec<Name>, TokenSlice<'_>), ReadError>
     ensures { Gives (λ x. (map text_of x.0.items, map piece x.1.now)) result (list_at name_at (map piece tokens.now)) }
 {
     match closing(tokens) {
@@ -62,7 +62,7 @@ fn params(alloc: Global, tokens: Tokens<'_>) -> Result<(Vec<Name>, Tokens<'_>), 
 }
 
 #[tactic(auto, unfolding(crate::specs::Model::Declarations::fields_end))]
-fn end_of_fields(tokens: Tokens<'_>) -> Option<Tokens<'_>>
+fn end_of_fields(tokens: TokenSlice<'_>) -> Option<TokenSlice<'_>>
     ensures { option_map (λ x. map piece x.now) result ≡ fields_end (map piece tokens.now) }
 {
     match tokens {
@@ -72,20 +72,20 @@ fn end_of_fields(tokens: Tokens<'_>) -> Option<Tokens<'_>>
 }
 
 #[tactic(auto, unfolding(crate::specs::Model::Declarations::field_at))]
-fn field(alloc: Global, tokens: Tokens<'_>) -> Result<(Field, Tokens<'_>), ReadError>
+fn field(alloc: Global, tokens: TokenSlice<'_>) -> Result<(Field, TokenSlice<'_>), ReadError>
     ensures { Gives (λ x. (view_field x.0, map piece x.1.now)) result (field_at (map piece tokens.now)) }
 {
     match tokens {
-        [] => Err(refused(Kind::EndsEarly, tokens)),
+        [] => Err(refusal(Kind::EndsEarly, tokens)),
         [Token::Key(Keyword::Var), rest @ ..] => {
             let ((name, start), rest) = setting(alloc, rest)?;
             Ok((Field { name, start }, rest))
         }
-        _ => Err(refused(Kind::Unexpected, tokens)),
+        _ => Err(refusal(Kind::Unexpected, tokens)),
     }
 }
 
-fn fields(alloc: Global, tokens: Tokens<'_>) -> Result<(Vec<Field>, Tokens<'_>), ReadError>
+fn fields(alloc: Global, tokens: TokenSlice<'_>) -> Result<(Vec<Field>, TokenSlice<'_>), ReadError>
     ensures { Gives (λ x. (map view_field x.0.items, map piece x.1.now)) result (items_at fields_end field_at (length tokens.now + 1) (map piece tokens.now)) }
 {
     let mut items = Vec::new(alloc);
@@ -99,11 +99,14 @@ fn fields(alloc: Global, tokens: Tokens<'_>) -> Result<(Vec<Field>, Tokens<'_>),
         items.push(next)?;
         rest = after;
     }
-    Err(refused(Kind::EndsEarly, rest))
+    Err(refusal(Kind::EndsEarly, rest))
 }
 
 #[tactic(auto, unfolding(crate::specs::Model::Declarations::invariant_at))]
-fn invariant(alloc: Global, tokens: Tokens<'_>) -> Result<(Option<Expr>, Tokens<'_>), ReadError>
+fn invariant(
+    alloc: Global,
+    tokens: TokenSlice<'_>,
+) -> Result<(Option<Expr>, TokenSlice<'_>), ReadError>
     ensures { Gives (λ x. (view_if x.0, map piece x.1.now)) result (invariant_at NESTING (map piece tokens.now)) }
 {
     match tokens {
@@ -117,11 +120,11 @@ fn invariant(alloc: Global, tokens: Tokens<'_>) -> Result<(Option<Expr>, Tokens<
 }
 
 #[tactic(auto, unfolding(crate::specs::Model::Declarations::method_at))]
-fn method(alloc: Global, tokens: Tokens<'_>) -> Result<(Method, Tokens<'_>), ReadError>
+fn method(alloc: Global, tokens: TokenSlice<'_>) -> Result<(Method, TokenSlice<'_>), ReadError>
     ensures { Gives (λ x. (view_method x.0, map piece x.1.now)) result (method_at NESTING (map piece tokens.now)) }
 {
     match tokens {
-        [] => Err(refused(Kind::EndsEarly, tokens)),
+        [] => Err(refusal(Kind::EndsEarly, tokens)),
         [Token::Key(Keyword::Func), rest @ ..] => {
             let (name, rest) = name(alloc, rest)?;
             let rest = sign(Mark::Open, rest)?;
@@ -129,11 +132,14 @@ fn method(alloc: Global, tokens: Tokens<'_>) -> Result<(Method, Tokens<'_>), Rea
             let (body, rest) = block(alloc, Region::Method, NESTING, rest)?;
             Ok((Method { name, params, body }, rest))
         }
-        _ => Err(refused(Kind::Unexpected, tokens)),
+        _ => Err(refusal(Kind::Unexpected, tokens)),
     }
 }
 
-fn methods(alloc: Global, tokens: Tokens<'_>) -> Result<(Vec<Method>, Tokens<'_>), ReadError>
+fn methods(
+    alloc: Global,
+    tokens: TokenSlice<'_>,
+) -> Result<(Vec<Method>, TokenSlice<'_>), ReadError>
     ensures { Gives (λ x. (map view_method x.0.items, map piece x.1.now)) result (items_at brace_at (method_at NESTING) (length tokens.now + 1) (map piece tokens.now)) }
 {
     let mut items = Vec::new(alloc);
@@ -147,12 +153,12 @@ fn methods(alloc: Global, tokens: Tokens<'_>) -> Result<(Vec<Method>, Tokens<'_>
         items.push(next)?;
         rest = after;
     }
-    Err(refused(Kind::EndsEarly, rest))
+    Err(refusal(Kind::EndsEarly, rest))
 }
 
 // The executor that an actor is on, if one is named.
 #[tactic(auto, unfolding(crate::specs::Model::Declarations::on_at))]
-fn on(alloc: Global, tokens: Tokens<'_>) -> Result<(Option<Name>, Tokens<'_>), ReadError>
+fn on(alloc: Global, tokens: TokenSlice<'_>) -> Result<(Option<Name>, TokenSlice<'_>), ReadError>
     ensures { Gives (λ x. (text_if x.0, map piece x.1.now)) result (on_at (map piece tokens.now)) }
 {
     match tokens {
@@ -166,7 +172,10 @@ fn on(alloc: Global, tokens: Tokens<'_>) -> Result<(Option<Name>, Tokens<'_>), R
 
 // An actor after its keyword.
 #[tactic(auto, unfolding(crate::specs::Model::Declarations::actor_at))]
-pub(crate) fn actor(alloc: Global, tokens: Tokens<'_>) -> Result<(Actor, Tokens<'_>), ReadError>
+pub(crate) fn actor(
+    alloc: Global,
+    tokens: TokenSlice<'_>,
+) -> Result<(Actor, TokenSlice<'_>), ReadError>
     ensures { Gives (λ x. (view_actor x.0, map piece x.1.now)) result (actor_at NESTING (map piece tokens.now)) }
 {
     let (name, rest) = name(alloc, tokens)?;

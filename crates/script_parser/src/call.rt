@@ -12,14 +12,14 @@ ghost use Rattle.script_parser.specs.Model.Actions.{call_at};
 use crate::expression::expr;
 use crate::fault::{Kind, ReadError};
 use crate::limits::NESTING;
-use crate::one_token::{Tokens, closing, name, refused, sign};
+use crate::one_token::{TokenSlice, closing, name, refusal, sign};
 use script_grammar::{Atoms, Call, Expr};
 use script_tokens::Mark;
 use std::alloc::Global;
 
 // An argument, inside the parenthesis of its call.
 #[tactic(auto, unfolding(crate::specs::Model::Parts::comma_at))]
-fn next_argument(alloc: Global, tokens: Tokens<'_>) -> Result<(Expr, Tokens<'_>), ReadError>
+fn next_argument(alloc: Global, tokens: TokenSlice<'_>) -> Result<(Expr, TokenSlice<'_>), ReadError>
     ensures { Gives (λ x. (view x.0, map piece x.1.now)) result (comma_at (expr_in Every NESTING (NESTING - 1)) (map piece tokens.now)) }
 {
     let rest = sign(Mark::Comma, tokens)?;
@@ -29,8 +29,8 @@ fn next_argument(alloc: Global, tokens: Tokens<'_>) -> Result<(Expr, Tokens<'_>)
 fn more_arguments(
     alloc: Global,
     first: Expr,
-    tokens: Tokens<'_>,
-) -> Result<(Vec<Expr>, Tokens<'_>), ReadError>
+    tokens: TokenSlice<'_>,
+) -> Result<(Vec<Expr>, TokenSlice<'_>), ReadError>
     ensures { Gives (λ x. (map view x.0.items, map piece x.1.now)) result (with_first (view first) (items_at close_at (comma_at (expr_in Every NESTING (NESTING - 1))) (length tokens.now + 1) (map piece tokens.now))) }
 {
     let mut items = Vec::new(alloc);
@@ -45,11 +45,14 @@ fn more_arguments(
         items.push(next)?;
         rest = after;
     }
-    Err(refused(Kind::EndsEarly, rest))
+    Err(refusal(Kind::EndsEarly, rest))
 }
 
 #[tactic(auto, unfolding(crate::specs::Model::Parts::list_at))]
-fn arguments(alloc: Global, tokens: Tokens<'_>) -> Result<(Vec<Expr>, Tokens<'_>), ReadError>
+fn arguments(
+    alloc: Global,
+    tokens: TokenSlice<'_>,
+) -> Result<(Vec<Expr>, TokenSlice<'_>), ReadError>
     ensures { Gives (λ x. (map view x.0.items, map piece x.1.now)) result (list_at (expr_in Every NESTING (NESTING - 1)) (map piece tokens.now)) }
 {
     match closing(tokens) {
@@ -62,7 +65,10 @@ fn arguments(alloc: Global, tokens: Tokens<'_>) -> Result<(Vec<Expr>, Tokens<'_>
 }
 
 #[tactic(auto, unfolding(crate::specs::Model::Actions::call_at))]
-pub(crate) fn call(alloc: Global, tokens: Tokens<'_>) -> Result<(Call, Tokens<'_>), ReadError>
+pub(crate) fn call(
+    alloc: Global,
+    tokens: TokenSlice<'_>,
+) -> Result<(Call, TokenSlice<'_>), ReadError>
     ensures { Gives (λ x. (view_call x.0, map piece x.1.now)) result (call_at NESTING (map piece tokens.now)) }
 {
     let (actor, rest) = name(alloc, tokens)?;

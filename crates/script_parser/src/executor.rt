@@ -8,24 +8,25 @@ ghost use Rattle.script_parser.specs.Model.Declarations.{kind_at, executor_at, l
 
 use crate::fault::{Kind, ReadError};
 use crate::number::{number, setting};
-use crate::one_token::{Tokens, name, refused, sign};
-use script_grammar::{Executor, ExecutorKind, Local};
+use crate::one_token::{TokenSlice, name, refusal, sign};
+use script_grammar::{Executor, Local};
 use script_tokens::{Keyword, Mark, Token};
 use std::alloc::Global;
+use swift_types::ExecutorKind;
 
 #[tactic(auto, unfolding(crate::specs::Model::Declarations::kind_at))]
-fn kind(tokens: Tokens<'_>) -> Result<(ExecutorKind, Tokens<'_>), ReadError>
+fn kind(tokens: TokenSlice<'_>) -> Result<(ExecutorKind, TokenSlice<'_>), ReadError>
     ensures { Gives (λ x. (x.0, map piece x.1.now)) result (kind_at (map piece tokens.now)) }
 {
     match tokens {
-        [] => Err(refused(Kind::EndsEarly, tokens)),
+        [] => Err(refusal(Kind::EndsEarly, tokens)),
         [Token::Key(Keyword::Priority), rest @ ..] => Ok((ExecutorKind::Priority, rest)),
         [Token::Key(Keyword::Fifo), rest @ ..] => Ok((ExecutorKind::Fifo, rest)),
         [Token::Key(Keyword::Pinned), rest @ ..] => {
             let (worker, rest) = number(rest)?;
             Ok((ExecutorKind::Pinned(worker), rest))
         }
-        _ => Err(refused(Kind::Unexpected, tokens)),
+        _ => Err(refusal(Kind::Unexpected, tokens)),
     }
 }
 
@@ -33,8 +34,8 @@ fn kind(tokens: Tokens<'_>) -> Result<(ExecutorKind, Tokens<'_>), ReadError>
 #[tactic(auto, unfolding(crate::specs::Model::Declarations::executor_at))]
 pub(crate) fn executor(
     alloc: Global,
-    tokens: Tokens<'_>,
-) -> Result<(Executor, Tokens<'_>), ReadError>
+    tokens: TokenSlice<'_>,
+) -> Result<(Executor, TokenSlice<'_>), ReadError>
     ensures { Gives (λ x. (view_executor x.0, map piece x.1.now)) result (executor_at (map piece tokens.now)) }
 {
     let (name, rest) = name(alloc, tokens)?;
@@ -45,7 +46,10 @@ pub(crate) fn executor(
 
 // A task local after its keyword.
 #[tactic(auto, unfolding(crate::specs::Model::Declarations::local_at))]
-pub(crate) fn local(alloc: Global, tokens: Tokens<'_>) -> Result<(Local, Tokens<'_>), ReadError>
+pub(crate) fn local(
+    alloc: Global,
+    tokens: TokenSlice<'_>,
+) -> Result<(Local, TokenSlice<'_>), ReadError>
     ensures { Gives (λ x. (view_local x.0, map piece x.1.now)) result (local_at (map piece tokens.now)) }
 {
     let ((name, default), rest) = setting(alloc, tokens)?;

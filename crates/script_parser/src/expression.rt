@@ -4,14 +4,14 @@ ghost use Rattle.std.specs.Prelude.{◌≡◌, ◌<◌, ◌-◌, map};
 ghost use Rattle.script_tokens.specs.Pieces.{piece};
 ghost use Rattle.std.specs.Option.{option_map};
 ghost use Rattle.script_grammar.specs.Tree.{view, Negated, Inverted, Both};
-ghost use Rattle.script_grammar.specs.Grammar.{tightness_of, has_every_atom};
+ghost use Rattle.script_grammar.specs.Grammar.{precedence_of, has_every_atom};
 ghost use Rattle.script_parser.specs.Model.Steps.{Gives};
 ghost use Rattle.script_parser.specs.Model.Expressions.{checked, closed_at, operator_in, operator_at, most_operators, operands_at, atom_at, unary_at, level_at, inside_at, expr_in};
 
 use crate::fault::{Kind, ReadError};
 use crate::limits::NESTING;
 use crate::measured::Measured;
-use crate::one_token::{Tokens, allowed, name, name_of, refused};
+use crate::one_token::{TokenSlice, allow, name, name_of, refusal};
 use script_grammar::{Atoms, Expr};
 use script_tokens::{Keyword, Mark, Token};
 use std::alloc::Global;
@@ -36,8 +36,8 @@ fn operator_of_mark(mark: Mark) -> Option<Operator>
     }
 }
 
-fn tightness(operator: Operator) -> u32
-    ensures { result ≡ tightness_of operator }
+fn precedence(operator: Operator) -> u32
+    ensures { result ≡ precedence_of operator }
 {
     match operator {
         Operator::Or => 5,
@@ -54,13 +54,13 @@ fn tightness(operator: Operator) -> u32
 }
 
 #[tactic(auto, unfolding(crate::specs::Model::Expressions::operator_at))]
-fn next_operator(level: u32, tokens: Tokens<'_>) -> Option<(Operator, Tokens<'_>)>
+fn next_operator(level: u32, tokens: TokenSlice<'_>) -> Option<(Operator, TokenSlice<'_>)>
     ensures { option_map (λ x. (x.0, map piece x.1.now)) result ≡ operator_at level (map piece tokens.now) }
 {
     match tokens {
         [Token::Sign(mark), rest @ ..] => match operator_of_mark(*mark) {
             Some(operator) => {
-                if tightness(operator) == level {
+                if precedence(operator) == level {
                     Some((operator, rest))
                 } else {
                     None
@@ -74,12 +74,12 @@ fn next_operator(level: u32, tokens: Tokens<'_>) -> Option<(Operator, Tokens<'_>
 
 #[inline(always)]
 #[tactic(auto, unfolding(crate::specs::Model::Expressions::checked))]
-fn negated(alloc: Global, operand: Measured, prefix: Tokens<'_>) -> Result<Measured, ReadError>
+fn negate(alloc: Global, operand: Measured, prefix: TokenSlice<'_>) -> Result<Measured, ReadError>
     ensures { Gives (λ m. view m.expr) result (checked NESTING (map piece prefix.now) (Negated (view operand.expr))) }
 {
     let Measured { expr, height } = operand;
     if height == NESTING {
-        return Err(refused(Kind::TooDeep, prefix));
+        return Err(refusal(Kind::TooDeep, prefix));
     }
     let expr = Expr::Negate(Box::new(alloc, expr)?);
     let height = height + 1;
@@ -88,12 +88,12 @@ fn negated(alloc: Global, operand: Measured, prefix: Tokens<'_>) -> Result<Measu
 
 #[inline(always)]
 #[tactic(auto, unfolding(crate::specs::Model::Expressions::checked))]
-fn inverted(alloc: Global, operand: Measured, prefix: Tokens<'_>) -> Result<Measured, ReadError>
+fn invert(alloc: Global, operand: Measured, prefix: TokenSlice<'_>) -> Result<Measured, ReadError>
     ensures { Gives (λ m. view m.expr) result (checked NESTING (map piece prefix.now) (Inverted (view operand.expr))) }
 {
     let Measured { expr, height } = operand;
     if height == NESTING {
-        return Err(refused(Kind::TooDeep, prefix));
+        return Err(refusal(Kind::TooDeep, prefix));
     }
     let expr = Expr::Not(Box::new(alloc, expr)?);
     let height = height + 1;
@@ -106,13 +106,13 @@ fn both(
     operator: Operator,
     left: Measured,
     right: Measured,
-    between: Tokens<'_>,
+    between: TokenSlice<'_>,
 ) -> Result<Measured, ReadError>
     ensures { Gives (λ m. view m.expr) result (checked NESTING (map piece between.now) (Both operator (view left.expr) (view right.expr))) }
 {
     let highest = left.height.max(right.height);
     if highest == NESTING {
-        return Err(refused(Kind::TooDeep, between));
+        return Err(refusal(Kind::TooDeep, between));
     }
     let height = highest + 1;
     let left = Box::new(alloc, left.expr)?;
@@ -122,13 +122,13 @@ fn both(
 }
 
 #[tactic(auto, unfolding(crate::specs::Model::Expressions::closed_at))]
-fn closed(inner: Measured, tokens: Tokens<'_>) -> Result<(Measured, Tokens<'_>), ReadError>
+fn close(inner: Measured, tokens: TokenSlice<'_>) -> Result<(Measured, TokenSlice<'_>), ReadError>
     ensures { Gives (λ x. (view x.0.expr, map piece x.1.now)) result (closed_at (view inner.expr) (map piece tokens.now)) }
 {
     match tokens {
-        [] => Err(refused(Kind::EndsEarly, tokens)),
+        [] => Err(refusal(Kind::EndsEarly, tokens)),
         [Token::Sign(Mark::Close), rest @ ..] => Ok((inner, rest)),
-        _ => Err(refused(Kind::Unexpected, tokens)),
+        _ => Err(refusal(Kind::Unexpected, tokens)),
     }
 }
 
@@ -146,12 +146,12 @@ fn every_atom(atoms: Atoms) -> bool
 fn atom(
     alloc: Global,
     atoms: Atoms,
-    tokens: Tokens<'_>,
-) -> Result<(Measured, Tokens<'_>), ReadError>
+    tokens: TokenSlice<'_>,
+) -> Result<(Measured, TokenSlice<'_>), ReadError>
     ensures { Gives (λ x. (view x.0.expr, map piece x.1.now)) result (atom_at atoms (map piece tokens.now)) }
 {
     match tokens {
-        [] => Err(refused(Kind::EndsEarly, tokens)),
+        [] => Err(refusal(Kind::EndsEarly, tokens)),
         [Token::Num(value), rest @ ..] => {
             let expr = Expr::Number(*value);
             Ok((Measured { expr, height: 1 }, rest))
@@ -160,24 +160,24 @@ fn atom(
             let expr = Expr::Name(name_of(alloc, text)?);
             Ok((Measured { expr, height: 1 }, rest))
         }
-        [Token::Huge, ..] => Err(refused(Kind::OutOfRange, tokens)),
+        [Token::Huge, ..] => Err(refusal(Kind::OutOfRange, tokens)),
         [Token::Sign(Mark::At), rest @ ..] => {
-            allowed(every_atom(atoms), tokens)?;
+            allow(every_atom(atoms), tokens)?;
             let (local, rest) = name(alloc, rest)?;
             let expr = Expr::Local(local);
             Ok((Measured { expr, height: 1 }, rest))
         }
         [Token::Key(Keyword::Priority), rest @ ..] => {
-            allowed(every_atom(atoms), tokens)?;
+            allow(every_atom(atoms), tokens)?;
             let expr = Expr::Priority;
             Ok((Measured { expr, height: 1 }, rest))
         }
         [Token::Key(Keyword::Cancelled), rest @ ..] => {
-            allowed(every_atom(atoms), tokens)?;
+            allow(every_atom(atoms), tokens)?;
             let expr = Expr::Cancelled;
             Ok((Measured { expr, height: 1 }, rest))
         }
-        _ => Err(refused(Kind::Unexpected, tokens)),
+        _ => Err(refusal(Kind::Unexpected, tokens)),
     }
 }
 
@@ -189,39 +189,39 @@ fn unary<'a>(
     atoms: Atoms,
     opens: u32,
     prefixes: u32,
-    first: Tokens<'_>,
-    tokens: Tokens<'a>,
-) -> Result<(Measured, Tokens<'a>), ReadError>
+    first: TokenSlice<'_>,
+    tokens: TokenSlice<'a>,
+) -> Result<(Measured, TokenSlice<'a>), ReadError>
     ensures { Gives (λ x. (view x.0.expr, map piece x.1.now)) result (unary_at atoms NESTING (inside_at atoms NESTING opens) (map piece first.now) prefixes (map piece tokens.now)) }
 {
     match tokens {
         [Token::Sign(Mark::Open), rest @ ..] => {
             let (inner, rest) = inside(alloc, atoms, opens, tokens, rest)?;
-            closed(inner, rest)
+            close(inner, rest)
         }
         [Token::Sign(Mark::Minus), rest @ ..] => {
             if prefixes == 0 {
-                return Err(refused(Kind::TooDeep, first));
+                return Err(refusal(Kind::TooDeep, first));
             }
             let (operand, rest) = unary(alloc, atoms, opens, prefixes - 1, first, rest)?;
-            Ok((negated(alloc, operand, tokens)?, rest))
+            Ok((negate(alloc, operand, tokens)?, rest))
         }
         [Token::Sign(Mark::Bang), rest @ ..] => {
             if prefixes == 0 {
-                return Err(refused(Kind::TooDeep, first));
+                return Err(refusal(Kind::TooDeep, first));
             }
             let (operand, rest) = unary(alloc, atoms, opens, prefixes - 1, first, rest)?;
-            Ok((inverted(alloc, operand, tokens)?, rest))
+            Ok((invert(alloc, operand, tokens)?, rest))
         }
         _ => atom(alloc, atoms, tokens),
     }
 }
 
-// How many operators of one tightness may follow one another.
-fn most_operators(tightness: u32) -> u32
-    ensures { result ≡ most_operators NESTING tightness }
+// How many operators of one precedence may follow one another.
+fn most_operators(precedence: u32) -> u32
+    ensures { result ≡ most_operators NESTING precedence }
 {
-    if tightness == 3 { 1 } else { NESTING }
+    if precedence == 3 { 1 } else { NESTING }
 }
 
 // An expression whose operators bind at least as tightly. A level without an operator costs one look at the next token.
@@ -231,16 +231,16 @@ fn level(
     atoms: Atoms,
     opens: u32,
     loosest: u32,
-    tokens: Tokens<'_>,
-) -> Result<(Measured, Tokens<'_>), ReadError>
+    tokens: TokenSlice<'_>,
+) -> Result<(Measured, TokenSlice<'_>), ReadError>
     ensures { Gives (λ x. (view x.0.expr, map piece x.1.now)) result (level_at atoms NESTING (inside_at atoms NESTING opens) loosest (map piece tokens.now)) }
 {
     let (mut left, mut rest) = unary(alloc, atoms, opens, NESTING - 1, tokens, tokens)?;
     for tighter in 0..loosest {
-        let tightness = tighter + 1;
-        if next_operator(tightness, rest).is_some() {
-            let most = most_operators(tightness);
-            let (next, after) = operands(alloc, atoms, opens, tightness, most, left, rest)?;
+        let precedence = tighter + 1;
+        if next_operator(precedence, rest).is_some() {
+            let most = most_operators(precedence);
+            let (next, after) = operands(alloc, atoms, opens, precedence, most, left, rest)?;
             left = next;
             rest = after;
         }
@@ -248,28 +248,28 @@ fn level(
     Ok((left, rest))
 }
 
-// At most so many further operands, each after an operator of one tightness.
+// At most so many further operands, each after an operator of one precedence.
 #[cycle(expression)]
 #[tactic(auto, unfolding(crate::specs::Model::Expressions::operands_at))]
 fn operands(
     alloc: Global,
     atoms: Atoms,
     opens: u32,
-    tightness: u32,
+    precedence: u32,
     most: u32,
     first: Measured,
-    tokens: Tokens<'_>,
-) -> Result<(Measured, Tokens<'_>), ReadError>
-    requires { 0 < tightness }
-    ensures { Gives (λ x. (view x.0.expr, map piece x.1.now)) result (operands_at NESTING (level_at atoms NESTING (inside_at atoms NESTING opens) (tightness - 1)) tightness most (view first.expr) (map piece tokens.now)) }
+    tokens: TokenSlice<'_>,
+) -> Result<(Measured, TokenSlice<'_>), ReadError>
+    requires { 0 < precedence }
+    ensures { Gives (λ x. (view x.0.expr, map piece x.1.now)) result (operands_at NESTING (level_at atoms NESTING (inside_at atoms NESTING opens) (precedence - 1)) precedence most (view first.expr) (map piece tokens.now)) }
 {
     let mut left = first;
     let mut rest = tokens;
     for _ in 0..most {
-        let Some((operator, following)) = next_operator(tightness, rest) else {
+        let Some((operator, following)) = next_operator(precedence, rest) else {
             return Ok((left, rest));
         };
-        let (right, after) = level(alloc, atoms, opens, tightness - 1, following)?;
+        let (right, after) = level(alloc, atoms, opens, precedence - 1, following)?;
         left = both(alloc, operator, left, right, rest)?;
         rest = after;
     }
@@ -283,13 +283,13 @@ fn inside<'a>(
     alloc: Global,
     atoms: Atoms,
     opens: u32,
-    paren: Tokens<'_>,
-    tokens: Tokens<'a>,
-) -> Result<(Measured, Tokens<'a>), ReadError>
+    paren: TokenSlice<'_>,
+    tokens: TokenSlice<'a>,
+) -> Result<(Measured, TokenSlice<'a>), ReadError>
     ensures { Gives (λ x. (view x.0.expr, map piece x.1.now)) result (inside_at atoms NESTING opens (map piece paren.now) (map piece tokens.now)) }
 {
     if opens == 0 {
-        return Err(refused(Kind::TooDeep, paren));
+        return Err(refusal(Kind::TooDeep, paren));
     }
     level(alloc, atoms, opens - 1, 5, tokens)
 }
@@ -299,8 +299,8 @@ pub(crate) fn expr(
     alloc: Global,
     atoms: Atoms,
     opens: u32,
-    tokens: Tokens<'_>,
-) -> Result<(Expr, Tokens<'_>), ReadError>
+    tokens: TokenSlice<'_>,
+) -> Result<(Expr, TokenSlice<'_>), ReadError>
     ensures { Gives (λ x. (view x.0, map piece x.1.now)) result (expr_in atoms NESTING opens (map piece tokens.now)) }
 {
     let (Measured { expr, .. }, rest) = level(alloc, atoms, opens, 5, tokens)?;

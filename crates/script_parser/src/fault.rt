@@ -22,7 +22,7 @@ pub enum Kind {
 
 /// What is wrong with a text's tokens, and where.
 #[derive(Clone, Copy, Debug)]
-pub struct Fault {
+pub struct ParseFault {
     /// What is wrong.
     pub kind: Kind,
     /// How many tokens are left at the one that is at fault, itself included: 0 where the text ends early. In a run of
@@ -36,7 +36,7 @@ pub enum ReadError {
     /// A growth was refused. It says nothing about the tokens.
     Memory,
     /// The tokens spell no script within the limits.
-    Fault(Fault),
+    Fault(ParseFault),
 }
 
 impl From<AllocError> for ReadError {

@@ -36,5 +36,5 @@ mod statement;
 // What is waited for, and the values of variables.
 mod wait;
 
-pub use fault::{Fault, Kind, ReadError};
+pub use fault::{Kind, ParseFault, ReadError};
 pub use script::parse;

@@ -9,35 +9,38 @@ ghost use Rattle.script_parser.specs.Model.Actions.{make_at, unless_at, child_at
 use crate::call::call;
 use crate::fault::{Kind, ReadError};
 use crate::limits::NESTING;
-use crate::one_token::{Tokens, name, refused};
-use crate::priority::{given, given_or_medium};
+use crate::one_token::{TokenSlice, name, refusal};
+use crate::priority::{given_or_medium, priority_if};
 use script_grammar::{Add, Make};
 use script_tokens::{Keyword, Token};
 use std::alloc::Global;
 
 // A task that is spawned or detached.
 #[tactic(auto, unfolding(crate::specs::Model::Actions::make_at))]
-pub(crate) fn make(alloc: Global, tokens: Tokens<'_>) -> Result<(Make, Tokens<'_>), ReadError>
+pub(crate) fn make(
+    alloc: Global,
+    tokens: TokenSlice<'_>,
+) -> Result<(Make, TokenSlice<'_>), ReadError>
     ensures { Gives (λ x. (view_make x.0, map piece x.1.now)) result (make_at NESTING (map piece tokens.now)) }
 {
     match tokens {
-        [] => Err(refused(Kind::EndsEarly, tokens)),
+        [] => Err(refusal(Kind::EndsEarly, tokens)),
         [Token::Key(Keyword::Spawn), rest @ ..] => {
             let (call, rest) = call(alloc, rest)?;
-            let (priority, rest) = given(rest)?;
+            let (priority, rest) = priority_if(rest)?;
             Ok((Make::Spawn(call, priority), rest))
         }
         [Token::Key(Keyword::Detach), rest @ ..] => {
             let (call, rest) = call(alloc, rest)?;
-            let (priority, rest) = given(rest)?;
+            let (priority, rest) = priority_if(rest)?;
             Ok((Make::Detach(call, given_or_medium(priority)), rest))
         }
-        _ => Err(refused(Kind::Unexpected, tokens)),
+        _ => Err(refusal(Kind::Unexpected, tokens)),
     }
 }
 
 #[tactic(auto, unfolding(crate::specs::Model::Actions::unless_at))]
-fn unless(tokens: Tokens<'_>) -> (bool, Tokens<'_>)
+fn unless(tokens: TokenSlice<'_>) -> (bool, TokenSlice<'_>)
     ensures { (result.0, map piece result.1.now) ≡ unless_at (map piece tokens.now) }
 {
     match tokens {
@@ -48,13 +51,13 @@ fn unless(tokens: Tokens<'_>) -> (bool, Tokens<'_>)
 
 // A child of a group, after its keyword.
 #[tactic(auto, unfolding(crate::specs::Model::Actions::add_at, crate::specs::Model::Actions::child_at))]
-pub(crate) fn add(alloc: Global, tokens: Tokens<'_>) -> Result<(Add, Tokens<'_>), ReadError>
+pub(crate) fn add(alloc: Global, tokens: TokenSlice<'_>) -> Result<(Add, TokenSlice<'_>), ReadError>
     ensures { Gives (λ x. (view_add x.0, map piece x.1.now)) result (add_at NESTING (map piece tokens.now)) }
 {
     let (group, rest) = name(alloc, tokens)?;
     let (unless, rest) = unless(rest);
     let (call, rest) = call(alloc, rest)?;
-    let (priority, rest) = given(rest)?;
+    let (priority, rest) = priority_if(rest)?;
     Ok((
         Add {
             group,

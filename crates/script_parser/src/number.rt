@@ -8,21 +8,21 @@ ghost use Rattle.script_parser.specs.Model.Declarations.{number_at, opposite_at,
 ghost use Rattle.script_grammar.specs.Tree.{text_of};
 
 use crate::fault::{Kind, ReadError};
-use crate::one_token::{Tokens, name, refused, sign};
+use crate::one_token::{TokenSlice, name, refusal, sign};
 use script_grammar::Name;
 use script_tokens::{Mark, Token};
 use std::alloc::Global;
 
 #[tactic(auto, unfolding(crate::specs::Model::Declarations::number_at))]
-pub(crate) fn number(tokens: Tokens<'_>) -> Result<(i64, Tokens<'_>), ReadError>
+pub(crate) fn number(tokens: TokenSlice<'_>) -> Result<(i64, TokenSlice<'_>), ReadError>
     ensures gives { Gives (λ x. (x.0, map piece x.1.now)) result (number_at (map piece tokens.now)) }
     ensures fits { IfOk result (λ x. FitsSigned w64 x.0) }
 {
     match tokens {
-        [] => Err(refused(Kind::EndsEarly, tokens)),
+        [] => Err(refusal(Kind::EndsEarly, tokens)),
         [Token::Num(value), rest @ ..] => Ok((*value, rest)),
-        [Token::Huge, ..] => Err(refused(Kind::OutOfRange, tokens)),
-        _ => Err(refused(Kind::Unexpected, tokens)),
+        [Token::Huge, ..] => Err(refusal(Kind::OutOfRange, tokens)),
+        _ => Err(refusal(Kind::Unexpected, tokens)),
     }
 }
 
@@ -30,21 +30,21 @@ pub(crate) fn number(tokens: Tokens<'_>) -> Result<(i64, Tokens<'_>), ReadError>
 #[tactic(auto, unfolding(crate::specs::Model::Declarations::opposite_at))]
 fn opposite<'a>(
     value: i64,
-    digits: Tokens<'_>,
-    rest: Tokens<'a>,
-) -> Result<(i64, Tokens<'a>), ReadError>
+    digits: TokenSlice<'_>,
+    rest: TokenSlice<'a>,
+) -> Result<(i64, TokenSlice<'a>), ReadError>
     ensures gives { Gives (λ x. (x.0, map piece x.1.now)) result (opposite_at (map piece digits.now) value (map piece rest.now)) }
     ensures fits { IfOk result (λ x. FitsSigned w64 x.0) }
 {
     if value == i64::MIN {
-        return Err(refused(Kind::OutOfRange, digits));
+        return Err(refusal(Kind::OutOfRange, digits));
     }
     Ok((-value, rest))
 }
 
 // A number, perhaps after a minus.
 #[tactic(auto, unfolding(crate::specs::Model::Declarations::int_at))]
-pub(crate) fn int(tokens: Tokens<'_>) -> Result<(i64, Tokens<'_>), ReadError>
+pub(crate) fn int(tokens: TokenSlice<'_>) -> Result<(i64, TokenSlice<'_>), ReadError>
     ensures gives { Gives (λ x. (x.0, map piece x.1.now)) result (int_at (map piece tokens.now)) }
     ensures fits { IfOk result (λ x. FitsSigned w64 x.0) }
 {
@@ -61,8 +61,8 @@ pub(crate) fn int(tokens: Tokens<'_>) -> Result<(i64, Tokens<'_>), ReadError>
 #[tactic(auto, unfolding(crate::specs::Model::Declarations::setting_at))]
 pub(crate) fn setting(
     alloc: Global,
-    tokens: Tokens<'_>,
-) -> Result<((Name, i64), Tokens<'_>), ReadError>
+    tokens: TokenSlice<'_>,
+) -> Result<((Name, i64), TokenSlice<'_>), ReadError>
     ensures gives { Gives (λ x. ((text_of x.0.0, x.0.1), map piece x.1.now)) result (setting_at (map piece tokens.now)) }
     ensures fits { IfOk result (λ x. FitsSigned w64 x.0.1) }
 {

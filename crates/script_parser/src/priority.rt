@@ -7,7 +7,7 @@ ghost use Rattle.script_parser.specs.Model.Steps.{Gives};
 ghost use Rattle.script_parser.specs.Model.Actions.{level_named_at, given_at};
 
 use crate::fault::{Kind, ReadError};
-use crate::one_token::{Tokens, refused};
+use crate::one_token::{TokenSlice, refusal};
 use script_tokens::{Keyword, Token};
 use swift_types::Priority;
 
@@ -24,22 +24,24 @@ fn priority_named(keyword: Keyword) -> Option<Priority>
 }
 
 #[tactic(auto, unfolding(crate::specs::Model::Actions::level_named_at))]
-fn level_named(tokens: Tokens<'_>) -> Result<(Priority, Tokens<'_>), ReadError>
+fn level_named(tokens: TokenSlice<'_>) -> Result<(Priority, TokenSlice<'_>), ReadError>
     ensures { Gives (λ x. (x.0, map piece x.1.now)) result (level_named_at (map piece tokens.now)) }
 {
     match tokens {
-        [] => Err(refused(Kind::EndsEarly, tokens)),
+        [] => Err(refusal(Kind::EndsEarly, tokens)),
         [Token::Key(keyword), rest @ ..] => match priority_named(*keyword) {
             Some(priority) => Ok((priority, rest)),
-            None => Err(refused(Kind::Unexpected, tokens)),
+            None => Err(refusal(Kind::Unexpected, tokens)),
         },
-        _ => Err(refused(Kind::Unexpected, tokens)),
+        _ => Err(refusal(Kind::Unexpected, tokens)),
     }
 }
 
 // A priority after `at`, if one stands there.
 #[tactic(auto, unfolding(crate::specs::Model::Actions::given_at))]
-pub(crate) fn given(tokens: Tokens<'_>) -> Result<(Option<Priority>, Tokens<'_>), ReadError>
+pub(crate) fn priority_if(
+    tokens: TokenSlice<'_>,
+) -> Result<(Option<Priority>, TokenSlice<'_>), ReadError>
     ensures { Gives (λ x. (x.0, map piece x.1.now)) result (given_at (map piece tokens.now)) }
 {
     match tokens {

@@ -11,14 +11,14 @@ ghost use Rattle.script_parser.specs.Model.Declarations.{int_at, root_at};
 
 use crate::fault::{Kind, ReadError};
 use crate::number::int;
-use crate::one_token::{Tokens, closing, name, refused, sign};
-use crate::priority::{given, given_or_medium};
+use crate::one_token::{TokenSlice, closing, name, refusal, sign};
+use crate::priority::{given_or_medium, priority_if};
 use script_grammar::Root;
 use script_tokens::Mark;
 use std::alloc::Global;
 
 #[tactic(auto, unfolding(crate::specs::Model::Parts::comma_at))]
-fn next_int(tokens: Tokens<'_>) -> Result<(i64, Tokens<'_>), ReadError>
+fn next_int(tokens: TokenSlice<'_>) -> Result<(i64, TokenSlice<'_>), ReadError>
     ensures gives { Gives (λ x. (x.0, map piece x.1.now)) result (comma_at int_at (map piece tokens.now)) }
     ensures fits { IfOk result (λ x. FitsSigned w64 x.0) }
 {
@@ -38,8 +38,8 @@ fn add_int(items: &mut Vec<i64>, value: i64) -> Result<(), ReadError>
 fn more_ints<'a>(
     alloc: Global,
     first: &i64,
-    tokens: Tokens<'a>,
-) -> Result<(Vec<i64>, Tokens<'a>), ReadError>
+    tokens: TokenSlice<'a>,
+) -> Result<(Vec<i64>, TokenSlice<'a>), ReadError>
     ensures { Gives (λ x. (x.0.items, map piece x.1.now)) result (with_first first.now (items_at close_at (comma_at int_at) (length tokens.now + 1) (map piece tokens.now))) }
 {
     let mut items = Vec::new(alloc);
@@ -54,11 +54,11 @@ fn more_ints<'a>(
         add_int(&mut items, next)?;
         rest = after;
     }
-    Err(refused(Kind::EndsEarly, rest))
+    Err(refusal(Kind::EndsEarly, rest))
 }
 
 #[tactic(auto, unfolding(crate::specs::Model::Parts::list_at))]
-fn ints(alloc: Global, tokens: Tokens<'_>) -> Result<(Vec<i64>, Tokens<'_>), ReadError>
+fn ints(alloc: Global, tokens: TokenSlice<'_>) -> Result<(Vec<i64>, TokenSlice<'_>), ReadError>
     ensures { Gives (λ x. (x.0.items, map piece x.1.now)) result (list_at int_at (map piece tokens.now)) }
 {
     match closing(tokens) {
@@ -72,7 +72,10 @@ fn ints(alloc: Global, tokens: Tokens<'_>) -> Result<(Vec<i64>, Tokens<'_>), Rea
 
 // A root after its keyword.
 #[tactic(auto, unfolding(crate::specs::Model::Declarations::root_at))]
-pub(crate) fn root(alloc: Global, tokens: Tokens<'_>) -> Result<(Root, Tokens<'_>), ReadError>
+pub(crate) fn root(
+    alloc: Global,
+    tokens: TokenSlice<'_>,
+) -> Result<(Root, TokenSlice<'_>), ReadError>
     ensures { Gives (λ x. (view_root x.0, map piece x.1.now)) result (root_at (map piece tokens.now)) }
 {
     let (root, rest) = name(alloc, tokens)?;
@@ -82,7 +85,7 @@ pub(crate) fn root(alloc: Global, tokens: Tokens<'_>) -> Result<(Root, Tokens<'_
     let (method, rest) = name(alloc, rest)?;
     let rest = sign(Mark::Open, rest)?;
     let (args, rest) = ints(alloc, rest)?;
-    let (priority, rest) = given(rest)?;
+    let (priority, rest) = priority_if(rest)?;
     let rest = sign(Mark::Semicolon, rest)?;
     Ok((
         Root {

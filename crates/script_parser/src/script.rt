@@ -14,14 +14,14 @@ use crate::actor::actor;
 use crate::executor::{executor, local};
 use crate::fault::{Kind, ReadError};
 use crate::limits::NESTING;
-use crate::one_token::{Tokens, refused};
+use crate::one_token::{TokenSlice, refusal};
 use crate::root::root;
 use script_grammar::Decl;
 use script_tokens::{Keyword, Token};
 use std::alloc::Global;
 
 #[tactic(auto, unfolding(crate::specs::Model::Declarations::decls_end))]
-fn end_of_decls(tokens: Tokens<'_>) -> Option<Tokens<'_>>
+fn end_of_decls(tokens: TokenSlice<'_>) -> Option<TokenSlice<'_>>
     ensures { option_map (λ x. map piece x.now) result ≡ decls_end (map piece tokens.now) }
 {
     match tokens {
@@ -31,11 +31,11 @@ fn end_of_decls(tokens: Tokens<'_>) -> Option<Tokens<'_>>
 }
 
 #[tactic(auto, unfolding(crate::specs::Model::Declarations::decl_at))]
-fn decl(alloc: Global, tokens: Tokens<'_>) -> Result<(Decl, Tokens<'_>), ReadError>
+fn decl(alloc: Global, tokens: TokenSlice<'_>) -> Result<(Decl, TokenSlice<'_>), ReadError>
     ensures { Gives (λ x. (view_decl x.0, map piece x.1.now)) result (decl_at NESTING (map piece tokens.now)) }
 {
     match tokens {
-        [] => Err(refused(Kind::EndsEarly, tokens)),
+        [] => Err(refusal(Kind::EndsEarly, tokens)),
         [Token::Key(Keyword::Executor), rest @ ..] => {
             let (executor, rest) = executor(alloc, rest)?;
             Ok((Decl::Executor(executor), rest))
@@ -52,11 +52,11 @@ fn decl(alloc: Global, tokens: Tokens<'_>) -> Result<(Decl, Tokens<'_>), ReadErr
             let (root, rest) = root(alloc, rest)?;
             Ok((Decl::Root(root), rest))
         }
-        _ => Err(refused(Kind::Unexpected, tokens)),
+        _ => Err(refusal(Kind::Unexpected, tokens)),
     }
 }
 
-fn decls(alloc: Global, tokens: Tokens<'_>) -> Result<(Vec<Decl>, Tokens<'_>), ReadError>
+fn decls(alloc: Global, tokens: TokenSlice<'_>) -> Result<(Vec<Decl>, TokenSlice<'_>), ReadError>
     ensures { Gives (λ x. (map view_decl x.0.items, map piece x.1.now)) result (items_at decls_end (decl_at NESTING) (length tokens.now + 1) (map piece tokens.now)) }
 {
     let mut items = Vec::new(alloc);
@@ -70,7 +70,7 @@ fn decls(alloc: Global, tokens: Tokens<'_>) -> Result<(Vec<Decl>, Tokens<'_>), R
         items.push(next)?;
         rest = after;
     }
-    Err(refused(Kind::EndsEarly, rest))
+    Err(refusal(Kind::EndsEarly, rest))
 }
 
 /// The declarations that the tokens of a script spell, in text order. No tokens spell no declarations.

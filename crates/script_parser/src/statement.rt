@@ -6,11 +6,11 @@ ghost use Rattle.script_grammar.specs.Tree.{view, view_head, view_stmt};
 ghost use Rattle.script_parser.specs.Model.Steps.{Gives};
 ghost use Rattle.script_parser.specs.Model.Statements.{region_in, head_part_at, head_at, choice_at, headed_at, stmt_at, many_at, block_at};
 
-use crate::action::{action, begun};
+use crate::action::{action, allow_begin};
 use crate::expression::expr;
 use crate::fault::{Kind, ReadError};
 use crate::limits::NESTING;
-use crate::one_token::{Tokens, closing_brace, name, refused, sign};
+use crate::one_token::{TokenSlice, closing_brace, name, refusal, sign};
 use script_grammar::{Atoms, Expr, Head, Region, Stmt};
 use script_tokens::{Keyword, Mark, Token};
 use std::alloc::{AllocError, Global};
@@ -28,11 +28,11 @@ fn region_of(head: &Head, region: Region) -> Region
 
 // What stands in front of a block, but for an `if`.
 #[tactic(auto, unfolding(crate::specs::Model::Statements::head_part_at))]
-fn head_part(alloc: Global, tokens: Tokens<'_>) -> Result<(Head, Tokens<'_>), ReadError>
+fn head_part(alloc: Global, tokens: TokenSlice<'_>) -> Result<(Head, TokenSlice<'_>), ReadError>
     ensures { Gives (λ x. (view_head x.0, map piece x.1.now)) result (head_part_at NESTING (map piece tokens.now)) }
 {
     match tokens {
-        [] => Err(refused(Kind::EndsEarly, tokens)),
+        [] => Err(refusal(Kind::EndsEarly, tokens)),
         [Token::Key(Keyword::While), rest @ ..] => {
             let (test, rest) = expr(alloc, Atoms::Every, NESTING, rest)?;
             Ok((Head::While(test), rest))
@@ -51,16 +51,20 @@ fn head_part(alloc: Global, tokens: Tokens<'_>) -> Result<(Head, Tokens<'_>), Re
             let (actor, rest) = name(alloc, rest)?;
             Ok((Head::Assume(actor), rest))
         }
-        _ => Err(refused(Kind::Unexpected, tokens)),
+        _ => Err(refusal(Kind::Unexpected, tokens)),
     }
 }
 
 // The same, where it may stand.
 #[tactic(auto, unfolding(crate::specs::Model::Statements::head_at))]
-fn head(alloc: Global, region: Region, tokens: Tokens<'_>) -> Result<(Head, Tokens<'_>), ReadError>
+fn head(
+    alloc: Global,
+    region: Region,
+    tokens: TokenSlice<'_>,
+) -> Result<(Head, TokenSlice<'_>), ReadError>
     ensures { Gives (λ x. (view_head x.0, map piece x.1.now)) result (head_at NESTING region (map piece tokens.now)) }
 {
-    let tokens = begun(region, tokens)?;
+    let tokens = allow_begin(region, tokens)?;
     head_part(alloc, tokens)
 }
 
@@ -73,8 +77,8 @@ fn choice(
     blocks: u32,
     test: Expr,
     held: Vec<Stmt>,
-    tokens: Tokens<'_>,
-) -> Result<(Stmt, Tokens<'_>), ReadError>
+    tokens: TokenSlice<'_>,
+) -> Result<(Stmt, TokenSlice<'_>), ReadError>
     ensures { Gives (λ x. (view_stmt x.0, map piece x.1.now)) result (choice_at (block_at NESTING blocks region) (view test) (map view_stmt held.items) (map piece tokens.now)) }
 {
     match tokens {
@@ -89,12 +93,12 @@ fn choice(
 // A head and its block.
 #[cycle(statement)]
 #[tactic(auto, unfolding(crate::specs::Model::Statements::headed_at))]
-fn headed(
+fn head_and_block(
     alloc: Global,
     region: Region,
     blocks: u32,
-    tokens: Tokens<'_>,
-) -> Result<(Stmt, Tokens<'_>), ReadError>
+    tokens: TokenSlice<'_>,
+) -> Result<(Stmt, TokenSlice<'_>), ReadError>
     ensures { Gives (λ x. (view_stmt x.0, map piece x.1.now)) result (headed_at NESTING region (block_at NESTING blocks) (map piece tokens.now)) }
 {
     let (head, rest) = head(alloc, region, tokens)?;
@@ -109,8 +113,8 @@ fn stmt(
     alloc: Global,
     region: Region,
     blocks: u32,
-    tokens: Tokens<'_>,
-) -> Result<(Stmt, Tokens<'_>), ReadError>
+    tokens: TokenSlice<'_>,
+) -> Result<(Stmt, TokenSlice<'_>), ReadError>
     ensures { Gives (λ x. (view_stmt x.0, map piece x.1.now)) result (stmt_at NESTING region (block_at NESTING blocks) (map piece tokens.now)) }
 {
     match tokens {
@@ -122,7 +126,7 @@ fn stmt(
         [
             Token::Key(Keyword::While | Keyword::Bind | Keyword::Group | Keyword::Assume),
             ..
-        ] => { headed(alloc, region, blocks, tokens) }
+        ] => { head_and_block(alloc, region, blocks, tokens) }
         _ => {
             let (action, rest) = action(alloc, region, tokens)?;
             Ok((Stmt::Do(action), rest))
@@ -154,8 +158,8 @@ fn statements(
     alloc: Global,
     region: Region,
     blocks: u32,
-    tokens: Tokens<'_>,
-) -> Result<(Vec<Stmt>, Tokens<'_>), ReadError>
+    tokens: TokenSlice<'_>,
+) -> Result<(Vec<Stmt>, TokenSlice<'_>), ReadError>
     ensures { Gives (λ x. (map view_stmt x.0.items, map piece x.1.now)) result (many_at NESTING region (block_at NESTING blocks) (length tokens.now) (map piece tokens.now)) }
 {
     let mut stmts = Vec::new(alloc);
@@ -169,7 +173,7 @@ fn statements(
         add_stmt(&mut stmts, next)?;
         rest = after;
     }
-    Err(refused(Kind::EndsEarly, rest))
+    Err(refusal(Kind::EndsEarly, rest))
 }
 
 // A block, where so many may still be opened.
@@ -179,13 +183,13 @@ pub(crate) fn block(
     alloc: Global,
     region: Region,
     blocks: u32,
-    tokens: Tokens<'_>,
-) -> Result<(Vec<Stmt>, Tokens<'_>), ReadError>
+    tokens: TokenSlice<'_>,
+) -> Result<(Vec<Stmt>, TokenSlice<'_>), ReadError>
     ensures { Gives (λ x. (map view_stmt x.0.items, map piece x.1.now)) result (block_at NESTING blocks region (map piece tokens.now)) }
 {
     let rest = sign(Mark::OpenBrace, tokens)?;
     if blocks == 0 {
-        return Err(refused(Kind::TooDeep, tokens));
+        return Err(refusal(Kind::TooDeep, tokens));
     }
     statements(alloc, region, blocks - 1, rest)
 }

@@ -10,13 +10,16 @@ use crate::call::call;
 use crate::expression::expr;
 use crate::fault::ReadError;
 use crate::limits::NESTING;
-use crate::one_token::{Tokens, name};
+use crate::one_token::{TokenSlice, name};
 use script_grammar::{Atoms, Awaited, Expr, Value, Wait};
 use script_tokens::{Keyword, Token};
 use std::alloc::Global;
 
 #[tactic(auto, unfolding(crate::specs::Model::Actions::awaited_at))]
-fn awaited(alloc: Global, tokens: Tokens<'_>) -> Result<(Awaited, Tokens<'_>), ReadError>
+fn parse_awaited(
+    alloc: Global,
+    tokens: TokenSlice<'_>,
+) -> Result<(Awaited, TokenSlice<'_>), ReadError>
     ensures { Gives (λ x. (view_awaited x.0, map piece x.1.now)) result (awaited_at NESTING (map piece tokens.now)) }
 {
     match tokens {
@@ -36,7 +39,7 @@ fn awaited(alloc: Global, tokens: Tokens<'_>) -> Result<(Awaited, Tokens<'_>), R
 }
 
 #[tactic(auto, unfolding(crate::specs::Model::Actions::else_at))]
-fn other(alloc: Global, tokens: Tokens<'_>) -> Result<(Option<Expr>, Tokens<'_>), ReadError>
+fn other(alloc: Global, tokens: TokenSlice<'_>) -> Result<(Option<Expr>, TokenSlice<'_>), ReadError>
     ensures { Gives (λ x. (view_if x.0, map piece x.1.now)) result (else_at NESTING (map piece tokens.now)) }
 {
     match tokens {
@@ -50,16 +53,22 @@ fn other(alloc: Global, tokens: Tokens<'_>) -> Result<(Option<Expr>, Tokens<'_>)
 
 // What is waited for, after its keyword.
 #[tactic(auto, unfolding(crate::specs::Model::Actions::wait_at))]
-pub(crate) fn wait(alloc: Global, tokens: Tokens<'_>) -> Result<(Wait, Tokens<'_>), ReadError>
+pub(crate) fn wait(
+    alloc: Global,
+    tokens: TokenSlice<'_>,
+) -> Result<(Wait, TokenSlice<'_>), ReadError>
     ensures { Gives (λ x. (view_wait x.0, map piece x.1.now)) result (wait_at NESTING (map piece tokens.now)) }
 {
-    let (awaited, rest) = awaited(alloc, tokens)?;
+    let (awaited, rest) = parse_awaited(alloc, tokens)?;
     let (other, rest) = other(alloc, rest)?;
     Ok((Wait { awaited, other }, rest))
 }
 
 #[tactic(auto, unfolding(crate::specs::Model::Actions::value_at))]
-pub(crate) fn value(alloc: Global, tokens: Tokens<'_>) -> Result<(Value, Tokens<'_>), ReadError>
+pub(crate) fn value(
+    alloc: Global,
+    tokens: TokenSlice<'_>,
+) -> Result<(Value, TokenSlice<'_>), ReadError>
     ensures { Gives (λ x. (view_value x.0, map piece x.1.now)) result (value_at NESTING (map piece tokens.now)) }
 {
     match tokens {

@@ -3,16 +3,16 @@ use Rattle.std.proofs.Common.{◌≡◌, List, [], ◌∷◌, ◌++◌, map, ref
 use Rattle.std.specs.List.{All}
 use Rattle.std.proofs.lemmas.List.Elements.{All-nil, All-cons, All-head, All-tail, All-append, All-map}
 use Rattle.script_grammar.specs.Tree.{ExecutorTree, LocalTree, ActorTree, RootTree, DeclTree, Executes, Binds, Acts, Roots}
-use Rattle.script_printing.specs.Script.{ScriptTree, declarations_of, with_decl, script_in}
+use Rattle.script_printing.specs.Script.{ScriptView, declarations_of, with_decl, script_in}
 
 -- something holds of each declaration of a script
-pub record HoldsOfAll (P : DeclTree → Type 0) (s : ScriptTree) : Type 0 where
+pub record HoldsOfAll (P : DeclTree → Type 0) (s : ScriptView) : Type 0 where
   pub executors : All (λ x. P (Executes x)) s.executors
   pub locals : All (λ l. P (Binds l)) s.locals
   pub actors : All (λ a. P (Acts a)) s.actors
   pub roots : All (λ r. P (Roots r)) s.roots
 
-one_more_holds : (P : DeclTree → Type 0) (d : DeclTree) (s : ScriptTree) → P d → HoldsOfAll P s → HoldsOfAll P (with_decl d s)
+one_more_holds : (P : DeclTree → Type 0) (d : DeclTree) (s : ScriptView) → P d → HoldsOfAll P s → HoldsOfAll P (with_decl d s)
 one_more_holds P (Executes x) s h e = record { executors = All-cons (λ y. P (Executes y)) x s.executors h e.executors; locals = e.locals; actors = e.actors; roots = e.roots }
 one_more_holds P (Binds l) s h e = record { executors = e.executors; locals = All-cons (λ y. P (Binds y)) l s.locals h e.locals; actors = e.actors; roots = e.roots }
 one_more_holds P (Acts a) s h e = record { executors = e.executors; locals = e.locals; actors = All-cons (λ y. P (Acts y)) a s.actors h e.actors; roots = e.roots }
@@ -24,7 +24,7 @@ script_holds P [] h = record { executors = All-nil (λ x. P (Executes x)); local
 script_holds P (d ∷ ds) h = one_more_holds P d (script_in ds) (All-head P d ds h) (script_holds P ds (All-tail P d ds h))
 
 -- and what holds of a script holds of its declarations
-pub declarations_hold : (P : DeclTree → Type 0) (s : ScriptTree) → HoldsOfAll P s → All P (declarations_of s)
+pub declarations_hold : (P : DeclTree → Type 0) (s : ScriptView) → HoldsOfAll P s → All P (declarations_of s)
 declarations_hold P s h =
     let executors = map Executes s.executors in
     let locals = map Binds s.locals in
@@ -36,7 +36,7 @@ declarations_hold P s h =
 pub ordered_hold : (P : DeclTree → Type 0) (ds : List DeclTree) → All P ds → All P (declarations_of (script_in ds))
 ordered_hold P ds h = declarations_hold P (script_in ds) (script_holds P ds h)
 
-abbrev script : List ExecutorTree → List LocalTree → List ActorTree → List RootTree → ScriptTree
+abbrev script : List ExecutorTree → List LocalTree → List ActorTree → List RootTree → ScriptView
 script executors locals actors roots = record { executors = executors; locals = locals; actors = actors; roots = roots }
 
 roots_again : (rs : List RootTree) → script_in (map Roots rs) ≡ script [] [] [] rs
@@ -56,5 +56,5 @@ executors_again [] ls ts rs = locals_again ls ts rs
 executors_again (x ∷ xs) ls ts rs = ap (with_decl (Executes x)) (executors_again xs ls ts rs)
 
 -- the declarations of a script make it up
-pub script_again : (s : ScriptTree) → script_in (declarations_of s) ≡ s
+pub script_again : (s : ScriptView) → script_in (declarations_of s) ≡ s
 script_again s = executors_again s.executors s.locals s.actors s.roots

@@ -11,13 +11,13 @@ use Rattle.script_tokens.specs.declared.keyword.Keyword.TheVariants as key
 use Rattle.script_tokens.specs.declared.mark.Mark.{Mark}
 use Rattle.script_tokens.specs.declared.mark.Mark.TheVariants as mark
 use Rattle.script_tokens.specs.Bytes.{is_space, is_digit, is_letter, is_name_byte}
-use Rattle.script_tokens.specs.Pieces.{Piece, Num, Huge, Name, Key, Sign, Stray}
+use Rattle.script_tokens.specs.Pieces.{TokenView, Num, Huge, Name, Key, Sign, Stray}
 use Rattle.script_tokens.specs.Lexes.{decimal_behind, number_of, word_as, word_of, mark_at, front_at, front_of, Lexes, at_end, separated, next_is}
 use Rattle.script_tokens.specs.Spelling.{spelling, mark_spelling}
 use Rattle.script_printing.specs.Words.{text_of}
 use Rattle.script_printing.specs.Readable.{IsWord, IsReadable}
 use Rattle.script_printing.specs.Printed.{spaced, line_of, printed}
-use Rattle.script_printing.specs.Script.{ScriptTree, declarations_of}
+use Rattle.script_printing.specs.Script.{ScriptView, declarations_of}
 use Rattle.script_printing.specs.Pieces.{pieces_of_decl, pieces_of_script}
 
 -- white space stands at the front
@@ -139,7 +139,7 @@ number_front n bs h breaks =
     digits_front (decimal n) n bs (decimal_nonempty n long) (digits_decimal numerals n long) (digits_value-decimal numerals n long) h breaks
 
 -- a token is taken up to what ends it
-piece_front : (p : Piece) (bs : List ℕ) → IsReadable p → Breaks bs → front_of (text_of p ++ bs) ≡ (Some p, bs)
+piece_front : (p : TokenView) (bs : List ℕ) → IsReadable p → Breaks bs → front_of (text_of p ++ bs) ≡ (Some p, bs)
 piece_front (Num (pos n)) bs h breaks = number_front n bs h breaks
 piece_front (Num (negsuc n)) bs h breaks = absurd h
 piece_front Huge bs h breaks = absurd h
@@ -148,30 +148,30 @@ piece_front (Key k) bs h breaks = keyword_front k bs breaks
 piece_front (Sign m) bs h breaks = mark_front m bs breaks
 piece_front Stray bs h breaks = absurd h
 
-lexed_next : (bytes rest : List ℕ) (p : Piece) (ps : List Piece) → front_of bytes ≡ (Some p, rest) → Lexes rest ps → Lexes bytes (p ∷ ps)
+lexed_next : (bytes rest : List ℕ) (p : TokenView) (ps : List TokenView) → front_of bytes ≡ (Some p, rest) → Lexes rest ps → Lexes bytes (p ∷ ps)
 lexed_next [] rest p ps e d = absurd (let f : None ≡ Some p = ap (λ x. x.0) e in cc f)
 lexed_next (b ∷ bs) rest p ps e d = next_is e d
 
-after_space : (bs : List ℕ) (ps : List Piece) → Lexes bs ps → Lexes (32 ∷ bs) ps
+after_space : (bs : List ℕ) (ps : List TokenView) → Lexes bs ps → Lexes (32 ∷ bs) ps
 unfolding front_at
 after_space bs ps d = separated refl d
 
-after_feed : (bs : List ℕ) (ps : List Piece) → Lexes bs ps → Lexes (10 ∷ bs) ps
+after_feed : (bs : List ℕ) (ps : List TokenView) → Lexes bs ps → Lexes (10 ∷ bs) ps
 unfolding front_at
 after_feed bs ps d = separated refl d
 
-spaced_breaks : (ps : List Piece) (bs : List ℕ) → Breaks bs → Breaks (spaced ps ++ bs)
+spaced_breaks : (ps : List TokenView) (bs : List ℕ) → Breaks bs → Breaks (spaced ps ++ bs)
 spaced_breaks [] bs h = h
 spaced_breaks (p ∷ ps) bs h = inl refl
 
 -- tokens after spaces
-spaced_lexes : (ps qs : List Piece) (bs : List ℕ) → All IsReadable ps → Breaks bs → Lexes bs qs → Lexes (spaced ps ++ bs) (ps ++ qs)
+spaced_lexes : (ps qs : List TokenView) (bs : List ℕ) → All IsReadable ps → Breaks bs → Lexes bs qs → Lexes (spaced ps ++ bs) (ps ++ qs)
 spaced_lexes [] qs bs h breaks d = d
 spaced_lexes (p ∷ ps) qs bs h breaks d =
     after_space ((text_of p ++ spaced ps) ++ bs) (p ∷ (ps ++ qs)) (rw (append_assoc (text_of p) (spaced ps) bs) (lexed_next (text_of p ++ (spaced ps ++ bs)) (spaced ps ++ bs) p (ps ++ qs) (piece_front p (spaced ps ++ bs) (All-head IsReadable p ps h) (spaced_breaks ps bs breaks)) (spaced_lexes ps qs bs (All-tail IsReadable p ps h) breaks d)))
 
 -- a line
-line_lexes : (ps qs : List Piece) (bs : List ℕ) → All IsReadable ps → Lexes bs qs → Lexes (line_of ps ++ bs) (ps ++ qs)
+line_lexes : (ps qs : List TokenView) (bs : List ℕ) → All IsReadable ps → Lexes bs qs → Lexes (line_of ps ++ bs) (ps ++ qs)
 line_lexes [] qs bs h d = after_feed bs qs d
 line_lexes (p ∷ ps) qs bs h d =
     let breaks : Breaks (10 ∷ bs) = inr refl in
@@ -179,10 +179,10 @@ line_lexes (p ∷ ps) qs bs h d =
     subst (λ v. Lexes v (p ∷ (ps ++ qs))) (sym e) (lexed_next (text_of p ++ (spaced ps ++ 10 ∷ bs)) (spaced ps ++ 10 ∷ bs) p (ps ++ qs) (piece_front p (spaced ps ++ 10 ∷ bs) (All-head IsReadable p ps h) (spaced_breaks ps (10 ∷ bs) breaks)) (spaced_lexes ps qs (10 ∷ bs) (All-tail IsReadable p ps h) breaks (after_feed bs qs d)))
 
 -- lines
-lines_lex : {A : Type 0} (f : A → List Piece) (xs : List A) → All IsReadable (flat_map f xs) → Lexes (flat_map (λ x. line_of (f x)) xs) (flat_map f xs)
+lines_lex : {A : Type 0} (f : A → List TokenView) (xs : List A) → All IsReadable (flat_map f xs) → Lexes (flat_map (λ x. line_of (f x)) xs) (flat_map f xs)
 lines_lex f [] h = at_end
 lines_lex f (x ∷ xs) h =
     line_lexes (f x) (flat_map f xs) (flat_map (λ y. line_of (f y)) xs) (All-front IsReadable (f x) (flat_map f xs) h) (lines_lex f xs (All-back IsReadable (f x) (flat_map f xs) h))
 
-pub script_lexes : (s : ScriptTree) → All IsReadable (pieces_of_script s) → Lexes (printed s) (pieces_of_script s)
+pub script_lexes : (s : ScriptView) → All IsReadable (pieces_of_script s) → Lexes (printed s) (pieces_of_script s)
 script_lexes s h = lines_lex pieces_of_decl (declarations_of s) h

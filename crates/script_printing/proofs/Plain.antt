@@ -13,8 +13,8 @@ use Rattle.script_tokens.specs.declared.keyword.Keyword.{Keyword}
 use Rattle.script_tokens.specs.declared.keyword.Keyword.TheVariants as key
 use Rattle.script_tokens.specs.declared.mark.Mark.{Mark}
 use Rattle.script_tokens.specs.declared.mark.Mark.TheVariants as mark
-use Rattle.script_tokens.specs.Pieces.{Piece, Num, Huge, Name, Key, Sign, Stray}
-use Rattle.script_printing.specs.Script.{ScriptTree, declarations_of}
+use Rattle.script_tokens.specs.Pieces.{TokenView, Num, Huge, Name, Key, Sign, Stray}
+use Rattle.script_printing.specs.Script.{ScriptView, declarations_of}
 use Rattle.script_printing.specs.Pieces.{pieces_of_decl, pieces_of_script}
 use Rattle.script_printing.specs.Printed.{spaced, line_of, printed}
 use Rattle.script_printing.specs.Readable.{IsReadable}
@@ -50,7 +50,7 @@ keyword_is_text _ = refl
 decimal_is_text : (n : ℕ) → n < 2 ^ 63 → is_text (decimal n) ≡ true
 decimal_is_text n h = let long : n < 2 ^ 64 = omega arith in all_so is_digit is_text_byte digit_is_text (decimal n) (digits_decimal numerals n long)
 
-piece_is_text : (p : Piece) → IsReadable p → is_text (text_of p) ≡ true
+piece_is_text : (p : TokenView) → IsReadable p → is_text (text_of p) ≡ true
 piece_is_text (Num (pos n)) h = decimal_is_text n h
 piece_is_text (Num (negsuc n)) h = absurd h
 piece_is_text Huge h = absurd h
@@ -59,22 +59,22 @@ piece_is_text (Key k) h = keyword_is_text k
 piece_is_text (Sign m) h = mark_is_text m
 piece_is_text Stray h = absurd h
 
-spaced_is_text : (ps : List Piece) → All IsReadable ps → is_text (spaced ps) ≡ true
+spaced_is_text : (ps : List TokenView) → All IsReadable ps → is_text (spaced ps) ≡ true
 spaced_is_text [] h = refl
 spaced_is_text (p ∷ ps) h =
     text_append (text_of p) (spaced ps) (piece_is_text p (All-head IsReadable p ps h)) (spaced_is_text ps (All-tail IsReadable p ps h))
 
-line_is_text : (ps : List Piece) → All IsReadable ps → is_text (line_of ps) ≡ true
+line_is_text : (ps : List TokenView) → All IsReadable ps → is_text (line_of ps) ≡ true
 line_is_text [] h = refl
 line_is_text (p ∷ ps) h =
     text_append (text_of p) (spaced ps ++ 10 ∷ []) (piece_is_text p (All-head IsReadable p ps h)) (text_append (spaced ps) (10 ∷ []) (spaced_is_text ps (All-tail IsReadable p ps h)) refl)
 
-lines_are_text : {A : Type 0} (f : A → List Piece) (xs : List A) → All IsReadable (flat_map f xs) → is_text (flat_map (λ x. line_of (f x)) xs) ≡ true
+lines_are_text : {A : Type 0} (f : A → List TokenView) (xs : List A) → All IsReadable (flat_map f xs) → is_text (flat_map (λ x. line_of (f x)) xs) ≡ true
 lines_are_text f [] h = refl
 lines_are_text f (x ∷ xs) h =
     text_append (line_of (f x)) (flat_map (λ y. line_of (f y)) xs) (line_is_text (f x) (All-front IsReadable (f x) (flat_map f xs) h)) (lines_are_text f xs (All-back IsReadable (f x) (flat_map f xs) h))
 
-pub script_is_text : (s : ScriptTree) → All IsReadable (pieces_of_script s) → is_text (printed s) ≡ true
+pub script_is_text : (s : ScriptView) → All IsReadable (pieces_of_script s) → is_text (printed s) ≡ true
 script_is_text s h = lines_are_text pieces_of_decl (declarations_of s) h
 
 low_byte : (b : ℕ) → is_text_byte b ≡ true → b < 128

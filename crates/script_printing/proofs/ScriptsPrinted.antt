@@ -4,7 +4,7 @@ use Rattle.std.specs.Prelude.{codes}
 use Rattle.std.specs.Fmt.{digits}
 use Rattle.swift_types.specs.declared.operator.Operator.TheVariants as op
 use Rattle.swift_types.specs.declared.priority.Priority.TheVariants.{Low, Medium, High}
-use Rattle.script_grammar.specs.declared.declaration.ExecutorKind.TheVariants as kind
+use Rattle.swift_types.specs.declared.executor_kind.ExecutorKind.TheVariants as kind
 use Rattle.script_grammar.specs.Tree.{Number, Named, Local, OwnPriority, IsCancelled, Negated, Both, CallTree, Called, TaskOf, NextOf, Computed, Waited, Spawned, Detached, Let, LetTask, Assign, Await, Makes, Adds, Cancel, Return, Throw, Check, Yield, If, While, Bind, Group, Assume, StmtTree, Do, Headed, IfElse, nothing, first_then, ActorTree, RootTree}
 use Rattle.script_printing.specs.Printed.{printed}
 

@@ -8,23 +8,23 @@ use Rattle.swift_types.specs.declared.priority.Priority.{Priority}
 use Rattle.swift_types.specs.declared.priority.Priority.TheVariants.{Background, Low, Medium, High}
 use Rattle.script_tokens.specs.declared.keyword.Keyword.TheVariants as key
 use Rattle.script_tokens.specs.declared.mark.Mark.TheVariants as mark
-use Rattle.script_tokens.specs.Pieces.{Piece, Sign}
+use Rattle.script_tokens.specs.Pieces.{TokenView, Sign}
 use Rattle.script_grammar.specs.declared.region.Atoms.{Atoms}
 use Rattle.script_grammar.specs.declared.region.Atoms.TheVariants.{Every}
 use Rattle.script_grammar.specs.declared.region.Region.{Region}
 use Rattle.script_grammar.specs.declared.region.Region.TheVariants as region
 use Rattle.script_grammar.specs.Tree.{ExprTree, Number, Named, Local, OwnPriority, IsCancelled, Negated, Inverted, Both, height_of, CallTree, AwaitedTree, Called, TaskOf, NextOf, WaitTree, ValueTree, Computed, Waited, MakeTree, Spawned, Detached, AddTree, ActionTree, Let, LetTask, Assign, Await, Makes, Adds, Cancel, Return, Throw, Check, Yield, HeadTree, If, While, Bind, Group, Assume, StmtTree, Do, Headed, IfElse, BlockTree, nothing, first_then, block_tree}
-use Rattle.script_grammar.specs.Grammar.{mark_of, Spells, number, name, local, own_priority, is_cancelled, parenthesis, negated, inverted, alone, chained, compared, IsExpression, Each, no_more, one_more, IsNext, Listed, none_listed, some_listed, IsCall, IsAwaited, a_call, a_task, a_next, IsElse, without_else, with_else, IsWait, IsGiven, not_given, given, IsMake, spawned, detached, IsUnless, always, unless, IsAdd, IsValue, computed, awaited, SpellsAction, defines, defines_task, assigns, awaits, makes, adds, cancels, returns, throws, checks, yields, SpellsHead, tests, repeats, binds, groups, assumes, SpellsStmt, SpellsBlock, SpellsStmts, does, holds, chooses, braces, none, more}
+use Rattle.script_grammar.specs.Grammar.{mark_of, SpellsExpr, number, name, local, own_priority, is_cancelled, parenthesis, negated, inverted, alone, chained, compared, IsExpression, Each, no_more, one_more, IsNext, Listed, none_listed, some_listed, IsCall, IsAwaited, a_call, a_task, a_next, IsElse, without_else, with_else, IsWait, IsPriorityGiven, not_given, given, IsMake, spawned, detached, IsUnless, always, unless, IsAdd, IsValue, computed, awaited, SpellsAction, defines, defines_task, assigns, awaits, makes, adds, cancels, returns, throws, checks, yields, SpellsHead, tests, repeats, binds, groups, assumes, SpellsStmt, SpellsBlock, SpellsStmts, does, holds, chooses, braces, none, more}
 use Rattle.script_printing.specs.Pieces.{pieces_of, after_comma, listed, braced, ended, pieces_of_call, pieces_of_awaited, pieces_of_else, pieces_of_wait, pieces_of_value, pieces_of_priority, pieces_of_given, pieces_of_make, pieces_of_unless, pieces_of_add, pieces_of_action, pieces_of_head, pieces_of_stmt, pieces_of_block}
 use Rattle.script_printing.specs.Limits.{IsLow, IsLowIfAny, AtomsFit, CallFits, AwaitedFits, WaitFits, ValueFits, MakeFits, ActionFits, HeadFits, region_in, StmtFits, BlockFits}
 
 -- an atom is an expression of each level
-at_level : {atoms : Atoms} {o : ℕ} {ts : List Piece} {t : ExprTree} (k : ℕ) → Spells atoms o zero ts t → Spells atoms o k ts t
+at_level : {atoms : Atoms} {o : ℕ} {ts : List TokenView} {t : ExprTree} (k : ℕ) → SpellsExpr atoms o zero ts t → SpellsExpr atoms o k ts t
 at_level zero d = d
 at_level (suc k) d = alone (at_level k d)
 
 -- two atoms with an operator between them
-between : {atoms : Atoms} {o : ℕ} {ls rs : List Piece} {a b : ExprTree} (q : Operator) → Spells atoms o zero ls a → Spells atoms o zero rs b → Spells atoms o 5 (ls ++ Sign (mark_of q) ∷ rs) (Both q a b)
+between : {atoms : Atoms} {o : ℕ} {ls rs : List TokenView} {a b : ExprTree} (q : Operator) → SpellsExpr atoms o zero ls a → SpellsExpr atoms o zero rs b → SpellsExpr atoms o 5 (ls ++ Sign (mark_of q) ∷ rs) (Both q a b)
 between op.Or d e = chained {k = 4} op.Or refl (λ x. absurd (omega (arith, x))) (at_level 5 d) (at_level 4 e)
 between op.And d e = alone (chained {k = 3} op.And refl (λ x. absurd (omega (arith, x))) (at_level 4 d) (at_level 3 e))
 between op.Equal d e = alone (alone (compared {k = 2} op.Equal refl refl (at_level 2 d) (at_level 2 e)))
@@ -48,7 +48,7 @@ high (Inverted a) = omega arith
 high (Both q a b) = omega arith
 
 -- the printed form of an expression is an atom, with one parenthesis fewer than its height
-atom : (atoms : Atoms) (o : ℕ) (t : ExprTree) → AtomsFit atoms t → height_of t ≤ suc o → Spells atoms o zero (pieces_of t) t
+atom : (atoms : Atoms) (o : ℕ) (t : ExprTree) → AtomsFit atoms t → height_of t ≤ suc o → SpellsExpr atoms o zero (pieces_of t) t
 atom atoms o (Number n) fit h = number n
 atom atoms o (Named w) fit h = name w
 atom atoms o (Local w) fit h = local w fit
@@ -60,7 +60,7 @@ atom atoms zero (Inverted a) fit h = absurd (omega (arith, high a))
 atom atoms (suc o) (Inverted a) fit h = parenthesis (at_level 5 (inverted (atom atoms o a fit (omega arith))))
 atom atoms zero (Both q a b) fit h = absurd (omega (arith, high a))
 atom atoms (suc o) (Both q a b) fit h =
-    subst (λ ts. Spells atoms (suc o) zero (Sign mark.Open ∷ ts) (Both q a b)) (append_assoc (pieces_of a) (Sign (mark_of q) ∷ pieces_of b) (Sign mark.Close ∷ [])) (parenthesis (between q (atom atoms o a fit.0 (omega arith)) (atom atoms o b fit.1 (omega arith))))
+    subst (λ ts. SpellsExpr atoms (suc o) zero (Sign mark.Open ∷ ts) (Both q a b)) (append_assoc (pieces_of a) (Sign (mark_of q) ∷ pieces_of b) (Sign mark.Close ∷ [])) (parenthesis (between q (atom atoms o a fit.0 (omega arith)) (atom atoms o b fit.1 (omega arith))))
 
 -- each atom is allowed where every one is
 every : (t : ExprTree) → AtomsFit Every t
@@ -81,12 +81,12 @@ expression : (limit : ℕ) (t : ExprTree) → IsLow limit t → IsExpression Eve
 expression limit t h = expression_with Every limit limit t (every t) h (omega arith)
 
 -- a list of parts, one after the other
-pub each_of : {A : Type 0} (Is : List Piece → A → Type 0) (f : A → List Piece) (P : A → Type 0) → ((x : A) → P x → Is (f x) x) → (xs : List A) → All P xs → Each Is (flat_map f xs) xs
+pub each_of : {A : Type 0} (Is : List TokenView → A → Type 0) (f : A → List TokenView) (P : A → Type 0) → ((x : A) → P x → Is (f x) x) → (xs : List A) → All P xs → Each Is (flat_map f xs) xs
 each_of Is f P is [] h = no_more
 each_of Is f P is (x ∷ xs) h = one_more (is x (All-head P x xs h)) (each_of Is f P is xs (All-tail P x xs h))
 
 -- a list with commas
-pub listed_of : {A : Type 0} (Is : List Piece → A → Type 0) (f : A → List Piece) (P : A → Type 0) → ((x : A) → P x → Is (f x) x) → (xs : List A) → All P xs → Listed Is (listed f xs) xs
+pub listed_of : {A : Type 0} (Is : List TokenView → A → Type 0) (f : A → List TokenView) (P : A → Type 0) → ((x : A) → P x → Is (f x) x) → (xs : List A) → All P xs → Listed Is (listed f xs) xs
 listed_of Is f P is [] h = none_listed
 listed_of Is f P is (x ∷ xs) h =
     some_listed (is x (All-head P x xs h)) (each_of (IsNext Is) (after_comma f) P (λ y p. record { item = f y; is = is y p; all = refl }) xs (All-tail P x xs h))
@@ -120,13 +120,13 @@ value : (limit : ℕ) (r : Region) (v : ValueTree) → ValueFits limit r v → I
 value limit r (Computed t) h = computed (expression limit t h)
 value limit r (Waited w) h = awaited h.0 (wait limit w h.1)
 
-pub priority : (p : Priority) → IsGiven (pieces_of_priority p) (Some p)
+pub priority : (p : Priority) → IsPriorityGiven (pieces_of_priority p) (Some p)
 priority Background = given key.Background Background refl
 priority Low = given key.Low Low refl
 priority Medium = given key.Medium Medium refl
 priority High = given key.High High refl
 
-priority_if : (p : Option Priority) → IsGiven (pieces_of_given p) p
+priority_if : (p : Option Priority) → IsPriorityGiven (pieces_of_given p) p
 priority_if None = not_given
 priority_if (Some p) = priority p
 
@@ -183,7 +183,7 @@ list_of-block_tree [] = refl
 list_of-block_tree (s ∷ ss) = ap (λ rest. s ∷ rest) (list_of-block_tree ss)
 
 -- a block, where one may be opened
-block : (limit : ℕ) (r : Region) (blocks : ℕ) (ts : List Piece) (ss : List StmtTree) → 0 < blocks → SpellsStmts limit r (blocks - 1) ts ss → SpellsBlock limit r blocks (braced ts) ss
+block : (limit : ℕ) (r : Region) (blocks : ℕ) (ts : List TokenView) (ss : List StmtTree) → 0 < blocks → SpellsStmts limit r (blocks - 1) ts ss → SpellsBlock limit r blocks (braced ts) ss
 block limit r zero ts ss room d = absurd (omega arith)
 block limit r (suc o) ts ss room d = braces (let e : suc o - 1 ≡ o = omega arith in subst (λ n. SpellsStmts limit r n ts ss) e d)
 

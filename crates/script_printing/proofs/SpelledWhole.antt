@@ -3,14 +3,14 @@ use Rattle.std.proofs.Common.{ℕ, ℤ, pos, negsuc, suc, List, [], ◌∷◌, �
 use Rattle.std.specs.List.{All, flat_map}
 use Rattle.script_tokens.specs.declared.mark.Mark.TheVariants as mark
 use Rattle.script_tokens.specs.declared.keyword.Keyword.TheVariants as key
-use Rattle.script_tokens.specs.Pieces.{Piece, Name, Key, Sign}
-use Rattle.script_grammar.specs.declared.declaration.ExecutorKind.{ExecutorKind}
-use Rattle.script_grammar.specs.declared.declaration.ExecutorKind.TheVariants as kind
+use Rattle.script_tokens.specs.Pieces.{TokenView, Name, Key, Sign}
+use Rattle.swift_types.specs.declared.executor_kind.ExecutorKind.{ExecutorKind}
+use Rattle.swift_types.specs.declared.executor_kind.ExecutorKind.TheVariants as kind
 use Rattle.script_grammar.specs.declared.region.Atoms.TheVariants.{Plain}
 use Rattle.script_grammar.specs.Tree.{ExprTree, block_tree, ExecutorTree, LocalTree, FieldTree, MethodTree, ActorTree, RootTree, DeclTree, Executes, Binds, Acts, Roots}
-use Rattle.script_grammar.specs.Grammar.{IsInt, plain, opposite, IsName, IsKind, by_priority, by_age, by_worker, IsExecutor, IsLocal, IsField, IsOn, on_its_own, on_shared, IsInvariant, no_invariant, an_invariant, IsMethod, IsActor, IsStart, IsRoot, IsDecl, an_executor, a_local, an_actor, a_root, IsScript}
+use Rattle.script_grammar.specs.Grammar.{IsInt, plain, opposite, IsName, IsKind, by_priority, by_age, by_worker, IsExecutorDecl, IsLocal, IsField, IsOn, on_its_own, on_shared, IsInvariant, no_invariant, an_invariant, IsMethodDecl, IsActor, IsStart, IsRoot, IsDecl, an_executor, a_local, an_actor, a_root, IsScript}
 use Rattle.script_printing.specs.Pieces.{listed, braced, pieces_of_int, pieces_of_name, pieces_of_kind, pieces_of_field, pieces_of_on, pieces_of_invariant, pieces_of_method, pieces_of_block, pieces_of_priority, pieces_of_start, pieces_of_decl, pieces_of_script}
-use Rattle.script_printing.specs.Script.{ScriptTree, declarations_of}
+use Rattle.script_printing.specs.Script.{ScriptView, declarations_of}
 use Rattle.script_printing.specs.Limits.{InvariantFits, MethodFits, ActorFits}
 use Rattle.script_printing.proofs.ByKind.{declarations_hold}
 use Rattle.script_printing.proofs.Spelled.{expression_with, each_of, listed_of, priority, body}
@@ -30,7 +30,7 @@ kind_of kind.Priority = by_priority
 kind_of kind.Fifo = by_age
 kind_of (kind.Pinned n) = by_worker n
 
-executor : (x : ExecutorTree) → IsExecutor (pieces_of_decl (Executes x)) x
+executor : (x : ExecutorTree) → IsExecutorDecl (pieces_of_decl (Executes x)) x
 executor x = record { kind = pieces_of_kind x.kind; has_kind = kind_of x.kind; all = refl }
 
 local : (l : LocalTree) → IsLocal (pieces_of_decl (Binds l)) l
@@ -47,7 +47,7 @@ invariant : (limit : ℕ) (o : Option ExprTree) → InvariantFits limit o → Is
 invariant limit None h = no_invariant
 invariant limit (Some t) h = an_invariant (expression_with Plain limit limit t h.1 h.0 (omega arith))
 
-method : (limit : ℕ) (m : MethodTree) → MethodFits limit m → IsMethod limit (pieces_of_method m) m
+method : (limit : ℕ) (m : MethodTree) → MethodFits limit m → IsMethodDecl limit (pieces_of_method m) m
 method limit m h = record {
   params = listed pieces_of_name m.params;
   body = braced (pieces_of_block (block_tree m.body));
@@ -62,7 +62,7 @@ actor limit a h =
     let fields = flat_map pieces_of_field a.fields in
     let test = pieces_of_invariant a.invariant in
     let methods = flat_map pieces_of_method a.methods in
-    let close : List Piece = Sign mark.CloseBrace ∷ [] in
+    let close : List TokenView = Sign mark.CloseBrace ∷ [] in
     record {
       on = shared;
       fields = fields;
@@ -71,7 +71,7 @@ actor limit a h =
       has_executor = on a.executor;
       has_fields = each_of IsField pieces_of_field (λ f. Unit {0}) field a.fields (all_anything a.fields);
       has_invariant = invariant limit a.invariant h.invariant;
-      has_methods = each_of (IsMethod limit) pieces_of_method (MethodFits limit) (method limit) a.methods h.methods;
+      has_methods = each_of (IsMethodDecl limit) pieces_of_method (MethodFits limit) (method limit) a.methods h.methods;
       all = ap (λ ts. Key key.Actor ∷ Name a.name ∷ (shared ++ Sign mark.OpenBrace ∷ ts)) (append_assoc fields (test ++ methods) close ∙ ap (λ ts. fields ++ ts) (append_assoc test methods close));
     }
 
@@ -105,6 +105,6 @@ decl limit (Roots r) h = a_root (root r)
 pub declarations : (limit : ℕ) (ds : List DeclTree) → All (DeclFits limit) ds → IsScript limit (flat_map pieces_of_decl ds) ds
 declarations limit ds h = each_of (IsDecl limit) pieces_of_decl (DeclFits limit) (decl limit) ds h
 
-pub script : (limit : ℕ) (s : ScriptTree) → All (ActorFits limit) s.actors → IsScript limit (pieces_of_script s) (declarations_of s)
+pub script : (limit : ℕ) (s : ScriptView) → All (ActorFits limit) s.actors → IsScript limit (pieces_of_script s) (declarations_of s)
 script limit s h =
     declarations limit (declarations_of s) (declarations_hold (DeclFits limit) s (record { executors = all_anything s.executors; locals = all_anything s.locals; actors = h; roots = all_anything s.roots }))

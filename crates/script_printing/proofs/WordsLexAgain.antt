@@ -7,12 +7,12 @@ use Rattle.script_tokens.specs.declared.keyword.Keyword.{Keyword}
 use Rattle.script_tokens.specs.declared.mark.Mark.{Mark}
 use Rattle.script_tokens.specs.Bytes.{is_space, is_digit, is_letter, is_name_byte, is_no_line_feed}
 use Rattle.script_tokens.specs.Keywords.{keyword_of}
-use Rattle.script_tokens.specs.Pieces.{Piece, Num, Huge, Name, Key, Sign, Stray}
+use Rattle.script_tokens.specs.Pieces.{TokenView, Num, Huge, Name, Key, Sign, Stray}
 use Rattle.script_tokens.specs.Lexes.{decimal, number_of, word_as, word_of, pair_of, single_of, lone, paired, mark_at, front_at, Lexes, at_end, separated, next_is}
 use Rattle.script_printing.specs.Readable.{begins_with_letter, IsWord, IsNumber}
 
 -- a token of a text: a name that can be read again, a number that can, or something else
-abbrev pub IsFound : Piece → Type 0
+abbrev pub IsFound : TokenView → Type 0
 IsFound (Num n) = IsNumber n
 IsFound Huge = Unit {0}
 IsFound (Name w) = IsWord w
@@ -20,11 +20,11 @@ IsFound (Key k) = Unit {0}
 IsFound (Sign m) = Unit {0}
 IsFound Stray = Unit {0}
 
-abbrev pub AreFound : List Piece → Type 0
+abbrev pub AreFound : List TokenView → Type 0
 AreFound [] = Unit {0}
 AreFound (p ∷ ps) = IsFound p × AreFound ps
 
-abbrev IsFoundIfAny : Option Piece → Type 0
+abbrev IsFoundIfAny : Option TokenView → Type 0
 IsFoundIfAny None = Unit {0}
 IsFoundIfAny (Some p) = IsFound p
 
@@ -65,7 +65,7 @@ lone_found (Some m) = tt
 paired_found : (m : Option Mark) (a b : ℕ) (bs : List ℕ) → IsFoundIfAny (paired m a b bs).0
 paired_found (Some m) a b bs = tt
 paired_found None a b bs =
-    let P : Option Piece × List ℕ → Type 0 = λ v. IsFoundIfAny v.0 in
+    let P : Option TokenView × List ℕ → Type 0 = λ v. IsFoundIfAny v.0 in
     let none : P (None, drop (prefix_len is_no_line_feed bs) bs) = tt in
     chosen P (a == 47 && b == 47) (None, drop (prefix_len is_no_line_feed bs) bs) (Some (lone (single_of a)), b ∷ bs) (λ e. none) (λ e. lone_found (single_of a))
 
@@ -77,18 +77,18 @@ mark_found a (b ∷ bs) = paired_found (pair_of a b) a b bs
 front_found : (b : ℕ) (bs : List ℕ) → IsFoundIfAny (front_at b bs).0
 unfolding front_at
 front_found b bs =
-    let P : Option Piece × List ℕ → Type 0 = λ v. IsFoundIfAny v.0 in
-    let space : Option Piece × List ℕ = (None, bs) in
-    let digits : Option Piece × List ℕ = (Some (number_of (take_while is_digit (b ∷ bs))), drop (prefix_len is_digit (b ∷ bs)) (b ∷ bs)) in
-    let word : Option Piece × List ℕ = (Some (word_of (take_while is_name_byte (b ∷ bs))), drop (prefix_len is_name_byte (b ∷ bs)) (b ∷ bs)) in
+    let P : Option TokenView × List ℕ → Type 0 = λ v. IsFoundIfAny v.0 in
+    let space : Option TokenView × List ℕ = (None, bs) in
+    let digits : Option TokenView × List ℕ = (Some (number_of (take_while is_digit (b ∷ bs))), drop (prefix_len is_digit (b ∷ bs)) (b ∷ bs)) in
+    let word : Option TokenView × List ℕ = (Some (word_of (take_while is_name_byte (b ∷ bs))), drop (prefix_len is_name_byte (b ∷ bs)) (b ∷ bs)) in
     let third : P (cond (is_letter b) word (mark_at b bs)) = chosen P (is_letter b) word (mark_at b bs) (λ h. word_found b bs h) (λ g. mark_found b bs) in
     let second : P (cond (is_digit b) digits (cond (is_letter b) word (mark_at b bs))) = chosen P (is_digit b) digits (cond (is_letter b) word (mark_at b bs)) (λ f. number_found (take_while is_digit (b ∷ bs))) (λ f. third) in
     let none : P space = tt in
     chosen P (is_space b) space (cond (is_digit b) digits (cond (is_letter b) word (mark_at b bs))) (λ e. none) (λ e. second)
 
 -- the tokens of a text
-pub lexes_found : {bytes : List ℕ} {ps : List Piece} → Lexes bytes ps → AreFound ps
+pub lexes_found : {bytes : List ℕ} {ps : List TokenView} → Lexes bytes ps → AreFound ps
 lexes_found at_end = tt
 lexes_found (separated e d) = lexes_found d
 lexes_found (next_is {b} {bs} {rest} {p} {ps} e d) =
-    (subst IsFoundIfAny (ap (λ (v : Option Piece × List ℕ). v.0) e) (front_found b bs), lexes_found d)
+    (subst IsFoundIfAny (ap (λ (v : Option TokenView × List ℕ). v.0) e) (front_found b bs), lexes_found d)

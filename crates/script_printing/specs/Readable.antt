@@ -3,7 +3,7 @@ use Rattle.std.specs.Prelude.{◌≡◌, ℕ, ℤ, pos, negsuc, ◌<◌, ◌^◌
 use Rattle.std.specs.List.{list_all}
 use Rattle.script_tokens.specs.Bytes.{is_letter, is_name_byte}
 use Rattle.script_tokens.specs.Keywords.{keyword_of}
-use Rattle.script_tokens.specs.Pieces.{Piece, Num, Huge, Name, Key, Sign, Stray}
+use Rattle.script_tokens.specs.Pieces.{TokenView, Num, Huge, Name, Key, Sign, Stray}
 
 abbrev pub begins_with_letter : List ℕ → Bool
 begins_with_letter [] = false
@@ -21,7 +21,7 @@ IsNumber (pos n) = n < 2 ^ 63
 IsNumber (negsuc n) = ⊥
 
 -- names are names, and numbers are not negative and not too large
-abbrev pub IsReadable : Piece → Type 0
+abbrev pub IsReadable : TokenView → Type 0
 IsReadable (Num n) = IsNumber n
 IsReadable Huge = ⊥
 IsReadable (Name w) = IsWord w

@@ -10,9 +10,10 @@ use crate::list::{write_all, write_list};
 use crate::part::{Write, write_assigned, write_with_keyword};
 use crate::statement::write_block;
 use crate::token::{write_keyword, write_magnitude, write_name, write_number, write_sign};
-use script_grammar::{Actor, Executor, ExecutorKind, Expr, Field, Local, Method, Name, Root};
+use script_grammar::{Actor, Executor, Expr, Field, Local, Method, Name, Root};
 use script_tokens::{Keyword, Mark};
 use std::alloc::AllocError;
+use swift_types::ExecutorKind;
 
 impl Write for i64 {
     ghost use Rattle.std.specs.Prelude.{ℤ};
@@ -35,7 +36,7 @@ impl Write for i64 {
 }
 
 impl Write for ExecutorKind {
-    ghost use Rattle.script_grammar.specs.declared.declaration.ExecutorKind.{ExecutorKind};
+    ghost use Rattle.swift_types.specs.declared.executor_kind.ExecutorKind.{ExecutorKind};
     ghost use Rattle.script_printing.specs.Pieces.{pieces_of_kind};
 
     ghost View = { ExecutorKind };

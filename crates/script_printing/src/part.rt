@@ -1,7 +1,7 @@
 //! What is printed.
 
 ghost use Rattle.std.specs.Prelude.{◌≡◌, ◌++◌, ◌∷◌, OnOk, List};
-ghost use Rattle.script_tokens.specs.Pieces.{Piece, Key};
+ghost use Rattle.script_tokens.specs.Pieces.{TokenView, Key};
 ghost use Rattle.script_grammar.specs.Tree.{text_of};
 ghost use Rattle.script_printing.specs.Pieces.{assigned};
 ghost use Rattle.script_printing.specs.Printed.{after, line_of};
@@ -19,7 +19,7 @@ pub(crate) trait Write {
     ghost view: { Self → View };
 
     /// The tokens that say it.
-    ghost pieces: { View → List Piece };
+    ghost pieces: { View → List TokenView };
 
     /// Puts its tokens after what is written, each after a space.
     fn write(&self, out: &mut Vec<u8>) -> Result<(), AllocError>

@@ -6,16 +6,16 @@ ghost use Rattle.script_swift.specs.Names as names;
 ghost use Rattle.script_swift.specs.Outline.{actor_for, actor_in, method_for, method_in};
 
 use crate::expression::say_test;
-use crate::page::Page;
+use crate::page::SwiftPage;
 use crate::program::{SwiftActor, SwiftMethod};
-use crate::scope::{Scope, assigns, ends_with_exit, has_invariant, is_together};
+use crate::scope::{MethodScope, assigns, ends_with_exit, has_invariant, is_together};
 use crate::statement::say_stmts;
 use crate::words::{is_same, method_name, say_member, say_type, say_value, type_name, value_name};
 use script_grammar::{Actor, Decl, Expr, Field, Method, Name};
 use std::alloc::{AllocError, Global};
 
 // The executor of an actor that has one of its own is Swift's.
-fn say_executor(page: &mut Page, executor: &Option<Name>) {
+fn say_executor(page: &mut SwiftPage, executor: &Option<Name>) {
     match executor {
         Some(name) => {
             page.begin();
@@ -27,7 +27,7 @@ fn say_executor(page: &mut Page, executor: &Option<Name>) {
     }
 }
 
-fn say_field(page: &mut Page, field: &Field) {
+fn say_field(page: &mut SwiftPage, field: &Field) {
     page.begin();
     page.say("var ");
     say_value(page, &field.name);
@@ -36,7 +36,7 @@ fn say_field(page: &mut Page, field: &Field) {
     page.end("")
 }
 
-fn say_invariant(page: &mut Page, scope: &Scope<'_>, test: &Expr) {
+fn say_invariant(page: &mut SwiftPage, scope: &MethodScope<'_>, test: &Expr) {
     page.end("");
     page.line("// see 5");
     page.begin();
@@ -48,7 +48,7 @@ fn say_invariant(page: &mut Page, scope: &Scope<'_>, test: &Expr) {
 }
 
 // The test of the invariant of an actor, from one of the same executor.
-fn say_check(page: &mut Page, actor: &Actor, other: &Actor) {
+fn say_check(page: &mut SwiftPage, actor: &Actor, other: &Actor) {
     page.begin();
     if is_same(&actor.name, &other.name) {
         page.say("Run.check(\"");
@@ -63,7 +63,7 @@ fn say_check(page: &mut Page, actor: &Actor, other: &Actor) {
 }
 
 // What is tested at the end of each turn, if anything is.
-fn say_turn_ends(page: &mut Page, decls: &[Decl], actor: &Actor) {
+fn say_turn_ends(page: &mut SwiftPage, decls: &[Decl], actor: &Actor) {
     page.end("");
     page.begin();
     page.open("func turnEnds() {");
@@ -79,7 +79,7 @@ fn say_turn_ends(page: &mut Page, decls: &[Decl], actor: &Actor) {
 
 // What stands before an actor's methods.
 fn members(alloc: Global, decls: &[Decl], actor: &Actor) -> Result<Vec<u8>, AllocError> {
-    let mut page = Page::new(alloc, 1);
+    let mut page = SwiftPage::new(alloc, 1);
     page.begin();
     page.say("static let shared = ");
     say_type(&mut page, &actor.name);
@@ -92,7 +92,7 @@ fn members(alloc: Global, decls: &[Decl], actor: &Actor) -> Result<Vec<u8>, Allo
         say_field(&mut page, field);
     }
     if let Some(test) = &actor.invariant {
-        let scope = Scope::new(alloc, decls, actor, &[], false);
+        let scope = MethodScope::new(alloc, decls, actor, &[], false);
         say_invariant(&mut page, &scope, test);
     }
     if has_invariant(decls, actor) {
@@ -102,7 +102,7 @@ fn members(alloc: Global, decls: &[Decl], actor: &Actor) -> Result<Vec<u8>, Allo
 }
 
 // A parameter that the method sets is a variable.
-fn say_variable(page: &mut Page, param: &Name) {
+fn say_variable(page: &mut SwiftPage, param: &Name) {
     page.begin();
     page.say("var ");
     say_value(page, param);
@@ -119,7 +119,7 @@ fn body(
     method: &Method,
 ) -> Result<Vec<u8>, AllocError> {
     let is_checked = has_invariant(decls, actor);
-    let mut page = Page::new(alloc, 2);
+    let mut page = SwiftPage::new(alloc, 2);
     for param in &method.params {
         if assigns(&method.body, param) {
             say_variable(&mut page, param);
@@ -128,7 +128,7 @@ fn body(
     if is_checked {
         page.line("defer { turnEnds() }");
     }
-    let mut scope = Scope::new(alloc, decls, actor, &method.body, is_checked);
+    let mut scope = MethodScope::new(alloc, decls, actor, &method.body, is_checked);
     say_stmts(&mut page, &mut scope, &method.body);
     if !ends_with_exit(&method.body) {
         page.line("return 0");

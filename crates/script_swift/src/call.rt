@@ -1,14 +1,14 @@
 //! Calls, what is waited for, and tasks that are made.
 
 use crate::expression::{may_throw, say_number, say_tried, say_try};
-use crate::page::Page;
-use crate::scope::{Handle, Scope, find_actor};
+use crate::page::SwiftPage;
+use crate::scope::{Handle, MethodScope, find_actor};
 use crate::words::{say_member, say_method, say_type, say_value};
 use script_grammar::{Add, Awaited, Call, Decl, Expr, Make, Name, Wait};
 use swift_types::Priority;
 
 /// The name of a method, after its actor's.
-pub(crate) fn say_called(page: &mut Page, decls: &[Decl], actor: &Name, method: &Name) {
+pub(crate) fn say_called(page: &mut SwiftPage, decls: &[Decl], actor: &Name, method: &Name) {
     say_type(page, actor);
     page.say(".shared.");
     match find_actor(decls, actor) {
@@ -18,7 +18,7 @@ pub(crate) fn say_called(page: &mut Page, decls: &[Decl], actor: &Name, method: 
 }
 
 // A comma, but not before the first.
-fn say_comma(page: &mut Page, index: usize) {
+fn say_comma(page: &mut SwiftPage, index: usize) {
     match index {
         0 => {}
         _ => page.say(", "),
@@ -26,7 +26,7 @@ fn say_comma(page: &mut Page, index: usize) {
 }
 
 // The name of the argument that was computed at this place.
-fn say_kept(page: &mut Page, index: usize) {
+fn say_kept(page: &mut SwiftPage, index: usize) {
     page.say("m_");
     page.say_count(index)
 }
@@ -41,7 +41,7 @@ fn can_overflow(args: &[Expr]) -> bool {
 }
 
 // A call, with its arguments in place.
-fn say_call(page: &mut Page, scope: &Scope<'_>, call: &Call) {
+fn say_call(page: &mut SwiftPage, scope: &MethodScope<'_>, call: &Call) {
     say_called(page, scope.decls, &call.actor, &call.method);
     page.say("(");
     for (index, arg) in call.args.iter().enumerate() {
@@ -52,7 +52,7 @@ fn say_call(page: &mut Page, scope: &Scope<'_>, call: &Call) {
 }
 
 // A call whose arguments were computed before.
-fn say_kept_call(page: &mut Page, scope: &Scope<'_>, call: &Call) {
+fn say_kept_call(page: &mut SwiftPage, scope: &MethodScope<'_>, call: &Call) {
     say_called(page, scope.decls, &call.actor, &call.method);
     page.say("(");
     for index in 0..call.args.len() {
@@ -63,7 +63,7 @@ fn say_kept_call(page: &mut Page, scope: &Scope<'_>, call: &Call) {
 }
 
 /// What is waited for, after `try await`.
-pub(crate) fn say_awaited(page: &mut Page, scope: &Scope<'_>, awaited: &Awaited) {
+pub(crate) fn say_awaited(page: &mut SwiftPage, scope: &MethodScope<'_>, awaited: &Awaited) {
     match awaited {
         Awaited::Call(call) => say_call(page, scope, call),
         Awaited::Task(name) => {
@@ -79,7 +79,7 @@ pub(crate) fn say_awaited(page: &mut Page, scope: &Scope<'_>, awaited: &Awaited)
 }
 
 /// The same, where arguments that can overflow were computed before.
-pub(crate) fn say_awaited_later(page: &mut Page, scope: &Scope<'_>, awaited: &Awaited) {
+pub(crate) fn say_awaited_later(page: &mut SwiftPage, scope: &MethodScope<'_>, awaited: &Awaited) {
     match awaited {
         Awaited::Call(call) if can_overflow(&call.args) => say_kept_call(page, scope, call),
         _ => say_awaited(page, scope, awaited),
@@ -87,7 +87,7 @@ pub(crate) fn say_awaited_later(page: &mut Page, scope: &Scope<'_>, awaited: &Aw
 }
 
 /// Computes the arguments of what is waited for, where they can overflow: what `else` catches is what the call ends with, and not that.
-pub(crate) fn keep_arguments(page: &mut Page, scope: &Scope<'_>, awaited: &Awaited) {
+pub(crate) fn keep_arguments(page: &mut SwiftPage, scope: &MethodScope<'_>, awaited: &Awaited) {
     match awaited {
         Awaited::Call(call) if can_overflow(&call.args) => {
             for (index, arg) in call.args.iter().enumerate() {
@@ -112,7 +112,7 @@ pub(crate) fn is_kept(wait: &Wait) -> bool {
 }
 
 /// A task: one that the method made, or else a root.
-pub(crate) fn say_task(page: &mut Page, scope: &Scope<'_>, name: &Name) {
+pub(crate) fn say_task(page: &mut SwiftPage, scope: &MethodScope<'_>, name: &Name) {
     match scope.handle(name) {
         Some(Handle::Task) => say_value(page, name),
         _ => {
@@ -133,7 +133,7 @@ pub(crate) fn priority(priority: Priority) -> &'static str {
 }
 
 // An argument that a closure takes along. A literal has to say that it is of 64 bits.
-fn say_argument(page: &mut Page, scope: &Scope<'_>, arg: &Expr) {
+fn say_argument(page: &mut SwiftPage, scope: &MethodScope<'_>, arg: &Expr) {
     if is_literal(arg) {
         page.say("Int64(");
         say_tried(page, scope, arg);
@@ -155,7 +155,7 @@ fn is_literal(expr: &Expr) -> bool {
 }
 
 // What a closure takes along: the arguments, and the number of the task where it is given here.
-fn say_list(page: &mut Page, scope: &Scope<'_>, args: &[Expr], made: &'static str) {
+fn say_list(page: &mut SwiftPage, scope: &MethodScope<'_>, args: &[Expr], made: &'static str) {
     if args.is_empty() && made.is_empty() {
         return;
     }
@@ -174,7 +174,7 @@ fn say_list(page: &mut Page, scope: &Scope<'_>, args: &[Expr], made: &'static st
 }
 
 // The closure of a task, from its actor on.
-fn say_closure(page: &mut Page, scope: &Scope<'_>, call: &Call, made: &'static str) {
+fn say_closure(page: &mut SwiftPage, scope: &MethodScope<'_>, call: &Call, made: &'static str) {
     page.say(" { @Sendable @");
     say_type(page, &call.actor);
     say_list(page, scope, &call.args, made);
@@ -187,7 +187,7 @@ fn say_closure(page: &mut Page, scope: &Scope<'_>, call: &Call, made: &'static s
 }
 
 // The priority that was given, if one was.
-fn say_given(page: &mut Page, given: Option<Priority>) {
+fn say_given(page: &mut SwiftPage, given: Option<Priority>) {
     match given {
         Some(found) => {
             page.say("(priority: ");
@@ -199,7 +199,7 @@ fn say_given(page: &mut Page, given: Option<Priority>) {
 }
 
 /// A task that is made. The line has begun.
-pub(crate) fn say_make(page: &mut Page, scope: &Scope<'_>, make: &Make) {
+pub(crate) fn say_make(page: &mut SwiftPage, scope: &MethodScope<'_>, make: &Make) {
     match make {
         Make::Spawn(call, given) => {
             page.say("Task");
@@ -215,7 +215,7 @@ pub(crate) fn say_make(page: &mut Page, scope: &Scope<'_>, make: &Make) {
 }
 
 /// A child of a group.
-pub(crate) fn say_add(page: &mut Page, scope: &Scope<'_>, add: &Add) {
+pub(crate) fn say_add(page: &mut SwiftPage, scope: &MethodScope<'_>, add: &Add) {
     if add.priority.is_some() {
         page.line("// see 4");
     }
@@ -231,7 +231,7 @@ pub(crate) fn say_add(page: &mut Page, scope: &Scope<'_>, add: &Add) {
 }
 
 // A child that is left out where the group is cancelled. Its number is given before, and then taken back.
-fn say_unless(page: &mut Page, scope: &Scope<'_>, add: &Add) {
+fn say_unless(page: &mut SwiftPage, scope: &MethodScope<'_>, add: &Add) {
     say_try(page, can_overflow(&add.call.args));
     page.open("Run.addUnless { m_task in");
     page.begin();

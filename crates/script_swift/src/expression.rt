@@ -1,7 +1,7 @@
 //! Expressions.
 
-use crate::page::Page;
-use crate::scope::Scope;
+use crate::page::SwiftPage;
+use crate::scope::MethodScope;
 use crate::words::{say_member, say_value};
 use script_grammar::{Expr, Name};
 use swift_types::Operator;
@@ -34,15 +34,15 @@ const ATOM: u8 = 7;
 
 // How an operator is written, what it makes, what it is used on, and how tightly it holds.
 #[derive(Clone, Copy)]
-struct Written {
+struct WrittenExpr {
     sign: &'static str,
     gives: Want,
     takes: Want,
     level: u8,
 }
 
-const fn sign_of(sign: &'static str, gives: Want, takes: Want, level: u8) -> Written {
-    Written {
+const fn sign_of(sign: &'static str, gives: Want, takes: Want, level: u8) -> WrittenExpr {
+    WrittenExpr {
         sign,
         gives,
         takes,
@@ -50,7 +50,7 @@ const fn sign_of(sign: &'static str, gives: Want, takes: Want, level: u8) -> Wri
     }
 }
 
-fn operator(operator: Operator) -> Written {
+fn operator(operator: Operator) -> WrittenExpr {
     match operator {
         Operator::Or => sign_of(" || ", Want::Test, Want::Test, OR),
         Operator::And => sign_of(" && ", Want::Test, Want::Test, AND),
@@ -107,14 +107,14 @@ fn frame(expr: &Expr, want: Want, level: u8) -> (&'static str, &'static str) {
     }
 }
 
-fn say_name(page: &mut Page, scope: &Scope<'_>, name: &Name) {
+fn say_name(page: &mut SwiftPage, scope: &MethodScope<'_>, name: &Name) {
     if scope.is_assumed(name) {
         page.say("other.");
     }
     say_value(page, name)
 }
 
-fn say_expr(page: &mut Page, scope: &Scope<'_>, expr: &Expr, want: Want, level: u8) {
+fn say_expr(page: &mut SwiftPage, scope: &MethodScope<'_>, expr: &Expr, want: Want, level: u8) {
     let (before, after) = frame(expr, want, level);
     page.say(before);
     match expr {
@@ -192,19 +192,19 @@ pub(crate) fn may_throw(expr: &Expr) -> bool {
 }
 
 /// A number, after `try` where it can overflow.
-pub(crate) fn say_number(page: &mut Page, scope: &Scope<'_>, expr: &Expr) {
+pub(crate) fn say_number(page: &mut SwiftPage, scope: &MethodScope<'_>, expr: &Expr) {
     say_try(page, may_throw(expr));
     say_expr(page, scope, expr, Want::Number, ANY)
 }
 
 /// A test, after `try` where it can overflow.
-pub(crate) fn say_test(page: &mut Page, scope: &Scope<'_>, expr: &Expr) {
+pub(crate) fn say_test(page: &mut SwiftPage, scope: &MethodScope<'_>, expr: &Expr) {
     say_try(page, may_throw(expr));
     say_expr(page, scope, expr, Want::Test, ANY)
 }
 
 /// `try`, or nothing.
-pub(crate) fn say_try(page: &mut Page, may_throw: bool) {
+pub(crate) fn say_try(page: &mut SwiftPage, may_throw: bool) {
     match may_throw {
         true => page.say("try "),
         false => {}
@@ -212,6 +212,6 @@ pub(crate) fn say_try(page: &mut Page, may_throw: bool) {
 }
 
 /// A number, where a `try` stands before it.
-pub(crate) fn say_tried(page: &mut Page, scope: &Scope<'_>, expr: &Expr) {
+pub(crate) fn say_tried(page: &mut SwiftPage, scope: &MethodScope<'_>, expr: &Expr) {
     say_expr(page, scope, expr, Want::Number, ANY)
 }

@@ -3,15 +3,15 @@
 use std::alloc::{AllocError, Global};
 
 /// Lines that are being written. Where memory runs out they end there, and `into_text` says so: who writes them asks at the end alone.
-pub(crate) struct Page {
+pub(crate) struct SwiftPage {
     text: Vec<u8>,
     depth: usize,
     is_cut: bool,
 }
 
-impl Drop for Page {
+impl Drop for SwiftPage {
     fn drop(self) {
-        let Page {
+        let SwiftPage {
             text,
             depth: _,
             is_cut: _,
@@ -20,10 +20,10 @@ impl Drop for Page {
     }
 }
 
-impl Page {
+impl SwiftPage {
     /// No lines, to be indented by so many levels.
-    pub(crate) fn new(alloc: Global, depth: usize) -> Page {
-        Page {
+    pub(crate) fn new(alloc: Global, depth: usize) -> SwiftPage {
+        SwiftPage {
             text: Vec::new(alloc),
             depth,
             is_cut: false,
@@ -32,7 +32,7 @@ impl Page {
 
     /// The lines, if there was memory for all of them.
     pub(crate) fn into_text(self) -> Result<Vec<u8>, AllocError> {
-        let Page {
+        let SwiftPage {
             text,
             depth: _,
             is_cut,

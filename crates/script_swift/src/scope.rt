@@ -15,20 +15,20 @@ pub(crate) enum Handle {
 
 // A name that a method gave to a task or a group.
 #[derive(Clone, Copy)]
-struct Known<'a> {
+struct KnownHandle<'a> {
     name: &'a Name,
     handle: Handle,
 }
 
 /// What a place has that a block hides or adds to: how many tasks and groups have names, and the actor of an `assume`.
 #[derive(Clone, Copy)]
-pub(crate) struct Outside<'a> {
+pub(crate) struct OutsideBlock<'a> {
     count: usize,
     assumed: Option<&'a Actor>,
 }
 
 /// Where a statement of a method stands.
-pub(crate) struct Scope<'a> {
+pub(crate) struct MethodScope<'a> {
     /// The whole script.
     pub decls: &'a [Decl],
     /// The actor whose method it is.
@@ -39,12 +39,12 @@ pub(crate) struct Scope<'a> {
     pub assumed: Option<&'a Actor>,
     /// Whether an invariant is tested at the end of each turn.
     pub is_checked: bool,
-    handles: Vec<Known<'a>>,
+    handles: Vec<KnownHandle<'a>>,
 }
 
-impl Drop for Scope<'_> {
+impl Drop for MethodScope<'_> {
     fn drop(self) {
-        let Scope {
+        let MethodScope {
             decls: _,
             actor: _,
             body: _,
@@ -56,7 +56,7 @@ impl Drop for Scope<'_> {
     }
 }
 
-impl<'a> Scope<'a> {
+impl<'a> MethodScope<'a> {
     /// The beginning of a method.
     pub(crate) fn new(
         alloc: Global,
@@ -64,8 +64,8 @@ impl<'a> Scope<'a> {
         actor: &'a Actor,
         body: &'a [Stmt],
         is_checked: bool,
-    ) -> Scope<'a> {
-        Scope {
+    ) -> MethodScope<'a> {
+        MethodScope {
             decls,
             actor,
             body,
@@ -76,22 +76,22 @@ impl<'a> Scope<'a> {
     }
 
     /// What the place after a block that begins here has.
-    pub(crate) fn outside(&self) -> Outside<'a> {
-        Outside {
+    pub(crate) fn outside(&self) -> OutsideBlock<'a> {
+        OutsideBlock {
             count: self.handles.len(),
             assumed: self.assumed,
         }
     }
 
     /// Leaves a block.
-    pub(crate) fn leave(&mut self, outside: Outside<'a>) {
+    pub(crate) fn leave(&mut self, outside: OutsideBlock<'a>) {
         self.handles.truncate(outside.count);
         self.assumed = outside.assumed;
     }
 
     /// Names a task or a group.
     pub(crate) fn know(&mut self, name: &'a Name, handle: Handle) -> Result<(), AllocError> {
-        self.handles.push(Known { name, handle })?;
+        self.handles.push(KnownHandle { name, handle })?;
         Ok(())
     }
 

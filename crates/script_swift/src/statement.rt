@@ -4,23 +4,23 @@ use crate::call::{
     is_kept, keep_arguments, say_add, say_awaited, say_awaited_later, say_make, say_task,
 };
 use crate::expression::{may_throw, say_number, say_test, say_tried};
-use crate::page::Page;
+use crate::page::SwiftPage;
 use crate::scope::{
-    Handle, Scope, assigns, ends_with_exit, find_actor, has_closure, is_together, returns,
+    Handle, MethodScope, assigns, ends_with_exit, find_actor, has_closure, is_together, returns,
 };
 use crate::words::{is_same, say_member, say_type, say_value};
 use script_grammar::{Action, Expr, Head, Make, Name, Stmt, Value, Wait};
 
 // What becomes of what is waited for.
 #[derive(Clone, Copy)]
-enum Target<'a> {
+enum AssignTarget<'a> {
     None,
     New(&'a Name),
     Known(&'a Name),
 }
 
 /// The end of a turn, where an invariant is tested there.
-pub(crate) fn say_turn_end(page: &mut Page, scope: &Scope<'_>) {
+pub(crate) fn say_turn_end(page: &mut SwiftPage, scope: &MethodScope<'_>) {
     match scope.is_checked {
         true => page.line("turnEnds()"),
         false => {}
@@ -28,7 +28,7 @@ pub(crate) fn say_turn_end(page: &mut Page, scope: &Scope<'_>) {
 }
 
 // A field or a variable that is set.
-fn say_target(page: &mut Page, scope: &Scope<'_>, name: &Name) {
+fn say_target(page: &mut SwiftPage, scope: &MethodScope<'_>, name: &Name) {
     if scope.is_assumed(name) {
         page.say("other.");
     }
@@ -36,7 +36,7 @@ fn say_target(page: &mut Page, scope: &Scope<'_>, name: &Name) {
 }
 
 // A variable that is made: `var` where the method sets it again.
-fn say_new(page: &mut Page, scope: &Scope<'_>, name: &Name) {
+fn say_new(page: &mut SwiftPage, scope: &MethodScope<'_>, name: &Name) {
     page.say(if assigns(scope.body, name) {
         "var "
     } else {
@@ -45,7 +45,7 @@ fn say_new(page: &mut Page, scope: &Scope<'_>, name: &Name) {
     say_value(page, name)
 }
 
-fn say_let(page: &mut Page, scope: &Scope<'_>, name: &Name, value: &Expr) {
+fn say_let(page: &mut SwiftPage, scope: &MethodScope<'_>, name: &Name, value: &Expr) {
     page.begin();
     say_new(page, scope, name);
     page.say(": Int64 = ");
@@ -61,7 +61,7 @@ fn is_itself(name: &Name, value: &Expr) -> bool {
     }
 }
 
-fn say_assign(page: &mut Page, scope: &Scope<'_>, name: &Name, value: &Expr) {
+fn say_assign(page: &mut SwiftPage, scope: &MethodScope<'_>, name: &Name, value: &Expr) {
     page.begin();
     if is_itself(name, value) {
         page.say("_");
@@ -74,22 +74,22 @@ fn say_assign(page: &mut Page, scope: &Scope<'_>, name: &Name, value: &Expr) {
 }
 
 // What a wait gives is set.
-fn say_set(page: &mut Page, scope: &Scope<'_>, target: Target<'_>) {
+fn say_set(page: &mut SwiftPage, scope: &MethodScope<'_>, target: AssignTarget<'_>) {
     page.begin();
     match target {
-        Target::None => page.say("_"),
-        Target::New(name) | Target::Known(name) => say_target(page, scope, name),
+        AssignTarget::None => page.say("_"),
+        AssignTarget::New(name) | AssignTarget::Known(name) => say_target(page, scope, name),
     }
     page.say(" = ")
 }
 
-fn say_wait(page: &mut Page, scope: &Scope<'_>, target: Target<'_>, wait: &Wait) {
+fn say_wait(page: &mut SwiftPage, scope: &MethodScope<'_>, target: AssignTarget<'_>, wait: &Wait) {
     say_turn_end(page, scope);
     match &wait.other {
         Some(other) => say_caught(page, scope, target, wait, other),
         None => {
             match target {
-                Target::New(name) => {
+                AssignTarget::New(name) => {
                     page.begin();
                     say_new(page, scope, name);
                     page.say(" = ");
@@ -104,8 +104,14 @@ fn say_wait(page: &mut Page, scope: &Scope<'_>, target: Target<'_>, wait: &Wait)
 }
 
 // A wait with an `else`.
-fn say_caught(page: &mut Page, scope: &Scope<'_>, target: Target<'_>, wait: &Wait, other: &Expr) {
-    if let Target::New(name) = target {
+fn say_caught(
+    page: &mut SwiftPage,
+    scope: &MethodScope<'_>,
+    target: AssignTarget<'_>,
+    wait: &Wait,
+    other: &Expr,
+) {
+    if let AssignTarget::New(name) = target {
         page.begin();
         say_new(page, scope, name);
         page.end(": Int64");
@@ -121,7 +127,13 @@ fn say_caught(page: &mut Page, scope: &Scope<'_>, target: Target<'_>, wait: &Wai
     }
 }
 
-fn say_do(page: &mut Page, scope: &Scope<'_>, target: Target<'_>, wait: &Wait, other: &Expr) {
+fn say_do(
+    page: &mut SwiftPage,
+    scope: &MethodScope<'_>,
+    target: AssignTarget<'_>,
+    wait: &Wait,
+    other: &Expr,
+) {
     page.begin();
     page.open("do {");
     say_set(page, scope, target);
@@ -130,18 +142,18 @@ fn say_do(page: &mut Page, scope: &Scope<'_>, target: Target<'_>, wait: &Wait, o
     page.end("");
     page.close_open("} catch {");
     match target {
-        Target::None => {
+        AssignTarget::None => {
             page.begin();
             page.say("_ = ");
             say_number(page, scope, other);
             page.end("");
         }
-        Target::New(name) | Target::Known(name) => say_assign(page, scope, name, other),
+        AssignTarget::New(name) | AssignTarget::Known(name) => say_assign(page, scope, name, other),
     }
     page.close("}")
 }
 
-fn say_task_let(page: &mut Page, scope: &Scope<'_>, name: &Name, make: &Make) {
+fn say_task_let(page: &mut SwiftPage, scope: &MethodScope<'_>, name: &Name, make: &Make) {
     say_make_note(page, make);
     page.begin();
     page.say("let ");
@@ -150,14 +162,14 @@ fn say_task_let(page: &mut Page, scope: &Scope<'_>, name: &Name, make: &Make) {
     say_make(page, scope, make)
 }
 
-fn say_make_note(page: &mut Page, make: &Make) {
+fn say_make_note(page: &mut SwiftPage, make: &Make) {
     match make {
         Make::Spawn(_, None) => page.line("// see 3"),
         _ => {}
     }
 }
 
-fn say_cancel(page: &mut Page, scope: &Scope<'_>, name: &Name) {
+fn say_cancel(page: &mut SwiftPage, scope: &MethodScope<'_>, name: &Name) {
     page.begin();
     match scope.handle(name) {
         Some(Handle::Group) => {
@@ -172,26 +184,37 @@ fn say_cancel(page: &mut Page, scope: &Scope<'_>, name: &Name) {
 }
 
 // A word, a number after it, and the end of the line.
-fn say_after(page: &mut Page, scope: &Scope<'_>, before: &str, value: &Expr, after: &str) {
+fn say_after(
+    page: &mut SwiftPage,
+    scope: &MethodScope<'_>,
+    before: &str,
+    value: &Expr,
+    after: &str,
+) {
     page.begin();
     page.say(before);
     say_number(page, scope, value);
     page.end(after)
 }
 
-fn say_action<'a>(page: &mut Page, scope: &mut Scope<'a>, action: &'a Action) {
+fn say_action<'a>(page: &mut SwiftPage, scope: &mut MethodScope<'a>, action: &'a Action) {
     match action {
         Action::Let(name, Value::Expr(value)) => say_let(page, scope, name, value),
-        Action::Let(name, Value::Await(wait)) => say_wait(page, scope, Target::New(name), wait),
+        Action::Let(name, Value::Await(wait)) => say_wait(
+            page,
+            scope,
+            AssignTarget::New(name),
+            wait,
+        ),
         Action::LetTask(name, make) => {
             say_task_let(page, scope, name, make);
             page.need(scope.know(name, Handle::Task))
         }
         Action::Assign(name, Value::Expr(value)) => say_assign(page, scope, name, value),
         Action::Assign(name, Value::Await(wait)) => {
-            say_wait(page, scope, Target::Known(name), wait)
+            say_wait(page, scope, AssignTarget::Known(name), wait)
         }
-        Action::Await(wait) => say_wait(page, scope, Target::None, wait),
+        Action::Await(wait) => say_wait(page, scope, AssignTarget::None, wait),
         Action::Make(make) => {
             say_make_note(page, make);
             page.begin();
@@ -210,7 +233,7 @@ fn say_action<'a>(page: &mut Page, scope: &mut Scope<'a>, action: &'a Action) {
 }
 
 // A test, and the brace after it.
-fn say_headed(page: &mut Page, scope: &Scope<'_>, word: &str, test: &Expr) {
+fn say_headed(page: &mut SwiftPage, scope: &MethodScope<'_>, word: &str, test: &Expr) {
     page.begin();
     page.say(word);
     say_test(page, scope, test);
@@ -218,7 +241,13 @@ fn say_headed(page: &mut Page, scope: &Scope<'_>, word: &str, test: &Expr) {
 }
 
 // The line of a `bind`.
-fn say_bind(page: &mut Page, scope: &Scope<'_>, local: &Name, value: &Expr, is_left: bool) {
+fn say_bind(
+    page: &mut SwiftPage,
+    scope: &MethodScope<'_>,
+    local: &Name,
+    value: &Expr,
+    is_left: bool,
+) {
     page.begin();
     if is_left {
         page.say("if let m_result = ");
@@ -236,7 +265,7 @@ fn say_bind(page: &mut Page, scope: &Scope<'_>, local: &Name, value: &Expr, is_l
 }
 
 // The line of a group. Swift takes it for a race where a closure in its block awaits the group, so it gets a copy, which is the same group.
-fn say_group_head(page: &mut Page, name: &Name, is_copied: bool) {
+fn say_group_head(page: &mut SwiftPage, name: &Name, is_copied: bool) {
     page.begin();
     page.say("try await withThrowingTaskGroup(of: Int64.self) { ");
     if is_copied {
@@ -253,7 +282,7 @@ fn say_group_head(page: &mut Page, name: &Name, is_copied: bool) {
 }
 
 // The end of a `bind`, which hands on what its block returns.
-fn say_bound(page: &mut Page, is_left: bool, block: &[Stmt]) {
+fn say_bound(page: &mut SwiftPage, is_left: bool, block: &[Stmt]) {
     if !is_left {
         return page.close("}");
     }
@@ -266,7 +295,7 @@ fn say_bound(page: &mut Page, is_left: bool, block: &[Stmt]) {
 }
 
 // The line of an `assume`, after which the fields are another actor's. False where it is of another executor: then its block never runs.
-fn say_assume<'a>(page: &mut Page, scope: &mut Scope<'a>, name: &Name) -> bool {
+fn say_assume<'a>(page: &mut SwiftPage, scope: &mut MethodScope<'a>, name: &Name) -> bool {
     match find_actor(scope.decls, name) {
         Some(actor) if is_together(actor, scope.actor) => {
             page.begin();
@@ -284,7 +313,12 @@ fn say_assume<'a>(page: &mut Page, scope: &mut Scope<'a>, name: &Name) -> bool {
 }
 
 // What stands before a block. False where the block never runs.
-fn begin_block<'a>(page: &mut Page, scope: &mut Scope<'a>, head: &'a Head, block: &[Stmt]) -> bool {
+fn begin_block<'a>(
+    page: &mut SwiftPage,
+    scope: &mut MethodScope<'a>,
+    head: &'a Head,
+    block: &[Stmt],
+) -> bool {
     match head {
         Head::If(test) => say_headed(page, scope, "if ", test),
         Head::While(test) => say_headed(page, scope, "while ", test),
@@ -299,7 +333,7 @@ fn begin_block<'a>(page: &mut Page, scope: &mut Scope<'a>, head: &'a Head, block
 }
 
 // What stands after a block.
-fn end_block(page: &mut Page, scope: &Scope<'_>, head: &Head, block: &[Stmt]) {
+fn end_block(page: &mut SwiftPage, scope: &MethodScope<'_>, head: &Head, block: &[Stmt]) {
     match head {
         Head::Bind(_, _) => say_bound(page, returns(block), block),
         Head::Group(_) => {
@@ -313,7 +347,7 @@ fn end_block(page: &mut Page, scope: &Scope<'_>, head: &Head, block: &[Stmt]) {
 }
 
 #[cycle(statement)]
-fn say_stmt<'a>(page: &mut Page, scope: &mut Scope<'a>, stmt: &'a Stmt) {
+fn say_stmt<'a>(page: &mut SwiftPage, scope: &mut MethodScope<'a>, stmt: &'a Stmt) {
     match stmt {
         Stmt::Do(action) => say_action(page, scope, action),
         Stmt::Block(head, block) => say_block(page, scope, head, block),
@@ -328,7 +362,12 @@ fn say_stmt<'a>(page: &mut Page, scope: &mut Scope<'a>, stmt: &'a Stmt) {
 }
 
 #[cycle(statement)]
-fn say_block<'a>(page: &mut Page, scope: &mut Scope<'a>, head: &'a Head, block: &'a [Stmt]) {
+fn say_block<'a>(
+    page: &mut SwiftPage,
+    scope: &mut MethodScope<'a>,
+    head: &'a Head,
+    block: &'a [Stmt],
+) {
     let outside = scope.outside();
     if begin_block(page, scope, head, block) {
         say_stmts(page, scope, block);
@@ -339,7 +378,7 @@ fn say_block<'a>(page: &mut Page, scope: &mut Scope<'a>, head: &'a Head, block: 
 
 // Statements whose names end with them.
 #[cycle(statement)]
-fn say_inner<'a>(page: &mut Page, scope: &mut Scope<'a>, block: &'a [Stmt]) {
+fn say_inner<'a>(page: &mut SwiftPage, scope: &mut MethodScope<'a>, block: &'a [Stmt]) {
     let outside = scope.outside();
     say_stmts(page, scope, block);
     scope.leave(outside)
@@ -347,7 +386,7 @@ fn say_inner<'a>(page: &mut Page, scope: &mut Scope<'a>, block: &'a [Stmt]) {
 
 /// Statements, one after the other.
 #[cycle(statement)]
-pub(crate) fn say_stmts<'a>(page: &mut Page, scope: &mut Scope<'a>, stmts: &'a [Stmt]) {
+pub(crate) fn say_stmts<'a>(page: &mut SwiftPage, scope: &mut MethodScope<'a>, stmts: &'a [Stmt]) {
     for stmt in stmts {
         say_stmt(page, scope, stmt);
     }

@@ -6,20 +6,21 @@ ghost use Rattle.script_swift.specs.Outline.{actor_in, actors_for, outline, want
 
 use crate::actor::swift_actor;
 use crate::call::{priority, say_called};
-use crate::page::Page;
+use crate::page::SwiftPage;
 use crate::prelude::{NOTES, PRELUDE};
 use crate::program::{SwiftActor, SwiftProgram};
 use crate::words::{say_member, say_type, say_value};
-use script_grammar::{Actor, Decl, Executor, ExecutorKind, Local, Name, Root};
+use script_grammar::{Actor, Decl, Executor, Local, Name, Root};
 use std::alloc::{AllocError, Global};
+use swift_types::ExecutorKind;
 
-fn say_lines(page: &mut Page, lines: &[&str]) {
+fn say_lines(page: &mut SwiftPage, lines: &[&str]) {
     for line in lines {
         page.end(line);
     }
 }
 
-fn say_executor(page: &mut Page, executor: &Executor) {
+fn say_executor(page: &mut SwiftPage, executor: &Executor) {
     page.begin();
     page.say("static let ");
     say_member(page, &executor.name);
@@ -36,7 +37,7 @@ fn say_executor(page: &mut Page, executor: &Executor) {
     page.end(")")
 }
 
-fn say_executors(page: &mut Page, decls: &[Decl]) {
+fn say_executors(page: &mut SwiftPage, decls: &[Decl]) {
     page.begin();
     page.open("enum Executors {");
     for decl in decls {
@@ -48,7 +49,7 @@ fn say_executors(page: &mut Page, decls: &[Decl]) {
     page.end("")
 }
 
-fn say_local(page: &mut Page, local: &Local) {
+fn say_local(page: &mut SwiftPage, local: &Local) {
     page.begin();
     page.say("@TaskLocal static var ");
     say_member(page, &local.name);
@@ -57,7 +58,7 @@ fn say_local(page: &mut Page, local: &Local) {
     page.end("")
 }
 
-fn say_locals(page: &mut Page, decls: &[Decl]) {
+fn say_locals(page: &mut SwiftPage, decls: &[Decl]) {
     page.begin();
     page.open("enum Local {");
     for decl in decls {
@@ -71,14 +72,14 @@ fn say_locals(page: &mut Page, decls: &[Decl]) {
 
 // What stands before the actors.
 fn head(alloc: Global, decls: &[Decl]) -> Result<Vec<u8>, AllocError> {
-    let mut page = Page::new(alloc, 0);
+    let mut page = SwiftPage::new(alloc, 0);
     say_lines(&mut page, &NOTES);
     say_executors(&mut page, decls);
     say_locals(&mut page, decls);
     page.into_text()
 }
 
-fn say_root(page: &mut Page, decls: &[Decl], root: &Root) {
+fn say_root(page: &mut SwiftPage, decls: &[Decl], root: &Root) {
     page.begin();
     page.say("static let ");
     say_member(page, &root.name);
@@ -103,7 +104,7 @@ fn say_root(page: &mut Page, decls: &[Decl], root: &Root) {
     page.close("}")
 }
 
-fn say_roots(page: &mut Page, decls: &[Decl]) {
+fn say_roots(page: &mut SwiftPage, decls: &[Decl]) {
     page.begin();
     page.open("enum Root {");
     for decl in decls {
@@ -116,14 +117,14 @@ fn say_roots(page: &mut Page, decls: &[Decl]) {
 }
 
 // The executor of an actor is kept from its jobs until all roots are there.
-fn say_hold(page: &mut Page, actor: &Actor) {
+fn say_hold(page: &mut SwiftPage, actor: &Actor) {
     page.begin();
     page.say("Task.detached(priority: .high) { @Sendable @");
     say_type(page, &actor.name);
     page.end(" in Run.hold() }")
 }
 
-fn say_fields(page: &mut Page, actor: &Actor) {
+fn say_fields(page: &mut SwiftPage, actor: &Actor) {
     for field in &actor.fields {
         page.begin();
         page.say("await print(\"");
@@ -138,7 +139,7 @@ fn say_fields(page: &mut Page, actor: &Actor) {
     }
 }
 
-fn say_start(page: &mut Page, decls: &[Decl]) {
+fn say_start(page: &mut SwiftPage, decls: &[Decl]) {
     page.line("Run.gate.enter()");
     for decl in decls {
         if let Decl::Actor(actor) = decl {
@@ -156,7 +157,7 @@ fn say_start(page: &mut Page, decls: &[Decl]) {
     page.line("Run.gate.leave()")
 }
 
-fn say_end(page: &mut Page, decls: &[Decl]) {
+fn say_end(page: &mut SwiftPage, decls: &[Decl]) {
     page.line("let areValues = Run.report()");
     page.begin();
     page.open("Task.detached {");
@@ -170,7 +171,7 @@ fn say_end(page: &mut Page, decls: &[Decl]) {
     page.line("dispatchMain()")
 }
 
-fn say_main(page: &mut Page, decls: &[Decl]) {
+fn say_main(page: &mut SwiftPage, decls: &[Decl]) {
     page.begin();
     page.open("@main struct Main {");
     page.begin();
@@ -184,7 +185,7 @@ fn say_main(page: &mut Page, decls: &[Decl]) {
 
 // What stands after the actors.
 fn tail(alloc: Global, decls: &[Decl]) -> Result<Vec<u8>, AllocError> {
-    let mut page = Page::new(alloc, 0);
+    let mut page = SwiftPage::new(alloc, 0);
     say_roots(&mut page, decls);
     say_main(&mut page, decls);
     say_lines(&mut page, &PRELUDE);

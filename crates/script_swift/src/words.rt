@@ -5,7 +5,7 @@ ghost use Rattle.std.specs.List.{list_any};
 ghost use Rattle.script_grammar.specs.Tree.{text_of, view_actor};
 ghost use Rattle.script_swift.specs.Names as names;
 
-use crate::page::Page;
+use crate::page::SwiftPage;
 use script_grammar::{Actor, Field, Name};
 use std::alloc::{AllocError, Global};
 
@@ -211,7 +211,7 @@ pub(crate) fn is_same(left: &Name, right: &Name) -> bool
 }
 
 /// An actor, by its Swift name.
-pub(crate) fn say_type(page: &mut Page, name: &Name) {
+pub(crate) fn say_type(page: &mut SwiftPage, name: &Name) {
     if !is_plain_type(&name.text) {
         page.say("T_");
     }
@@ -219,7 +219,7 @@ pub(crate) fn say_type(page: &mut Page, name: &Name) {
 }
 
 /// A field, a parameter or a variable, by its Swift name.
-pub(crate) fn say_value(page: &mut Page, name: &Name) {
+pub(crate) fn say_value(page: &mut SwiftPage, name: &Name) {
     if !is_plain_value(&name.text) {
         page.say("v_");
     }
@@ -227,7 +227,7 @@ pub(crate) fn say_value(page: &mut Page, name: &Name) {
 }
 
 /// An executor, a task local or a root, after the word for these: by its name, or else `v_` and its name.
-pub(crate) fn say_member(page: &mut Page, name: &Name) {
+pub(crate) fn say_member(page: &mut SwiftPage, name: &Name) {
     if begins_with(b'v', &name.text) || is_value_word(&name.text) {
         page.say("v_");
     }
@@ -235,7 +235,7 @@ pub(crate) fn say_member(page: &mut Page, name: &Name) {
 }
 
 /// A method, by its Swift name.
-pub(crate) fn say_method(page: &mut Page, actor: &Actor, name: &Name) {
+pub(crate) fn say_method(page: &mut SwiftPage, actor: &Actor, name: &Name) {
     if !is_plain_value(&name.text) || has_field(actor, name) {
         page.say("m_");
     }

@@ -1,17 +1,17 @@
 -- A text has one list of pieces, and one list of their lines.
 use Rattle.std.proofs.Common.{◌≡◌, ℕ, List, ◌∷◌, Option, Some, None, refl, sym, ap, subst, ◌∙◌}
-use Rattle.script_tokens.specs.Pieces.{Piece}
+use Rattle.script_tokens.specs.Pieces.{TokenView}
 use Rattle.script_tokens.specs.Lexes.{Lexes, at_end, separated, next_is}
 use Rattle.script_tokens.specs.Lines.{line_of, BeginOn, none_left, none_here, one_here}
 
 -- what a text whose front is known reads as
-same_rest : (x y : Option Piece × List ℕ) → x ≡ y → x.1 ≡ y.1
-same_rest x y e = ap (λ (p : Option Piece × List ℕ). p.1) e
+same_rest : (x y : Option TokenView × List ℕ) → x ≡ y → x.1 ≡ y.1
+same_rest x y e = ap (λ (p : Option TokenView × List ℕ). p.1) e
 
-same_first : (x y : Option Piece × List ℕ) → x ≡ y → x.0 ≡ y.0
-same_first x y e = ap (λ (p : Option Piece × List ℕ). p.0) e
+same_first : (x y : Option TokenView × List ℕ) → x ≡ y → x.0 ≡ y.0
+same_first x y e = ap (λ (p : Option TokenView × List ℕ). p.0) e
 
-pub unique : {bs : List ℕ} {a : List Piece} (b : List Piece) → Lexes bs a → Lexes bs b → a ≡ b
+pub unique : {bs : List ℕ} {a : List TokenView} (b : List TokenView) → Lexes bs a → Lexes bs b → a ≡ b
 unique b at_end at_end = refl
 unique b (separated {b = c} {bs = bs} {rest = rest} {ps = ls} e d) (separated {b = c'} {bs = bs'} {rest = rest'} {ps = ls'} e' d') =
     let same : rest' ≡ rest = same_rest (None, rest') (None, rest) (sym e' ∙ e) in

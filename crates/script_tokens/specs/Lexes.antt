@@ -6,7 +6,7 @@ use Rattle.script_tokens.specs.declared.mark.Mark.{Mark}
 use Rattle.script_tokens.specs.declared.mark.Mark.TheVariants as mark
 use Rattle.script_tokens.specs.Bytes.{is_space, is_digit, is_letter, is_name_byte, is_no_line_feed}
 use Rattle.script_tokens.specs.Keywords.{keyword_of}
-use Rattle.script_tokens.specs.Pieces.{Piece, Num, Huge, Name, Key, Sign, Stray}
+use Rattle.script_tokens.specs.Pieces.{TokenView, Num, Huge, Name, Key, Sign, Stray}
 
 -- the number that decimal digits spell, after the digits of a number
 abbrev pub decimal_behind : ℕ → List ℕ → ℕ
@@ -18,15 +18,15 @@ abbrev pub decimal : List ℕ → ℕ
 decimal ds = decimal_behind 0 ds
 
 -- a number of digits, if it is below 2^63
-unfoldable pub number_of : List ℕ → Piece
+unfoldable pub number_of : List ℕ → TokenView
 number_of ds = if nat_lt (decimal ds) (2 ^ 63) then Num (pos (decimal ds)) else Huge
 
 -- a word is a keyword or a name
-abbrev pub word_as : Option Keyword → List ℕ → Piece
+abbrev pub word_as : Option Keyword → List ℕ → TokenView
 word_as (Some k) w = Key k
 word_as None w = Name w
 
-unfoldable pub word_of : List ℕ → Piece
+unfoldable pub word_of : List ℕ → TokenView
 word_of w = word_as (keyword_of w) w
 
 -- the mark of two bytes
@@ -61,21 +61,21 @@ single_of b =
     else None
 
 -- a byte that stands alone is a mark, or begins no token
-abbrev pub lone : Option Mark → Piece
+abbrev pub lone : Option Mark → TokenView
 lone None = Stray
 lone (Some m) = Sign m
 
 -- two bytes where they are a mark or begin a comment, which ends before the LF, and else one
-abbrev pub paired : Option Mark → ℕ → ℕ → List ℕ → Option Piece × List ℕ
+abbrev pub paired : Option Mark → ℕ → ℕ → List ℕ → Option TokenView × List ℕ
 paired (Some m) a b bs = (Some (Sign m), bs)
 paired None a b bs = if a == 47 && b == 47 then (None, drop (prefix_len is_no_line_feed bs) bs) else (Some (lone (single_of a)), b ∷ bs)
 
-unfoldable pub mark_at : ℕ → List ℕ → Option Piece × List ℕ
+unfoldable pub mark_at : ℕ → List ℕ → Option TokenView × List ℕ
 mark_at a [] = (Some (lone (single_of a)), [])
 mark_at a (b ∷ bs) = paired (pair_of a b) a b bs
 
 -- What stands at the front, a token or what separates tokens, and what is after it. The longest one is taken.
-unfoldable pub front_at : ℕ → List ℕ → Option Piece × List ℕ
+unfoldable pub front_at : ℕ → List ℕ → Option TokenView × List ℕ
 front_at b bs =
     if is_space b then (None, bs)
     else if is_digit b then (Some (number_of (take_while is_digit (b ∷ bs))), drop (prefix_len is_digit (b ∷ bs)) (b ∷ bs))
@@ -83,12 +83,12 @@ front_at b bs =
     else mark_at b bs
 
 -- what stands at the front of a text, and what is after it
-abbrev pub front_of : List ℕ → Option Piece × List ℕ
+abbrev pub front_of : List ℕ → Option TokenView × List ℕ
 front_of [] = (None, [])
 front_of (b ∷ bs) = front_at b bs
 
 -- Which pieces a text consists of, in order: white space and comments separate them, and the longest one is taken.
-pub data Lexes : List ℕ → List Piece → Type 0 where
+pub data Lexes : List ℕ → List TokenView → Type 0 where
   at_end : Lexes [] []
-  separated : {b : ℕ} {bs rest : List ℕ} {ps : List Piece} → front_at b bs ≡ (None, rest) → Lexes rest ps → Lexes (b ∷ bs) ps
-  next_is : {b : ℕ} {bs rest : List ℕ} {p : Piece} {ps : List Piece} → front_at b bs ≡ (Some p, rest) → Lexes rest ps → Lexes (b ∷ bs) (p ∷ ps)
+  separated : {b : ℕ} {bs rest : List ℕ} {ps : List TokenView} → front_at b bs ≡ (None, rest) → Lexes rest ps → Lexes (b ∷ bs) ps
+  next_is : {b : ℕ} {bs rest : List ℕ} {p : TokenView} {ps : List TokenView} → front_at b bs ≡ (Some p, rest) → Lexes rest ps → Lexes (b ∷ bs) (p ∷ ps)

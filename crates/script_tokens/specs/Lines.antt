@@ -2,7 +2,7 @@
 use Rattle.std.specs.Prelude.{◌≡◌, ℕ, ◌+◌, ◌-◌, Bool, ◌==◌, min, if◌then◌else◌, List, [], ◌∷◌, Some, None}
 use Rattle.std.specs.List.{count_by}
 use Rattle.script_tokens.specs.Lexes.{front_at}
-use Rattle.script_tokens.specs.Pieces.{Piece}
+use Rattle.script_tokens.specs.Pieces.{TokenView}
 
 abbrev pub is_line_feed : ℕ → Bool
 is_line_feed b = b == 10
@@ -28,4 +28,4 @@ line_of text rest = line_after (line_feeds text - line_feeds rest)
 pub data BeginOn (text : List ℕ) : List ℕ → List ℕ → Type 0 where
   none_left : BeginOn text [] []
   none_here : {b : ℕ} {bs rest ls : List ℕ} → front_at b bs ≡ (None, rest) → BeginOn text rest ls → BeginOn text (b ∷ bs) ls
-  one_here : {b : ℕ} {bs rest ls : List ℕ} {p : Piece} → front_at b bs ≡ (Some p, rest) → BeginOn text rest ls → BeginOn text (b ∷ bs) (line_of text (b ∷ bs) ∷ ls)
+  one_here : {b : ℕ} {bs rest ls : List ℕ} {p : TokenView} → front_at b bs ≡ (Some p, rest) → BeginOn text rest ls → BeginOn text (b ∷ bs) (line_of text (b ∷ bs) ∷ ls)

@@ -8,16 +8,16 @@ use Rattle.script_tokens.specs.declared.token.Token.{Token}
 use Rattle.script_tokens.specs.declared.token.Token.TheVariants as tokens
 
 -- a token without where its name lies in memory
-pub data Piece : Type 0 where
-  Num : ℤ → Piece
-  Huge : Piece
-  Name : List ℕ → Piece
-  Key : Keyword → Piece
-  Sign : Mark → Piece
-  Stray : Piece
+pub data TokenView : Type 0 where
+  Num : ℤ → TokenView
+  Huge : TokenView
+  Name : List ℕ → TokenView
+  Key : Keyword → TokenView
+  Sign : Mark → TokenView
+  Stray : TokenView
 
 -- what a token says
-abbrev pub piece : Token → Piece
+abbrev pub piece : Token → TokenView
 piece (tokens.Num n) = Num n
 piece tokens.Huge = Huge
 piece (tokens.Name w) = Name w.items
@@ -26,7 +26,7 @@ piece (tokens.Sign m) = Sign m
 piece tokens.Stray = Stray
 
 -- what a token says whose name still lies in the text
-abbrev pub lexeme_piece : Lexeme → Piece
+abbrev pub lexeme_piece : Lexeme → TokenView
 lexeme_piece (lexemes.Num n) = Num n
 lexeme_piece lexemes.Huge = Huge
 lexeme_piece (lexemes.Name w) = Name w.now

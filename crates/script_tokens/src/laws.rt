@@ -3,11 +3,11 @@
 ghost use Rattle.std.specs.Prelude.{◌≡◌, ℕ, List};
 ghost use Rattle.script_tokens.specs.Lexes.{Lexes};
 ghost use Rattle.script_tokens.specs.Lines.{BeginOn};
-ghost use Rattle.script_tokens.specs.Pieces.{Piece};
+ghost use Rattle.script_tokens.specs.Pieces.{TokenView};
 
 /// A law: a text consists of one list of tokens. It does nothing.
 pub fn one_reading()
-    ensures { (text : List ℕ) (a b : List Piece) → Lexes text a → Lexes text b → a ≡ b }
+    ensures { (text : List ℕ) (a b : List TokenView) → Lexes text a → Lexes text b → a ≡ b }
 {}
 
 /// A law: the tokens of a text begin on one list of lines. It does nothing.

@@ -27,7 +27,7 @@ pub(crate) enum Lexeme<'a> {
 
 /// The token that says the same, with a copy of its name. `Err` says that there was no memory for the copy. Linear in
 /// the bytes of the name.
-pub(crate) fn owned(alloc: Global, lexeme: Lexeme<'_>) -> Result<Token, AllocError>
+pub(crate) fn to_token(alloc: Global, lexeme: Lexeme<'_>) -> Result<Token, AllocError>
     ensures { IfOk result (λ t. piece t ≡ lexeme_piece lexeme.entry) }
 {
     match lexeme {

@@ -3,7 +3,7 @@
 ghost use Rattle.std.specs.Prelude.{◌≡◌, ◌++◌, ◌∷◌, [], map, OnOk};
 ghost use Rattle.script_tokens.specs.Pieces.{piece, lexeme_piece};
 
-use crate::lexeme::{Lexeme, owned};
+use crate::lexeme::{Lexeme, to_token};
 use crate::token::Token;
 use std::alloc::{AllocError, Global};
 
@@ -26,7 +26,7 @@ impl Tokens {
         ensures lines { OnOk result (self.new.lines.items ≡ self.old.lines.items ++ self.old.last_line ∷ []) }
         ensures last_line { self.new.last_line ≡ self.old.last_line }
     {
-        self.tokens.push(owned(alloc, lexeme)?)?;
+        self.tokens.push(to_token(alloc, lexeme)?)?;
         self.lines.push(self.last_line)?;
         Ok(())
     }

@@ -10,15 +10,15 @@ use Rattle.script_waits.specs.Lists.{Has, AreListsOf}
 use Rattle.script_waits.specs.Marks.{IsMarked, count_of, CallsTo, IsClosed, Reaching, AreNone}
 use Rattle.script_waits.specs.Marks.CallsTo.{itself, by}
 use Rattle.script_waits.specs.First.{Calls, WaitsInPlace, LeadsToWait, AreMarks, IsFirstFrom}
-use Rattle.script_waits.specs.declared.first.Edge.{Edge}
-use Rattle.script_waits.specs.declared.first.Wait.{Wait}
-use Rattle.script_waits.specs.declared.lists.Lists.{Lists}
+use Rattle.script_waits.specs.declared.first.CallEdge.{CallEdge}
+use Rattle.script_waits.specs.declared.first.RootWait.{RootWait}
+use Rattle.script_waits.specs.declared.lists.MethodLists.{MethodLists}
 use Rattle.script_waits.specs.declared.marks.Marks.{Marks}
 
-sooner : (edges : List Edge) (waits : List Wait) (p q m : ℕ) → p ≤ q → LeadsToWait edges waits q m → LeadsToWait edges waits p m
+sooner : (edges : List CallEdge) (waits : List RootWait) (p q m : ℕ) → p ≤ q → LeadsToWait edges waits q m → LeadsToWait edges waits p m
 sooner edges waits p q m l w = record { at = w.at; leads = w.leads; later = w.later; wait = w.wait; not_before = let n = w.not_before in omega (arith, l, n) }
 
-module _ (edges : List Edge) (waits : List Wait) (methods count : ℕ) (callers waiting : Lists)
+module _ (edges : List CallEdge) (waits : List RootWait) (methods count : ℕ) (callers waiting : MethodLists)
     (c : AreListsOf (Calls edges) methods callers) (w : AreListsOf (WaitsInPlace waits count) (count + 1) waiting) where
   leads_by_calls : {m k : ℕ} → CallsTo callers m k → Leads edges m k
   leads_by_calls itself = here
@@ -70,7 +70,7 @@ module _ (edges : List Edge) (waits : List Wait) (methods count : ℕ) (callers 
       let l = are.sound k h in
       are.all m (record { at = l.at; leads = on (c.only k m has) l.leads; later = l.later; wait = l.wait; not_before = l.not_before })
 
-module _ (edges : List Edge) (waits : List Wait) (roots : List ℕ) (methods : ℕ) where
+module _ (edges : List CallEdge) (waits : List RootWait) (roots : List ℕ) (methods : ℕ) where
   -- a root waits for itself or for a later one where its method is marked
   waits_where_marked : (p m : ℕ) (s : Marks) → AreMarks edges waits methods p s → slice_get roots p ≡ Some m → IsMarked s m
       → WaitsForLater edges waits roots p

@@ -7,7 +7,7 @@ use Rattle.std.specs.List.{Contains}
 use Rattle.script_waits.specs.Lists.{Has}
 use Rattle.script_waits.specs.Marks.{IsMarked, IsPending, count_of, MarkingAll, CallsTo, IsClosed, IsClosedButPending, ArePendingMarked, Spreading, Reaching}
 use Rattle.script_waits.specs.Marks.CallsTo.{itself, by}
-use Rattle.script_waits.specs.declared.lists.Lists.{Lists}
+use Rattle.script_waits.specs.declared.lists.MethodLists.{MethodLists}
 use Rattle.script_waits.specs.declared.marks.Marks.{Marks}
 
 -- what is marked is a method
@@ -18,14 +18,14 @@ marked_within xs m h = elim (cases_lt m (length xs)) [
 ]
 
 -- Some of what leads to a marked method was marked, and what is still to do is pending.
-pub record IsSpreading (callers : Lists) (old new : Marks) : Type 0 where
+pub record IsSpreading (callers : MethodLists) (old new : Marks) : Type 0 where
   pub count : count_of new ≡ count_of old
   pub kept : (m : ℕ) → IsMarked old m → IsMarked new m
   pub only : (m : ℕ) → IsMarked new m → (k : ℕ) × IsMarked old k × CallsTo callers m k
   pub closed : IsClosedButPending callers new
   pub pending : ArePendingMarked new
 
-pub spreading_begins : (callers : Lists) (s : Marks) → IsClosedButPending callers s → ArePendingMarked s → IsSpreading callers s s
+pub spreading_begins : (callers : MethodLists) (s : Marks) → IsClosedButPending callers s → ArePendingMarked s → IsSpreading callers s s
 spreading_begins callers s closed pending = record {
   count = refl;
   kept = λ m h. h;
@@ -35,7 +35,7 @@ spreading_begins callers s closed pending = record {
 }
 
 -- `was` are the marks before a method was taken from the pending ones, `taken` those after it, `new` those once its callers were marked
-module _ (callers : Lists) (old was taken new : Marks) (t : ℕ) (s : IsSpreading callers old was)
+module _ (callers : MethodLists) (old was taken new : Marks) (t : ℕ) (s : IsSpreading callers old was)
     (same : taken.marked.items ≡ was.marked.items) (pending : was.pending.items ≡ taken.pending.items ++ t ∷ [])
     (all : MarkingAll (Has callers t) taken new) where
   to_taken : (m : ℕ) → IsMarked was m → IsMarked taken m
@@ -74,7 +74,7 @@ module _ (callers : Lists) (old was taken new : Marks) (t : ℕ) (s : IsSpreadin
     | inr x ↦ x
   ]
 
-pub spreading_goes_on : (callers : Lists) (old was taken new : Marks) (t : ℕ) → IsSpreading callers old was
+pub spreading_goes_on : (callers : MethodLists) (old was taken new : Marks) (t : ℕ) → IsSpreading callers old was
     → taken.marked.items ≡ was.marked.items → was.pending.items ≡ taken.pending.items ++ t ∷ []
     → MarkingAll (Has callers t) taken new → IsSpreading callers old new
 spreading_goes_on callers old was taken new t s same pending all = record {
@@ -86,12 +86,12 @@ spreading_goes_on callers old was taken new t s same pending all = record {
 }
 
 -- the method that is taken is one of those that can be marked
-pub taken_within : (callers : Lists) (old was taken : Marks) (t : ℕ) → IsSpreading callers old was
+pub taken_within : (callers : MethodLists) (old was taken : Marks) (t : ℕ) → IsSpreading callers old was
     → was.pending.items ≡ taken.pending.items ++ t ∷ [] → t < count_of was
 taken_within callers old was taken t s pending =
     marked_within was.marked.items t (s.pending t (subst (λ ps. Contains ps t) (sym pending) (Contains-push taken.pending.items t)))
 
-module _ (callers : Lists) (is_in : ℕ → Type 0) (old some new : Marks) (marked : MarkingAll is_in old some) where
+module _ (callers : MethodLists) (is_in : ℕ → Type 0) (old some new : Marks) (marked : MarkingAll is_in old some) where
   -- what leads to a marked method was marked before
   closed_under : IsClosed callers old → {m k : ℕ} → CallsTo callers m k → IsMarked old k → IsMarked old m
   closed_under closed itself h = h

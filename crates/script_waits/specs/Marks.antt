@@ -1,7 +1,7 @@
 -- What is marked, and what is still pending. No public clause names these.
 use Rattle.std.specs.Prelude.{◌≡◌, ℕ, ◌+◌, ◌≤◌, ◌⊎◌, true, false, not, length, slice_index_or, count_by, vec_len, Contains}
 use Rattle.script_waits.specs.Lists.{Has}
-use Rattle.script_waits.specs.declared.lists.Lists.{Lists}
+use Rattle.script_waits.specs.declared.lists.MethodLists.{MethodLists}
 use Rattle.script_waits.specs.declared.marks.Marks.{Marks}
 
 -- A method is marked.
@@ -36,16 +36,16 @@ pub record MarkingAll (is_in : ℕ → Type 0) (old new : Marks) : Type 0 where
   pub all : (m : ℕ) → is_in m → IsMarked new m
 
 -- From one method one comes to another by lists of callers.
-pub data CallsTo (callers : Lists) : ℕ → ℕ → Type 0 where
+pub data CallsTo (callers : MethodLists) : ℕ → ℕ → Type 0 where
   itself : {m : ℕ} → CallsTo callers m m
   by : {m k n : ℕ} → Has callers k m → CallsTo callers k n → CallsTo callers m n
 
 -- The callers of a marked method are marked, or it is pending.
-abbrev pub IsClosedButPending : Lists → Marks → Type 0
+abbrev pub IsClosedButPending : MethodLists → Marks → Type 0
 IsClosedButPending callers s = (k m : ℕ) → Has callers k m → IsMarked s k → IsMarked s m ⊎ IsPending s k
 
 -- The callers of marked methods are marked.
-abbrev pub IsClosed : Lists → Marks → Type 0
+abbrev pub IsClosed : MethodLists → Marks → Type 0
 IsClosed callers s = (k m : ℕ) → Has callers k m → IsMarked s k → IsMarked s m
 
 -- Pending methods are marked.
@@ -53,7 +53,7 @@ abbrev pub ArePendingMarked : Marks → Type 0
 ArePendingMarked s = (m : ℕ) → IsPending s m → IsMarked s m
 
 -- What leads to a marked method was marked, and nothing else.
-pub record Spreading (callers : Lists) (old new : Marks) : Type 0 where
+pub record Spreading (callers : MethodLists) (old new : Marks) : Type 0 where
   pub count : count_of new ≡ count_of old
   pub kept : (m : ℕ) → IsMarked old m → IsMarked new m
   pub only : (m : ℕ) → IsMarked new m → (k : ℕ) × IsMarked old k × CallsTo callers m k
@@ -61,7 +61,7 @@ pub record Spreading (callers : Lists) (old new : Marks) : Type 0 where
   pub none_pending : vec_len new.pending ≡ 0
 
 -- What leads to a method of a set was marked, and nothing else.
-pub record Reaching (callers : Lists) (is_in : ℕ → Type 0) (old new : Marks) : Type 0 where
+pub record Reaching (callers : MethodLists) (is_in : ℕ → Type 0) (old new : Marks) : Type 0 where
   pub count : count_of new ≡ count_of old
   pub kept : (m : ℕ) → IsMarked old m → IsMarked new m
   pub all : (m : ℕ) → is_in m → IsMarked new m

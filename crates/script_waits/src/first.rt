@@ -5,13 +5,13 @@ ghost use Rattle.script_waits.specs.Waits.{WaitsForLater, NoneBefore, NoneWaits}
 ghost use Rattle.script_waits.specs.Lists.{AreListsOf};
 ghost use Rattle.script_waits.specs.First.{Calls, WaitsInPlace};
 
-use crate::lists::Lists;
+use crate::lists::MethodLists;
 use crate::marks::Marks;
 use std::alloc::{AllocError, Global};
 
 /// An edge from a method to one that it calls, spawns, detaches or adds.
 #[derive(Clone, Copy)]
-pub struct Edge {
+pub struct CallEdge {
     /// The number of the method that does so.
     pub from: u32,
     /// The number of the other method.
@@ -20,7 +20,7 @@ pub struct Edge {
 
 /// A wait of a method for a root.
 #[derive(Clone, Copy)]
-pub struct Wait {
+pub struct RootWait {
     /// The number of the method that waits.
     pub method: u32,
     /// The place of the root, which may be past the last one.
@@ -28,11 +28,11 @@ pub struct Wait {
 }
 
 /// For each method, those that lead to it by one edge.
-fn callers(alloc: Global, methods: usize, edges: &[Edge]) -> Result<Lists, AllocError>
+fn callers(alloc: Global, methods: usize, edges: &[CallEdge]) -> Result<MethodLists, AllocError>
     requires { All (λ e. e.to < methods) edges.now }
     ensures { IfOk result (AreListsOf (Calls edges.now) methods) }
 {
-    let mut callers = Lists::new(alloc, methods)?;
+    let mut callers = MethodLists::new(alloc, methods)?;
     for edge in edges {
         callers.push(edge.to as usize, edge.from)?;
     }
@@ -40,10 +40,10 @@ fn callers(alloc: Global, methods: usize, edges: &[Edge]) -> Result<Lists, Alloc
 }
 
 /// For each root, the methods that wait for it, and in a last list those that wait for a root past the last one.
-fn waiting(alloc: Global, roots: &[u32], waits: &[Wait]) -> Result<Lists, AllocError>
+fn waiting(alloc: Global, roots: &[u32], waits: &[RootWait]) -> Result<MethodLists, AllocError>
     ensures { IfOk result (AreListsOf (WaitsInPlace waits.now (length roots.now)) (length roots.now + 1)) }
 {
-    let mut waiting = Lists::new(alloc, roots.len() + 1)?;
+    let mut waiting = MethodLists::new(alloc, roots.len() + 1)?;
     for wait in waits {
         waiting.push(roots.len().min(wait.root as usize), wait.method)?;
     }
@@ -60,8 +60,8 @@ fn waiting(alloc: Global, roots: &[u32], waits: &[Wait]) -> Result<Lists, AllocE
 pub fn first_waiting(
     alloc: Global,
     methods: usize,
-    edges: &[Edge],
-    waits: &[Wait],
+    edges: &[CallEdge],
+    waits: &[RootWait],
     roots: &[u32],
 ) -> Result<Option<usize>, AllocError>
     requires from { All (λ e. e.from < methods) edges.now }

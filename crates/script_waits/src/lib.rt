@@ -11,4 +11,4 @@ mod lists;
 // The methods that lead to a wait.
 mod marks;
 
-pub use first::{Edge, Wait, first_waiting};
+pub use first::{CallEdge, RootWait, first_waiting};

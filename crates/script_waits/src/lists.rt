@@ -7,7 +7,7 @@ use std::alloc::{AllocError, Global};
 
 /// A method in a list, and the place of the entry before it in the same list.
 #[derive(Clone, Copy)]
-pub(crate) struct Entry {
+pub(crate) struct ListEntry {
     pub method: u32,
     pub before: Option<usize>,
 }
@@ -15,18 +15,18 @@ pub(crate) struct Entry {
 /// Lists of methods, by number. The entries of all of them lie in one array: `last` has the place of each list's last
 /// entry, from which one comes to the others.
 #[derive(Drop)]
-pub(crate) struct Lists {
+pub(crate) struct MethodLists {
     pub last: Vec<Option<usize>>,
-    pub entries: Vec<Entry>,
+    pub entries: Vec<ListEntry>,
 }
 
-impl Lists {
+impl MethodLists {
     /// This many lists, all empty.
     pub(crate) fn new(alloc: Global, count: usize) -> Result<Self, AllocError>
         ensures count { IfOk result (λ lists. length lists.last.items ≡ count) }
         ensures empty { IfOk result AreEmpty }
     {
-        Ok(Lists {
+        Ok(MethodLists {
             last: vec![in alloc; None; count]?,
             entries: Vec::new(alloc),
         })
@@ -40,7 +40,7 @@ impl Lists {
     {
         let place = self.entries.len();
         let before = self.last[list];
-        self.entries.push(Entry { method, before })?;
+        self.entries.push(ListEntry { method, before })?;
         self.last[list] = Some(place);
         Ok(())
     }

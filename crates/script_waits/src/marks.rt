@@ -4,7 +4,7 @@ ghost use Rattle.std.specs.Prelude.{◌≡◌, ℕ, ◌<◌, ◌↔◌, length, 
 ghost use Rattle.script_waits.specs.Lists.{Has, AreOrderly};
 ghost use Rattle.script_waits.specs.Marks.{IsMarked, count_of, MarkingAll, IsClosed, IsClosedButPending, ArePendingMarked, Spreading, Reaching, AreNone};
 
-use crate::lists::Lists;
+use crate::lists::MethodLists;
 use std::alloc::{AllocError, Global};
 
 /// The methods that were found to lead to a wait, and those of them whose callers are still to be marked.
@@ -46,7 +46,7 @@ impl Marks {
     }
 
     /// Marks the methods of a list.
-    fn mark_list(&mut self, lists: &Lists, list: usize) -> Result<(), AllocError>
+    fn mark_list(&mut self, lists: &MethodLists, list: usize) -> Result<(), AllocError>
         requires orderly { AreOrderly lists.now }
         requires list { list < length lists.now.last.items }
         requires methods { (m : ℕ) → Has lists.now list m → m < count_of self.old }
@@ -62,7 +62,7 @@ impl Marks {
     }
 
     /// Marks what leads to a pending method, until none is pending.
-    fn spread(&mut self, callers: &Lists) -> Result<(), AllocError>
+    fn spread(&mut self, callers: &MethodLists) -> Result<(), AllocError>
         requires orderly { AreOrderly callers.now }
         requires count { length callers.now.last.items ≡ count_of self.old }
         requires methods { (k m : ℕ) → Has callers.now k m → m < count_of self.old }
@@ -79,9 +79,9 @@ impl Marks {
     /// Marks the methods of a list, and what leads to one of them.
     pub(crate) fn reach(
         &mut self,
-        lists: &Lists,
+        lists: &MethodLists,
         list: usize,
-        callers: &Lists,
+        callers: &MethodLists,
     ) -> Result<(), AllocError>
         requires orderly { AreOrderly lists.now }
         requires list { list < length lists.now.last.items }

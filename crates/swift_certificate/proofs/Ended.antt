@@ -15,23 +15,23 @@ use Rattle.swift_events.specs.Relations.{opened_by, is_closed}
 use Rattle.swift_journal.specs.Records.{RecordView}
 use Rattle.swift_journal.specs.Checkpoints.{CheckpointView}
 use Rattle.swift_history.specs.Histories.{IsLegal, ReportView, no_checkpoint, records_of}
-use Rattle.swift_certificate.specs.declared.playing.Place.{Place}
-use Rattle.swift_certificate.specs.declared.playing.Turns.{Turns}
+use Rattle.swift_certificate.specs.declared.playing.ExecutorProgress.{ExecutorProgress}
+use Rattle.swift_certificate.specs.declared.playing.TurnsMode.{TurnsMode}
 use Rattle.swift_certificate.specs.declared.replay.Replay.{Replay}
 use Rattle.swift_certificate.specs.ReplayInside.{AreEndedAt, EndsAt, IsReplay}
 use Rattle.swift_certificate.proofs.Blocks.{same_one}
 use Rattle.swift_certificate.proofs.Known.{fields_end, there}
 
 -- the executors before a number were followed to their ends
-abbrev pub EndsBelow : Turns → ScriptView → List Place → ReportView → ℕ → Type 0
-EndsBelow turns script rows report n = (e : ℕ) (row : Place) (journal : List RecordView) (checkpoint : CheckpointView) (fields : List (List ℤ)) → e < n
+abbrev pub EndsBelow : TurnsMode → ScriptView → List ExecutorProgress → ReportView → ℕ → Type 0
+EndsBelow turns script rows report n = (e : ℕ) (row : ExecutorProgress) (journal : List RecordView) (checkpoint : CheckpointView) (fields : List (List ℤ)) → e < n
     → slice_get rows e ≡ Some row → slice_get report.journals e ≡ Some journal → slice_get report.checkpoints e ≡ Some checkpoint → slice_get report.fields e ≡ Some fields
     → EndsAt turns script e row journal checkpoint fields
 
 below : (e n : ℕ) → e < n + 1 → e ≢ n → e < n
 below e n lt ne = grind arith
 
-pub ended_next : (turns : Turns) (script : ScriptView) (rows : List Place) (report : ReportView) (n : ℕ) (row : Place) (journal : List RecordView) (checkpoint : CheckpointView) (fields : List (List ℤ)) → EndsBelow turns script rows report n
+pub ended_next : (turns : TurnsMode) (script : ScriptView) (rows : List ExecutorProgress) (report : ReportView) (n : ℕ) (row : ExecutorProgress) (journal : List RecordView) (checkpoint : CheckpointView) (fields : List (List ℤ)) → EndsBelow turns script rows report n
     → slice_get rows n ≡ Some row → slice_get report.journals n ≡ Some journal → slice_get report.checkpoints n ≡ Some checkpoint → slice_get report.fields n ≡ Some fields → EndsAt turns script n row journal checkpoint fields
     → EndsBelow turns script rows report (n + 1)
 ended_next turns script rows report n row journal checkpoint fields before at at_j at_c at_f is e row' journal' checkpoint' fields' lt here here_j here_c here_f = elim (cases_eq e n) [
@@ -41,7 +41,7 @@ ended_next turns script rows report n row journal checkpoint fields before at at
       let k : checkpoint ≡ checkpoint' = same_one checkpoint checkpoint' (sym at_c ∙ ap (slice_get report.checkpoints) (sym same) ∙ here_c) in
       let f : fields ≡ fields' = same_one fields fields' (sym at_f ∙ ap (slice_get report.fields) (sym same) ∙ here_f) in
       subst (λ (i : ℕ). EndsAt turns script i row' journal' checkpoint' fields') (sym same)
-      (subst (λ (x : Place). EndsAt turns script n x journal' checkpoint' fields') r
+      (subst (λ (x : ExecutorProgress). EndsAt turns script n x journal' checkpoint' fields') r
       (subst (λ (x : List RecordView). EndsAt turns script n row x checkpoint' fields') j
       (subst (λ (x : CheckpointView). EndsAt turns script n row journal x fields') k
       (subst (λ (x : List (List ℤ)). EndsAt turns script n row journal checkpoint x) f is))))
@@ -58,7 +58,7 @@ pub legal_is : (script : ScriptView) (report : ReportView) (x : Replay) → IsRe
     → AreEndedAt x.turns script x.rows.items report → IsLegal script report
 legal_is script report x is log roots many each closed ended =
     let f = is.followed in
-    let row_at : (e : ℕ) → e < executor_count script → (row : Place) × (slice_get x.rows.items e ≡ Some row) = λ e lt. there x.rows.items e (subst (λ (n : ℕ). e < n) (sym ended.rows_many) lt) in
+    let row_at : (e : ℕ) → e < executor_count script → (row : ExecutorProgress) × (slice_get x.rows.items e ≡ Some row) = λ e lt. there x.rows.items e (subst (λ (n : ℕ). e < n) (sym ended.rows_many) lt) in
     let journal_of : (e : ℕ) → e < executor_count script → (j : List RecordView) × (slice_get report.journals e ≡ Some j) = λ e lt. there report.journals e (subst (λ (n : ℕ). e < n) (sym ended.many.0) lt) in
     let checkpoint_of : (e : ℕ) → e < executor_count script → (c : CheckpointView) × (slice_get report.checkpoints e ≡ Some c) = λ e lt. there report.checkpoints e (subst (λ (n : ℕ). e < n) (sym ended.many.1) lt) in
     let fields_at : (e : ℕ) → e < executor_count script → (fs : List (List ℤ)) × (slice_get report.fields e ≡ Some fs) = λ e lt. there report.fields e (subst (λ (n : ℕ). e < n) (sym ended.many.2) lt) in
@@ -109,7 +109,7 @@ seen_at v xs i x lt is = slice_get-map v xs i ∙ ap (option_map v) (at_place xs
 before_end : (e n m k : ℕ) → e < m → m ≡ k → k ≤ n → e < n
 before_end e n m k lt is past = omega (arith, lt, is, past)
 
-pub all_ended : (turns : Turns) (script : ScriptView) (rows : List Place) (report : ReportView) (n : ℕ) → executor_count script ≤ n → EndsBelow turns script rows report n → length rows ≡ executor_count script
+pub all_ended : (turns : TurnsMode) (script : ScriptView) (rows : List ExecutorProgress) (report : ReportView) (n : ℕ) → executor_count script ≤ n → EndsBelow turns script rows report n → length rows ≡ executor_count script
     → length report.journals ≡ executor_count script → length report.checkpoints ≡ executor_count script → length report.fields ≡ executor_count script → AreEndedAt turns script rows report
 all_ended turns script rows report n past each rows_many journals checkpoints fields = record {
   rows_many = rows_many;

@@ -6,14 +6,15 @@ use Rattle.std.proofs.lemmas.Bool.Decides.{nat_tests}
 use Rattle.std.proofs.lemmas.Option.{none-some}
 use Rattle.std.proofs.lemmas.List.{reverse-append}
 use Rattle.swift_types.specs.declared.id.TaskId.{TaskId}
-use Rattle.swift_queue.specs.Job.{JobIs}
+use Rattle.swift_job.specs.Job.{JobView}
 use Rattle.swift_turn.specs.Body.{BodyView}
 use Rattle.std.specs.List.{AllByRecursion}
 use Rattle.swift_script.specs.Scripts.{ScriptView}
-use Rattle.swift_tasks.specs.Books.{IsJobOf, job_view}
+use Rattle.swift_tasks.specs.Books.{IsJobOf}
+use Rattle.swift_history.specs.Jobs.{job_facts}
 use Rattle.swift_history.specs.Histories.{taken, with_jobs}
-use Rattle.swift_history.specs.TurnEnds.{JobView}
-use Rattle.swift_certificate.specs.declared.waiting.Ready.{Ready}
+use Rattle.swift_history.specs.TurnEnds.{JobFacts}
+use Rattle.swift_certificate.specs.declared.waiting.NextTurn.{NextTurn}
 use Rattle.swift_certificate.proofs.Blocks.{same_one}
 use Rattle.swift_certificate.specs.ReplayInside.{AreGiven, AreOf, given_at, given_view, with_given}
 
@@ -24,21 +25,21 @@ pub unequal : (a b : ℕ) → a ≢ b → (a == b) ≡ false
 unequal a b ne = grind (arith, nat_tests)
 
 -- a place more, where nothing is
-pub given_none : (tasks : List (Option Ready)) (u : ℕ) → given_at (tasks ++ None ∷ []) u ≡ given_at tasks u
+pub given_none : (tasks : List (Option NextTurn)) (u : ℕ) → given_at (tasks ++ None ∷ []) u ≡ given_at tasks u
 given_none [] zero = refl
 given_none [] (suc u) = refl
 given_none (x ∷ tasks) zero = refl
 given_none (x ∷ tasks) (suc u) = given_none tasks u
 
 -- what is there when one place is set
-pub given_set : (tasks : List (Option Ready)) (t : ℕ) (g : Option Ready) (u : ℕ) → t < length tasks → given_at (set tasks t g) u ≡ with_given t g (given_at tasks) u
+pub given_set : (tasks : List (Option NextTurn)) (t : ℕ) (g : Option NextTurn) (u : ℕ) → t < length tasks → given_at (set tasks t g) u ≡ with_given t g (given_at tasks) u
 given_set tasks t g u lt = elim (cases_eq u t) [
   | inl e ↦ ap (given_at (set tasks t g)) e ∙ get_or-set_same tasks t g None lt ∙ sym (ap (λ b. if b then g else given_at tasks u) (equal u t e))
   | inr ne ↦ get_or-set_other tasks t u g None ne ∙ sym (ap (λ b. if b then g else given_at tasks u) (unequal u t ne))
 ]
 
 -- a job is put to the others
-pub given_put : (seen : ℕ → Option JobView) (tasks tasks' : List (Option Ready)) (t : ℕ) (g : Ready)
+pub given_put : (seen : ℕ → Option JobFacts) (tasks tasks' : List (Option NextTurn)) (t : ℕ) (g : NextTurn)
     → AreGiven seen tasks → ((u : ℕ) → given_at tasks' u ≡ with_given t (Some g) (given_at tasks) u)
     → AreGiven (λ u. if u == t then Some (given_view t g) else seen u) tasks'
 given_put seen tasks tasks' t g given put u h is = elim (cases_eq u t) [
@@ -52,7 +53,7 @@ given_put seen tasks tasks' t g given put u h is = elim (cases_eq u t) [
 ]
 
 -- a job is taken
-pub given_taken : (seen : ℕ → Option JobView) (tasks tasks' : List (Option Ready)) (t : ℕ)
+pub given_taken : (seen : ℕ → Option JobFacts) (tasks tasks' : List (Option NextTurn)) (t : ℕ)
     → AreGiven seen tasks → ((u : ℕ) → given_at tasks' u ≡ with_given t None (given_at tasks) u)
     → AreGiven (taken t seen) tasks'
 given_taken seen tasks tasks' t given took u h is = elim (cases_eq u t) [
@@ -65,7 +66,7 @@ given_taken seen tasks tasks' t given took u h is = elim (cases_eq u t) [
 ]
 
 -- a job that is taken and put back is there
-pub given_back : (seen : ℕ → Option JobView) (tasks between tasks' : List (Option Ready)) (t : ℕ) (g : Ready)
+pub given_back : (seen : ℕ → Option JobFacts) (tasks between tasks' : List (Option NextTurn)) (t : ℕ) (g : NextTurn)
     → AreGiven seen tasks → given_at tasks t ≡ Some g → ((u : ℕ) → given_at between u ≡ with_given t None (given_at tasks) u) → ((u : ℕ) → given_at tasks' u ≡ with_given t (Some g) (given_at between) u)
     → AreGiven seen tasks'
 given_back seen tasks between tasks' t g given was took put u h is = elim (cases_eq u t) [
@@ -87,33 +88,33 @@ twice [] = refl
 twice (x ∷ xs) = ap reverse (reverse-append (x ∷ []) xs) ∙ last_first (reverse xs) x ∙ ap (λ ys. x ∷ ys) (twice xs)
 
 -- the next of some jobs is put to the others
-pub given_step : (now : ℕ → Option JobView) (tasks tasks' : List (Option Ready)) (js : List (JobIs BodyView)) (j : JobIs BodyView) (t : TaskId) (g : Ready)
+pub given_step : (now : ℕ → Option JobFacts) (tasks tasks' : List (Option NextTurn)) (js : List (JobView BodyView)) (j : JobView BodyView) (t : TaskId) (g : NextTurn)
     → t ≡ j.task → g ≡ record { number = j.number; resume = j.resume; body = j.body }
     → AreGiven now tasks → ((u : ℕ) → given_at tasks' u ≡ with_given t.0 (Some g) (given_at tasks) u)
-    → (now' : ℕ → Option JobView) × AreGiven now' tasks' × (with_jobs (map job_view (reverse js)) now' ≡ with_jobs (map job_view (reverse (js ++ j ∷ []))) now)
+    → (now' : ℕ → Option JobFacts) × AreGiven now' tasks' × (with_jobs (map job_facts (reverse js)) now' ≡ with_jobs (map job_facts (reverse (js ++ j ∷ []))) now)
 given_step now tasks tasks' js j t g at is given put = (
   (λ u. if u == t.0 then Some (given_view t.0 g) else now u),
   given_put now tasks tasks' t.0 g given put,
-  (ap (λ (x : TaskId). with_jobs (map job_view (reverse js)) (λ u. if u == x.0 then Some (given_view x.0 g) else now u)) at
-      ∙ ap (λ (h : Ready). with_jobs (map job_view (reverse js)) (λ u. if u == j.task.0 then Some (given_view j.task.0 h) else now u)) is
-      ∙ sym (ap (λ (xs : List (JobIs BodyView)). with_jobs (map job_view xs) now) (last_first js j))),
+  (ap (λ (x : TaskId). with_jobs (map job_facts (reverse js)) (λ u. if u == x.0 then Some (given_view x.0 g) else now u)) at
+      ∙ ap (λ (h : NextTurn). with_jobs (map job_facts (reverse js)) (λ u. if u == j.task.0 then Some (given_view j.task.0 h) else now u)) is
+      ∙ sym (ap (λ (xs : List (JobView BodyView)). with_jobs (map job_facts xs) now) (last_first js j))),
 )
 
 -- the bodies of jobs
 
-pub of_put : (script : ScriptView) (tasks tasks' : List (Option Ready)) (t : ℕ) (g : Ready)
+pub of_put : (script : ScriptView) (tasks tasks' : List (Option NextTurn)) (t : ℕ) (g : NextTurn)
     → AreOf script tasks → ((u : ℕ) → given_at tasks' u ≡ with_given t (Some g) (given_at tasks) u) → g.body.script ≡ script → AreOf script tasks'
 of_put script tasks tasks' t g all put own u h is = elim (cases_eq u t) [
   | inl e ↦
       let here : with_given t (Some g) (given_at tasks) u ≡ Some g = ap (λ b. if b then Some g else given_at tasks u) (equal u t e) in
       let same : g ≡ h = same_one g h (sym here ∙ sym (put u) ∙ is) in
-      ap (λ (x : Ready). x.body.script) (sym same) ∙ own
+      ap (λ (x : NextTurn). x.body.script) (sym same) ∙ own
   | inr ne ↦
       let here = ap (λ b. if b then Some g else given_at tasks u) (unequal u t ne) in
       all u h (sym here ∙ sym (put u) ∙ is)
 ]
 
-pub of_taken : (script : ScriptView) (tasks tasks' : List (Option Ready)) (t : ℕ) → AreOf script tasks → ((u : ℕ) → given_at tasks' u ≡ with_given t None (given_at tasks) u) → AreOf script tasks'
+pub of_taken : (script : ScriptView) (tasks tasks' : List (Option NextTurn)) (t : ℕ) → AreOf script tasks → ((u : ℕ) → given_at tasks' u ≡ with_given t None (given_at tasks) u) → AreOf script tasks'
 of_taken script tasks tasks' t all took u h is = elim (cases_eq u t) [
   | inl e ↦
       let here = ap (λ b. if b then None else given_at tasks u) (equal u t e) in
@@ -123,17 +124,17 @@ of_taken script tasks tasks' t all took u h is = elim (cases_eq u t) [
       all u h (sym here ∙ sym (took u) ∙ is)
 ]
 
-all_push : (script : ScriptView) (js : List (JobIs BodyView)) (j : JobIs BodyView) → AllByRecursion (IsJobOf script) js → IsJobOf script j → AllByRecursion (IsJobOf script) (js ++ j ∷ [])
+all_push : (script : ScriptView) (js : List (JobView BodyView)) (j : JobView BodyView) → AllByRecursion (IsJobOf script) js → IsJobOf script j → AllByRecursion (IsJobOf script) (js ++ j ∷ [])
 all_push script [] j all is = (is, tt)
 all_push script (k ∷ js) j all is = (all.0, all_push script js j all.1 is)
 
-pub all_turned : (script : ScriptView) (js : List (JobIs BodyView)) → AllByRecursion (IsJobOf script) js → AllByRecursion (IsJobOf script) (reverse js)
+pub all_turned : (script : ScriptView) (js : List (JobView BodyView)) → AllByRecursion (IsJobOf script) js → AllByRecursion (IsJobOf script) (reverse js)
 all_turned script [] all = tt
 all_turned script (j ∷ js) all = subst (AllByRecursion (IsJobOf script)) (sym (reverse-append (j ∷ []) js)) (all_push script (reverse js) j (all_turned script js all.1) all.0)
 
 -- the last of such jobs is put to the others
-pub of_step : (script : ScriptView) (tasks tasks' : List (Option Ready)) (js : List (JobIs BodyView)) (j : JobIs BodyView) (t : TaskId) (g : Ready)
+pub of_step : (script : ScriptView) (tasks tasks' : List (Option NextTurn)) (js : List (JobView BodyView)) (j : JobView BodyView) (t : TaskId) (g : NextTurn)
     → g ≡ record { number = j.number; resume = j.resume; body = j.body } → ((u : ℕ) → given_at tasks' u ≡ with_given t.0 (Some g) (given_at tasks) u)
     → AllByRecursion (IsJobOf script) (js ++ j ∷ []) × AreOf script tasks → AllByRecursion (IsJobOf script) js × AreOf script tasks'
-of_step script tasks tasks' [] j t g is put (all, of) = (tt, of_put script tasks tasks' t.0 g of put (ap (λ (x : Ready). x.body.script) is ∙ all.0.script_is))
+of_step script tasks tasks' [] j t g is put (all, of) = (tt, of_put script tasks tasks' t.0 g of put (ap (λ (x : NextTurn). x.body.script) is ∙ all.0.script_is))
 of_step script tasks tasks' (k ∷ js) j t g is put (all, of) = (let rest = of_step script tasks tasks' js j t g is put (all.1, of) in ((all.0, rest.0), rest.1))

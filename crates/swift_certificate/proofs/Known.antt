@@ -7,8 +7,8 @@ use Rattle.swift_journal.specs.Records.{RecordView}
 use Rattle.swift_journal.specs.Checkpoints.{CheckpointView}
 use Rattle.swift_journal.specs.Replay.{AreLawful, IsLawfulRecord, fields_after, replay}
 use Rattle.swift_history.specs.Histories.{Block, ReportView, checkpoint_at, fields_of, no_checkpoint, records_of}
-use Rattle.swift_certificate.specs.declared.playing.Turns.{Turns}
-use Rattle.swift_certificate.specs.declared.playing.Turns.TheVariants.{Play, Read}
+use Rattle.swift_certificate.specs.declared.playing.TurnsMode.{TurnsMode}
+use Rattle.swift_certificate.specs.declared.playing.TurnsMode.TheVariants.{Play, Read}
 use Rattle.swift_certificate.specs.Laws.{HasExecutor}
 use Rattle.swift_certificate.specs.ReplayInside.{ArePlayed, IsKnown, journal_at}
 use Rattle.swift_certificate.proofs.Blocks.{same_one}
@@ -40,7 +40,7 @@ own_checkpoint : (report : ReportView) (e : ℕ) (c : CheckpointView) → slice_
 own_checkpoint report e c at = ap (λ (o : Option CheckpointView). unwrap_or o no_checkpoint) at
 
 -- the next record of a journal is lawful: it was played, or is known to be
-pub lawful_next : (turns : Turns) (script : ScriptView) (report : ReportView) (bs : List Block) (e n : ℕ) (r : RecordView) → IsKnown turns script report → Found report e
+pub lawful_next : (turns : TurnsMode) (script : ScriptView) (report : ReportView) (bs : List Block) (e n : ℕ) (r : RecordView) → IsKnown turns script report → Found report e
     → slice_get (journal_at report.journals e) n ≡ Some r → records_of e bs ≡ take n (journal_at report.journals e) → (ArePlayed turns → IsLawfulRecord script (fields_of script report.checkpoints e bs) r)
     → IsLawfulRecord script (fields_of script report.checkpoints e bs) r
 lawful_next Play script report bs e n r known has at so_far played = played tt
@@ -51,7 +51,7 @@ lawful_next Read script report bs e n r known has at so_far played =
     (subst (λ (rs : List RecordView). IsLawfulRecord script (replay script has.0.fields rs) r) (sym so_far) (lawful_at script has.0.fields journal n r lawful at))
 
 -- the fields of an executor that was followed to its end: they were compared, or are known
-pub fields_end : (turns : Turns) (script : ScriptView) (report : ReportView) (bs : List Block) (e : ℕ) (journal : List RecordView) (checkpoint : CheckpointView) (fields : List (List ℤ)) → IsKnown turns script report → HasExecutor report e journal checkpoint fields
+pub fields_end : (turns : TurnsMode) (script : ScriptView) (report : ReportView) (bs : List Block) (e : ℕ) (journal : List RecordView) (checkpoint : CheckpointView) (fields : List (List ℤ)) → IsKnown turns script report → HasExecutor report e journal checkpoint fields
     → journal ≡ records_of e bs → (ArePlayed turns → fields ≡ fields_of script report.checkpoints e bs) → fields ≡ fields_of script report.checkpoints e bs
 fields_end Play script report bs e journal checkpoint fields known has all played = played tt
 fields_end Read script report bs e journal checkpoint fields known has all played =

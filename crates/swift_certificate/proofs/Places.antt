@@ -9,14 +9,14 @@ use Rattle.swift_journal.specs.Records.{RecordView}
 use Rattle.swift_journal.specs.Checkpoints.{FoldedView}
 use Rattle.swift_journal.specs.Replay.{fields_after, replay}
 use Rattle.swift_history.specs.Histories.{Block, ran, folded, ReportView, checkpoint_at, folded_in, record_in, records_of}
-use Rattle.swift_certificate.specs.declared.playing.Place.{Place}
-use Rattle.swift_certificate.specs.declared.playing.Turns.{Turns}
-use Rattle.swift_certificate.specs.ReplayInside.{ArePlayed, IsPlace, journal_at}
+use Rattle.swift_certificate.specs.declared.playing.ExecutorProgress.{ExecutorProgress}
+use Rattle.swift_certificate.specs.declared.playing.TurnsMode.{TurnsMode}
+use Rattle.swift_certificate.specs.ReplayInside.{ArePlayed, IsProgress, journal_at}
 use Rattle.swift_certificate.proofs.Blocks.{filter_none, filter_some, replay_push, same_one, take_next}
 use Rattle.swift_certificate.proofs.Given.{equal, unequal}
 
 -- a block that is no turn of an executor leaves it where it was
-pub place_stays : (turns : Turns) (script : ScriptView) (report : ReportView) (bs : List Block) (b : Block) (e : ℕ) (row : Place) → record_in e b ≡ None → folded_in e b ≡ None → IsPlace turns script report bs e row → IsPlace turns script report (bs ++ b ∷ []) e row
+pub place_stays : (turns : TurnsMode) (script : ScriptView) (report : ReportView) (bs : List Block) (b : Block) (e : ℕ) (row : ExecutorProgress) → record_in e b ≡ None → folded_in e b ≡ None → IsProgress turns script report bs e row → IsProgress turns script report (bs ++ b ∷ []) e row
 place_stays turns script report bs b e row none none' is =
     let same = filter_none (record_in e) bs b none in
     record {
@@ -38,9 +38,9 @@ other_folded : (e k : ℕ) (f : FoldedView) → k ≢ e → folded_in e (folded 
 other_folded e k f ne = ap (λ b. if b then Some f else None) (unequal k e ne)
 
 -- a turn that was played again
-pub place_played : (turns : Turns) (script : ScriptView) (report : ReportView) (bs : List Block) (e : ℕ) (row row' : Place) (r : RecordView) → IsPlace turns script report bs e row
+pub place_played : (turns : TurnsMode) (script : ScriptView) (report : ReportView) (bs : List Block) (e : ℕ) (row row' : ExecutorProgress) (r : RecordView) → IsProgress turns script report bs e row
     → slice_get (journal_at report.journals e) row.played ≡ Some r → (ArePlayed turns → rows_of row'.fields.items ≡ fields_after script (rows_of row.fields.items) r) → row'.played ≡ row.played + 1 → row'.folded ≡ row.folded
-    → IsPlace turns script report (bs ++ ran e r ∷ []) e row'
+    → IsProgress turns script report (bs ++ ran e r ∷ []) e row'
 place_played turns script report bs e row row' r is there fields played kept =
     let journal = journal_at report.journals e in
     let more = filter_some (record_in e) bs (ran e r) r (own_record e r) in
@@ -52,9 +52,9 @@ place_played turns script report bs e row row' r is there fields played kept =
     }
 
 -- a turn of a checkpoint
-pub place_folded : (turns : Turns) (script : ScriptView) (report : ReportView) (bs : List Block) (e : ℕ) (row row' : Place) (f : FoldedView) → IsPlace turns script report bs e row
+pub place_folded : (turns : TurnsMode) (script : ScriptView) (report : ReportView) (bs : List Block) (e : ℕ) (row row' : ExecutorProgress) (f : FoldedView) → IsProgress turns script report bs e row
     → slice_get (checkpoint_at report.checkpoints e).folded row.folded ≡ Some f → rows_of row'.fields.items ≡ rows_of row.fields.items → row'.played ≡ row.played → row'.folded ≡ row.folded + 1
-    → IsPlace turns script report (bs ++ folded e f ∷ []) e row'
+    → IsProgress turns script report (bs ++ folded e f ∷ []) e row'
 place_folded turns script report bs e row row' f is there fields played is_folded =
     let all = (checkpoint_at report.checkpoints e).folded in
     let same = filter_none (record_in e) bs (folded e f) refl in
@@ -64,12 +64,12 @@ place_folded turns script report bs e row row' f is there fields played is_folde
       played = same ∙ is.played ∙ ap (λ n. take n (journal_at report.journals e)) (sym played);
     }
 
-set_same : (rows : List Place) (k : ℕ) (row row' x : Place) → slice_get rows k ≡ Some row → slice_get (slice_set rows k row') k ≡ Some x → x ≡ row'
+set_same : (rows : List ExecutorProgress) (k : ℕ) (row row' x : ExecutorProgress) → slice_get rows k ≡ Some row → slice_get (slice_set rows k row') k ≡ Some x → x ≡ row'
 set_same [] k row row' x at is = absurd (none-some row at)
 set_same (r ∷ rs) zero row row' x at is = sym (same_one row' x is)
 set_same (r ∷ rs) (suc k) row row' x at is = set_same rs k row row' x at is
 
-set_other : (rows : List Place) (k e : ℕ) (row' : Place) → k ≢ e → slice_get (slice_set rows k row') e ≡ slice_get rows e
+set_other : (rows : List ExecutorProgress) (k e : ℕ) (row' : ExecutorProgress) → k ≢ e → slice_get (slice_set rows k row') e ≡ slice_get rows e
 set_other [] k e row' ne = refl
 set_other (r ∷ rs) zero zero row' ne = absurd (ne refl)
 set_other (r ∷ rs) zero (suc e) row' ne = refl
@@ -77,17 +77,17 @@ set_other (r ∷ rs) (suc k) zero row' ne = refl
 set_other (r ∷ rs) (suc k) (suc e) row' ne = set_other rs k e row' (λ same. ne (ap suc same))
 
 -- where one place is changed, and each other one stays
-pub places_set : (P : ℕ → Place → Type 0) (Q : ℕ → Place → Type 0) (rows : List Place) (k : ℕ) (row row' : Place) → slice_get rows k ≡ Some row → Q k row'
-    → ((e : ℕ) (x : Place) → k ≢ e → P e x → Q e x) → ((e : ℕ) (x : Place) → slice_get rows e ≡ Some x → P e x)
-    → (e : ℕ) (x : Place) → slice_get (slice_set rows k row') e ≡ Some x → Q e x
+pub places_set : (P : ℕ → ExecutorProgress → Type 0) (Q : ℕ → ExecutorProgress → Type 0) (rows : List ExecutorProgress) (k : ℕ) (row row' : ExecutorProgress) → slice_get rows k ≡ Some row → Q k row'
+    → ((e : ℕ) (x : ExecutorProgress) → k ≢ e → P e x → Q e x) → ((e : ℕ) (x : ExecutorProgress) → slice_get rows e ≡ Some x → P e x)
+    → (e : ℕ) (x : ExecutorProgress) → slice_get (slice_set rows k row') e ≡ Some x → Q e x
 places_set P Q rows k row row' at own stay all e x is = elim (cases_eq k e) [
   | inl same ↦ subst (λ n. Q n x) same (subst (Q k) (sym (set_same rows k row row' x at (ap (slice_get (slice_set rows k row')) same ∙ is))) own)
   | inr ne ↦ stay e x ne (all e x (sym (set_other rows k e row' ne) ∙ is))
 ]
 
 -- the turn of an executor leaves each other one where it was
-pub others_played : (turns : Turns) (script : ScriptView) (report : ReportView) (bs : List Block) (k : ℕ) (r : RecordView) (e : ℕ) (x : Place) → k ≢ e → IsPlace turns script report bs e x → IsPlace turns script report (bs ++ ran k r ∷ []) e x
+pub others_played : (turns : TurnsMode) (script : ScriptView) (report : ReportView) (bs : List Block) (k : ℕ) (r : RecordView) (e : ℕ) (x : ExecutorProgress) → k ≢ e → IsProgress turns script report bs e x → IsProgress turns script report (bs ++ ran k r ∷ []) e x
 others_played turns script report bs k r e x ne is = place_stays turns script report bs (ran k r) e x (other_record e k r ne) refl is
 
-pub others_folded : (turns : Turns) (script : ScriptView) (report : ReportView) (bs : List Block) (k : ℕ) (f : FoldedView) (e : ℕ) (x : Place) → k ≢ e → IsPlace turns script report bs e x → IsPlace turns script report (bs ++ folded k f ∷ []) e x
+pub others_folded : (turns : TurnsMode) (script : ScriptView) (report : ReportView) (bs : List Block) (k : ℕ) (f : FoldedView) (e : ℕ) (x : ExecutorProgress) → k ≢ e → IsProgress turns script report bs e x → IsProgress turns script report (bs ++ folded k f ∷ []) e x
 others_folded turns script report bs k f e x ne is = place_stays turns script report bs (folded k f) e x refl (other_folded e k f ne) is

@@ -13,7 +13,7 @@ ghost use Rattle.swift_history.specs.Histories.{IsLegal};
 ghost use Rattle.swift_certificate.specs.Reports.{report_view};
 ghost use Rattle.swift_certificate.specs.ReplayInside.{AreEndedAt, EndsAt, IsReplay};
 
-use crate::playing::{Place, Turns};
+use crate::playing::{ExecutorProgress, TurnsMode};
 use crate::replay::Replay;
 use std::alloc::{AllocError, Global};
 use swift_events::{Event, Origin};
@@ -86,10 +86,10 @@ fn are_first_fields(
 // Whether an executor was followed to its end, and has these fields there, where turns are played.
 fn is_ended(
     alloc: Global,
-    turns: Turns,
+    turns: TurnsMode,
     script: &Script,
     executor: usize,
-    row: &Place,
+    row: &ExecutorProgress,
     journal: &Journal,
     checkpoint: &Checkpoint,
     fields: &[Vec<i64>],
@@ -104,17 +104,17 @@ fn is_ended(
         return Ok(false);
     }
     match turns {
-        Turns::Play => Ok(are_same_fields(&row.fields, fields)),
-        Turns::Read => Ok(true),
+        TurnsMode::Play => Ok(are_same_fields(&row.fields, fields)),
+        TurnsMode::Read => Ok(true),
     }
 }
 
 // Whether each executor was.
 fn are_ended(
     alloc: Global,
-    turns: Turns,
+    turns: TurnsMode,
     script: &Script,
-    rows: &[Place],
+    rows: &[ExecutorProgress],
     report: &Report,
 ) -> Result<bool, AllocError>
     ensures { IfOk result (λ yes. IsTrue yes → AreEndedAt turns script.now rows.now (report_view report.now)) }

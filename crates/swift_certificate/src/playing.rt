@@ -1,27 +1,26 @@
 //! One turn, played again or taken from a journal or a checkpoint.
 
 ghost use Rattle.std.specs.Prelude.{◌≡◌, ◌<◌, ◌↔◌, ◌+◌, count_by, IfOk, IfSome, IsTrue, None, ◌∷◌};
-ghost use Rattle.swift_interpreter.specs.Frames.{effect_view, effect_views, frame_view};
+ghost use Rattle.swift_interpreter.specs.Frames.{effect_view, effect_views, frame_view, frame_if};
 ghost use Rattle.swift_interpreter.specs.TurnStates.{exit_view};
-ghost use Rattle.swift_journal.specs.Records.{frame_if, frame_if_lent};
+ghost use Rattle.swift_journal.specs.Records.{frame_if_lent};
 ghost use Rattle.swift_history.specs.Histories.{IsLeft, LeavesFrame, left_as, makes_own, opens_group};
 ghost use Rattle.swift_script.specs.Scripts.{method_count};
 ghost use Rattle.swift_turn.specs.Body.{HasFirst, IsRunning, callers_of};
-ghost use Rattle.swift_certificate.specs.declared.playing.Turns.TheVariants.{Play, Read};
-ghost use Rattle.swift_certificate.specs.ReplayInside.{Folds, Follows, IsAfterFrame, Takes};
+ghost use Rattle.swift_certificate.specs.declared.playing.TurnsMode.TheVariants.{Play, Read};
+ghost use Rattle.swift_certificate.specs.ReplayInside.{Folds, FollowsRecord, IsAfterFrame, TakesFollowed};
 
-use crate::waiting::Ready;
-use script_code::Env;
+use crate::waiting::NextTurn;
 use std::alloc::{AllocError, Global};
 use std::mem;
 use swift_interpreter::{Effect, Exit, Frame};
 use swift_journal::{Checkpoint, Folded, Journal, Record};
 use swift_turn::{Body, replay_turn};
-use swift_types::TaskId;
+use swift_types::{Env, TaskId};
 
 /// What is done with the turns of journals.
 #[derive(Clone, Copy)]
-pub enum Turns {
+pub enum TurnsMode {
     /// Each is played again.
     Play,
     /// They are known to be lawful. None is played, and fields are not followed.
@@ -31,7 +30,7 @@ pub enum Turns {
 /// How far an executor was followed: the fields of its actors, a list for each, where turns are played; and how many of its
 /// checkpoint's turns and of its journal's there were.
 #[derive(Drop)]
-pub struct Place {
+pub struct ExecutorProgress {
     pub fields: Vec<Vec<i64>>,
     pub folded: usize,
     pub played: usize,
@@ -39,8 +38,8 @@ pub struct Place {
 
 /// A turn that was followed, and is to be applied.
 #[derive(Drop)]
-pub struct Done {
-    pub ready: Ready,
+pub struct FollowedTurn {
+    pub ready: NextTurn,
     pub exit: Exit,
     pub effects: Vec<Effect>,
 }
@@ -60,17 +59,17 @@ fn opens_group(effect: &Effect) -> bool
 
 // A task's counts in a frame: how many tasks it has spawned or detached, and how many groups it has opened.
 #[derive(Clone, Copy)]
-struct Counts {
+struct MadeCounts {
     made: u64,
     opened: u64,
 }
 
 // The task's counts in a frame after these effects. Nothing where one would not fit.
-fn counts_after(frame: &Frame, effects: &[Effect]) -> Option<Counts>
+fn counts_after(frame: &Frame, effects: &[Effect]) -> Option<MadeCounts>
     ensures made { IfSome result (λ c. c.made ≡ frame.now.made + count_by makes_own (effect_views effects.now)) }
     ensures opened { IfSome result (λ c. c.opened ≡ frame.now.opened + count_by opens_group (effect_views effects.now)) }
 {
-    let mut counts = Counts {
+    let mut counts = MadeCounts {
         made: frame.made,
         opened: frame.opened,
     };
@@ -86,7 +85,7 @@ fn counts_after(frame: &Frame, effects: &[Effect]) -> Option<Counts>
 }
 
 // The frame with its task's counts after these effects. Nothing where a count would not fit.
-fn counted(mut frame: Frame, effects: &[Effect]) -> Option<Frame>
+fn count_effects(mut frame: Frame, effects: &[Effect]) -> Option<Frame>
     ensures counts { IfSome result (λ after. frame_view after ≡ left_as (frame_view frame) (effect_views effects.now) None) }
     ensures method { IfSome result (λ after. after.method ≡ frame.method) }
 {
@@ -125,7 +124,7 @@ fn settle(body: &mut Body, before: Frame, exit: &Exit, effects: &[Effect]) -> bo
     ensures rest { body.new ≡ record body.old { task = record body.old.task { frames = body.new.task.frames } } }
 {
     if is_left(exit) {
-        let Some(frame) = counted(before, effects) else {
+        let Some(frame) = count_effects(before, effects) else {
             return false;
         };
         body.put_back(frame);
@@ -137,21 +136,21 @@ fn settle(body: &mut Body, before: Frame, exit: &Exit, effects: &[Effect]) -> bo
 // turn there, or none.
 fn play(
     alloc: Global,
-    row: &mut Place,
+    row: &mut ExecutorProgress,
     journal: &Journal,
     scratch: &mut Journal,
     task: TaskId,
-    ready: Ready,
+    ready: NextTurn,
     env: Env,
-) -> Result<Option<Done>, AllocError>
+) -> Result<Option<FollowedTurn>, AllocError>
     requires running { IsRunning ready.body }
-    ensures { IfOk result (λ answer. IfSome answer (λ done. Follows Play journal.now row.old row.new task ready env done)) }
+    ensures { IfOk result (λ answer. IfSome answer (λ done. FollowsRecord Play journal.now row.old row.new task ready env done)) }
 {
     let place = row.played;
     if place >= journal.len() {
         return Ok(None);
     }
-    let Ready {
+    let NextTurn {
         number,
         resume,
         mut body,
@@ -181,8 +180,8 @@ fn play(
     if !settle(&mut body, frame, &exit, &effects) {
         return Ok(None);
     }
-    Ok(Some(Done {
-        ready: Ready {
+    Ok(Some(FollowedTurn {
+        ready: NextTurn {
             number,
             resume,
             body,
@@ -205,26 +204,26 @@ fn frame_after(
     match after {
         Some(frame) if body.can_put_back(&frame) => Ok(Some(frame)),
         Some(_) => Ok(None),
-        None => Ok(counted(body.frame()?, effects)),
+        None => Ok(count_effects(body.frame()?, effects)),
     }
 }
 
 // A task's job after a turn that was not played, which has ended so. Nothing where the frame after it cannot stand there.
-fn taken(
-    ready: Ready,
+fn go_on(
+    ready: NextTurn,
     exit: Exit,
     effects: Vec<Effect>,
     after: Option<Frame>,
-) -> Result<Option<Done>, AllocError>
+) -> Result<Option<FollowedTurn>, AllocError>
     requires running { IsRunning ready.body }
-    ensures { IfOk result (λ answer. IfSome answer (λ done. Takes ready (effect_views effects.items) (exit_view exit) (frame_if after) done)) }
+    ensures { IfOk result (λ answer. IfSome answer (λ done. TakesFollowed ready (effect_views effects.items) (exit_view exit) (frame_if after) done)) }
 {
     let Some(frame) = frame_after(&ready.body, &effects, after)? else {
         return Ok(None);
     };
     let mut ready = ready;
     ready.body.put_back(frame);
-    Ok(Some(Done {
+    Ok(Some(FollowedTurn {
         ready,
         exit,
         effects,
@@ -233,17 +232,17 @@ fn taken(
 
 // Takes the next turn of an executor's journal as it stands there. Nothing where the journal has a turn there that does not begin
 // with what its task's job gives, or none.
-fn read(
+fn read_turn(
     alloc: Global,
-    row: &mut Place,
+    row: &mut ExecutorProgress,
     journal: &Journal,
     scratch: &mut Journal,
     task: TaskId,
-    ready: Ready,
+    ready: NextTurn,
     env: Env,
-) -> Result<Option<Done>, AllocError>
+) -> Result<Option<FollowedTurn>, AllocError>
     requires running { IsRunning ready.body }
-    ensures { IfOk result (λ answer. IfSome answer (λ done. Follows Read journal.now row.old row.new task ready env done)) }
+    ensures { IfOk result (λ answer. IfSome answer (λ done. FollowsRecord Read journal.now row.old row.new task ready env done)) }
 {
     let place = row.played;
     if place >= journal.len() {
@@ -273,27 +272,27 @@ fn read(
         return Ok(None);
     }
     row.played += 1;
-    taken(ready, exit, effects, after)
+    go_on(ready, exit, effects, after)
 }
 
 /// Takes the next turn of an executor's journal, and compares it with what its task's job gives: the whole turn, played again,
 /// or what it begins with. Nothing where the journal has another turn there, or none.
 pub fn next(
     alloc: Global,
-    turns: Turns,
-    row: &mut Place,
+    turns: TurnsMode,
+    row: &mut ExecutorProgress,
     journal: &Journal,
     scratch: &mut Journal,
     task: TaskId,
-    ready: Ready,
+    ready: NextTurn,
     env: Env,
-) -> Result<Option<Done>, AllocError>
+) -> Result<Option<FollowedTurn>, AllocError>
     requires running { IsRunning ready.body }
-    ensures { IfOk result (λ answer. IfSome answer (λ done. Follows turns journal.now row.old row.new task ready env done)) }
+    ensures { IfOk result (λ answer. IfSome answer (λ done. FollowsRecord turns journal.now row.old row.new task ready env done)) }
 {
     match turns {
-        Turns::Play => play(alloc, row, journal, scratch, task, ready, env),
-        Turns::Read => read(alloc, row, journal, scratch, task, ready, env),
+        TurnsMode::Play => play(alloc, row, journal, scratch, task, ready, env),
+        TurnsMode::Read => read_turn(alloc, row, journal, scratch, task, ready, env),
     }
 }
 
@@ -314,11 +313,11 @@ fn can_leave(frame: &Frame, effects: &[Effect], exit: &Exit, after: Option<&Fram
 /// task or number there, one that cannot have left the frame that stands there, or none.
 pub fn fold(
     alloc: Global,
-    row: &mut Place,
+    row: &mut ExecutorProgress,
     checkpoint: &Checkpoint,
     task: TaskId,
-    ready: Ready,
-) -> Result<Option<Done>, AllocError>
+    ready: NextTurn,
+) -> Result<Option<FollowedTurn>, AllocError>
     requires running { IsRunning ready.body }
     ensures { IfOk result (λ answer. IfSome answer (λ done. Folds checkpoint.now.view row.old row.new task ready done)) }
 {
@@ -339,5 +338,5 @@ pub fn fold(
         return Ok(None);
     }
     row.folded += 1;
-    taken(ready, exit, effects, after)
+    go_on(ready, exit, effects, after)
 }

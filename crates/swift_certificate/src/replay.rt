@@ -3,25 +3,24 @@
 ghost use Rattle.std.specs.Prelude.{◌≡◌, ◌<◌, [], IfOk, IfSome, IsTrue, Some, false, length};
 ghost use Rattle.script_code.specs.Seen.{rows_of};
 ghost use Rattle.std.specs.Arc.{arc_value};
-ghost use Rattle.swift_events.specs.declared.life.Stage.TheVariants.{Begun};
+ghost use Rattle.swift_events.specs.declared.life.JobStage.TheVariants.{Begun};
 ghost use Rattle.swift_events.specs.Lives.{life_of};
 ghost use Rattle.swift_turn.specs.Body.{IsRunning};
 ghost use Rattle.swift_certificate.specs.Reports.{report_view};
-ghost use Rattle.swift_certificate.specs.ReplayInside.{Applies, ArePlaces, ArePlayed, IsKnown, IsReplay, RunsAt};
+ghost use Rattle.swift_certificate.specs.ReplayInside.{AppliesFollowed, AreFirstProgresses, ArePlayed, IsKnown, IsReplay, RunsAt};
 
-use crate::playing::{Done, Place, Turns, fold, next};
-use crate::waiting::{Ready, give_all_up, put, put_all, take};
-use script_code::Env;
+use crate::playing::{ExecutorProgress, FollowedTurn, TurnsMode, fold, next};
+use crate::waiting::{NextTurn, put, put_all, take};
 use std::alloc::{AllocError, Global};
 use std::sync::Arc;
 use swift_events::Event;
+use swift_job::{Job, spend_all};
 use swift_journal::{Checkpoint, Journal};
-use swift_queue::Job;
 use swift_report::Report;
 use swift_script::Script;
 use swift_tasks::{Book, BookFault};
 use swift_turn::Body;
-use swift_types::{RootId, TaskId};
+use swift_types::{Env, RootId, TaskId};
 
 /// A second book, and what was followed of a report so far: it is led along the log of the report. Each call of it answers
 /// whether the report goes on as a run can. Where it does not, or where a growth was refused, what is left of the replay
@@ -29,12 +28,12 @@ use swift_types::{RootId, TaskId};
 pub struct Replay {
     pub alloc: Global,
     pub script: Arc<Script>,
-    pub turns: Turns,
+    pub turns: TurnsMode,
     pub book: Book,
     // By the number of the task. A task that waits or has ended has none.
-    pub tasks: Vec<Option<Ready>>,
+    pub tasks: Vec<Option<NextTurn>>,
     // By the number of the executor.
-    pub rows: Vec<Place>,
+    pub rows: Vec<ExecutorProgress>,
     // How many roots were added.
     pub roots: u32,
     // It has no turns: turns are written in its room.
@@ -57,28 +56,28 @@ fn copy_of(alloc: Global, rows: &[Vec<i64>]) -> Result<Vec<Vec<i64>>, AllocError
 // The fields that the turns of a journal are played on, where they are played: those of its checkpoint.
 fn first_fields(
     alloc: Global,
-    turns: Turns,
+    turns: TurnsMode,
     checkpoint: &Checkpoint,
 ) -> Result<Vec<Vec<i64>>, AllocError>
     ensures { IfOk result (λ fields. ArePlayed turns → rows_of fields.items ≡ checkpoint.now.view.fields) }
 {
     match turns {
-        Turns::Play => copy_of(alloc, checkpoint.fields()),
-        Turns::Read => Ok(Vec::new(alloc)),
+        TurnsMode::Play => copy_of(alloc, checkpoint.fields()),
+        TurnsMode::Read => Ok(Vec::new(alloc)),
     }
 }
 
 // No turn of any executor was followed.
 fn first_places(
     alloc: Global,
-    turns: Turns,
+    turns: TurnsMode,
     checkpoints: &[Checkpoint],
-) -> Result<Vec<Place>, AllocError>
-    ensures { IfOk result (λ rows. ArePlaces turns checkpoints.now rows.items) }
+) -> Result<Vec<ExecutorProgress>, AllocError>
+    ensures { IfOk result (λ rows. AreFirstProgresses turns checkpoints.now rows.items) }
 {
     let mut rows = Vec::with_capacity(alloc, checkpoints.len())?;
     for checkpoint in checkpoints {
-        rows.push(Place {
+        rows.push(ExecutorProgress {
             fields: first_fields(alloc, turns, checkpoint)?,
             folded: 0,
             played: 0,
@@ -88,7 +87,7 @@ fn first_places(
 }
 
 // What follows from a refusal of the second book: the report is not legal, or there was no memory.
-fn refused(fault: BookFault) -> Result<bool, AllocError>
+fn refuse(fault: BookFault) -> Result<bool, AllocError>
     ensures { IfOk result (λ goes_on. goes_on ≡ false) }
 {
     match fault {
@@ -101,7 +100,7 @@ impl Replay {
     /// Nothing of a report was followed.
     pub fn new(
         alloc: Global,
-        turns: Turns,
+        turns: TurnsMode,
         script: &Arc<Script>,
         report: &Report,
     ) -> Result<Replay, AllocError>
@@ -138,12 +137,12 @@ impl Replay {
         };
         match self.book.add_root(RootId(self.roots)) {
             Ok(job) => {
-                let (task, ready) = Ready::from_job(job);
+                let (task, ready) = NextTurn::from_job(job);
                 put(&mut self.tasks, task, ready)?;
                 self.roots = next;
                 Ok(true)
             }
-            Err(fault) => refused(fault),
+            Err(fault) => refuse(fault),
         }
     }
 
@@ -159,25 +158,25 @@ impl Replay {
         };
         let job = ready.into_job(task);
         let begun = self.book.begin_known(&job);
-        let (task, ready) = Ready::from_job(job);
+        let (task, ready) = NextTurn::from_job(job);
         match begun {
             Ok(_) => {
                 put(&mut self.tasks, task, ready)?;
                 Ok(true)
             }
-            Err(fault) => refused(fault),
+            Err(fault) => refuse(fault),
         }
     }
 
     // What a turn did is applied.
-    fn apply(&mut self, task: TaskId, done: Done) -> Result<bool, AllocError>
+    fn apply(&mut self, task: TaskId, done: FollowedTurn) -> Result<bool, AllocError>
         requires running { IsRunning done.ready.body }
         requires none { self.old.jobs.items ≡ [] }
         requires same { done.ready.body.script ≡ self.old.book.script }
         ensures script { self.new.script ≡ self.old.script }
-        ensures applies { IfOk result (λ goes_on. IsTrue goes_on → Applies self.old self.new task done) }
+        ensures applies { IfOk result (λ goes_on. IsTrue goes_on → AppliesFollowed self.old self.new task done) }
     {
-        let Done {
+        let FollowedTurn {
             ready,
             exit,
             effects,
@@ -189,8 +188,8 @@ impl Replay {
                 Ok(true)
             }
             Err((job, _effects, fault)) => {
-                let (_task, _ready) = Ready::from_job(job);
-                refused(fault)
+                let (_task, _ready) = NextTurn::from_job(job);
+                refuse(fault)
             }
         }
     }
@@ -335,8 +334,8 @@ impl Replay {
             scratch: _,
             jobs,
         } = self;
-        give_all_up(jobs);
+        spend_all(jobs);
         let (_log, waiting) = book.close();
-        give_all_up(waiting);
+        spend_all(waiting);
     }
 }

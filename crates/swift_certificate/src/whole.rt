@@ -7,7 +7,7 @@ ghost use Rattle.swift_certificate.specs.Laws.{EachIsReplayed};
 ghost use Rattle.swift_certificate.specs.Reports.{report_view};
 ghost use Rattle.swift_certificate.specs.ReplayInside.{IsKnown, IsReplay};
 
-use crate::playing::Turns;
+use crate::playing::TurnsMode;
 use crate::replay::Replay;
 use std::alloc::{AllocError, Global};
 use std::sync::Arc;
@@ -25,7 +25,7 @@ use swift_script::Script;
 pub fn legal(alloc: Global, script: &Arc<Script>, report: &Report) -> Result<bool, AllocError>
     ensures { IfOk result (λ yes. IsTrue yes → IsLegal (arc_value script.now) (report_view report.now)) }
 {
-    walk(alloc, Turns::Play, script, report)
+    walk(alloc, TurnsMode::Play, script, report)
 }
 
 /// The same of a report whose executors are known to be replayed: each journal is lawful from its checkpoint on, and replaying
@@ -40,13 +40,13 @@ pub fn legal_if_replayed(
     requires { EachIsReplayed (arc_value script.now) (report_view report.now) }
     ensures { IfOk result (λ yes. IsTrue yes → IsLegal (arc_value script.now) (report_view report.now)) }
 {
-    walk(alloc, Turns::Read, script, report)
+    walk(alloc, TurnsMode::Read, script, report)
 }
 
 // Leads a second book along a report, and gives it up.
 fn walk(
     alloc: Global,
-    turns: Turns,
+    turns: TurnsMode,
     script: &Arc<Script>,
     report: &Report,
 ) -> Result<bool, AllocError>

@@ -2,22 +2,22 @@
 use Rattle.std.proofs.Common.{◌≡◌, ◌≢◌, ◌⊎◌, ℕ, ℤ, ◌+◌, ◌≤◌, ◌<◌, ◌==◌, true, List, [], ◌∷◌, ◌++◌, map, set, count_by, if◌then◌else◌, refl, sym, ap, ◌∙◌, subst, arith, inl, inr}
 use Rattle.std.specs.Prelude.{All, Option, Some, None, IfSome, sum_by}
 use Rattle.std.proofs.lemmas.List.Elements.{All-append, All-cons, All-head, All-nil, All-tail}
-use Rattle.script_code.specs.declared.env.Env.{Env}
+use Rattle.swift_types.specs.declared.env.Env.{Env}
 use Rattle.swift_script.specs.Scripts.{executor_count, executor_start, root_count}
 use Rattle.swift_interpreter.specs.Frames.{FrameView}
 use Rattle.swift_turn.specs.Body.{HasFirst, advanced, callers_of}
 use Rattle.swift_events.specs.declared.event.Event.{Event}
-use Rattle.swift_events.specs.declared.life.Stage.TheVariants.{Begun}
+use Rattle.swift_events.specs.declared.life.JobStage.TheVariants.{Begun}
 use Rattle.swift_events.specs.Events.{tasks_of}
 use Rattle.swift_events.specs.Lives.{life_of}
 use Rattle.swift_journal.specs.Records.{RecordView}
 use Rattle.swift_journal.specs.Replay.{IsLawfulRecord, replay}
 use Rattle.swift_history.specs.Checks.{counters, fits_turn, is_current}
 use Rattle.swift_history.specs.Histories.{ran, RecordStands, Standing, after_block, at_first, begun_priority, fields_of, folded_in, frames_applied, job_applied, left_as, record_in, records_of, root_in, taken, with_jobs}
-use Rattle.swift_history.specs.TurnEnds.{HeldView, JobView, TurnEnd, turn_end}
+use Rattle.swift_history.specs.TurnEnds.{WaitingTaskView, JobFacts, TurnEnd, turn_end}
 use Rattle.swift_course.specs.Course.{IsGiven, IsIn, IsOwned, is_for, one_if, ways, standing, starts, tickets_in, waits}
 use Rattle.swift_course.specs.Steps.{IsTurn, TurnsMayBeApplied, end_of, knowing_turn, with_record}
-use Rattle.swift_known.specs.Views.{Account, BookFacts, SeatView, Ticket, fresh}
+use Rattle.swift_known.specs.Views.{Account, BookFacts, BookKnown, Ticket, fresh}
 use Rattle.swift_course.proofs.Blocks.{after_push, filter_none, filter_some, stand_push}
 use Rattle.swift_course.proofs.Lists.{count_append, count_cons, equal, if_some, no_one, one, total_set, unequal}
 use Rattle.swift_course.proofs.Seats.{given_fresh, other_counts, others, others_and, rest_counts, seats_after, tickets_stay}
@@ -27,7 +27,7 @@ use Rattle.swift_course.proofs.Turns.{TurnLeaves, turn_leaves}
 use Rattle.swift_course.proofs.Waking.{count_fresh, jobs_stay, jobs_there, times}
 
 -- where the turn of a job leads, as a record has it
-abbrev pub after_turn : BookFacts → Standing → JobView → RecordView → Standing
+abbrev pub after_turn : BookFacts → Standing → JobFacts → RecordView → Standing
 after_turn facts s j r = record { log = (end_of facts j r).log; held = (end_of facts j r).held; jobs = with_jobs (end_of facts j r).jobs (taken j.task s.jobs) }
 
 first_is : (fs : List FrameView) (p : FrameView) → HasFirst fs (λ q. q ≡ p) → fs ≡ p ∷ callers_of fs
@@ -42,11 +42,11 @@ block_leads facts s a k r log held given turn =
     let j = k.job in
     let callers = callers_of j.frames.frames in
     let led : ℕ → ℕ → Standing = (λ t n. frames_applied script s t n (r.frame ∷ callers) j.frames.outer r.effects r.exit r.after) in
-    let ends : List Event → List (Option HeldView) → Standing =
+    let ends : List Event → List (Option WaitingTaskView) → Standing =
     (λ l h. let e = turn_end script l h j.task j.number (begun_priority (life_of j.task l).stage) r.effects r.exit (advanced script (left_as r.frame r.effects r.after) callers j.frames.outer r.exit) in
     record { log = e.log; held = e.held; jobs = with_jobs e.jobs (taken j.task s.jobs) })
     in
-    ap (λ (o : Option JobView). job_applied script s r.task r.number o r.effects r.exit r.after) (ap s.jobs turn.task_is ∙ given.job)
+    ap (λ (o : Option JobFacts). job_applied script s r.task r.number o r.effects r.exit r.after) (ap s.jobs turn.task_is ∙ given.job)
     ∙ ap (λ (fs : List FrameView). frames_applied script s r.task r.number fs j.frames.outer r.effects r.exit r.after) (first_is j.frames.frames r.frame turn.runs)
     ∙ ap (λ t. led t r.number) turn.task_is ∙ ap (led j.task) turn.number_is
     ∙ ap (λ l. ends l s.held) (sym log) ∙ ap (ends facts.log) (sym held)
@@ -85,14 +85,14 @@ pub other_record : (e k : ℕ) (r : RecordView) → k ≢ e → record_in e (ran
 other_record e k r apart = ap (λ b. if b then Some r else None) (unequal k e apart)
 
 -- A turn is applied: in how many ways each task can go on, without its ticket, before and after.
-record Counts (taken : BookFacts) (views views' : List SeatView) (o : ℕ → ℕ) (j : JobView) (e : TurnEnd) : Type 0 where
+record Counts (taken : BookFacts) (views views' : List BookKnown) (o : ℕ → ℕ) (j : JobFacts) (e : TurnEnd) : Type 0 where
   leaves : TurnLeaves (root_count taken.script) taken.log taken.held j.task e
   single : (x : ℕ) → ways x taken views ≤ 1
   unmade : (x : ℕ) → tasks_of (root_count taken.script) taken.log ≤ x → ways x taken views ≡ 0
   before : (x : ℕ) → o x + one_if (x == j.task) ≡ sum_by (tickets_in x) views
   after : (x : ℕ) → sum_by (tickets_in x) views' + one_if (x == j.task) ≡ sum_by (tickets_in x) views + times x e.jobs
 
-module _ (facts : BookFacts) (views views' : List SeatView) (o : ℕ → ℕ) (j : JobView) (e : TurnEnd) (c : Counts facts views views' o j e) where
+module _ (facts : BookFacts) (views views' : List BookKnown) (o : ℕ → ℕ) (j : JobFacts) (e : TurnEnd) (c : Counts facts views views' o j e) where
   abbrev roots : ℕ
   roots = root_count facts.script
 
@@ -132,7 +132,7 @@ module _ (facts : BookFacts) (views views' : List SeatView) (o : ℕ → ℕ) (j
   few_jobs x = (let s = still_single x in let a = c.after x in let b = c.before x in omega (arith, s, a, b))
 
 -- a ticket of a task that has one elsewhere stays what it is
-stays : (facts : BookFacts) (views views' : List SeatView) (o : ℕ → ℕ) (s : Standing) (j : JobView) (r : RecordView) → Counts facts views views' o j (end_of facts j r) → facts.log ≡ s.log
+stays : (facts : BookFacts) (views views' : List BookKnown) (o : ℕ → ℕ) (s : Standing) (j : JobFacts) (r : RecordView) → Counts facts views views' o j (end_of facts j r) → facts.log ≡ s.log
     → (k : Ticket) → 1 ≤ o k.job.task → IsGiven s k → IsGiven (after_turn facts s j r) k
 stays facts views views' o s j r c log k some_one is =
     let x = k.job.task in
@@ -145,7 +145,7 @@ stays facts views views' o s j r c log k some_one is =
     }
 
 -- the jobs that the turn makes have their tickets
-given_new : (facts : BookFacts) (views views' : List SeatView) (o : ℕ → ℕ) (s : Standing) (j : JobView) (r : RecordView) → Counts facts views views' o j (end_of facts j r) → All (IsGiven (after_turn facts s j r)) (map fresh (end_of facts j r).jobs)
+given_new : (facts : BookFacts) (views views' : List BookKnown) (o : ℕ → ℕ) (s : Standing) (j : JobFacts) (r : RecordView) → Counts facts views views' o j (end_of facts j r) → All (IsGiven (after_turn facts s j r)) (map fresh (end_of facts j r).jobs)
 given_new facts views views' o s j r c = (let e = end_of facts j r in given_fresh (after_turn facts s j r) e.jobs (jobs_there e.jobs (taken j.task s.jobs) (few_jobs facts views views' o j e c)))
 
 pub turn_applied_is : TurnsMayBeApplied

@@ -2,7 +2,7 @@
 use Rattle.std.proofs.Common.{◌≡◌, ◌≢◌, ℕ, ◌+◌, ◌≤◌, ◌==◌, true, List, [], ◌∷◌, ◌++◌, set, count_by, refl, sym, ap, ◌∙◌, subst, arith, inl}
 use Rattle.std.specs.Prelude.{All, Some, sum_by}
 use Rattle.std.proofs.lemmas.List.Elements.{All-cons, All-head, All-tail}
-use Rattle.script_code.specs.declared.env.Env.{Env}
+use Rattle.swift_types.specs.declared.env.Env.{Env}
 use Rattle.swift_script.specs.Scripts.{ScriptView, root_count}
 use Rattle.swift_events.specs.declared.event.Event.{Event}
 use Rattle.swift_events.specs.declared.event.Event.TheVariants.{Begin}
@@ -11,7 +11,7 @@ use Rattle.swift_events.specs.Lives.{life_of}
 use Rattle.swift_events.specs.Room.{IsEnv}
 use Rattle.swift_history.specs.Checks.{is_current}
 use Rattle.swift_history.specs.Histories.{begun, Standing, after_block, at_first, folded_in, record_in, root_in}
-use Rattle.swift_history.specs.TurnEnds.{JobView, task}
+use Rattle.swift_history.specs.TurnEnds.{JobFacts, task}
 use Rattle.swift_course.specs.Course.{IsGiven, IsIn, is_for, one_if, standing, starts, tickets_in}
 use Rattle.swift_course.specs.Steps.{TurnsMayBegin, knowing_begin}
 use Rattle.swift_known.specs.Views.{Ticket}
@@ -20,11 +20,11 @@ use Rattle.swift_course.proofs.Lists.{all_each, count_cons, if_some, one, total_
 use Rattle.swift_course.proofs.Seats.{other_counts, others, others_and, rest_counts, seats_after, tickets_stay}
 use Rattle.swift_course.proofs.Stages.{begin_stage, stage_stays, tasks_stay}
 
-abbrev after_begin : ScriptView → Standing → JobView → Env → Standing
+abbrev after_begin : ScriptView → Standing → JobFacts → Env → Standing
 after_begin script s j env = after_block script s (begun j.task j.number env)
 
 -- a ticket of another task stays what it is
-stays : (script : ScriptView) (s : Standing) (j : JobView) (env : Env) (k : Ticket) → j.task ≢ k.job.task → IsGiven s k → IsGiven (after_begin script s j env) k
+stays : (script : ScriptView) (s : Standing) (j : JobFacts) (env : Env) (k : Ticket) → j.task ≢ k.job.task → IsGiven s k → IsGiven (after_begin script s j env) k
 stays script s j env k apart is = record {
   job = is.job;
   begun = if_some k.begun _ _ (λ e has. stage_stays (Begin (task j.task) j.number env ∷ []) k.job.task s.log (inl apart, tt) ∙ has) is.begun;

@@ -15,7 +15,7 @@ use Rattle.swift_journal.specs.Replay.{replay}
 use Rattle.swift_history.specs.Checks.{is_current}
 use Rattle.swift_history.specs.Histories.{AllStand, Block, added, begun, ran, folded, FoldedStands, RecordStands, Standing, Stands, after_block, after_blocks, at_first, checkpoint_at, fields_of, folded_in, record_in, records_of, root_in, roots_of}
 use Rattle.swift_history.specs.Histories as history
-use Rattle.swift_history.specs.TurnEnds.{JobView, task}
+use Rattle.swift_history.specs.TurnEnds.{JobFacts, task}
 use Rattle.swift_counts.proofs.Left.{may_be_folded}
 use Rattle.swift_course.specs.Course.{standing}
 use Rattle.swift_course.proofs.Applied.{other_record}
@@ -223,7 +223,7 @@ module _ (script : ScriptView) (from cps : List CheckpointView) (past : ℕ → 
   block_stands : (before before' rest : List Block) (b : Block) → before ++ rest ≡ total → Matches script past before before' → IsPlain b → Stands script from before b → Stands script cps before' (folded_as past before b)
   block_stands before before' rest (added r) whole m plain stands = subst (λ (s : Standing). (nat_lt r (root_count script) ≡ true) × ((life_of r s.log).origin ≡ None)) (sym m.same) stands
   block_stands before before' rest (begun t n env) whole m plain stands =
-      subst (λ (s : Standing). (j : JobView) × (s.jobs t ≡ Some j) × (is_current (life_of t s.log) n j.resume ≡ true) × IsEnv (root_count script) (task t) s.log env) (sym m.same) stands
+      subst (λ (s : Standing). (j : JobFacts) × (s.jobs t ≡ Some j) × (is_current (life_of t s.log) n j.resume ≡ true) × IsEnv (root_count script) (task t) s.log env) (sym m.same) stands
   block_stands before before' rest (ran e r) whole m plain stands = turn_stands before before' rest e r (nat_lt (length (records_of e before)) (past e)) refl whole m stands
   block_stands before before' rest (folded e f) whole m plain stands = absurd plain
 

@@ -11,7 +11,7 @@ use Rattle.swift_journal.specs.Replay.{replay}
 use Rattle.swift_history.specs.Histories.{Block, ReportView, Standing, checkpoint_at, no_checkpoint, records_of, roots_of}
 use Rattle.swift_course.specs.Course.{IsIn, starts}
 use Rattle.swift_course.specs.Reports.{HasHistory, IsAccountedFor, IsReportOf, RunsAreLegal}
-use Rattle.swift_known.specs.Views.{Account, BookFacts, Maker, SeatView}
+use Rattle.swift_known.specs.Views.{Account, BookFacts, Maker, BookKnown}
 use Rattle.swift_course.proofs.Folding.{GiveFields, Matches, all_match, all_plain, all_stand, nothing_matches, with_folds}
 use Rattle.swift_course.proofs.Lists.{same_one}
 use Rattle.swift_course.proofs.Starts.{many_starts, none_at, start_fields}
@@ -60,7 +60,7 @@ record HasLeft (facts : BookFacts) (report : ReportView) (blocks : List Block) (
   many : past_of report e ≡ length past
   own : checkpoint_at report.checkpoints e ≡ checkpoint
 
-module _ (facts : BookFacts) (v : SeatView) (report : ReportView) (h : HasHistory v facts) (r : IsReportOf facts v report) where
+module _ (facts : BookFacts) (v : BookKnown) (report : ReportView) (h : HasHistory v facts) (r : IsReportOf facts v report) where
   left_of : (e : ℕ) (journal : List RecordView) (checkpoint : CheckpointView) (fields : List (List ℤ)) → slice_get report.journals e ≡ Some journal → slice_get report.checkpoints e ≡ Some checkpoint → slice_get report.fields e ≡ Some fields
       → IsAccountedFor facts.script v e journal checkpoint fields → HasLeft facts report h.blocks e
   left_of e journal checkpoint fields journal_at checkpoint_is fields_at is =

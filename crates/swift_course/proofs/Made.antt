@@ -12,13 +12,13 @@ use Rattle.swift_events.specs.Events.{is_made, tasks_of}
 use Rattle.swift_events.specs.Lives.{life_of}
 use Rattle.swift_events.specs.Relations.{opened_by}
 use Rattle.swift_events.proofs.LogLemmas.{tasks_of-push_made, tasks_of-push_other}
-use Rattle.swift_history.specs.TurnEnds.{JobView, effect_events, effect_jobs, first_job, is_left_out, jobs_made, log_after, named_task, task}
+use Rattle.swift_history.specs.TurnEnds.{JobFacts, effect_events, effect_jobs, first_job, is_left_out, jobs_made, log_after, named_task, task}
 use Rattle.swift_course.proofs.Lists.{at_most_one, no_one}
 use Rattle.swift_course.proofs.Waking.{times, times_append}
 
 -- events that make no task, or one event that makes the next, with its job
-abbrev MakesOne : ℕ → List Event → List Event → List JobView → Type 0
-MakesOne roots log es js = ((js ≡ []) × (tasks_of roots (log ++ es) ≡ tasks_of roots log)) ⊎ ((j : JobView) × (js ≡ j ∷ []) × (j.task ≡ tasks_of roots log) × (tasks_of roots (log ++ es) ≡ tasks_of roots log + 1))
+abbrev MakesOne : ℕ → List Event → List Event → List JobFacts → Type 0
+MakesOne roots log es js = ((js ≡ []) × (tasks_of roots (log ++ es) ≡ tasks_of roots log)) ⊎ ((j : JobFacts) × (js ≡ j ∷ []) × (j.task ≡ tasks_of roots log) × (tasks_of roots (log ++ es) ≡ tasks_of roots log + 1))
 
 makes_nothing : (roots : ℕ) (log : List Event) → MakesOne roots log [] []
 makes_nothing roots log = inl (refl, ap (tasks_of roots) (append-nil log))
@@ -26,10 +26,10 @@ makes_nothing roots log = inl (refl, ap (tasks_of roots) (append-nil log))
 makes_none : (roots : ℕ) (log : List Event) (e : Event) → is_made e ≡ false → MakesOne roots log (e ∷ []) []
 makes_none roots log e is = inl (refl, tasks_of-push_other roots log e is)
 
-makes_next : (roots : ℕ) (log : List Event) (e : Event) (j : JobView) → is_made e ≡ true → j.task ≡ tasks_of roots log → MakesOne roots log (e ∷ []) (j ∷ [])
+makes_next : (roots : ℕ) (log : List Event) (e : Event) (j : JobFacts) → is_made e ≡ true → j.task ≡ tasks_of roots log → MakesOne roots log (e ∷ []) (j ∷ [])
 makes_next roots log e j is at = inr (j, refl, at, tasks_of-push_made roots log e is)
 
-either : (roots : ℕ) (log es fs : List Event) (js ks : List JobView) (b : Bool) → MakesOne roots log es js → MakesOne roots log fs ks → MakesOne roots log (if b then es else fs) (if b then js else ks)
+either : (roots : ℕ) (log es fs : List Event) (js ks : List JobFacts) (b : Bool) → MakesOne roots log es js → MakesOne roots log fs ks → MakesOne roots log (if b then es else fs) (if b then js else ks)
 either roots log es fs js ks true p q = p
 either roots log es fs js ks false p q = q
 
@@ -57,13 +57,13 @@ effect_makes script t own log (cancelling_task name) =
 effect_makes script t own log (cancelling_group g) = makes_none (root_count script) log (CancelGroup (task t) g) refl
 
 -- jobs are of tasks whose numbers were free before, and are taken after, and of each one at most
-pub record AreNext (n n' : ℕ) (js : List JobView) : Type 0 where
+pub record AreNext (n n' : ℕ) (js : List JobFacts) : Type 0 where
   pub grows : n ≤ n'
   pub below : (x : ℕ) → x < n → times x js ≡ 0
   pub beyond : (x : ℕ) → n' ≤ x → times x js ≡ 0
   pub once : (x : ℕ) → times x js ≤ 1
 
-one_next : (n : ℕ) (j : JobView) → j.task ≡ n → AreNext n (n + 1) (j ∷ [])
+one_next : (n : ℕ) (j : JobFacts) → j.task ≡ n → AreNext n (n + 1) (j ∷ [])
 one_next n j at = record {
   grows = omega arith;
   below = λ x lt. (let none = no_one x j.task (λ e. omega (arith, e, at, lt)) in omega (arith, none));
@@ -71,7 +71,7 @@ one_next n j at = record {
   once = λ x. (let le = at_most_one (x == j.task) in omega (arith, le));
 }
 
-joined : (n m k : ℕ) (js ks : List JobView) → AreNext n m js → AreNext m k ks → AreNext n k (js ++ ks)
+joined : (n m k : ℕ) (js ks : List JobFacts) → AreNext n m js → AreNext m k ks → AreNext n k (js ++ ks)
 joined n m k js ks a b = record {
   grows = (let p = a.grows in let q = b.grows in omega (arith, p, q));
   below = λ x lt. (let p = a.below x lt in let q = b.below x (let g = a.grows in omega (arith, g, lt)) in omega (arith, p, q, times_append x js ks));
@@ -89,10 +89,10 @@ joined n m k js ks a b = record {
 none_next : (n n' : ℕ) → n' ≡ n → AreNext n n' []
 none_next n n' is = record { grows = omega (arith, is); below = λ x lt. refl; beyond = λ x le. refl; once = λ x. omega arith }
 
-are_next : (n n' : ℕ) (js ks : List JobView) → js ≡ ks → AreNext n n' ks → AreNext n n' js
+are_next : (n n' : ℕ) (js ks : List JobFacts) → js ≡ ks → AreNext n n' ks → AreNext n n' js
 are_next n n' js ks is a = subst (AreNext n n') (sym is) a
 
-effect_next : (roots : ℕ) (log es : List Event) (js : List JobView) → MakesOne roots log es js → AreNext (tasks_of roots log) (tasks_of roots (log ++ es)) js
+effect_next : (roots : ℕ) (log es : List Event) (js : List JobFacts) → MakesOne roots log es js → AreNext (tasks_of roots log) (tasks_of roots (log ++ es)) js
 effect_next roots log es js (inl m) = are_next _ _ js [] m.0 (none_next _ _ m.1)
 effect_next roots log es js (inr m) = are_next _ _ js (m.0 ∷ []) m.1 (subst (λ k. AreNext (tasks_of roots log) k (m.0 ∷ [])) (sym m.3) (one_next (tasks_of roots log) m.0 m.2))
 

@@ -6,7 +6,7 @@ use mathlib.Core.Option.{some}
 use lib.ListN.{get_elem?}
 use Rattle.swift_course.specs.Course.{IsCourse, IsGiven, SeatIsRight, is_for, one_if, standing, tickets_in}
 use Rattle.swift_course.specs.Steps.{MayGive, TicketsMayBeOrdered}
-use Rattle.swift_known.specs.Views.{BookFacts, SeatView, Ticket}
+use Rattle.swift_known.specs.Views.{BookFacts, BookKnown, Ticket}
 use Rattle.swift_course.proofs.Lists.{at_set, set_there, total_set}
 use Rattle.swift_course.proofs.Parts.{SameWays, course_with}
 
@@ -16,10 +16,10 @@ set_twice (x ∷ xs) zero a b = refl
 set_twice (x ∷ xs) (suc i) a b = ap (λ ys. x ∷ ys) (set_twice xs i a b)
 
 -- the rule does not depend on the order of a seat's tickets
-reordered : (facts : BookFacts) (views : List SeatView) (seat : ℕ) (v : SeatView) (tickets : List Ticket) → IsCourse facts views → get_elem? views seat ≡ some v → IsPermutation v.tickets tickets
+reordered : (facts : BookFacts) (views : List BookKnown) (seat : ℕ) (v : BookKnown) (tickets : List Ticket) → IsCourse facts views → get_elem? views seat ≡ some v → IsPermutation v.tickets tickets
     → IsCourse facts (set views seat (record v { tickets = tickets }))
 reordered facts views seat v tickets c at moved =
-    let v' : SeatView = record v { tickets = tickets } in
+    let v' : BookKnown = record v { tickets = tickets } in
     let s = c.seats seat v at in
     let same : SameWays facts views (set views seat v') =
     record {
@@ -40,14 +40,14 @@ reordered facts views seat v tickets c at moved =
 
 pub tickets_ordered : TicketsMayBeOrdered
 tickets_ordered v tickets taken given known moved may views seat c at =
-    let v' : SeatView = record v { tickets = tickets } in
+    let v' : BookKnown = record v { tickets = tickets } in
     let g = may (set views seat v') seat (reordered taken views seat v tickets c at moved) (set_there views seat v' v at) in
     (g.0, subst (IsCourse given) (set_twice views seat v' g.0) g.1, g.2)
 
 -- nor does what it knows then
-pub known_ordered : (v : SeatView) (taken given : BookFacts) (known : SeatView) (tickets : List Ticket) → IsPermutation known.tickets tickets → MayGive v taken given known → MayGive v taken given (record known { tickets = tickets })
+pub known_ordered : (v : BookKnown) (taken given : BookFacts) (known : BookKnown) (tickets : List Ticket) → IsPermutation known.tickets tickets → MayGive v taken given known → MayGive v taken given (record known { tickets = tickets })
 known_ordered v taken given known tickets moved may views seat c at =
     let g = may views seat c at in
-    let w : SeatView = record known { tickets = tickets } in
-    let there : IsCourse given (set views seat known) = subst (λ (x : SeatView). IsCourse given (set views seat x)) g.2 g.1 in
+    let w : BookKnown = record known { tickets = tickets } in
+    let there : IsCourse given (set views seat known) = subst (λ (x : BookKnown). IsCourse given (set views seat x)) g.2 g.1 in
     (w, subst (IsCourse given) (set_twice views seat known w) (reordered given (set views seat known) seat known tickets there (set_there views seat known v at) moved), refl)

@@ -12,16 +12,16 @@ use Rattle.swift_course.specs.Course.{IsCourse, IsGiven, IsIn, IsOwned, SeatIsRi
 use Rattle.swift_course.specs.Reports.{SeatsLearn}
 use Rattle.swift_course.specs.Seats.{AccountsMayBeOpened, RunsBegin, SeatsMayBeGathered, SomeTicketsMayBeParted, TicketsMayBeParted, account_parted, first_view, gathered, maker_left, number_of, one_more, some_left, some_parted}
 use Rattle.swift_course.specs.Steps.{BooksMayStay}
-use Rattle.swift_known.specs.Views.{Account, BookFacts, Maker, SeatView, Ticket, no_view}
+use Rattle.swift_known.specs.Views.{Account, BookFacts, Maker, BookKnown, Ticket, no_view}
 use Rattle.swift_course.proofs.Lists.{all_each, at_push, at_set, count_append, equal, if_some, set_again, set_else, total_set, unequal}
 
 -- each task can go on in as many ways as before
-pub record SameWays (facts : BookFacts) (views views' : List SeatView) : Type 0 where
+pub record SameWays (facts : BookFacts) (views views' : List BookKnown) : Type 0 where
   pub sums : (x : ℕ) → sum_by (tickets_in x) views' ≡ sum_by (tickets_in x) views
 
 -- the rule, with other seats, of the same history
-pub course_with : (facts : BookFacts) (views views' : List SeatView) (c : IsCourse facts views) (maker : Maker) (maker_seat : ℕ) (owner : ℕ → ℕ) → SameWays facts views views' → maker.roots ≡ c.maker.roots → c.maker.executors ≤ maker.executors → maker.executors ≤ executor_count facts.script
-    → ((seat : ℕ) (v : SeatView) → get_elem? views' seat ≡ some v → SeatIsRight facts.script c.blocks owner maker maker_seat seat v) → IsCourse facts views'
+pub course_with : (facts : BookFacts) (views views' : List BookKnown) (c : IsCourse facts views) (maker : Maker) (maker_seat : ℕ) (owner : ℕ → ℕ) → SameWays facts views views' → maker.roots ≡ c.maker.roots → c.maker.executors ≤ maker.executors → maker.executors ≤ executor_count facts.script
+    → ((seat : ℕ) (v : BookKnown) → get_elem? views' seat ≡ some v → SeatIsRight facts.script c.blocks owner maker maker_seat seat v) → IsCourse facts views'
 course_with facts views views' c maker maker_seat owner same roots more few seats = record {
   blocks = c.blocks;
   stand = c.stand;
@@ -47,7 +47,7 @@ none_waits zero x = refl
 none_waits (suc n) zero = refl
 none_waits (suc n) (suc x) = none_waits n x
 
-first_right : (script : ScriptView) (j : ℕ) (u : SeatView) → get_elem? (first_view script ∷ []) j ≡ some u → SeatIsRight script [] (λ e. 0) (record { executors = 0; roots = 0 }) 0 j u
+first_right : (script : ScriptView) (j : ℕ) (u : BookKnown) → get_elem? (first_view script ∷ []) j ≡ some u → SeatIsRight script [] (λ e. 0) (record { executors = 0; roots = 0 }) 0 j u
 first_right script zero u at = subst (SeatIsRight script [] (λ e. 0) (record { executors = 0; roots = 0 }) 0 0) (some-injective (first_view script) u at)
     (record { script_is = refl; accounts = All-nil (IsIn []); owns = All-nil (IsOwned (λ e. 0) 0 0); tickets = All-nil (IsGiven (standing script [])); maker_is = (refl, refl) })
 first_right script (suc j) u at = absurd (some-ne-none u (sym at))
@@ -134,7 +134,7 @@ old_owner : (m l : ℕ) (owner : ℕ → ℕ) (e : ℕ) → e ≢ m → (if e ==
 old_owner m l owner e apart = ap (λ b. if b then l else owner e) (unequal e m apart)
 
 -- a seat that is not touched, when there is one executor more
-still_right : (facts : BookFacts) (blocks : List Block) (owner : ℕ → ℕ) (maker : Maker) (maker_seat seat j l : ℕ) (u : SeatView) → SeatIsRight facts.script blocks owner maker maker_seat j u → maker_seat ≡ seat → j ≢ seat
+still_right : (facts : BookFacts) (blocks : List Block) (owner : ℕ → ℕ) (maker : Maker) (maker_seat seat j l : ℕ) (u : BookKnown) → SeatIsRight facts.script blocks owner maker maker_seat j u → maker_seat ≡ seat → j ≢ seat
     → SeatIsRight facts.script blocks (λ e. if e == maker.executors then l else owner e) (record maker { executors = maker.executors + 1 }) seat j u
 still_right facts blocks owner maker maker_seat seat j l u r is apart = record {
   script_is = r.script_is;
@@ -144,7 +144,7 @@ still_right facts blocks owner maker maker_seat seat j l u r is apart = record {
   maker_is = if_some u.maker (λ m. (m ≡ maker) × (maker_seat ≡ j)) (λ m. (m ≡ record maker { executors = maker.executors + 1 }) × (seat ≡ j)) (λ m known. absurd (apart (sym known.1 ∙ is))) r.maker_is;
 }
 
-open_next : (facts : BookFacts) (views : List SeatView) (seat : ℕ) (v : SeatView) (c : IsCourse facts views) → get_elem? views seat ≡ some v → v.maker ≡ Some c.maker → c.maker_seat ≡ seat → c.maker.executors < executor_count facts.script
+open_next : (facts : BookFacts) (views : List BookKnown) (seat : ℕ) (v : BookKnown) (c : IsCourse facts views) → get_elem? views seat ≡ some v → v.maker ≡ Some c.maker → c.maker_seat ≡ seat → c.maker.executors < executor_count facts.script
     → IsCourse facts (set views seat (maker_left v) ++ account_parted v ∷ [])
 open_next facts views seat v c at makes maker_seat lt =
     let s = c.seats seat v at in

@@ -14,7 +14,7 @@ use Rattle.swift_history.specs.Histories.{added, Standing, after_block, at_first
 use Rattle.swift_history.specs.TurnEnds.{root_events, root_job}
 use Rattle.swift_course.specs.Course.{IsCourse, IsGiven, IsIn, is_for, one_if, ways, standing, starts, tickets_in}
 use Rattle.swift_course.specs.Steps.{RootsMayBeAdded, knowing_root, with_root}
-use Rattle.swift_known.specs.Views.{BookFacts, Maker, SeatView, Ticket, fresh}
+use Rattle.swift_known.specs.Views.{BookFacts, Maker, BookKnown, Ticket, fresh}
 use Rattle.swift_course.proofs.Blocks.{after_push, filter_none, filter_some, range_next, stand_push}
 use Rattle.swift_course.proofs.Lists.{all_each, count_append, count_cons, equal, if_some, no_one, one, total_most, total_set, unequal}
 use Rattle.swift_course.proofs.Seats.{given_fresh, seats_after, tickets_stay}
@@ -42,7 +42,7 @@ given : (script : ScriptView) (s : Standing) (r : ℕ) → All (IsGiven (after_r
 given script s r = given_fresh (after_root script s r) (root_job script r ∷ []) (ap (λ b. if b then Some (root_job script r) else s.jobs r) (equal r r refl), tt)
 
 -- the rule's own maker adds the root
-add_next : (v : SeatView) (taken : BookFacts) (views : List SeatView) (seat : ℕ) (c : IsCourse taken views) → get_elem? views seat ≡ some v → v.maker ≡ Some c.maker → c.maker_seat ≡ seat
+add_next : (v : BookKnown) (taken : BookFacts) (views : List BookKnown) (seat : ℕ) (c : IsCourse taken views) → get_elem? views seat ≡ some v → v.maker ≡ Some c.maker → c.maker_seat ≡ seat
     → nat_lt c.maker.roots (root_count taken.script) ≡ true → (life_of c.maker.roots taken.log).origin ≡ None
     → IsCourse (with_root taken c.maker.roots) (set views seat (knowing_root taken.script c.maker v))
 add_next v taken views seat c at makes maker_seat lt unborn =

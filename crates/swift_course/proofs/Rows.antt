@@ -1,6 +1,6 @@
 -- Some steps, worked out by hand and computed. The script doesn't matter: no task is made.
 use Rattle.std.proofs.Common.{◌≡◌, ℤ, Option, Some, None, List, [], ◌∷◌, ◌++◌, refl}
-use Rattle.script_code.specs.declared.env.Env.{Env}
+use Rattle.swift_types.specs.declared.env.Env.{Env}
 use Rattle.swift_types.specs.declared.outcome.Ending.TheVariants as ending
 use Rattle.swift_types.specs.declared.outcome.Resume.TheVariants as resume
 use Rattle.swift_types.specs.declared.priority.Priority.TheVariants.{Medium}
@@ -11,12 +11,12 @@ use Rattle.swift_events.specs.declared.event.Event.{Event}
 use Rattle.swift_events.specs.declared.event.Event.TheVariants.{Root, Begin, Apply, Wait, End, Give}
 use Rattle.swift_events.specs.Lives.{life}
 use Rattle.swift_journal.specs.Records.{RecordView}
-use Rattle.swift_history.specs.TurnEnds.{HeldView, JobView, task}
+use Rattle.swift_history.specs.TurnEnds.{WaitingTaskView, JobFacts, task}
 use Rattle.swift_course.specs.Course.{ways}
 use Rattle.swift_course.specs.Steps.{knowing_begin, knowing_turn, with_begin, with_turn}
-use Rattle.swift_known.specs.Views.{Account, BookFacts, SeatView, Ticket, no_view, fresh}
+use Rattle.swift_known.specs.Views.{Account, BookFacts, BookKnown, Ticket, no_view, fresh}
 
-abbrev job : FrameView → JobView
+abbrev job : FrameView → JobFacts
 job p = record { task = 0; number = 0; resume = resume.Start; frames = record { frames = p ∷ []; outer = [] } }
 
 abbrev turn : FrameView → Env → ExitView → Option FrameView → RecordView
@@ -28,7 +28,7 @@ log env = Root (task 0) Medium ∷ Give (task 0) 0 resume.Start ∷ Root (task 1
 abbrev account : Account
 account = record { executor = 0; records = [] }
 
-abbrev seat : FrameView → Option Env → SeatView
+abbrev seat : FrameView → Option Env → BookKnown
 seat p begun = record no_view { accounts = account ∷ []; tickets = record { job = job p; begun = begun } ∷ [] }
 
 -- a turn begins
@@ -39,11 +39,11 @@ begins : (s : ScriptView) (p : FrameView) (env : Env) →
 begins s p env = (refl, refl)
 
 -- a task ends for which another has waited: its ticket goes, and one for that comes, which waits no more
-ends : (s : ScriptView) (p : FrameView) (env : Env) (h : HeldView) (v : ℤ) →
+ends : (s : ScriptView) (p : FrameView) (env : Env) (h : WaitingTaskView) (v : ℤ) →
     let facts : BookFacts = record { script = s; log = log env; held = None ∷ Some (record h { number = 1 }) ∷ [] } in
     let k : Ticket = record { job = job p; begun = Some env } in
     let r = turn p env (returning v) None in
-    let next : JobView = record { task = 1; number = 1; resume = resume.Value v; frames = h.frames } in
+    let next : JobFacts = record { task = 1; number = 1; resume = resume.Value v; frames = h.frames } in
     (with_turn facts (job p) r ≡ record { script = s; log = log env ++ Apply (task 0) 0 ∷ End (task 0) (ending.Value v) ∷ Give (task 1) 1 (resume.Value v) ∷ []; held = None ∷ None ∷ [] })
     × (knowing_turn facts account k [] r (seat p (Some env)) ≡ record no_view { accounts = record { executor = 0; records = r ∷ [] } ∷ []; tickets = fresh next ∷ [] })
     × (ways 0 facts (seat p (Some env) ∷ []) ≡ 1) × (ways 1 facts (seat p (Some env) ∷ []) ≡ 1)
@@ -56,7 +56,7 @@ ends s p env h v = (refl, refl, refl, refl, refl, refl)
 yields : (s : ScriptView) (p q : FrameView) (env : Env) →
     let facts : BookFacts = record { script = s; log = Root (task 0) Medium ∷ Begin (task 0) 0 env ∷ []; held = None ∷ [] } in
     let r = turn p env yielding (Some q) in
-    let next : JobView = record { task = 0; number = 1; resume = resume.Go; frames = record { frames = q ∷ []; outer = [] } } in
+    let next : JobFacts = record { task = 0; number = 1; resume = resume.Go; frames = record { frames = q ∷ []; outer = [] } } in
     (with_turn facts (job p) r ≡ record { script = s; log = facts.log ++ Apply (task 0) 0 ∷ Give (task 0) 1 resume.Go ∷ []; held = None ∷ [] })
     × (knowing_turn facts account (record { job = job p; begun = Some env }) [] r (seat p (Some env)) ≡ record no_view { accounts = record { executor = 0; records = r ∷ [] } ∷ []; tickets = fresh next ∷ [] })
 unfolding life

@@ -3,7 +3,7 @@ use Rattle.std.proofs.Common.{◌≡◌, ℕ, zero, suc, List, [], ◌∷◌, �
 use mathlib.Core.Option.{some, some-injective, some-ne-none}
 use lib.ListN.{get_elem?}
 use Rattle.swift_course.specs.Course.{IsCourse}
-use Rattle.swift_known.specs.Views.{SeatView}
+use Rattle.swift_known.specs.Views.{BookKnown}
 use Rattle.swift_course.proofs.Parts.{seat_learns}
 use Rattle.swift_known.specs.declared.known.Known.{Known}
 use Rattle.swift_course.specs.Rule.{GivesAreKept, JoinsAreKept, PartsAreKept, SeatsLearnOf, views_of}
@@ -33,11 +33,11 @@ gives v taken given known may all seat holds at =
 
 pub parts : PartsAreKept
 parts v left right may image all seat holds at =
-    subst (IsCourse image.facts) (sym (views_push (set all seat left) right ∙ ap (λ (vs : List SeatView). vs ++ right.view ∷ []) (views_set all seat left)))
+    subst (IsCourse image.facts) (sym (views_push (set all seat left) right ∙ ap (λ (vs : List BookKnown). vs ++ right.view ∷ []) (views_set all seat left)))
     (may image.facts (views_of all) seat holds (at_view all seat v at))
 
 pub joins : JoinsAreKept
 joins v w both spent may image all seat other holds at apart at' =
     let front = views_set all seat both in
-    subst (IsCourse image.facts) (sym (views_set (set all seat both) other spent ∙ ap (λ (vs : List SeatView). set vs other spent.view) front))
-    (may image.facts (views_of all) seat other holds (at_view all seat v at) apart (ap (λ (vs : List SeatView). get_elem? vs other) (sym front) ∙ at_view (set all seat both) other w at'))
+    subst (IsCourse image.facts) (sym (views_set (set all seat both) other spent ∙ ap (λ (vs : List BookKnown). set vs other spent.view) front))
+    (may image.facts (views_of all) seat other holds (at_view all seat v at) apart (ap (λ (vs : List BookKnown). get_elem? vs other) (sym front) ∙ at_view (set all seat both) other w at'))

@@ -7,9 +7,9 @@ use Rattle.swift_types.specs.declared.id.TaskId.{TaskId}
 use Rattle.swift_types.specs.declared.outcome.Ending.{Ending}
 use Rattle.swift_types.specs.declared.outcome.Fault.{Fault}
 use Rattle.swift_types.specs.declared.priority.Priority.{Priority}
-use Rattle.script_code.specs.declared.env.Env.{Env}
-use Rattle.swift_groups.specs.declared.answer.Next.{Next as Answer}
-use Rattle.swift_groups.specs.declared.answer.Next.TheVariants as answer
+use Rattle.swift_types.specs.declared.env.Env.{Env}
+use Rattle.swift_groups.specs.declared.answer.NextResult.{NextResult as Answer}
+use Rattle.swift_groups.specs.declared.answer.NextResult.TheVariants as answer
 use Rattle.swift_groups.specs.Next.{next_of}
 use Rattle.swift_script.specs.Scripts.{ScriptView, root_count}
 use Rattle.swift_interpreter.specs.Turn.{EffectView, spawning, detaching, opening, adding, cancelling_task, cancelling_group, ExitView, calling, waiting, asking_next, closing, yielding, returning, failing}
@@ -18,18 +18,18 @@ use Rattle.swift_turn.specs.declared.step.Step.TheVariants.{Run, Ended, Await}
 use Rattle.swift_events.specs.declared.event.Event.{Event}
 use Rattle.swift_events.specs.declared.event.Event.TheVariants.{Begin, CancelTask}
 use Rattle.swift_events.specs.declared.life.Life.{Life}
-use Rattle.swift_events.specs.declared.life.Stage.{Stage}
-use Rattle.swift_events.specs.declared.life.Stage.TheVariants.{Begun}
+use Rattle.swift_events.specs.declared.life.JobStage.{JobStage}
+use Rattle.swift_events.specs.declared.life.JobStage.TheVariants.{Begun}
 use Rattle.swift_events.specs.Events.{is_made, later, task_of, tasks_of}
 use Rattle.swift_events.specs.Lives.{life_of, stage_in}
 use Rattle.swift_events.specs.Relations.{group_of}
 use Rattle.swift_events.proofs.LogLemmas.{life_of-push_other, life_of-push_same, tasks_of-push_other}
-use Rattle.swift_history.specs.TurnEnds.{JobView, close_events, effect_events, end_events, exit_events, gives, is_left_out, log_after, named_task, next_events, wait_events}
+use Rattle.swift_history.specs.TurnEnds.{JobFacts, close_events, effect_events, end_events, exit_events, gives, is_left_out, log_after, named_task, next_events, wait_events}
 use Rattle.swift_course.proofs.Lists.{one}
 use Rattle.swift_course.proofs.Made.{effect_grows}
 use Rattle.swift_course.proofs.Waking.{times}
 
-abbrev pub stage_of : ℕ → List Event → Option Stage
+abbrev pub stage_of : ℕ → List Event → Option JobStage
 stage_of x log = (life_of x log).stage
 
 -- an event that leaves the stage of a task as it is
@@ -43,7 +43,7 @@ AreSilent x (e ∷ es) = IsSilent x e × AreSilent x es
 stage_push : (x : ℕ) (log : List Event) (e : Event) → IsSilent x e → stage_of x (log ++ e ∷ []) ≡ stage_of x log
 stage_push x log e (inl apart) = ap (λ (l : Life). l.stage) (life_of-push_other x log e apart)
 stage_push x log e (inr none) = elim (cases_eq (task_of e) x) [
-  | inl same ↦ ap (λ (l : Life). l.stage) (life_of-push_same x log e same) ∙ ap (λ (o : Option Stage). later o (life_of x log).stage) none
+  | inl same ↦ ap (λ (l : Life). l.stage) (life_of-push_same x log e same) ∙ ap (λ (o : Option JobStage). later o (life_of x log).stage) none
   | inr apart ↦ ap (λ (l : Life). l.stage) (life_of-push_other x log e apart)
 ]
 
@@ -127,10 +127,10 @@ exit_idle t roots log exit step = tasks_stay (exit_events t log exit step) roots
 
 -- jobs that are given
 
-pub gives_idle : (js : List JobView) → AreIdle (gives js)
+pub gives_idle : (js : List JobFacts) → AreIdle (gives js)
 gives_idle [] = tt
 gives_idle (j ∷ js) = (refl, gives_idle js)
 
-pub gives_silent : (js : List JobView) (x : ℕ) → times x js ≡ 0 → AreSilent x (gives js)
+pub gives_silent : (js : List JobFacts) (x : ℕ) → times x js ≡ 0 → AreSilent x (gives js)
 gives_silent [] x none = tt
 gives_silent (j ∷ js) x none = (inl (λ same. (let own = one x j.task (sym same) in omega (arith, own, none))), gives_silent js x (omega (arith, none)))

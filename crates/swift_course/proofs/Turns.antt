@@ -8,7 +8,7 @@ use Rattle.swift_turn.specs.Body.{Advanced}
 use Rattle.swift_events.specs.declared.event.Event.{Event}
 use Rattle.swift_events.specs.declared.event.Event.TheVariants.{Apply}
 use Rattle.swift_events.specs.Events.{tasks_of}
-use Rattle.swift_history.specs.TurnEnds.{Follows, HeldView, TurnEnd, exit_events, exit_resume, followed, gives, jobs_made, log_after, task, turn_end}
+use Rattle.swift_history.specs.TurnEnds.{AfterTurn, WaitingTaskView, TurnEnd, exit_events, exit_resume, followed, gives, jobs_made, log_after, task, turn_end}
 use Rattle.swift_course.specs.Course.{one_if, waits}
 use Rattle.swift_course.proofs.Made.{AreNext, made_next}
 use Rattle.swift_course.proofs.Stages.{effects_stay, exit_idle, exit_stays, gives_idle, gives_silent, stage_of, stage_stays, tasks_stay}
@@ -16,14 +16,14 @@ use Rattle.swift_course.proofs.Waking.{followed_ways, room_waits, times}
 
 -- Each task can go on in no more ways than before, but the turn's own in one more, and each that the turn makes in one. The stage of a
 -- task that gets no job is as it was.
-pub record TurnLeaves (roots : ℕ) (log : List Event) (held : List (Option HeldView)) (t : ℕ) (e : TurnEnd) : Type 0 where
+pub record TurnLeaves (roots : ℕ) (log : List Event) (held : List (Option WaitingTaskView)) (t : ℕ) (e : TurnEnd) : Type 0 where
   pub grows : tasks_of roots log ≤ tasks_of roots e.log
   pub old : (x : ℕ) → x < tasks_of roots log → times x e.jobs + waits x e.held ≤ waits x held + one_if (x == t)
   pub new : (x : ℕ) → times x e.jobs + waits x e.held ≤ waits x held + one_if (x == t) + 1
   pub beyond : (x : ℕ) → tasks_of roots e.log ≤ x → times x e.jobs + waits x e.held ≤ waits x held + one_if (x == t)
   pub stage : (x : ℕ) → t ≢ x → x < tasks_of roots log → times x e.jobs ≡ 0 → stage_of x e.log ≡ stage_of x log
 
-pub turn_leaves : (script : ScriptView) (log : List Event) (held : List (Option HeldView)) (t n : ℕ) (own : Priority) (effects : List EffectView) (exit : ExitView) (after : Advanced)
+pub turn_leaves : (script : ScriptView) (log : List Event) (held : List (Option WaitingTaskView)) (t n : ℕ) (own : Priority) (effects : List EffectView) (exit : ExitView) (after : Advanced)
     → TurnLeaves (root_count script) log held t (turn_end script log held t n own effects exit after)
 turn_leaves script log held t n own effects exit after =
     let roots = root_count script in
@@ -31,7 +31,7 @@ turn_leaves script log held t n own effects exit after =
     let done = log_after roots t own start effects in
     let written = done ++ exit_events t done exit after.step in
     let made = jobs_made script t own start effects in
-    let f0 : Follows = record { held = held ++ replicate (length made) None; jobs = made } in
+    let f0 : AfterTurn = record { held = held ++ replicate (length made) None; jobs = made } in
     let f = followed t (n + 1) after.task (exit_resume t done exit after.step) after.step written f0 in
     let next : AreNext (tasks_of roots start) (tasks_of roots done) made = made_next effects script t own start in
     let started : tasks_of roots start ≡ tasks_of roots log = tasks_stay (Apply (task t) n ∷ []) roots log (refl, tt) in

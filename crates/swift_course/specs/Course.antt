@@ -5,13 +5,13 @@ use Rattle.std.specs.List.{range_with_len}
 use mathlib.Core.Option.{some}
 use lib.ListN.{get_elem?}
 use Rattle.swift_script.specs.Scripts.{ScriptView, executor_count, executor_start, root_count}
-use Rattle.swift_events.specs.declared.life.Stage.TheVariants.{Begun}
+use Rattle.swift_events.specs.declared.life.JobStage.TheVariants.{Begun}
 use Rattle.swift_events.specs.Events.{tasks_of}
 use Rattle.swift_events.specs.Lives.{life_of}
 use Rattle.swift_journal.specs.Checkpoints.{CheckpointView}
 use Rattle.swift_history.specs.Histories.{AllStand, Block, Standing, after_blocks, at_first, folded_of, records_of, roots_of}
-use Rattle.swift_history.specs.TurnEnds.{HeldView}
-use Rattle.swift_known.specs.Views.{Account, BookFacts, Maker, SeatView, Ticket}
+use Rattle.swift_history.specs.TurnEnds.{WaitingTaskView}
+use Rattle.swift_known.specs.Views.{Account, BookFacts, Maker, BookKnown, Ticket}
 
 -- the checkpoints of a run that has not begun: the values that the fields start with, and no turn
 abbrev pub start_of : ScriptView → ℕ → CheckpointView
@@ -41,21 +41,21 @@ pub record IsGiven (s : Standing) (k : Ticket) : Type 0 where
 abbrev pub is_for : ℕ → Ticket → Bool
 is_for t k = t == k.job.task
 
-abbrev pub tickets_in : ℕ → SeatView → ℕ
+abbrev pub tickets_in : ℕ → BookKnown → ℕ
 tickets_in t v = count_by (is_for t) v.tickets
 
 -- in how many ways a task can go on: by each ticket for it, and where it waits and is woken
 abbrev pub one_if : Bool → ℕ
 one_if b = cond b 1 0
 
-abbrev pub waits : ℕ → List (Option HeldView) → ℕ
+abbrev pub waits : ℕ → List (Option WaitingTaskView) → ℕ
 waits t held = one_if (is_some (slice_index_or held t None))
 
-abbrev pub ways : ℕ → BookFacts → List SeatView → ℕ
+abbrev pub ways : ℕ → BookFacts → List BookKnown → ℕ
 ways t facts views = sum_by (tickets_in t) views + waits t facts.held
 
 -- What a seat knows is true. No other seat has its accounts, and no other opens accounts and adds roots if it does.
-pub record SeatIsRight (script : ScriptView) (blocks : List Block) (owner : ℕ → ℕ) (maker : Maker) (maker_seat seat : ℕ) (v : SeatView) : Type 0 where
+pub record SeatIsRight (script : ScriptView) (blocks : List Block) (owner : ℕ → ℕ) (maker : Maker) (maker_seat seat : ℕ) (v : BookKnown) : Type 0 where
   pub script_is : IfSome v.script (λ known. script ≡ known)
   pub accounts : All (IsIn blocks) v.accounts
   pub owns : All (IsOwned owner maker.executors seat) v.accounts
@@ -63,7 +63,7 @@ pub record SeatIsRight (script : ScriptView) (blocks : List Block) (owner : ℕ 
   pub maker_is : IfSome v.maker (λ known. (known ≡ maker) × (maker_seat ≡ seat))
 
 -- The rule: what holds of the book and of what all seats know, between any two steps of threads.
-pub record IsCourse (facts : BookFacts) (views : List SeatView) : Type 0 where
+pub record IsCourse (facts : BookFacts) (views : List BookKnown) : Type 0 where
   -- Some history, each block of which may stand where it stands, led to what the book has, and folded no turn.
   pub blocks : List Block
   pub stand : AllStand facts.script (starts facts.script) [] blocks
@@ -81,4 +81,4 @@ pub record IsCourse (facts : BookFacts) (views : List SeatView) : Type 0 where
   pub single : (t : ℕ) → ways t facts views ≤ 1
   pub unadded : (t : ℕ) → maker.roots ≤ t → t < root_count facts.script → ways t facts views ≡ 0
   pub unmade : (t : ℕ) → tasks_of (root_count facts.script) facts.log ≤ t → ways t facts views ≡ 0
-  pub seats : (seat : ℕ) (v : SeatView) → get_elem? views seat ≡ some v → SeatIsRight facts.script blocks owner maker maker_seat seat v
+  pub seats : (seat : ℕ) (v : BookKnown) → get_elem? views seat ≡ some v → SeatIsRight facts.script blocks owner maker maker_seat seat v

@@ -1,6 +1,6 @@
 -- The frame of a turn in a job, and in a record (our own).
 use Rattle.std.specs.Prelude.{◌≡◌, ℕ, ℤ, Option, Some, None, List}
-use Rattle.script_code.specs.declared.env.Env.{Env}
+use Rattle.swift_types.specs.declared.env.Env.{Env}
 use Rattle.swift_types.specs.declared.outcome.Resume.{Resume}
 use Rattle.swift_script.specs.Scripts.{ScriptView}
 use Rattle.swift_interpreter.specs.Frames.{FrameView}

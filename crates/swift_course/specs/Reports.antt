@@ -15,11 +15,11 @@ use Rattle.swift_journal.specs.Replay.{replay}
 use Rattle.swift_history.specs.Histories.{AllStand, Block, IsLegal, ReportView, records_of, roots_of}
 use Rattle.swift_history.specs.Histories as history
 use Rattle.swift_course.specs.Course.{IsCourse, IsGiven, IsIn, standing, starts}
-use Rattle.swift_known.specs.Views.{BookFacts, SeatView}
+use Rattle.swift_known.specs.Views.{BookFacts, BookKnown}
 
 -- Some history, which folded no turn, led to the book. It has the records of the seat's accounts and gives the jobs of its tickets.
 -- Where the seat opens accounts and adds roots, no executor past those has a record, and the roots were added in order.
-pub record HasHistory (v : SeatView) (facts : BookFacts) : Type 0 where
+pub record HasHistory (v : BookKnown) (facts : BookFacts) : Type 0 where
   pub blocks : List Block
   pub stand : AllStand facts.script (starts facts.script) [] blocks
   pub none_folded : (e : ℕ) → history.folded_of e blocks ≡ []
@@ -30,16 +30,16 @@ pub record HasHistory (v : SeatView) (facts : BookFacts) : Type 0 where
   pub roots : IfSome v.maker (λ m. roots_of blocks ≡ range_with_len 0 m.roots)
 
 -- what a seat learns of what it takes
-abbrev pub Knows : SeatView → BookFacts → Type 0
+abbrev pub Knows : BookKnown → BookFacts → Type 0
 Knows v facts = IfSome v.script (λ known. facts.script ≡ known) × HasHistory v facts
 
 -- Whatever else is known, a seat learns this.
 abbrev pub SeatsLearn : Type 0
-SeatsLearn = (v : SeatView) (facts : BookFacts) (views : List SeatView) (seat : ℕ) → IsCourse facts views → get_elem? views seat ≡ some v → Knows v facts
+SeatsLearn = (v : BookKnown) (facts : BookFacts) (views : List BookKnown) (seat : ℕ) → IsCourse facts views → get_elem? views seat ≡ some v → Knows v facts
 
 -- What is left of an executor: the first turns of its account are those of its checkpoint, whose fields they give; the others are
 -- its journal, which gives its fields from there.
-pub record IsAccountedFor (script : ScriptView) (v : SeatView) (e : ℕ) (journal : List RecordView) (checkpoint : CheckpointView) (fields : List (List ℤ)) : Type 0 where
+pub record IsAccountedFor (script : ScriptView) (v : BookKnown) (e : ℕ) (journal : List RecordView) (checkpoint : CheckpointView) (fields : List (List ℤ)) : Type 0 where
   pub past : List RecordView
   pub account : Contains v.accounts (record { executor = e; records = past ++ journal })
   pub folded : checkpoint.folded ≡ map folded_of past
@@ -48,7 +48,7 @@ pub record IsAccountedFor (script : ScriptView) (v : SeatView) (e : ℕ) (journa
 
 -- The report has the log of a book, and of each executor of the script what is left of it. Each task has ended as the report says,
 -- and has closed each group that it has opened.
-pub record IsReportOf (facts : BookFacts) (v : SeatView) (report : ReportView) : Type 0 where
+pub record IsReportOf (facts : BookFacts) (v : BookKnown) (report : ReportView) : Type 0 where
   pub log_is : report.log ≡ facts.log
   pub executors : (length report.journals ≡ executor_count facts.script) × (length report.checkpoints ≡ executor_count facts.script) × (length report.fields ≡ executor_count facts.script)
   pub each : (e : ℕ) (journal : List RecordView) (checkpoint : CheckpointView) (fields : List (List ℤ)) → slice_get report.journals e ≡ Some journal → slice_get report.checkpoints e ≡ Some checkpoint → slice_get report.fields e ≡ Some fields → IsAccountedFor facts.script v e journal checkpoint fields
@@ -58,5 +58,5 @@ pub record IsReportOf (facts : BookFacts) (v : SeatView) (report : ReportView) :
 
 -- Where a seat has all accounts, and has added all roots, such a report is legal.
 abbrev pub RunsAreLegal : Type 0
-RunsAreLegal = (facts : BookFacts) (v : SeatView) (report : ReportView) → HasHistory v facts
+RunsAreLegal = (facts : BookFacts) (v : BookKnown) (report : ReportView) → HasHistory v facts
     → v.maker ≡ Some (record { executors = executor_count facts.script; roots = root_count facts.script }) → IsReportOf facts v report → IsLegal facts.script report

@@ -6,12 +6,12 @@ use Rattle.swift_course.specs.Course.{IsCourse}
 use Rattle.swift_course.specs.Reports.{Knows}
 use Rattle.swift_course.specs.Seats.{MayPart, MayTakeIn}
 use Rattle.swift_course.specs.Steps.{MayGive}
-use Rattle.swift_known.specs.Views.{SeatView}
+use Rattle.swift_known.specs.Views.{BookKnown}
 use Rattle.swift_known.specs.declared.known.BookImage.{BookImage}
 use Rattle.swift_known.specs.declared.known.Known.{Known}
 
 -- what all seats know
-abbrev pub views_of : List Known → List SeatView
+abbrev pub views_of : List Known → List BookKnown
 views_of all = map (λ k. k.view) all
 
 -- what holds of the book and of what all seats know, between any two steps of threads
@@ -24,7 +24,7 @@ SeatsLearnOf = (v : Known) (image : BookImage) (all : List Known) (seat : ℕ) �
 
 -- What a seat may give back for what it took, and what it knows then.
 abbrev pub GivesAreKept : Type 0
-GivesAreKept = (v : Known) (taken given : BookImage) (known : SeatView) → MayGive v.view taken.facts given.facts known
+GivesAreKept = (v : Known) (taken given : BookImage) (known : BookKnown) → MayGive v.view taken.facts given.facts known
     → (all : List Known) (seat : ℕ) → HoldsOf taken all → get_elem? all seat ≡ some v → (w : Known) × HoldsOf given (set all seat w) × (w.view ≡ known)
 
 -- How a seat may be parted.

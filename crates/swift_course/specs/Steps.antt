@@ -2,69 +2,69 @@
 use Rattle.std.specs.Prelude.{◌≡◌, ℕ, ◌+◌, true, nat_lt, Some, None, List, [], ◌∷◌, ◌++◌, map, set, IsPermutation}
 use mathlib.Core.Option.{some}
 use lib.ListN.{get_elem?}
-use Rattle.script_code.specs.declared.env.Env.{Env}
+use Rattle.swift_types.specs.declared.env.Env.{Env}
 use Rattle.swift_script.specs.Scripts.{ScriptView, actor_executor, executor_start, method_actor, root_count}
 use Rattle.swift_turn.specs.Body.{HasFirst, advanced, callers_of}
 use Rattle.swift_events.specs.declared.event.Event.TheVariants.{Begin}
-use Rattle.swift_events.specs.declared.life.Stage.TheVariants.{Begun}
+use Rattle.swift_events.specs.declared.life.JobStage.TheVariants.{Begun}
 use Rattle.swift_events.specs.Lives.{life_of}
 use Rattle.swift_events.specs.Room.{IsEnv}
 use Rattle.swift_journal.specs.Records.{RecordView}
 use Rattle.swift_journal.specs.Replay.{IsLawfulRecord, replay}
 use Rattle.swift_history.specs.Checks.{counters, fits_turn, is_current}
 use Rattle.swift_history.specs.Histories.{begun_priority, left_as}
-use Rattle.swift_history.specs.TurnEnds.{JobView, TurnEnd, root_events, root_job, task, turn_end}
+use Rattle.swift_history.specs.TurnEnds.{JobFacts, TurnEnd, root_events, root_job, task, turn_end}
 use Rattle.swift_course.specs.Course.{IsCourse}
-use Rattle.swift_known.specs.Views.{Account, BookFacts, Maker, SeatView, Ticket, fresh}
+use Rattle.swift_known.specs.Views.{Account, BookFacts, Maker, BookKnown, Ticket, fresh}
 
 -- Whatever else is known, a seat that knows v may give back this for what it took, and knows this then.
-abbrev pub MayGive : SeatView → BookFacts → BookFacts → SeatView → Type 0
-MayGive v taken given known = (views : List SeatView) (seat : ℕ) → IsCourse taken views → get_elem? views seat ≡ some v → (w : SeatView) × IsCourse given (set views seat w) × (w ≡ known)
+abbrev pub MayGive : BookKnown → BookFacts → BookFacts → BookKnown → Type 0
+MayGive v taken given known = (views : List BookKnown) (seat : ℕ) → IsCourse taken views → get_elem? views seat ≡ some v → (w : BookKnown) × IsCourse given (set views seat w) × (w ≡ known)
 
 -- the next root is added
 
 abbrev pub with_root : BookFacts → ℕ → BookFacts
 with_root facts r = record facts { log = facts.log ++ root_events facts.script r }
 
-abbrev pub knowing_root : ScriptView → Maker → SeatView → SeatView
+abbrev pub knowing_root : ScriptView → Maker → BookKnown → BookKnown
 knowing_root script m v = record v { tickets = v.tickets ++ fresh (root_job script m.roots) ∷ []; maker = Some (record m { roots = m.roots + 1 }) }
 
 -- A seat that adds roots may add the next one, where the script has one more and it was not added.
 abbrev pub RootsMayBeAdded : Type 0
-RootsMayBeAdded = (v : SeatView) (taken : BookFacts) (m : Maker) → v.maker ≡ Some m
+RootsMayBeAdded = (v : BookKnown) (taken : BookFacts) (m : Maker) → v.maker ≡ Some m
     → nat_lt m.roots (root_count taken.script) ≡ true → (life_of m.roots taken.log).origin ≡ None
     → MayGive v taken (with_root taken m.roots) (knowing_root taken.script m v)
 
 -- a turn begins
 
-abbrev pub with_begin : BookFacts → JobView → Env → BookFacts
+abbrev pub with_begin : BookFacts → JobFacts → Env → BookFacts
 with_begin facts j env = record facts { log = facts.log ++ Begin (task j.task) j.number env ∷ [] }
 
-abbrev pub knowing_begin : Ticket → List Ticket → Env → SeatView → SeatView
+abbrev pub knowing_begin : Ticket → List Ticket → Env → BookKnown → BookKnown
 knowing_begin k rest env v = record v { tickets = record k { begun = Some env } ∷ rest }
 
 -- A seat may begin the turn of its first ticket, where it is the task's current one, in the environment of the log. It may have
 -- begun before.
 abbrev pub TurnsMayBegin : Type 0
-TurnsMayBegin = (v : SeatView) (taken : BookFacts) (k : Ticket) (rest : List Ticket) (env : Env) → v.tickets ≡ k ∷ rest
+TurnsMayBegin = (v : BookKnown) (taken : BookFacts) (k : Ticket) (rest : List Ticket) (env : Env) → v.tickets ≡ k ∷ rest
     → is_current (life_of k.job.task taken.log) k.job.number k.job.resume ≡ true → IsEnv (root_count taken.script) (task k.job.task) taken.log env
     → MayGive v taken (with_begin taken k.job env) (knowing_begin k rest env v)
 
 -- a turn is applied
 
 -- the end of the turn of a job, as a record has it: what it leaves of a book, and the jobs that it makes
-abbrev pub end_of : BookFacts → JobView → RecordView → TurnEnd
+abbrev pub end_of : BookFacts → JobFacts → RecordView → TurnEnd
 end_of facts j r =
     turn_end facts.script facts.log facts.held j.task j.number (begun_priority (life_of j.task facts.log).stage) r.effects r.exit
     (advanced facts.script (left_as r.frame r.effects r.after) (callers_of j.frames.frames) j.frames.outer r.exit)
 
-abbrev pub with_turn : BookFacts → JobView → RecordView → BookFacts
+abbrev pub with_turn : BookFacts → JobFacts → RecordView → BookFacts
 with_turn facts j r = record facts { log = (end_of facts j r).log; held = (end_of facts j r).held }
 
 abbrev pub with_record : RecordView → Account → Account
 with_record r a = record a { records = a.records ++ r ∷ [] }
 
-abbrev pub knowing_turn : BookFacts → Account → Ticket → List Ticket → RecordView → SeatView → SeatView
+abbrev pub knowing_turn : BookFacts → Account → Ticket → List Ticket → RecordView → BookKnown → BookKnown
 knowing_turn taken a k rest r v = record v { accounts = with_record r a ∷ []; tickets = map fresh (end_of taken k.job r).jobs ++ rest }
 
 -- The record is of the job of a ticket whose turn has begun, on the executor of an account. The turn is the task's current one, its
@@ -84,14 +84,14 @@ pub record IsTurn (facts : BookFacts) (a : Account) (k : Ticket) (r : RecordView
 -- A seat of one account may apply the turn of its first ticket. Then the account has the record, and for the ticket come those of
 -- the jobs that the turn makes.
 abbrev pub TurnsMayBeApplied : Type 0
-TurnsMayBeApplied = (v : SeatView) (taken : BookFacts) (a : Account) (k : Ticket) (rest : List Ticket) (r : RecordView) → v.accounts ≡ a ∷ [] → v.tickets ≡ k ∷ rest
+TurnsMayBeApplied = (v : BookKnown) (taken : BookFacts) (a : Account) (k : Ticket) (rest : List Ticket) (r : RecordView) → v.accounts ≡ a ∷ [] → v.tickets ≡ k ∷ rest
     → IsTurn taken a k r → MayGive v taken (with_turn taken k.job r) (knowing_turn taken a k rest r v)
 
 -- A seat may give back what it took.
 abbrev pub BooksMayStay : Type 0
-BooksMayStay = (v : SeatView) (taken : BookFacts) → MayGive v taken taken v
+BooksMayStay = (v : BookKnown) (taken : BookFacts) → MayGive v taken taken v
 
 -- What a seat may give back does not depend on the order of its tickets.
 abbrev pub TicketsMayBeOrdered : Type 0
-TicketsMayBeOrdered = (v : SeatView) (tickets : List Ticket) (taken given : BookFacts) (known : SeatView) → IsPermutation v.tickets tickets
+TicketsMayBeOrdered = (v : BookKnown) (tickets : List Ticket) (taken given : BookFacts) (known : BookKnown) → IsPermutation v.tickets tickets
     → MayGive (record v { tickets = tickets }) taken given known → MayGive v taken given known

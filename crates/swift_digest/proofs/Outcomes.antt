@@ -11,17 +11,17 @@ use Rattle.swift_journal.specs.Checkpoints.{FoldedView, CheckpointView}
 use Rattle.swift_laws.specs.Laws.{ActorsHaveExecutors}
 use Rattle.swift_laws.proofs.HistoriesApplied.{there}
 use Rattle.swift_history.specs.Histories.{Block, added, begun, ran, folded, folded_in, folded_of, at_first, after_blocks, Stands, AllStand, ReportView, IsLegal}
-use Rattle.swift_digest.specs.Explored.{State, state_of, StartsFresh, IsNotFolded, AllAllowed, AreExplored, IsAnyBlock, IsOrderly, IsOutcome, FoldsNone, ExploredHasEachOutcome, ExploredHasEachOrderlyOutcome, AreRepresented, RepresentedHasEachOutcome, job_executor, frames_executor}
+use Rattle.swift_digest.specs.Explored.{ExploredState, state_of, StartsFresh, IsNotFolded, AllAllowed, AreExplored, IsAnyBlock, IsOrderly, IsOutcome, FoldsNone, ExploredHasEachOutcome, ExploredHasEachOrderlyOutcome, AreRepresented, RepresentedHasEachOutcome, job_executor, frames_executor}
 use Rattle.swift_digest.proofs.Answers.{tasks_of_is, life_of_is}
 use Rattle.swift_digest.proofs.SameStands.{all_push, block_stands, lead_push}
 use Rattle.swift_digest.proofs.SameLogs.{same_life}
 use Rattle.swift_digest.specs.Futures.{LeadAlike, IsLike}
-use Rattle.swift_digest.specs.Plans.{Plan, JobPlan, plan_of, job_plan}
+use Rattle.swift_digest.specs.Plans.{FramePlan, JobPlan, plan_of, job_plan}
 use Rattle.swift_interpreter.specs.Frames.{FrameView}
 use Rattle.std.specs.Option.{option_map}
 use Rattle.swift_digest.specs.Digests.{Digest}
 use Rattle.swift_history.specs.Checks.{is_begun}
-use Rattle.swift_history.specs.TurnEnds.{JobView}
+use Rattle.swift_history.specs.TurnEnds.{JobFacts}
 
 module _ (script : ScriptView) (on : ActorsHaveExecutors script) (cps : List CheckpointView) where
   -- no block is a folded turn
@@ -42,7 +42,7 @@ module _ (script : ScriptView) (on : ActorsHaveExecutors script) (cps : List Che
       let no = none_in (folded_in e (folded e f)) (folded_of e bs) (none e low) in
       absurd (cc (is, no.0))
 
-module _ (script : ScriptView) (Allowed : List Block → Block → Type 0) (states : List State) (explored : AreExplored script Allowed states) (on : ActorsHaveExecutors script) (cps : List CheckpointView) (fresh : StartsFresh script cps) where
+module _ (script : ScriptView) (Allowed : List Block → Block → Type 0) (states : List ExploredState) (explored : AreExplored script Allowed states) (on : ActorsHaveExecutors script) (cps : List CheckpointView) (fresh : StartsFresh script cps) where
   allowed_push : (xs before : List Block) (b : Block) → AllAllowed Allowed before xs → Allowed (before ++ xs) b → AllAllowed Allowed before (xs ++ b ∷ [])
   allowed_push [] before b all is = (subst (λ (ys : List Block). Allowed ys b) (append-nil before) is, tt)
   allowed_push (x ∷ xs) before b all is = (all.0, allowed_push xs (before ++ x ∷ []) b all.1 (subst (λ (ys : List Block). Allowed ys b) (sym (append_assoc before (x ∷ []) xs)) is))
@@ -85,8 +85,8 @@ made script report legal folds =
       };
     }
 
-outcome : (script : ScriptView) (Allowed : List Block → Block → Type 0) (states : List State) (report : ReportView) → ActorsHaveExecutors script → AreExplored script Allowed states
-    → (legal : IsLegal script report) → AllAllowed Allowed [] legal.blocks → FoldsNone report → (x : State) × Contains states x × IsOutcome script x report
+outcome : (script : ScriptView) (Allowed : List Block → Block → Type 0) (states : List ExploredState) (report : ReportView) → ActorsHaveExecutors script → AreExplored script Allowed states
+    → (legal : IsLegal script report) → AllAllowed Allowed [] legal.blocks → FoldsNone report → (x : ExploredState) × Contains states x × IsOutcome script x report
 outcome script Allowed states report on explored legal may folds =
     let m = made script report legal folds in
     (state_of script report.checkpoints legal.blocks, explored_has script Allowed states explored on report.checkpoints m.fresh legal.blocks legal.stand may m.none, m.outcome)
@@ -106,11 +106,11 @@ each_orderly_outcome script states report on explored orderly folds = outcome sc
 module _ (script : ScriptView) where
   frames_by : (ps qs : List FrameView) → map (plan_of script) ps ≡ map (plan_of script) qs → frames_executor script ps ≡ frames_executor script qs
   frames_by [] [] same = refl
-  frames_by (p ∷ ps) (q ∷ qs) same = let one : plan_of script p ≡ plan_of script q = cc same in ap (λ (h : Plan). Some (actor_executor script (method_actor script h.method))) one
+  frames_by (p ∷ ps) (q ∷ qs) same = let one : plan_of script p ≡ plan_of script q = cc same in ap (λ (h : FramePlan). Some (actor_executor script (method_actor script h.method))) one
   frames_by [] (q ∷ qs) same = absurd (cc same)
   frames_by (p ∷ ps) [] same = absurd (cc same)
 
-  by_plans : (o u : Option JobView) → option_map (job_plan script) o ≡ option_map (job_plan script) u → job_executor script o ≡ job_executor script u
+  by_plans : (o u : Option JobFacts) → option_map (job_plan script) o ≡ option_map (job_plan script) u → job_executor script o ≡ job_executor script u
   by_plans None None same = refl
   by_plans (Some j) (Some k) same = let plan : job_plan script j ≡ job_plan script k = cc same in frames_by j.frames.frames k.frames.frames (ap (λ (h : JobPlan). h.plan.frames) plan)
   by_plans None (Some k) same = absurd (cc same)

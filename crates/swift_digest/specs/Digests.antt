@@ -5,8 +5,8 @@ use Rattle.std.specs.List.{filter_map, range_with_len}
 use Rattle.swift_types.specs.declared.limits.TheConstants.{TASKS, MADE}
 use Rattle.swift_types.specs.declared.id.TaskId.{TaskId}
 use Rattle.swift_types.specs.declared.outcome.Ending.{Ending}
-use Rattle.swift_escalation.specs.declared.waits.Event.{Event as Link}
-use Rattle.swift_groups.specs.Groups.{GroupIs, unfinished_of}
+use Rattle.swift_escalation.specs.declared.waits.PriorityEvent.{PriorityEvent as Link}
+use Rattle.swift_groups.specs.Groups.{GroupView, unfinished_of}
 use Rattle.swift_events.specs.declared.event.Event.{Event}
 use Rattle.swift_events.specs.declared.event.Event.TheVariants.{Child}
 use Rattle.swift_events.specs.declared.life.Life.{Life}
@@ -128,7 +128,7 @@ group_card_of o g log = record {
 abbrev pub parent_in : Digest → ℕ → Option (ℕ × ℕ)
 parent_in d t = parent_by (d.cards t).life.origin
 
-abbrev pub group_in : Digest → ℕ → ℕ → GroupIs
+abbrev pub group_in : Digest → ℕ → ℕ → GroupView
 group_in d o g =
     let c = d.groups o g in
     record {

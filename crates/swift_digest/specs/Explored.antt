@@ -10,20 +10,20 @@ use Rattle.swift_history.specs.Checks.{is_begun}
 use Rattle.swift_journal.specs.Checkpoints.{CheckpointView}
 use Rattle.swift_laws.specs.Laws.{ActorsHaveExecutors}
 use Rattle.std.specs.Option.{option_map}
-use Rattle.swift_history.specs.TurnEnds.{JobView}
+use Rattle.swift_history.specs.TurnEnds.{JobFacts}
 use Rattle.swift_history.specs.Histories.{Block, added, begun, folded, at_first, after_blocks, fields_of, Stands, AllStand, ReportView, IsLegal}
 use Rattle.swift_digest.specs.Digests.{Digest, digest_of}
-use Rattle.swift_digest.specs.Plans.{JobPlan, HeldPlan, job_plan, held_plans}
+use Rattle.swift_digest.specs.Plans.{JobPlan, WaitingTaskPlan, job_plan, held_plans}
 use Rattle.swift_digest.specs.Futures.{LeadAlike}
 
 -- Where a history leads, as far as its future depends on it.
-pub record State : Type 0 where
+pub record ExploredState : Type 0 where
   pub digest : Digest
-  pub held : List (Option HeldPlan)
+  pub held : List (Option WaitingTaskPlan)
   pub jobs : ℕ → Option JobPlan
   pub fields : ℕ → List (List ℤ)
 
-abbrev pub state_of : ScriptView → List CheckpointView → List Block → State
+abbrev pub state_of : ScriptView → List CheckpointView → List Block → ExploredState
 state_of script checkpoints bs =
     let s = after_blocks script (at_first script) bs in
     record { digest = digest_of s.log; held = held_plans script s.held; jobs = λ t. option_map (job_plan script) (s.jobs t); fields = λ e. fields_of script checkpoints e bs }
@@ -43,7 +43,7 @@ AllAllowed Allowed before [] = Unit {0}
 AllAllowed Allowed before (b ∷ bs) = Allowed before b × AllAllowed Allowed (before ++ b ∷ []) bs
 
 -- A list of states is closed: it has the first one, and whatever one more allowed block leads to from one that it has.
-pub record AreExplored (script : ScriptView) (Allowed : List Block → Block → Type 0) (states : List State) : Type 0 where
+pub record AreExplored (script : ScriptView) (Allowed : List Block → Block → Type 0) (states : List ExploredState) : Type 0 where
   pub first : (checkpoints : List CheckpointView) → StartsFresh script checkpoints → Contains states (state_of script checkpoints [])
   pub next : (checkpoints : List CheckpointView) (bs : List Block) (b : Block) → StartsFresh script checkpoints → AllStand script checkpoints [] bs → AllAllowed Allowed [] bs
       → IsNotFolded b → Stands script checkpoints bs b → Allowed bs b → Contains states (state_of script checkpoints bs) → Contains states (state_of script checkpoints (bs ++ b ∷ []))
@@ -53,7 +53,7 @@ abbrev pub frames_executor : ScriptView → List FrameView → Option ℕ
 frames_executor script [] = None
 frames_executor script (p ∷ callers) = Some (actor_executor script (method_actor script p.method))
 
-abbrev pub job_executor : ScriptView → Option JobView → Option ℕ
+abbrev pub job_executor : ScriptView → Option JobFacts → Option ℕ
 job_executor script None = None
 job_executor script (Some j) = frames_executor script j.frames.frames
 
@@ -75,7 +75,7 @@ pub record IsOrderlyLegal (script : ScriptView) (report : ReportView) : Type 0 w
   pub orderly : AllAllowed (IsOrderly script) [] legal.blocks
 
 -- The outcome of a report is that of a state: as many tasks, each from there and with that ending, and the fields of each executor.
-pub record IsOutcome (script : ScriptView) (x : State) (report : ReportView) : Type 0 where
+pub record IsOutcome (script : ScriptView) (x : ExploredState) (report : ReportView) : Type 0 where
   pub tasks : length report.endings ≡ root_count script + x.digest.made
   pub endings : (t : ℕ) (y : Origin × Ending) → slice_get report.endings t ≡ Some y → ((x.digest.cards t).life.origin ≡ Some y.0) × ((x.digest.cards t).life.ending ≡ Some y.1)
   pub fields : (e : ℕ) (f : List (List ℤ)) → slice_get report.fields e ≡ Some f → f ≡ x.fields e
@@ -89,13 +89,13 @@ abbrev pub IsAnyBlock : List Block → Block → Type 0
 IsAnyBlock before b = Unit {0}
 
 abbrev pub ExploredHasEachOutcome : Type 0
-ExploredHasEachOutcome = (script : ScriptView) (states : List State) (report : ReportView) → ActorsHaveExecutors script → AreExplored script IsAnyBlock states
-    → IsLegal script report → FoldsNone report → (x : State) × Contains states x × IsOutcome script x report
+ExploredHasEachOutcome = (script : ScriptView) (states : List ExploredState) (report : ReportView) → ActorsHaveExecutors script → AreExplored script IsAnyBlock states
+    → IsLegal script report → FoldsNone report → (x : ExploredState) × Contains states x × IsOutcome script x report
 
 -- The same for blocks in order, which lead to fewer states.
 abbrev pub ExploredHasEachOrderlyOutcome : Type 0
-ExploredHasEachOrderlyOutcome = (script : ScriptView) (states : List State) (report : ReportView) → ActorsHaveExecutors script → AreExplored script (IsOrderly script) states
-    → IsOrderlyLegal script report → FoldsNone report → (x : State) × Contains states x × IsOutcome script x report
+ExploredHasEachOrderlyOutcome = (script : ScriptView) (states : List ExploredState) (report : ReportView) → ActorsHaveExecutors script → AreExplored script (IsOrderly script) states
+    → IsOrderlyLegal script report → FoldsNone report → (x : ExploredState) × Contains states x × IsOutcome script x report
 
 -- A list of histories is closed: the empty one leads alike to one of them, and so does each of them with one more block in order.
 -- So of histories that lead alike a search keeps one.

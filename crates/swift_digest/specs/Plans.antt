@@ -9,9 +9,9 @@ use Rattle.script_code.specs.Layout.{code_at}
 use Rattle.swift_script.specs.Scripts.{ScriptView, method_code}
 use Rattle.swift_interpreter.specs.Frames.{FrameView}
 use Rattle.swift_turn.specs.Body.{TaskView}
-use Rattle.swift_history.specs.TurnEnds.{JobView, HeldView}
+use Rattle.swift_history.specs.TurnEnds.{JobFacts, WaitingTaskView}
 
-pub record Plan : Type 0 where
+pub record FramePlan : Type 0 where
   pub method : ℕ
   pub todo : Code
   pub variables : List ℤ
@@ -22,10 +22,10 @@ pub record Plan : Type 0 where
   pub made : ℕ
   pub opened : ℕ
 
-abbrev pub plan_of : ScriptView → FrameView → Plan
+abbrev pub plan_of : ScriptView → FrameView → FramePlan
 plan_of script p = record {
   method = p.method;
-  todo = code_at (method_code script p.method) p.line;
+  todo = code_at (method_code script p.method) p.instruction;
   variables = p.variables;
   handles = p.handles;
   own = p.own;
@@ -37,7 +37,7 @@ plan_of script p = record {
 
 -- a task's frames, a job and a waiting task, with plans in place of frames
 pub record TaskPlan : Type 0 where
-  pub frames : List Plan
+  pub frames : List FramePlan
   pub outer : List (ℕ × ℤ)
 
 pub record JobPlan : Type 0 where
@@ -46,21 +46,21 @@ pub record JobPlan : Type 0 where
   pub resume : Resume
   pub plan : TaskPlan
 
-pub record HeldPlan : Type 0 where
+pub record WaitingTaskPlan : Type 0 where
   pub number : ℕ
   pub plan : TaskPlan
 
 abbrev pub task_plan : ScriptView → TaskView → TaskPlan
 task_plan script v = record { frames = map (plan_of script) v.frames; outer = v.outer }
 
-abbrev pub job_plan : ScriptView → JobView → JobPlan
+abbrev pub job_plan : ScriptView → JobFacts → JobPlan
 job_plan script j = record { task = j.task; number = j.number; resume = j.resume; plan = task_plan script j.frames }
 
-abbrev pub held_plan : ScriptView → HeldView → HeldPlan
+abbrev pub held_plan : ScriptView → WaitingTaskView → WaitingTaskPlan
 held_plan script h = record { number = h.number; plan = task_plan script h.frames }
 
-abbrev pub held_plans : ScriptView → List (Option HeldView) → List (Option HeldPlan)
+abbrev pub held_plans : ScriptView → List (Option WaitingTaskView) → List (Option WaitingTaskPlan)
 held_plans script held = map (option_map (held_plan script)) held
 
-abbrev pub job_plans : ScriptView → List JobView → List JobPlan
+abbrev pub job_plans : ScriptView → List JobFacts → List JobPlan
 job_plans script jobs = map (job_plan script) jobs

@@ -6,10 +6,10 @@ use Rattle.std.proofs.lemmas.Bool.{cases_Bool, cases_lt, ltb-true}
 use Rattle.std.proofs.lemmas.List.{get_or_past}
 use Rattle.swift_types.specs.declared.limits.TheConstants.{TASKS}
 use Rattle.swift_escalation.specs.PlacesInside.{place_in, HasRoom}
-use Rattle.swift_escalation.specs.declared.places.Places.{Places}
+use Rattle.swift_escalation.specs.declared.places.TaskPlaces.{TaskPlaces}
 
 -- room for some tasks is room for fewer
-pub room_for_fewer : (p : Places) (n m : ℕ) → m ≤ n → HasRoom p n → HasRoom p m
+pub room_for_fewer : (p : TaskPlaces) (n m : ℕ) → m ≤ n → HasRoom p n → HasRoom p m
 room_for_fewer p n m le room = (let some = room.0 in omega (arith, le, some), λ (more : 0 < m). room.1 (omega (arith, le, more)))
 
 -- a list that was filled up with nothing says what it said
@@ -21,7 +21,7 @@ filled_up xs ys n old new k less = elim (cases_lt k (length xs)) [
 ]
 
 -- where list and map say what they said, tasks stand where they stood
-pub places_stay : (p q : Places) → ((k : ℕ) → k < TASKS → get_or q.listed.items k None ≡ get_or p.listed.items k None) → ((k : ℕ) → get nat_eq q.mapped k ≡ get nat_eq p.mapped k)
+pub places_stay : (p q : TaskPlaces) → ((k : ℕ) → k < TASKS → get_or q.listed.items k None ≡ get_or p.listed.items k None) → ((k : ℕ) → get nat_eq q.mapped k ≡ get nat_eq p.mapped k)
     → (n : ℕ) → place_in q n ≡ place_in p n
 places_stay p q listed mapped n = elim (cases_Bool (nat_lt n TASKS)) [
   | inl small ↦ rw small (listed n (ltb-true n TASKS small))

@@ -6,7 +6,7 @@ use Rattle.swift_types.specs.Priority.{rank}
 use Rattle.swift_escalation.specs.Levels.{level_of, higher, edge_at, end_of, AreChained, IsSettled, IsSettledBut}
 use Rattle.swift_types.specs.declared.priority.Priority.{Priority}
 use Rattle.swift_types.specs.declared.priority.Priority.TheVariants.{Background}
-use Rattle.swift_escalation.specs.declared.graph.Edge.{Edge}
+use Rattle.swift_escalation.specs.declared.graph.TaskEdge.{TaskEdge}
 
 pub level_of-push_old : (xs : List Priority) (p : Priority) (i : ℕ) → i < length xs → level_of (xs ++ p ∷ []) i ≡ level_of xs i
 level_of-push_old xs p i h = ap rank (get_or_append_left xs (p ∷ []) Background i h)
@@ -14,10 +14,10 @@ level_of-push_old xs p i h = ap rank (get_or_append_left xs (p ∷ []) Backgroun
 pub level_of-push_new : (xs : List Priority) (p : Priority) → level_of (xs ++ p ∷ []) (length xs) ≡ rank p
 level_of-push_new xs p = ap rank (get_or_push xs p Background (length xs) refl)
 
-pub edge_at-push_old : (es : List Edge) (e : Edge) (k : ℕ) → k < length es → edge_at (es ++ e ∷ []) k ≡ edge_at es k
+pub edge_at-push_old : (es : List TaskEdge) (e : TaskEdge) (k : ℕ) → k < length es → edge_at (es ++ e ∷ []) k ≡ edge_at es k
 edge_at-push_old es e k h = get_or_append_left es (e ∷ []) _ k h
 
-pub edge_at-push_new : (es : List Edge) (e : Edge) (k : ℕ) → length es ≡ k → edge_at (es ++ e ∷ []) k ≡ e
+pub edge_at-push_new : (es : List TaskEdge) (e : TaskEdge) (k : ℕ) → length es ≡ k → edge_at (es ++ e ∷ []) k ≡ e
 edge_at-push_new es e k h = get_or_push es e _ k h
 
 -- the more urgent of two priorities is the one or the other, and no less than either
@@ -40,17 +40,17 @@ higher_second p q = elim (higher_cases p q) [
 ]
 
 -- each edge still leads up after a task and an edge to it were added, of the level of the edge's start at least
-pub settled_under : (es : List Edge) (xs : List Priority) (a : ℕ) (p : Priority) → level_of xs a ≤ rank p → IsSettled es xs → ((k : ℕ) → k < length es → (edge_at es k).from < length xs)
+pub settled_under : (es : List TaskEdge) (xs : List Priority) (a : ℕ) (p : Priority) → level_of xs a ≤ rank p → IsSettled es xs → ((k : ℕ) → k < length es → (edge_at es k).from < length xs)
     → ((k : ℕ) → k < length es → (edge_at es k).to < length xs) → a < length xs
     → IsSettled (es ++ (record { from = a; to = length xs }) ∷ []) (xs ++ p ∷ [])
 settled_under es xs a p up s from to h k hk =
-    let e : Edge = record { from = a; to = length xs } in
+    let e : TaskEdge = record { from = a; to = length xs } in
     let ys : List Priority = xs ++ p ∷ [] in
     let n = length_push es e in
     elim (cases_lt k (length es)) [
-      | inl lt ↦ subst (λ (d : Edge). level_of ys d.from ≤ level_of ys d.to) (sym (edge_at-push_old es e k lt))
+      | inl lt ↦ subst (λ (d : TaskEdge). level_of ys d.from ≤ level_of ys d.to) (sym (edge_at-push_old es e k lt))
           (let f = level_of-push_old xs p (edge_at es k).from (from k lt) in let t = level_of-push_old xs p (edge_at es k).to (to k lt) in let u = s k lt in omega (arith, f, t, u))
-      | inr ge ↦ subst (λ (d : Edge). level_of ys d.from ≤ level_of ys d.to) (sym (edge_at-push_new es e k (omega (arith, n, ge, hk))))
+      | inr ge ↦ subst (λ (d : TaskEdge). level_of ys d.from ≤ level_of ys d.to) (sym (edge_at-push_new es e k (omega (arith, n, ge, hk))))
           (let f = level_of-push_old xs p a h in let t = level_of-push_new xs p in omega (arith, f, t, up))
     ]
 
@@ -62,7 +62,7 @@ get_or-push_default (x ∷ xs) d zero = refl
 get_or-push_default (x ∷ xs) d (suc i) = get_or-push_default xs d i
 
 -- a new task has no edge
-pub chained_push : (es : List Edge) (before newest : List (Option ℕ)) → AreChained es before newest → AreChained es before (newest ++ None ∷ [])
+pub chained_push : (es : List TaskEdge) (before newest : List (Option ℕ)) → AreChained es before newest → AreChained es before (newest ++ None ∷ [])
 chained_push es before newest h =
     let none : Option ℕ = None in
     let longer = length_push newest none in
@@ -80,17 +80,17 @@ chained_push es before newest h =
     }
 
 -- and changes no level
-pub settled_push : (es : List Edge) (xs : List Priority) (p : Priority) → IsSettled es xs → ((k : ℕ) → k < length es → (edge_at es k).from < length xs) → ((k : ℕ) → k < length es → (edge_at es k).to < length xs)
+pub settled_push : (es : List TaskEdge) (xs : List Priority) (p : Priority) → IsSettled es xs → ((k : ℕ) → k < length es → (edge_at es k).from < length xs) → ((k : ℕ) → k < length es → (edge_at es k).to < length xs)
     → IsSettled es (xs ++ p ∷ [])
 settled_push es xs p s from to k h =
     let f = level_of-push_old xs p (edge_at es k).from (from k h) in let t = level_of-push_old xs p (edge_at es k).to (to k h) in let u = s k h in omega (arith, f, t, u)
 
 -- after an edge was added, only it may lead down
-pub open_push : (es : List Edge) (xs : List Priority) (a b top : ℕ) → IsSettled es xs → level_of xs a ≡ top → IsSettledBut (es ++ (record { from = a; to = b }) ∷ []) xs b top
+pub open_push : (es : List TaskEdge) (xs : List Priority) (a b top : ℕ) → IsSettled es xs → level_of xs a ≡ top → IsSettledBut (es ++ (record { from = a; to = b }) ∷ []) xs b top
 open_push es xs a b top s level k h =
-    let e : Edge = record { from = a; to = b } in
+    let e : TaskEdge = record { from = a; to = b } in
     let n = length_push es e in
-    let P : Edge → Type 0 = λ d. (level_of xs d.from ≤ level_of xs d.to) ⊎ ((d.to ≡ b) × (level_of xs d.from ≤ top)) in
+    let P : TaskEdge → Type 0 = λ d. (level_of xs d.from ≤ level_of xs d.to) ⊎ ((d.to ≡ b) × (level_of xs d.from ≤ top)) in
     elim (cases_lt k (length es)) [
       | inl lt ↦ subst P (sym (edge_at-push_old es e k lt)) (inl (s k lt))
       | inr ge ↦ subst P (sym (edge_at-push_new es e k (omega (arith, n, ge, h)))) (inr (refl, omega (arith, level)))

@@ -10,7 +10,7 @@ use Rattle.swift_types.specs.Priority.{rank}
 use Rattle.swift_escalation.specs.Levels.{level_of, below, edge_at, end_of, HasEdge, AreChained, Raising}
 use Rattle.swift_types.specs.declared.priority.Priority.{Priority}
 use Rattle.swift_types.specs.declared.priority.Priority.TheVariants.{Background}
-use Rattle.swift_escalation.specs.declared.graph.Edge.{Edge}
+use Rattle.swift_escalation.specs.declared.graph.TaskEdge.{TaskEdge}
 
 pub level_of-set_same : (xs : List Priority) (i : ℕ) (p : Priority) → i < length xs → level_of (set xs i p) i ≡ rank p
 level_of-set_same xs i p h = ap rank (get_or-set_same xs i p Background h)
@@ -36,7 +36,7 @@ below-set xs i p h low =
 pub some_below : (xs : List Priority) (i : ℕ) (p : Priority) → i < length xs → level_of xs i < rank p → 0 < below (rank p) xs
 some_below xs i p h low = omega (arith, below-set xs i p h low)
 
-pub raise_none : (edges : List Edge) (task top : ℕ) (xs : List Priority) (stack : List ℕ) → All (λ i. i < length xs) stack → Raising edges task top xs xs stack stack
+pub raise_none : (edges : List TaskEdge) (task top : ℕ) (xs : List Priority) (stack : List ℕ) → All (λ i. i < length xs) stack → Raising edges task top xs xs stack stack
 raise_none edges task top xs stack h = record {
   up = λ i. omega arith;
   raised = λ i l. absurd (omega arith);
@@ -54,7 +54,7 @@ raised_at old new t i p P h low same other =
 inside_push : (n t : ℕ) (stack : List ℕ) → t < n → All (λ i. i < n) stack → All (λ i. i < n) (stack ++ t ∷ [])
 inside_push n t stack h a = grind (arith, elements)
 
-pub raise_more : (edges : List Edge) (task : ℕ) (p : Priority) (old new : List Priority) (stack stack' : List ℕ) (t : ℕ)
+pub raise_more : (edges : List TaskEdge) (task : ℕ) (p : Priority) (old new : List Priority) (stack stack' : List ℕ) (t : ℕ)
     → Raising edges task (rank p) old new stack stack' → length new ≡ length old → t < length new → level_of new t < rank p → HasEdge edges task t
     → Raising edges task (rank p) old (set new t p) stack (stack' ++ t ∷ [])
 raise_more edges task p old new stack stack' t r same h low e = record {
@@ -84,7 +84,7 @@ up_by_set xs t p h low i =
     ]
 
 -- an edge on the chain is done, and so are the newer ones
-pub done_more : (edges : List Edge) (before newest : List (Option ℕ)) (task top k : ℕ) (xs ys : List Priority) → AreChained edges before newest
+pub done_more : (edges : List TaskEdge) (before newest : List (Option ℕ)) (task top k : ℕ) (xs ys : List Priority) → AreChained edges before newest
     → k < length edges → (edge_at edges k).from ≡ task → ((i : ℕ) → level_of xs i ≤ level_of ys i) → top ≤ level_of ys (edge_at edges k).to
     → ((j : ℕ) → j < length edges → (edge_at edges j).from ≡ task → suc k ≤ j → top ≤ level_of xs (edge_at edges j).to)
     → (j : ℕ) → j < length edges → (edge_at edges j).from ≡ task → end_of (get_or before k None) ≤ j → top ≤ level_of ys (edge_at edges j).to

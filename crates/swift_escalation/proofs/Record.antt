@@ -14,9 +14,9 @@ use Rattle.swift_escalation.specs.WaitsInside.{IsOwn, StandsAt, HasReason, EdgeS
 use Rattle.swift_escalation.proofs.Push.{level_of-push_old, level_of-push_new, edge_at-push_old, edge_at-push_new, higher_cases, higher_second}
 use Rattle.swift_types.specs.declared.priority.Priority.{Priority}
 use Rattle.swift_types.specs.declared.priority.Priority.TheVariants.{Background, Low, Medium, High}
-use Rattle.swift_escalation.specs.declared.graph.Edge.{Edge}
-use Rattle.swift_escalation.specs.declared.waits.Event.{Event}
-use Rattle.swift_escalation.specs.declared.waits.Event.TheVariants.{Root, Child, Free, Wait}
+use Rattle.swift_escalation.specs.declared.graph.TaskEdge.{TaskEdge}
+use Rattle.swift_escalation.specs.declared.waits.PriorityEvent.{PriorityEvent}
+use Rattle.swift_escalation.specs.declared.waits.PriorityEvent.TheVariants.{Root, Child, Free, Wait}
 
 -- priorities of one rank are one
 pub rank_one : (p q : Priority) → rank p ≡ rank q → p ≡ q
@@ -52,70 +52,70 @@ slice_get-push_cases [] y (suc i) x h = absurd (cc h)
 slice_get-push_cases (z ∷ zs) y zero x h = inl h
 slice_get-push_cases (z ∷ zs) y (suc i) x h = elim (slice_get-push_cases zs y i x h) [ inl a ↦ inl a | inr b ↦ inr (ap suc b.0, b.1) ]
 
-pub tasks_of-append : (xs ys : List Event) → tasks_of (xs ++ ys) ≡ tasks_of xs ++ tasks_of ys
+pub tasks_of-append : (xs ys : List PriorityEvent) → tasks_of (xs ++ ys) ≡ tasks_of xs ++ tasks_of ys
 tasks_of-append [] ys = refl
 tasks_of-append (Root t p ∷ xs) ys = ap (λ (s : List TaskId). t ∷ s) (tasks_of-append xs ys)
 tasks_of-append (Child t u p ∷ xs) ys = ap (λ (s : List TaskId). t ∷ s) (tasks_of-append xs ys)
 tasks_of-append (Free t p ∷ xs) ys = ap (λ (s : List TaskId). t ∷ s) (tasks_of-append xs ys)
 tasks_of-append (Wait u t ∷ xs) ys = tasks_of-append xs ys
 
-pub known_from_stands : (es : List Event) (t : TaskId) (i : ℕ) → StandsAt es t i → IsKnown es t
+pub known_from_stands : (es : List PriorityEvent) (t : TaskId) (i : ℕ) → StandsAt es t i → IsKnown es t
 known_from_stands es t i h = (i, slice_get_within (tasks_of es) i t h, get_or_from_slice_get (tasks_of es) i t t h)
 
-pub stands_from_known : (es : List Event) (t : TaskId) → IsKnown es t → (i : ℕ) × StandsAt es t i
+pub stands_from_known : (es : List PriorityEvent) (t : TaskId) → IsKnown es t → (i : ℕ) × StandsAt es t i
 stands_from_known es t c = (c.0, slice_get-get_or (tasks_of es) c.0 t c.1 ∙ ap Some c.2)
 
-pub given_more : (es fs : List Event) (s : TaskId) (q : Priority) → IsGiven es s q → IsGiven (es ++ fs) s q
+pub given_more : (es fs : List PriorityEvent) (s : TaskId) (q : Priority) → IsGiven es s q → IsGiven (es ++ fs) s q
 given_more es fs s q g = elim g [
   | inl c ↦ inl (Contains-append_left es fs (Root s q) c)
   | inr (inl c) ↦ inr (inl (Contains-append_left es fs (Free s q) c))
   | inr (inr c) ↦ inr (inr (c.0, Contains-append_left es fs (Child s c.0 q) c.1))
 ]
 
-given_last : (es fs : List Event) (s : TaskId) (q : Priority) → IsGiven fs s q → IsGiven (es ++ fs) s q
+given_last : (es fs : List PriorityEvent) (s : TaskId) (q : Priority) → IsGiven fs s q → IsGiven (es ++ fs) s q
 given_last es fs s q g = elim g [
   | inl c ↦ inl (Contains-append_right es fs (Root s q) c)
   | inr (inl c) ↦ inr (inl (Contains-append_right es fs (Free s q) c))
   | inr (inr c) ↦ inr (inr (c.0, Contains-append_right es fs (Child s c.0 q) c.1))
 ]
 
-given_cases : (es fs : List Event) (s : TaskId) (q : Priority) → IsGiven (es ++ fs) s q → IsGiven es s q ⊎ IsGiven fs s q
+given_cases : (es fs : List PriorityEvent) (s : TaskId) (q : Priority) → IsGiven (es ++ fs) s q → IsGiven es s q ⊎ IsGiven fs s q
 given_cases es fs s q g = elim g [
   | inl c ↦ elim (Contains-append_cases es fs (Root s q) c) [ inl d ↦ inl (inl d) | inr d ↦ inr (inl d) ]
   | inr (inl c) ↦ elim (Contains-append_cases es fs (Free s q) c) [ inl d ↦ inl (inr (inl d)) | inr d ↦ inr (inr (inl d)) ]
   | inr (inr c) ↦ elim (Contains-append_cases es fs (Child s c.0 q) c.1) [ inl d ↦ inl (inr (inr (c.0, d))) | inr d ↦ inr (inr (inr (c.0, d))) ]
 ]
 
-leads_more : (es fs : List Event) (a b : TaskId) → Leads es a b → Leads (es ++ fs) a b
+leads_more : (es fs : List PriorityEvent) (a b : TaskId) → Leads es a b → Leads (es ++ fs) a b
 leads_more es fs a b g = elim g [ inl c ↦ inl (c.0, Contains-append_left es fs (Child b a c.0) c.1) | inr c ↦ inr (Contains-append_left es fs (Wait a b) c) ]
 
-leads_last : (es fs : List Event) (a b : TaskId) → Leads fs a b → Leads (es ++ fs) a b
+leads_last : (es fs : List PriorityEvent) (a b : TaskId) → Leads fs a b → Leads (es ++ fs) a b
 leads_last es fs a b g = elim g [ inl c ↦ inl (c.0, Contains-append_right es fs (Child b a c.0) c.1) | inr c ↦ inr (Contains-append_right es fs (Wait a b) c) ]
 
-leads_cases : (es fs : List Event) (a b : TaskId) → Leads (es ++ fs) a b → Leads es a b ⊎ Leads fs a b
+leads_cases : (es fs : List PriorityEvent) (a b : TaskId) → Leads (es ++ fs) a b → Leads es a b ⊎ Leads fs a b
 leads_cases es fs a b g = elim g [
   | inl c ↦ elim (Contains-append_cases es fs (Child b a c.0) c.1) [ inl d ↦ inl (inl (c.0, d)) | inr d ↦ inr (inl (c.0, d)) ]
   | inr c ↦ elim (Contains-append_cases es fs (Wait a b) c) [ inl d ↦ inl (inr d) | inr d ↦ inr (inr d) ]
 ]
 
-pub reaches_more : (es fs : List Event) (n : ℕ) (a b : TaskId) → Reaches es n a b → Reaches (es ++ fs) n a b
+pub reaches_more : (es fs : List PriorityEvent) (n : ℕ) (a b : TaskId) → Reaches es n a b → Reaches (es ++ fs) n a b
 reaches_more es fs zero a b r = r
 reaches_more es fs (suc n) a b r = (r.0, reaches_more es fs n a r.0 r.1, leads_more es fs r.0 b r.2)
 
-reason_more : (es fs : List Event) (t : TaskId) (n : ℕ) → HasReason es t n → HasReason (es ++ fs) t n
+reason_more : (es fs : List PriorityEvent) (t : TaskId) (n : ℕ) → HasReason es t n → HasReason (es ++ fs) t n
 reason_more es fs t n r = record { from = r.from; steps = r.steps; priority = r.priority; given = given_more es fs r.from r.priority r.given; reached = reaches_more es fs r.steps r.from t r.reached; same = r.same }
 
-one_event : (e f : Event) → Contains (e ∷ []) f → e ≡ f
+one_event : (e f : PriorityEvent) → Contains (e ∷ []) f → e ≡ f
 one_event e f c = elim (Contains-push_cases [] e f c) [ inl d ↦ absurd (let g = d.1 in omega (arith, g)) | inr q ↦ q ]
 
-stands_more : (es fs : List Event) (t : TaskId) (i : ℕ) → StandsAt es t i → StandsAt (es ++ fs) t i
+stands_more : (es fs : List PriorityEvent) (t : TaskId) (i : ℕ) → StandsAt es t i → StandsAt (es ++ fs) t i
 stands_more es fs t i h = subst (λ (s : List TaskId). slice_get s i ≡ Some t) (sym (tasks_of-append es fs)) (slice_get-push_old (tasks_of es) (tasks_of fs) i t h)
 
-edge_stands_more : (es fs : List Event) (d : Edge) → EdgeStands es d → EdgeStands (es ++ fs) d
+edge_stands_more : (es fs : List PriorityEvent) (d : TaskEdge) → EdgeStands es d → EdgeStands (es ++ fs) d
 edge_stands_more es fs d w = record { a = w.a; b = w.b; from = stands_more es fs w.a d.from w.from; to = stands_more es fs w.b d.to w.to; leads = leads_more es fs w.a w.b w.leads }
 
 -- what the levels say is the priority
-reached_level : (es : List Event) (place : TaskId → Option ℕ) (levels : List Priority) (edges : List Edge) → AreOf es place levels edges → IsSettled edges levels
+reached_level : (es : List PriorityEvent) (place : TaskId → Option ℕ) (levels : List Priority) (edges : List TaskEdge) → AreOf es place levels edges → IsSettled edges levels
     → (n : ℕ) (s t : TaskId) (q : Priority) → IsGiven es s q → Reaches es n s t → (i : ℕ) × StandsAt es t i × (rank q ≤ level_of levels i)
 reached_level es place levels edges k up zero s t q g r = subst (λ (x : TaskId). (i : ℕ) × StandsAt es x i × (rank q ≤ level_of levels i)) r (k.given s q g)
 reached_level es place levels edges k up (suc n) s t q g r =
@@ -128,7 +128,7 @@ reached_level es place levels edges k up (suc n) s t q g r =
     let here : rank q ≤ level_of levels l.i = subst (λ (x : ℕ). rank q ≤ level_of levels x) (sym same) w.2 in
     (l.j, l.to, omega (arith, le, here))
 
-pub is_priority : (es : List Event) (place : TaskId → Option ℕ) (levels : List Priority) (edges : List Edge) → AreOf es place levels edges → IsSettled edges levels
+pub is_priority : (es : List PriorityEvent) (place : TaskId → Option ℕ) (levels : List Priority) (edges : List TaskEdge) → AreOf es place levels edges → IsSettled edges levels
     → (t : TaskId) (i : ℕ) (p : Priority) → place t ≡ Some i → rank p ≡ level_of levels i → IsPriority es t p
 is_priority es place levels edges k up t i p h level =
     let r = k.reasons t i (k.found t i h) in
@@ -181,13 +181,13 @@ kept_added xs place place' t n len a fresh old q i h = elim (slice_get-push_case
 ]
 
 -- the event gives nothing but p to t, and leads nowhere
-record OwnOnly (e : Event) (t : TaskId) (p : Priority) : Type 0 where
+record OwnOnly (e : PriorityEvent) (t : TaskId) (p : Priority) : Type 0 where
   task : tasks_of (e ∷ []) ≡ t ∷ []
   own : IsGiven (e ∷ []) t p
   given : (s : TaskId) (q : Priority) → IsGiven (e ∷ []) s q → (t ≡ s) × (p ≡ q)
   leads : (a b : TaskId) → Leads (e ∷ []) a b → ⊥
 
-own_only : (e : Event) (t : TaskId) (p : Priority) → IsOwn e t p → OwnOnly e t p
+own_only : (e : PriorityEvent) (t : TaskId) (p : Priority) → IsOwn e t p → OwnOnly e t p
 own_only (Root t p) t' p' h = record {
   task = ap (λ (x : TaskId). x ∷ []) h.0;
   own = inl (0, omega arith, ap (λ (x : TaskId). Root x p) h.0 ∙ ap (λ (x : Priority). Root t' x) h.1);
@@ -211,7 +211,7 @@ own_only (Free t p) t' p' h = record {
 own_only (Child t u p) t' p' h = absurd h
 own_only (Wait u t) t' p' h = absurd h
 
-pub are_of_own : (es : List Event) (place place' : TaskId → Option ℕ) (levels : List Priority) (edges : List Edge) (e : Event) (t : TaskId) (p : Priority)
+pub are_of_own : (es : List PriorityEvent) (place place' : TaskId → Option ℕ) (levels : List Priority) (edges : List TaskEdge) (e : PriorityEvent) (t : TaskId) (p : Priority)
     → AreOf es place levels edges → IsOwn e t p → place t ≡ None → Added place place' t (length levels)
     → AreOf (es ++ e ∷ []) place' (levels ++ p ∷ []) edges
 are_of_own es place place' levels edges e t p k own fresh a =
@@ -242,7 +242,7 @@ are_of_own es place place' levels edges e t p k own fresh a =
     }
 
 -- the same where the places are kept otherwise
-pub are_of_same : (es : List Event) (f g : TaskId → Option ℕ) (levels : List Priority) (edges : List Edge) → ((q : TaskId) → g q ≡ f q) → AreOf es f levels edges → AreOf es g levels edges
+pub are_of_same : (es : List PriorityEvent) (f g : TaskId → Option ℕ) (levels : List Priority) (edges : List TaskEdge) → ((q : TaskId) → g q ≡ f q) → AreOf es f levels edges → AreOf es g levels edges
 are_of_same es f g levels edges h k = record {
   count = k.count;
   found = λ t i e. k.found t i (sym (h t) ∙ e);
@@ -253,23 +253,23 @@ are_of_same es f g levels edges h k = record {
   reasons = k.reasons;
 }
 
-edges_push : (es : List Event) (edges : List Edge) (d : Edge) → ((k : ℕ) → k < length edges → EdgeStands es (edge_at edges k)) → EdgeStands es d
+edges_push : (es : List PriorityEvent) (edges : List TaskEdge) (d : TaskEdge) → ((k : ℕ) → k < length edges → EdgeStands es (edge_at edges k)) → EdgeStands es d
     → (k : ℕ) → k < length (edges ++ d ∷ []) → EdgeStands es (edge_at (edges ++ d ∷ []) k)
 edges_push es edges d old new k h = elim (cases_lt k (length edges)) [
-  | inl lt ↦ subst (λ (x : Edge). EdgeStands es x) (sym (edge_at-push_old edges d k lt)) (old k lt)
-  | inr ge ↦ subst (λ (x : Edge). EdgeStands es x) (sym (edge_at-push_new edges d k (let n = length_push edges d in omega (arith, n, ge, h)))) new
+  | inl lt ↦ subst (λ (x : TaskEdge). EdgeStands es x) (sym (edge_at-push_old edges d k lt)) (old k lt)
+  | inr ge ↦ subst (λ (x : TaskEdge). EdgeStands es x) (sym (edge_at-push_new edges d k (let n = length_push edges d in omega (arith, n, ge, h)))) new
 ]
 
-has_edge_more : (edges : List Edge) (d : Edge) (a b : ℕ) → HasEdge edges a b → HasEdge (edges ++ d ∷ []) a b
+has_edge_more : (edges : List TaskEdge) (d : TaskEdge) (a b : ℕ) → HasEdge edges a b → HasEdge (edges ++ d ∷ []) a b
 has_edge_more edges d a b e =
     let same = edge_at-push_old edges d e.0 e.1 in
-    (e.0, (let n = length_push edges d in let l = e.1 in omega (arith, n, l)), ap (λ (x : Edge). x.from) same ∙ e.2, ap (λ (x : Edge). x.to) same ∙ e.3)
+    (e.0, (let n = length_push edges d in let l = e.1 in omega (arith, n, l)), ap (λ (x : TaskEdge). x.from) same ∙ e.2, ap (λ (x : TaskEdge). x.to) same ∙ e.3)
 
-has_edge_last : (edges : List Edge) (a b : ℕ) → HasEdge (edges ++ (record { from = a; to = b }) ∷ []) a b
+has_edge_last : (edges : List TaskEdge) (a b : ℕ) → HasEdge (edges ++ (record { from = a; to = b }) ∷ []) a b
 has_edge_last edges a b =
-    let d : Edge = record { from = a; to = b } in
+    let d : TaskEdge = record { from = a; to = b } in
     let same = edge_at-push_new edges d (length edges) refl in
-    (length edges, (let n = length_push edges d in omega (arith, n)), ap (λ (x : Edge). x.from) same, ap (λ (x : Edge). x.to) same)
+    (length edges, (let n = length_push edges d in omega (arith, n)), ap (λ (x : TaskEdge). x.from) same, ap (λ (x : TaskEdge). x.to) same)
 
 child_leads : (t u : TaskId) (p : Priority) (a b : TaskId) → Leads (Child t u p ∷ []) a b → (u ≡ a) × (t ≡ b)
 child_leads t u p a b l = elim l [ inl c ↦ let w = one_event (Child t u p) (Child b a c.0) c.1 in (cc w, cc w) | inr c ↦ absurd (cc (one_event (Child t u p) (Wait a b) c)) ]
@@ -291,10 +291,10 @@ wait_gives u t s q g = elim g [
   | inr (inr c) ↦ cc (one_event (Wait u t) (Child s c.0 q) c.1)
 ]
 
-lead_more : (es fs : List Event) (edges : List Edge) (d : Edge) (x y : TaskId) → LeadStands es edges x y → LeadStands (es ++ fs) (edges ++ d ∷ []) x y
+lead_more : (es fs : List PriorityEvent) (edges : List TaskEdge) (d : TaskEdge) (x y : TaskId) → LeadStands es edges x y → LeadStands (es ++ fs) (edges ++ d ∷ []) x y
 lead_more es fs edges d x y w = record { i = w.i; j = w.j; from = stands_more es fs x w.i w.from; to = stands_more es fs y w.j w.to; edge = has_edge_more edges d w.i w.j w.edge }
 
-lead_last : (es : List Event) (edges : List Edge) (i j : ℕ) (u t x y : TaskId) → StandsAt es u i → StandsAt es t j → (u ≡ x) × (t ≡ y) → LeadStands es (edges ++ (record { from = i; to = j }) ∷ []) x y
+lead_last : (es : List PriorityEvent) (edges : List TaskEdge) (i j : ℕ) (u t x y : TaskId) → StandsAt es u i → StandsAt es t j → (u ≡ x) × (t ≡ y) → LeadStands es (edges ++ (record { from = i; to = j }) ∷ []) x y
 lead_last es edges i j u t x y su st e = record {
   i = i;
   j = j;
@@ -303,13 +303,13 @@ lead_last es edges i j u t x y su st e = record {
   edge = has_edge_last edges i j;
 }
 
-pub are_of_child : (es : List Event) (place place' : TaskId → Option ℕ) (levels : List Priority) (edges : List Edge) (t u : TaskId) (own : Priority) (i : ℕ)
+pub are_of_child : (es : List PriorityEvent) (place place' : TaskId → Option ℕ) (levels : List Priority) (edges : List TaskEdge) (t u : TaskId) (own : Priority) (i : ℕ)
     → AreOf es place levels edges → StandsAt es u i → place t ≡ None → Added place place' t (length levels)
     → AreOf (es ++ Child t u own ∷ []) place' (levels ++ higher (get_or levels i Background) own ∷ []) (edges ++ (record { from = i; to = length levels }) ∷ [])
 are_of_child es place place' levels edges t u own i k above fresh a =
-    let fs : List Event = Child t u own ∷ [] in
+    let fs : List PriorityEvent = Child t u own ∷ [] in
     let p : Priority = higher (get_or levels i Background) own in
-    let d : Edge = record { from = i; to = length levels } in
+    let d : TaskEdge = record { from = i; to = length levels } in
     let names : tasks_of (es ++ fs) ≡ tasks_of es ++ t ∷ [] = tasks_of-append es fs in
     let stands : (q : TaskId) (j : ℕ) → slice_get (tasks_of es ++ t ∷ []) j ≡ Some q → StandsAt (es ++ fs) q j = λ q j h. subst (λ (s : List TaskId). slice_get s j ≡ Some q) (sym names) h in
     let stood : (q : TaskId) (j : ℕ) → StandsAt (es ++ fs) q j → slice_get (tasks_of es ++ t ∷ []) j ≡ Some q = λ q j h. subst (λ (s : List TaskId). slice_get s j ≡ Some q) names h in
@@ -347,7 +347,7 @@ are_of_child es place place' levels edges t u own i k above fresh a =
     }
 
 -- where a walk ends, there stands a task that is reached
-walk_reaches : (es : List Event) (edges : List Edge) → ((k : ℕ) → k < length edges → EdgeStands es (edge_at edges k))
+walk_reaches : (es : List PriorityEvent) (edges : List TaskEdge) → ((k : ℕ) → k < length edges → EdgeStands es (edge_at edges k))
     → (n j i : ℕ) (t s : TaskId) (m : ℕ) → StandsAt es t j → Reaches es m s t → Walk edges n j i → (x : TaskId) × (l : ℕ) × StandsAt es x i × Reaches es l s x
 walk_reaches es edges k zero j i t s m st r w = (t, m, subst (λ (y : ℕ). StandsAt es t y) w st, r)
 walk_reaches es edges k (suc n) j i t s m st r w =
@@ -359,13 +359,13 @@ walk_reaches es edges k (suc n) j i t s m st r w =
     let same : d.a ≡ v.0 = same_Some d.a v.0 (sym from ∙ v.2) in
     (d.b, suc v.1, to, (v.0, v.3, subst (λ (y : TaskId). Leads es y d.b) same d.leads))
 
-pub are_of_wait : (es : List Event) (place : TaskId → Option ℕ) (levels levels' : List Priority) (edges : List Edge) (u t : TaskId) (i j : ℕ)
+pub are_of_wait : (es : List PriorityEvent) (place : TaskId → Option ℕ) (levels levels' : List Priority) (edges : List TaskEdge) (u t : TaskId) (i j : ℕ)
     → AreOf es place levels edges → StandsAt es u i → StandsAt es t j → length levels' ≡ length levels
     → Settling (edges ++ (record { from = i; to = j }) ∷ []) j (level_of levels i) levels levels'
     → AreOf (es ++ Wait u t ∷ []) place levels' (edges ++ (record { from = i; to = j }) ∷ [])
 are_of_wait es place levels levels' edges u t i j k su st same up =
-    let fs : List Event = Wait u t ∷ [] in
-    let d : Edge = record { from = i; to = j } in
+    let fs : List PriorityEvent = Wait u t ∷ [] in
+    let d : TaskEdge = record { from = i; to = j } in
     let names : tasks_of (es ++ fs) ≡ tasks_of es = tasks_of-append es fs ∙ append-nil (tasks_of es) in
     let stood : (q : TaskId) (n : ℕ) → StandsAt (es ++ fs) q n → StandsAt es q n = λ q n h. subst (λ (s : List TaskId). slice_get s n ≡ Some q) names h in
     let from : StandsAt (es ++ fs) u i = stands_more es fs u i su in
@@ -401,7 +401,7 @@ are_of_wait es place levels levels' edges u t i j k su st same up =
     }
 
 -- an unknown task has no place
-pub none_here : (es : List Event) (place : TaskId → Option ℕ) (levels : List Priority) (edges : List Edge) (t : TaskId) → AreOf es place levels edges → (IsKnown es t → ⊥) → place t ≡ None
+pub none_here : (es : List PriorityEvent) (place : TaskId → Option ℕ) (levels : List Priority) (edges : List TaskEdge) (t : TaskId) → AreOf es place levels edges → (IsKnown es t → ⊥) → place t ≡ None
 none_here es place levels edges t k h = go (place t) refl
   where
     go : (o : Option ℕ) → place t ≡ o → place t ≡ None
@@ -409,7 +409,7 @@ none_here es place levels edges t k h = go (place t) refl
     go (Some i) e = absurd (h (known_from_stands es t i (k.found t i e)))
 
 -- a task has a place exactly where it is known
-pub place_known : (es : List Event) (place : TaskId → Option ℕ) (levels : List Priority) (edges : List Edge) (t : TaskId) → AreOf es place levels edges
+pub place_known : (es : List PriorityEvent) (place : TaskId → Option ℕ) (levels : List Priority) (edges : List TaskEdge) (t : TaskId) → AreOf es place levels edges
     → (o : Option ℕ) → o ≡ place t → (IsSome o → IsKnown es t) × (IsKnown es t → IsSome o)
 place_known es place levels edges t k None e = (λ h. absurd (cc h), λ h. let w = stands_from_known es t h in absurd (cc (e, k.kept t w.0 w.1)))
 place_known es place levels edges t k (Some i) e = (λ _. known_from_stands es t i (k.found t i (sym e)), λ _. refl)

@@ -9,9 +9,9 @@ use Rattle.swift_types.specs.Priority.{rank}
 use Rattle.swift_escalation.specs.Levels.{level_of, edge_at, HasEdge, Walk, HasWalk, Raising, Settling, IsOpen}
 use Rattle.swift_escalation.proofs.Raise.{level_of-set_same, level_of-set_other, up_by_set}
 use Rattle.swift_types.specs.declared.priority.Priority.{Priority}
-use Rattle.swift_escalation.specs.declared.graph.Edge.{Edge}
+use Rattle.swift_escalation.specs.declared.graph.TaskEdge.{TaskEdge}
 
-pub settling_start : (edges : List Edge) (start : ℕ) (p : Priority) (xs : List Priority) → start < length xs → level_of xs start < rank p
+pub settling_start : (edges : List TaskEdge) (start : ℕ) (p : Priority) (xs : List Priority) → start < length xs → level_of xs start < rank p
     → Settling edges start (rank p) xs (set xs start p)
 settling_start edges start p xs h low = record {
   up = up_by_set xs start p h low;
@@ -21,7 +21,7 @@ settling_start edges start p xs h low = record {
   ];
 }
 
-abbrev EdgeUp : List Edge → ℕ → List Priority → List ℕ → ℕ → Type 0
+abbrev EdgeUp : List TaskEdge → ℕ → List Priority → List ℕ → ℕ → Type 0
 EdgeUp edges top levels stack k = (level_of levels (edge_at edges k).from ≤ level_of levels (edge_at edges k).to) ⊎ ((level_of levels (edge_at edges k).from ≤ top) × Contains stack (edge_at edges k).from)
 
 -- an edge after the start was raised: a and b are its ends
@@ -37,7 +37,7 @@ start_edge start a b p xs stack h low has was =
       ]
     ]
 
-one_start : (edges : List Edge) (start i : ℕ) → Contains ([] ++ start ∷ []) i → HasWalk edges start i
+one_start : (edges : List TaskEdge) (start i : ℕ) → Contains ([] ++ start ∷ []) i → HasWalk edges start i
 one_start edges start i c =
     elim (Contains-push_cases [] start i c) [
       | inl d ↦ absurd (let g = d.1 in omega (arith, g))
@@ -47,7 +47,7 @@ one_start edges start i c =
 one_inside : (n start : ℕ) → start < n → All (λ i. i < n) ([] ++ start ∷ [])
 one_inside n start h = grind (arith, elements)
 
-pub todo_start : (edges : List Edge) (start : ℕ) (p : Priority) (xs : List Priority) (stack : List ℕ) → start < length xs → level_of xs start < rank p → stack ≡ [] ++ start ∷ []
+pub todo_start : (edges : List TaskEdge) (start : ℕ) (p : Priority) (xs : List Priority) (stack : List ℕ) → start < length xs → level_of xs start < rank p → stack ≡ [] ++ start ∷ []
     → ((k : ℕ) → k < length edges → (level_of xs (edge_at edges k).from ≤ level_of xs (edge_at edges k).to) ⊎ (((edge_at edges k).to ≡ start) × (level_of xs (edge_at edges k).from ≤ rank p)))
     → IsOpen edges start (rank p) (set xs start p) stack
 todo_start edges start p xs stack h low is was =
@@ -57,7 +57,7 @@ todo_start edges start p xs stack h low is was =
       inside = let w = length-set xs start p in one_inside (length (set xs start p)) start (omega (arith, w, h));
     })
 
-pub settling_more : (edges : List Edge) (start task top : ℕ) (base xs ys : List Priority) (stack stack' : List ℕ)
+pub settling_more : (edges : List TaskEdge) (start task top : ℕ) (base xs ys : List Priority) (stack stack' : List ℕ)
     → Settling edges start top base xs → HasWalk edges start task → Raising edges task top xs ys stack stack' → Settling edges start top base ys
 settling_more edges start task top base xs ys stack stack' s w r = record {
   up = λ i. let a = s.up i in let b = r.up i in omega (arith, a, b);
@@ -67,10 +67,10 @@ settling_more edges start task top base xs ys stack stack' s w r = record {
   ];
 }
   where
-    step : (n start task i : ℕ) (edges : List Edge) → Walk edges n start task → HasEdge edges task i → Walk edges (n + 1) start i
+    step : (n start task i : ℕ) (edges : List TaskEdge) → Walk edges n start task → HasEdge edges task i → Walk edges (n + 1) start i
     step n start task i edges w e = rw add-one (task, w, e)
 
-more_edge : (edges : List Edge) (task top a b : ℕ) (xs ys : List Priority) (stack stack' : List ℕ)
+more_edge : (edges : List TaskEdge) (task top a b : ℕ) (xs ys : List Priority) (stack stack' : List ℕ)
     → Raising edges task top xs ys stack stack' → (a ≡ task → top ≤ level_of ys b)
     → (level_of xs a ≤ level_of xs b) ⊎ ((level_of xs a ≤ top) × Contains (stack ++ task ∷ []) a)
     → (level_of ys a ≤ level_of ys b) ⊎ ((level_of ys a ≤ top) × Contains stack' a)
@@ -86,10 +86,10 @@ more_edge edges task top a b xs ys stack stack' r done was =
       ]
     ]
 
-more_reached : (edges : List Edge) (start task i : ℕ) → HasWalk edges start task → HasEdge edges task i → HasWalk edges start i
+more_reached : (edges : List TaskEdge) (start task i : ℕ) → HasWalk edges start task → HasEdge edges task i → HasWalk edges start i
 more_reached edges start task i w e = (suc w.0, (task, w.1, e))
 
-pub todo_more : (edges : List Edge) (start task top : ℕ) (xs ys : List Priority) (stack stack' : List ℕ)
+pub todo_more : (edges : List TaskEdge) (start task top : ℕ) (xs ys : List Priority) (stack stack' : List ℕ)
     → IsOpen edges start top xs (stack ++ task ∷ []) → Raising edges task top xs ys stack stack' → length ys ≡ length xs
     → ((j : ℕ) → j < length edges → (edge_at edges j).from ≡ task → top ≤ level_of ys (edge_at edges j).to)
     → IsOpen edges start top ys stack'
@@ -103,7 +103,7 @@ todo_more edges start task top xs ys stack stack' o r same done = record {
 }
 
 -- with nothing left to do each edge leads up
-pub settled_end : (edges : List Edge) (start top : ℕ) (xs : List Priority) (stack : List ℕ) → length stack ≡ 0 → IsOpen edges start top xs stack
+pub settled_end : (edges : List TaskEdge) (start top : ℕ) (xs : List Priority) (stack : List ℕ) → length stack ≡ 0 → IsOpen edges start top xs stack
     → (k : ℕ) → k < length edges → level_of xs (edge_at edges k).from ≤ level_of xs (edge_at edges k).to
 settled_end edges start top xs stack none o k h =
     elim (o.edges_up k h) [

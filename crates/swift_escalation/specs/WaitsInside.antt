@@ -6,24 +6,24 @@ use Rattle.swift_escalation.specs.PlacesInside.{place_in, HasRoom}
 use Rattle.swift_escalation.specs.Levels.{level_of, edge_at, HasEdge}
 use Rattle.swift_escalation.specs.Waits.{tasks_of, IsGiven, Leads, Reaches}
 use Rattle.swift_types.specs.declared.priority.Priority.{Priority}
-use Rattle.swift_escalation.specs.declared.graph.Edge.{Edge}
-use Rattle.swift_escalation.specs.declared.waits.Event.{Event}
-use Rattle.swift_escalation.specs.declared.waits.Event.TheVariants.{Root, Child, Free, Wait}
+use Rattle.swift_escalation.specs.declared.graph.TaskEdge.{TaskEdge}
+use Rattle.swift_escalation.specs.declared.waits.PriorityEvent.{PriorityEvent}
+use Rattle.swift_escalation.specs.declared.waits.PriorityEvent.TheVariants.{Root, Child, Free, Wait}
 use Rattle.swift_escalation.specs.declared.waits.Waits.TheInside.{Inside}
 
 -- the event adds the task, which is no child, and gives it this priority
-abbrev pub IsOwn : Event → TaskId → Priority → Type 0
+abbrev pub IsOwn : PriorityEvent → TaskId → Priority → Type 0
 IsOwn (Root t p) task priority = (t ≡ task) × (p ≡ priority)
 IsOwn (Free t p) task priority = (t ≡ task) × (p ≡ priority)
 IsOwn (Child t parent p) task priority = ⊥
 IsOwn (Wait u t) task priority = ⊥
 
 -- the task stands at the place
-abbrev pub StandsAt : List Event → TaskId → ℕ → Type 0
+abbrev pub StandsAt : List PriorityEvent → TaskId → ℕ → Type 0
 StandsAt events t i = slice_get (tasks_of events) i ≡ Some t
 
 -- the level at a place has a reason: a priority given to a task from which the task there is reached
-pub record HasReason (events : List Event) (t : TaskId) (level : ℕ) : Type 0 where
+pub record HasReason (events : List PriorityEvent) (t : TaskId) (level : ℕ) : Type 0 where
   pub from : TaskId
   pub steps : ℕ
   pub priority : Priority
@@ -32,7 +32,7 @@ pub record HasReason (events : List Event) (t : TaskId) (level : ℕ) : Type 0 w
   pub same : rank priority ≡ level
 
 -- an edge stands for a step between the tasks at its ends
-pub record EdgeStands (events : List Event) (e : Edge) : Type 0 where
+pub record EdgeStands (events : List PriorityEvent) (e : TaskEdge) : Type 0 where
   pub a : TaskId
   pub b : TaskId
   pub from : StandsAt events a e.from
@@ -40,7 +40,7 @@ pub record EdgeStands (events : List Event) (e : Edge) : Type 0 where
   pub leads : Leads events a b
 
 -- a step between two tasks has an edge between their places
-pub record LeadStands (events : List Event) (edges : List Edge) (a b : TaskId) : Type 0 where
+pub record LeadStands (events : List PriorityEvent) (edges : List TaskEdge) (a b : TaskId) : Type 0 where
   pub i : ℕ
   pub j : ℕ
   pub from : StandsAt events a i
@@ -48,7 +48,7 @@ pub record LeadStands (events : List Event) (edges : List Edge) (a b : TaskId) :
   pub edge : HasEdge edges i j
 
 -- places, levels and edges are those of the events
-pub record AreOf (events : List Event) (place : TaskId → Option ℕ) (levels : List Priority) (edges : List Edge) : Type 0 where
+pub record AreOf (events : List PriorityEvent) (place : TaskId → Option ℕ) (levels : List Priority) (edges : List TaskEdge) : Type 0 where
   pub count : length levels ≡ length (tasks_of events)
   pub found : (t : TaskId) (i : ℕ) → place t ≡ Some i → StandsAt events t i
   pub kept : (t : TaskId) (i : ℕ) → StandsAt events t i → place t ≡ Some i

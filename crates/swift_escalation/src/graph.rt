@@ -24,7 +24,7 @@ fn more_urgent(one: Priority, other: Priority) -> Priority
 
 /// An edge from one task's place to another's.
 #[derive(Clone, Copy)]
-pub(crate) struct Edge {
+pub(crate) struct TaskEdge {
     pub from: usize,
     pub to: usize,
 }
@@ -32,7 +32,7 @@ pub(crate) struct Edge {
 /// Raises each follower of a task that is below a level, and puts it on the stack.
 fn raise_followers(
     levels: &mut [Priority],
-    edges: &[Edge],
+    edges: &[TaskEdge],
     before: &[Option<usize>],
     newest: &[Option<usize>],
     task: usize,
@@ -64,7 +64,7 @@ fn raise_followers(
 /// Raises the start and what walks from it reach to a level, where they are below it.
 pub(crate) fn settle(
     levels: &mut [Priority],
-    edges: &[Edge],
+    edges: &[TaskEdge],
     before: &[Option<usize>],
     newest: &[Option<usize>],
     start: usize,
@@ -96,7 +96,7 @@ pub(crate) fn settle(
 
 /// Adds an edge, as the newest of its first task.
 fn link(
-    edges: &mut Vec<Edge>,
+    edges: &mut Vec<TaskEdge>,
     before: &mut Vec<Option<usize>>,
     newest: &mut [Option<usize>],
     from: usize,
@@ -118,7 +118,7 @@ fn link(
     let Ok(()) = before.push(newest[from]) else {
         unreachable!()
     };
-    let Ok(()) = edges.push(Edge { from, to }) else {
+    let Ok(()) = edges.push(TaskEdge { from, to }) else {
         unreachable!()
     };
     newest[from] = Some(place);
@@ -133,16 +133,16 @@ fn link(
 pub(crate) struct Graph {
     levels: Vec<Priority>,
     newest: Vec<Option<usize>>,
-    edges: Vec<Edge>,
+    edges: Vec<TaskEdge>,
     before: Vec<Option<usize>>,
     raised: Vec<usize>,
     room: usize,
 }
 
 impl Model for Graph {
-    ghost use Rattle.swift_escalation.specs.Levels.{GraphIs};
+    ghost use Rattle.swift_escalation.specs.Levels.{GraphView};
 
-    ghost Value = { GraphIs };
+    ghost Value = { GraphView };
 
     ghost use Rattle.swift_escalation.specs.GraphInside.{IsGraph};
 

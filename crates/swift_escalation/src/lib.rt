@@ -13,4 +13,4 @@ pub mod laws;
 // The events so far, and each task's priority by them.
 mod waits;
 
-pub use waits::{Event, Waits, WaitsFault};
+pub use waits::{PriorityEvent, Waits, WaitsFault};

@@ -10,19 +10,19 @@ use swift_types::limits::TASKS;
 /// The place of each task that is known. The numbers of a run's tasks are below `TASKS`, and turns ask for them all the time:
 /// these have a list. Any other number is in a map.
 #[derive(Drop)]
-pub(crate) struct Places {
+pub(crate) struct TaskPlaces {
     // Empty until room is made for the first time, then so long that each of these numbers is in it.
     listed: Vec<Option<usize>>,
     mapped: HashMap<u32, usize>,
 }
 
-impl Places {
+impl TaskPlaces {
     /// No task is known. Takes no memory.
-    pub(crate) fn new(alloc: Global) -> Places
+    pub(crate) fn new(alloc: Global) -> TaskPlaces
         ensures none { (n : ℕ) → place_in result n ≡ None }
         ensures room { HasRoom result 0 }
     {
-        Places {
+        TaskPlaces {
             listed: Vec::new(alloc),
             mapped: HashMap::new(alloc),
         }

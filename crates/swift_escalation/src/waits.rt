@@ -3,7 +3,7 @@
 ghost use Rattle.std.specs.Prelude.{◌≡◌, ◌≢◌, ◌+◌, ◌-◌, ◌<◌, ◌≤◌, ◌↔◌, [], ◌∷◌, ◌++◌, max, OnOk, OnErr, Ok, Err, IsSome, IfSome, IfNone};
 
 use crate::graph::Graph;
-use crate::places::Places;
+use crate::places::TaskPlaces;
 use std::alloc::{AllocError, Global};
 use std::fmt::{self, Display, Formatter, Write};
 use std::marker::Model;
@@ -11,7 +11,7 @@ use swift_types::{Priority, TaskId};
 
 /// What happened to tasks, as far as their priorities ask (SE-0304; that it is logged is our own).
 #[derive(Clone, Copy)]
-pub enum Event {
+pub enum PriorityEvent {
     /// A root task was added, with its priority.
     Root(TaskId, Priority),
     /// A child was added to a task: the child, its parent, and the priority that it was given of its own.
@@ -62,8 +62,8 @@ impl From<AllocError> for WaitsFault {
 /// tasks wait in a ring (our own). Priorities never fall. In a clause it is the list of the events, and how many more
 /// calls are sure to find memory.
 pub struct Waits {
-    events: Vec<Event>,
-    places: Places,
+    events: Vec<PriorityEvent>,
+    places: TaskPlaces,
     graph: Graph,
 }
 
@@ -81,9 +81,9 @@ impl Drop for Waits {
 }
 
 impl Model for Waits {
-    ghost use Rattle.swift_escalation.specs.Waits.{WaitsIs};
+    ghost use Rattle.swift_escalation.specs.Waits.{WaitsView};
 
-    ghost Value = { WaitsIs };
+    ghost Value = { WaitsView };
 
     ghost use Rattle.swift_escalation.specs.WaitsInside.{IsWaits};
 
@@ -102,7 +102,7 @@ impl Waits {
     {
         Waits {
             events: Vec::new(alloc),
-            places: Places::new(alloc),
+            places: TaskPlaces::new(alloc),
             graph: Graph::new(alloc),
         }
     }
@@ -146,7 +146,12 @@ impl Waits {
     }
 
     /// Adds a task with a priority of its own, by this event.
-    fn add(&mut self, event: Event, task: TaskId, priority: Priority) -> Result<(), WaitsFault>
+    fn add(
+        &mut self,
+        event: PriorityEvent,
+        task: TaskId,
+        priority: Priority,
+    ) -> Result<(), WaitsFault>
         requires { IsOwn event task priority }
         ensures ok { OnOk result (self.new ≡ with_event self.old event) }
         ensures fresh { OnOk result (IsKnown self.old.events task → ⊥) }
@@ -164,7 +169,7 @@ impl Waits {
     }
 
     /// Records the event of a new task with a priority of its own.
-    fn record_own(&mut self, event: Event, task: TaskId, priority: Priority)
+    fn record_own(&mut self, event: PriorityEvent, task: TaskId, priority: Priority)
         requires own { IsOwn event task priority }
         requires fresh { IsKnown self.old.events task → ⊥ }
         requires room { 0 < self.old.reserved }
@@ -183,10 +188,10 @@ impl Waits {
         requires above { StandsAt self.old.events parent above }
         requires fresh { IsKnown self.old.events task → ⊥ }
         requires room { 0 < self.old.reserved }
-        ensures { self.new ≡ with_event self.old (Event.Child task parent own) }
+        ensures { self.new ≡ with_event self.old (PriorityEvent.Child task parent own) }
     {
         let place = self.graph.len();
-        let Ok(()) = self.events.push(Event::Child(task, parent, own)) else {
+        let Ok(()) = self.events.push(PriorityEvent::Child(task, parent, own)) else {
             unreachable!()
         };
         self.places.insert(task.0, place);
@@ -198,9 +203,9 @@ impl Waits {
         requires from { StandsAt self.old.events waiter from }
         requires to { StandsAt self.old.events task to }
         requires room { 0 < self.old.reserved }
-        ensures { self.new ≡ with_event self.old (Event.Wait waiter task) }
+        ensures { self.new ≡ with_event self.old (PriorityEvent.Wait waiter task) }
     {
-        let Ok(()) = self.events.push(Event::Wait(waiter, task)) else {
+        let Ok(()) = self.events.push(PriorityEvent::Wait(waiter, task)) else {
             unreachable!()
         };
         self.graph.join(from, to);
@@ -209,25 +214,25 @@ impl Waits {
     /// Adds a root task with its priority. P2 where the task is known, P3 where there is no memory. Constant time,
     /// but for growth.
     pub fn add_root(&mut self, task: TaskId, priority: Priority) -> Result<(), WaitsFault>
-        ensures ok { OnOk result (self.new ≡ with_event self.old (Event.Root task priority)) }
+        ensures ok { OnOk result (self.new ≡ with_event self.old (PriorityEvent.Root task priority)) }
         ensures err { OnErr result (self.new ≡ self.old) }
         ensures unknown { result ≢ Err WaitsFault.Unknown }
         ensures known { (result ≡ Err WaitsFault.Known) ↔ IsKnown self.old.events task }
         ensures memory { result ≡ Err WaitsFault.Memory → self.old.reserved ≡ 0 }
     {
-        self.add(Event::Root(task, priority), task, priority)
+        self.add(PriorityEvent::Root(task, priority), task, priority)
     }
 
     /// Adds a task that is no child, with its priority. P2 where the task is known, P3 where there is no memory.
     /// Constant time, but for growth.
     pub fn add_free(&mut self, task: TaskId, priority: Priority) -> Result<(), WaitsFault>
-        ensures ok { OnOk result (self.new ≡ with_event self.old (Event.Free task priority)) }
+        ensures ok { OnOk result (self.new ≡ with_event self.old (PriorityEvent.Free task priority)) }
         ensures err { OnErr result (self.new ≡ self.old) }
         ensures unknown { result ≢ Err WaitsFault.Unknown }
         ensures known { (result ≡ Err WaitsFault.Known) ↔ IsKnown self.old.events task }
         ensures memory { result ≡ Err WaitsFault.Memory → self.old.reserved ≡ 0 }
     {
-        self.add(Event::Free(task, priority), task, priority)
+        self.add(PriorityEvent::Free(task, priority), task, priority)
     }
 
     /// Adds a child of a task, with a priority of its own (SE-0304). One that is no higher than its parent's has no
@@ -239,7 +244,7 @@ impl Waits {
         parent: TaskId,
         priority: Priority,
     ) -> Result<(), WaitsFault>
-        ensures ok { OnOk result (self.new ≡ with_event self.old (Event.Child task parent priority)) }
+        ensures ok { OnOk result (self.new ≡ with_event self.old (PriorityEvent.Child task parent priority)) }
         ensures err { OnErr result (self.new ≡ self.old) }
         ensures unknown { (result ≡ Err WaitsFault.Unknown) ↔ (IsKnown self.old.events parent → ⊥) }
         ensures known { (result ≡ Err WaitsFault.Known) ↔ (IsKnown self.old.events parent × IsKnown self.old.events task) }
@@ -262,7 +267,7 @@ impl Waits {
     /// Takes a time that is linear in the tasks that it raises and in the children and waits of these. A task can be
     /// raised three times at most, so all waits together take a time that is linear in the tasks and the events.
     pub fn wait(&mut self, waiter: TaskId, task: TaskId) -> Result<(), WaitsFault>
-        ensures ok { OnOk result (self.new ≡ with_event self.old (Event.Wait waiter task)) }
+        ensures ok { OnOk result (self.new ≡ with_event self.old (PriorityEvent.Wait waiter task)) }
         ensures err { OnErr result (self.new ≡ self.old) }
         ensures unknown { (result ≡ Err WaitsFault.Unknown) ↔ ((IsKnown self.old.events waiter × IsKnown self.old.events task) → ⊥) }
         ensures known { result ≢ Err WaitsFault.Known }

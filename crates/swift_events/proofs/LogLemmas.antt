@@ -11,7 +11,7 @@ use Rattle.std.proofs.lemmas.List.{append-nil, length-replicate, get_or-replicat
 use Rattle.std.proofs.lemmas.List.FromFn.{fill_by_all, get_or-map-range_with_len, length-map-range_with_len, map-range_with_len_more}
 use Rattle.swift_types.specs.declared.id.TaskId.{TaskId}
 use Rattle.swift_types.specs.declared.priority.Priority.{Priority}
-use Rattle.swift_escalation.specs.declared.waits.Event.{Event as Link}
+use Rattle.swift_escalation.specs.declared.waits.PriorityEvent.{PriorityEvent as Link}
 use Rattle.swift_events.specs.declared.event.Event.{Event}
 use Rattle.swift_events.specs.declared.event.Event.TheVariants.{Free, Child, Wait}
 use Rattle.swift_events.specs.declared.life.Life.{Life}

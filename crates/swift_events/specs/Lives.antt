@@ -5,9 +5,9 @@ use Rattle.swift_events.specs.declared.event.Event.{Event}
 use Rattle.swift_events.specs.declared.event.Event.TheVariants.{Root, Begin, Apply, Free, Child, Wait, Next, Close, End, Give}
 use Rattle.swift_events.specs.declared.life.Origin.{Origin}
 use Rattle.swift_events.specs.declared.life.Origin.TheVariants as origin
-use Rattle.swift_events.specs.declared.life.Given.{Given}
-use Rattle.swift_events.specs.declared.life.Stage.{Stage}
-use Rattle.swift_events.specs.declared.life.Stage.TheVariants as stage
+use Rattle.swift_events.specs.declared.life.LastJob.{LastJob}
+use Rattle.swift_events.specs.declared.life.JobStage.{JobStage}
+use Rattle.swift_events.specs.declared.life.JobStage.TheVariants as stage
 use Rattle.swift_events.specs.declared.life.Life.{Life}
 use Rattle.swift_events.specs.Events.{events_of, last_of, later}
 
@@ -18,11 +18,11 @@ origin_in (Free t by p false) = Some (origin.Spawned by)
 origin_in (Child t o g p) = Some (origin.Child o g)
 origin_in _ = None
 
-abbrev pub given_in : Event → Option Given
+abbrev pub given_in : Event → Option LastJob
 given_in (Give t n resume) = Some (record { number = n; resume = resume })
 given_in _ = None
 
-abbrev pub stage_in : Event → Option Stage
+abbrev pub stage_in : Event → Option JobStage
 stage_in (Give t n resume) = Some stage.Given
 stage_in (Begin t n env) = Some (stage.Begun env)
 stage_in (Apply t n) = Some stage.Applied
@@ -64,7 +64,7 @@ abbrev pub is_open : Life → Bool
 is_open l = is_some l.origin && is_none l.ending
 
 -- it waits for a task, for a result of a group, or for the children of a group that it closes
-abbrev pub waits_at : Option Stage → Bool
+abbrev pub waits_at : Option JobStage → Bool
 waits_at (Some (stage.Waits awaited)) = true
 waits_at (Some (stage.Asks g)) = true
 waits_at (Some (stage.Closes g)) = true
@@ -74,7 +74,7 @@ abbrev pub is_waiting : Life → Bool
 is_waiting l = waits_at l.stage
 
 -- the room that is reserved for its turn that is under way
-abbrev pub room_in : Option Stage → ℕ
+abbrev pub room_in : Option JobStage → ℕ
 room_in (Some (stage.Begun env)) = env.room
 room_in _ = 0
 

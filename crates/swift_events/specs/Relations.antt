@@ -4,11 +4,11 @@ use Rattle.std.specs.Prelude.{ℕ, zero, suc, Bool, true, false, not, min, if◌
 use Rattle.std.specs.List.{filter_map, list_any}
 use Rattle.swift_types.specs.declared.id.TaskId.{TaskId}
 use Rattle.swift_types.specs.declared.outcome.Ending.{Ending}
-use Rattle.swift_escalation.specs.declared.waits.Event.{Event as Link}
-use Rattle.swift_escalation.specs.declared.waits.Event.TheVariants as link
-use Rattle.swift_groups.specs.declared.group.Stage.{Stage}
-use Rattle.swift_groups.specs.declared.group.Stage.TheVariants as stage
-use Rattle.swift_groups.specs.Groups.{GroupIs, is_among, unfinished_of}
+use Rattle.swift_escalation.specs.declared.waits.PriorityEvent.{PriorityEvent as Link}
+use Rattle.swift_escalation.specs.declared.waits.PriorityEvent.TheVariants as link
+use Rattle.swift_groups.specs.declared.group.GroupStage.{GroupStage}
+use Rattle.swift_groups.specs.declared.group.GroupStage.TheVariants as stage
+use Rattle.swift_groups.specs.Groups.{GroupView, is_among, unfinished_of}
 use Rattle.swift_groups.specs.Close.{stage_among}
 use Rattle.swift_events.specs.declared.event.Event.{Event}
 use Rattle.swift_events.specs.declared.event.Event.TheVariants.{Root, Free, Open, Child, CancelTask, CancelGroup, Wait, Next, Close, End}
@@ -95,12 +95,12 @@ names_group o g _ = false
 abbrev pub is_named_group : ℕ → ℕ → List Event → Bool
 is_named_group o g log = list_any (names_group o g) log
 
-abbrev pub stage_of : Bool → List TaskId → Stage
+abbrev pub stage_of : Bool → List TaskId → GroupStage
 stage_of false unfinished = stage.Open
 stage_of true unfinished = stage_among unfinished
 
 -- A group by the log. The results that its owner has asked for are handed out in order of ending.
-abbrev pub group_of : ℕ → ℕ → List Event → GroupIs
+abbrev pub group_of : ℕ → ℕ → List Event → GroupView
 group_of o g log =
     let added = children_of o g log in
     let ended = endings_of o g log in

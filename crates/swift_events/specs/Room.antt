@@ -3,7 +3,7 @@ use Rattle.std.specs.Prelude.{◌≡◌, ℕ, ◌-◌, min, List, map, count_by,
 use Rattle.std.specs.List.{range_with_len}
 use Rattle.swift_types.specs.declared.limits.TheConstants.{TASKS, MADE}
 use Rattle.swift_types.specs.declared.id.TaskId.{TaskId}
-use Rattle.script_code.specs.declared.env.Env.{Env}
+use Rattle.swift_types.specs.declared.env.Env.{Env}
 use Rattle.swift_escalation.specs.Waits.{IsPriority}
 use Rattle.swift_events.specs.declared.event.Event.{Event}
 use Rattle.swift_events.specs.declared.life.Life.{Life}

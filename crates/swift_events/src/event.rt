@@ -1,7 +1,6 @@
 //! What happens to tasks.
 
-use script_code::Env;
-use swift_types::{Ending, Priority, Resume, TaskId};
+use swift_types::{Ending, Env, Priority, Resume, TaskId};
 
 /// What happened to a task (SE-0304; that it is logged, and in these steps, is our own). Each event is of one task,
 /// which comes first, and groups are numbered within their owner in order of opening, from 0.

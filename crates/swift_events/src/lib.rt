@@ -13,4 +13,4 @@ mod life;
 pub mod laws;
 
 pub use event::Event;
-pub use life::{Given, Life, Origin, Stage};
+pub use life::{JobStage, LastJob, Life, Origin};

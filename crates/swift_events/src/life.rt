@@ -4,8 +4,7 @@ ghost use Rattle.std.specs.Prelude.{◌≡◌};
 ghost use Rattle.swift_events.specs.Lives.{unborn, lived, is_open, is_waiting, room_held};
 
 use crate::event::Event;
-use script_code::Env;
-use swift_types::{Ending, Resume, TaskId};
+use swift_types::{Ending, Env, Resume, TaskId};
 
 /// Where a task comes from (SE-0304).
 #[derive(Clone, Copy, PartialEq, Eq)]
@@ -22,7 +21,7 @@ pub enum Origin {
 
 /// The last job that was made for a task (our own).
 #[derive(Clone, Copy)]
-pub struct Given {
+pub struct LastJob {
     /// The number of its turn.
     pub number: u32,
     /// What that turn begins with.
@@ -31,7 +30,7 @@ pub struct Given {
 
 /// How far a task is with its last job (our own).
 #[derive(Clone, Copy)]
-pub enum Stage {
+pub enum JobStage {
     /// The job was made.
     Given,
     /// Its turn has begun, in this environment, whose room is reserved.
@@ -52,9 +51,9 @@ pub struct Life {
     /// Where it comes from; none where it was not made yet.
     pub origin: Option<Origin>,
     /// Its last job.
-    pub given: Option<Given>,
+    pub given: Option<LastJob>,
     /// How far it is with that.
-    pub stage: Option<Stage>,
+    pub stage: Option<JobStage>,
     /// How it has ended.
     pub ending: Option<Ending>,
 }
@@ -82,15 +81,15 @@ impl Life {
             Event::Free(_, by, _, false) => life.origin = Some(Origin::Spawned(by)),
             Event::Free(_, by, _, true) => life.origin = Some(Origin::Detached(by)),
             Event::Child(_, owner, group, _) => life.origin = Some(Origin::Child(owner, group)),
-            Event::Begin(_, _, env) => life.stage = Some(Stage::Begun(env)),
-            Event::Apply(_, _) => life.stage = Some(Stage::Applied),
-            Event::Wait(_, awaited) => life.stage = Some(Stage::Waits(awaited)),
-            Event::Next(_, group) => life.stage = Some(Stage::Asks(group)),
-            Event::Close(_, group) => life.stage = Some(Stage::Closes(group)),
+            Event::Begin(_, _, env) => life.stage = Some(JobStage::Begun(env)),
+            Event::Apply(_, _) => life.stage = Some(JobStage::Applied),
+            Event::Wait(_, awaited) => life.stage = Some(JobStage::Waits(awaited)),
+            Event::Next(_, group) => life.stage = Some(JobStage::Asks(group)),
+            Event::Close(_, group) => life.stage = Some(JobStage::Closes(group)),
             Event::End(_, ending) => life.ending = Some(ending),
             Event::Give(_, number, resume) => {
-                life.given = Some(Given { number, resume });
-                life.stage = Some(Stage::Given);
+                life.given = Some(LastJob { number, resume });
+                life.stage = Some(JobStage::Given);
             }
             Event::Open(_, _)
             | Event::Skip(_, _)
@@ -113,7 +112,7 @@ impl Life {
     {
         matches!(
             self.stage,
-            Some(Stage::Waits(_) | Stage::Asks(_) | Stage::Closes(_))
+            Some(JobStage::Waits(_) | JobStage::Asks(_) | JobStage::Closes(_))
         )
     }
 
@@ -122,7 +121,7 @@ impl Life {
         ensures { result ≡ room_held self.now }
     {
         match self.stage {
-            Some(Stage::Begun(env)) => env.room,
+            Some(JobStage::Begun(env)) => env.room,
             _ => 0,
         }
     }

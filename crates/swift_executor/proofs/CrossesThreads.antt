@@ -18,9 +18,9 @@ use Rattle.swift_interpreter.proofs.saved.SavedRows.TheSendSync as SavedRows
 use Rattle.swift_executor.specs.contracts.fields.Fields as fields
 use Rattle.swift_executor.specs.contracts.state.ExecState as state
 use Rattle.swift_executor.specs.contracts.resting.Resting as resting
-use Rattle.swift_executor.specs.contracts.resting.Held as held
+use Rattle.swift_executor.specs.contracts.resting.TakenState as held
 use Rattle.swift_executor.specs.contracts.chosen.Chosen as chosen
-use Rattle.swift_executor.specs.contracts.chosen.Played as played
+use Rattle.swift_executor.specs.contracts.chosen.PlayedTurn as played
 use Rattle.swift_executor.specs.contracts.exec.Spare as spare
 use Rattle.swift_executor.specs.contracts.exec.Exec as exec
 use Rattle.swift_executor.specs.contracts.desk.Desk as desk
@@ -28,7 +28,7 @@ use Rattle.atomic_table.proofs.shared.Seat.TheSendSync as Seat
 use Rattle.atomic_table.proofs.badge.Badge.TheSendSync as Badge
 use Rattle.swift_word.proofs.word.Word.TheSendSync as Word
 use Rattle.swift_ledger.proofs.ledger.Ledger.TheSendSync as Ledger
-use Rattle.swift_tasks.specs.contracts.held.Held as waiting
+use Rattle.swift_tasks.specs.contracts.held.WaitingTask as waiting
 use Rattle.swift_tasks.specs.contracts.book.Book as book
 use Rattle.swift_lock.proofs.lock.Lock.TheSendSync as Lock
 use Rattle.swift_shared_book.specs.contracts.seat.BookSeat as book_seat

@@ -3,27 +3,27 @@ use Rattle.std.proofs.Common.{◌≡◌, ℕ, ◌-◌, ℤ, Option, Some, None, 
 use Rattle.std.proofs.lemmas.Option.{same_Some}
 use Rattle.std.specs.declared.vec.Vec.{Vec}
 use Rattle.std.specs.declared.alloc.Global.{Global}
-use Rattle.swift_history.specs.TurnEnds.{JobView}
+use Rattle.swift_history.specs.TurnEnds.{JobFacts}
 use Rattle.swift_interpreter.specs.Frames.{effect_views}
 use Rattle.swift_interpreter.specs.TurnStates.{exit_view}
-use Rattle.swift_journal.specs.Checkpoints.{CheckpointRoom, CheckpointView}
+use Rattle.swift_journal.specs.Checkpoints.{CheckpointRoomView, CheckpointView}
 use Rattle.swift_journal.specs.Records.{RecordView}
 use Rattle.swift_journal.specs.Replay.{InvariantsStay, LawfulGrows}
-use Rattle.swift_queue.specs.Job.{JobIs}
+use Rattle.swift_job.specs.Job.{JobView}
 use Rattle.swift_script.specs.Scripts.{ScriptView}
 use Rattle.swift_tasks.specs.Books.{BookView}
 use Rattle.swift_turn.specs.Body.{BodyView}
 use Rattle.swift_types.specs.declared.id.TaskId.{TaskId}
 use Rattle.swift_executor.specs.Playing.{Applied, HasFoldRoom, Settles, WritesRecord}
-use Rattle.swift_executor.specs.Ready.{Forwards, ReadyIs}
-use Rattle.swift_executor.specs.State.{ChosenView, ExecView, HasChosen, IsExecutor, IsPlayed, Journals}
+use Rattle.swift_executor.specs.Ready.{Forwards, ReadyJobsView}
+use Rattle.swift_executor.specs.State.{ChosenView, ExecStateView, HasChosen, ExecInvariant, IsPlayed, Journals}
 use Rattle.swift_executor.specs.StateInside.{chosen_at, chosen_view, stage_of}
-use Rattle.swift_executor.specs.declared.chosen.Played.{Played}
-use Rattle.swift_executor.specs.declared.chosen.Stage.{Stage}
+use Rattle.swift_executor.specs.declared.chosen.PlayedTurn.{PlayedTurn}
+use Rattle.swift_executor.specs.declared.chosen.ChosenStage.{ChosenStage}
 use Rattle.swift_executor.proofs.TurnKept.{Done, journalled, retracted}
 
 -- A turn was played of the job in its place, and its record was written.
-module _ (s : ExecView) (p p' : Played) (arrival : ℕ) (stage : Stage) (place place' : Option (JobIs BodyView)) (job : JobIs BodyView) (j1 : List RecordView)
+module _ (s : ExecStateView) (p p' : PlayedTurn) (arrival : ℕ) (stage : ChosenStage) (place place' : Option (JobView BodyView)) (job : JobView BodyView) (j1 : List RecordView)
     (at : s.chosen ≡ chosen_at p arrival stage place) (is : place ≡ Some job) (has : HasChosen s (λ c. IsPlayed c.stage)) (wrote : WritesRecord p stage job s.journal j1) where
   seen : s.chosen ≡ Some (chosen_view p arrival stage job)
   seen = at ∙ ap (chosen_at p arrival stage) is
@@ -32,8 +32,8 @@ module _ (s : ExecView) (p p' : Played) (arrival : ℕ) (stage : Stage) (place p
   was = subst (λ (v : ChosenView). IsPlayed v.stage) (same_Some has.0 (chosen_view p arrival stage job) (sym has.1 ∙ seen)) has.2
 
   -- the book has taken the turn, and what was made room for is done
-  pub ended : (book book' : BookView) (jobs jobs' : List JobView) (task : TaskId) (j' : List RecordView) (copy : Option (Vec (Vec ℤ Global) Global)) (room room' : CheckpointRoom) (ready' : ReadyIs BodyView) (fields' : List (List ℤ))
-      → ((script : ScriptView) (fields : List (List ℤ)) (rs : List RecordView) (r : RecordView) → LawfulGrows script fields rs r) → InvariantsStay → IsExecutor s
+  pub ended : (book book' : BookView) (jobs jobs' : List JobFacts) (task : TaskId) (j' : List RecordView) (copy : Option (Vec (Vec ℤ Global) Global)) (room room' : CheckpointRoomView) (ready' : ReadyJobsView BodyView) (fields' : List (List ℤ))
+      → ((script : ScriptView) (fields : List (List ℤ)) (rs : List RecordView) (r : RecordView) → LawfulGrows script fields rs r) → InvariantsStay → ExecInvariant s
       → room.view ≡ s.checkpoint → HasFoldRoom copy room j1 p.fields.after → Settles copy j1 j' room room' → Forwards s.ready task ready' → task ≡ job.task
       → Applied book book' job (effect_views p.effects.items) (exit_view p.exit) jobs jobs' → place' ≡ None → fields' ≡ p.fields.after
       → Done book book' jobs jobs' s (record s { ready = ready'; chosen = chosen_at p' arrival stage place'; journal = j'; checkpoint = room'.view; fields = fields' }) (chosen_view p arrival stage job)
@@ -41,10 +41,10 @@ module _ (s : ExecView) (p p' : Played) (arrival : ℕ) (stage : Stage) (place p
       let d = journalled book book' jobs jobs' s p job arrival stage j1 j' copy room room' ready' grows stays keeps seen was wrote view folds settles (subst (λ (t : TaskId). Forwards s.ready t ready') of_task forwards) applied in
       let same : record s { ready = ready'; chosen = None; journal = j'; checkpoint = room'.view; fields = p.fields.after } ≡ record s { ready = ready'; chosen = chosen_at p' arrival stage place'; journal = j'; checkpoint = room'.view; fields = fields' } =
       ap (λ (rows : List (List ℤ)). record s { ready = ready'; chosen = None; journal = j'; checkpoint = room'.view; fields = rows }) (sym fields)
-      ∙ ap (λ (o : Option (JobIs BodyView)). record s { ready = ready'; chosen = chosen_at p' arrival stage o; journal = j'; checkpoint = room'.view; fields = fields' }) (sym gone) in
+      ∙ ap (λ (o : Option (JobView BodyView)). record s { ready = ready'; chosen = chosen_at p' arrival stage o; journal = j'; checkpoint = room'.view; fields = fields' }) (sym gone) in
       record {
-        keeps = subst (λ (v : ExecView). IsExecutor v) same d.keeps;
-        journals = subst (λ (v : ExecView). Journals book book' jobs jobs' s v (chosen_view p arrival stage job)) same d.journals;
+        keeps = subst (λ (v : ExecStateView). ExecInvariant v) same d.keeps;
+        journals = subst (λ (v : ExecStateView). Journals book book' jobs jobs' s v (chosen_view p arrival stage job)) same d.journals;
       }
 
   -- the book has refused it, and its record was taken back

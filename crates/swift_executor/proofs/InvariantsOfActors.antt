@@ -3,9 +3,9 @@ use Rattle.std.proofs.Common.{◌≡◌, ℕ, zero, suc, ◌+◌, ◌<◌, ◌�
 use Rattle.std.specs.Prelude.{Contains, slice_get, if◌then◌else◌}
 use Rattle.std.proofs.lemmas.Bool.{eqb-true}
 use Rattle.script_grammar.specs.Tree.{ActorTree, ExecutorTree}
-use Rattle.script_printing.specs.Script.{ScriptTree}
+use Rattle.script_printing.specs.Script.{ScriptView}
 use Rattle.script_code.specs.Tree.{Term}
-use Rattle.script_lowering.specs.Plan.{Plan, executor_at}
+use Rattle.script_lowering.specs.Plan.{PlanView, executor_at}
 use Rattle.script_compiler.specs.Compiled.{ActorView, CompiledView, compiled_by, actors_from, executors_from, members_from, members_of, members_if, own_executors, term_list, invariant_if, invariants_among, executor_invariants}
 
 there : {X : Type 0} (y : X) (xs : List X) (x : X) → Contains xs x → Contains (y ∷ xs) x
@@ -32,19 +32,19 @@ among actors [] t has = absurd (nothing t has)
 among actors (m ∷ ms) t has = first_or_later actors m ms t (invariant_if (slice_get actors m)) refl (among actors ms t) has
 
 -- a member of an executor is an actor that runs on it
-abbrev RunsOn : Plan → ℕ → ℕ → ℕ → ℕ → Type 0
+abbrev RunsOn : PlanView → ℕ → ℕ → ℕ → ℕ → Type 0
 RunsOn p e k count m = (i : ℕ) × (m ≡ k + i) × (i < count) × (executor_at p m ≡ e)
 
-on_later : (p : Plan) (e k count m : ℕ) → RunsOn p e (suc k) count m → RunsOn p e k (suc count) m
+on_later : (p : PlanView) (e k count m : ℕ) → RunsOn p e (suc k) count m → RunsOn p e k (suc count) m
 on_later p e k count m (i, is, lt, on) = (suc i, omega (arith, is), omega (arith, lt), on)
 
-on_first : (p : Plan) (e k : ℕ) (others : List ActorTree) (m : ℕ) (b : Bool) → eqb (executor_at p k) e ≡ b → (Contains (members_from p e (suc k) others) m → RunsOn p e (suc k) (length others) m)
+on_first : (p : PlanView) (e k : ℕ) (others : List ActorTree) (m : ℕ) (b : Bool) → eqb (executor_at p k) e ≡ b → (Contains (members_from p e (suc k) others) m → RunsOn p e (suc k) (length others) m)
     → Contains (if b then k ∷ members_from p e (suc k) others else members_from p e (suc k) others) m → RunsOn p e k (suc (length others)) m
 on_first p e k others m true is rest (zero, lt, same) = (0, sym same ∙ sym (add-zero k), omega arith, subst (λ n. executor_at p n ≡ e) same (eqb-true (executor_at p k) e is))
 on_first p e k others m true is rest (suc n, lt, same) = on_later p e k (length others) m (rest (n, omega (arith, lt), same))
 on_first p e k others m false is rest has = on_later p e k (length others) m (rest has)
 
-on : (p : Plan) (e k : ℕ) (actors : List ActorTree) (m : ℕ) → Contains (members_from p e k actors) m → RunsOn p e k (length actors) m
+on : (p : PlanView) (e k : ℕ) (actors : List ActorTree) (m : ℕ) → Contains (members_from p e k actors) m → RunsOn p e k (length actors) m
 on p e k [] m has = absurd (nothing m has)
 on p e k (a ∷ others) m has = on_first p e k others m (eqb (executor_at p k) e) refl (on p e (suc k) others m) has
 
@@ -53,17 +53,17 @@ some_or None a = a
 some_or (Some x) a = x
 
 -- the executor of an actor, by its place
-runs_at : (p : Plan) (k : ℕ) (actors : List ActorTree) (i : ℕ) (a : ActorView) → slice_get (actors_from p k actors) i ≡ Some a → a.executor ≡ executor_at p (k + i)
+runs_at : (p : PlanView) (k : ℕ) (actors : List ActorTree) (i : ℕ) (a : ActorView) → slice_get (actors_from p k actors) i ≡ Some a → a.executor ≡ executor_at p (k + i)
 runs_at p k [] i a is = absurd cc
 runs_at p k (x ∷ others) zero a is = ap (λ (y : ActorView). y.executor) (sym (ap (λ (o : Option ActorView). some_or o a) is)) ∙ ap (executor_at p) (sym (add-zero k))
 runs_at p k (x ∷ others) (suc i) a is = runs_at p (suc k) others i a is ∙ ap (executor_at p) (omega arith)
 
-as_many : (p : Plan) (k : ℕ) (actors : List ActorTree) → length (actors_from p k actors) ≡ length actors
+as_many : (p : PlanView) (k : ℕ) (actors : List ActorTree) → length (actors_from p k actors) ≡ length actors
 as_many p k [] = refl
 as_many p k (a ∷ others) = ap suc (as_many p (suc k) others)
 
 -- the members of an executor, by its place
-members_at : (p : Plan) (actors : List ActorTree) (j : ℕ) (xs : List ExecutorTree) (e m : ℕ) → Contains (members_if (slice_get (executors_from p actors j xs) e)) m → Contains (members_of p (j + e) actors) m
+members_at : (p : PlanView) (actors : List ActorTree) (j : ℕ) (xs : List ExecutorTree) (e m : ℕ) → Contains (members_if (slice_get (executors_from p actors j xs) e)) m → Contains (members_of p (j + e) actors) m
 members_at p actors j [] e m has = absurd (nothing m has)
 members_at p actors j (x ∷ xs) zero m has = subst (λ n. Contains (members_of p n actors) m) (sym (add-zero j)) has
 members_at p actors j (x ∷ xs) (suc e) m has = subst (λ n. Contains (members_of p n actors) m) (omega arith) (members_at p actors (suc j) xs e m has)
@@ -72,7 +72,7 @@ zero_more : (m : ℕ) → 0 + m ≡ m
 zero_more m = omega arith
 
 -- an invariant of an executor's actors is that of an actor which runs on it
-pub of_actor : (p : Plan) (tree : ScriptTree) (e : ℕ) (t : Term) → let c = compiled_by p tree in Contains (executor_invariants c e) t
+pub of_actor : (p : PlanView) (tree : ScriptView) (e : ℕ) (t : Term) → let c = compiled_by p tree in Contains (executor_invariants c e) t
     → (m : ℕ) × (m < length c.actors) × (invariant_if (slice_get c.actors m) ≡ Some t) × ((a : ActorView) → slice_get c.actors m ≡ Some a → a.executor ≡ e)
 of_actor p tree e t has =
     let c = compiled_by p tree in

@@ -4,14 +4,14 @@ use Rattle.std.proofs.lemmas.List.Elements.{All-contains, All-head, All-nil, Con
 use Rattle.std.proofs.lemmas.List.Sorted.{All-permutation, Contains-permutation, IsPermutation-sym, IsPermutation-trans, length_permutation}
 use Rattle.std.specs.List.{All}
 use Rattle.std.specs.List.Sorted.{IsPermutation}
-use Rattle.swift_queue.specs.Job.{JobIs}
-use Rattle.swift_executor.specs.Ready.{ComesFirst, ReadyIs, ReadyJob}
+use Rattle.swift_job.specs.Job.{JobView}
+use Rattle.swift_executor.specs.Ready.{ComesFirst, ReadyJobsView, ReadyJob}
 
 module _ {B : Type 0} where
   -- levels that were counted, and then a job taken or put back
-  pub two_steps : (s one two : ReadyIs B) → one ≡ record s { front = one.front; levels = one.levels } → two ≡ record one { front = two.front } → two ≡ record s { front = two.front; levels = two.levels }
+  pub two_steps : (s one two : ReadyJobsView B) → one ≡ record s { front = one.front; levels = one.levels } → two ≡ record one { front = two.front } → two ≡ record s { front = two.front; levels = two.levels }
   two_steps s one two e f =
-      f ∙ ap (λ (r : ReadyIs B). record r { front = two.front }) e ∙ ap (λ (ls : List ℕ). record s { front = two.front; levels = ls }) (sym (ap (λ (r : ReadyIs B). r.levels) f))
+      f ∙ ap (λ (r : ReadyJobsView B). record r { front = two.front }) e ∙ ap (λ (ls : List ℕ). record s { front = two.front; levels = ls }) (sym (ap (λ (r : ReadyJobsView B). r.levels) f))
 
   pub none_left : (xs ys : List (ReadyJob B)) → IsPermutation xs ys → ys ≡ [] → xs ≡ []
   none_left [] ys perm is = refl
@@ -26,9 +26,9 @@ module _ {B : Type 0} where
       Contains-permutation (x ∷ rest) xs x (IsPermutation-sym xs (x ∷ rest) (IsPermutation-trans xs ys (x ∷ rest) one two)) (Contains-append_left (x ∷ []) rest x (Contains-push [] x))
 
   -- where none is in front, none leads
-  pub none_behind : (front : List (ReadyJob B)) (behind : List (JobIs B)) → front ≡ [] → All (λ j. Contains (map (λ (x : ReadyJob B). x.job.task) front) j.task) behind → behind ≡ []
+  pub none_behind : (front : List (ReadyJob B)) (behind : List (JobView B)) → front ≡ [] → All (λ j. Contains (map (λ (x : ReadyJob B). x.job.task) front) j.task) behind → behind ≡ []
   none_behind front [] is led = refl
   none_behind front (j ∷ behind) is led =
-      let has = All-head (λ (j : JobIs B). Contains (map (λ (x : ReadyJob B). x.job.task) front) j.task) j behind led in
+      let has = All-head (λ (j : JobView B). Contains (map (λ (x : ReadyJob B). x.job.task) front) j.task) j behind led in
       let none = subst (λ (xs : List (ReadyJob B)). Contains (map (λ (x : ReadyJob B). x.job.task) xs) j.task) is has in
       absurd (All-contains (λ _. ⊥) [] j.task (All-nil (λ _. ⊥)) none)

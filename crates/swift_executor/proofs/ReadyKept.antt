@@ -11,7 +11,7 @@ use Rattle.std.specs.List.Sorted.{IsPermutation}
 use Rattle.swift_types.specs.Priority.{rank}
 use Rattle.swift_types.specs.declared.id.TaskId.{TaskId}
 use Rattle.swift_types.specs.declared.priority.Priority.{Priority}
-use Rattle.swift_queue.specs.Job.{JobIs}
+use Rattle.swift_job.specs.Job.{JobView}
 use Rattle.swift_queue.specs.Picks.{raised}
 use Rattle.swift_queue.specs.declared.waiting.Waiting.{Waiting}
 use Rattle.swift_executor.specs.Ready.{ComesFirst, ReadyJob, level_at, priority_of, times}
@@ -71,7 +71,7 @@ module _ {B : Type 0} where
       omega (arith, one, two, three, four, five)
 
   -- one job more behind
-  pub tasks_behind : (jobs : List (Waiting B)) (behind : List (JobIs B)) (j : JobIs B) (ts ts' : List TaskId) → ((t : TaskId) → times t ts ≡ times t (map task_of jobs ++ map task_in behind)) → IsPermutation (j.task ∷ ts) ts'
+  pub tasks_behind : (jobs : List (Waiting B)) (behind : List (JobView B)) (j : JobView B) (ts ts' : List TaskId) → ((t : TaskId) → times t ts ≡ times t (map task_of jobs ++ map task_in behind)) → IsPermutation (j.task ∷ ts) ts'
       → (t : TaskId) → times t ts' ≡ times t (map task_of jobs ++ map task_in (behind ++ j ∷ []))
   tasks_behind jobs behind j ts ts' are added t =
       let f : TaskId → ℕ = λ (y : TaskId). cond (eqb y.0 t.0) 1 0 in
@@ -158,7 +158,7 @@ module _ {B : Type 0} where
       All-permutation P (map (raised task (priority_of l)) jobs) new perm
       (All-map P (raised task (priority_of l)) jobs
       (All-weaker (λ x. x.priority ≡ priority_of (level_at levels x.job.task)) (λ x. P (raised task (priority_of l) x))
-      (λ w is. counted_one levels levels' task l w lt at others is ∙ ap (λ (j : JobIs B). priority_of (level_at levels' j.task)) (sym (raised_job task (priority_of l) w))) jobs are))
+      (λ w is. counted_one levels levels' task l w lt at others is ∙ ap (λ (j : JobView B). priority_of (level_at levels' j.task)) (sym (raised_job task (priority_of l) w))) jobs are))
 
   -- the queue's order, seen with the numbers of arrival
   pub seen_perm : (old new : List (Waiting B)) → IsPermutation old new → IsPermutation (map job_of old) (map job_of new)
@@ -177,10 +177,10 @@ module _ {B : Type 0} where
   -- jobs, seen with the numbers of their arrival
   pub jobs_seen : (jobs : List (Waiting B)) → map (λ (w : Waiting B). w.job) jobs ≡ map (λ (x : ReadyJob B). x.job) (map job_of jobs)
   jobs_seen [] = refl
-  jobs_seen (w ∷ jobs) = ap (λ (js : List (JobIs B)). w.job ∷ js) (jobs_seen jobs)
+  jobs_seen (w ∷ jobs) = ap (λ (js : List (JobView B)). w.job ∷ js) (jobs_seen jobs)
 
   -- a job from behind comes to the front
-  pub tasks_forward : (jobs new : List (Waiting B)) (w : Waiting B) (behind less : List (JobIs B)) (ts : List TaskId) → ((t : TaskId) → times t ts ≡ times t (map task_of jobs ++ map task_in behind))
+  pub tasks_forward : (jobs new : List (Waiting B)) (w : Waiting B) (behind less : List (JobView B)) (ts : List TaskId) → ((t : TaskId) → times t ts ≡ times t (map task_of jobs ++ map task_in behind))
       → IsPermutation behind (w.job ∷ less) → IsPermutation (w ∷ jobs) new → (t : TaskId) → times t ts ≡ times t (map task_of new ++ map task_in less)
   tasks_forward jobs new w behind less ts are removed added t =
       let f : TaskId → ℕ = λ (y : TaskId). cond (eqb y.0 t.0) 1 0 in

@@ -3,7 +3,7 @@ use Rattle.std.proofs.Common.{◌≡◌, ℕ, suc, ◌==◌, ℤ, Bool, true, fa
 use Rattle.std.proofs.lemmas.List.{append-nil, map-append}
 use Rattle.std.proofs.lemmas.List.Sorted.{IsPermutation-cons, IsPermutation-map, IsPermutation-refl, IsPermutation-sym, IsPermutation-trans}
 use Rattle.std.specs.List.Sorted.{IsPermutation}
-use Rattle.script_code.specs.declared.env.Env.{Env}
+use Rattle.swift_types.specs.declared.env.Env.{Env}
 use Rattle.swift_types.specs.declared.id.TaskId.{TaskId}
 use Rattle.swift_types.specs.declared.limits.TheConstants.{FOLD}
 use Rattle.swift_types.specs.declared.outcome.Resume.{Resume}
@@ -11,88 +11,88 @@ use Rattle.swift_script.specs.Scripts.{ScriptView, executor_start}
 use Rattle.swift_interpreter.specs.Frames.{FrameView}
 use Rattle.swift_interpreter.specs.Turn.{EffectView, ExitView, calling, waiting, asking_next, closing, yielding, returning, failing}
 use Rattle.swift_turn.specs.Body.{BodyView, HasFirst, IsTurnOf, left}
-use Rattle.swift_queue.specs.Job.{JobIs}
+use Rattle.swift_job.specs.Job.{JobView}
 use Rattle.swift_journal.proofs.Replayed.{replay-append}
 use Rattle.swift_journal.specs.Checkpoints.{FoldedView, folded_of, folds}
 use Rattle.swift_journal.specs.Records.{RecordView}
 use Rattle.swift_journal.specs.Replay.{IsLawfulRecord, LawfulGrows, fields_after, replay}
 use Rattle.swift_events.specs.declared.event.Event.{Event}
-use Rattle.swift_history.specs.TurnEnds.{JobView}
-use Rattle.swift_tasks.specs.Books.{job_view}
-use Rattle.swift_known.specs.Views.{Account, SeatView, Ticket, fresh}
+use Rattle.swift_history.specs.TurnEnds.{JobFacts}
+use Rattle.swift_history.specs.Jobs.{job_facts}
+use Rattle.swift_known.specs.Views.{Account, BookKnown, Ticket, fresh}
 use Rattle.swift_course.specs.Frames.{kept_frame}
 use Rattle.swift_course.specs.Steps.{knowing_begin, with_record}
 use Rattle.swift_book_steps.specs.Calls.{IsPlayed}
-use Rattle.swift_shared_book.specs.Shared.{BeginsTicket, BookSeatIs, HasPlayed, HasTicket, after_turn, knowing, with_ticket}
+use Rattle.swift_shared_book.specs.Shared.{BeginsTicket, BookSeatView, HasPlayed, HasTicket, after_turn, knowing, with_ticket}
 use Rattle.swift_executor.specs.Account.{ready_jobs}
-use Rattle.swift_executor.specs.Ready.{Adds, ReadyIs, ready_job}
+use Rattle.swift_executor.specs.Ready.{Adds, ReadyJobsView, ready_job}
 use Rattle.swift_executor.specs.Seats.{AccountsFor, AreTicketsAt, AreTicketsOf, IsFirst, IsOpened, IsSeatFor, jobs_of}
-use Rattle.swift_executor.specs.State.{Chooses, ChosenView, ExecView, HasChosen, HasNone, IsChosen, IsExecutor, Journals, LacksTask, Plays, PutsBack, StageView, picked, begun, played, before_turn, checkpoint_with, frame_after, journal_with, new_executor, record_by}
+use Rattle.swift_executor.specs.State.{Chooses, ChosenView, ExecStateView, HasChosen, HasNone, IsChosen, ExecInvariant, Journals, LacksTask, Plays, PutsBack, ChosenStageView, picked, begun, played, before_turn, checkpoint_with, frame_after, journal_with, new_executor, record_by}
 use Rattle.swift_executor.specs.State as state
 use Rattle.swift_executor.proofs.AccountKept.{added, front_less, front_moved, front_more}
 use Rattle.swift_executor.proofs.Cancelled.{has_image, same_others}
 use Rattle.swift_executor.proofs.TurnKept.{recorded}
 
 -- the account is the same, whatever jobs are ready or chosen
-same_account : (s : ExecView) (v : SeatView) (ready : ReadyIs BodyView) (chosen : Option ChosenView) (tickets : List Ticket) → AccountsFor s v → AccountsFor (record s { ready = ready; chosen = chosen }) (record v { tickets = tickets })
+same_account : (s : ExecStateView) (v : BookKnown) (ready : ReadyJobsView BodyView) (chosen : Option ChosenView) (tickets : List Ticket) → AccountsFor s v → AccountsFor (record s { ready = ready; chosen = chosen }) (record v { tickets = tickets })
 same_account s v ready chosen tickets a = record { script_is = a.script_is; past = a.past; accounts = a.accounts; folded = a.folded; replayed = a.replayed }
 
 -- the tickets, where no job is chosen, and where this one is
-free_tickets : (s : ExecView) (seat : BookSeatIs) → IsSeatFor s seat → s.chosen ≡ None → IsPermutation (jobs_of seat.knows.tickets) (ready_jobs s.ready)
+free_tickets : (s : ExecStateView) (seat : BookSeatView) → IsSeatFor s seat → s.chosen ≡ None → IsPermutation (jobs_of seat.knows.tickets) (ready_jobs s.ready)
 free_tickets s seat is free = subst (λ (o : Option ChosenView). AreTicketsOf s.ready o seat.knows.tickets) free is.tickets
 
-chosen_tickets : (s : ExecView) (seat : BookSeatIs) (c : ChosenView) → IsSeatFor s seat → s.chosen ≡ Some c → AreTicketsAt s.ready c.job c.stage seat.knows.tickets
+chosen_tickets : (s : ExecStateView) (seat : BookSeatView) (c : ChosenView) → IsSeatFor s seat → s.chosen ≡ Some c → AreTicketsAt s.ready c.job c.stage seat.knows.tickets
 chosen_tickets s seat c is at = subst (λ (o : Option ChosenView). AreTicketsOf s.ready o seat.knows.tickets) at is.tickets
 
 -- an executor that has run no turn
-pub new_knows : (script : ScriptView) (executor room : ℕ) (seat : BookSeatIs) → IsOpened script executor seat → IsSeatFor (new_executor script executor room) seat
+pub new_knows : (script : ScriptView) (executor room : ℕ) (seat : BookSeatView) → IsOpened script executor seat → IsSeatFor (new_executor script executor room) seat
 new_knows script executor room seat is = record {
   here = is.0;
-  account = subst (λ (v : SeatView). AccountsFor (new_executor script executor room) v) (sym is.1) (record { script_is = refl; past = []; accounts = refl; folded = refl; replayed = refl });
-  tickets = subst (λ (v : SeatView). IsPermutation (jobs_of v.tickets) []) (sym is.1) (IsPermutation-refl []);
+  account = subst (λ (v : BookKnown). AccountsFor (new_executor script executor room) v) (sym is.1) (record { script_is = refl; past = []; accounts = refl; folded = refl; replayed = refl });
+  tickets = subst (λ (v : BookKnown). IsPermutation (jobs_of v.tickets) []) (sym is.1) (IsPermutation-refl []);
 }
 
 -- a job that is accepted
-pub accepted_knows : (job : JobIs BodyView) (old new : ExecView) (seat : BookSeatIs) → IsSeatFor old seat → old.chosen ≡ None → Adds old.ready job new.ready → new ≡ record old { ready = new.ready }
-    → IsSeatFor new (knowing (with_ticket (job_view job) seat.knows) seat)
+pub accepted_knows : (job : JobView BodyView) (old new : ExecStateView) (seat : BookSeatView) → IsSeatFor old seat → old.chosen ≡ None → Adds old.ready job new.ready → new ≡ record old { ready = new.ready }
+    → IsSeatFor new (knowing (with_ticket (job_facts job) seat.knows) seat)
 accepted_knows job old new seat is free adds same =
     let tickets = seat.knows.tickets in
-    let all = IsPermutation-trans (job_view job ∷ jobs_of tickets) (job_view job ∷ ready_jobs old.ready) (ready_jobs new.ready)
-    (IsPermutation-cons (job_view job) (jobs_of tickets) (ready_jobs old.ready) (free_tickets old seat is free)) (added old.ready job new.ready adds) in
-    subst (λ (v : ExecView). IsSeatFor v (knowing (with_ticket (job_view job) seat.knows) seat)) (sym same)
+    let all = IsPermutation-trans (job_facts job ∷ jobs_of tickets) (job_facts job ∷ ready_jobs old.ready) (ready_jobs new.ready)
+    (IsPermutation-cons (job_facts job) (jobs_of tickets) (ready_jobs old.ready) (free_tickets old seat is free)) (added old.ready job new.ready adds) in
+    subst (λ (v : ExecStateView). IsSeatFor v (knowing (with_ticket (job_facts job) seat.knows) seat)) (sym same)
     (record {
       here = is.here;
-      account = same_account old seat.knows new.ready old.chosen (fresh (job_view job) ∷ tickets) is.account;
-      tickets = subst (λ (o : Option ChosenView). AreTicketsOf new.ready o (fresh (job_view job) ∷ tickets)) (sym free) all;
+      account = same_account old seat.knows new.ready old.chosen (fresh (job_facts job) ∷ tickets) is.account;
+      tickets = subst (λ (o : Option ChosenView). AreTicketsOf new.ready o (fresh (job_facts job) ∷ tickets)) (sym free) all;
     })
 
 -- a job that is chosen, one that is not, and none
-pub chose_knows : (log : List Event) (task : TaskId) (old new : ExecView) (seat : BookSeatIs) → IsSeatFor old seat → old.chosen ≡ None → Chooses log old new task → IsSeatFor new seat
+pub chose_knows : (log : List Event) (task : TaskId) (old new : ExecStateView) (seat : BookSeatView) → IsSeatFor old seat → old.chosen ≡ None → Chooses log old new task → IsSeatFor new seat
 chose_knows log task old new seat is free h =
     let ready = record old.ready { front = new.ready.front; levels = new.ready.levels } in
     let chosen : ChosenView = record { job = h.job; arrival = h.arrival; stage = picked } in
     let less = front_less old.ready ready (ready_job h.job h.arrival) h.rest refl in
-    subst (λ (v : ExecView). IsSeatFor v seat) (sym h.same)
+    subst (λ (v : ExecStateView). IsSeatFor v seat) (sym h.same)
     (record {
       here = is.here;
       account = same_account old seat.knows ready (Some chosen) seat.knows.tickets is.account;
-      tickets = IsPermutation-trans (jobs_of seat.knows.tickets) (ready_jobs old.ready) (job_view h.job ∷ ready_jobs ready) (free_tickets old seat is free) less;
+      tickets = IsPermutation-trans (jobs_of seat.knows.tickets) (ready_jobs old.ready) (job_facts h.job ∷ ready_jobs ready) (free_tickets old seat is free) less;
     })
 
-pub lacked_knows : (log : List Event) (old new : ExecView) (seat : BookSeatIs) → IsSeatFor old seat → old.chosen ≡ None → LacksTask log old new → IsSeatFor new seat
+pub lacked_knows : (log : List Event) (old new : ExecStateView) (seat : BookSeatView) → IsSeatFor old seat → old.chosen ≡ None → LacksTask log old new → IsSeatFor new seat
 lacked_knows log old new seat is free h =
     let ready = record old.ready { front = new.ready.front; levels = new.ready.levels } in
     let all = IsPermutation-trans (jobs_of seat.knows.tickets) (ready_jobs old.ready) (ready_jobs ready) (free_tickets old seat is free) (front_moved old.ready ready h.rest refl) in
-    subst (λ (v : ExecView). IsSeatFor v seat) (sym h.same)
+    subst (λ (v : ExecStateView). IsSeatFor v seat) (sym h.same)
     (record {
       here = is.here;
       account = same_account old seat.knows ready old.chosen seat.knows.tickets is.account;
       tickets = subst (λ (o : Option ChosenView). AreTicketsOf ready o seat.knows.tickets) (sym free) all;
     })
 
-pub none_knows : (log : List Event) (old new : ExecView) (seat : BookSeatIs) → IsSeatFor old seat → old.chosen ≡ None → HasNone log old new → IsSeatFor new seat
+pub none_knows : (log : List Event) (old new : ExecStateView) (seat : BookSeatView) → IsSeatFor old seat → old.chosen ≡ None → HasNone log old new → IsSeatFor new seat
 none_knows log old new seat is free h =
-    subst (λ (v : ExecView). IsSeatFor v seat) (sym h.same)
+    subst (λ (v : ExecStateView). IsSeatFor v seat) (sym h.same)
     (record {
       here = is.here;
       account = same_account old seat.knows (record old.ready { levels = new.ready.levels }) old.chosen seat.knows.tickets is.account;
@@ -100,59 +100,59 @@ none_knows log old new seat is free h =
     })
 
 -- a turn that begins: there is a ticket for it, which comes first then
-pub picked_has_ticket : (s : ExecView) (seat : BookSeatIs) (c : ChosenView) → IsSeatFor s seat → s.chosen ≡ Some c → c.stage ≡ picked → HasTicket (job_view c.job) seat.knows.tickets
+pub picked_has_ticket : (s : ExecStateView) (seat : BookSeatView) (c : ChosenView) → IsSeatFor s seat → s.chosen ≡ Some c → c.stage ≡ picked → HasTicket (job_facts c.job) seat.knows.tickets
 picked_has_ticket s seat c is at was =
-    let all = subst (λ (st : StageView). AreTicketsAt s.ready c.job st seat.knows.tickets) was (chosen_tickets s seat c is at) in
-    let h = has_image (λ (k : Ticket). k.job) seat.knows.tickets (job_view c.job) (ready_jobs s.ready) all in
+    let all = subst (λ (st : ChosenStageView). AreTicketsAt s.ready c.job st seat.knows.tickets) was (chosen_tickets s seat c is at) in
+    let h = has_image (λ (k : Ticket). k.job) seat.knows.tickets (job_facts c.job) (ready_jobs s.ready) all in
     (h.one, h.rest, h.all, h.is)
 
-pub began_knows : (s : ExecView) (c : ChosenView) (worker : ℕ) (env : Env) (seat seat' : BookSeatIs) → IsSeatFor s seat → s.chosen ≡ Some c → c.stage ≡ picked → BeginsTicket (job_view c.job) env seat.knows seat'.knows → seat'.here ≡ seat.here
+pub began_knows : (s : ExecStateView) (c : ChosenView) (worker : ℕ) (env : Env) (seat seat' : BookSeatView) → IsSeatFor s seat → s.chosen ≡ Some c → c.stage ≡ picked → BeginsTicket (job_facts c.job) env seat.knows seat'.knows → seat'.here ≡ seat.here
     → IsSeatFor (record s { chosen = Some (record c { stage = begun worker env }) }) seat'
 began_knows s c worker env seat seat' is at was (k, rest, perm, of_job, knows) here =
-    let all = subst (λ (st : StageView). AreTicketsAt s.ready c.job st seat.knows.tickets) was (chosen_tickets s seat c is at) in
-    let images = IsPermutation-trans (k.job ∷ jobs_of rest) (jobs_of seat.knows.tickets) (job_view c.job ∷ ready_jobs s.ready)
+    let all = subst (λ (st : ChosenStageView). AreTicketsAt s.ready c.job st seat.knows.tickets) was (chosen_tickets s seat c is at) in
+    let images = IsPermutation-trans (k.job ∷ jobs_of rest) (jobs_of seat.knows.tickets) (job_facts c.job ∷ ready_jobs s.ready)
     (IsPermutation-sym (jobs_of seat.knows.tickets) (k.job ∷ jobs_of rest) (IsPermutation-map (λ (x : Ticket). x.job) seat.knows.tickets (k ∷ rest) perm)) all in
-    let others = same_others (job_view c.job) (jobs_of rest) (ready_jobs s.ready) (subst (λ (j : JobView). IsPermutation (j ∷ jobs_of rest) (job_view c.job ∷ ready_jobs s.ready)) of_job images) in
+    let others = same_others (job_facts c.job) (jobs_of rest) (ready_jobs s.ready) (subst (λ (j : JobFacts). IsPermutation (j ∷ jobs_of rest) (job_facts c.job ∷ ready_jobs s.ready)) of_job images) in
     let first : Ticket = record k { begun = Some env } in
     let v = knowing_begin k rest env seat.knows in
     let chosen : ChosenView = record c { stage = begun worker env } in
     record {
       here = here ∙ is.here;
-      account = subst (λ (x : SeatView). AccountsFor (record s { chosen = Some chosen }) x) (sym knows) (same_account s seat.knows s.ready (Some chosen) (first ∷ rest) is.account);
-      tickets = subst (λ (x : SeatView). IsFirst s.ready (job_view c.job) env x.tickets) (sym knows) (first, rest, refl, of_job, refl, others);
+      account = subst (λ (x : BookKnown). AccountsFor (record s { chosen = Some chosen }) x) (sym knows) (same_account s seat.knows s.ready (Some chosen) (first ∷ rest) is.account);
+      tickets = subst (λ (x : BookKnown). IsFirst s.ready (job_facts c.job) env x.tickets) (sym knows) (first, rest, refl, of_job, refl, others);
     }
 
 -- a turn that is played
-pub played_knows : (old new : ExecView) (seat : BookSeatIs) → IsSeatFor old seat → HasChosen old (Plays old new) → IsSeatFor new seat
+pub played_knows : (old new : ExecStateView) (seat : BookSeatView) → IsSeatFor old seat → HasChosen old (Plays old new) → IsSeatFor new seat
 played_knows old new seat is (c, at, h) =
-    let has = subst (λ (st : StageView). AreTicketsAt old.ready c.job st seat.knows.tickets) h.was (chosen_tickets old seat c is at) in
+    let has = subst (λ (st : ChosenStageView). AreTicketsAt old.ready c.job st seat.knows.tickets) h.was (chosen_tickets old seat c is at) in
     let stage = played h.worker h.env h.frame h.fields h.effects h.exit in
     let chosen : ChosenView = record { job = h.job; arrival = c.arrival; stage = stage } in
-    subst (λ (v : ExecView). IsSeatFor v seat) (sym h.same)
+    subst (λ (v : ExecStateView). IsSeatFor v seat) (sym h.same)
     (record {
       here = is.here;
       account = same_account old seat.knows old.ready (Some chosen) seat.knows.tickets is.account;
-      tickets = subst (λ (j : JobView). IsFirst old.ready j h.env seat.knows.tickets) (sym h.same_job) has;
+      tickets = subst (λ (j : JobFacts). IsFirst old.ready j h.env seat.knows.tickets) (sym h.same_job) has;
     })
 
 -- the chosen job is ready again
-first_is : (r : ReadyIs BodyView) (j : JobView) (env : Env) (tickets : List Ticket) → IsFirst r j env tickets → IsPermutation (jobs_of tickets) (j ∷ ready_jobs r)
+first_is : (r : ReadyJobsView BodyView) (j : JobFacts) (env : Env) (tickets : List Ticket) → IsFirst r j env tickets → IsPermutation (jobs_of tickets) (j ∷ ready_jobs r)
 first_is r j env tickets (k, rest, is, of_job, begins, others) =
     subst (λ (ks : List Ticket). IsPermutation (jobs_of ks) (j ∷ ready_jobs r)) (sym is)
-    (subst (λ (x : JobView). IsPermutation (k.job ∷ jobs_of rest) (x ∷ ready_jobs r)) of_job (IsPermutation-cons k.job (jobs_of rest) (ready_jobs r) others))
+    (subst (λ (x : JobFacts). IsPermutation (k.job ∷ jobs_of rest) (x ∷ ready_jobs r)) of_job (IsPermutation-cons k.job (jobs_of rest) (ready_jobs r) others))
 
-all_at : (r : ReadyIs BodyView) (j : JobIs BodyView) (stage : StageView) (tickets : List Ticket) → AreTicketsAt r j stage tickets → IsPermutation (jobs_of tickets) (before_turn stage j ∷ ready_jobs r)
+all_at : (r : ReadyJobsView BodyView) (j : JobView BodyView) (stage : ChosenStageView) (tickets : List Ticket) → AreTicketsAt r j stage tickets → IsPermutation (jobs_of tickets) (before_turn stage j ∷ ready_jobs r)
 all_at r j picked tickets are = are
-all_at r j (begun worker env) tickets are = first_is r (job_view j) env tickets are
+all_at r j (begun worker env) tickets are = first_is r (job_facts j) env tickets are
 all_at r j (played worker env frame fields effects exit) tickets are = first_is r (before_turn (played worker env frame fields effects exit) j) env tickets are
 
-pub back_knows : (old new : ExecView) (seat : BookSeatIs) → IsSeatFor old seat → HasChosen old (PutsBack old new) → IsSeatFor new seat
+pub back_knows : (old new : ExecStateView) (seat : BookSeatView) → IsSeatFor old seat → HasChosen old (PutsBack old new) → IsSeatFor new seat
 back_knows old new seat is (c, at, h) =
     let ready = record old.ready { front = new.ready.front } in
     let j = before_turn c.stage c.job in
     let all = all_at old.ready c.job c.stage seat.knows.tickets (chosen_tickets old seat c is at) in
-    let more = subst (λ (e : JobView). IsPermutation (e ∷ ready_jobs old.ready) (ready_jobs ready)) h.same_job (front_more old.ready ready (ready_job h.job c.arrival) h.front refl) in
-    subst (λ (v : ExecView). IsSeatFor v seat) (sym h.same)
+    let more = subst (λ (e : JobFacts). IsPermutation (e ∷ ready_jobs old.ready) (ready_jobs ready)) h.same_job (front_more old.ready ready (ready_job h.job c.arrival) h.front refl) in
+    subst (λ (v : ExecStateView). IsSeatFor v seat) (sym h.same)
     (record {
       here = is.here;
       account = same_account old seat.knows ready None seat.knows.tickets is.account;
@@ -176,21 +176,21 @@ frame_first script frame outer fields rows resume env effects exit [] has = absu
 frame_first script frame outer fields rows resume env effects exit (f ∷ others) has = (after_first exit f others, has.1)
 
 -- the fields are the replay of all turns of the account
-all_replayed : (s : ExecView) (v : SeatView) (a : AccountsFor s v) → IsExecutor s → s.fields ≡ replay s.script (executor_start s.script s.executor) (a.past ++ s.journal)
+all_replayed : (s : ExecStateView) (v : BookKnown) (a : AccountsFor s v) → ExecInvariant s → s.fields ≡ replay s.script (executor_start s.script s.executor) (a.past ++ s.journal)
 all_replayed s v a is =
     is.replayed ∙ ap (λ (fs : List (List ℤ)). replay s.script fs s.journal) a.replayed ∙ sym (replay-append s.script (executor_start s.script s.executor) a.past s.journal)
 
 -- A turn that was played is that of the first ticket, after those of the account.
-module _ (s : ExecView) (seat : BookSeatIs) (c : ChosenView) (worker : ℕ) (env : Env) (frame : FrameView) (rows : List (List ℤ)) (effects : List EffectView) (exit : ExitView)
-    (is : IsExecutor s) (at : s.chosen ≡ Some c) (was : c.stage ≡ played worker env frame rows effects exit) (known : IsSeatFor s seat) where
+module _ (s : ExecStateView) (seat : BookSeatView) (c : ChosenView) (worker : ℕ) (env : Env) (frame : FrameView) (rows : List (List ℤ)) (effects : List EffectView) (exit : ExitView)
+    (is : ExecInvariant s) (at : s.chosen ≡ Some c) (was : c.stage ≡ played worker env frame rows effects exit) (known : IsSeatFor s seat) where
   chosen : IsChosen s c
   chosen = subst (λ (o : Option ChosenView). IfSome o (IsChosen s)) at is.chosen
 
   plays : state.HasPlayed s.script s.fields c.job (played worker env frame rows effects exit)
-  plays = subst (λ (st : StageView). state.HasPlayed s.script s.fields c.job st) was chosen.plays
+  plays = subst (λ (st : ChosenStageView). state.HasPlayed s.script s.fields c.job st) was chosen.plays
 
   first_ticket : IsFirst s.ready (before_turn (played worker env frame rows effects exit) c.job) env seat.knows.tickets
-  first_ticket = subst (λ (st : StageView). AreTicketsAt s.ready c.job st seat.knows.tickets) was (chosen_tickets s seat c known at)
+  first_ticket = subst (λ (st : ChosenStageView). AreTicketsAt s.ready c.job st seat.knows.tickets) was (chosen_tickets s seat c known at)
 
   pub has_played : HasPlayed s.script seat.knows c.job (record_by c.job worker env frame effects exit)
   has_played =
@@ -219,7 +219,7 @@ module _ (s : ExecView) (seat : BookSeatIs) (c : ChosenView) (worker : ℕ) (env
       record { account = account; ticket = t.0; rest = t.1; accounts = a.accounts; tickets = t.2; plays = plays_is }
 
   -- once it is journalled, the account has its record
-  pub turned_knows : (ready' : ReadyIs BodyView) → ((script : ScriptView) (fields : List (List ℤ)) (rs : List RecordView) (r : RecordView) → LawfulGrows script fields rs r) → IsPermutation (ready_jobs s.ready) (ready_jobs ready')
+  pub turned_knows : (ready' : ReadyJobsView BodyView) → ((script : ScriptView) (fields : List (List ℤ)) (rs : List RecordView) (r : RecordView) → LawfulGrows script fields rs r) → IsPermutation (ready_jobs s.ready) (ready_jobs ready')
       → let r = record_by c.job worker env frame effects exit in
       IsSeatFor (record s { ready = ready'; chosen = None; journal = journal_with s.journal r; checkpoint = checkpoint_with s.checkpoint s.journal r rows; fields = rows }) (knowing (after_turn r seat.knows) seat)
   turned_knows ready' grows moved =

@@ -4,21 +4,21 @@ use Rattle.std.specs.Prelude.{slice_get}
 use Rattle.std.proofs.lemmas.Option.{same_Some}
 use Rattle.swift_interpreter.specs.Frames.{effect_views, frame_view}
 use Rattle.swift_interpreter.specs.TurnStates.{exit_view}
-use Rattle.swift_history.specs.TurnEnds.{JobView}
-use Rattle.swift_queue.specs.Job.{JobIs}
+use Rattle.swift_history.specs.TurnEnds.{JobFacts}
+use Rattle.swift_job.specs.Job.{JobView}
 use Rattle.swift_journal.specs.Records.{RecordView}
 use Rattle.swift_journal.specs.Replay.{LawfulGrows}
 use Rattle.swift_script.specs.Scripts.{ScriptView}
 use Rattle.swift_tasks.specs.Books.{BookView}
 use Rattle.swift_turn.specs.Body.{BodyView}
-use Rattle.swift_shared_book.specs.Shared.{BookSeatIs, HasPlayed, after_turn, knowing, newest}
+use Rattle.swift_shared_book.specs.Shared.{BookSeatView, HasPlayed, after_turn, knowing, newest}
 use Rattle.swift_executor.specs.Playing.{WritesRecord}
 use Rattle.swift_executor.specs.Seats.{IsSeatFor}
-use Rattle.swift_executor.specs.State.{ExecView, IsExecutor, IsPlayed, Journals, StageView, played, record_by}
+use Rattle.swift_executor.specs.State.{ExecStateView, ExecInvariant, IsPlayed, Journals, ChosenStageView, played, record_by}
 use Rattle.swift_executor.specs.StateInside.{chosen_view, stage_of}
-use Rattle.swift_executor.specs.declared.chosen.Played.{Played}
-use Rattle.swift_executor.specs.declared.chosen.Stage.{Stage}
-use Rattle.swift_executor.specs.declared.chosen.Stage.TheVariants.{Picked, Begun, Played as PlayedStage}
+use Rattle.swift_executor.specs.declared.chosen.PlayedTurn.{PlayedTurn}
+use Rattle.swift_executor.specs.declared.chosen.ChosenStage.{ChosenStage}
+use Rattle.swift_executor.specs.declared.chosen.ChosenStage.TheVariants.{Picked, Begun, Played as PlayedStage}
 use Rattle.swift_executor.proofs.AccountKept.{forwarded}
 use Rattle.swift_executor.proofs.SeatKept.{has_played, turned_knows}
 
@@ -31,25 +31,25 @@ newest_push (x ∷ rs) r =
     ap (slice_get (x ∷ l)) last ∙ newest_push rs r
 
 -- the record of a turn that was played
-abbrev record_at : JobIs BodyView → StageView → Option RecordView
+abbrev record_at : JobView BodyView → ChosenStageView → Option RecordView
 record_at j (played worker env frame fields effects exit) = Some (record_by j worker env frame effects exit)
 record_at j _ = None
 
-newest_is : (p : Played) (stage : Stage) (job : JobIs BodyView) (old new : List RecordView) → IsPlayed (stage_of p stage) → WritesRecord p stage job old new → newest new ≡ record_at job (stage_of p stage)
+newest_is : (p : PlayedTurn) (stage : ChosenStage) (job : JobView BodyView) (old new : List RecordView) → IsPlayed (stage_of p stage) → WritesRecord p stage job old new → newest new ≡ record_at job (stage_of p stage)
 newest_is p Picked job old new was wrote = absurd was
 newest_is p (Begun worker env) job old new was wrote = absurd was
 newest_is p (PlayedStage worker env) job old new was wrote = ap newest wrote ∙ newest_push old (record_by job worker env (frame_view p.frame) (effect_views p.effects.items) (exit_view p.exit))
 
 -- The newest record is that of the turn, and the turn is that of the seat's first ticket.
-pub record IsWritten (script : ScriptView) (p : Played) (seat : BookSeatIs) (job : JobIs BodyView) (journal : List RecordView) : Type 0 where
+pub record IsWritten (script : ScriptView) (p : PlayedTurn) (seat : BookSeatView) (job : JobView BodyView) (journal : List RecordView) : Type 0 where
   pub r : RecordView
   pub newest_is : newest journal ≡ Some r
   pub exit : r.exit ≡ exit_view p.exit
   pub effects : r.effects ≡ effect_views p.effects.items
   pub plays : HasPlayed script seat.knows job r
 
-pub written : (s : ExecView) (p : Played) (arrival : ℕ) (stage : Stage) (job : JobIs BodyView) (j1 : List RecordView) (seat : BookSeatIs) (script : ScriptView)
-    → IsExecutor s → s.chosen ≡ Some (chosen_view p arrival stage job) → IsPlayed (stage_of p stage) → WritesRecord p stage job s.journal j1 → IsSeatFor s seat → script ≡ s.script → IsWritten script p seat job j1
+pub written : (s : ExecStateView) (p : PlayedTurn) (arrival : ℕ) (stage : ChosenStage) (job : JobView BodyView) (j1 : List RecordView) (seat : BookSeatView) (script : ScriptView)
+    → ExecInvariant s → s.chosen ≡ Some (chosen_view p arrival stage job) → IsPlayed (stage_of p stage) → WritesRecord p stage job s.journal j1 → IsSeatFor s seat → script ≡ s.script → IsWritten script p seat job j1
 written s p arrival Picked job j1 seat script is at was wrote known of_script = absurd was
 written s p arrival (Begun worker env) job j1 seat script is at was wrote known of_script = absurd was
 written s p arrival (PlayedStage worker env) job j1 seat script is at was wrote known of_script =
@@ -68,14 +68,14 @@ written s p arrival (PlayedStage worker env) job j1 seat script is at was wrote 
     }
 
 -- once the turn is journalled, the seat is that of the executor again
-pub applied : (s new : ExecView) (p : Played) (arrival : ℕ) (stage : Stage) (job : JobIs BodyView) (j1 : List RecordView) (seat seat' : BookSeatIs) (r : RecordView) (book book' : BookView) (jobs jobs' : List JobView)
+pub applied : (s new : ExecStateView) (p : PlayedTurn) (arrival : ℕ) (stage : ChosenStage) (job : JobView BodyView) (j1 : List RecordView) (seat seat' : BookSeatView) (r : RecordView) (book book' : BookView) (jobs jobs' : List JobFacts)
     → ((script : ScriptView) (fields : List (List ℤ)) (rs : List RecordView) (r : RecordView) → LawfulGrows script fields rs r)
-    → IsExecutor s → s.chosen ≡ Some (chosen_view p arrival stage job) → IsPlayed (stage_of p stage) → WritesRecord p stage job s.journal j1 → IsSeatFor s seat
+    → ExecInvariant s → s.chosen ≡ Some (chosen_view p arrival stage job) → IsPlayed (stage_of p stage) → WritesRecord p stage job s.journal j1 → IsSeatFor s seat
     → Journals book book' jobs jobs' s new (chosen_view p arrival stage job) → newest j1 ≡ Some r → seat' ≡ knowing (after_turn r seat.knows) seat → IsSeatFor new seat'
 applied s new p arrival stage job j1 seat seat' r book book' jobs jobs' grows is at was wrote known h one same =
     let c = chosen_view p arrival stage job in
     let own : RecordView = record_by job h.worker h.env h.frame h.effects h.exit in
     let of_turn : r ≡ own = same_Some r own (sym one ∙ newest_is p stage job s.journal j1 was wrote ∙ ap (record_at job) h.was) in
     let here = turned_knows s seat c h.worker h.env h.frame h.fields h.effects h.exit is at h.was known new.ready grows (forwarded s.ready job.task new.ready h.forwards) in
-    let there : IsSeatFor new (knowing (after_turn own seat.knows) seat) = subst (λ (v : ExecView). IsSeatFor v (knowing (after_turn own seat.knows) seat)) (sym h.same) here in
-    subst (λ (x : BookSeatIs). IsSeatFor new x) (sym same) (subst (λ (x : RecordView). IsSeatFor new (knowing (after_turn x seat.knows) seat)) (sym of_turn) there)
+    let there : IsSeatFor new (knowing (after_turn own seat.knows) seat) = subst (λ (v : ExecStateView). IsSeatFor v (knowing (after_turn own seat.knows) seat)) (sym h.same) here in
+    subst (λ (x : BookSeatView). IsSeatFor new x) (sym same) (subst (λ (x : RecordView). IsSeatFor new (knowing (after_turn x seat.knows) seat)) (sym of_turn) there)

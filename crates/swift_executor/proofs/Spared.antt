@@ -8,13 +8,13 @@ use Rattle.swift_undo.specs.Laws.{AllHold}
 use Rattle.swift_undo.specs.Rows.{HaveRows}
 use Rattle.swift_turn.specs.Body.{BodyView, HasFirst, IfRunning, invariants_at}
 use Rattle.swift_journal.specs.Replay.{InvariantsStay}
-use Rattle.swift_queue.specs.Job.{JobIs}
+use Rattle.swift_job.specs.Job.{JobView}
 use Rattle.swift_executor.specs.Playing.{MaySpare}
-use Rattle.swift_executor.specs.State.{BelongsTo, ExecView, IsExecutor}
+use Rattle.swift_executor.specs.State.{BelongsTo, ExecStateView, ExecInvariant}
 use Rattle.swift_executor.proofs.StartInvariants.{StartWell, start_each}
 
 -- the invariants of an executor's actors hold of its fields
-pub all_hold : (s : ExecView) → StartWell s.script → InvariantsStay → IsExecutor s → AllHold (executor_invariants s.script s.executor) s.fields
+pub all_hold : (s : ExecStateView) → StartWell s.script → InvariantsStay → ExecInvariant s → AllHold (executor_invariants s.script s.executor) s.fields
 all_hold s starts stays is t has =
     subst (λ (fs : List (List ℤ)). IsTrue (holds (Some t) fs)) (sym is.replayed) (stays s.script s.executor s.checkpoint.fields s.journal t is.runs has (is.kept t has (start_each s.script s.executor t starts has)))
 
@@ -25,7 +25,7 @@ at_first script executor Q [] top holds = absurd top
 at_first script executor Q (f ∷ frames) top holds = subst (λ (e : ℕ). Q (executor_invariants script e)) (sym top) holds
 
 -- so those of a job's frame need not be tested whose rows the turn does not set
-pub may_spare : (script : ScriptView) (executor : ℕ) (rows : List ℕ) (fields : List (List ℤ)) (j : JobIs BodyView) → BelongsTo script executor j → HaveRows rows (executor_invariants script executor) → AllHold (executor_invariants script executor) fields
+pub may_spare : (script : ScriptView) (executor : ℕ) (rows : List ℕ) (fields : List (List ℤ)) (j : JobView BodyView) → BelongsTo script executor j → HaveRows rows (executor_invariants script executor) → AllHold (executor_invariants script executor) fields
     → MaySpare rows fields j.body
 may_spare script executor rows fields j is have all =
     subst (λ (p : ScriptView). IfRunning j.body.task.frames (λ f. HaveRows rows (invariants_at p f)) × IfRunning j.body.task.frames (λ f. AllHold (invariants_at p f) fields)) (sym is.script_is)

@@ -11,35 +11,35 @@ use Rattle.swift_types.specs.declared.id.TaskId.{TaskId}
 use Rattle.swift_types.specs.declared.limits.TheConstants.{FOLD}
 use Rattle.swift_types.specs.declared.outcome.Resume.{Resume}
 use Rattle.script_code.specs.Value.{holds}
-use Rattle.script_code.specs.declared.env.Env.{Env}
+use Rattle.swift_types.specs.declared.env.Env.{Env}
 use Rattle.swift_script.specs.Scripts.{ScriptView, actor_executor, executor_start, method_actor}
 use Rattle.swift_interpreter.specs.Frames.{FrameView, effect_views, frame_view}
-use Rattle.swift_interpreter.specs.Turn.{EffectView, ExitView, calling, waiting, asking_next, closing, yielding, returning, failing, State, Played}
+use Rattle.swift_interpreter.specs.Turn.{EffectView, ExitView, calling, waiting, asking_next, closing, yielding, returning, failing, TurnStateView, Played}
 use Rattle.swift_turn.specs.Body.{BodyView, HasFirst, IsTurnOf, kept_turn, left, state_at}
-use Rattle.swift_queue.specs.Job.{JobIs}
-use Rattle.swift_journal.specs.Checkpoints.{CheckpointRoom, CheckpointView, FoldedView, folded_of, folds}
+use Rattle.swift_job.specs.Job.{JobView}
+use Rattle.swift_journal.specs.Checkpoints.{CheckpointRoomView, CheckpointView, FoldedView, folded_of, folds}
 use Rattle.swift_journal.specs.Records.{RecordView}
 use Rattle.swift_journal.proofs.Replayed.{lawful-append, replay-append}
 use Rattle.swift_journal.specs.Replay.{AreLawful, IsAfter, IsLawfulRecord, InvariantsStay, LawfulGrows, RunOn, StandsFor, fields_after, replay}
-use Rattle.swift_executor.specs.Ready.{Forwards, ReadyIs, ReadyJob, ready_job}
+use Rattle.swift_executor.specs.Ready.{Forwards, ReadyJobsView, ReadyJob, ready_job}
 use Rattle.swift_executor.specs.Playing.{Applied, HasFoldRoom, Settles, WritesRecord}
 use Rattle.swift_executor.specs.StateInside.{chosen_view, stage_of}
-use Rattle.swift_executor.specs.declared.chosen.Played.{Played as Kept}
-use Rattle.swift_executor.specs.declared.chosen.Stage.{Stage}
-use Rattle.swift_executor.specs.declared.chosen.Stage.TheVariants.{Picked, Begun, Played as PlayedStage}
+use Rattle.swift_executor.specs.declared.chosen.PlayedTurn.{PlayedTurn as Kept}
+use Rattle.swift_executor.specs.declared.chosen.ChosenStage.{ChosenStage}
+use Rattle.swift_executor.specs.declared.chosen.ChosenStage.TheVariants.{Picked, Begun, Played as PlayedStage}
 use Rattle.swift_tasks.specs.Books.{BookView}
-use Rattle.swift_history.specs.TurnEnds.{JobView}
+use Rattle.swift_history.specs.TurnEnds.{JobFacts}
 use Rattle.swift_interpreter.specs.TurnStates.{exit_view}
-use Rattle.swift_executor.specs.State.{BelongsTo, ChosenView, ExecView, HasPast, HasPlayed, IsChosen, IsExecutor, IsPlayed, Journals, checkpoint_with, chosen_count, frame_after, journal_with, leaders, played, record_by}
+use Rattle.swift_executor.specs.State.{BelongsTo, ChosenView, ExecStateView, HasPast, HasPlayed, IsChosen, ExecInvariant, IsPlayed, Journals, checkpoint_with, chosen_count, frame_after, journal_with, leaders, played, record_by}
 
 -- the frame that a turn leaves stands for what is still to do
-stands : (p : ScriptView) (g : FrameView) (rows : List (List ℤ)) (effects : List EffectView) (s : State) → state_at p g rows effects s.room ≡ s → state_at p g s.fields s.effects s.room ≡ s
+stands : (p : ScriptView) (g : FrameView) (rows : List (List ℤ)) (effects : List EffectView) (s : TurnStateView) → state_at p g rows effects s.room ≡ s → state_at p g s.fields s.effects s.room ≡ s
 stands p g rows effects s is =
-    ap (λ (fs : List (List ℤ)). state_at p g fs s.effects s.room) (sym (ap (λ (x : State). x.fields) is))
-    ∙ ap (λ (es : List EffectView). state_at p g rows es s.room) (sym (ap (λ (x : State). x.effects) is))
+    ap (λ (fs : List (List ℤ)). state_at p g fs s.effects s.room) (sym (ap (λ (x : TurnStateView). x.fields) is))
+    ∙ ap (λ (es : List EffectView). state_at p g rows es s.room) (sym (ap (λ (x : TurnStateView). x.effects) is))
     ∙ is
 
-after_turn : (p : ScriptView) (m : ℕ) (s : State) (exit : ExitView) (g : FrameView) (others : List FrameView) → StandsFor p m s (Some g) → IsAfter p m s exit (frame_after exit (g ∷ others))
+after_turn : (p : ScriptView) (m : ℕ) (s : TurnStateView) (exit : ExitView) (g : FrameView) (others : List FrameView) → StandsFor p m s (Some g) → IsAfter p m s exit (frame_after exit (g ∷ others))
 after_turn p m s (calling c) g others is = is
 after_turn p m s (waiting t) g others is = is
 after_turn p m s (asking_next n) g others is = is
@@ -65,14 +65,14 @@ recorded_at script executor fields rows task number worker outer resume env fram
     record {
       lawful = record {
         exit = ap (λ (x : Played). x.exit) is;
-        effects = ap (λ (x : State). x.effects) state;
+        effects = ap (λ (x : TurnStateView). x.effects) state;
         after = after_turn script frame.method k.state exit g others (plays.0, stands script g rows effects k.state state);
       };
-      fields_are = ap (λ (x : State). x.fields) state;
+      fields_are = ap (λ (x : TurnStateView). x.fields) state;
       on = ap (λ (m : ℕ). actor_executor script (method_actor script m)) (sym plays.0) ∙ top;
     }
 
-pub recorded : (script : ScriptView) (executor : ℕ) (fields rows : List (List ℤ)) (j : JobIs BodyView) (worker : ℕ) (env : Env) (frame : FrameView) (effects : List EffectView) (exit : ExitView)
+pub recorded : (script : ScriptView) (executor : ℕ) (fields rows : List (List ℤ)) (j : JobView BodyView) (worker : ℕ) (env : Env) (frame : FrameView) (effects : List EffectView) (exit : ExitView)
     → BelongsTo script executor j → HasPlayed script fields j (played worker env frame rows effects exit) → IsRecorded script executor fields rows (record_by j worker env frame effects exit)
 recorded script executor fields rows j worker env frame effects exit belongs plays =
     recorded_at script executor fields rows j.task j.number worker j.body.task.outer j.resume env frame effects exit j.body.task.frames belongs.top plays.1
@@ -96,18 +96,18 @@ others t ts u ne has = elim (Contains-append_cases (t ∷ []) ts u has) [
 ]
 
 -- what the ready jobs keep where one from behind may come to the front
-pub record Moved (script : ScriptView) (executor : ℕ) (task : TaskId) (old new : ReadyIs BodyView) : Type 0 where
+pub record Moved (script : ScriptView) (executor : ℕ) (task : TaskId) (old new : ReadyJobsView BodyView) : Type 0 where
   pub front : All (λ x. BelongsTo script executor x.job) new.front
   pub behind : All (BelongsTo script executor) new.behind
   pub many : new.arrived + length old.front ≡ old.arrived + length new.front
   pub led : All (λ j. Contains (map (λ (x : ReadyJob BodyView). x.job.task) new.front) j.task) new.behind
 
-moved : (script : ScriptView) (executor : ℕ) (old new : ReadyIs BodyView) (task : TaskId) → All (λ x. BelongsTo script executor x.job) old.front → All (BelongsTo script executor) old.behind → All (λ j. Contains (task ∷ map (λ (x : ReadyJob BodyView). x.job.task) old.front) j.task) old.behind → Forwards old task new → Moved script executor task old new
+moved : (script : ScriptView) (executor : ℕ) (old new : ReadyJobsView BodyView) (task : TaskId) → All (λ x. BelongsTo script executor x.job) old.front → All (BelongsTo script executor) old.behind → All (λ j. Contains (task ∷ map (λ (x : ReadyJob BodyView). x.job.task) old.front) j.task) old.behind → Forwards old task new → Moved script executor task old new
 moved script executor old new task front behind led (inl h) = record {
-  front = subst (λ (r : ReadyIs BodyView). All (λ x. BelongsTo script executor x.job) r.front) (sym h.1) front;
-  behind = subst (λ (r : ReadyIs BodyView). All (BelongsTo script executor) r.behind) (sym h.1) behind;
-  many = ap (λ (r : ReadyIs BodyView). r.arrived + length old.front) h.1 ∙ sym (ap (λ (r : ReadyIs BodyView). old.arrived + length r.front) h.1);
-  led = subst (λ (r : ReadyIs BodyView). All (λ j. Contains (map (λ (x : ReadyJob BodyView). x.job.task) r.front) j.task) r.behind) (sym h.1)
+  front = subst (λ (r : ReadyJobsView BodyView). All (λ x. BelongsTo script executor x.job) r.front) (sym h.1) front;
+  behind = subst (λ (r : ReadyJobsView BodyView). All (BelongsTo script executor) r.behind) (sym h.1) behind;
+  many = ap (λ (r : ReadyJobsView BodyView). r.arrived + length old.front) h.1 ∙ sym (ap (λ (r : ReadyJobsView BodyView). old.arrived + length r.front) h.1);
+  led = subst (λ (r : ReadyJobsView BodyView). All (λ j. Contains (map (λ (x : ReadyJob BodyView). x.job.task) r.front) j.task) r.behind) (sym h.1)
       (λ k d lt. others task (map (λ (x : ReadyJob BodyView). x.job.task) old.front) (get_or old.behind k d).task (h.0 k d lt) (led k d lt));
 }
 moved script executor old new task front behind led (inr h) =
@@ -116,23 +116,23 @@ moved script executor old new task front behind led (inr h) =
     let job = h.2 in
     let P : ReadyJob BodyView → Type 0 = λ x. BelongsTo script executor x.job in
     let x = ready_job job old.arrived in
-    let all = All-permutation (BelongsTo script executor) (before ++ job ∷ after) (job ∷ (before ++ after)) (IsPermutation-middle before job after) (subst (λ (js : List (JobIs BodyView)). All (BelongsTo script executor) js) h.3 behind) in
+    let all = All-permutation (BelongsTo script executor) (before ++ job ∷ after) (job ∷ (before ++ after)) (IsPermutation-middle before job after) (subst (λ (js : List (JobView BodyView)). All (BelongsTo script executor) js) h.3 behind) in
     let one = All-head (BelongsTo script executor) job (before ++ after) all in
     let rest = All-tail (BelongsTo script executor) job (before ++ after) all in
     let perm = h.6 in
     let len = length_permutation (x ∷ old.front) new.front perm in
-    let arrived : new.arrived ≡ old.arrived + 1 = ap (λ (r : ReadyIs BodyView). r.arrived) h.7 in
+    let arrived : new.arrived ≡ old.arrived + 1 = ap (λ (r : ReadyJobsView BodyView). r.arrived) h.7 in
     record {
       front = All-permutation P (x ∷ old.front) new.front perm (All-cons P x old.front one front);
-      behind = subst (λ (js : List (JobIs BodyView)). All (BelongsTo script executor) js) (sym (ap (λ (r : ReadyIs BodyView). r.behind) h.7)) rest;
+      behind = subst (λ (js : List (JobView BodyView)). All (BelongsTo script executor) js) (sym (ap (λ (r : ReadyJobsView BodyView). r.behind) h.7)) rest;
       many = omega (arith, len, arrived);
       led =
           let ts = map (λ (x : ReadyJob BodyView). x.job.task) in
-          let Q : JobIs BodyView → Type 0 = λ j. Contains (task ∷ ts old.front) j.task in
-          let all_led = All-permutation Q (before ++ job ∷ after) (job ∷ (before ++ after)) (IsPermutation-middle before job after) (subst (λ (js : List (JobIs BodyView)). All Q js) h.3 led) in
+          let Q : JobView BodyView → Type 0 = λ j. Contains (task ∷ ts old.front) j.task in
+          let all_led = All-permutation Q (before ++ job ∷ after) (job ∷ (before ++ after)) (IsPermutation-middle before job after) (subst (λ (js : List (JobView BodyView)). All Q js) h.3 led) in
           let rest_led = All-tail Q job (before ++ after) all_led in
-          subst (λ (js : List (JobIs BodyView)). All (λ j. Contains (ts new.front) j.task) js) (sym (ap (λ (r : ReadyIs BodyView). r.behind) h.7))
-          (All-weaker Q (λ (j : JobIs BodyView). Contains (ts new.front) j.task)
+          subst (λ (js : List (JobView BodyView)). All (λ j. Contains (ts new.front) j.task) js) (sym (ap (λ (r : ReadyJobsView BodyView). r.behind) h.7))
+          (All-weaker Q (λ (j : JobView BodyView). Contains (ts new.front) j.task)
           (λ j has. Contains-permutation (job.task ∷ ts old.front) (ts new.front) j.task (IsPermutation-map (λ (x : ReadyJob BodyView). x.job.task) (x ∷ old.front) new.front perm) (subst (λ (t : TaskId). Contains (t ∷ ts old.front) j.task) (sym h.5) has))
           (before ++ after) rest_led);
     }
@@ -151,9 +151,9 @@ past_grown script executor c journal rows past lawful runs after =
     }
 
 -- a journal that is not full yet, or is folded
-pub turn_keeps : (s : ExecView) (c : ChosenView) (ready' : ReadyIs BodyView) (r : RecordView) (rows : List (List ℤ)) → ((script : ScriptView) (fields : List (List ℤ)) (rs : List RecordView) (r : RecordView) → LawfulGrows script fields rs r) → InvariantsStay
-    → IsExecutor s → s.chosen ≡ Some c → Forwards s.ready c.job.task ready' → IsRecorded s.script s.executor s.fields rows r
-    → IsExecutor (record s { ready = ready'; chosen = None; journal = journal_with s.journal r; checkpoint = checkpoint_with s.checkpoint s.journal r rows; fields = rows })
+pub turn_keeps : (s : ExecStateView) (c : ChosenView) (ready' : ReadyJobsView BodyView) (r : RecordView) (rows : List (List ℤ)) → ((script : ScriptView) (fields : List (List ℤ)) (rs : List RecordView) (r : RecordView) → LawfulGrows script fields rs r) → InvariantsStay
+    → ExecInvariant s → s.chosen ≡ Some c → Forwards s.ready c.job.task ready' → IsRecorded s.script s.executor s.fields rows r
+    → ExecInvariant (record s { ready = ready'; chosen = None; journal = journal_with s.journal r; checkpoint = checkpoint_with s.checkpoint s.journal r rows; fields = rows })
 turn_keeps s c ready' r rows grows stays is at forwards rec =
     let j' = s.journal ++ r ∷ [] in
     let law = grows s.script s.checkpoint.fields s.journal r in
@@ -171,7 +171,7 @@ turn_keeps s c ready' r rows grows stays is at forwards rec =
       | inl full ↦
           let folded = length-append s.checkpoint.folded (map folded_of j') in
           let size = length-map j' folded_of in
-          subst (λ (b : Bool). IsExecutor (record s { ready = ready'; chosen = None; journal = if b then [] else j'; checkpoint = if b then folds s.checkpoint j' rows else s.checkpoint; fields = rows })) (sym (eq-eqb (suc (length s.journal)) FOLD full))
+          subst (λ (b : Bool). ExecInvariant (record s { ready = ready'; chosen = None; journal = if b then [] else j'; checkpoint = if b then folds s.checkpoint j' rows else s.checkpoint; fields = rows })) (sym (eq-eqb (suc (length s.journal)) FOLD full))
           (record {
             past = past_grown s.script s.executor s.checkpoint j' rows is.past lawful runs replayed;
             lawful = tt;
@@ -186,7 +186,7 @@ turn_keeps s c ready' r rows grows stays is at forwards rec =
             chosen = tt;
           })
       | inr more_room ↦
-          subst (λ (b : Bool). IsExecutor (record s { ready = ready'; chosen = None; journal = if b then [] else j'; checkpoint = if b then folds s.checkpoint j' rows else s.checkpoint; fields = rows })) (sym (ne_eqb (suc (length s.journal)) FOLD more_room))
+          subst (λ (b : Bool). ExecInvariant (record s { ready = ready'; chosen = None; journal = if b then [] else j'; checkpoint = if b then folds s.checkpoint j' rows else s.checkpoint; fields = rows })) (sym (ne_eqb (suc (length s.journal)) FOLD more_room))
           (record {
             past = is.past;
             lawful = lawful;
@@ -203,7 +203,7 @@ turn_keeps s c ready' r rows grows stays is at forwards rec =
     ]
 
 -- what is left of a journal and a checkpoint that are settled
-pub settled : (copy : Option (Vec (Vec ℤ Global) Global)) (room room' : CheckpointRoom) (journal : List RecordView) (r : RecordView) (j' : List RecordView) (rows : List (List ℤ)) → length journal < FOLD → HasFoldRoom copy room (journal ++ r ∷ []) rows
+pub settled : (copy : Option (Vec (Vec ℤ Global) Global)) (room room' : CheckpointRoomView) (journal : List RecordView) (r : RecordView) (j' : List RecordView) (rows : List (List ℤ)) → length journal < FOLD → HasFoldRoom copy room (journal ++ r ∷ []) rows
     → Settles copy (journal ++ r ∷ []) j' room room' → (j' ≡ journal_with journal r) × (room'.view ≡ checkpoint_with room.view journal r rows)
 settled None room room' journal r j' rows few has is =
     let len = length-append journal (r ∷ []) in
@@ -220,13 +220,13 @@ settled (Some copy) room room' journal r j' rows few has is =
     )
 
 -- the executor after a turn that was journalled
-pub record Done (book book' : BookView) (jobs jobs' : List JobView) (s new : ExecView) (c : ChosenView) : Type 0 where
-  pub keeps : IsExecutor new
+pub record Done (book book' : BookView) (jobs jobs' : List JobFacts) (s new : ExecStateView) (c : ChosenView) : Type 0 where
+  pub keeps : ExecInvariant new
   pub journals : Journals book book' jobs jobs' s new c
 
-pub journalled : (book book' : BookView) (jobs jobs' : List JobView) (s : ExecView) (p : Kept) (job : JobIs BodyView) (arrival : ℕ) (stage : Stage) (j1 j' : List RecordView) (copy : Option (Vec (Vec ℤ Global) Global)) (room room' : CheckpointRoom) (ready' : ReadyIs BodyView)
+pub journalled : (book book' : BookView) (jobs jobs' : List JobFacts) (s : ExecStateView) (p : Kept) (job : JobView BodyView) (arrival : ℕ) (stage : ChosenStage) (j1 j' : List RecordView) (copy : Option (Vec (Vec ℤ Global) Global)) (room room' : CheckpointRoomView) (ready' : ReadyJobsView BodyView)
     → ((script : ScriptView) (fields : List (List ℤ)) (rs : List RecordView) (r : RecordView) → LawfulGrows script fields rs r) → InvariantsStay
-    → IsExecutor s → s.chosen ≡ Some (chosen_view p arrival stage job) → IsPlayed (stage_of p stage) → WritesRecord p stage job s.journal j1 → room.view ≡ s.checkpoint → HasFoldRoom copy room j1 p.fields.after
+    → ExecInvariant s → s.chosen ≡ Some (chosen_view p arrival stage job) → IsPlayed (stage_of p stage) → WritesRecord p stage job s.journal j1 → room.view ≡ s.checkpoint → HasFoldRoom copy room j1 p.fields.after
     → Settles copy j1 j' room room' → Forwards s.ready job.task ready' → Applied book book' job (effect_views p.effects.items) (exit_view p.exit) jobs jobs'
     → Done book book' jobs jobs' s (record s { ready = ready'; chosen = None; journal = j'; checkpoint = room'.view; fields = p.fields.after }) (chosen_view p arrival stage job)
 journalled book book' jobs jobs' s p job arrival Picked j1 j' copy room room' ready' grows stays is at was wrote view has settles forwards applied = absurd was
@@ -250,7 +250,7 @@ journalled book book' jobs jobs' s p job arrival (PlayedStage worker env) j1 j' 
     ap (λ (j : List RecordView). record s { ready = ready'; chosen = None; journal = j; checkpoint = room'.view; fields = rows }) done.0
     ∙ ap (λ (v : CheckpointView). record s { ready = ready'; chosen = None; journal = journal_with s.journal r; checkpoint = v; fields = rows }) checkpoint in
     record {
-      keeps = subst (λ (v : ExecView). IsExecutor v) (sym same) keeps;
+      keeps = subst (λ (v : ExecStateView). ExecInvariant v) (sym same) keeps;
       journals = record {
         worker = worker;
         env = env;
@@ -267,7 +267,7 @@ journalled book book' jobs jobs' s p job arrival (PlayedStage worker env) j1 j' 
     }
 
 -- a record that was written and taken back
-pub retracted : (p : Kept) (stage : Stage) (job : JobIs BodyView) (old new : List RecordView) → IsPlayed (stage_of p stage) → WritesRecord p stage job old new → take (length new - 1) new ≡ old
+pub retracted : (p : Kept) (stage : ChosenStage) (job : JobView BodyView) (old new : List RecordView) → IsPlayed (stage_of p stage) → WritesRecord p stage job old new → take (length new - 1) new ≡ old
 retracted p Picked job old new was wrote = absurd was
 retracted p (Begun worker env) job old new was wrote = absurd was
 retracted p (PlayedStage worker env) job old new was wrote =

@@ -1,6 +1,6 @@
 -- What a turn that was played leaves.
 use Rattle.std.proofs.Common.{◌≡◌, ◌<◌, ℕ, ℤ, Some, List, [], ◌∷◌, ap, sym, subst, ◌∙◌}
-use Rattle.script_code.specs.declared.env.Env.{Env}
+use Rattle.swift_types.specs.declared.env.Env.{Env}
 use Rattle.swift_types.specs.declared.id.TaskId.{TaskId}
 use Rattle.swift_types.specs.declared.outcome.Resume.{Resume}
 use Rattle.swift_script.specs.Scripts.{ScriptView, actor_executor, method_actor, method_count}
@@ -8,15 +8,15 @@ use Rattle.swift_interpreter.specs.Frames.{FrameView, effect_views, frame_view}
 use Rattle.swift_interpreter.specs.Turn.{EffectView, ExitView}
 use Rattle.swift_interpreter.specs.TurnStates.{exit_view}
 use Rattle.swift_turn.specs.Body.{BodyView, HasFirst, IsTurnOf, Polls, TaskView, callers_of, entered, left}
-use Rattle.swift_queue.specs.Job.{JobIs}
-use Rattle.swift_tasks.specs.Books.{job_view}
+use Rattle.swift_job.specs.Job.{JobView}
+use Rattle.swift_history.specs.Jobs.{job_facts}
 use Rattle.swift_executor.specs.Playing.{JobTurned, JobUnturned}
 use Rattle.std.proofs.lemmas.Option.{same_Some}
 use Rattle.swift_executor.specs.StateInside.{chosen_view, stage_of}
-use Rattle.swift_executor.specs.declared.chosen.Stage.{Stage}
-use Rattle.swift_executor.specs.declared.chosen.Stage.TheVariants.{Picked, Begun, Played as PlayedStage}
-use Rattle.swift_executor.specs.State.{BelongsTo, ChosenView, ExecView, HasChosen, HasPlayed, IsBegun, PutsBack, before_turn, played}
-use Rattle.swift_executor.specs.declared.chosen.Played.{Played}
+use Rattle.swift_executor.specs.declared.chosen.ChosenStage.{ChosenStage}
+use Rattle.swift_executor.specs.declared.chosen.ChosenStage.TheVariants.{Picked, Begun, Played as PlayedStage}
+use Rattle.swift_executor.specs.State.{BelongsTo, ChosenView, ExecStateView, HasChosen, HasPlayed, IsBegun, PutsBack, before_turn, played}
+use Rattle.swift_executor.specs.declared.chosen.PlayedTurn.{PlayedTurn}
 
 -- the frames of a task that has had a turn
 pub record FramesPlayed (script : ScriptView) (executor : ℕ) (outer : List (ℕ × ℤ)) (fields rows : List (List ℤ)) (resume : Resume) (env : Env) (frame : FrameView) (effects : List EffectView) (exit : ExitView) (old new : List FrameView) : Type 0 where
@@ -38,12 +38,12 @@ frames_played script executor outer fields rows resume env frame effects exit (f
     }
 
 -- what is known of a job that has had its turn
-pub record IsTurned (script : ScriptView) (executor : ℕ) (fields : List (List ℤ)) (env : Env) (worker : ℕ) (old new : JobIs BodyView) (p : Played) : Type 0 where
+pub record IsTurned (script : ScriptView) (executor : ℕ) (fields : List (List ℤ)) (env : Env) (worker : ℕ) (old new : JobView BodyView) (p : PlayedTurn) : Type 0 where
   pub plays : HasPlayed script fields new (played worker env (frame_view p.frame) p.fields.after (effect_views p.effects.items) (exit_view p.exit))
-  pub same_job : before_turn (played worker env (frame_view p.frame) p.fields.after (effect_views p.effects.items) (exit_view p.exit)) new ≡ job_view old
+  pub same_job : before_turn (played worker env (frame_view p.frame) p.fields.after (effect_views p.effects.items) (exit_view p.exit)) new ≡ job_facts old
   pub belongs : BelongsTo script executor new
 
-pub turned : (script : ScriptView) (executor : ℕ) (fields : List (List ℤ)) (env : Env) (worker : ℕ) (old new : JobIs BodyView) (p : Played) → BelongsTo script executor old → JobTurned old new fields env p
+pub turned : (script : ScriptView) (executor : ℕ) (fields : List (List ℤ)) (env : Env) (worker : ℕ) (old new : JobView BodyView) (p : PlayedTurn) → BelongsTo script executor old → JobTurned old new fields env p
     → IsTurned script executor fields env worker old new p
 turned script executor fields env worker old new p belongs is =
     let rows = p.fields.after in
@@ -67,35 +67,35 @@ turned script executor fields env worker old new p belongs is =
     }
 
 -- a job that has had no turn is one of the executor
-pub unturned : (script : ScriptView) (executor : ℕ) (old new : JobIs BodyView) → BelongsTo script executor old → JobUnturned old new → BelongsTo script executor new
+pub unturned : (script : ScriptView) (executor : ℕ) (old new : JobView BodyView) → BelongsTo script executor old → JobUnturned old new → BelongsTo script executor new
 unturned script executor old new belongs is = record {
   script_is = is.body.script ∙ belongs.script_is;
   top = subst (λ (t : TaskView). HasFirst t.frames (λ f. actor_executor script (method_actor script f.method) ≡ executor)) (sym is.body.task) belongs.top;
 }
 
 -- nothing was played where a turn has only begun
-pub begun_plays : (script : ScriptView) (fields : List (List ℤ)) (j : JobIs BodyView) (p p' : Played) (stage : Stage) → IsBegun (stage_of p stage) → HasPlayed script fields j (stage_of p' stage)
+pub begun_plays : (script : ScriptView) (fields : List (List ℤ)) (j : JobView BodyView) (p p' : PlayedTurn) (stage : ChosenStage) → IsBegun (stage_of p stage) → HasPlayed script fields j (stage_of p' stage)
 begun_plays script fields j p p' Picked is = absurd is
 begun_plays script fields j p p' (Begun worker env) is = tt
 begun_plays script fields j p p' (PlayedStage worker env) is = absurd is
 
 -- such a job is seen as it was
-unturned_view : (j j' : JobIs BodyView) → JobUnturned j j' → job_view j' ≡ job_view j
+unturned_view : (j j' : JobView BodyView) → JobUnturned j j' → job_facts j' ≡ job_facts j
 unturned_view j j' is =
     ap (λ (t : TaskId). record { task = t.0; number = j'.number; resume = j'.resume; frames = j'.body.task }) is.task
     ∙ ap (λ (n : ℕ). record { task = j.task.0; number = n; resume = j'.resume; frames = j'.body.task }) is.number
     ∙ ap (λ (r : Resume). record { task = j.task.0; number = j.number; resume = r; frames = j'.body.task }) is.resume
     ∙ ap (λ (t : TaskView). record { task = j.task.0; number = j.number; resume = j.resume; frames = t }) is.body.task
 
-unturned_before : (p p' : Played) (stage : Stage) (j j' : JobIs BodyView) → IsBegun (stage_of p stage) → JobUnturned j j' → before_turn (stage_of p' stage) j' ≡ before_turn (stage_of p stage) j
+unturned_before : (p p' : PlayedTurn) (stage : ChosenStage) (j j' : JobView BodyView) → IsBegun (stage_of p stage) → JobUnturned j j' → before_turn (stage_of p' stage) j' ≡ before_turn (stage_of p stage) j
 unturned_before p p' Picked j j' begun is = absurd begun
 unturned_before p p' (Begun worker env) j j' begun is = unturned_view j j' is
 unturned_before p p' (PlayedStage worker env) j j' begun is = absurd begun
 
 -- a job that has had no turn goes back as it was chosen
-pub back_unturned : (s new : ExecView) (p p' : Played) (arrival : ℕ) (stage : Stage) (j j' : JobIs BodyView) → s.chosen ≡ Some (chosen_view p arrival stage j) → IsBegun (stage_of p stage) → JobUnturned j j'
+pub back_unturned : (s new : ExecStateView) (p p' : PlayedTurn) (arrival : ℕ) (stage : ChosenStage) (j j' : JobView BodyView) → s.chosen ≡ Some (chosen_view p arrival stage j) → IsBegun (stage_of p stage) → JobUnturned j j'
     → HasChosen (record s { chosen = Some (chosen_view p' arrival stage j') }) (PutsBack (record s { chosen = Some (chosen_view p' arrival stage j') }) new) → HasChosen s (PutsBack s new)
 back_unturned s new p p' arrival stage j j' at begun is back =
-    let mid : ExecView = record s { chosen = Some (chosen_view p' arrival stage j') } in
+    let mid : ExecStateView = record s { chosen = Some (chosen_view p' arrival stage j') } in
     let h : PutsBack mid new (chosen_view p' arrival stage j') = subst (λ (v : ChosenView). PutsBack mid new v) (sym (same_Some (chosen_view p' arrival stage j') back.0 back.1)) back.2 in
     (chosen_view p arrival stage j, at, record { job = h.job; same_job = h.same_job ∙ unturned_before p p' stage j j' begun is; front = h.front; same = h.same })

@@ -3,19 +3,19 @@ use Rattle.std.proofs.Common.{◌≡◌, ℕ, Bool, true, sym, subst, [], ◌∷
 use Rattle.atomic_table.specs.Seated.{TableId}
 use Rattle.swift_types.specs.declared.id.TaskId.{TaskId}
 use Rattle.swift_events.specs.declared.event.Event.{Event}
-use Rattle.swift_history.specs.TurnEnds.{JobView}
+use Rattle.swift_history.specs.TurnEnds.{JobFacts}
 use Rattle.swift_ledger.specs.Levels.{AreLevels}
 use Rattle.swift_executor.specs.declared.fault.ExecFault.{ExecFault}
 use Rattle.swift_executor.specs.Account.{HasTaken}
-use Rattle.swift_inbox.specs.Inbox.{InboxIs, TakerIs, has_taken}
-use Rattle.swift_queue.specs.Job.{JobIs}
-use Rattle.swift_tasks.specs.Books.{job_view}
+use Rattle.swift_inbox.specs.Inbox.{InboxView, TakerView, has_taken}
+use Rattle.swift_job.specs.Job.{JobView}
+use Rattle.swift_history.specs.Jobs.{job_facts}
 use Rattle.swift_turn.specs.Body.{BodyView}
 use Rattle.swift_executor.specs.Exec.{IsAt, chosen_task, site_of}
 use Rattle.swift_executor.specs.Ready.{Adds}
-use Rattle.swift_executor.specs.State.{Chooses, ExecView, HasChosen, HasNone, IsPicked, LacksTask}
+use Rattle.swift_executor.specs.State.{Chooses, ExecStateView, HasChosen, HasNone, IsPicked, LacksTask}
 use Rattle.swift_executor.specs.Seats.{IsSeatFor}
-use Rattle.swift_shared_book.specs.Shared.{BookLockIs, BookSeatIs, IsSeatOf, knowing, seat_of, with_ticket}
+use Rattle.swift_shared_book.specs.Shared.{BookLockView, BookSeatView, IsSeatOf, knowing, seat_of, with_ticket}
 use Rattle.swift_executor.proofs.AccountKept.{accepted, chose, had_none, lacked}
 use Rattle.swift_executor.proofs.SeatKept.{accepted_knows, chose_knows, lacked_knows, none_knows}
 
@@ -33,7 +33,7 @@ map_err (Ok a) P Q f err = tt
 map_err (Err e) P Q f err = f err
 
 -- A choice by the levels of a log, of a state in which no job was chosen.
-module _ (given : List ℕ) (old new : ExecView) where
+module _ (given : List ℕ) (old new : ExecStateView) where
   abbrev pub SomeIs : Result (Option TaskId) ExecFault → Type 0
   SomeIs r = IfOk r (λ picked. IfSome picked (λ task. (log : List Event) → AreLevels log given → Chooses log old new task))
 
@@ -49,12 +49,12 @@ module _ (given : List ℕ) (old new : ExecView) where
     same_site lock F (Ok None) some none err = ap (site_of lock) (none log levels).same
     same_site lock F (Err fault) some none err = ap (site_of lock) (err.1 log levels).same
 
-    pub same_taken : (F : ExecFault → Type 0) (taken : List JobView) (r : Result (Option TaskId) ExecFault) → SomeIs r → NoneIs r → FaultIs F r → HasTaken taken old → HasTaken taken new
+    pub same_taken : (F : ExecFault → Type 0) (taken : List JobFacts) (r : Result (Option TaskId) ExecFault) → SomeIs r → NoneIs r → FaultIs F r → HasTaken taken old → HasTaken taken new
     same_taken F taken (Ok (Some task)) some none err was = chose taken log task old new was free (some log levels)
     same_taken F taken (Ok None) some none err was = had_none taken log old new was (none log levels)
     same_taken F taken (Err fault) some none err was = lacked taken log old new was (err.1 log levels)
 
-    pub same_known : (F : ExecFault → Type 0) (seat : BookSeatIs) (r : Result (Option TaskId) ExecFault) → SomeIs r → NoneIs r → FaultIs F r → IsSeatFor old seat → IsSeatFor new seat
+    pub same_known : (F : ExecFault → Type 0) (seat : BookSeatView) (r : Result (Option TaskId) ExecFault) → SomeIs r → NoneIs r → FaultIs F r → IsSeatFor old seat → IsSeatFor new seat
     same_known F seat (Ok (Some task)) some none err was = chose_knows log task old new seat was free (some log levels)
     same_known F seat (Ok None) some none err was = none_knows log old new seat was free (none log levels)
     same_known F seat (Err fault) some none err was = lacked_knows log old new seat was free (err.1 log levels)
@@ -62,32 +62,32 @@ module _ (given : List ℕ) (old new : ExecView) where
     pub is_picked : (r : Result (Option TaskId) ExecFault) → SomeIs r → IfOk r (λ picked. IfSome picked (λ task. HasChosen new (λ c. IsPicked c.stage) × (chosen_task new.chosen ≡ Some task)))
     is_picked (Ok (Some task)) some =
         let h = some log levels in
-        let is = ap (λ (s : ExecView). s.chosen) h.same in
+        let is = ap (λ (s : ExecStateView). s.chosen) h.same in
         ((_, is, tt), ap chosen_task is ∙ ap (λ (t : TaskId). Some t) h.task_is)
     is_picked (Ok None) some = tt
     is_picked (Err fault) some = tt
 
     pub is_none : (r : Result (Option TaskId) ExecFault) → NoneIs r → IfOk r (λ picked. IfNone picked (new.chosen ≡ None))
     is_none (Ok (Some task)) none = tt
-    is_none (Ok None) none = ap (λ (s : ExecView). s.chosen) (none log levels).same ∙ free
+    is_none (Ok None) none = ap (λ (s : ExecStateView). s.chosen) (none log levels).same ∙ free
     is_none (Err fault) none = tt
 
     pub is_free : (F : ExecFault → Type 0) (r : Result (Option TaskId) ExecFault) → FaultIs F r → OnErr r (new.chosen ≡ None)
     is_free F (Ok picked) err = tt
-    is_free F (Err fault) err = ap (λ (s : ExecView). s.chosen) (err.1 log levels).same ∙ free
+    is_free F (Err fault) err = ap (λ (s : ExecStateView). s.chosen) (err.1 log levels).same ∙ free
 
 -- a seat that was taken and given back as it was is the same
-pub same_seat : (b : BookLockIs) (s : BookSeatIs) → IsSeatOf b s → seat_of b s.knows ≡ s
+pub same_seat : (b : BookLockView) (s : BookSeatView) → IsSeatOf b s → seat_of b s.knows ≡ s
 same_seat b s is = ap (λ (id : TableId). record { lock = id; here = true; knows = s.knows }) (sym is.0) ∙ ap (λ (h : Bool). record s { here = h }) (sym is.1)
 
 -- a job that was taken out of the inbox is ready, and the seat has its ticket
-pub accepted_at : (i : InboxIs) (t t1 t2 : TakerIs) (seat seat' : BookSeatIs) (s s' : ExecView) (sent job : JobIs BodyView) → IsAt i t seat s → s.chosen ≡ None → t2 ≡ has_taken t1 sent → t1 ≡ t → job ≡ sent
-    → seat' ≡ knowing (with_ticket (job_view sent) seat.knows) seat → Adds s.ready job s'.ready → s' ≡ record s { ready = s'.ready } → IsAt i t2 seat' s'
+pub accepted_at : (i : InboxView) (t t1 t2 : TakerView) (seat seat' : BookSeatView) (s s' : ExecStateView) (sent job : JobView BodyView) → IsAt i t seat s → s.chosen ≡ None → t2 ≡ has_taken t1 sent → t1 ≡ t → job ≡ sent
+    → seat' ≡ knowing (with_ticket (job_facts sent) seat.knows) seat → Adds s.ready job s'.ready → s' ≡ record s { ready = s'.ready } → IsAt i t2 seat' s'
 accepted_at i t t1 t2 seat seat' s s' sent job at free took same_taker of_job takes adds rest =
-    let q : t2 ≡ has_taken t sent = took ∙ ap (λ (x : TakerIs). has_taken x sent) same_taker in
-    let adds' : Adds s.ready sent s'.ready = subst (λ (j : JobIs BodyView). Adds s.ready j s'.ready) of_job adds in
-    let lock : seat'.lock ≡ seat.lock = ap (λ (x : BookSeatIs). x.lock) takes in
+    let q : t2 ≡ has_taken t sent = took ∙ ap (λ (x : TakerView). has_taken x sent) same_taker in
+    let adds' : Adds s.ready sent s'.ready = subst (λ (j : JobView BodyView). Adds s.ready j s'.ready) of_job adds in
+    let lock : seat'.lock ≡ seat.lock = ap (λ (x : BookSeatView). x.lock) takes in
     let site : site_of seat'.lock s' ≡ site_of seat.lock s = ap (λ (t : TableId). site_of t s') lock ∙ ap (site_of seat.lock) rest in
-    let has : HasTaken (t.taken ++ job_view sent ∷ []) s' = accepted t.taken sent s s' at.2.1 adds' rest in
-    let knows : IsSeatFor s' seat' = subst (λ (x : BookSeatIs). IsSeatFor s' x) (sym takes) (accepted_knows sent s s' seat at.2.2 free adds' rest) in
-    subst (λ (x : TakerIs). IsAt i x seat' s') (sym q) (at.0, site ∙ at.1, (at.2.0 ∙ ap (λ x. Some x) (sym site), has, knows))
+    let has : HasTaken (t.taken ++ job_facts sent ∷ []) s' = accepted t.taken sent s s' at.2.1 adds' rest in
+    let knows : IsSeatFor s' seat' = subst (λ (x : BookSeatView). IsSeatFor s' x) (sym takes) (accepted_knows sent s s' seat at.2.2 free adds' rest) in
+    subst (λ (x : TakerView). IsAt i x seat' s') (sym q) (at.0, site ∙ at.1, (at.2.0 ∙ ap (λ x. Some x) (sym site), has, knows))

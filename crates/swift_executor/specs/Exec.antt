@@ -2,104 +2,105 @@
 -- time; the rest is our own).
 use Rattle.std.specs.Prelude.{◌≡◌, ◌≤◌, ℕ, length, map, ◌+◌, ◌-◌, ◌/◌, ◌^◌, ◌%◌, ◌==◌, Bool, true, false, pos, negsuc, Option, Some, None, List, [], ◌∷◌, ◌++◌, ◌⊎◌}
 use Rattle.atomic_table.specs.Seated.{TableId}
-use Rattle.script_grammar.specs.declared.declaration.ExecutorKind.{ExecutorKind}
-use Rattle.script_grammar.specs.declared.declaration.ExecutorKind.TheVariants as kind
-use Rattle.swift_history.specs.TurnEnds.{JobView}
-use Rattle.swift_inbox.specs.Inbox.{InboxIs, TakerIs}
-use Rattle.swift_inbox.specs.Site.{Site}
-use Rattle.swift_queue.specs.Job.{JobIs}
+use Rattle.swift_types.specs.declared.executor_kind.ExecutorKind.{ExecutorKind}
+use Rattle.swift_types.specs.declared.executor_kind.ExecutorKind.TheVariants as kind
+use Rattle.swift_history.specs.TurnEnds.{JobFacts}
+use Rattle.swift_inbox.specs.Inbox.{InboxView, TakerView}
+use Rattle.swift_inbox.specs.Site.{SiteView}
+use Rattle.swift_job.specs.Job.{JobView}
 use Rattle.swift_script.specs.Scripts.{ScriptView}
-use Rattle.swift_shared_book.specs.Shared.{BookLockIs, BookSeatIs}
-use Rattle.swift_tasks.specs.Books.{BookView, job_view}
+use Rattle.swift_shared_book.specs.Shared.{BookLockView, BookSeatView}
+use Rattle.swift_tasks.specs.Books.{BookView}
+use Rattle.swift_history.specs.Jobs.{job_facts}
 use Rattle.swift_types.specs.declared.id.TaskId.{TaskId}
 use Rattle.swift_tasks.specs.declared.fault.BookFault.{BookFault}
 use Rattle.swift_turn.specs.Body.{BodyView}
-use Rattle.swift_word.specs.Seat.{SeatIs, ended, left}
+use Rattle.swift_word.specs.Seat.{WordSeatView, ended, left}
 use Rattle.swift_executor.specs.Account.{HasTaken}
 use Rattle.swift_executor.specs.Seats.{IsSeatFor}
-use Rattle.swift_executor.specs.State.{ChosenView, ExecView, HasChosen, Journals}
+use Rattle.swift_executor.specs.State.{ChosenView, ExecStateView, HasChosen, Journals}
 use Rattle.swift_executor.specs.declared.fault.ExecFault.{ExecFault}
 use Rattle.swift_executor.specs.declared.fault.ExecFault.TheVariants.{Memory, Refused}
-use Rattle.swift_executor.specs.declared.ran.Ran.{Ran}
-use Rattle.swift_executor.specs.declared.ran.Ran.TheVariants.{Turn, Busy, Nothing}
+use Rattle.swift_executor.specs.declared.ran.VisitOutcome.{VisitOutcome}
+use Rattle.swift_executor.specs.declared.ran.VisitOutcome.TheVariants.{Turn, Busy, Nothing}
 use Rattle.swift_executor.specs.declared.state_name.StateName.{StateName}
 
 -- Which executor it is: the word of its state, its inbox with its script, number and book, and how many workers there are.
-pub record ExecIs : Type 0 where
+pub record ExecView : Type 0 where
   pub word : TableId
-  pub inbox : InboxIs
+  pub inbox : InboxView
   pub workers : ℕ
 
 -- the lock is that of the executor's book, which is of its script
-abbrev pub IsBookOf : ExecIs → BookLockIs → Type 0
+abbrev pub IsBookOf : ExecView → BookLockView → Type 0
 IsBookOf e b = (e.inbox.site.book ≡ Some b.id) × (b.script ≡ e.inbox.site.script)
 
 -- A desk: of which executor it is, the jobs that were sent by it, the oldest first, how many turns were run by it, and how many
 -- jobs may still be sent.
-pub record DeskIs : Type 0 where
+pub record DeskView : Type 0 where
   pub word : TableId
   pub inbox : TableId
-  pub site : Option Site
-  pub sent : List JobView
+  pub site : Option SiteView
+  pub sent : List JobFacts
   pub finished : ℕ
   pub allowance : ℕ
 
 -- the desk is of this executor
-abbrev pub IsDeskOf : ExecIs → DeskIs → Type 0
+abbrev pub IsDeskOf : ExecView → DeskView → Type 0
 IsDeskOf e d = (d.word ≡ e.word) × (d.inbox ≡ e.inbox.id) × (d.site ≡ Some e.inbox.site)
 
 -- the desk that an executor is made with
-abbrev pub first_desk : ExecIs → DeskIs
+abbrev pub first_desk : ExecView → DeskView
 first_desk e = record { word = e.word; inbox = e.inbox.id; site = Some e.inbox.site; sent = []; finished = 0; allowance = 2 ^ 60 }
 
 -- one job more was sent by the desk
-abbrev pub has_sent : DeskIs → JobIs BodyView → DeskIs
-has_sent d j = record d { sent = d.sent ++ job_view j ∷ []; allowance = d.allowance - 1 }
+abbrev pub has_sent : DeskView → JobView BodyView → DeskView
+has_sent d j = record d { sent = d.sent ++ job_facts j ∷ []; allowance = d.allowance - 1 }
 
 -- a desk that was split keeps the half of its allowance, rounded up
-abbrev pub kept_desk : DeskIs → DeskIs
+abbrev pub kept_desk : DeskView → DeskView
 kept_desk d = record d { allowance = d.allowance - d.allowance / 2 }
 
 -- the new desk has the other half
-abbrev pub other_desk : DeskIs → DeskIs
+abbrev pub other_desk : DeskView → DeskView
 other_desk d = record d { sent = []; finished = 0; allowance = d.allowance / 2 }
 
 -- one turn more was run by the desk, where one was
-abbrev pub after_run : Ran → DeskIs → DeskIs
+abbrev pub after_run : VisitOutcome → DeskView → DeskView
 after_run (Turn task left) d = record d { finished = d.finished + 1 }
 after_run Busy d = d
 after_run (Nothing left) d = d
 
 -- the executor whose state it is, of the book of this lock
-abbrev pub site_of : TableId → ExecView → Site
+abbrev pub site_of : TableId → ExecStateView → SiteView
 site_of lock s = record { script = s.script; executor = s.executor; book = Some lock }
 
 -- The state of the executor whose jobs the taker takes; each job that ever came out of the inbox, since there is no other taker, is
 -- ready, chosen or journalled, each once. The seat by which it takes the book is the executor's.
-abbrev pub IsOf : TakerIs → BookSeatIs → ExecView → Type 0
+abbrev pub IsOf : TakerView → BookSeatView → ExecStateView → Type 0
 IsOf t seat s = (t.site ≡ Some (site_of seat.lock s)) × HasTaken t.taken s × IsSeatFor s seat
 
 -- what a word knows of a state: whose it is, and from which inbox it takes its jobs
-abbrev pub state_name : Site → TableId → StateName
+abbrev pub state_name : SiteView → TableId → StateName
 state_name site inbox = record { site = site; inbox = record { inbox = inbox } }
 
 -- a seat of the executor's word
-abbrev pub IsSeatAt : ExecIs → SeatIs StateName → Type 0
+abbrev pub IsSeatAt : ExecView → WordSeatView StateName → Type 0
 IsSeatAt e s = (s.word ≡ e.word) × (s.name ≡ Some (state_name e.inbox.site e.inbox.id))
 
 -- what a visit leaves of the seat that held the state
-abbrev pub seat_after : Ran → SeatIs StateName → SeatIs StateName
+abbrev pub seat_after : VisitOutcome → WordSeatView StateName → WordSeatView StateName
 seat_after (Turn task l) s = ended s
 seat_after Busy s = s
 seat_after (Nothing l) s = left s
 
 -- where a turn was run, this holds of its task
-abbrev pub IfTurn : (TaskId → Type 0) → Ran → Type 0
+abbrev pub IfTurn : (TaskId → Type 0) → VisitOutcome → Type 0
 IfTurn P (Turn task left) = P task
 IfTurn P _ = Unit {0}
 
 -- where no turn was run, this holds
-abbrev pub IfNoTurn : Type 0 → Ran → Type 0
+abbrev pub IfNoTurn : Type 0 → VisitOutcome → Type 0
 IfNoTurn P (Turn task left) = Unit {0}
 IfNoTurn P _ = P
 
@@ -111,9 +112,9 @@ chosen_task (Some c) = Some c.job.task
 -- What came behind other jobs is what the end of a turn of this task has made: a turn that an executor of this script has
 -- journalled, and that a book of an equal script has taken. It is some such book, since that of a run is under a lock. So this says that
 -- nothing else came; that all of this turn's jobs came it does not say: another turn of the task may make none.
-pub record IsMadeBy (script : ScriptView) (task : Option TaskId) (jobs jobs' : List JobView) : Type 0 where
-  pub old : ExecView
-  pub new : ExecView
+pub record IsMadeBy (script : ScriptView) (task : Option TaskId) (jobs jobs' : List JobFacts) : Type 0 where
+  pub old : ExecStateView
+  pub new : ExecStateView
   pub book : BookView
   pub book_after : BookView
   pub executor_of : old.script ≡ script
@@ -133,18 +134,18 @@ abbrev pub IsRunFault : ExecFault → Type 0
 IsRunFault fault = (fault ≡ Memory) ⊎ ((cause : BookFault) × (fault ≡ Refused cause))
 
 -- a state while no worker holds it, with the taker of its jobs, and the seat by which it takes the book
-pub record RestingIs : Type 0 where
-  pub state : ExecView
-  pub taker : TakerIs
-  pub seat : BookSeatIs
+pub record RestingView : Type 0 where
+  pub state : ExecStateView
+  pub taker : TakerView
+  pub seat : BookSeatView
 
 -- the state of this executor, with the taker of its inbox and its seat
-abbrev pub IsAt : InboxIs → TakerIs → BookSeatIs → ExecView → Type 0
+abbrev pub IsAt : InboxView → TakerView → BookSeatView → ExecStateView → Type 0
 IsAt i t seat s = (t.inbox ≡ i.id) × (site_of seat.lock s ≡ i.site) × IsOf t seat s
 
 -- What is left of an executor: its state, in which no job is chosen, and the jobs that were then in its inbox, no more than that
 -- had room for. Of all that its taker took, these came last, and what came before them the state accounts for.
-abbrev pub IsLeft : InboxIs → TakerIs → BookSeatIs → ExecView → List (JobIs BodyView) → Type 0
+abbrev pub IsLeft : InboxView → TakerView → BookSeatView → ExecStateView → List (JobView BodyView) → Type 0
 IsLeft i t seat s jobs =
     (s.chosen ≡ None) × (length jobs ≤ i.room)
-    × (before : List JobView) × (t.taken ≡ before ++ map job_view jobs) × IsAt i (record t { taken = before }) seat s
+    × (before : List JobFacts) × (t.taken ≡ before ++ map job_facts jobs) × IsAt i (record t { taken = before }) seat s

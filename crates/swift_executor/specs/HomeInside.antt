@@ -3,6 +3,6 @@ use Rattle.std.specs.Prelude.{ℕ}
 use Rattle.swift_script.specs.Scripts.{ScriptView}
 
 -- an executor of a script, by its number
-pub record HomeIs : Type 0 where
+pub record HomeView : Type 0 where
   pub script : ScriptView
   pub executor : ℕ

@@ -3,7 +3,7 @@ use Rattle.std.specs.Prelude.{◌≡◌, ◌<◌, ◌≤◌, ℕ, ℤ, Option, S
 use Rattle.std.specs.declared.vec.Vec.{Vec}
 use Rattle.std.specs.declared.alloc.Global.{Global}
 use Rattle.script_code.specs.Seen.{rows_of}
-use Rattle.script_code.specs.declared.env.Env.{Env}
+use Rattle.swift_types.specs.declared.env.Env.{Env}
 use Rattle.swift_types.specs.declared.limits.TheConstants.{FOLD}
 use Rattle.swift_types.specs.declared.outcome.Resume.{Resume}
 use Rattle.swift_interpreter.specs.Frames.{effect_views, frame_view}
@@ -11,21 +11,22 @@ use Rattle.swift_interpreter.specs.TurnStates.{exit_view}
 use Rattle.swift_turn.specs.Body.{BodyView, HasFirst, IfRunning, Polls, entered, invariants_at, left}
 use Rattle.swift_undo.specs.Laws.{AllHold}
 use Rattle.swift_undo.specs.Rows.{HaveRows}
-use Rattle.swift_queue.specs.Job.{JobIs}
-use Rattle.swift_journal.specs.Checkpoints.{CheckpointRoom, folded_of, folds}
+use Rattle.swift_job.specs.Job.{JobView}
+use Rattle.swift_journal.specs.Checkpoints.{CheckpointRoomView, folded_of, folds}
 use Rattle.swift_journal.specs.Records.{RecordView}
 use Rattle.swift_executor.specs.declared.chosen.Chosen.{Chosen}
-use Rattle.swift_executor.specs.declared.chosen.Played.{Played}
+use Rattle.swift_executor.specs.declared.chosen.PlayedTurn.{PlayedTurn}
 use Rattle.swift_events.specs.declared.event.Event.TheVariants.{Begin}
 use Rattle.swift_events.specs.Room.{IsEnv}
-use Rattle.swift_executor.specs.declared.chosen.Stage.{Stage}
-use Rattle.swift_executor.specs.declared.chosen.Stage.TheVariants as stage
+use Rattle.swift_executor.specs.declared.chosen.ChosenStage.{ChosenStage}
+use Rattle.swift_executor.specs.declared.chosen.ChosenStage.TheVariants as stage
 use Rattle.swift_interpreter.specs.Turn.{EffectView, ExitView}
-use Rattle.swift_history.specs.TurnEnds.{JobView}
-use Rattle.swift_known.specs.Views.{SeatView}
+use Rattle.swift_history.specs.TurnEnds.{JobFacts}
+use Rattle.swift_known.specs.Views.{BookKnown}
 use Rattle.swift_script.specs.Scripts.{ScriptView, method_count, root_count}
 use Rattle.swift_shared_book.specs.Shared.{BeginsTicket}
-use Rattle.swift_tasks.specs.Books.{BookView, IsEndOf, job_view}
+use Rattle.swift_tasks.specs.Books.{BookView, IsEndOf}
+use Rattle.swift_history.specs.Jobs.{job_facts}
 use Rattle.swift_types.specs.declared.id.TaskId.{TaskId}
 use Rattle.swift_tasks.specs.Refusals.{refusal_of_apply}
 use Rattle.swift_tasks.specs.declared.fault.BookFault.{BookFault}
@@ -37,7 +38,7 @@ abbrev pub MaySpare : List ℕ → List (List ℤ) → BodyView → Type 0
 MaySpare rows fields b = IfRunning b.task.frames (λ p. HaveRows rows (invariants_at b.script p)) × IfRunning b.task.frames (λ p. AllHold (invariants_at b.script p) fields)
 
 -- a body has had a turn on these fields: what is left of it is that of the frame that ran
-pub record HasTurned (old new : BodyView) (rows : List (List ℤ)) (resume : Resume) (env : Env) (p : Played) : Type 0 where
+pub record HasTurned (old new : BodyView) (rows : List (List ℤ)) (resume : Resume) (env : Env) (p : PlayedTurn) : Type 0 where
   pub frame : HasFirst old.task.frames (λ f. f ≡ frame_view p.frame)
   pub method : p.frame.method.0 < method_count old.script
   pub turn : Polls old.script old.task.outer old.task.frames (entered rows resume env) new.task.frames (left p.fields.after (effect_views p.effects.items) (exit_view p.exit))
@@ -50,98 +51,98 @@ pub record IsUnturned (old new : BodyView) : Type 0 where
   pub task : new.task ≡ old.task
 
 -- the same of a job, whose other parts stay
-pub record JobTurned (old new : JobIs BodyView) (rows : List (List ℤ)) (env : Env) (p : Played) : Type 0 where
+pub record JobTurned (old new : JobView BodyView) (rows : List (List ℤ)) (env : Env) (p : PlayedTurn) : Type 0 where
   pub body : HasTurned old.body new.body rows old.resume env p
   pub task : new.task ≡ old.task
   pub number : new.number ≡ old.number
   pub resume : new.resume ≡ old.resume
 
-pub record JobUnturned (old new : JobIs BodyView) : Type 0 where
+pub record JobUnturned (old new : JobView BodyView) : Type 0 where
   pub body : IsUnturned old.body new.body
   pub task : new.task ≡ old.task
   pub number : new.number ≡ old.number
   pub resume : new.resume ≡ old.resume
 
 -- a job whose frame may go back
-abbrev pub CanGoBack : JobIs BodyView → Played → Stage → Type 0
+abbrev pub CanGoBack : JobView BodyView → PlayedTurn → ChosenStage → Type 0
 CanGoBack j p (stage.Played worker env) = p.frame.method.0 < method_count j.body.script
 CanGoBack j p _ = Unit {0}
 
 -- the record of the chosen job, where it was played
-abbrev pub WritesRecord : Played → Stage → JobIs BodyView → List RecordView → List RecordView → Type 0
+abbrev pub WritesRecord : PlayedTurn → ChosenStage → JobView BodyView → List RecordView → List RecordView → Type 0
 WritesRecord p (stage.Played worker env) j old new = new ≡ old ++ record_by j worker env (frame_view p.frame) (effect_views p.effects.items) (exit_view p.exit) ∷ []
 WritesRecord p _ j old new = new ≡ old
 
 -- there is room for a fold where the journal is full, with the fields that it takes
-abbrev pub HasFoldRoom : Option (Vec (Vec ℤ Global) Global) → CheckpointRoom → List RecordView → List (List ℤ) → Type 0
+abbrev pub HasFoldRoom : Option (Vec (Vec ℤ Global) Global) → CheckpointRoomView → List RecordView → List (List ℤ) → Type 0
 HasFoldRoom None c journal rows = length journal < FOLD
 HasFoldRoom (Some copy) c journal rows = (FOLD ≤ length journal) × (rows_of copy.items ≡ rows) × (c.room ≡ map folded_of journal)
 
-abbrev pub StageIsPlayed : Stage → Type 0
+abbrev pub StageIsPlayed : ChosenStage → Type 0
 StageIsPlayed (stage.Played worker env) = Unit {0}
 StageIsPlayed _ = ⊥
 
 -- the book has taken the turn, and the jobs that it makes come behind others
-pub record Applied (book book' : BookView) (j : JobIs BodyView) (effects : List EffectView) (exit : ExitView) (jobs jobs' : List JobView) : Type 0 where
+pub record Applied (book book' : BookView) (j : JobView BodyView) (effects : List EffectView) (exit : ExitView) (jobs jobs' : List JobFacts) : Type 0 where
   pub script_is : book'.script ≡ book.script
   pub ends : IsEndOf book jobs j effects exit book'.log book'.held jobs'
 
 -- there is a job in this place, of which this holds
-abbrev pub HasJob : Option (JobIs BodyView) → (JobIs BodyView → Type 0) → Type 0
-HasJob place P = (j : JobIs BodyView) × (place ≡ Some j) × P j
+abbrev pub HasJob : Option (JobView BodyView) → (JobView BodyView → Type 0) → Type 0
+HasJob place P = (j : JobView BodyView) × (place ≡ Some j) × P j
 
 -- the book has begun its turn on a worker
-pub record BeginsJob (book book' : BookView) (worker : ℕ) (old new : Chosen) (j : JobIs BodyView) : Type 0 where
+pub record BeginsJob (book book' : BookView) (worker : ℕ) (old new : Chosen) (j : JobView BodyView) : Type 0 where
   pub env : Env
   pub given : IsEnv (root_count book.script) j.task book.log env
   pub book_is : book' ≡ record book { log = book.log ++ Begin j.task j.number env ∷ [] }
   pub new_is : new ≡ record old { stage = stage.Begun worker env }
 
-abbrev pub StageIsBegun : Stage → Type 0
+abbrev pub StageIsBegun : ChosenStage → Type 0
 StageIsBegun (stage.Begun worker env) = Unit {0}
 StageIsBegun _ = ⊥
 
 -- some book of this script has begun its turn on a worker, and its ticket says so and comes first
-pub record BeginsShared (script : ScriptView) (worker : ℕ) (old new : Chosen) (knows knows' : SeatView) (j : JobIs BodyView) : Type 0 where
+pub record BeginsShared (script : ScriptView) (worker : ℕ) (old new : Chosen) (knows knows' : BookKnown) (j : JobView BodyView) : Type 0 where
   pub book : BookView
   pub book_of : book.script ≡ script
   pub env : Env
   pub given : IsEnv (root_count book.script) j.task book.log env
   pub new_is : new ≡ record old { stage = stage.Begun worker env }
-  pub ticket : BeginsTicket (job_view j) env knows knows'
+  pub ticket : BeginsTicket (job_facts j) env knows knows'
 
 -- its turn was played on these fields, and has left this
-pub record PlaysJob (rows : List (List ℤ)) (old new : Chosen) (p : Played) (j : JobIs BodyView) : Type 0 where
+pub record PlaysJob (rows : List (List ℤ)) (old new : Chosen) (p : PlayedTurn) (j : JobView BodyView) : Type 0 where
   pub worker : ℕ
   pub env : Env
   pub was : old.stage ≡ stage.Begun worker env
-  pub job : JobIs BodyView
+  pub job : JobView BodyView
   pub turned : JobTurned j job rows env p
   pub new_is : new ≡ record old { job = Some job; stage = stage.Played worker env }
 
 -- it has had no turn
-pub record KeepsJob (old new : Chosen) (j : JobIs BodyView) : Type 0 where
-  pub job : JobIs BodyView
+pub record KeepsJob (old new : Chosen) (j : JobView BodyView) : Type 0 where
+  pub job : JobView BodyView
   pub unturned : JobUnturned j job
   pub new_is : new ≡ record old { job = Some job }
 
 -- the book has taken its turn
-pub record AppliesJob (book book' : BookView) (p : Played) (jobs jobs' : List JobView) (task : TaskId) (j : JobIs BodyView) : Type 0 where
+pub record AppliesJob (book book' : BookView) (p : PlayedTurn) (jobs jobs' : List JobFacts) (task : TaskId) (j : JobView BodyView) : Type 0 where
   pub applied : Applied book book' j (effect_views p.effects.items) (exit_view p.exit) jobs jobs'
   pub task_is : task ≡ j.task
 
 -- some book of an equal script has taken its turn
-pub record IsTaken (p : Played) (jobs jobs' : List JobView) (task : TaskId) (j : JobIs BodyView) : Type 0 where
+pub record IsTaken (p : PlayedTurn) (jobs jobs' : List JobFacts) (task : TaskId) (j : JobView BodyView) : Type 0 where
   pub book : BookView
   pub book_after : BookView
   pub book_of : book.script ≡ j.body.script
   pub takes : AppliesJob book book_after p jobs jobs' task j
 
 -- why the book does not take what a turn has left
-abbrev pub refusal_of_left : BookView → JobIs BodyView → Played → Option BookFault
+abbrev pub refusal_of_left : BookView → JobView BodyView → PlayedTurn → Option BookFault
 refusal_of_left book j p = refusal_of_apply book.script book.log j (effect_views p.effects.items) (exit_view p.exit)
 
 -- a journal for which there is room is folded, another stays
-abbrev pub Settles : Option (Vec (Vec ℤ Global) Global) → List RecordView → List RecordView → CheckpointRoom → CheckpointRoom → Type 0
+abbrev pub Settles : Option (Vec (Vec ℤ Global) Global) → List RecordView → List RecordView → CheckpointRoomView → CheckpointRoomView → Type 0
 Settles None journal journal' c c' = (journal' ≡ journal) × (c'.view ≡ c.view)
 Settles (Some copy) journal journal' c c' = (journal' ≡ []) × (c'.view ≡ folds c.view journal (rows_of copy.items))

@@ -5,28 +5,28 @@ use Rattle.swift_types.specs.Priority.{rank}
 use Rattle.swift_types.specs.declared.id.TaskId.{TaskId}
 use Rattle.swift_types.specs.declared.priority.Priority.{Priority}
 use Rattle.swift_types.specs.declared.priority.Priority.TheVariants.{Background, Low, Medium, High}
-use Rattle.swift_queue.specs.Job.{JobIs}
+use Rattle.swift_job.specs.Job.{JobView}
 
 -- a job that is ready, with the number of its arrival
 pub record ReadyJob (B : Type 0) : Type 0 where
-  pub job : JobIs B
+  pub job : JobView B
   pub arrival : ℕ
 
 -- The jobs that are ready: in front at most one of each task, in no order that means anything, and behind those whose task has
 -- one in front or chosen, the oldest first; the room for all; how many ever came to the front; and of each task the greatest
 -- level that a book has given.
-pub record ReadyIs (B : Type 0) : Type 0 where
+pub record ReadyJobsView (B : Type 0) : Type 0 where
   pub front : List (ReadyJob B)
-  pub behind : List (JobIs B)
+  pub behind : List (JobView B)
   pub room : ℕ
   pub arrived : ℕ
   pub levels : List ℕ
 
-abbrev pub ready_job : {B : Type 0} → JobIs B → ℕ → ReadyJob B
+abbrev pub ready_job : {B : Type 0} → JobView B → ℕ → ReadyJob B
 ready_job job arrival = record { job = job; arrival = arrival }
 
 -- the tasks of ready jobs
-abbrev pub tasks_in : {B : Type 0} → ReadyIs B → List TaskId
+abbrev pub tasks_in : {B : Type 0} → ReadyJobsView B → List TaskId
 tasks_in r = map (λ x. x.job.task) r.front ++ map (λ j. j.task) r.behind
 
 -- how often a task stands in a list
@@ -56,28 +56,28 @@ abbrev pub IsClear : {B : Type 0} → List (ReadyJob B) → TaskId → Type 0
 IsClear front task = All (λ x. x.job.task ≢ task) front
 
 -- there is room for one more job beside so many that were taken out, and a number for its arrival
-pub record HasRoom {B : Type 0} (r : ReadyIs B) (taken : ℕ) : Type 0 where
+pub record HasRoom {B : Type 0} (r : ReadyJobsView B) (taken : ℕ) : Type 0 where
   pub room : length r.front + length r.behind + taken < r.room
   pub number : r.arrived + length r.behind + 1 < 2 ^ 64
 
 -- A job goes to the front, as the newest, unless one of its task is there; then it waits behind that one.
-abbrev pub Adds : {B : Type 0} → ReadyIs B → JobIs B → ReadyIs B → Type 0
+abbrev pub Adds : {B : Type 0} → ReadyJobsView B → JobView B → ReadyJobsView B → Type 0
 Adds r job new =
     (IsClear r.front job.task × IsPermutation (ready_job job r.arrived ∷ r.front) new.front × (new ≡ record r { front = new.front; arrived = r.arrived + 1 }))
     ⊎ ((IsClear r.front job.task → ⊥) × (new ≡ record r { behind = r.behind ++ job ∷ [] }))
 
 -- a job that was taken out may go back with its number
-pub record CanRestore {B : Type 0} (r : ReadyIs B) (task : TaskId) (arrival : ℕ) : Type 0 where
+pub record CanRestore {B : Type 0} (r : ReadyJobsView B) (task : TaskId) (arrival : ℕ) : Type 0 where
   pub room : length r.front + length r.behind < r.room
   pub below : arrival < r.arrived
   pub apart : All (λ x. x.arrival ≢ arrival) r.front
   pub clear : IsClear r.front task
 
 -- the oldest job of the task behind comes to the front, as the newest there, if there is one
-abbrev pub Forwards : {B : Type 0} → ReadyIs B → TaskId → ReadyIs B → Type 0
+abbrev pub Forwards : {B : Type 0} → ReadyJobsView B → TaskId → ReadyJobsView B → Type 0
 Forwards {B} r task new =
     (All (λ j. j.task ≢ task) r.behind × (new ≡ r))
-    ⊎ ((before after : List (JobIs B)) × (job : JobIs B) × (r.behind ≡ before ++ job ∷ after) × All (λ j. j.task ≢ task) before × (job.task ≡ task)
+    ⊎ ((before after : List (JobView B)) × (job : JobView B) × (r.behind ≡ before ++ job ∷ after) × All (λ j. j.task ≢ task) before × (job.task ≡ task)
     × IsPermutation (ready_job job r.arrived ∷ r.front) new.front
     × (new ≡ record r { front = new.front; behind = before ++ after; arrived = r.arrived + 1 }))
 

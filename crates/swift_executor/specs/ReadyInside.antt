@@ -1,11 +1,11 @@
 -- What the ready jobs keep. No public clause names these.
 use Rattle.std.specs.Prelude.{Bool, true, false, ◌≡◌, ℕ, ◌+◌, ◌<◌, ◌≤◌, ◌^◌, List, ◌++◌, length, map, slice_index_or, All, vec_capacity}
 use Rattle.swift_types.specs.declared.id.TaskId.{TaskId}
-use Rattle.swift_queue.specs.Job.{JobIs}
+use Rattle.swift_job.specs.Job.{JobView}
 use Rattle.swift_queue.specs.Picks.{IsOlder, PicksFirst}
 use Rattle.swift_types.specs.declared.limits.TheConstants.{TASKS}
 use Rattle.swift_queue.specs.declared.waiting.Waiting.{Waiting}
-use Rattle.swift_executor.specs.declared.ready.Ready.TheInside.{Inside}
+use Rattle.swift_executor.specs.declared.ready.ReadyJobs.TheInside.{Inside}
 use Rattle.swift_executor.specs.Ready.{ReadyJob, level_at, priority_of, times}
 
 abbrev pub job_of : {B : Type 0} → Waiting B → ReadyJob B
@@ -14,13 +14,13 @@ job_of w = record { job = w.job; arrival = w.arrival }
 abbrev pub task_of : {B : Type 0} → Waiting B → TaskId
 task_of w = w.job.task
 
-abbrev pub task_in : {B : Type 0} → JobIs B → TaskId
+abbrev pub task_in : {B : Type 0} → JobView B → TaskId
 task_in j = j.task
 
 -- a job of the task stands at this place
-pub record HasTaskAt {B : Type 0} (jobs : List (JobIs B)) (task : TaskId) (place : ℕ) : Type 0 where
+pub record HasTaskAt {B : Type 0} (jobs : List (JobView B)) (task : TaskId) (place : ℕ) : Type 0 where
   pub within : place < length jobs
-  pub task_is : (d : JobIs B) → (slice_index_or jobs place d).task ≡ task
+  pub task_is : (d : JobView B) → (slice_index_or jobs place d).task ≡ task
 
 -- how a queue picks, by arrival alone or by priority first
 abbrev pub Comes : {B : Type 0} → Bool → Waiting B → Waiting B → Type 0

@@ -1,27 +1,27 @@
 -- What the seat of an executor knows: the turns that the executor has run, and the tickets of its jobs (our own).
 use Rattle.std.specs.Prelude.{◌≡◌, ℕ, true, Option, Some, None, List, [], ◌∷◌, ◌++◌, map}
 use Rattle.std.specs.List.Sorted.{IsPermutation}
-use Rattle.script_code.specs.declared.env.Env.{Env}
+use Rattle.swift_types.specs.declared.env.Env.{Env}
 use Rattle.swift_script.specs.Scripts.{ScriptView, executor_start}
-use Rattle.swift_queue.specs.Job.{JobIs}
+use Rattle.swift_job.specs.Job.{JobView}
 use Rattle.swift_turn.specs.Body.{BodyView}
 use Rattle.swift_journal.specs.Checkpoints.{folded_of}
 use Rattle.swift_journal.specs.Records.{RecordView}
 use Rattle.swift_journal.specs.Replay.{replay}
-use Rattle.swift_history.specs.TurnEnds.{JobView}
-use Rattle.swift_tasks.specs.Books.{job_view}
-use Rattle.swift_known.specs.Views.{SeatView, Ticket}
-use Rattle.swift_shared_book.specs.Shared.{BookSeatIs}
+use Rattle.swift_history.specs.TurnEnds.{JobFacts}
+use Rattle.swift_history.specs.Jobs.{job_facts}
+use Rattle.swift_known.specs.Views.{BookKnown, Ticket}
+use Rattle.swift_shared_book.specs.Shared.{BookSeatView}
 use Rattle.swift_executor.specs.Account.{ready_jobs}
-use Rattle.swift_executor.specs.Ready.{ReadyIs}
-use Rattle.swift_executor.specs.State.{ChosenView, ExecView, StageView, picked, begun, played, before_turn}
+use Rattle.swift_executor.specs.Ready.{ReadyJobsView}
+use Rattle.swift_executor.specs.State.{ChosenView, ExecStateView, ChosenStageView, picked, begun, played, before_turn}
 
 -- the jobs of tickets
-abbrev pub jobs_of : List Ticket → List JobView
+abbrev pub jobs_of : List Ticket → List JobFacts
 jobs_of tickets = map (λ k. k.job) tickets
 
 -- The seat has one account: the turns that the checkpoint has folded, whose replay gave its fields, and then those of the journal.
-pub record AccountsFor (s : ExecView) (v : SeatView) : Type 0 where
+pub record AccountsFor (s : ExecStateView) (v : BookKnown) : Type 0 where
   pub script_is : v.script ≡ Some s.script
   pub past : List RecordView
   pub accounts : v.accounts ≡ record { executor = s.executor; records = past ++ s.journal } ∷ []
@@ -29,29 +29,29 @@ pub record AccountsFor (s : ExecView) (v : SeatView) : Type 0 where
   pub replayed : s.checkpoint.fields ≡ replay s.script (executor_start s.script s.executor) past
 
 -- The first ticket is that of a job whose turn has begun in this environment, and the others are those of the jobs that are ready.
-abbrev pub IsFirst : ReadyIs BodyView → JobView → Env → List Ticket → Type 0
+abbrev pub IsFirst : ReadyJobsView BodyView → JobFacts → Env → List Ticket → Type 0
 IsFirst r j env tickets = (k : Ticket) × (rest : List Ticket) × (tickets ≡ k ∷ rest) × (k.job ≡ j) × (k.begun ≡ Some env) × IsPermutation (jobs_of rest) (ready_jobs r)
 
 -- the tickets are those of the jobs that are ready, and of the chosen one, by how far that is
-abbrev pub AreTicketsAt : ReadyIs BodyView → JobIs BodyView → StageView → List Ticket → Type 0
-AreTicketsAt r j picked tickets = IsPermutation (jobs_of tickets) (job_view j ∷ ready_jobs r)
-AreTicketsAt r j (begun worker env) tickets = IsFirst r (job_view j) env tickets
+abbrev pub AreTicketsAt : ReadyJobsView BodyView → JobView BodyView → ChosenStageView → List Ticket → Type 0
+AreTicketsAt r j picked tickets = IsPermutation (jobs_of tickets) (job_facts j ∷ ready_jobs r)
+AreTicketsAt r j (begun worker env) tickets = IsFirst r (job_facts j) env tickets
 AreTicketsAt r j (played worker env frame fields effects exit) tickets = IsFirst r (before_turn (played worker env frame fields effects exit) j) env tickets
 
-abbrev pub AreTicketsOf : ReadyIs BodyView → Option ChosenView → List Ticket → Type 0
+abbrev pub AreTicketsOf : ReadyJobsView BodyView → Option ChosenView → List Ticket → Type 0
 AreTicketsOf r None tickets = IsPermutation (jobs_of tickets) (ready_jobs r)
 AreTicketsOf r (Some c) tickets = AreTicketsAt r c.job c.stage tickets
 
 -- The seat is that of the executor: it is there, its account has the executor's turns, and it has the tickets of the executor's
 -- jobs, each once.
-pub record IsSeatFor (s : ExecView) (seat : BookSeatIs) : Type 0 where
+pub record IsSeatFor (s : ExecStateView) (seat : BookSeatView) : Type 0 where
   pub here : seat.here ≡ true
   pub account : AccountsFor s seat.knows
   pub tickets : AreTicketsOf s.ready s.chosen seat.knows.tickets
 
 -- what the seat of an executor knows that has run no turn and has no job
-abbrev pub opened_view : ScriptView → ℕ → SeatView
+abbrev pub opened_view : ScriptView → ℕ → BookKnown
 opened_view script executor = record { script = Some script; accounts = record { executor = executor; records = [] } ∷ []; tickets = []; maker = None }
 
-abbrev pub IsOpened : ScriptView → ℕ → BookSeatIs → Type 0
+abbrev pub IsOpened : ScriptView → ℕ → BookSeatView → Type 0
 IsOpened script executor seat = (seat.here ≡ true) × (seat.knows ≡ opened_view script executor)

@@ -4,48 +4,49 @@ use Rattle.std.specs.Prelude.{◌≡◌, ℕ, suc, ◌+◌, ◌<◌, ◌==◌, �
 use Rattle.std.specs.List.Sorted.{IsPermutation}
 use Rattle.swift_types.specs.declared.id.TaskId.{TaskId}
 use Rattle.swift_types.specs.declared.limits.TheConstants.{FOLD, TASKS}
-use Rattle.script_grammar.specs.declared.declaration.ExecutorKind.{ExecutorKind}
-use Rattle.script_grammar.specs.declared.declaration.ExecutorKind.TheVariants as kind
+use Rattle.swift_types.specs.declared.executor_kind.ExecutorKind.{ExecutorKind}
+use Rattle.swift_types.specs.declared.executor_kind.ExecutorKind.TheVariants as kind
 use Rattle.script_code.specs.Tree.{Term}
 use Rattle.script_code.specs.Value.{holds}
-use Rattle.script_code.specs.declared.env.Env.{Env}
+use Rattle.swift_types.specs.declared.env.Env.{Env}
 use Rattle.swift_script.specs.Scripts.{ScriptView, actor_executor, executor_invariants, executor_kind, executor_start, method_actor, method_count, root_count}
 use Rattle.swift_interpreter.specs.Frames.{FrameView}
 use Rattle.swift_interpreter.specs.Turn.{EffectView, ExitView, returning, failing, head}
 use Rattle.swift_turn.specs.Body.{BodyView, HasFirst, IsTurnOf, callers_of, left}
-use Rattle.swift_queue.specs.Job.{JobIs}
+use Rattle.swift_job.specs.Job.{JobView}
 use Rattle.swift_journal.specs.Checkpoints.{CheckpointView, folded_of, folds}
 use Rattle.swift_journal.specs.Records.{RecordView}
 use Rattle.swift_journal.specs.Replay.{AreLawful, RunOn, replay}
 use Rattle.swift_events.specs.declared.event.Event.{Event}
 use Rattle.swift_events.specs.declared.event.Event.TheVariants.{Begin}
 use Rattle.swift_events.specs.Room.{IsEnv}
-use Rattle.swift_history.specs.TurnEnds.{JobView}
-use Rattle.swift_tasks.specs.Books.{BookView, IsEndOf, job_view}
+use Rattle.swift_history.specs.TurnEnds.{JobFacts}
+use Rattle.swift_tasks.specs.Books.{BookView, IsEndOf}
+use Rattle.swift_history.specs.Jobs.{job_facts}
 use Rattle.swift_ledger.specs.Levels.{AreLevels}
 use Rattle.swift_tasks.specs.Refusals.{refusal_of_apply, refusal_of_begin}
 use Rattle.swift_tasks.specs.declared.fault.BookFault.{BookFault}
-use Rattle.swift_executor.specs.Ready.{AreHigher, CanRestore, ComesFirst, Forwards, ReadyIs, ReadyJob, level_at, ready_job}
+use Rattle.swift_executor.specs.Ready.{AreHigher, CanRestore, ComesFirst, Forwards, ReadyJobsView, ReadyJob, level_at, ready_job}
 
 -- How far the chosen job is: its turn has not begun; it has begun, on a worker and with what it was given; or it was played:
 -- then there are the frame as it was before, and the fields, the effects and the exit that the turn has given.
-pub data StageView : Type 0 where
-  picked : StageView
-  begun : ℕ → Env → StageView
-  played : ℕ → Env → FrameView → List (List ℤ) → List EffectView → ExitView → StageView
+pub data ChosenStageView : Type 0 where
+  picked : ChosenStageView
+  begun : ℕ → Env → ChosenStageView
+  played : ℕ → Env → FrameView → List (List ℤ) → List EffectView → ExitView → ChosenStageView
 
 -- the job that was chosen, with the number of its arrival
 pub record ChosenView : Type 0 where
-  pub job : JobIs BodyView
+  pub job : JobView BodyView
   pub arrival : ℕ
-  pub stage : StageView
+  pub stage : ChosenStageView
 
 -- An executor of a script, by its number: the jobs that are ready, the one that is chosen, the checkpoint and the turns since
 -- then, and the fields of its actors, a list for each.
-pub record ExecView : Type 0 where
+pub record ExecStateView : Type 0 where
   pub script : ScriptView
   pub executor : ℕ
-  pub ready : ReadyIs BodyView
+  pub ready : ReadyJobsView BodyView
   pub chosen : Option ChosenView
   pub journal : List RecordView
   pub checkpoint : CheckpointView
@@ -53,12 +54,12 @@ pub record ExecView : Type 0 where
 
 -- The job is one of the executor: its body is of the script and has not ended, and the frame that runs is of an actor that runs
 -- there.
-pub record BelongsTo (script : ScriptView) (executor : ℕ) (j : JobIs BodyView) : Type 0 where
+pub record BelongsTo (script : ScriptView) (executor : ℕ) (j : JobView BodyView) : Type 0 where
   pub script_is : j.body.script ≡ script
   pub top : HasFirst j.body.task.frames (λ f. actor_executor script (method_actor script f.method) ≡ executor)
 
 -- what a turn that was played has given is the kept turn of the frame that ran, on these fields
-abbrev pub HasPlayed : ScriptView → List (List ℤ) → JobIs BodyView → StageView → Type 0
+abbrev pub HasPlayed : ScriptView → List (List ℤ) → JobView BodyView → ChosenStageView → Type 0
 HasPlayed script fields j (played worker env frame fields' effects exit) =
     (frame.method < method_count script) × HasFirst j.body.task.frames (λ f. (f.method ≡ frame.method) × IsTurnOf script frame j.body.task.outer fields j.resume env f (left fields' effects exit))
 HasPlayed script fields j _ = Unit {0}
@@ -68,7 +69,7 @@ chosen_count None = 0
 chosen_count (Some c) = 1
 
 -- how many jobs were accepted so far
-abbrev pub accepted : ExecView → ℕ
+abbrev pub accepted : ExecStateView → ℕ
 accepted s = s.ready.arrived + length s.ready.behind
 
 -- the tasks that have a job in front or chosen
@@ -77,7 +78,7 @@ leaders front None = map (λ x. x.job.task) front
 leaders front (Some c) = c.job.task ∷ map (λ x. x.job.task) front
 
 -- the chosen job belongs to the executor and may go back, and what it has played is its kept turn
-pub record IsChosen (s : ExecView) (c : ChosenView) : Type 0 where
+pub record IsChosen (s : ExecStateView) (c : ChosenView) : Type 0 where
   pub belongs : BelongsTo s.script s.executor c.job
   pub restorable : CanRestore s.ready c.job.task c.arrival
   pub plays : HasPlayed s.script s.fields c.job c.stage
@@ -96,7 +97,7 @@ pub record HasPast (script : ScriptView) (executor : ℕ) (c : CheckpointView) :
 -- checkpoint's fields. As many jobs were accepted as
 -- are ready, chosen and journalled together, those of the checkpoint too. Each job is one of the executor. And a job waits behind
 -- only where one of its task is in front or chosen.
-pub record IsExecutor (s : ExecView) : Type 0 where
+pub record ExecInvariant (s : ExecStateView) : Type 0 where
   pub past : HasPast s.script s.executor s.checkpoint
   pub lawful : AreLawful s.script s.checkpoint.fields s.journal
   pub replayed : s.fields ≡ replay s.script s.checkpoint.fields s.journal
@@ -110,7 +111,7 @@ pub record IsExecutor (s : ExecView) : Type 0 where
   pub chosen : IfSome s.chosen (IsChosen s)
 
 -- an executor that has run no turn and has no job
-abbrev pub new_executor : ScriptView → ℕ → ℕ → ExecView
+abbrev pub new_executor : ScriptView → ℕ → ℕ → ExecStateView
 new_executor script executor room = record {
   script = script;
   executor = executor;
@@ -129,15 +130,15 @@ takes_by_arrival (kind.Pinned k) = false
 
 -- Of the jobs in front, the one that comes first, where each counts at the greater of the level that the book gives its task and
 -- of those that were given before.
-pub record Picks (log : List Event) (old new : ExecView) (job : JobIs BodyView) (arrival : ℕ) : Type 0 where
+pub record Picks (log : List Event) (old new : ExecStateView) (job : JobView BodyView) (arrival : ℕ) : Type 0 where
   pub given : List ℕ
   pub levels : AreLevels log given
   pub higher : AreHigher old.ready.levels given new.ready.levels
   pub first : All (ComesFirst (takes_by_arrival (executor_kind old.script old.executor)) new.ready.levels (ready_job job arrival)) old.ready.front
 
 -- that job is chosen, and its task was made
-pub record Chooses (log : List Event) (old new : ExecView) (task : TaskId) : Type 0 where
-  pub job : JobIs BodyView
+pub record Chooses (log : List Event) (old new : ExecStateView) (task : TaskId) : Type 0 where
+  pub job : JobView BodyView
   pub arrival : ℕ
   pub picks : Picks log old new job arrival
   pub task_is : job.task ≡ task
@@ -146,8 +147,8 @@ pub record Chooses (log : List Event) (old new : ExecView) (task : TaskId) : Typ
   pub same : new ≡ record old { ready = record old.ready { front = new.ready.front; levels = new.ready.levels }; chosen = Some (record { job = job; arrival = arrival; stage = picked }) }
 
 -- its task was not made by what the book says, and no job is chosen
-pub record LacksTask (log : List Event) (old new : ExecView) : Type 0 where
-  pub job : JobIs BodyView
+pub record LacksTask (log : List Event) (old new : ExecStateView) : Type 0 where
+  pub job : JobView BodyView
   pub arrival : ℕ
   pub picks : Picks log old new job arrival
   pub inside : Contains old.ready.front (ready_job job arrival)
@@ -156,7 +157,7 @@ pub record LacksTask (log : List Event) (old new : ExecView) : Type 0 where
   pub same : new ≡ record old { ready = record old.ready { front = new.ready.front; levels = new.ready.levels } }
 
 -- no job is ready
-pub record HasNone (log : List Event) (old new : ExecView) : Type 0 where
+pub record HasNone (log : List Event) (old new : ExecStateView) : Type 0 where
   pub given : List ℕ
   pub levels : AreLevels log given
   pub higher : AreHigher old.ready.levels given new.ready.levels
@@ -164,35 +165,35 @@ pub record HasNone (log : List Event) (old new : ExecView) : Type 0 where
   pub same : new ≡ record old { ready = record old.ready { levels = new.ready.levels } }
 
 -- the chosen job as it was when it was chosen
-abbrev pub before_turn : StageView → JobIs BodyView → JobView
-before_turn (played worker env frame fields effects exit) j = record (job_view j) { frames = record { frames = frame ∷ callers_of j.body.task.frames; outer = j.body.task.outer } }
-before_turn _ j = job_view j
+abbrev pub before_turn : ChosenStageView → JobView BodyView → JobFacts
+before_turn (played worker env frame fields effects exit) j = record (job_facts j) { frames = record { frames = frame ∷ callers_of j.body.task.frames; outer = j.body.task.outer } }
+before_turn _ j = job_facts j
 
 -- The chosen job is ready again, with the number of its arrival and as it was when it was chosen. All else is as it was.
-pub record PutsBack (old new : ExecView) (c : ChosenView) : Type 0 where
-  pub job : JobIs BodyView
-  pub same_job : job_view job ≡ before_turn c.stage c.job
+pub record PutsBack (old new : ExecStateView) (c : ChosenView) : Type 0 where
+  pub job : JobView BodyView
+  pub same_job : job_facts job ≡ before_turn c.stage c.job
   pub front : IsPermutation (ready_job job c.arrival ∷ old.ready.front) new.ready.front
   pub same : new ≡ record old { ready = record old.ready { front = new.ready.front }; chosen = None }
 
 -- there is a chosen job, of which this holds
-abbrev pub HasChosen : ExecView → (ChosenView → Type 0) → Type 0
+abbrev pub HasChosen : ExecStateView → (ChosenView → Type 0) → Type 0
 HasChosen s P = (c : ChosenView) × (s.chosen ≡ Some c) × P c
 
-abbrev pub IsPicked : StageView → Type 0
+abbrev pub IsPicked : ChosenStageView → Type 0
 IsPicked picked = Unit {0}
 IsPicked _ = ⊥
 
-abbrev pub IsBegun : StageView → Type 0
+abbrev pub IsBegun : ChosenStageView → Type 0
 IsBegun (begun worker env) = Unit {0}
 IsBegun _ = ⊥
 
-abbrev pub IsPlayed : StageView → Type 0
+abbrev pub IsPlayed : ChosenStageView → Type 0
 IsPlayed (played worker env frame fields effects exit) = Unit {0}
 IsPlayed _ = ⊥
 
 -- The turn of a job that was picked has begun on this worker: the book has begun it, and what it gave is kept.
-pub record Begins (book book' : BookView) (worker : ℕ) (old new : ExecView) (c : ChosenView) : Type 0 where
+pub record BeginsChosen (book book' : BookView) (worker : ℕ) (old new : ExecStateView) (c : ChosenView) : Type 0 where
   pub was : c.stage ≡ picked
   pub env : Env
   pub given : IsEnv (root_count book.script) c.job.task book.log env
@@ -200,24 +201,24 @@ pub record Begins (book book' : BookView) (worker : ℕ) (old new : ExecView) (c
   pub same : new ≡ record old { chosen = Some (record c { stage = begun worker env }) }
 
 -- The turn of the chosen job has begun on this worker, in a book of an equal script.
-pub record BeginsTurn (worker : ℕ) (old new : ExecView) : Type 0 where
+pub record BeginsTurn (worker : ℕ) (old new : ExecStateView) : Type 0 where
   pub book : BookView
   pub book_after : BookView
   pub book_of : book.script ≡ old.script
-  pub turn : HasChosen old (Begins book book_after worker old new)
+  pub turn : HasChosen old (BeginsChosen book book_after worker old new)
 
 -- The turn was played: what is kept of it is the kept turn of the frame that ran, and the rest of the job is as it was.
-pub record Plays (old new : ExecView) (c : ChosenView) : Type 0 where
+pub record Plays (old new : ExecStateView) (c : ChosenView) : Type 0 where
   pub worker : ℕ
   pub env : Env
   pub was : c.stage ≡ begun worker env
-  pub job : JobIs BodyView
+  pub job : JobView BodyView
   pub frame : FrameView
   pub fields : List (List ℤ)
   pub effects : List EffectView
   pub exit : ExitView
   pub plays : HasPlayed old.script old.fields job (played worker env frame fields effects exit)
-  pub same_job : before_turn (played worker env frame fields effects exit) job ≡ job_view c.job
+  pub same_job : before_turn (played worker env frame fields effects exit) job ≡ job_facts c.job
   pub script_is : job.body.script ≡ c.job.body.script
   pub same : new ≡ record old { chosen = Some (record { job = job; arrival = c.arrival; stage = played worker env frame fields effects exit }) }
 
@@ -228,7 +229,7 @@ frame_after (failing f) frames = None
 frame_after _ frames = head frames
 
 -- the record of a turn that was played
-abbrev pub record_by : JobIs BodyView → ℕ → Env → FrameView → List EffectView → ExitView → RecordView
+abbrev pub record_by : JobView BodyView → ℕ → Env → FrameView → List EffectView → ExitView → RecordView
 record_by j worker env frame effects exit = record {
   task = j.task.0;
   number = j.number;
@@ -252,7 +253,7 @@ checkpoint_with c journal r fields = if suc (length journal) == FOLD then folds 
 -- The turn is journalled. The book is as the end of the turn leaves it, and the jobs that it makes come behind those that were
 -- there. The fields are those that the turn gave, its record is the newest, no job is chosen, and a job of the task that has
 -- waited behind this one comes to the front.
-pub record Journals (book book' : BookView) (jobs jobs' : List JobView) (old new : ExecView) (c : ChosenView) : Type 0 where
+pub record Journals (book book' : BookView) (jobs jobs' : List JobFacts) (old new : ExecStateView) (c : ChosenView) : Type 0 where
   pub worker : ℕ
   pub env : Env
   pub frame : FrameView
@@ -272,7 +273,7 @@ pub record Journals (book book' : BookView) (jobs jobs' : List JobView) (old new
   }
 
 -- The turn of the chosen job is journalled, and a book of an equal script has taken it.
-pub record EndsTurn (jobs jobs' : List JobView) (old new : ExecView) : Type 0 where
+pub record EndsTurn (jobs jobs' : List JobFacts) (old new : ExecStateView) : Type 0 where
   pub book : BookView
   pub book_after : BookView
   pub book_of : book.script ≡ old.script
@@ -290,7 +291,7 @@ refusal_to_begin book None = None
 refusal_to_begin book (Some c) = refusal_of_begin book.script book.log c.job
 
 -- why the book does not take a turn that was played
-abbrev pub refusal_of_stage : BookView → JobIs BodyView → StageView → Option BookFault
+abbrev pub refusal_of_stage : BookView → JobView BodyView → ChosenStageView → Option BookFault
 refusal_of_stage book j (played worker env frame fields effects exit) = refusal_of_apply book.script book.log j effects exit
 refusal_of_stage book j _ = None
 

@@ -4,16 +4,16 @@ ghost use Rattle.std.specs.Prelude.{◌≡◌, None, Some, IsSome};
 ghost use Rattle.script_code.specs.Seen.{rows_of};
 
 use crate::fields::Fields;
-use script_code::Env;
 use std::alloc::Global;
 use std::mem;
 use swift_interpreter::{Effect, Exit, Frame};
-use swift_queue::Job;
+use swift_job::Job;
 use swift_turn::Body;
+use swift_types::Env;
 
 /// How far the chosen job is.
 #[derive(Clone, Copy)]
-pub enum Stage {
+pub enum ChosenStage {
     /// Its turn has not begun.
     Picked,
     /// Its turn has begun on this worker, and was given this.
@@ -28,11 +28,11 @@ pub struct Chosen {
     pub job: Option<Job<Body>>,
     /// The number of its arrival.
     pub arrival: u64,
-    pub stage: Stage,
+    pub stage: ChosenStage,
 }
 
 /// What the turn that was played last has left. Its buffers are kept from turn to turn.
-pub struct Played {
+pub struct PlayedTurn {
     /// The frame as it was before.
     pub frame: Frame,
     /// The fields, before it and after it.
@@ -42,9 +42,9 @@ pub struct Played {
 }
 
 // By hand, so that it is not taken apart in each proof of a function that drops one.
-impl Drop for Played {
+impl Drop for PlayedTurn {
     fn drop(self) {
-        let Played {
+        let PlayedTurn {
             frame,
             fields,
             effects,
@@ -65,27 +65,27 @@ impl Chosen {
         Chosen {
             job: None,
             arrival: 0,
-            stage: Stage::Picked,
+            stage: ChosenStage::Picked,
         }
     }
 
     /// Keeps a job as the chosen one, where none was. Its turn has not begun.
     pub fn pick(&mut self, job: Job<Body>, arrival: u64)
         requires { self.old.job ≡ None }
-        ensures { self.new ≡ record { job = Some job; arrival = arrival; stage = Stage.Picked } }
+        ensures { self.new ≡ record { job = Some job; arrival = arrival; stage = ChosenStage.Picked } }
     {
         fill(&mut self.job, job);
         self.arrival = arrival;
-        self.stage = Stage::Picked;
+        self.stage = ChosenStage::Picked;
     }
 }
 
-impl Played {
+impl PlayedTurn {
     /// What stands there before the first turn, which finds these fields. It takes no memory.
     pub fn new(alloc: Global, rows: Vec<Vec<i64>>) -> Self
         ensures { result.fields ≡ record { before = rows_of rows.items; after = rows_of rows.items } }
     {
-        Played {
+        PlayedTurn {
             frame: Frame::new(alloc),
             fields: Fields::new(alloc, rows),
             effects: Vec::new(alloc),
@@ -97,7 +97,7 @@ impl Played {
     pub fn into_fields(self) -> Vec<Vec<i64>>
         ensures { rows_of result.items ≡ self.fields.before }
     {
-        let Played {
+        let PlayedTurn {
             frame: _,
             fields,
             effects: _,

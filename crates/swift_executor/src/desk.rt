@@ -7,7 +7,7 @@ use crate::exec::Exec;
 use crate::resting::Resting;
 use std::marker::Model;
 use swift_inbox::Pass;
-use swift_word::Seat;
+use swift_word::WordSeat;
 
 /// A thread's right to send jobs to one executor, and to run a turn there. An executor is made with its first desk, and each
 /// further one is split from another. A desk may go to another thread, and can't be shared: each of its steps changes what
@@ -18,7 +18,7 @@ use swift_word::Seat;
 /// No job comes out of the inbox through a desk: the right to take is one value, which lies in the executor's state. A desk that
 /// is dropped takes its allowance with it.
 pub struct Desk {
-    pub(crate) seat: Seat<Resting>,
+    pub(crate) seat: WordSeat<Resting>,
     pub(crate) pass: Pass,
 }
 
@@ -34,9 +34,9 @@ impl Model for Desk {
     ghost use Rattle.std.specs.Prelude.{◌≡◌, Some, None, IfSome};
     ghost use Rattle.std.specs.Coded.{codes};
     ghost use Rattle.swift_script.specs.Codes.{expression_code, statement_code, block_code};
-    ghost use Rattle.swift_executor.specs.Exec.{DeskIs, state_name};
+    ghost use Rattle.swift_executor.specs.Exec.{DeskView, state_name};
 
-    ghost Value = { DeskIs };
+    ghost Value = { DeskView };
 
     ghost coded = { Prim.hlevel (codes, expression_code, statement_code (block_code (Prim.hlevel (codes, expression_code)) (Prim.hlevel (codes, expression_code)))) };
 

@@ -5,7 +5,8 @@ ghost use Rattle.std.specs.List.{AllByRecursion};
 ghost use Rattle.swift_interpreter.specs.Frames.{effect_views};
 ghost use Rattle.swift_interpreter.specs.TurnStates.{exit_view};
 ghost use Rattle.swift_shared_book.specs.Shared.{BeginsTicket, HasPlayed, HasTicket, IsSeatOf, after_turn, knowing, newest};
-ghost use Rattle.swift_tasks.specs.Books.{IsJobOf, job_view};
+ghost use Rattle.swift_tasks.specs.Books.{IsJobOf};
+ghost use Rattle.swift_history.specs.Jobs.{job_facts};
 ghost use Rattle.swift_turn.specs.Body.{IsRunning};
 ghost use Rattle.swift_journal.specs.Records.{RecordView};
 ghost use Rattle.swift_executor.specs.Exec.{IsRunFault};
@@ -13,15 +14,15 @@ ghost use Rattle.swift_executor.specs.Playing.{BeginsShared, HasJob, IsTaken};
 ghost use Rattle.swift_executor.specs.Seats.{IsSeatFor};
 ghost use Rattle.swift_executor.specs.State.{BeginsTurn, EndsTurn, HasChosen, IsPicked, IsPlayed, PutsBack};
 
-use crate::chosen::{Chosen, Played, Stage};
+use crate::chosen::{Chosen, ChosenStage, PlayedTurn};
 use crate::fault::ExecFault;
 use crate::playing::settle;
 use crate::state::ExecState;
 use crate::turns::prepare;
 use std::sync::Wait;
+use swift_job::Job;
 use swift_journal::Journal;
 use swift_journal::laws::{invariants_stay, lawful_grows};
-use swift_queue::Job;
 use swift_shared_book::{BookLock, BookSeat, TicketedJobs};
 use swift_tasks::BookFault;
 use swift_turn::Body;
@@ -36,7 +37,7 @@ fn begin_locked<R: Wait>(
     seat: &mut BookSeat,
 ) -> Result<(), BookFault>
     requires seat { IsSeatOf book.now seat.old }
-    requires job { HasJob chosen.old.job (λ j. (j.body.script ≡ book.now.script) × HasTicket (job_view j) seat.old.knows.tickets) }
+    requires job { HasJob chosen.old.job (λ j. (j.body.script ≡ book.now.script) × HasTicket (job_facts j) seat.old.knows.tickets) }
     ensures ok { OnOk result (HasJob chosen.old.job (BeginsShared book.now.script worker chosen.old chosen.new seat.old.knows seat.new.knows)) }
     ensures seat { (seat.new.lock ≡ seat.old.lock) × (seat.new.here ≡ seat.old.here) }
     ensures err { OnErr result ((chosen.new ≡ chosen.old) × (seat.new ≡ seat.old)) }
@@ -46,7 +47,7 @@ fn begin_locked<R: Wait>(
     };
     match book.begin(rt, seat, job) {
         Ok(env) => {
-            chosen.stage = Stage::Begun(worker, env);
+            chosen.stage = ChosenStage::Begun(worker, env);
             Ok(())
         }
         Err(fault) => Err(fault),
@@ -58,7 +59,7 @@ fn begin_locked<R: Wait>(
 fn apply_locked<R: Wait>(
     rt: &R,
     place: &mut Option<Job<Body>>,
-    played: &Played,
+    played: &PlayedTurn,
     journal: &Journal,
     book: &BookLock,
     seat: &mut BookSeat,
@@ -68,7 +69,7 @@ fn apply_locked<R: Wait>(
     requires seat { IsSeatOf book.now seat.old }
     requires jobs { jobs.old.book ≡ book.now.id }
     requires plays { HasJob place.old (λ j. (r : RecordView) × (newest journal.now ≡ Some r) × (r.exit ≡ exit_view played.now.exit) × (r.effects ≡ effect_views played.now.effects.items) × HasPlayed book.now.script seat.old.knows j r) }
-    ensures ok { IfOk result (λ task. HasJob place.old (IsTaken played.now (map job_view jobs.old.jobs) (map job_view jobs.new.jobs) task)) }
+    ensures ok { IfOk result (λ task. HasJob place.old (IsTaken played.now (map job_facts jobs.old.jobs) (map job_facts jobs.new.jobs) task)) }
     ensures seat { OnOk result ((r : RecordView) × (newest journal.now ≡ Some r) × (seat.new ≡ knowing (after_turn r seat.old.knows) seat.old)) }
     ensures gone { OnOk result (place.new ≡ None) }
     ensures bodies { AllByRecursion (IsJobOf book.now.script) jobs.old.jobs → AllByRecursion (IsJobOf book.now.script) jobs.new.jobs }
@@ -136,7 +137,7 @@ impl ExecState {
         requires jobs { jobs.old.book ≡ book.now.id }
         ensures seat { IsSeatOf book.now seat.new }
         ensures known { IsSeatFor self.new seat.new }
-        ensures ok { OnOk result (EndsTurn (map job_view jobs.old.jobs) (map job_view jobs.new.jobs) self.old self.new) }
+        ensures ok { OnOk result (EndsTurn (map job_facts jobs.old.jobs) (map job_facts jobs.new.jobs) self.old self.new) }
         ensures bodies { AllByRecursion (IsJobOf self.old.script) jobs.old.jobs → AllByRecursion (IsJobOf self.old.script) jobs.new.jobs }
         ensures lock { jobs.new.book ≡ jobs.old.book }
         ensures back { OnErr result (HasChosen self.old (PutsBack self.old self.new)) }

@@ -10,19 +10,19 @@ use crate::desk::Desk;
 use crate::fault::ExecFault;
 use crate::gate::{Gate, Moment};
 use crate::laws::{new_has_taken_none, new_knows_no_turn};
-use crate::resting::{Held, Resting, spend_all, spend_held};
+use crate::resting::{Resting, TakenState, spend_held};
 use crate::state::ExecState;
 use std::alloc::{AllocError, Global};
 use std::marker::Model;
 use std::sync::{Arc, Wait};
 use swift_inbox::{ExecutorSite, Inbox, Taker};
-use swift_queue::Job;
+use swift_job::{Job, spend_all};
 use swift_script::Script;
 use swift_shared_book::BookSeat;
 use swift_ticket::TicketedJob;
 use swift_turn::Body;
 use swift_types::ExecId;
-use swift_word::{Was, Word};
+use swift_word::{BeforeCount, Word};
 
 /// A serial executor (SE-0392): its state behind a status word, and its inbox. Any number of threads share it by reference; each
 /// sends jobs and runs turns with a `Desk` of its own. One turn runs at a time, since a worker takes the state out of the
@@ -77,9 +77,9 @@ impl Model for Exec {
     ghost use Rattle.std.specs.Prelude.{◌≡◌, ◌≤◌, ◌<◌, [], vec_capacity};
     ghost use Rattle.std.specs.Coded.{codes};
     ghost use Rattle.swift_script.specs.Codes.{expression_code, statement_code, block_code};
-    ghost use Rattle.swift_executor.specs.Exec.{ExecIs, state_name};
+    ghost use Rattle.swift_executor.specs.Exec.{ExecView, state_name};
 
-    ghost Value = { ExecIs };
+    ghost Value = { ExecView };
 
     ghost coded = { Prim.hlevel (codes, expression_code, statement_code (block_code (Prim.hlevel (codes, expression_code)) (Prim.hlevel (codes, expression_code)))) };
 
@@ -117,7 +117,7 @@ fn first_state(
     new_knows_no_turn();
     let script = Arc::clone(site.script())?;
     let state = ExecState::new(alloc, script, site.executor(), room)?;
-    let held = Held { state, taker, seat };
+    let held = TakenState { state, taker, seat };
     match Box::new(alloc, held) {
         Ok(held) => Ok(Resting::new(held)),
         Err(refused) => {
@@ -189,7 +189,7 @@ impl Exec {
         desk: &mut Desk,
         job: TicketedJob,
         gate: &G,
-    ) -> Result<Was, (TicketedJob, ExecFault)>
+    ) -> Result<BeforeCount, (TicketedJob, ExecFault)>
     where
         R: Wait,
         G: Gate,

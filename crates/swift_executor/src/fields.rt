@@ -10,12 +10,11 @@ ghost use Rattle.swift_turn.specs.Body.{IfRunning, IsRunning, Polls, at_rest, en
 ghost use Rattle.swift_executor.specs.Playing.{MaySpare};
 
 use futures::task::Context;
-use script_code::Env;
 use std::alloc::{AllocError, Global};
 use std::marker::Model;
 use swift_interpreter::{Effect, Exit, Frame, SavedRows};
 use swift_turn::{Body, play_turn_from};
-use swift_types::Resume;
+use swift_types::{Env, Resume};
 
 /// The fields of an executor's actors, a list for each: as the turn that was played last has left them, and as they were before it.
 /// Only the rows that it has set are there twice.

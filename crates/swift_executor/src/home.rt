@@ -38,9 +38,9 @@ impl Model for Home {
     ghost use Rattle.swift_script.specs.Codes.{expression_code, statement_code, block_code};
     ghost use Rattle.swift_script.specs.Scripts.{executor_invariants};
     ghost use Rattle.swift_undo.specs.Rows.{HaveRows};
-    ghost use Rattle.swift_executor.specs.HomeInside.{HomeIs};
+    ghost use Rattle.swift_executor.specs.HomeInside.{HomeView};
 
-    ghost Value = { HomeIs };
+    ghost Value = { HomeView };
 
     ghost coded = { Prim.hlevel (codes, expression_code, statement_code (block_code (Prim.hlevel (codes, expression_code)) (Prim.hlevel (codes, expression_code)))) };
 

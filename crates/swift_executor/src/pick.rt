@@ -8,11 +8,10 @@ ghost use Rattle.swift_ledger.specs.Levels.{AreLevels};
 
 use crate::fault::ExecFault;
 use crate::state::ExecState;
-use script_grammar::ExecutorKind;
-use swift_queue::Job;
+use swift_job::Job;
 use swift_tasks::BookFault;
 use swift_turn::Body;
-use swift_types::TaskId;
+use swift_types::{ExecutorKind, TaskId};
 
 impl ExecState {
     /// Adds a job to those that are ready, as the newest. It is one of this executor: its body is of an equal script and has not

@@ -6,7 +6,7 @@ ghost use Rattle.script_code.specs.Seen.{rows_of};
 ghost use Rattle.swift_types.specs.declared.limits.TheConstants.{FOLD};
 ghost use Rattle.swift_interpreter.specs.TurnStates.{exit_view};
 ghost use Rattle.swift_journal.specs.Records.{frame_if_lent};
-ghost use Rattle.swift_tasks.specs.Books.{job_view};
+ghost use Rattle.swift_history.specs.Jobs.{job_facts};
 ghost use Rattle.swift_interpreter.specs.Frames.{frame_view};
 ghost use Rattle.swift_script.specs.Scripts.{method_count};
 ghost use Rattle.swift_turn.specs.Body.{IsRunning, callers_of};
@@ -14,17 +14,16 @@ ghost use Rattle.swift_executor.specs.Playing.{CanGoBack, HasFoldRoom, HasJob, H
 ghost use Rattle.swift_executor.specs.State.{before_turn, frame_after};
 ghost use Rattle.swift_executor.specs.StateInside.{stage_of};
 
-use crate::chosen::{Played, Stage, fill, take_out};
+use crate::chosen::{ChosenStage, PlayedTurn, fill, take_out};
 use futures::task::Context;
-use script_code::Env;
 use std::alloc::{AllocError, Global};
 use std::mem;
 use swift_interpreter::{Exit, Frame};
+use swift_job::Job;
 use swift_journal::{Checkpoint, Journal, Record};
-use swift_queue::Job;
 use swift_turn::Body;
-use swift_types::Resume;
 use swift_types::limits::FOLD;
+use swift_types::{Env, Resume};
 
 // A copy of these rows.
 fn copy_of(alloc: Global, from: &[Vec<i64>]) -> Result<Vec<Vec<i64>>, AllocError>
@@ -46,7 +45,7 @@ fn play_body(
     rows: &[u32],
     resume: Resume,
     env: Env,
-    played: &mut Played,
+    played: &mut PlayedTurn,
 ) -> Result<(), AllocError>
     requires running { IsRunning body.old }
     requires spared { MaySpare rows.now played.old.fields.before body.old }
@@ -74,7 +73,7 @@ pub fn play_job(
     cx: &mut Context<'_>,
     rows: &[u32],
     env: Env,
-    played: &mut Played,
+    played: &mut PlayedTurn,
 ) -> Result<(), AllocError>
     requires { HasJob place.old (λ j. IsRunning j.body × MaySpare rows.now played.old.fields.before j.body) }
     ensures ok { OnOk result (HasJob place.old (λ old. HasJob place.new (λ new. JobTurned old new played.old.fields.before env played.new))) }
@@ -92,7 +91,7 @@ pub fn play_job(
 pub fn with_frame(job: Job<Body>, frame: Frame) -> Job<Body>
     requires running { IsRunning job.body }
     requires method { frame.method.0 < method_count job.body.script }
-    ensures job { job_view result ≡ record (job_view job) { frames = record { frames = frame_view frame ∷ callers_of job.body.task.frames; outer = job.body.task.outer } } }
+    ensures job { job_facts result ≡ record (job_facts job) { frames = record { frames = frame_view frame ∷ callers_of job.body.task.frames; outer = job.body.task.outer } } }
     ensures script { result.body.script ≡ job.body.script }
 {
     let (task, number, resume, mut body) = job.spend();
@@ -101,16 +100,21 @@ pub fn with_frame(job: Job<Body>, frame: Frame) -> Job<Body>
 }
 
 /// The job as it was when it was chosen. The frame that was kept for this goes back, and then it means nothing.
-pub fn as_chosen(alloc: Global, job: Job<Body>, stage: Stage, played: &mut Played) -> Job<Body>
+pub fn as_chosen(
+    alloc: Global,
+    job: Job<Body>,
+    stage: ChosenStage,
+    played: &mut PlayedTurn,
+) -> Job<Body>
     requires running { IsRunning job.body }
     requires frame { CanGoBack job played.old stage }
-    ensures job { job_view result ≡ before_turn (stage_of played.old stage) job }
+    ensures job { job_facts result ≡ before_turn (stage_of played.old stage) job }
     ensures script { result.body.script ≡ job.body.script }
     ensures same { played.new.fields ≡ played.old.fields }
 {
     match stage {
-        Stage::Picked | Stage::Begun(_, _) => job,
-        Stage::Played(_, _) => {
+        ChosenStage::Picked | ChosenStage::Begun(_, _) => job,
+        ChosenStage::Played(_, _) => {
             let frame = mem::replace(&mut played.frame, Frame::new(alloc));
             with_frame(job, frame)
         }
@@ -132,14 +136,14 @@ fn after<'a>(body: &'a Body, exit: &Exit) -> Option<&'a Frame>
 pub fn write_record(
     journal: &mut Journal,
     job: &Job<Body>,
-    stage: Stage,
-    played: &Played,
+    stage: ChosenStage,
+    played: &PlayedTurn,
 ) -> Result<(), AllocError>
     requires { IsRunning job.now.body }
     ensures ok { OnOk result (WritesRecord played.now stage job.now journal.old journal.new) }
     ensures err { OnErr result (journal.new ≡ journal.old) }
 {
-    let Stage::Played(worker, env) = stage else {
+    let ChosenStage::Played(worker, env) = stage else {
         return Ok(());
     };
     journal.push(&Record {

@@ -4,21 +4,22 @@ ghost use Rattle.std.specs.Prelude.{◌≡◌, ◌≢◌, ◌+◌, ◌<◌, ◌�
 ghost use Rattle.std.specs.List.Sorted.{IsPermutation};
 ghost use Rattle.swift_types.specs.declared.id.TaskId.{TaskId};
 ghost use Rattle.swift_types.specs.declared.limits.TheConstants.{TASKS};
-ghost use Rattle.swift_queue.specs.Queue.{IsRestorable, Takes};
+ghost use Rattle.swift_queue.specs.Queue.{IsRestorable, TakesFirst};
 ghost use Rattle.swift_executor.specs.ReadyInside.{Comes, HasTaskAt};
 ghost use Rattle.swift_executor.specs.Ready.{Adds, AreHigher, CanRestore, ComesFirst, Forwards, HasRoom, IsClear, level_at, priority_of, ready_job, tasks_in, times};
 
 use crate::tasks::ReadyTasks;
 use std::alloc::{AllocError, Global};
 use std::marker::Model;
-use swift_queue::{Job, Queue};
+use swift_job::Job;
+use swift_queue::Queue;
 use swift_types::limits::TASKS;
 use swift_types::{Priority, TaskId};
 
 /// The jobs that are ready, with room that was made at the start. No call but `with_room` takes memory.
 ///
 /// A job counts at the level that a book gave its task; levels never fall.
-pub struct Ready<B> {
+pub struct ReadyJobs<B> {
     queue: Queue<B>,
     // Jobs of tasks that have another one in the queue or taken out, the oldest first.
     behind: Vec<Job<B>>,
@@ -28,10 +29,10 @@ pub struct Ready<B> {
     levels: Vec<u8>,
 }
 
-impl<B> Model for Ready<B> {
-    ghost use Rattle.swift_executor.specs.Ready.{ReadyIs};
+impl<B> Model for ReadyJobs<B> {
+    ghost use Rattle.swift_executor.specs.Ready.{ReadyJobsView};
 
-    ghost Value = { ReadyIs B };
+    ghost Value = { ReadyJobsView B };
 
     ghost use Rattle.std.specs.Prelude.{map};
     ghost use Rattle.swift_executor.specs.ReadyInside.{ReadyInvariant, job_of};
@@ -59,7 +60,7 @@ fn priority_of(level: u8) -> Priority
 // Takes the job that comes first out of a queue, with the number of its arrival.
 fn take_from<B>(queue: &mut Queue<B>, by_arrival: bool) -> Option<(Job<B>, u64)>
     ensures none { IfNone result ((queue.old.jobs ≡ []) × (queue.new ≡ queue.old)) }
-    ensures some { IfSome result (λ r. Takes (Comes by_arrival) queue.old.jobs r.0 r.1 queue.new.jobs) }
+    ensures some { IfSome result (λ r. TakesFirst (Comes by_arrival) queue.old.jobs r.0 r.1 queue.new.jobs) }
     ensures len { IfSome result (λ _. length queue.new.jobs + 1 ≡ length queue.old.jobs) }
     ensures restorable { IfSome result (λ r. IsRestorable queue.new r.0.task r.1) }
     ensures room { queue.new.room ≡ queue.old.room }
@@ -72,16 +73,16 @@ fn take_from<B>(queue: &mut Queue<B>, by_arrival: bool) -> Option<(Job<B>, u64)>
     }
 }
 
-impl<B> Ready<B> {
+impl<B> ReadyJobs<B> {
     /// No job, with room for this many.
-    pub fn with_room(alloc: Global, room: usize) -> Result<Ready<B>, AllocError>
+    pub fn with_room(alloc: Global, room: usize) -> Result<ReadyJobs<B>, AllocError>
         ensures { IfOk result (λ r. r ≡ record { front = []; behind = []; room = room; arrived = 0; levels = replicate TASKS 0 }) }
     {
         let tasks = ReadyTasks::with_room(alloc, room)?;
         let levels = vec![in alloc; 0; TASKS]?;
         let queue = Queue::with_room(alloc, room)?;
         match Vec::with_capacity(alloc, room) {
-            Ok(behind) => Ok(Ready {
+            Ok(behind) => Ok(ReadyJobs {
                 queue,
                 behind,
                 tasks,
@@ -228,7 +229,7 @@ impl<B> Ready<B> {
     pub fn into_jobs(self) -> Vec<Job<B>>
         ensures { IsPermutation (map (λ x. x.job) self.front ++ self.behind) result.items }
     {
-        let Ready {
+        let ReadyJobs {
             queue,
             behind,
             tasks: _,

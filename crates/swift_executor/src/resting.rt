@@ -7,14 +7,13 @@ use crate::state::ExecState;
 use crate::state_name::StateName;
 use std::marker::Model;
 use swift_inbox::Taker;
-use swift_queue::Job;
+use swift_job::spend_all;
 use swift_shared_book::BookSeat;
-use swift_turn::Body;
 use swift_word::Named;
 
 /// What a worker holds of an executor: its state, the right to take its jobs out of the inbox, and the seat by which it takes
 /// the book.
-pub struct Held {
+pub struct TakenState {
     pub state: ExecState,
     pub taker: Taker,
     pub seat: BookSeat,
@@ -22,16 +21,16 @@ pub struct Held {
 
 /// The state of an executor while no worker holds it: no job is chosen. Where it is dropped, its jobs are spent.
 pub struct Resting {
-    held: Box<Held>,
+    held: Box<TakenState>,
 }
 
 impl Model for Resting {
     ghost use Rattle.std.specs.Prelude.{◌≡◌, None};
     ghost use Rattle.std.specs.Coded.{codes};
     ghost use Rattle.swift_script.specs.Codes.{expression_code, statement_code, block_code};
-    ghost use Rattle.swift_executor.specs.Exec.{IsOf, RestingIs};
+    ghost use Rattle.swift_executor.specs.Exec.{IsOf, RestingView};
 
-    ghost Value = { RestingIs };
+    ghost Value = { RestingView };
 
     ghost coded = { Prim.hlevel (codes, expression_code, statement_code (block_code (Prim.hlevel (codes, expression_code)) (Prim.hlevel (codes, expression_code)))) };
 
@@ -50,7 +49,7 @@ impl Named for Resting {
 
 impl Resting {
     /// The state that a worker has held.
-    pub fn new(held: Box<Held>) -> Resting
+    pub fn new(held: Box<TakenState>) -> Resting
         requires free { held.value.state.chosen ≡ None }
         requires is_of { IsOf held.value.taker held.value.seat held.value.state }
         ensures { result ≡ record { state = held.value.state; taker = held.value.taker; seat = held.value.seat } }
@@ -59,7 +58,7 @@ impl Resting {
     }
 
     /// The state, for the worker that holds it.
-    pub fn into_held(self) -> Box<Held>
+    pub fn into_held(self) -> Box<TakenState>
         ensures same { (result.value.state ≡ self.state) × (result.value.taker ≡ self.taker) × (result.value.seat ≡ self.seat) }
         ensures free { result.value.state.chosen ≡ None }
         ensures is_of { IsOf result.value.taker result.value.seat result.value.state }
@@ -75,24 +74,16 @@ impl Resting {
         ensures is_of { IsOf result.1 result.2 result.0 }
     {
         let held = Box::into_inner(self.into_held());
-        let Held { state, taker, seat } = held;
+        let TakenState { state, taker, seat } = held;
         (state, taker, seat)
     }
 }
 
-/// Spends jobs.
-pub fn spend_all(mut jobs: Vec<Job<Body>>) {
-    while let Some(job) = jobs.pop() {
-        let (_task, _number, _resume, _body) = job.spend();
-    }
-    jobs.destroy_empty();
-}
-
 /// Spends the jobs of a state.
-pub fn spend_held(held: Held)
+pub fn spend_held(held: TakenState)
     requires { held.state.chosen ≡ None }
 {
-    let Held {
+    let TakenState {
         state,
         taker: _,
         seat: _,

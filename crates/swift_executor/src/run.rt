@@ -4,7 +4,8 @@ ghost use Rattle.std.specs.Prelude.{◌≡◌, ◌<◌, ◌↔◌, ◌⊎◌, No
 ghost use Rattle.std.specs.List.{AllByRecursion};
 ghost use Rattle.futures.specs.Task.{Keeps};
 ghost use Rattle.swift_script.specs.Scripts.{executor_kind};
-ghost use Rattle.swift_tasks.specs.Books.{IsJobOf, job_view};
+ghost use Rattle.swift_tasks.specs.Books.{IsJobOf};
+ghost use Rattle.swift_history.specs.Jobs.{job_facts};
 ghost use Rattle.swift_executor.specs.Account.{HasTaken};
 ghost use Rattle.swift_executor.specs.Exec.{IfNoTurn, IfTurn, IsMadeBy, chosen_task, IsAt, IsBookOf, IsDeskOf, IsRunFault, IsSeatAt, after_run, may_run, seat_after, site_of};
 ghost use Rattle.swift_executor.specs.Seats.{IsSeatFor};
@@ -20,15 +21,14 @@ use crate::laws::{
     accept_knows_its_ticket, accept_takes_one, play_loses_none, refusal_loses_none,
     start_loses_none,
 };
-use crate::ran::Ran;
-use crate::resting::{Held, Resting};
+use crate::ran::VisitOutcome;
+use crate::resting::{Resting, TakenState};
 use futures::task::Context;
-use script_grammar::ExecutorKind;
 use std::sync::Wait;
 use swift_inbox::Inbox;
 use swift_shared_book::{BookLock, TicketedJobs};
-use swift_types::{ExecId, TaskId};
-use swift_word::{Begun, Left, Seat};
+use swift_types::{ExecId, ExecutorKind, TaskId};
+use swift_word::{Begun, PendingLeft, WordSeat};
 
 /// Whether a worker may run an executor of this kind: a pinned one of place k belongs to worker k modulo their number alone, one
 /// of a negative place to none, and any other to all (our own).
@@ -46,7 +46,7 @@ pub fn may_run(kind: ExecutorKind, workers: u32, worker: u32) -> bool
 
 // Takes the oldest job of the inbox, where there is one, and room for it; the seat takes its ticket. Where the inbox was just found
 // empty, it is not asked for a job, which takes longer.
-fn accept_one<R: Wait>(rt: &R, inbox: &Inbox, held: &mut Held, book: &BookLock) -> bool
+fn accept_one<R: Wait>(rt: &R, inbox: &Inbox, held: &mut TakenState, book: &BookLock) -> bool
     requires at { IsAt inbox.now held.old.taker held.old.seat held.old.state }
     requires free { held.old.state.chosen ≡ None }
     requires lock { held.old.seat.lock ≡ book.now.id }
@@ -70,7 +70,7 @@ fn accept_one<R: Wait>(rt: &R, inbox: &Inbox, held: &mut Held, book: &BookLock) 
 }
 
 // Takes what is in the inbox, as far as there is room.
-fn accept_all<R: Wait>(rt: &R, inbox: &Inbox, held: &mut Held, book: &BookLock)
+fn accept_all<R: Wait>(rt: &R, inbox: &Inbox, held: &mut TakenState, book: &BookLock)
     requires at { IsAt inbox.now held.old.taker held.old.seat held.old.state }
     requires free { held.old.state.chosen ≡ None }
     requires lock { held.old.seat.lock ≡ book.now.id }
@@ -88,7 +88,7 @@ fn accept_all<R: Wait>(rt: &R, inbox: &Inbox, held: &mut Held, book: &BookLock)
 // Chooses the job that runs next.
 fn choose_one<R: Wait>(
     rt: &R,
-    held: &mut Held,
+    held: &mut TakenState,
     book: &BookLock,
 ) -> Result<Option<TaskId>, ExecFault>
     requires free { held.old.state.chosen ≡ None }
@@ -112,7 +112,7 @@ fn choose_one<R: Wait>(
 // Begins the turn of the chosen job.
 fn start_one<R: Wait>(
     rt: &R,
-    held: &mut Held,
+    held: &mut TakenState,
     worker: u32,
     book: &BookLock,
 ) -> Result<(), ExecFault>
@@ -134,7 +134,7 @@ fn start_one<R: Wait>(
 }
 
 // Plays the turn that has begun.
-fn play_one(held: &mut Held, cx: &mut Context<'_>) -> Result<(), ExecFault>
+fn play_one(held: &mut TakenState, cx: &mut Context<'_>) -> Result<(), ExecFault>
     requires begun { HasChosen held.old.state (λ c. IsBegun c.stage) }
     requires known { IsSeatFor held.old.state held.old.seat }
     ensures same { (held.new.taker ≡ held.old.taker) × (site_of held.new.seat.lock held.new.state ≡ site_of held.old.seat.lock held.old.state) }
@@ -154,7 +154,7 @@ fn play_one(held: &mut Held, cx: &mut Context<'_>) -> Result<(), ExecFault>
 // Journals the turn that was played.
 fn end_one<R: Wait>(
     rt: &R,
-    held: &mut Held,
+    held: &mut TakenState,
     book: &BookLock,
     jobs: &mut TicketedJobs,
 ) -> Result<(), ExecFault>
@@ -169,7 +169,7 @@ fn end_one<R: Wait>(
     ensures lock { jobs.new.book ≡ jobs.old.book }
     ensures taken { HasTaken held.old.taker.taken held.old.state → HasTaken held.new.taker.taken held.new.state }
     ensures free { held.new.state.chosen ≡ None }
-    ensures made { OnOk result (IsMadeBy held.old.state.script (chosen_task held.old.state.chosen) (map job_view jobs.old.jobs) (map job_view jobs.new.jobs)) }
+    ensures made { OnOk result (IsMadeBy held.old.state.script (chosen_task held.old.state.chosen) (map job_facts jobs.old.jobs) (map job_facts jobs.new.jobs)) }
     ensures jobs { OnErr result (jobs.new ≡ jobs.old) }
     ensures bodies { OnOk result (AllByRecursion (IsJobOf held.old.state.script) jobs.old.jobs → AllByRecursion (IsJobOf held.old.state.script) jobs.new.jobs) }
     ensures err { IfErr result IsRunFault }
@@ -180,7 +180,7 @@ fn end_one<R: Wait>(
 // Runs a turn of the job that comes first. None where no job is ready.
 fn turn_one<R, G>(
     rt: &R,
-    held: &mut Held,
+    held: &mut TakenState,
     executor: ExecId,
     worker: u32,
     book: &BookLock,
@@ -202,7 +202,7 @@ where
     ensures lock { jobs.new.book ≡ jobs.old.book }
     ensures taken { HasTaken held.old.taker.taken held.old.state → HasTaken held.new.taker.taken held.new.state }
     ensures free { held.new.state.chosen ≡ None }
-    ensures made { IfOk result (λ ran. IfSome ran (λ task. IsMadeBy held.old.state.script (Some task) (map job_view jobs.old.jobs) (map job_view jobs.new.jobs))) }
+    ensures made { IfOk result (λ ran. IfSome ran (λ task. IsMadeBy held.old.state.script (Some task) (map job_facts jobs.old.jobs) (map job_facts jobs.new.jobs))) }
     ensures none { IfOk result (λ ran. IfNone ran (jobs.new ≡ jobs.old)) }
     ensures jobs { OnErr result (jobs.new ≡ jobs.old) }
     ensures bodies { AllByRecursion (IsJobOf held.old.state.script) jobs.old.jobs → AllByRecursion (IsJobOf held.old.state.script) jobs.new.jobs }
@@ -222,7 +222,7 @@ where
 
 impl Exec {
     // Gives the state back after a turn.
-    fn end_turn(&self, seat: &mut Seat<Resting>, held: Box<Held>) -> Left
+    fn end_turn(&self, seat: &mut WordSeat<Resting>, held: Box<TakenState>) -> PendingLeft
         requires seat { IsSeatAt self.now seat.old }
         requires found { IsSomeAnd seat.old.holding (λ found. 0 < found) }
         requires at { IsAt self.now.inbox held.value.taker held.value.seat held.value.state }
@@ -233,7 +233,7 @@ impl Exec {
     }
 
     // Gives the state back where no turn was run.
-    fn leave(&self, seat: &mut Seat<Resting>, held: Box<Held>) -> Left
+    fn leave(&self, seat: &mut WordSeat<Resting>, held: Box<TakenState>) -> PendingLeft
         requires seat { IsSeatAt self.now seat.old }
         requires found { IsSome seat.old.holding }
         requires at { IsAt self.now.inbox held.value.taker held.value.seat held.value.state }
@@ -247,15 +247,15 @@ impl Exec {
     fn run_held<R, G>(
         &self,
         rt: &R,
-        seat: &mut Seat<Resting>,
+        seat: &mut WordSeat<Resting>,
         found: u64,
-        mut held: Box<Held>,
+        mut held: Box<TakenState>,
         worker: u32,
         book: &BookLock,
         cx: &mut Context<'_>,
         jobs: &mut TicketedJobs,
         gate: &G,
-    ) -> Result<Ran, ExecFault>
+    ) -> Result<VisitOutcome, ExecFault>
     where
         R: Wait,
         G: Gate,
@@ -268,7 +268,7 @@ impl Exec {
         ensures seat { IfOk result (λ ran. seat.new ≡ seat_after ran seat.old) }
         ensures kept { OnErr result (seat.new ≡ left seat.old) }
         ensures free { (seat.new.name ≡ seat.old.name) × (seat.new.holding ≡ None) }
-        ensures made { IfOk result (IfTurn (λ task. IsMadeBy self.now.inbox.site.script (Some task) (map job_view jobs.old.jobs) (map job_view jobs.new.jobs))) }
+        ensures made { IfOk result (IfTurn (λ task. IsMadeBy self.now.inbox.site.script (Some task) (map job_facts jobs.old.jobs) (map job_facts jobs.new.jobs))) }
         ensures jobs { IfOk result (IfNoTurn (jobs.new ≡ jobs.old)) }
         ensures none { OnErr result (jobs.new ≡ jobs.old) }
         ensures bodies { AllByRecursion (IsJobOf self.now.inbox.site.script) jobs.old.jobs → AllByRecursion (IsJobOf self.now.inbox.site.script) jobs.new.jobs }
@@ -277,12 +277,12 @@ impl Exec {
         ensures context { Keeps cx.old cx.new }
     {
         if found == 0 {
-            return Ok(Ran::Nothing(self.leave(seat, held)));
+            return Ok(VisitOutcome::Nothing(self.leave(seat, held)));
         }
         let executor = self.inbox.site().executor();
         match turn_one(rt, &mut held, executor, worker, book, cx, jobs, gate) {
-            Ok(Some(task)) => Ok(Ran::Turn(task, self.end_turn(seat, held))),
-            Ok(None) => Ok(Ran::Nothing(self.leave(seat, held))),
+            Ok(Some(task)) => Ok(VisitOutcome::Turn(task, self.end_turn(seat, held))),
+            Ok(None) => Ok(VisitOutcome::Nothing(self.leave(seat, held))),
             Err(fault) => {
                 self.leave(seat, held);
                 Err(fault)
@@ -316,7 +316,7 @@ impl Exec {
         cx: &mut Context<'_>,
         jobs: &mut TicketedJobs,
         gate: &G,
-    ) -> Result<Ran, ExecFault>
+    ) -> Result<VisitOutcome, ExecFault>
     where
         R: Wait,
         G: Gate,
@@ -325,7 +325,7 @@ impl Exec {
         requires jobs { jobs.old.book ≡ book.now.id }
         ensures desk { IfOk result (λ ran. desk.new ≡ after_run ran desk.old) }
         ensures kept { OnErr result (desk.new ≡ desk.old) }
-        ensures made { IfOk result (IfTurn (λ task. IsMadeBy self.now.inbox.site.script (Some task) (map job_view jobs.old.jobs) (map job_view jobs.new.jobs))) }
+        ensures made { IfOk result (IfTurn (λ task. IsMadeBy self.now.inbox.site.script (Some task) (map job_facts jobs.old.jobs) (map job_facts jobs.new.jobs))) }
         ensures jobs { IfOk result (IfNoTurn (jobs.new ≡ jobs.old)) }
         ensures none { OnErr result (jobs.new ≡ jobs.old) }
         ensures bodies { AllByRecursion (IsJobOf self.now.inbox.site.script) jobs.old.jobs → AllByRecursion (IsJobOf self.now.inbox.site.script) jobs.new.jobs }
@@ -341,7 +341,7 @@ impl Exec {
         }
         gate.at(Moment::Took(executor, worker));
         match self.word.begin(&mut desk.seat) {
-            Begun::Busy => Ok(Ran::Busy),
+            Begun::Busy => Ok(VisitOutcome::Busy),
             Begun::Run(found, resting) => {
                 gate.at(Moment::Began(executor, worker));
                 let mut held = resting.into_held();

@@ -9,18 +9,18 @@ ghost use Rattle.swift_types.specs.declared.id.TaskId.{TaskId};
 ghost use Rattle.script_code.specs.Value.{holds};
 ghost use Rattle.swift_script.specs.Scripts.{executor_actors, executor_invariants, executor_start};
 ghost use Rattle.swift_executor.specs.Ready.{HasRoom, tasks_in, times};
-ghost use Rattle.swift_executor.specs.State.{IsExecutor, chosen_count, fields_at, new_executor};
+ghost use Rattle.swift_executor.specs.State.{ExecInvariant, chosen_count, fields_at, new_executor};
 
-use crate::chosen::{Chosen, Played};
+use crate::chosen::{Chosen, PlayedTurn};
 use crate::fields::Fields;
 use crate::home::Home;
-use crate::ready::Ready;
+use crate::ready::ReadyJobs;
 use std::alloc::{AllocError, Global};
 use std::marker::Model;
 use std::sync::Arc;
+use swift_job::Job;
 use swift_journal::laws::invariants_stay;
 use swift_journal::{Checkpoint, Journal};
-use swift_queue::Job;
 use swift_script::Script;
 use swift_turn::Body;
 use swift_types::{ActorId, ExecId, TaskId};
@@ -38,21 +38,21 @@ use swift_types::{ActorId, ExecId, TaskId};
 pub struct ExecState {
     pub(crate) alloc: Global,
     pub(crate) home: Home,
-    pub(crate) ready: Ready<Body>,
+    pub(crate) ready: ReadyJobs<Body>,
     // It changes in its place: a turn moves it as little as it can.
     pub(crate) chosen: Chosen,
     pub(crate) journal: Journal,
     pub(crate) checkpoint: Checkpoint,
     // The fields, and what a turn that was played and is not journalled yet has left. At other times that means nothing.
-    pub(crate) played: Played,
+    pub(crate) played: PlayedTurn,
 }
 
 impl Model for ExecState {
     ghost use Rattle.std.specs.Coded.{codes};
     ghost use Rattle.swift_script.specs.Codes.{expression_code, statement_code, block_code};
-    ghost use Rattle.swift_executor.specs.State.{ExecView, IsExecutor};
+    ghost use Rattle.swift_executor.specs.State.{ExecStateView, ExecInvariant};
 
-    ghost Value = { ExecView };
+    ghost Value = { ExecStateView };
 
     ghost coded = { Prim.hlevel (codes, expression_code, statement_code (block_code (Prim.hlevel (codes, expression_code)) (Prim.hlevel (codes, expression_code)))) };
 
@@ -60,7 +60,7 @@ impl Model for ExecState {
 
     ghost view = { λ s. record { script = s.home.script; executor = s.home.executor; ready = s.ready; chosen = chosen_of s.played s.chosen; journal = s.journal; checkpoint = s.checkpoint.view; fields = s.played.fields.before } };
 
-    ghost invariant = { λ s. IsExecutor (record { script = s.home.script; executor = s.home.executor; ready = s.ready; chosen = chosen_of s.played s.chosen; journal = s.journal; checkpoint = s.checkpoint.view; fields = s.played.fields.before }) };
+    ghost invariant = { λ s. ExecInvariant (record { script = s.home.script; executor = s.home.executor; ready = s.ready; chosen = chosen_of s.played s.chosen; journal = s.journal; checkpoint = s.checkpoint.view; fields = s.played.fields.before }) };
 }
 
 impl ExecState {
@@ -77,7 +77,7 @@ impl ExecState {
         let fields = script.executor_start(alloc, executor)?;
         let start = script.executor_start(alloc, executor)?;
         let home = Home::new(alloc, script, executor)?;
-        let ready = Ready::with_room(alloc, room)?;
+        let ready = ReadyJobs::with_room(alloc, room)?;
         Ok(ExecState {
             alloc,
             home,
@@ -85,14 +85,14 @@ impl ExecState {
             chosen: Chosen::none(),
             journal: Journal::new(alloc),
             checkpoint: Checkpoint::new(alloc, start),
-            played: Played::new(alloc, fields),
+            played: PlayedTurn::new(alloc, fields),
         })
     }
 
     /// The journal is lawful from the checkpoint on, replaying it gives the fields, and each invariant that held at the start holds. It
     /// does nothing.
     pub fn facts(&self)
-        ensures keeps { IsExecutor self.now }
+        ensures keeps { ExecInvariant self.now }
         // Each invariant of its actors that held at the start holds.
         ensures invariants { (t : Term) → Contains (executor_invariants self.now.script self.now.executor) t → IsTrue (holds (Some t) (executor_start self.now.script self.now.executor)) → IsTrue (holds (Some t) self.now.fields) }
     {

@@ -20,9 +20,9 @@ pub struct ReadyTasks {
 
 impl Model for ReadyTasks {
     ghost use Rattle.std.specs.Prelude.{vec_capacity};
-    ghost use Rattle.swift_executor.specs.Tasks.{TasksAre};
+    ghost use Rattle.swift_executor.specs.Tasks.{ReadyTasksView};
 
-    ghost Value = { TasksAre };
+    ghost Value = { ReadyTasksView };
 
     ghost view = { λ t. record { tasks = t.tasks.items; room = vec_capacity t.tasks } };
 }

@@ -3,22 +3,23 @@
 ghost use Rattle.std.specs.Prelude.{◌≡◌, ◌⊎◌, None, map, OnOk, OnErr, IfOk, IfErr, MatchResult};
 ghost use Rattle.std.specs.List.{AllByRecursion};
 ghost use Rattle.futures.specs.Task.{Keeps};
-ghost use Rattle.swift_tasks.specs.Books.{IsJobOf, job_view};
+ghost use Rattle.swift_tasks.specs.Books.{IsJobOf};
+ghost use Rattle.swift_history.specs.Jobs.{job_facts};
 ghost use Rattle.swift_tasks.specs.Refusals.{IsRefusal as BookRefusal, refusal_of_begin};
 ghost use Rattle.swift_turn.specs.Body.{IsRunning};
 ghost use Rattle.swift_executor.specs.Playing.{AppliesJob, BeginsJob, HasFoldRoom, HasJob, KeepsJob, MaySpare, PlaysJob, StageIsBegun, StageIsPlayed, WritesRecord, refusal_of_left};
 ghost use Rattle.swift_executor.specs.Refusals.{IsRefusal};
-ghost use Rattle.swift_executor.specs.State.{Begins, HasChosen, IsBegun, IsPicked, IsPlayed, Journals, Plays, PutsBack, refusal_to_begin, refusal_to_apply};
+ghost use Rattle.swift_executor.specs.State.{BeginsChosen, HasChosen, IsBegun, IsPicked, IsPlayed, Journals, Plays, PutsBack, refusal_to_begin, refusal_to_apply};
 
-use crate::chosen::{Chosen, Played, Stage, take_out};
+use crate::chosen::{Chosen, ChosenStage, PlayedTurn, take_out};
 use crate::fault::ExecFault;
 use crate::playing::{as_chosen, play_job, room_to_fold, settle, write_record};
 use crate::state::ExecState;
 use futures::task::Context;
 use std::alloc::{AllocError, Global};
+use swift_job::Job;
 use swift_journal::laws::{invariants_stay, lawful_grows};
 use swift_journal::{Checkpoint, Journal};
-use swift_queue::Job;
 use swift_tasks::{Book, BookFault};
 use swift_turn::Body;
 use swift_types::TaskId;
@@ -30,7 +31,7 @@ pub(crate) fn prepare(
     journal: &mut Journal,
     checkpoint: &mut Checkpoint,
     chosen: &Chosen,
-    played: &Played,
+    played: &PlayedTurn,
 ) -> Result<Option<Vec<Vec<i64>>>, AllocError>
     requires job { HasJob chosen.now.job (λ j. IsRunning j.body) }
     requires played { StageIsPlayed chosen.now.stage }
@@ -55,12 +56,12 @@ pub(crate) fn prepare(
 // Lets the book take the turn of a job that was played. Where it refuses, the job is as before.
 pub(crate) fn apply_chosen(
     place: &mut Option<Job<Body>>,
-    played: &Played,
+    played: &PlayedTurn,
     book: &mut Book,
     jobs: &mut Vec<Job<Body>>,
 ) -> Result<TaskId, BookFault>
     requires { HasJob place.old (λ j. IsRunning j.body × (j.body.script ≡ book.old.script)) }
-    ensures ok { IfOk result (λ task. HasJob place.old (AppliesJob book.old book.new played.now (map job_view jobs.old.items) (map job_view jobs.new.items) task)) }
+    ensures ok { IfOk result (λ task. HasJob place.old (AppliesJob book.old book.new played.now (map job_facts jobs.old.items) (map job_facts jobs.new.items) task)) }
     ensures gone { OnOk result (place.new ≡ None) }
     ensures bodies { AllByRecursion (IsJobOf book.old.script) jobs.old.items → AllByRecursion (IsJobOf book.old.script) jobs.new.items }
     ensures script { book.new.script ≡ book.old.script }
@@ -82,7 +83,7 @@ fn play_chosen(
     chosen: &mut Chosen,
     cx: &mut Context<'_>,
     rows: &[u32],
-    played: &mut Played,
+    played: &mut PlayedTurn,
 ) -> Result<(), AllocError>
     requires job { HasJob chosen.old.job (λ j. IsRunning j.body × MaySpare rows.now played.old.fields.before j.body) }
     requires begun { StageIsBegun chosen.old.stage }
@@ -91,11 +92,11 @@ fn play_chosen(
     ensures same { played.new.fields.before ≡ played.old.fields.before }
     ensures kept { Keeps cx.old cx.new }
 {
-    let Stage::Begun(worker, env) = chosen.stage else {
+    let ChosenStage::Begun(worker, env) = chosen.stage else {
         unreachable!()
     };
     play_job(&mut chosen.job, cx, rows, env, played)?;
-    chosen.stage = Stage::Played(worker, env);
+    chosen.stage = ChosenStage::Played(worker, env);
     Ok(())
 }
 
@@ -111,7 +112,7 @@ fn begin_chosen(chosen: &mut Chosen, worker: u32, book: &mut Book) -> Result<(),
     };
     match book.begin_known(job) {
         Ok(env) => {
-            chosen.stage = Stage::Begun(worker, env);
+            chosen.stage = ChosenStage::Begun(worker, env);
             Ok(())
         }
         Err(fault) => Err(fault),
@@ -135,7 +136,7 @@ impl ExecState {
     pub fn start(&mut self, worker: u32, book: &mut Book) -> Result<(), ExecFault>
         requires picked { HasChosen self.old (λ c. IsPicked c.stage) }
         requires same { book.old.script ≡ self.old.script }
-        ensures ok { OnOk result (HasChosen self.old (Begins book.old book.new worker self.old self.new)) }
+        ensures ok { OnOk result (HasChosen self.old (BeginsChosen book.old book.new worker self.old self.new)) }
         ensures back { OnErr result (HasChosen self.old (PutsBack self.old self.new)) }
         ensures err { OnErr result (book.new ≡ book.old) }
         ensures refused { MatchResult result (λ _. refusal_to_begin book.old self.old.chosen ≡ None) (IsRefusal (refusal_to_begin book.old self.old.chosen)) }
@@ -175,7 +176,7 @@ impl ExecState {
     pub fn turn(&mut self, book: &mut Book, jobs: &mut Vec<Job<Body>>) -> Result<(), ExecFault>
         requires played { HasChosen self.old (λ c. IsPlayed c.stage) }
         requires same { book.old.script ≡ self.old.script }
-        ensures ok { OnOk result (HasChosen self.old (Journals book.old book.new (map job_view jobs.old.items) (map job_view jobs.new.items) self.old self.new)) }
+        ensures ok { OnOk result (HasChosen self.old (Journals book.old book.new (map job_facts jobs.old.items) (map job_facts jobs.new.items) self.old self.new)) }
         ensures bodies { AllByRecursion (IsJobOf book.old.script) jobs.old.items → AllByRecursion (IsJobOf book.old.script) jobs.new.items }
         // A turn is taken only by a book of an equal script.
         ensures same { OnOk result (self.old.script ≡ book.old.script) }

@@ -10,7 +10,7 @@ use Rattle.swift_types.specs.declared.id.TaskId.{TaskId}
 use Rattle.swift_types.specs.declared.outcome.Ending.{Ending}
 use Rattle.swift_groups.specs.declared.group.Group.{Group}
 use Rattle.swift_groups.specs.declared.group.Child.{Child}
-use Rattle.swift_groups.specs.declared.group.Ended.{Ended}
+use Rattle.swift_groups.specs.declared.group.ChildEnding.{ChildEnding}
 use Rattle.swift_groups.specs.Inside.{added_of, ended_of, places_of}
 use Rattle.swift_groups.specs.GroupsInside.{mark_of, IsGroup, AreGroups}
 use Rattle.swift_groups.proofs.Lists.{slice_get_old, slice_get_new, slice_get_push, slice_get_set, slice_get_set_other}
@@ -25,16 +25,16 @@ abbrev open_children : List Group → ℕ
 open_children gs = sum_by (λ (g : Group). g.unfinished) gs
 
 -- the same groups, read from elsewhere
-pub are_groups_same : (gs gs' : List Group) (cs cs' : List Child) (es es' : List Ended) (mark mark' : Marks) → AreGroups gs cs es mark
+pub are_groups_same : (gs gs' : List Group) (cs cs' : List Child) (es es' : List ChildEnding) (mark mark' : Marks) → AreGroups gs cs es mark
     → gs' ≡ gs → cs' ≡ cs → es' ≡ es → ((i : ℕ) (t : TaskId) → mark' i t ≡ mark i t) → AreGroups gs' cs' es' mark'
 are_groups_same gs gs' cs cs' es es' mark mark' k g c e m =
     let here : AreGroups gs cs es mark' = record { each = k.each; none_added = k.none_added; none_ended = k.none_ended; marks = λ i t. m i t ∙ k.marks i t; total = k.total } in
     subst (λ (s : List Group). AreGroups s cs' es' mark') (sym g)
     (subst (λ (s : List Child). AreGroups gs s es' mark') (sym c)
-    (subst (λ (s : List Ended). AreGroups gs cs s mark') (sym e) here))
+    (subst (λ (s : List ChildEnding). AreGroups gs cs s mark') (sym e) here))
 
 -- one group was changed
-are_groups_set : (gs : List Group) (cs cs' : List Child) (es es' : List Ended) (mark mark' : Marks) (i : ℕ) (g g' : Group) → AreGroups gs cs es mark → slice_get gs i ≡ Some g
+are_groups_set : (gs : List Group) (cs cs' : List Child) (es es' : List ChildEnding) (mark mark' : Marks) (i : ℕ) (g g' : Group) → AreGroups gs cs es mark → slice_get gs i ≡ Some g
     → ((j : ℕ) → (j ≡ i → ⊥) → added_of cs' j ≡ added_of cs j) → ((j : ℕ) → (j ≡ i → ⊥) → ended_of es' j ≡ ended_of es j) → ((j : ℕ) → (j ≡ i → ⊥) → places_of es' j ≡ places_of es j)
     → IsGroup g' (added_of cs' i) (ended_of es' i) (places_of es' i) → ((j : ℕ) (t : TaskId) → mark' j t ≡ mark_of (added_of cs' j) (ended_of es' j) t)
     → length es' + (open_children gs + g'.unfinished) ≡ length cs' + g.unfinished → AreGroups (set gs i g') cs' es' mark'
@@ -63,14 +63,14 @@ are_groups_set gs cs cs' es es' mark mark' i g g' k at added ended places is mar
     }
 
 -- one group was changed, with its children and endings as they were
-pub are_groups_changed : (gs : List Group) (cs : List Child) (es : List Ended) (mark : Marks) (i : ℕ) (g g' : Group) → AreGroups gs cs es mark → slice_get gs i ≡ Some g
+pub are_groups_changed : (gs : List Group) (cs : List Child) (es : List ChildEnding) (mark : Marks) (i : ℕ) (g g' : Group) → AreGroups gs cs es mark → slice_get gs i ≡ Some g
     → IsGroup g' (added_of cs i) (ended_of es i) (places_of es i) → g'.unfinished ≡ g.unfinished → AreGroups (set gs i g') cs es mark
 are_groups_changed gs cs es mark i g g' k at is same =
     let total = k.total in
     are_groups_set gs cs cs es es mark mark i g g' k at (λ j o. refl) (λ j o. refl) (λ j o. refl) is k.marks (omega (arith, total, same))
 
 -- a group was opened
-pub are_groups_opened : (gs : List Group) (cs : List Child) (es : List Ended) (mark : Marks) (g : Group) → AreGroups gs cs es mark
+pub are_groups_opened : (gs : List Group) (cs : List Child) (es : List ChildEnding) (mark : Marks) (g : Group) → AreGroups gs cs es mark
     → g.unfinished ≡ 0 → g.handed ≡ 0 → g.first ≡ None → g.last ≡ None → AreGroups (gs ++ g ∷ []) cs es mark
 are_groups_opened gs cs es mark g k unfinished handed first last =
     let len = length_push gs g in
@@ -94,7 +94,7 @@ are_groups_opened gs cs es mark g k unfinished handed first last =
     }
 
 -- a child was added
-are_groups_with_child : (gs : List Group) (cs : List Child) (es : List Ended) (mark mark' : Marks) (i : ℕ) (g g' : Group) (c : Child) → AreGroups gs cs es mark → slice_get gs i ≡ Some g
+are_groups_with_child : (gs : List Group) (cs : List Child) (es : List ChildEnding) (mark mark' : Marks) (i : ℕ) (g g' : Group) (c : Child) → AreGroups gs cs es mark → slice_get gs i ≡ Some g
     → c.group ≡ i → mark i c.task ≡ None
     → ((j : ℕ) (t : TaskId) → mark' j t ≡ cond (eqb i j) (cond (eqb c.task.0 t.0) (Some false) (mark j t)) (mark j t))
     → g'.unfinished ≡ g.unfinished + 1 → g'.handed ≡ g.handed → g'.first ≡ g.first → g'.last ≡ g.last → AreGroups (set gs i g') (cs ++ c ∷ []) es mark'
@@ -138,7 +138,7 @@ first_after ps n h h' (Some k) f' within first same kept new =
     kept k refl ∙ sym (ap (λ (m : ℕ). slice_get (ps ++ n ∷ []) m) same ∙ slice_get_old ps (n ∷ []) h k (sym first))
 
 -- there is room for the ending of an unfinished child
-pub ending_fits : (gs : List Group) (cs : List Child) (es : List Ended) (mark : Marks) (i : ℕ) (g : Group) (t : TaskId) (ending : Ending) → AreGroups gs cs es mark → slice_get gs i ≡ Some g → mark i t ≡ Some false
+pub ending_fits : (gs : List Group) (cs : List Child) (es : List ChildEnding) (mark : Marks) (i : ℕ) (g : Group) (t : TaskId) (ending : Ending) → AreGroups gs cs es mark → slice_get gs i ≡ Some g → mark i t ≡ Some false
     → (0 < g.unfinished) × (length es < length cs)
 ending_fits gs cs es mark i g t ending k at h =
     let is = k.each i g at in
@@ -152,7 +152,7 @@ ending_fits gs cs es mark i g t ending k at h =
     (omega (arith, some, less, number), omega (arith, some, less, number, sum, read, total))
 
 -- a child ended
-are_groups_with_ending : (gs : List Group) (cs : List Child) (es : List Ended) (mark mark' : Marks) (i n : ℕ) (g g' : Group) (e : Ended) → AreGroups gs cs es mark → slice_get gs i ≡ Some g
+are_groups_with_ending : (gs : List Group) (cs : List Child) (es : List ChildEnding) (mark mark' : Marks) (i n : ℕ) (g g' : Group) (e : ChildEnding) → AreGroups gs cs es mark → slice_get gs i ≡ Some g
     → e.group ≡ i → n ≡ length es → mark i e.task ≡ Some false
     → ((j : ℕ) (t : TaskId) → mark' j t ≡ cond (eqb i j) (cond (eqb e.task.0 t.0) (Some true) (mark j t)) (mark j t))
     → g'.unfinished ≡ g.unfinished - 1 → g'.handed ≡ g.handed → ((k : ℕ) → g.first ≡ Some k → g'.first ≡ Some k) → (g.first ≡ None → g'.first ≡ Some n) → g'.last ≡ Some n
@@ -195,25 +195,25 @@ are_groups_with_ending gs cs es mark mark' i n g g' e k at group place child mar
     (let total = k.total in let len = length_push es e in let fits = ending_fits gs cs es mark i g e.task e.ending k at child in let positive = fits.0 in omega (arith, total, len, unfinished, positive))
 
 -- no group has more unfinished children than there are children
-pub unfinished_le : (gs : List Group) (cs : List Child) (es : List Ended) (mark : Marks) (i : ℕ) (g : Group) → AreGroups gs cs es mark → slice_get gs i ≡ Some g → g.unfinished ≤ length cs
+pub unfinished_le : (gs : List Group) (cs : List Child) (es : List ChildEnding) (mark : Marks) (i : ℕ) (g : Group) → AreGroups gs cs es mark → slice_get gs i ≡ Some g → g.unfinished ≤ length cs
 unfinished_le gs cs es mark i g k at =
     let sum = get_or-le-sum_by (λ (x : Group). x.unfinished) gs i g (slice_get_within gs i g at) in
     let read = ap (λ (x : Group). x.unfinished) (get_or_from_slice_get gs i g g at) in
     let total = k.total in omega (arith, sum, read, total)
 
-pub are_groups_added : (gs : List Group) (cs cs' : List Child) (es : List Ended) (mark mark' : Marks) (i : ℕ) (g g' : Group) (c : Child) → cs' ≡ cs ++ c ∷ [] → AreGroups gs cs es mark → slice_get gs i ≡ Some g
+pub are_groups_added : (gs : List Group) (cs cs' : List Child) (es : List ChildEnding) (mark mark' : Marks) (i : ℕ) (g g' : Group) (c : Child) → cs' ≡ cs ++ c ∷ [] → AreGroups gs cs es mark → slice_get gs i ≡ Some g
     → c.group ≡ i → mark i c.task ≡ None
     → ((j : ℕ) (t : TaskId) → mark' j t ≡ cond (eqb i j) (cond (eqb c.task.0 t.0) (Some false) (mark j t)) (mark j t))
     → g'.unfinished ≡ g.unfinished + 1 → g'.handed ≡ g.handed → g'.first ≡ g.first → g'.last ≡ g.last → AreGroups (set gs i g') cs' es mark'
 are_groups_added gs cs cs' es mark mark' i g g' c shown k at group fresh marks unfinished handed first last =
     subst (λ (s : List Child). AreGroups (set gs i g') s es mark') (sym shown) (are_groups_with_child gs cs es mark mark' i g g' c k at group fresh marks unfinished handed first last)
 
-pub are_groups_ended : (gs : List Group) (cs : List Child) (es es' : List Ended) (mark mark' : Marks) (i n : ℕ) (g g' : Group) (e : Ended) → es' ≡ es ++ e ∷ [] → AreGroups gs cs es mark → slice_get gs i ≡ Some g
+pub are_groups_ended : (gs : List Group) (cs : List Child) (es es' : List ChildEnding) (mark mark' : Marks) (i n : ℕ) (g g' : Group) (e : ChildEnding) → es' ≡ es ++ e ∷ [] → AreGroups gs cs es mark → slice_get gs i ≡ Some g
     → e.group ≡ i → n ≡ length es → mark i e.task ≡ Some false
     → ((j : ℕ) (t : TaskId) → mark' j t ≡ cond (eqb i j) (cond (eqb e.task.0 t.0) (Some true) (mark j t)) (mark j t))
     → g'.unfinished ≡ g.unfinished - 1 → g'.handed ≡ g.handed → g'.first ≡ option_or g.first (Some n) → g'.last ≡ Some n
     → AreGroups (set gs i g') cs es' mark'
 are_groups_ended gs cs es es' mark mark' i n g g' e shown k at group place child marks unfinished handed first last =
-    subst (λ (s : List Ended). AreGroups (set gs i g') cs s mark') (sym shown)
+    subst (λ (s : List ChildEnding). AreGroups (set gs i g') cs s mark') (sym shown)
     (are_groups_with_ending gs cs es mark mark' i n g g' e k at group place child marks unfinished handed
     (λ b h. first ∙ ap (λ (o : Option ℕ). option_or o (Some n)) h) (λ h. first ∙ ap (λ (o : Option ℕ). option_or o (Some n)) h) last)

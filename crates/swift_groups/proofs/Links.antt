@@ -7,38 +7,38 @@ use Rattle.std.specs.List.{slice_get}
 use Rattle.swift_types.specs.declared.id.TaskId.{TaskId}
 use Rattle.swift_types.specs.declared.outcome.Ending.{Ending}
 use Rattle.swift_groups.specs.Inside.{ended_of, places_from, places_of, last_of, AreLinked}
-use Rattle.swift_groups.specs.declared.group.Ended.{Ended}
+use Rattle.swift_groups.specs.declared.group.ChildEnding.{ChildEnding}
 use Rattle.swift_groups.proofs.Lists.{slice_get_old, slice_get_new, slice_get_push}
 
 -- an ending of the group, and one of another
-pub ended_same : (e : Ended) (es : List Ended) (i : ℕ) → e.group ≡ i → ended_of (e ∷ es) i ≡ (e.task, e.ending) ∷ ended_of es i
+pub ended_same : (e : ChildEnding) (es : List ChildEnding) (i : ℕ) → e.group ≡ i → ended_of (e ∷ es) i ≡ (e.task, e.ending) ∷ ended_of es i
 ended_same e es i h = cond-true (eqb e.group i) ((e.task, e.ending) ∷ ended_of es i) (ended_of es i) (eq-eqb e.group i h)
 
-pub ended_other : (e : Ended) (es : List Ended) (i : ℕ) → (e.group ≡ i → ⊥) → ended_of (e ∷ es) i ≡ ended_of es i
+pub ended_other : (e : ChildEnding) (es : List ChildEnding) (i : ℕ) → (e.group ≡ i → ⊥) → ended_of (e ∷ es) i ≡ ended_of es i
 ended_other e es i h = cond-false (eqb e.group i) ((e.task, e.ending) ∷ ended_of es i) (ended_of es i) (ne_eqb e.group i h)
 
-places_same : (n : ℕ) (e : Ended) (es : List Ended) (i : ℕ) → e.group ≡ i → places_from n (e ∷ es) i ≡ n ∷ places_from (suc n) es i
+places_same : (n : ℕ) (e : ChildEnding) (es : List ChildEnding) (i : ℕ) → e.group ≡ i → places_from n (e ∷ es) i ≡ n ∷ places_from (suc n) es i
 places_same n e es i h = cond-true (eqb e.group i) (n ∷ places_from (suc n) es i) (places_from (suc n) es i) (eq-eqb e.group i h)
 
-places_other : (n : ℕ) (e : Ended) (es : List Ended) (i : ℕ) → (e.group ≡ i → ⊥) → places_from n (e ∷ es) i ≡ places_from (suc n) es i
+places_other : (n : ℕ) (e : ChildEnding) (es : List ChildEnding) (i : ℕ) → (e.group ≡ i → ⊥) → places_from n (e ∷ es) i ≡ places_from (suc n) es i
 places_other n e es i h = cond-false (eqb e.group i) (n ∷ places_from (suc n) es i) (places_from (suc n) es i) (ne_eqb e.group i h)
 
 -- after a push
-pub ended_push_same : (es : List Ended) (e : Ended) (i : ℕ) → e.group ≡ i → ended_of (es ++ e ∷ []) i ≡ ended_of es i ++ (e.task, e.ending) ∷ []
+pub ended_push_same : (es : List ChildEnding) (e : ChildEnding) (i : ℕ) → e.group ≡ i → ended_of (es ++ e ∷ []) i ≡ ended_of es i ++ (e.task, e.ending) ∷ []
 ended_push_same [] e i h = ended_same e [] i h
 ended_push_same (x ∷ xs) e i h = elim (cases_eq x.group i) [
   | inl s ↦ ended_same x (xs ++ e ∷ []) i s ∙ ap (λ (l : List (TaskId × Ending)). (x.task, x.ending) ∷ l) (ended_push_same xs e i h) ∙ ap (λ (l : List (TaskId × Ending)). l ++ (e.task, e.ending) ∷ []) (sym (ended_same x xs i s))
   | inr o ↦ ended_other x (xs ++ e ∷ []) i o ∙ ended_push_same xs e i h ∙ ap (λ (l : List (TaskId × Ending)). l ++ (e.task, e.ending) ∷ []) (sym (ended_other x xs i o))
 ]
 
-pub ended_push_other : (es : List Ended) (e : Ended) (i : ℕ) → (e.group ≡ i → ⊥) → ended_of (es ++ e ∷ []) i ≡ ended_of es i
+pub ended_push_other : (es : List ChildEnding) (e : ChildEnding) (i : ℕ) → (e.group ≡ i → ⊥) → ended_of (es ++ e ∷ []) i ≡ ended_of es i
 ended_push_other [] e i h = ended_other e [] i h
 ended_push_other (x ∷ xs) e i h = elim (cases_eq x.group i) [
   | inl s ↦ ended_same x (xs ++ e ∷ []) i s ∙ ap (λ (l : List (TaskId × Ending)). (x.task, x.ending) ∷ l) (ended_push_other xs e i h) ∙ sym (ended_same x xs i s)
   | inr o ↦ ended_other x (xs ++ e ∷ []) i o ∙ ended_push_other xs e i h ∙ sym (ended_other x xs i o)
 ]
 
-places_from_push_same : (n m : ℕ) (es : List Ended) (e : Ended) (i : ℕ) → m ≡ n + length es → e.group ≡ i → places_from n (es ++ e ∷ []) i ≡ places_from n es i ++ m ∷ []
+places_from_push_same : (n m : ℕ) (es : List ChildEnding) (e : ChildEnding) (i : ℕ) → m ≡ n + length es → e.group ≡ i → places_from n (es ++ e ∷ []) i ≡ places_from n es i ++ m ∷ []
 places_from_push_same n m [] e i len h = places_same n e [] i h ∙ ap (λ (k : ℕ). k ∷ []) (let z : n ≡ m = omega (arith, len) in z)
 places_from_push_same n m (x ∷ xs) e i len h =
     let rest = places_from_push_same (suc n) m xs e i (omega (arith, len)) h in
@@ -47,20 +47,20 @@ places_from_push_same n m (x ∷ xs) e i len h =
       | inr o ↦ places_other n x (xs ++ e ∷ []) i o ∙ rest ∙ ap (λ (l : List ℕ). l ++ m ∷ []) (sym (places_other n x xs i o))
     ]
 
-places_from_push_other : (n : ℕ) (es : List Ended) (e : Ended) (i : ℕ) → (e.group ≡ i → ⊥) → places_from n (es ++ e ∷ []) i ≡ places_from n es i
+places_from_push_other : (n : ℕ) (es : List ChildEnding) (e : ChildEnding) (i : ℕ) → (e.group ≡ i → ⊥) → places_from n (es ++ e ∷ []) i ≡ places_from n es i
 places_from_push_other n [] e i h = places_other n e [] i h
 places_from_push_other n (x ∷ xs) e i h = elim (cases_eq x.group i) [
   | inl s ↦ places_same n x (xs ++ e ∷ []) i s ∙ ap (λ (l : List ℕ). n ∷ l) (places_from_push_other (suc n) xs e i h) ∙ sym (places_same n x xs i s)
   | inr o ↦ places_other n x (xs ++ e ∷ []) i o ∙ places_from_push_other (suc n) xs e i h ∙ sym (places_other n x xs i o)
 ]
 
-pub places_push_same : (es : List Ended) (e : Ended) (i : ℕ) → e.group ≡ i → places_of (es ++ e ∷ []) i ≡ places_of es i ++ length es ∷ []
+pub places_push_same : (es : List ChildEnding) (e : ChildEnding) (i : ℕ) → e.group ≡ i → places_of (es ++ e ∷ []) i ≡ places_of es i ++ length es ∷ []
 places_push_same es e i h = places_from_push_same 0 (length es) es e i (omega arith) h
 
-pub places_push_other : (es : List Ended) (e : Ended) (i : ℕ) → (e.group ≡ i → ⊥) → places_of (es ++ e ∷ []) i ≡ places_of es i
+pub places_push_other : (es : List ChildEnding) (e : ChildEnding) (i : ℕ) → (e.group ≡ i → ⊥) → places_of (es ++ e ∷ []) i ≡ places_of es i
 places_push_other es e i h = places_from_push_other 0 es e i h
 
-pub length_places : (n : ℕ) (es : List Ended) (i : ℕ) → length (places_from n es i) ≡ length (ended_of es i)
+pub length_places : (n : ℕ) (es : List ChildEnding) (i : ℕ) → length (places_from n es i) ≡ length (ended_of es i)
 length_places n [] i = refl
 length_places n (x ∷ xs) i = elim (cases_eq x.group i) [
   | inl s ↦ ap length (places_same n x xs i s) ∙ ap suc (length_places (suc n) xs i) ∙ sym (ap length (ended_same x xs i s))
@@ -68,15 +68,15 @@ length_places n (x ∷ xs) i = elim (cases_eq x.group i) [
 ]
 
 -- the ending at the r-th place of a group
-pub record EndingAt (n : ℕ) (es : List Ended) (i r k : ℕ) : Type 0 where
+pub record EndingAt (n : ℕ) (es : List ChildEnding) (i r k : ℕ) : Type 0 where
   pub place : ℕ
-  pub ending : Ended
+  pub ending : ChildEnding
   pub is_place : k ≡ n + place
   pub there : slice_get es place ≡ Some ending
   pub group : ending.group ≡ i
   pub listed : slice_get (ended_of es i) r ≡ Some (ending.task, ending.ending)
 
-ending_next : (n : ℕ) (x : Ended) (es : List Ended) (i r s k : ℕ) → slice_get (ended_of (x ∷ es) i) s ≡ slice_get (ended_of es i) r → EndingAt (suc n) es i r k → EndingAt n (x ∷ es) i s k
+ending_next : (n : ℕ) (x : ChildEnding) (es : List ChildEnding) (i r s k : ℕ) → slice_get (ended_of (x ∷ es) i) s ≡ slice_get (ended_of es i) r → EndingAt (suc n) es i r k → EndingAt n (x ∷ es) i s k
 ending_next n x es i r s k same a = let p = a.is_place in record {
   place = suc a.place;
   ending = a.ending;
@@ -86,7 +86,7 @@ ending_next n x es i r s k same a = let p = a.is_place in record {
   listed = same ∙ a.listed;
 }
 
-pub ending_from : (n : ℕ) (es : List Ended) (i r k : ℕ) → slice_get (places_from n es i) r ≡ Some k → EndingAt n es i r k
+pub ending_from : (n : ℕ) (es : List ChildEnding) (i r k : ℕ) → slice_get (places_from n es i) r ≡ Some k → EndingAt n es i r k
 ending_from n [] i r k h = absurd (cc h)
 ending_from n (x ∷ xs) i zero k h = elim (cases_eq x.group i) [
   | inl s ↦ let at : n ≡ k = same_Some n k (sym (ap (λ (l : List ℕ). slice_get l 0) (places_same n x xs i s)) ∙ h) in
@@ -102,18 +102,18 @@ ending_from n (x ∷ xs) i (suc r) k h = elim (cases_eq x.group i) [
 ]
 
 -- places are within the endings, and each is of one group and one rank
-pub place_within : (es : List Ended) (i r k : ℕ) → slice_get (places_of es i) r ≡ Some k → k < length es
+pub place_within : (es : List ChildEnding) (i r k : ℕ) → slice_get (places_of es i) r ≡ Some k → k < length es
 place_within es i r k h = let a = ending_from 0 es i r k h in let p = a.is_place in let w = slice_get_within es a.place a.ending a.there in omega (arith, p, w)
 
-place_group : (es : List Ended) (i j r s k : ℕ) → slice_get (places_of es i) r ≡ Some k → slice_get (places_of es j) s ≡ Some k → i ≡ j
+place_group : (es : List ChildEnding) (i j r s k : ℕ) → slice_get (places_of es i) r ≡ Some k → slice_get (places_of es j) s ≡ Some k → i ≡ j
 place_group es i j r s k h g =
     let a = ending_from 0 es i r k h in let b = ending_from 0 es j s k g in
     let p = a.is_place in let q = b.is_place in
     let at : a.place ≡ b.place = omega (arith, p, q) in
     let same : a.ending ≡ b.ending = same_Some a.ending b.ending (sym a.there ∙ ap (λ (m : ℕ). slice_get es m) at ∙ b.there) in
-    sym a.group ∙ ap (λ (e : Ended). e.group) same ∙ b.group
+    sym a.group ∙ ap (λ (e : ChildEnding). e.group) same ∙ b.group
 
-place_rank : (n : ℕ) (es : List Ended) (i r s k : ℕ) → slice_get (places_from n es i) r ≡ Some k → slice_get (places_from n es i) s ≡ Some k → r ≡ s
+place_rank : (n : ℕ) (es : List ChildEnding) (i r s k : ℕ) → slice_get (places_from n es i) r ≡ Some k → slice_get (places_from n es i) s ≡ Some k → r ≡ s
 place_rank n [] i r s k h g = absurd (cc h)
 place_rank n (x ∷ xs) i zero zero k h g = refl
 place_rank n (x ∷ xs) i zero (suc s) k h g = elim (cases_eq x.group i) [
@@ -134,7 +134,7 @@ place_rank n (x ∷ xs) i (suc r) (suc s) k h g = elim (cases_eq x.group i) [
 ]
 
 -- after a push, where the place of the new ending was written at the one that was the last of its group
-pub linked_push : (es : List Ended) (e : Ended) (after after' : List (Option ℕ)) → AreLinked es after → length after' ≡ suc (length es)
+pub linked_push : (es : List ChildEnding) (e : ChildEnding) (after after' : List (Option ℕ)) → AreLinked es after → length after' ≡ suc (length es)
     → ((k : ℕ) → k < length es → (last_of (places_of es e.group) ≡ Some k → ⊥) → get_or after' k None ≡ get_or after k None)
     → ((k : ℕ) → last_of (places_of es e.group) ≡ Some k → get_or after' k None ≡ Some (length es))
     → get_or after' (length es) None ≡ None → AreLinked (es ++ e ∷ []) after'
@@ -172,7 +172,7 @@ linked_push es e after after' linked len old link new = record {
 }
 
 -- the first ending of its group
-pub linked_first : (es es' : List Ended) (e : Ended) (after after' : List (Option ℕ)) → es' ≡ es ++ e ∷ [] → after' ≡ after ++ None ∷ [] → AreLinked es after → last_of (places_of es e.group) ≡ None
+pub linked_first : (es es' : List ChildEnding) (e : ChildEnding) (after after' : List (Option ℕ)) → es' ≡ es ++ e ∷ [] → after' ≡ after ++ None ∷ [] → AreLinked es after → last_of (places_of es e.group) ≡ None
     → AreLinked es' after'
 linked_first es es' e after after' shown shown' linked none =
     let len = length_push {X = Option ℕ} after None in let same = linked.same in
@@ -180,10 +180,10 @@ linked_first es es' e after after' shown shown' linked none =
     (λ k h _. get_or_append_left after (None ∷ []) None k (omega (arith, h, same)))
     (λ k h. absurd (none-some k (sym none ∙ h)))
     (get_or_push after None None (length es) same) in
-    subst (λ (s : List Ended). AreLinked s after') (sym shown) (subst (λ (s : List (Option ℕ)). AreLinked (es ++ e ∷ []) s) (sym shown') all)
+    subst (λ (s : List ChildEnding). AreLinked s after') (sym shown) (subst (λ (s : List (Option ℕ)). AreLinked (es ++ e ∷ []) s) (sym shown') all)
 
 -- a later one
-pub linked_later : (es es' : List Ended) (e : Ended) (after after' : List (Option ℕ)) (b n : ℕ) → es' ≡ es ++ e ∷ [] → after' ≡ after ++ None ∷ [] → n ≡ length es → AreLinked es after
+pub linked_later : (es es' : List ChildEnding) (e : ChildEnding) (after after' : List (Option ℕ)) (b n : ℕ) → es' ≡ es ++ e ∷ [] → after' ≡ after ++ None ∷ [] → n ≡ length es → AreLinked es after
     → last_of (places_of es e.group) ≡ Some b → AreLinked es' (set after' b (Some n))
 linked_later es es' e after after' b n shown shown' at linked last =
     let len = length_push {X = Option ℕ} after None in let same = linked.same in
@@ -195,5 +195,5 @@ linked_later es es' e after after' b n shown shown' at linked last =
     (λ k h. let q : k ≡ b = same_Some k b (sym h ∙ last) in ap (λ (m : ℕ). get_or (set base b (Some (length es))) m None) q ∙ get_or-set_same base b (Some (length es)) None (omega (arith, len, same, within)))
     (get_or-set_other base b (length es) (Some (length es)) None (λ (q : length es ≡ b). absurd (omega (arith, q, within))) ∙ get_or_push after None None (length es) same) in
     subst (λ (m : ℕ). AreLinked es' (set after' b (Some m))) (sym at)
-    (subst (λ (s : List Ended). AreLinked s (set after' b (Some (length es)))) (sym shown)
+    (subst (λ (s : List ChildEnding). AreLinked s (set after' b (Some (length es)))) (sym shown)
     (subst (λ (s : List (Option ℕ)). AreLinked (es ++ e ∷ []) (set s b (Some (length es)))) (sym shown') all))

@@ -6,11 +6,11 @@ use Rattle.std.proofs.lemmas.Option.{slice_get_within, get_or_from_slice_get}
 use Rattle.std.specs.List.{slice_get}
 use Rattle.swift_types.specs.declared.id.TaskId.{TaskId}
 use Rattle.swift_types.specs.declared.outcome.Ending.{Ending}
-use Rattle.swift_groups.specs.declared.answer.Next.TheVariants.{Result, Wait, Empty}
+use Rattle.swift_groups.specs.declared.answer.NextResult.TheVariants.{Result, Wait, Empty}
 use Rattle.swift_groups.specs.declared.answer.Close.TheVariants.{Done, Wait as NotYet}
-use Rattle.swift_groups.specs.declared.group.Stage.TheVariants.{Closing, Done as Ended}
+use Rattle.swift_groups.specs.declared.group.GroupStage.TheVariants.{Closing, Done as Ended}
 use Rattle.swift_groups.specs.declared.group.Group.{Group}
-use Rattle.swift_groups.specs.declared.group.Ended.{Ended as EndedChild}
+use Rattle.swift_groups.specs.declared.group.ChildEnding.{ChildEnding as EndedChild}
 use Rattle.swift_groups.specs.Groups.{unfinished_of}
 use Rattle.swift_groups.specs.Next.{next_of, next_among, handed_after, handed_on}
 use Rattle.swift_groups.specs.Close.{close_of, close_among, stage_among, closed_on}

@@ -6,10 +6,10 @@ use Rattle.swift_types.specs.declared.id.TaskId.{TaskId}
 use Rattle.swift_types.specs.declared.outcome.Ending.{Ending}
 use Rattle.swift_groups.specs.declared.answer.GroupId.{GroupId}
 use Rattle.swift_groups.specs.declared.fault.GroupFault.{GroupFault}
-use Rattle.swift_groups.specs.declared.group.Stage.{Stage}
-use Rattle.swift_groups.specs.declared.group.Stage.TheVariants.{Open, Closing, Done}
+use Rattle.swift_groups.specs.declared.group.GroupStage.{GroupStage}
+use Rattle.swift_groups.specs.declared.group.GroupStage.TheVariants.{Open, Closing, Done}
 use Rattle.swift_groups.specs.declared.group.Group.{Group}
-use Rattle.swift_groups.specs.Groups.{GroupIs}
+use Rattle.swift_groups.specs.Groups.{GroupView}
 use Rattle.swift_groups.specs.Answers.{if_open, if_live, any_group, open_group, live_group, any_if_opened, open_if_opened, live_if_opened}
 use Rattle.swift_groups.specs.Inside.{known_in, open_in, live_in, known_found, open_found, live_found}
 use Rattle.swift_groups.specs.GroupsInside.{group_is, groups_from}
@@ -25,7 +25,7 @@ view_same [] a a' e e' h k = refl
 view_same (g ∷ gs) a a' e e' h k =
     ap (λ (x : List TaskId). group_is g x (e 0) ∷ groups_from gs (λ i. a (suc i)) (λ i. e (suc i))) (h 0)
     ∙ ap (λ (x : List (TaskId × Ending)). group_is g (a' 0) x ∷ groups_from gs (λ i. a (suc i)) (λ i. e (suc i))) (k 0)
-    ∙ ap (λ (x : List GroupIs). group_is g (a' 0) (e' 0) ∷ x) (view_same gs (λ i. a (suc i)) (λ i. a' (suc i)) (λ i. e (suc i)) (λ i. e' (suc i)) (λ i. h (suc i)) (λ i. k (suc i)))
+    ∙ ap (λ (x : List GroupView). group_is g (a' 0) (e' 0) ∷ x) (view_same gs (λ i. a (suc i)) (λ i. a' (suc i)) (λ i. e (suc i)) (λ i. e' (suc i)) (λ i. h (suc i)) (λ i. k (suc i)))
 
 pub length_view : (gs : List Group) (a : Added) (e : Endings) → length (groups_from gs a e) ≡ length gs
 length_view [] a e = refl
@@ -33,18 +33,18 @@ length_view (g ∷ gs) a e = ap suc (length_view gs (λ i. a (suc i)) (λ i. e (
 
 pub view_push : (gs : List Group) (g : Group) (a : Added) (e : Endings) → groups_from (gs ++ g ∷ []) a e ≡ groups_from gs a e ++ group_is g (a (length gs)) (e (length gs)) ∷ []
 view_push [] g a e = refl
-view_push (x ∷ xs) g a e = ap (λ (s : List GroupIs). group_is x (a 0) (e 0) ∷ s) (view_push xs g (λ i. a (suc i)) (λ i. e (suc i)))
+view_push (x ∷ xs) g a e = ap (λ (s : List GroupView). group_is x (a 0) (e 0) ∷ s) (view_push xs g (λ i. a (suc i)) (λ i. e (suc i)))
 
 pub view_set : (gs : List Group) (i : ℕ) (g : Group) (a a' : Added) (e e' : Endings) → i < length gs → ((j : ℕ) → (j ≡ i → ⊥) → a' j ≡ a j) → ((j : ℕ) → (j ≡ i → ⊥) → e' j ≡ e j)
     → groups_from (set gs i g) a' e' ≡ set (groups_from gs a e) i (group_is g (a' i) (e' i))
 view_set [] i g a a' e e' h k l = absurd (omega (arith, h))
 view_set (x ∷ xs) zero g a a' e e' h k l =
-    ap (λ (s : List GroupIs). group_is g (a' 0) (e' 0) ∷ s)
+    ap (λ (s : List GroupView). group_is g (a' 0) (e' 0) ∷ s)
     (view_same xs (λ i. a' (suc i)) (λ i. a (suc i)) (λ i. e' (suc i)) (λ i. e (suc i)) (λ i. k (suc i) (λ (q : suc i ≡ 0). absurd (omega (arith, q)))) (λ i. l (suc i) (λ (q : suc i ≡ 0). absurd (omega (arith, q)))))
 view_set (x ∷ xs) (suc i) g a a' e e' h k l =
     ap (λ (y : List TaskId). group_is x y (e' 0) ∷ groups_from (set xs i g) (λ j. a' (suc j)) (λ j. e' (suc j))) (k 0 (λ (q : 0 ≡ suc i). absurd (omega (arith, q))))
     ∙ ap (λ (y : List (TaskId × Ending)). group_is x (a 0) y ∷ groups_from (set xs i g) (λ j. a' (suc j)) (λ j. e' (suc j))) (l 0 (λ (q : 0 ≡ suc i). absurd (omega (arith, q))))
-    ∙ ap (λ (s : List GroupIs). group_is x (a 0) (e 0) ∷ s)
+    ∙ ap (λ (s : List GroupView). group_is x (a 0) (e 0) ∷ s)
     (view_set xs i g (λ j. a (suc j)) (λ j. a' (suc j)) (λ j. e (suc j)) (λ j. e' (suc j)) (omega (arith, h)) (λ j n. k (suc j) (λ (q : suc j ≡ suc i). n (omega (arith, q)))) (λ j n. l (suc j) (λ (q : suc j ≡ suc i). n (omega (arith, q)))))
 
 view_some : (gs : List Group) (a : Added) (e : Endings) (i : ℕ) (g : Group) → slice_get gs i ≡ Some g → slice_get (groups_from gs a e) i ≡ Some (group_is g (a i) (e i))
@@ -58,16 +58,16 @@ view_none (x ∷ xs) a e zero h = absurd (cc h)
 view_none (x ∷ xs) a e (suc i) h = view_none xs (λ j. a (suc j)) (λ j. e (suc j)) i h
 
 -- what a call finds under a number
-abbrev shown : List TaskId → List (TaskId × Ending) → Result Group GroupFault → Result GroupIs GroupFault
+abbrev shown : List TaskId → List (TaskId × Ending) → Result Group GroupFault → Result GroupView GroupFault
 shown a e (Ok g) = Ok (group_is g a e)
 shown a e (Err f) = Err f
 
-shown_open : (s : Stage) (g : Group) (a : List TaskId) (e : List (TaskId × Ending)) → if_open s (group_is g a e) ≡ shown a e (if_open s g)
+shown_open : (s : GroupStage) (g : Group) (a : List TaskId) (e : List (TaskId × Ending)) → if_open s (group_is g a e) ≡ shown a e (if_open s g)
 shown_open Open g a e = refl
 shown_open Closing g a e = refl
 shown_open Done g a e = refl
 
-shown_live : (s : Stage) (g : Group) (a : List TaskId) (e : List (TaskId × Ending)) → if_live s (group_is g a e) ≡ shown a e (if_live s g)
+shown_live : (s : GroupStage) (g : Group) (a : List TaskId) (e : List (TaskId × Ending)) → if_live s (group_is g a e) ≡ shown a e (if_live s g)
 shown_live Open g a e = refl
 shown_live Closing g a e = refl
 shown_live Done g a e = refl
@@ -110,12 +110,12 @@ pub live_err : (gs : List Group) (a : Added) (e : Endings) (id : GroupId) (f : G
 live_err gs a e id f h = live_view gs a e id ∙ ap (shown (a id.0) (e id.0)) h
 
 -- a group that was found stands under its number
-stage_open : (s : Stage) (g x : Group) → if_open s g ≡ Ok x → g ≡ x
+stage_open : (s : GroupStage) (g x : Group) → if_open s g ≡ Ok x → g ≡ x
 stage_open Open g x h = cc h
 stage_open Closing g x h = absurd (cc h)
 stage_open Done g x h = absurd (cc h)
 
-stage_live : (s : Stage) (g x : Group) → if_live s g ≡ Ok x → g ≡ x
+stage_live : (s : GroupStage) (g x : Group) → if_live s g ≡ Ok x → g ≡ x
 stage_live Open g x h = cc h
 stage_live Closing g x h = cc h
 stage_live Done g x h = absurd (cc h)

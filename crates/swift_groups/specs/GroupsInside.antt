@@ -6,22 +6,22 @@ use Rattle.swift_types.specs.declared.id.TaskId.{TaskId}
 use Rattle.swift_types.specs.declared.outcome.Ending.{Ending}
 use Rattle.swift_groups.specs.declared.group.Group.{Group}
 use Rattle.swift_groups.specs.declared.group.Child.{Child}
-use Rattle.swift_groups.specs.declared.group.Ended.{Ended}
-use Rattle.swift_groups.specs.Groups.{GroupIs, GroupsIs, is_among, has_ended, unfinished_of}
+use Rattle.swift_groups.specs.declared.group.ChildEnding.{ChildEnding}
+use Rattle.swift_groups.specs.Groups.{GroupView, GroupsView, is_among, has_ended, unfinished_of}
 use Rattle.swift_groups.specs.Inside.{added_of, ended_of, places_of, last_of, AreLinked}
 use Rattle.swift_groups.specs.Keys.{same_key}
 use Rattle.swift_groups.specs.declared.groups.Groups.TheInside.{Inside}
 
 -- A group with its children and endings.
-abbrev pub group_is : Group → List TaskId → List (TaskId × Ending) → GroupIs
+abbrev pub group_is : Group → List TaskId → List (TaskId × Ending) → GroupView
 group_is g added ended = record { owner = g.owner; added = added; ended = ended; handed = g.handed; cancelled = g.cancelled; stage = g.stage }
 
 -- The groups from a number on, where the first has the children and endings of the number 0.
-abbrev pub groups_from : List Group → (ℕ → List TaskId) → (ℕ → List (TaskId × Ending)) → List GroupIs
+abbrev pub groups_from : List Group → (ℕ → List TaskId) → (ℕ → List (TaskId × Ending)) → List GroupView
 groups_from [] added ended = []
 groups_from (g ∷ gs) added ended = group_is g (added 0) (ended 0) ∷ groups_from gs (λ i. added (suc i)) (λ i. ended (suc i))
 
-abbrev pub groups_view : Inside → GroupsIs
+abbrev pub groups_view : Inside → GroupsView
 groups_view w = record { groups = groups_from w.groups.items (added_of w.children.items) (ended_of w.endings.items); reserved = w.room }
 
 -- Whether a task is no child, an unfinished one, or one that ended.
@@ -37,7 +37,7 @@ pub record IsGroup (g : Group) (added : List TaskId) (ended : List (TaskId × En
   pub known : (t : TaskId) → has_ended ended t ≡ true → is_among added t ≡ true
   pub once : (t : TaskId) → count_by (λ u. u.0 == t.0) added ≤ 1
 
-pub record AreGroups (groups : List Group) (children : List Child) (endings : List Ended) (mark : ℕ → TaskId → Option Bool) : Type 0 where
+pub record AreGroups (groups : List Group) (children : List Child) (endings : List ChildEnding) (mark : ℕ → TaskId → Option Bool) : Type 0 where
   pub each : (i : ℕ) (g : Group) → slice_get groups i ≡ Some g → IsGroup g (added_of children i) (ended_of endings i) (places_of endings i)
   pub none_added : (i : ℕ) → length groups ≤ i → added_of children i ≡ []
   pub none_ended : (i : ℕ) → length groups ≤ i → ended_of endings i ≡ []

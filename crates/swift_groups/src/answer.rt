@@ -8,7 +8,7 @@ pub struct GroupId(pub usize);
 
 /// What a wait for the next result of a group gives (SE-0304).
 #[derive(Clone, Copy)]
-pub enum Next {
+pub enum NextResult {
     /// A child that ended and was not handed out before, with its ending.
     Result(TaskId, Ending),
     /// Each ending was handed out, and a child has not ended yet.

@@ -12,7 +12,7 @@ use swift_types::{Ending, TaskId};
 
 /// How far a group is. No call takes or gives one: contracts speak of it.
 #[derive(Clone, Copy)]
-pub enum Stage {
+pub enum GroupStage {
     /// It takes children and hands out results.
     Open,
     /// A `close` came while a child had not ended.
@@ -26,7 +26,7 @@ pub enum Stage {
 pub struct Group {
     pub owner: TaskId,
     pub cancelled: bool,
-    pub stage: Stage,
+    pub stage: GroupStage,
     /// How many children have not ended.
     pub unfinished: usize,
     /// How many endings were handed out.
@@ -46,7 +46,7 @@ pub struct Child {
 
 /// The ending of a child of a group.
 #[derive(Clone, Copy)]
-pub struct Ended {
+pub struct ChildEnding {
     pub group: usize,
     pub task: TaskId,
     pub ending: Ending,
@@ -60,8 +60,8 @@ pub(crate) fn open_group(groups: &[Group], group: GroupId) -> Result<Group, Grou
         return Err(GroupFault::Unknown);
     };
     match found.stage {
-        Stage::Open => Ok(*found),
-        Stage::Closing | Stage::Done => Err(GroupFault::Closed),
+        GroupStage::Open => Ok(*found),
+        GroupStage::Closing | GroupStage::Done => Err(GroupFault::Closed),
     }
 }
 
@@ -73,8 +73,8 @@ pub(crate) fn live_group(groups: &[Group], group: GroupId) -> Result<Group, Grou
         return Err(GroupFault::Unknown);
     };
     match found.stage {
-        Stage::Open | Stage::Closing => Ok(*found),
-        Stage::Done => Err(GroupFault::Closed),
+        GroupStage::Open | GroupStage::Closing => Ok(*found),
+        GroupStage::Done => Err(GroupFault::Closed),
     }
 }
 

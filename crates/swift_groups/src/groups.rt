@@ -2,11 +2,11 @@
 
 ghost use Rattle.std.specs.Prelude.{◌≡◌, ◌≢◌, ◌+◌, ◌-◌, ◌<◌, ◌≤◌, [], ◌∷◌, ◌++◌, max, length, Ok, Err, OnOk, OnErr, IsOk, IfOk};
 
-use crate::answer::{Close, GroupId, Next};
+use crate::answer::{Close, GroupId, NextResult};
 use crate::fault::GroupFault;
 use crate::group::{
-    Child, Ended, Group, Stage, is_unfinished, known_group, live_group, mark_ended, mark_in,
-    open_group,
+    Child, ChildEnding, Group, GroupStage, is_unfinished, known_group, live_group, mark_ended,
+    mark_in, open_group,
 };
 use crate::queue::enqueue;
 use crate::room::{make_room_for_children, make_room_for_endings};
@@ -28,7 +28,7 @@ pub struct Groups {
     // Whether a child has ended, by its group and task.
     marks: HashMap<(usize, TaskId), bool>,
     // The endings of all groups, in order.
-    endings: Vec<Ended>,
+    endings: Vec<ChildEnding>,
     // By an ending's place: the place of the next one of its group.
     after: Vec<Option<usize>>,
     // How many more calls of `open` and `add` find memory for sure.
@@ -54,9 +54,9 @@ impl Drop for Groups {
 }
 
 impl Model for Groups {
-    ghost use Rattle.swift_groups.specs.Groups.{GroupsIs};
+    ghost use Rattle.swift_groups.specs.Groups.{GroupsView};
 
-    ghost Value = { GroupsIs };
+    ghost Value = { GroupsView };
 
     ghost use Rattle.swift_groups.specs.GroupsInside.{groups_view, IsGroups};
 
@@ -138,7 +138,7 @@ impl Groups {
         let group = Group {
             owner,
             cancelled: false,
-            stage: Stage::Open,
+            stage: GroupStage::Open,
             unfinished: 0,
             handed: 0,
             first: None,
@@ -222,7 +222,7 @@ impl Groups {
             &mut self.endings,
             &mut self.after,
             found.last,
-            Ended {
+            ChildEnding {
                 group: group.0,
                 task: child,
                 ending,
@@ -240,16 +240,16 @@ impl Groups {
 
     /// Hands out the next result of an open group: the first child that ended and was not handed out, with its
     /// ending (SE-0304). G1, and G2 from the first `close` on. Takes no memory.
-    pub fn next(&mut self, group: GroupId) -> Result<Next, GroupFault>
+    pub fn next(&mut self, group: GroupId) -> Result<NextResult, GroupFault>
         ensures result { result ≡ answer next_of (open_group self.old.groups group) }
         ensures after { self.new ≡ record self.old { groups = groups_after handed_on self.old.groups group (open_group self.old.groups group) } }
     {
         let found = open_group(&self.groups, group)?;
         let Some(first) = found.first else {
             if found.unfinished == 0 {
-                return Ok(Next::Empty);
+                return Ok(NextResult::Empty);
             }
-            return Ok(Next::Wait);
+            return Ok(NextResult::Wait);
         };
         let ended = self.endings[first];
         self.groups[group.0] = Group {
@@ -257,21 +257,21 @@ impl Groups {
             first: self.after[first],
             ..found
         };
-        Ok(Next::Result(ended.task, ended.ending))
+        Ok(NextResult::Result(ended.task, ended.ending))
     }
 
     /// What `next` would answer of an open group; nothing is handed out. G1, and G2 from the first `close` on.
-    pub fn peek_next(&self, group: GroupId) -> Result<Next, GroupFault>
+    pub fn peek_next(&self, group: GroupId) -> Result<NextResult, GroupFault>
         ensures { result ≡ answer next_of (open_group self.now.groups group) }
     {
         let found = open_group(&self.groups, group)?;
         match found.first {
             Some(first) => {
-                let Ended { task, ending, .. } = self.endings[first];
-                Ok(Next::Result(task, ending))
+                let ChildEnding { task, ending, .. } = self.endings[first];
+                Ok(NextResult::Result(task, ending))
             }
-            None if found.unfinished == 0 => Ok(Next::Empty),
-            None => Ok(Next::Wait),
+            None if found.unfinished == 0 => Ok(NextResult::Empty),
+            None => Ok(NextResult::Wait),
         }
     }
 
@@ -318,13 +318,13 @@ impl Groups {
         let found = live_group(&self.groups, group)?;
         if found.unfinished == 0 {
             self.groups[group.0] = Group {
-                stage: Stage::Done,
+                stage: GroupStage::Done,
                 ..found
             };
             return Ok(Close::Done);
         }
         self.groups[group.0] = Group {
-            stage: Stage::Closing,
+            stage: GroupStage::Closing,
             ..found
         };
         Ok(Close::Wait)

@@ -8,7 +8,7 @@ mod groups;
 mod queue;
 mod room;
 
-pub use answer::{Close, GroupId, Next};
+pub use answer::{Close, GroupId, NextResult};
 pub use fault::GroupFault;
-pub use group::Stage;
+pub use group::GroupStage;
 pub use groups::Groups;

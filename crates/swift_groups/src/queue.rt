@@ -3,14 +3,14 @@
 ghost use Rattle.std.specs.Prelude.{◌≡◌, ℕ, ◌+◌, ◌≤◌, ◌<◌, [], ◌∷◌, ◌++◌, vec_len, vec_capacity};
 ghost use Rattle.swift_groups.specs.Inside.{AreLinked, last_of, places_of};
 
-use crate::group::Ended;
+use crate::group::ChildEnding;
 
 /// Puts an ending after the others, as the last of its group, and links it to the one that was the last before.
 pub(crate) fn enqueue(
-    endings: &mut Vec<Ended>,
+    endings: &mut Vec<ChildEnding>,
     after: &mut Vec<Option<usize>>,
     last: Option<usize>,
-    ended: Ended,
+    ended: ChildEnding,
 )
     requires linked { AreLinked endings.old.items after.old.items }
     requires last { last ≡ last_of (places_of endings.old.items ended.group) }

@@ -4,7 +4,7 @@ ghost use Rattle.std.specs.Prelude.{◌≡◌, ℕ, ◌+◌, ◌-◌, ◌≤◌,
 ghost use Rattle.std.specs.HashMap.{get, spare};
 ghost use Rattle.swift_groups.specs.Keys.{same_key};
 
-use crate::group::{Child, Ended};
+use crate::group::{Child, ChildEnding};
 use std::alloc::AllocError;
 use std::collections::HashMap;
 use swift_types::TaskId;
@@ -30,7 +30,7 @@ pub(crate) fn make_room_for_children(
 /// Makes room for this many endings in all, or refuses.
 pub(crate) fn make_room_for_endings(
     all: usize,
-    endings: &mut Vec<Ended>,
+    endings: &mut Vec<ChildEnding>,
     after: &mut Vec<Option<usize>>,
 ) -> Result<(), AllocError>
     requires after { vec_len after.old ≡ vec_len endings.old }

@@ -10,9 +10,9 @@ use Rattle.swift_interpreter.specs.declared.effect.TaskName.{TaskName}
 use Rattle.swift_interpreter.specs.declared.effect.TaskName.TheVariants.{Root, Own}
 use Rattle.swift_interpreter.specs.Turn.{InvocationView, EffectView, spawning, detaching, opening, adding, cancelling_task, cancelling_group, ExitView, calling, waiting, asking_next, closing}
 use Rattle.swift_events.specs.declared.event.Event.{Event}
-use Rattle.swift_events.specs.declared.life.Given.{Given}
-use Rattle.swift_events.specs.declared.life.Stage.{Stage}
-use Rattle.swift_events.specs.declared.life.Stage.TheVariants as stage
+use Rattle.swift_events.specs.declared.life.LastJob.{LastJob}
+use Rattle.swift_events.specs.declared.life.JobStage.{JobStage}
+use Rattle.swift_events.specs.declared.life.JobStage.TheVariants as stage
 use Rattle.swift_events.specs.declared.life.Life.{Life}
 use Rattle.swift_events.specs.Lives.{life_of}
 use Rattle.swift_events.specs.Relations.{is_closed, own_tasks, opened_by}
@@ -40,17 +40,17 @@ same_resume (resume.Fault f) (resume.Fault g) = same_fault f g
 same_resume _ _ = false
 
 -- this number and resume were given last
-abbrev pub was_given : Option Given → ℕ → Resume → Bool
+abbrev pub was_given : Option LastJob → ℕ → Resume → Bool
 was_given None n resume = false
 was_given (Some g) n resume = (g.number == n) && same_resume g.resume resume
 
 -- a turn that was not applied yet
-abbrev pub is_under_way : Option Stage → Bool
+abbrev pub is_under_way : Option JobStage → Bool
 is_under_way (Some stage.Given) = true
 is_under_way (Some (stage.Begun env)) = true
 is_under_way _ = false
 
-abbrev pub is_begun : Option Stage → Bool
+abbrev pub is_begun : Option JobStage → Bool
 is_begun (Some (stage.Begun env)) = true
 is_begun _ = false
 

@@ -5,7 +5,7 @@ use Rattle.std.specs.List.{filter_map, range_with_len}
 use Rattle.swift_types.specs.declared.priority.Priority.{Priority}
 use Rattle.swift_types.specs.declared.priority.Priority.TheVariants.{Background}
 use Rattle.swift_types.specs.declared.outcome.Ending.{Ending}
-use Rattle.script_code.specs.declared.env.Env.{Env}
+use Rattle.swift_types.specs.declared.env.Env.{Env}
 use Rattle.swift_script.specs.Scripts.{ScriptView, root_count, executor_count, executor_start, actor_executor, method_actor}
 use Rattle.swift_interpreter.specs.Frames.{FrameView}
 use Rattle.swift_interpreter.specs.Turn.{EffectView, spawning, detaching, opening, ExitView, returning, failing}
@@ -16,14 +16,14 @@ use Rattle.swift_journal.specs.Replay.{replay, IsLawfulRecord}
 use Rattle.swift_events.specs.declared.event.Event.{Event}
 use Rattle.swift_events.specs.declared.event.Event.TheVariants.{Begin}
 use Rattle.swift_events.specs.declared.life.Origin.{Origin}
-use Rattle.swift_events.specs.declared.life.Stage.{Stage}
-use Rattle.swift_events.specs.declared.life.Stage.TheVariants.{Begun}
+use Rattle.swift_events.specs.declared.life.JobStage.{JobStage}
+use Rattle.swift_events.specs.declared.life.JobStage.TheVariants.{Begun}
 use Rattle.swift_events.specs.Events.{tasks_of}
 use Rattle.swift_events.specs.Lives.{life_of}
 use Rattle.swift_events.specs.Relations.{opened_by, is_closed}
 use Rattle.swift_events.specs.Room.{IsEnv}
 use Rattle.swift_history.specs.Checks.{is_current, counters, fits_turn}
-use Rattle.swift_history.specs.TurnEnds.{JobView, HeldView, TurnEnd, task, root_job, root_events, turn_end}
+use Rattle.swift_history.specs.TurnEnds.{JobFacts, WaitingTaskView, TurnEnd, task, root_job, root_events, turn_end}
 
 -- what a history is made of
 pub data Block : Type 0 where
@@ -39,19 +39,19 @@ pub data Block : Type 0 where
 -- where a history leads: the log, the tasks that wait, and for each other task its job
 pub record Standing : Type 0 where
   pub log : List Event
-  pub held : List (Option HeldView)
-  pub jobs : ℕ → Option JobView
+  pub held : List (Option WaitingTaskView)
+  pub jobs : ℕ → Option JobFacts
 
 abbrev pub at_first : ScriptView → Standing
 at_first script = record { log = []; held = replicate (root_count script) None; jobs = λ t. None }
 
 -- jobs are made
-abbrev pub with_jobs : List JobView → (ℕ → Option JobView) → ℕ → Option JobView
+abbrev pub with_jobs : List JobFacts → (ℕ → Option JobFacts) → ℕ → Option JobFacts
 with_jobs [] jobs t = jobs t
 with_jobs (j ∷ js) jobs t = with_jobs js (λ u. if u == j.task then Some j else jobs u) t
 
 -- a task's job is taken
-abbrev pub taken : ℕ → (ℕ → Option JobView) → ℕ → Option JobView
+abbrev pub taken : ℕ → (ℕ → Option JobFacts) → ℕ → Option JobFacts
 taken t jobs u = if u == t then None else jobs u
 
 -- how many tasks of its own, and how many groups, an effect adds to its task's counts
@@ -83,7 +83,7 @@ LeavesFrame p effects exit (Some after) =
     (IsLeft exit → ⊥) × (after.made ≡ p.made + count_by makes_own effects) × (after.opened ≡ p.opened + count_by opens_group effects)
 
 -- the priority of a task in the turn that it has begun
-abbrev pub begun_priority : Option Stage → Priority
+abbrev pub begun_priority : Option JobStage → Priority
 begun_priority (Some (Begun env)) = env.priority
 begun_priority _ = Background
 
@@ -94,7 +94,7 @@ frames_applied script s t n (p ∷ callers) outer effects exit after =
     let e = turn_end script s.log s.held t n (begun_priority (life_of t s.log).stage) effects exit (advanced script (left_as p effects after) callers outer exit) in
     record { log = e.log; held = e.held; jobs = with_jobs e.jobs (taken t s.jobs) }
 
-abbrev pub job_applied : ScriptView → Standing → ℕ → ℕ → Option JobView → List EffectView → ExitView → Option FrameView → Standing
+abbrev pub job_applied : ScriptView → Standing → ℕ → ℕ → Option JobFacts → List EffectView → ExitView → Option FrameView → Standing
 job_applied script s t n None effects exit after = s
 job_applied script s t n (Some j) effects exit after = frames_applied script s t n j.frames.frames j.frames.outer effects exit after
 
@@ -137,7 +137,7 @@ roots_of bs = filter_map root_in bs
 
 -- A turn of a task that has begun, by its job and its environment; its effects and its exit fit, and the frame that runs is of
 -- an actor of this executor.
-pub record TurnStands (script : ScriptView) (s : Standing) (executor t n : ℕ) (effects : List EffectView) (exit : ExitView) (job : JobView) (env : Env) (frame : FrameView) : Type 0 where
+pub record TurnStands (script : ScriptView) (s : Standing) (executor t n : ℕ) (effects : List EffectView) (exit : ExitView) (job : JobFacts) (env : Env) (frame : FrameView) : Type 0 where
   pub given : s.jobs t ≡ Some job
   pub number : job.number ≡ n
   pub current : is_current (life_of t s.log) n job.resume ≡ true
@@ -148,7 +148,7 @@ pub record TurnStands (script : ScriptView) (s : Standing) (executor t n : ℕ) 
 
 -- A recorded turn: what its job, its environment and the fields at that point give.
 pub record RecordStands (script : ScriptView) (s : Standing) (fields : List (List ℤ)) (executor : ℕ) (r : RecordView) : Type 0 where
-  pub job : JobView
+  pub job : JobFacts
   pub stands : TurnStands script s executor r.task r.number r.effects r.exit job r.env r.frame
   pub resume : r.resume ≡ job.resume
   pub outer : r.outer ≡ job.frames.outer
@@ -156,7 +156,7 @@ pub record RecordStands (script : ScriptView) (s : Standing) (fields : List (Lis
 
 -- A folded turn: it is not run again. The frame that it leaves is one that its exit and its effects can leave.
 pub record FoldedStands (script : ScriptView) (s : Standing) (executor : ℕ) (f : FoldedView) : Type 0 where
-  pub job : JobView
+  pub job : JobFacts
   pub env : Env
   pub frame : FrameView
   pub stands : TurnStands script s executor f.task f.number f.effects f.exit job env frame
@@ -181,7 +181,7 @@ Stands script checkpoints before (added r) =
     (nat_lt r (root_count script) ≡ true) × ((life_of r s.log).origin ≡ None)
 Stands script checkpoints before (begun t n env) =
     let s = after_blocks script (at_first script) before in
-    (j : JobView) × (s.jobs t ≡ Some j) × (is_current (life_of t s.log) n j.resume ≡ true) × IsEnv (root_count script) (task t) s.log env
+    (j : JobFacts) × (s.jobs t ≡ Some j) × (is_current (life_of t s.log) n j.resume ≡ true) × IsEnv (root_count script) (task t) s.log env
 Stands script checkpoints before (ran e r) =
     RecordStands script (after_blocks script (at_first script) before) (fields_of script checkpoints e before) e r
 Stands script checkpoints before (folded e f) =

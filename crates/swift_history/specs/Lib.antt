@@ -1,3 +1,4 @@
 pub mod Checks
 pub mod TurnEnds
 pub mod Histories
+pub mod Jobs

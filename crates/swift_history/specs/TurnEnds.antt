@@ -11,8 +11,8 @@ use Rattle.swift_types.specs.declared.outcome.Resume.{Resume}
 use Rattle.swift_types.specs.declared.outcome.Resume.TheVariants.{Start, Go, Value, Fault as Raise}
 use Rattle.swift_types.specs.declared.priority.Priority.{Priority}
 use Rattle.swift_types.specs.declared.priority.Priority.TheVariants.{Background}
-use Rattle.swift_groups.specs.declared.answer.Next.{Next as Answer}
-use Rattle.swift_groups.specs.declared.answer.Next.TheVariants as answer
+use Rattle.swift_groups.specs.declared.answer.NextResult.{NextResult as Answer}
+use Rattle.swift_groups.specs.declared.answer.NextResult.TheVariants as answer
 use Rattle.swift_groups.specs.declared.answer.Close.{Close as Closing}
 use Rattle.swift_groups.specs.declared.answer.Close.TheVariants as closing
 use Rattle.swift_groups.specs.Next.{next_of}
@@ -26,8 +26,8 @@ use Rattle.swift_turn.specs.declared.step.Step.TheVariants.{Run, Ended, Await}
 use Rattle.swift_turn.specs.Body.{TaskView, Advanced, advanced, opening}
 use Rattle.swift_events.specs.declared.event.Event.{Event}
 use Rattle.swift_events.specs.declared.event.Event.TheVariants.{Root, Apply, Free, Open, Child, Skip, CancelTask, CancelGroup, Wait, Next, Close, End, Give}
-use Rattle.swift_events.specs.declared.life.Stage.{Stage}
-use Rattle.swift_events.specs.declared.life.Stage.TheVariants.{Asks, Closes}
+use Rattle.swift_events.specs.declared.life.JobStage.{JobStage}
+use Rattle.swift_events.specs.declared.life.JobStage.TheVariants.{Asks, Closes}
 use Rattle.swift_events.specs.Events.{tasks_of}
 use Rattle.swift_events.specs.Lives.{life_of}
 use Rattle.swift_events.specs.Relations.{own_tasks, waiters_of, opened_by, group_of, is_cancelled_group, parent_of}
@@ -37,14 +37,14 @@ abbrev pub task : ℕ → TaskId
 task t = record { 0 = t }
 
 -- A job, as the log and the turns see it: its turn's number, what that begins with, and the task's frames and bindings.
-pub record JobView : Type 0 where
+pub record JobFacts : Type 0 where
   pub task : ℕ
   pub number : ℕ
   pub resume : Resume
   pub frames : TaskView
 
 -- A task that waits: the number of its next turn, its frames and bindings.
-pub record HeldView : Type 0 where
+pub record WaitingTaskView : Type 0 where
   pub number : ℕ
   pub frames : TaskView
 
@@ -61,15 +61,15 @@ resume_of (ending.Fault f) = Raise f
 abbrev pub beginning : ScriptView → ℕ → List ℤ → List (ℕ × ℤ) → TaskView
 beginning script m args bindings = record { frames = opening script m args 0 0 ∷ []; outer = bindings }
 
-abbrev pub first_job : ScriptView → ℕ → ℕ → List ℤ → List (ℕ × ℤ) → JobView
+abbrev pub first_job : ScriptView → ℕ → ℕ → List ℤ → List (ℕ × ℤ) → JobFacts
 first_job script t m args bindings = record { task = t; number = 0; resume = Start; frames = beginning script m args bindings }
 
 -- each job that is made is logged
-abbrev pub gives : List JobView → List Event
+abbrev pub gives : List JobFacts → List Event
 gives jobs = map (λ j. Give (task j.task) j.number j.resume) jobs
 
 -- a root is added: its task has its number, and no bindings
-abbrev pub root_job : ScriptView → ℕ → JobView
+abbrev pub root_job : ScriptView → ℕ → JobFacts
 root_job script r = first_job script r (root_method script r) (root_args script r) []
 
 abbrev pub root_events : ScriptView → ℕ → List Event
@@ -102,7 +102,7 @@ effect_events roots t own log (cancelling_group g) = CancelGroup (task t) g ∷ 
 
 -- The first job of the task that an effect makes, if it makes one. Spawned tasks and children find the bindings that stood at
 -- the statement; detached tasks find none.
-abbrev pub effect_jobs : ScriptView → ℕ → List Event → EffectView → List JobView
+abbrev pub effect_jobs : ScriptView → ℕ → List Event → EffectView → List JobFacts
 effect_jobs script t log (spawning i p bindings) = first_job script (tasks_of (root_count script) log) i.method i.args bindings ∷ []
 effect_jobs script t log (detaching i p) = first_job script (tasks_of (root_count script) log) i.method i.args [] ∷ []
 effect_jobs script t log (adding g unless i p bindings) =
@@ -116,7 +116,7 @@ log_after roots t own log [] = log
 log_after roots t own log (e ∷ es) = log_after roots t own (log ++ effect_events roots t own log e) es
 
 -- the jobs of the tasks that effects make, in order
-abbrev pub jobs_made : ScriptView → ℕ → Priority → List Event → List EffectView → List JobView
+abbrev pub jobs_made : ScriptView → ℕ → Priority → List Event → List EffectView → List JobFacts
 jobs_made script t own log [] = []
 jobs_made script t own log (e ∷ es) = effect_jobs script t log e ++ jobs_made script t own (log ++ effect_events (root_count script) t own log e) es
 
@@ -170,49 +170,49 @@ exit_resume t log (closing_group g f) step = close_resume (close_of (group_of t 
 exit_resume t log _ step = step_resume step
 
 -- the tasks that wait, by number, and the jobs that are made
-pub record Follows : Type 0 where
-  pub held : List (Option HeldView)
-  pub jobs : List JobView
+pub record AfterTurn : Type 0 where
+  pub held : List (Option WaitingTaskView)
+  pub jobs : List JobFacts
 
 -- a task that waits goes on with this, and waits no more
-abbrev pub woken : ℕ → Resume → Follows → Option HeldView → Follows
+abbrev pub woken : ℕ → Resume → AfterTurn → Option WaitingTaskView → AfterTurn
 woken u resume f None = f
 woken u resume f (Some h) = record {
   held = slice_set f.held u None;
   jobs = f.jobs ++ record { task = u; number = h.number; resume = resume_at h.number resume; frames = h.frames } ∷ [];
 }
 
-abbrev pub wake : ℕ → Resume → Follows → Follows
+abbrev pub wake : ℕ → Resume → AfterTurn → AfterTurn
 wake u resume f = woken u resume f (slice_index_or f.held u None)
 
 -- the same of several tasks, in order
-abbrev pub wake_each : List TaskId → Resume → Follows → Follows
+abbrev pub wake_each : List TaskId → Resume → AfterTurn → AfterTurn
 wake_each [] resume f = f
 wake_each (u ∷ us) resume f = wake_each us resume (wake u.0 resume f)
 
 -- the owner that closes a group goes on where each child has ended
-abbrev pub wake_closing : ℕ → Closing → Follows → Follows
+abbrev pub wake_closing : ℕ → Closing → AfterTurn → AfterTurn
 wake_closing o closing.Done f = wake o Go f
 wake_closing o closing.Wait f = f
 
 -- The owner of a child that has ended: where it has asked for a result of this group, it gets this one, since it has each
 -- earlier one; where it closes the group, it goes on if this was the last child.
-abbrev pub wake_owner : ℕ → ℕ → Ending → Option Stage → List Event → Follows → Follows
+abbrev pub wake_owner : ℕ → ℕ → Ending → Option JobStage → List Event → AfterTurn → AfterTurn
 wake_owner o g e (Some (Asks asked)) log f = if asked == g then wake o (resume_of e) f else f
 wake_owner o g e (Some (Closes closed)) log f = if closed == g then wake_closing o (close_of (group_of o g log)) f else f
 wake_owner o g e _ log f = f
 
-abbrev pub wake_parent : Option (ℕ × ℕ) → Ending → List Event → Follows → Follows
+abbrev pub wake_parent : Option (ℕ × ℕ) → Ending → List Event → AfterTurn → AfterTurn
 wake_parent None e log f = f
 wake_parent (Some x) e log f = wake_owner x.0 x.1 e (life_of x.0 log).stage log f
 
 -- the tasks that have waited for the end of this one go on: its waiters in order of waiting, then its owner
-abbrev pub wake_all : ℕ → Ending → List Event → Follows → Follows
+abbrev pub wake_all : ℕ → Ending → List Event → AfterTurn → AfterTurn
 wake_all t e log f = wake_parent (parent_of t log) e log (wake_each (waiters_of t log) (resume_of e) f)
 
 -- What follows from a turn, by what the task's next turn, of this number, begins with: where it goes on, its next job; where
 -- it has ended, those that have waited for it go on; else it waits.
-abbrev pub followed : ℕ → ℕ → TaskView → Option Resume → Step → List Event → Follows → Follows
+abbrev pub followed : ℕ → ℕ → TaskView → Option Resume → Step → List Event → AfterTurn → AfterTurn
 followed t n frames (Some resume) step log f = record f { jobs = f.jobs ++ record { task = t; number = n; resume = resume_at n resume; frames = frames } ∷ [] }
 followed t n frames None (Ended e) log f = wake_all t e log f
 followed t n frames None _ log f = record f { held = slice_set f.held t (Some (record { number = n; frames = frames })) }
@@ -220,12 +220,12 @@ followed t n frames None _ log f = record f { held = slice_set f.held t (Some (r
 -- what the end of a turn leaves: the log, the tasks that wait, by number, and the jobs that it makes
 pub record TurnEnd : Type 0 where
   pub log : List Event
-  pub held : List (Option HeldView)
-  pub jobs : List JobView
+  pub held : List (Option WaitingTaskView)
+  pub jobs : List JobFacts
 
 -- The end of turn n of a task, by what comes next. First what was done takes effect; then its exit is followed. Jobs are made
 -- for the tasks that were made, in order of effects; for its own next turn; and for those that have waited for its end.
-abbrev pub turn_end : ScriptView → List Event → List (Option HeldView) → ℕ → ℕ → Priority → List EffectView → ExitView → Advanced → TurnEnd
+abbrev pub turn_end : ScriptView → List Event → List (Option WaitingTaskView) → ℕ → ℕ → Priority → List EffectView → ExitView → Advanced → TurnEnd
 turn_end script log held t n own effects exit after =
     let begun = log ++ Apply (task t) n ∷ [] in
     let done = log_after (root_count script) t own begun effects in

@@ -7,8 +7,8 @@ use denote.Struct.Declared as S
 use Rattle.std.proofs.Crossing as Crossing
 use Rattle.script_code.specs.contracts.instruction.Act as act
 use Rattle.script_code.specs.contracts.instruction.Instruction as instruction
-use Rattle.script_code.specs.contracts.instruction.Awaited as awaited
-use Rattle.script_code.specs.contracts.formula.Call as call
+use Rattle.script_code.specs.contracts.instruction.CompiledAwait as awaited
+use Rattle.script_code.specs.contracts.formula.CompiledCall as call
 use Rattle.script_code.proofs.formula.Formula.TheLaws.TheKnot as FormulaKnot
 use Rattle.script_compiler.specs.contracts.compiled.CompiledMethod as compiled_method
 use Rattle.script_compiler.specs.contracts.compiled.CompiledActor as compiled_actor

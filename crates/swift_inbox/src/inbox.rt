@@ -14,20 +14,20 @@ ghost use Rattle.swift_inbox.specs.Rule.{blank, unused};
 ghost use Rattle.swift_inbox.specs.Site.{CanRunAt};
 
 use crate::pass::{Pass, RawPass};
-use crate::rule::{InboxRule, Placed, Places, Puts, Takes};
+use crate::rule::{InboxRule, NamesSite, Puts, SetsSite, Takes};
 use crate::site::ExecutorSite;
 use crate::taker::Taker;
-use crate::view::PassView;
+use crate::view::PassKnown;
 use crossbeam_queue::RuledArrayQueue;
 use std::alloc::{AllocError, Global};
 use std::marker::{Brand, Model};
 use std::sync::Wait;
-use swift_queue::Job;
+use swift_job::Job;
 use swift_ticket::TicketedJob;
 use swift_turn::Body;
 
 /// The queue of an inbox.
-pub(crate) type Queue = RuledArrayQueue<TicketedJob, PassView, InboxRule>;
+pub(crate) type InboxQueue = RuledArrayQueue<TicketedJob, PassKnown, InboxRule>;
 
 /// The jobs that were sent to one executor and not yet taken: a bounded queue, first in, first out (SE-0392 for what may
 /// be enqueued on an executor; the bound is our own). Any number of threads share an inbox by reference; each puts with a
@@ -39,7 +39,7 @@ pub(crate) type Queue = RuledArrayQueue<TicketedJob, PassView, InboxRule>;
 /// is for, and how many it has room for. No clause knows what is inside, since other threads may change it at any moment;
 /// what holds of it is said in `laws`. Where an inbox is dropped, the jobs inside are spent, and their tickets are gone.
 pub struct Inbox {
-    pub(crate) queue: Queue,
+    pub(crate) queue: InboxQueue,
     site: ExecutorSite,
 }
 
@@ -56,9 +56,9 @@ impl Model for Inbox {
     ghost use Rattle.swift_script.specs.Codes.{expression_code, statement_code, block_code};
     ghost use Rattle.std.specs.Prelude.{◌<◌};
     ghost use Rattle.crossbeam_queue.specs.Passes.{ruled_capacity};
-    ghost use Rattle.swift_inbox.specs.Inbox.{InboxIs};
+    ghost use Rattle.swift_inbox.specs.Inbox.{InboxView};
 
-    ghost Value = { InboxIs };
+    ghost Value = { InboxView };
 
     ghost coded = { Prim.hlevel (codes, expression_code, statement_code (block_code (Prim.hlevel (codes, expression_code)) (Prim.hlevel (codes, expression_code)))) };
 
@@ -69,13 +69,17 @@ impl Model for Inbox {
 
 // Tells a new inbox its executor, makes the first pass the one that takes, and makes a pass that puts. The rule has no other
 // way to learn the executor: it begins without, and the first pass is told once.
-fn make_placed<K: Placed>(queue: &Queue, first: &mut RawPass, site: &ExecutorSite) -> RawPass
+fn make_placed<K: NamesSite>(
+    queue: &InboxQueue,
+    first: &mut RawPass,
+    site: &ExecutorSite,
+) -> RawPass
     requires first { IsRawPassOf queue.now first.old × (first.old.id ≡ 0) × (view first.old ≡ blank) }
     requires site { K.site ≡ Some site.now }
     ensures taker { IsRawPassOf queue.now first.new × (view first.new ≡ unused true (Some site.now)) }
     ensures pass { IsRawPassOf queue.now result × (view result ≡ unused false (Some site.now)) }
 {
-    queue.another::<Places<K>>(first)
+    queue.another::<SetsSite<K>>(first)
 }
 
 impl Inbox {
@@ -93,7 +97,7 @@ impl Inbox {
         ensures pass { IfOk result (λ r. r.1 ≡ new_pass r.0) }
         ensures taker { IfOk result (λ r. r.2 ≡ new_taker r.0) }
     {
-        let (queue, mut first) = Queue::ruled(alloc, room)?;
+        let (queue, mut first) = InboxQueue::ruled(alloc, room)?;
         let raw = make_placed::<Brand>(&queue, &mut first, &site);
         Ok((Inbox { queue, site }, Pass { raw }, Taker { raw: first }))
     }

@@ -4,9 +4,10 @@
 ghost use Rattle.std.specs.Prelude.{◌≡◌, ℕ, true, false, List, [], ◌++◌, map, All, IsPermutation, Some};
 ghost use mathlib.Core.Option.{some};
 ghost use lib.ListN.{get_elem?};
-ghost use Rattle.swift_ticket.specs.Tickets.{TicketedIs, job_view};
-ghost use Rattle.swift_inbox.specs.declared.view.PassView.{PassView};
-ghost use Rattle.swift_inbox.specs.Site.{Site, CanRunAt};
+ghost use Rattle.swift_ticket.specs.Tickets.{TicketedJobView};
+ghost use Rattle.swift_history.specs.Jobs.{job_facts};
+ghost use Rattle.swift_inbox.specs.declared.view.PassKnown.{PassKnown};
+ghost use Rattle.swift_inbox.specs.Site.{SiteView, CanRunAt};
 ghost use Rattle.swift_inbox.specs.Rule.{InboxInvariant, pushed_in, taken_in};
 ghost use Rattle.std.specs.Thread.{IsSend, IsSync};
 ghost use Rattle.swift_turn.specs.contracts.body.Body as body;
@@ -15,54 +16,54 @@ ghost use Rattle.swift_inbox.specs.contracts.pass.Pass as pass;
 ghost use Rattle.swift_inbox.specs.contracts.taker.Taker as taker;
 
 use crate::rule::InboxRule;
-use crate::view::PassView;
+use crate::view::PassKnown;
 use crossbeam_queue::protocol::Protocol;
 use swift_ticket::TicketedJob;
 
 /// What the queue of an inbox keeps between any two steps is the rule (our own).
 pub fn inbox_keeps_its_rule()
-    ensures { (inside : List TicketedIs) (views : List PassView)
-        → ⟦<InboxRule as Protocol<TicketedJob, PassView>>⟧.holds inside views → InboxInvariant inside views }
+    ensures { (inside : List TicketedJobView) (views : List PassKnown)
+        → ⟦<InboxRule as Protocol<TicketedJob, PassKnown>>⟧.holds inside views → InboxInvariant inside views }
 {}
 
 /// The jobs that were put in, through any pass, are those that were taken out and those inside, up to order: each as
 /// often as it was put in (our own).
 pub fn nothing_is_lost()
-    ensures { (inside : List TicketedIs) (views : List PassView) → InboxInvariant inside views
-        → IsPermutation (pushed_in views) (taken_in views ++ map (λ t. job_view t.job) inside) }
+    ensures { (inside : List TicketedJobView) (views : List PassKnown) → InboxInvariant inside views
+        → IsPermutation (pushed_in views) (taken_in views ++ map (λ t. job_facts t.job) inside) }
 {}
 
 /// Each job inside can run at the executor that a pass knows (our own).
 pub fn each_inside_can_run()
-    ensures { (inside : List TicketedIs) (views : List PassView) → InboxInvariant inside views
-        → (pass : ℕ) (v : PassView) (site : Site) → get_elem? views pass ≡ some v → v.site ≡ Some site
+    ensures { (inside : List TicketedJobView) (views : List PassKnown) → InboxInvariant inside views
+        → (pass : ℕ) (v : PassKnown) (site : SiteView) → get_elem? views pass ≡ some v → v.site ≡ Some site
         → All (CanRunAt site) inside }
 {}
 
 /// All passes of an inbox that know an executor know the same (our own).
 pub fn one_executor()
-    ensures { (inside : List TicketedIs) (views : List PassView) → InboxInvariant inside views
-        → (a b : ℕ) (v w : PassView) (s t : Site) → get_elem? views a ≡ some v → get_elem? views b ≡ some w
+    ensures { (inside : List TicketedJobView) (views : List PassKnown) → InboxInvariant inside views
+        → (a b : ℕ) (v w : PassKnown) (s t : SiteView) → get_elem? views a ≡ some v → get_elem? views b ≡ some w
         → v.site ≡ Some s → w.site ≡ Some t → s ≡ t }
 {}
 
 /// At most one pass of an inbox takes, and nothing is put in through it; through each other nothing came out (our own).
 pub fn one_taker()
-    ensures one { (inside : List TicketedIs) (views : List PassView) → InboxInvariant inside views
-        → (a b : ℕ) (v w : PassView) → get_elem? views a ≡ some v → get_elem? views b ≡ some w
+    ensures one { (inside : List TicketedJobView) (views : List PassKnown) → InboxInvariant inside views
+        → (a b : ℕ) (v w : PassKnown) → get_elem? views a ≡ some v → get_elem? views b ≡ some w
         → v.takes ≡ true → w.takes ≡ true → a ≡ b }
-    ensures takes { (inside : List TicketedIs) (views : List PassView) → InboxInvariant inside views
-        → (pass : ℕ) (v : PassView) → get_elem? views pass ≡ some v → v.takes ≡ true → v.pushed ≡ [] }
-    ensures puts { (inside : List TicketedIs) (views : List PassView) → InboxInvariant inside views
-        → (pass : ℕ) (v : PassView) → get_elem? views pass ≡ some v → v.takes ≡ false → v.taken ≡ [] }
+    ensures takes { (inside : List TicketedJobView) (views : List PassKnown) → InboxInvariant inside views
+        → (pass : ℕ) (v : PassKnown) → get_elem? views pass ≡ some v → v.takes ≡ true → v.pushed ≡ [] }
+    ensures puts { (inside : List TicketedJobView) (views : List PassKnown) → InboxInvariant inside views
+        → (pass : ℕ) (v : PassKnown) → get_elem? views pass ≡ some v → v.takes ≡ false → v.taken ≡ [] }
 {}
 
 /// The jobs that were put in, through any pass, are those that the taker took and those inside, up to order: each as often as
 /// it was put in (our own).
 pub fn taker_takes_all()
-    ensures { (inside : List TicketedIs) (views : List PassView) → InboxInvariant inside views
-        → (pass : ℕ) (v : PassView) → get_elem? views pass ≡ some v → v.takes ≡ true
-        → IsPermutation (pushed_in views) (v.taken ++ map (λ t. job_view t.job) inside) }
+    ensures { (inside : List TicketedJobView) (views : List PassKnown) → InboxInvariant inside views
+        → (pass : ℕ) (v : PassKnown) → get_elem? views pass ≡ some v → v.takes ≡ true
+        → IsPermutation (pushed_in views) (v.taken ++ map (λ t. job_facts t.job) inside) }
 {}
 
 /// Threads may share an inbox (our own).

@@ -5,12 +5,12 @@ ghost use Rattle.swift_inbox.specs.Inbox.{IsPassOf, new_pass};
 
 use crate::inbox::Inbox;
 use crate::rule::NewPass;
-use crate::view::PassView;
+use crate::view::PassKnown;
 use std::marker::Model;
 use swift_ticket::TicketedJob;
 
 /// What the queue calls a pass.
-pub(crate) type RawPass = crossbeam_queue::Pass<TicketedJob, PassView>;
+pub(crate) type RawPass = crossbeam_queue::Pass<TicketedJob, PassKnown>;
 
 /// A thread's right to put jobs into one inbox. An inbox is made with its first pass, and each further one is split from
 /// another. A pass may go to another thread, and can't be shared: each of its steps changes what it knows. It has no bytes.
@@ -28,9 +28,9 @@ impl Model for Pass {
     ghost use Rattle.swift_script.specs.Codes.{expression_code, statement_code, block_code};
     ghost use Rattle.std.specs.Prelude.{◌≡◌, [], false};
     ghost use Rattle.crossbeam_queue.specs.Passes.{view as known};
-    ghost use Rattle.swift_inbox.specs.Inbox.{PassIs};
+    ghost use Rattle.swift_inbox.specs.Inbox.{PassView};
 
-    ghost Value = { PassIs };
+    ghost Value = { PassView };
 
     ghost coded = { Prim.hlevel (codes, expression_code, statement_code (block_code (Prim.hlevel (codes, expression_code)) (Prim.hlevel (codes, expression_code)))) };
 

@@ -1,6 +1,6 @@
 //! The rule of an inbox, and what each kind of step tells its pass.
 
-use crate::view::PassView;
+use crate::view::PassKnown;
 use crossbeam_queue::protocol::{Lesson, Outcome, Protocol, Split};
 use std::marker::{Brand, PhantomData};
 use swift_ticket::TicketedJob;
@@ -8,7 +8,7 @@ use swift_ticket::TicketedJob;
 /// The rule.
 pub struct InboxRule;
 
-impl Protocol<TicketedJob, PassView> for InboxRule {
+impl Protocol<TicketedJob, PassKnown> for InboxRule {
     ghost use Rattle.swift_inbox.specs.Rule.{InboxInvariant, blank};
 
     ghost holds = { InboxInvariant };
@@ -19,7 +19,7 @@ impl Protocol<TicketedJob, PassView> for InboxRule {
 /// A job is put in.
 pub struct Puts;
 
-impl Outcome<TicketedJob, PassView> for Puts {
+impl Outcome<TicketedJob, PassKnown> for Puts {
     ghost use Rattle.std.specs.Prelude.{◌≡◌};
     ghost use Rattle.swift_inbox.specs.Rule.{with_pushed};
 
@@ -29,25 +29,25 @@ impl Outcome<TicketedJob, PassView> for Puts {
 /// The oldest job is taken out.
 pub struct Takes;
 
-impl Outcome<TicketedJob, PassView> for Takes {
+impl Outcome<TicketedJob, PassKnown> for Takes {
     ghost use Rattle.swift_inbox.specs.Rule.{IsTaken};
 
     ghost then = { IsTaken };
 }
 
 // No step learns what else is inside, since no pass knows what the others do.
-impl Lesson<TicketedJob, PassView> for Puts {
+impl Lesson<TicketedJob, PassKnown> for Puts {
     ghost fact = { λ _ _. Unit {0} };
 }
 
-impl Lesson<TicketedJob, PassView> for Takes {
+impl Lesson<TicketedJob, PassKnown> for Takes {
     ghost fact = { λ _ _. Unit {0} };
 }
 
 /// A new pass of the same executor that puts, through which nothing went.
 pub struct NewPass;
 
-impl Split<PassView> for NewPass {
+impl Split<PassKnown> for NewPass {
     ghost use Rattle.std.specs.Prelude.{false};
     ghost use Rattle.swift_inbox.specs.Rule.{unused};
 
@@ -57,25 +57,25 @@ impl Split<PassView> for NewPass {
 }
 
 /// Names an executor, in proofs alone.
-pub trait Placed {
+pub trait NamesSite {
     ghost use Rattle.std.specs.Prelude.{Option};
-    ghost use Rattle.swift_inbox.specs.Site.{Site};
+    ghost use Rattle.swift_inbox.specs.Site.{SiteView};
 
-    ghost site: { Option Site };
+    ghost site: { Option SiteView };
 }
 
-impl Placed for Brand {
+impl NamesSite for Brand {
     ghost use Rattle.std.specs.Prelude.{None};
 
     ghost site = { None };
 }
 
 /// A new inbox is told which executor it is of: its first pass becomes the one that takes, and a pass that puts is made.
-pub struct Places<K> {
+pub struct SetsSite<K> {
     of: PhantomData<K>,
 }
 
-impl<K: Placed> Split<PassView> for Places<K> {
+impl<K: NamesSite> Split<PassKnown> for SetsSite<K> {
     ghost use Rattle.std.specs.Prelude.{true, false};
     ghost use Rattle.swift_inbox.specs.Rule.{unused};
 

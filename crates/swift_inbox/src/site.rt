@@ -24,9 +24,9 @@ impl Model for ExecutorSite {
     ghost use Rattle.std.specs.Coded.{codes};
     ghost use Rattle.swift_script.specs.Codes.{expression_code, statement_code, block_code};
     ghost use Rattle.std.specs.Arc.{arc_value};
-    ghost use Rattle.swift_inbox.specs.Site.{Site};
+    ghost use Rattle.swift_inbox.specs.Site.{SiteView};
 
-    ghost Value = { Site };
+    ghost Value = { SiteView };
 
     ghost coded = { Prim.hlevel (codes, expression_code, statement_code (block_code (Prim.hlevel (codes, expression_code)) (Prim.hlevel (codes, expression_code)))) };
 

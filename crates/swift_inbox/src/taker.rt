@@ -19,9 +19,9 @@ impl Model for Taker {
     ghost use Rattle.swift_script.specs.Codes.{expression_code, statement_code, block_code};
     ghost use Rattle.std.specs.Prelude.{◌≡◌, [], true};
     ghost use Rattle.crossbeam_queue.specs.Passes.{view as known};
-    ghost use Rattle.swift_inbox.specs.Inbox.{TakerIs};
+    ghost use Rattle.swift_inbox.specs.Inbox.{TakerView};
 
-    ghost Value = { TakerIs };
+    ghost Value = { TakerView };
 
     ghost coded = { Prim.hlevel (codes, expression_code, statement_code (block_code (Prim.hlevel (codes, expression_code)) (Prim.hlevel (codes, expression_code)))) };
 

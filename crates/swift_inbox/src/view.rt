@@ -11,16 +11,16 @@ pub struct NotedJob {
 }
 
 impl Model for NotedJob {
-    ghost use Rattle.swift_history.specs.TurnEnds.{JobView};
-    ghost use Rattle.swift_ticket.specs.Tickets.{job_view};
+    ghost use Rattle.swift_history.specs.TurnEnds.{JobFacts};
+    ghost use Rattle.swift_history.specs.Jobs.{job_facts};
 
-    ghost Value = { JobView };
+    ghost Value = { JobFacts };
 
-    ghost view = { λ n. job_view n.ticketed.job };
+    ghost view = { λ n. job_facts n.ticketed.job };
 }
 
 /// A pass's view.
-pub struct PassView {
+pub struct PassKnown {
     // Whose jobs the inbox is for. The first pass of a new queue knows none.
     pub site: Option<ExecutorSite>,
     // Whether jobs come out through this pass. If not, they go in.

@@ -13,7 +13,7 @@ pub struct Frame {
     /// Its method.
     pub method: MethodId,
     /// The number of the instruction at which its next turn begins.
-    pub line: u32,
+    pub instruction: u32,
     /// Its variables, by number.
     pub variables: Vec<i64>,
     /// Its handles, by number: each holds the number of a task or a group within its task.
@@ -34,7 +34,7 @@ impl Drop for Frame {
     fn drop(self) {
         let Frame {
             method: _,
-            line: _,
+            instruction: _,
             variables,
             handles,
             own,
@@ -57,7 +57,7 @@ impl Frame {
     {
         Frame {
             method: MethodId(0),
-            line: 0,
+            instruction: 0,
             variables: Vec::new(alloc),
             handles: Vec::new(alloc),
             own: Vec::new(alloc),
@@ -74,7 +74,7 @@ impl Frame {
         ensures method { OnOk result (self.new.method ≡ from.now.method) }
     {
         self.method = from.method;
-        self.line = from.line;
+        self.instruction = from.instruction;
         copy_into(&from.variables, &mut self.variables)?;
         copy_into(&from.handles, &mut self.handles)?;
         copy_into(&from.own, &mut self.own)?;

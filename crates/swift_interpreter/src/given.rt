@@ -1,11 +1,12 @@
 //! What a turn is given and does not change.
 
-use script_code::{Env, Formula, Instruction};
+use script_code::{Formula, Instruction};
 use swift_locals::Bindings;
+use swift_types::Env;
 
 /// What a turn is given and does not change.
 #[derive(Clone, Copy)]
-pub struct Given<'a> {
+pub struct TurnInput<'a> {
     /// The instructions of the frame's method.
     pub instructions: &'a [Instruction],
     /// The invariants of the actors of the executor that the frame runs on.

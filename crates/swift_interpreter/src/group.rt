@@ -30,7 +30,7 @@ pub fn open(turn: &mut TurnState, handle: u32, next: u32) -> Result<Option<Exit>
     turn.frame.groups.push(number)?;
     put(&mut turn.frame.handles, handle, number);
     turn.frame.opened += 1;
-    turn.frame.line = next;
+    turn.frame.instruction = next;
     Ok(None)
 }
 
@@ -41,7 +41,7 @@ pub fn close(turn: &mut TurnState, next: u32) -> Option<Exit>
     ensures fields { turn.new.fields.items ≡ turn.old.fields.items }
     ensures method { turn.new.frame.method ≡ turn.old.frame.method }
 {
-    turn.frame.line = next;
+    turn.frame.instruction = next;
     match pop_group(&mut turn.frame.groups) {
         Some(group) => Some(Exit::Close(group, None)),
         None => None,
@@ -70,7 +70,7 @@ pub fn cancel(
 {
     let effect = cancelling(&turn.frame.handles, cancelled);
     turn.effects.push(effect)?;
-    turn.frame.line = next;
+    turn.frame.instruction = next;
     Ok(None)
 }
 

@@ -23,7 +23,7 @@ pub use effect::{Effect, Invocation, TaskName};
 pub use exit::Exit;
 pub use fail::leave_frame;
 pub use frame::Frame;
-pub use given::Given;
+pub use given::TurnInput;
 pub use saved::SavedRows;
 pub use turn_state::TurnState;
 pub use whole::play_whole;

@@ -12,16 +12,16 @@ use crate::exit::Exit;
 use crate::place::put;
 use crate::turn_state::{LAST_NUMBER, TurnState};
 use crate::values::{handle_at, invoke, standing};
-use script_code::{Call, Env, Sight};
+use script_code::{CompiledCall, Sight};
 use std::alloc::{AllocError, Global};
 use swift_locals::Bindings;
-use swift_types::{Fault, Priority};
+use swift_types::{Env, Fault, Priority};
 
 // A task is spawned, with the bindings that stand. Where an argument has no value the turn overflows.
 #[inline(never)]
 pub fn spawn<'a>(
     alloc: Global,
-    call: &Call,
+    call: &CompiledCall,
     outer: &'a Bindings,
     env: &'a Env,
     turn: &mut TurnState,
@@ -57,7 +57,7 @@ pub fn spawn<'a>(
 #[inline(never)]
 pub fn detach<'a>(
     alloc: Global,
-    call: &Call,
+    call: &CompiledCall,
     outer: &'a Bindings,
     env: &'a Env,
     turn: &mut TurnState,
@@ -87,7 +87,7 @@ pub fn detach<'a>(
 #[inline(never)]
 pub fn add<'a>(
     alloc: Global,
-    call: &Call,
+    call: &CompiledCall,
     outer: &'a Bindings,
     env: &'a Env,
     turn: &mut TurnState,
@@ -141,7 +141,7 @@ fn make(
     keep(&mut turn.frame.handles, handle, turn.frame.made as u32);
     turn.frame.made += 1;
     turn.room -= 1;
-    turn.frame.line = next;
+    turn.frame.instruction = next;
     Ok(None)
 }
 
@@ -156,7 +156,7 @@ fn add_to(turn: &mut TurnState, effect: Effect, next: u32) -> Result<Option<Exit
     }
     turn.effects.push(effect)?;
     turn.room -= 1;
-    turn.frame.line = next;
+    turn.frame.instruction = next;
     Ok(None)
 }
 

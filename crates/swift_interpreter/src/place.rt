@@ -9,7 +9,7 @@ ghost use Rattle.script_code.specs.Seen.{rows_of};
 use crate::exit::Exit;
 use crate::saved::SavedRows;
 use crate::turn_state::TurnState;
-use script_code::{FieldPlace, Place};
+use script_code::{FieldPlace, NumberPlace};
 use std::alloc::{AllocError, Global};
 
 // A number goes to its place, if there is one, and the frame goes on at an instruction.
@@ -17,7 +17,7 @@ pub fn give(
     alloc: Global,
     turn: &mut TurnState,
     saved: &mut SavedRows,
-    place: Option<Place>,
+    place: Option<NumberPlace>,
     next: u32,
     v: i64,
 ) -> Result<Option<Exit>, AllocError>
@@ -26,11 +26,11 @@ pub fn give(
     ensures method { turn.new.frame.method ≡ turn.old.frame.method }
 {
     match place {
-        Some(Place::Variable(x)) => put(&mut turn.frame.variables, x, v),
-        Some(Place::Field(place)) => set_field(alloc, &mut turn.fields, saved, place, v)?,
+        Some(NumberPlace::Variable(x)) => put(&mut turn.frame.variables, x, v),
+        Some(NumberPlace::Field(place)) => set_field(alloc, &mut turn.fields, saved, place, v)?,
         None => {}
     }
-    turn.frame.line = next;
+    turn.frame.instruction = next;
     Ok(None)
 }
 

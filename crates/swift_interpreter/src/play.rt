@@ -3,7 +3,7 @@
 ghost use Rattle.std.specs.Prelude.{◌≡◌, IfOk};
 ghost use Rattle.swift_interpreter.specs.Turn.{at_limit, end_of, turn as turn_of};
 ghost use Rattle.swift_interpreter.specs.TurnStates.{fields_before, lent, played_of, state_of};
-ghost use Rattle.script_code.specs.Instructions.{Follows, first};
+ghost use Rattle.script_code.specs.Instructions.{FollowsCode, first};
 
 use crate::at_once::step_at_once;
 use crate::exit::Exit;
@@ -12,10 +12,10 @@ use crate::saved::SavedRows;
 use crate::settle::settle;
 use crate::step::step;
 use crate::turn_state::TurnState;
-use script_code::{Act, Env, Instruction};
+use script_code::{Act, Instruction};
 use std::alloc::{AllocError, Global};
 use swift_locals::Bindings;
-use swift_types::Fault;
+use swift_types::{Env, Fault};
 
 // At most `limit` steps.
 #[inline(never)]
@@ -28,7 +28,7 @@ pub fn play<'a>(
     saved: &mut SavedRows,
     limit: u32,
 ) -> Result<Exit, AllocError>
-    ensures played { IfOk result (λ exit. (code : _) → (at : _) → Follows instructions.now code at
+    ensures played { IfOk result (λ exit. (code : _) → (at : _) → FollowsCode instructions.now code at
         → played_of (state_of at turn.new) exit ≡ turn_of (lent outer.now env.now) limit (state_of at turn.old)) }
     ensures back { fields_before saved.new turn.new ≡ fields_before saved.old turn.old }
     ensures method { turn.new.frame.method ≡ turn.old.frame.method }
@@ -49,12 +49,12 @@ pub fn play<'a>(
 
 // No step is left. The end of the method and the end of a group's block are none.
 fn end_of_steps(instructions: &[Instruction], turn: &mut TurnState) -> Exit
-    ensures end { (code : _) → (at : _) → Follows instructions.now code at
-        → played_of (state_of at turn.new) result ≡ end_of (at_limit (first (at turn.old.frame.line)) (state_of at turn.old)) }
+    ensures end { (code : _) → (at : _) → FollowsCode instructions.now code at
+        → played_of (state_of at turn.new) result ≡ end_of (at_limit (first (at turn.old.frame.instruction)) (state_of at turn.old)) }
     ensures fields { turn.new.fields.items ≡ turn.old.fields.items }
     ensures method { turn.new.frame.method ≡ turn.old.frame.method }
 {
-    let Some(instruction) = instructions.get(turn.frame.line as usize) else {
+    let Some(instruction) = instructions.get(turn.frame.instruction as usize) else {
         return Exit::Return(0);
     };
     match &instruction.act {

@@ -3,17 +3,17 @@
 ghost use Rattle.std.specs.Prelude.{◌≡◌, IfOk};
 ghost use Rattle.swift_interpreter.specs.Turn.{caught, given, received, taken};
 ghost use Rattle.swift_interpreter.specs.TurnStates.{fields_before, lent, next_of, state_of};
-ghost use Rattle.script_code.specs.Instructions.{Follows, first};
+ghost use Rattle.script_code.specs.Instructions.{FollowsCode, first};
 ghost use Rattle.script_code.specs.Tree.{term_if};
 
 use crate::exit::Exit;
 use crate::place::give;
 use crate::saved::SavedRows;
 use crate::turn_state::TurnState;
-use script_code::{Act, Env, Formula, Instruction, Place, Sight, value};
+use script_code::{Act, Formula, Instruction, NumberPlace, Sight, value};
 use std::alloc::{AllocError, Global};
 use swift_locals::Bindings;
-use swift_types::{Fault, Resume};
+use swift_types::{Env, Fault, Resume};
 
 // The resume goes to the await that stands open, if one does. None where the frame goes on.
 pub fn take<'a>(
@@ -25,8 +25,8 @@ pub fn take<'a>(
     saved: &mut SavedRows,
     resume: Resume,
 ) -> Result<Option<Exit>, AllocError>
-    ensures next { IfOk result (λ exit. (code : _) → (at : _) → Follows instructions.now code at
-        → next_of (state_of at turn.new) exit ≡ taken (lent outer.now env.now) turn.old.frame.pending (first (at turn.old.frame.line)) resume (state_of at turn.old)) }
+    ensures next { IfOk result (λ exit. (code : _) → (at : _) → FollowsCode instructions.now code at
+        → next_of (state_of at turn.new) exit ≡ taken (lent outer.now env.now) turn.old.frame.pending (first (at turn.old.frame.instruction)) resume (state_of at turn.old)) }
     ensures back { fields_before saved.new turn.new ≡ fields_before saved.old turn.old }
     ensures method { turn.new.frame.method ≡ turn.old.frame.method }
 {
@@ -39,7 +39,7 @@ pub fn take<'a>(
             next,
             ..
         },
-    ) = instructions.get(turn.frame.line as usize)
+    ) = instructions.get(turn.frame.instruction as usize)
     else {
         return Ok(match resume {
             Resume::Fault(f) => Some(Exit::Fault(f)),
@@ -58,7 +58,7 @@ fn receive<'a>(
     env: &'a Env,
     turn: &mut TurnState,
     saved: &mut SavedRows,
-    place: Option<Place>,
+    place: Option<NumberPlace>,
     next: u32,
 ) -> Result<Option<Exit>, AllocError>
     ensures next { IfOk result (λ exit. (at : _) → next_of (state_of at turn.new) exit
@@ -83,7 +83,7 @@ fn catch<'a>(
     env: &'a Env,
     turn: &mut TurnState,
     saved: &mut SavedRows,
-    place: Option<Place>,
+    place: Option<NumberPlace>,
     next: u32,
 ) -> Result<Option<Exit>, AllocError>
     ensures next { IfOk result (λ exit. (at : _) → let s = state_of at turn.old in next_of (state_of at turn.new) exit

@@ -3,7 +3,7 @@
 ghost use Rattle.std.specs.Prelude.{◌≡◌, slice_get};
 ghost use Rattle.swift_interpreter.specs.Turn.{settled, tail};
 ghost use Rattle.swift_interpreter.specs.TurnStates.{state_of, unbound};
-ghost use Rattle.script_code.specs.Instructions.{Follows};
+ghost use Rattle.script_code.specs.Instructions.{FollowsCode};
 ghost use Rattle.script_code.specs.Seen.{pairs_of};
 
 use crate::turn_state::TurnState;
@@ -11,13 +11,13 @@ use script_code::{Act, Binding, Instruction};
 
 // The `bind` blocks that end next end. There are at most as many as there are instructions, since statements have an end.
 pub fn settle(instructions: &[Instruction], turn: &mut TurnState)
-    ensures settled { (code : _) → (at : _) → Follows instructions.now code at
-        → state_of at turn.new ≡ settled (at turn.old.frame.line) (state_of at turn.old) }
+    ensures settled { (code : _) → (at : _) → FollowsCode instructions.now code at
+        → state_of at turn.new ≡ settled (at turn.old.frame.instruction) (state_of at turn.old) }
     ensures fields { turn.new.fields.items ≡ turn.old.fields.items }
     ensures method { turn.new.frame.method ≡ turn.old.frame.method }
 {
     for ended in 0..instructions.len() {
-        let Some(next) = unbind_at(instructions, turn.frame.line) else {
+        let Some(next) = unbind_at(instructions, turn.frame.instruction) else {
             return;
         };
         unbind(turn, next);
@@ -44,7 +44,7 @@ pub fn unbind(turn: &mut TurnState, next: u32)
     ensures method { turn.new.frame.method ≡ turn.old.frame.method }
 {
     drop_innermost(&mut turn.frame.own);
-    turn.frame.line = next;
+    turn.frame.instruction = next;
 }
 
 fn drop_innermost(own: &mut Vec<Binding>)

@@ -5,7 +5,7 @@ ghost use Rattle.swift_interpreter.specs.Frames.{invocation_if};
 ghost use Rattle.swift_interpreter.specs.Turn.{act, calling, failing, given, goes, leaves, returning, tail, wait_for, with_invocation, with_value};
 ghost use Rattle.swift_interpreter.specs.TurnStates.{exit_view, fields_before, lent, next_of, state_of};
 ghost use Rattle.swift_types.specs.declared.outcome.Fault.TheVariants.{Cancelled, Thrown};
-ghost use Rattle.script_code.specs.Instructions.{Follows, first, first_by};
+ghost use Rattle.script_code.specs.Instructions.{FollowsCode, first, first_by};
 ghost use Rattle.script_code.specs.Tree.{wanted_of};
 ghost use Rattle.script_code.specs.Value.{is_zero};
 
@@ -18,10 +18,12 @@ use crate::saved::SavedRows;
 use crate::settle::unbind;
 use crate::turn_state::TurnState;
 use crate::values::{handle_at, invoke};
-use script_code::{Act, Awaited, Binding, Env, FieldPlace, Instruction, Place, Sight, value};
+use script_code::{
+    Act, Binding, CompiledAwait, FieldPlace, Instruction, NumberPlace, Sight, value,
+};
 use std::alloc::{AllocError, Global};
 use swift_locals::Bindings;
-use swift_types::{Fault, LocalId};
+use swift_types::{Env, Fault, LocalId};
 
 // One statement. None where the turn goes on.
 #[inline(never)]
@@ -33,12 +35,12 @@ pub fn step<'a>(
     turn: &mut TurnState,
     saved: &mut SavedRows,
 ) -> Result<Option<Exit>, AllocError>
-    ensures next { IfOk result (λ exit. (code : _) → (at : _) → Follows instructions.now code at
-        → next_of (state_of at turn.new) exit ≡ act (lent outer.now env.now) (first (at turn.old.frame.line)) (state_of at turn.old)) }
+    ensures next { IfOk result (λ exit. (code : _) → (at : _) → FollowsCode instructions.now code at
+        → next_of (state_of at turn.new) exit ≡ act (lent outer.now env.now) (first (at turn.old.frame.instruction)) (state_of at turn.old)) }
     ensures back { fields_before saved.new turn.new ≡ fields_before saved.old turn.old }
     ensures method { turn.new.frame.method ≡ turn.old.frame.method }
 {
-    let Some(instruction) = instructions.get(turn.frame.line as usize) else {
+    let Some(instruction) = instructions.get(turn.frame.instruction as usize) else {
         return Ok(Some(Exit::Return(0)));
     };
     perform(alloc, instruction, outer, env, turn, saved)
@@ -72,11 +74,11 @@ fn perform<'a>(
         Act::Test(e) => Ok(branch(value(e, sight), turn, instruction)),
         Act::SetVariable(x, e) => Ok(set_variable(value(e, sight), turn, *x, next)),
         Act::SetField(place, e) => set_field(alloc, value(e, sight), turn, saved, *place, next),
-        Act::Return(e) => Ok(Some(returned(value(e, sight)))),
+        Act::Return(e) => Ok(Some(return_value(value(e, sight)))),
         Act::Throw(e) => Ok(Some(thrown(value(e, sight)))),
         Act::Check => Ok(check(env.cancelled, turn, next)),
         Act::Yield => {
-            turn.frame.line = next;
+            turn.frame.instruction = next;
             Ok(Some(Exit::Yield))
         }
         Act::Wait(awaited) => wait(alloc, outer, env, turn, awaited, next),
@@ -92,7 +94,7 @@ fn perform<'a>(
         Act::Bind(local, e) => bind(value(e, sight), turn, *local, next),
         Act::Unbind => Ok(end_block(turn, next)),
         Act::Assume => {
-            turn.frame.line = next;
+            turn.frame.instruction = next;
             Ok(None)
         }
         Act::Isolated => Ok(Some(Exit::Fault(Fault::Isolation))),
@@ -110,7 +112,7 @@ fn branch(v: Option<i64>, turn: &mut TurnState, instruction: &Instruction) -> Op
     let Some(v) = v else {
         return Some(Exit::Fault(Fault::Overflow));
     };
-    turn.frame.line = if v == 0 {
+    turn.frame.instruction = if v == 0 {
         instruction.other
     } else {
         instruction.next
@@ -121,7 +123,7 @@ fn branch(v: Option<i64>, turn: &mut TurnState, instruction: &Instruction) -> Op
 // A value goes to a variable. Without one the turn overflows.
 fn set_variable(v: Option<i64>, turn: &mut TurnState, x: u32, next: u32) -> Option<Exit>
     ensures next { (at : _) → let s = state_of at turn.old in next_of (state_of at turn.new) result
-        ≡ with_value v s (given (Some (Place.Variable x)) (at next) s) }
+        ≡ with_value v s (given (Some (NumberPlace.Variable x)) (at next) s) }
     ensures fields { turn.new.fields.items ≡ turn.old.fields.items }
     ensures method { turn.new.frame.method ≡ turn.old.frame.method }
 {
@@ -129,7 +131,7 @@ fn set_variable(v: Option<i64>, turn: &mut TurnState, x: u32, next: u32) -> Opti
         return Some(Exit::Fault(Fault::Overflow));
     };
     put(&mut turn.frame.variables, x, v);
-    turn.frame.line = next;
+    turn.frame.instruction = next;
     None
 }
 
@@ -143,18 +145,18 @@ fn set_field(
     next: u32,
 ) -> Result<Option<Exit>, AllocError>
     ensures next { IfOk result (λ exit. (at : _) → let s = state_of at turn.old in next_of (state_of at turn.new) exit
-        ≡ with_value v s (given (Some (Place.Field place)) (at next) s)) }
+        ≡ with_value v s (given (Some (NumberPlace.Field place)) (at next) s)) }
     ensures back { fields_before saved.new turn.new ≡ fields_before saved.old turn.old }
     ensures method { turn.new.frame.method ≡ turn.old.frame.method }
 {
     let Some(v) = v else {
         return Ok(Some(Exit::Fault(Fault::Overflow)));
     };
-    give(alloc, turn, saved, Some(Place::Field(place)), next, v)
+    give(alloc, turn, saved, Some(NumberPlace::Field(place)), next, v)
 }
 
 // The frame is left with a value. Without one the turn overflows.
-fn returned(v: Option<i64>) -> Exit
+fn return_value(v: Option<i64>) -> Exit
     ensures { (s : _) → leaves s (exit_view result) ≡ with_value v s (λ x. leaves s (returning x)) }
 {
     match v {
@@ -183,7 +185,7 @@ fn check(cancelled: bool, turn: &mut TurnState, next: u32) -> Option<Exit>
     if cancelled {
         return Some(Exit::Fault(Fault::Cancelled));
     }
-    turn.frame.line = next;
+    turn.frame.instruction = next;
     None
 }
 
@@ -194,7 +196,7 @@ fn wait<'a>(
     outer: &'a Bindings,
     env: &'a Env,
     turn: &mut TurnState,
-    awaited: &Awaited,
+    awaited: &CompiledAwait,
     next: u32,
 ) -> Result<Option<Exit>, AllocError>
     ensures next { IfOk result (λ exit. (at : _) → next_of (state_of at turn.new) exit
@@ -203,7 +205,7 @@ fn wait<'a>(
     ensures method { turn.new.frame.method ≡ turn.old.frame.method }
 {
     let exit = match awaited {
-        Awaited::Call(call) => {
+        CompiledAwait::Call(call) => {
             let sight = Sight {
                 variables: &turn.frame.variables,
                 fields: &turn.fields,
@@ -216,11 +218,14 @@ fn wait<'a>(
             };
             Exit::Call(invocation)
         }
-        Awaited::Root(root) => Exit::Wait(TaskName::Root(*root)),
-        Awaited::Task(handle) => Exit::Wait(TaskName::Own(handle_at(&turn.frame.handles, *handle))),
-        Awaited::Next(handle) => Exit::Next(handle_at(&turn.frame.handles, *handle)),
+        CompiledAwait::Root(root) => Exit::Wait(TaskName::Root(*root)),
+        CompiledAwait::Task(handle) => Exit::Wait(TaskName::Own(handle_at(
+            &turn.frame.handles,
+            *handle,
+        ))),
+        CompiledAwait::Next(handle) => Exit::Next(handle_at(&turn.frame.handles, *handle)),
     };
-    turn.frame.line = next;
+    turn.frame.instruction = next;
     Ok(Some(exit))
 }
 
@@ -252,6 +257,6 @@ fn bind(
         return Ok(Some(Exit::Fault(Fault::Overflow)));
     };
     turn.frame.own.push(Binding { local, value })?;
-    turn.frame.line = next;
+    turn.frame.instruction = next;
     Ok(None)
 }

@@ -9,7 +9,7 @@ ghost use Rattle.script_code.specs.Tree.{target_of, terms_of};
 ghost use Rattle.script_code.specs.Value.{evs};
 
 use crate::effect::Invocation;
-use script_code::{Binding, Call, Formula, Sight, value};
+use script_code::{Binding, CompiledCall, Formula, Sight, value};
 use std::alloc::{AllocError, Global};
 use swift_locals::Bindings;
 
@@ -17,7 +17,7 @@ use swift_locals::Bindings;
 #[inline(never)]
 pub fn invoke(
     alloc: Global,
-    call: &Call,
+    call: &CompiledCall,
     sight: Sight<'_>,
 ) -> Result<Option<Invocation>, AllocError>
     ensures { IfOk result (λ i. let c = target_of call.now in invocation_if i ≡ invoked c (evs c.args (scene_of sight.entry))) }

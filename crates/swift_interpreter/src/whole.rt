@@ -3,10 +3,10 @@
 ghost use Rattle.std.specs.Prelude.{◌≡◌, IfOk};
 ghost use Rattle.swift_interpreter.specs.Turn.{whole_turn};
 ghost use Rattle.swift_interpreter.specs.TurnStates.{fields_before, given_of, played_of, state_of};
-ghost use Rattle.script_code.specs.Instructions.{Follows};
+ghost use Rattle.script_code.specs.Instructions.{FollowsCode};
 
 use crate::exit::Exit;
-use crate::given::Given;
+use crate::given::TurnInput;
 use crate::play::play;
 use crate::resume::take;
 use crate::saved::SavedRows;
@@ -19,18 +19,18 @@ use swift_types::Resume;
 /// fields that it changes is saved before that, so that `saved` can put the fields back.
 pub fn play_whole(
     alloc: Global,
-    given: Given<'_>,
+    given: TurnInput<'_>,
     turn: &mut TurnState,
     saved: &mut SavedRows,
     resume: Resume,
     limit: u32,
 ) -> Result<Exit, AllocError>
-    ensures played { IfOk result (λ exit. (code : _) → (at : _) → Follows given.entry.instructions.now code at
+    ensures played { IfOk result (λ exit. (code : _) → (at : _) → FollowsCode given.entry.instructions.now code at
         → played_of (state_of at turn.new) exit ≡ whole_turn (given_of given.entry) limit (state_of at turn.old) resume) }
     ensures back { fields_before saved.new turn.new ≡ fields_before saved.old turn.old }
     ensures method { turn.new.frame.method ≡ turn.old.frame.method }
 {
-    let Given {
+    let TurnInput {
         instructions,
         outer,
         env,

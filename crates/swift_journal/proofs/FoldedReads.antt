@@ -18,7 +18,7 @@ use Rattle.swift_journal.specs.declared.stored.StoredExit.{StoredExit}
 use Rattle.swift_journal.specs.declared.stored.StoredFault.{StoredFault}
 
 abbrev head_of : MethodId → ℕ → ℕ → StoredFault → Bool → Bool → FrameHead
-head_of m l v p counted stands = record { method = m; line = l; variables = v; pending = p; counted = counted; stands = stands }
+head_of m l v p counted stands = record { method = m; instruction = l; variables = v; pending = p; counted = counted; stands = stands }
 
 frame_same : (m : MethodId) (l v : ℕ) (p : StoredFault) (stands counted : Bool) (ws : List ℤ)
     → frame_if_of (head_of m l v p (has_counts (after_kind stands counted)) (is_there (after_kind stands counted))) ws ≡ frame_if_of (head_of m l v p counted stands) ws
@@ -39,7 +39,7 @@ head_by start first task number exit f a = record {
   task = task;
   number = number;
   method = f.method;
-  line = f.line;
+  instruction = f.instruction;
   variables = f.variables;
   pending = f.pending;
   after = a;
@@ -54,9 +54,9 @@ reads_as_kept start first task number exit f a ws es is =
     let rest = skip_exit exit ws in
     let view : List EffectView → Option FrameView → FoldedView = λ (x : List EffectView). λ (y : Option FrameView). record { task = task.0; number = number; exit = exit_of exit ws; effects = x; after = y } in
     ap (λ (x : StoredAfter). folded_from (head_by start first task number exit f x) ws es) is
-    ∙ ap (λ (s : List ℤ). view (effects_of es s) (frame_if_of (head_of f.method f.line f.variables f.pending (has_counts (after_kind f.stands f.counted)) (is_there (after_kind f.stands f.counted))) rest))
-    (rest_same f.method f.line f.variables f.pending f.stands f.counted rest)
-    ∙ ap (view (effects_of es (effect_part exit f ws))) (frame_same f.method f.line f.variables f.pending f.stands f.counted rest)
+    ∙ ap (λ (s : List ℤ). view (effects_of es s) (frame_if_of (head_of f.method f.instruction f.variables f.pending (has_counts (after_kind f.stands f.counted)) (is_there (after_kind f.stands f.counted))) rest))
+    (rest_same f.method f.instruction f.variables f.pending f.stands f.counted rest)
+    ∙ ap (view (effects_of es (effect_part exit f ws))) (frame_same f.method f.instruction f.variables f.pending f.stands f.counted rest)
 
 -- what is kept of a turn, part by part
 abbrev kept_of : TaskId → ℕ → StoredExit → FrameHead → List ℤ → List StoredEffect → FoldedView

@@ -1,7 +1,7 @@
 -- Turns that were folded stay as they are when one is put after them, and when the last ones are dropped.
 use Rattle.std.proofs.Common.{◌≡◌, ℕ, ℤ, ◌+◌, ◌-◌, ◌<◌, List, [], ◌∷◌, ◌++◌, length, map, reverse, take, drop, get_or, refl, sym, ap, subst, ◌∙◌, arith, length-append}
 use Rattle.std.proofs.lemmas.List.{get_or-map, length-map, length-take-le}
-use Rattle.swift_journal.specs.CheckpointInside.{Placed, folded_at, folded_from, next_effect, next_start, placed, placed_from, placed_span}
+use Rattle.swift_journal.specs.CheckpointInside.{PlacedFold, folded_at, folded_from, next_effect, next_start, placed, placed_from, placed_span}
 use Rattle.swift_journal.specs.Checkpoints.{FoldedView}
 use Rattle.swift_journal.specs.Laid.{AreLaid}
 use Rattle.swift_journal.specs.declared.stored.FoldedHead.{FoldedHead}
@@ -23,7 +23,7 @@ placed_split (x ∷ kept) rest h n m =
     let more = kept ++ h ∷ rest in
     ap (λ (k : ℕ). record { head = x; size = k - x.start; effects = next_effect more m - x.first_effect } ∷ placed more n m) (start_split kept rest h n)
     ∙ ap (λ (k : ℕ). record { head = x; size = next_start kept h.start - x.start; effects = k - x.first_effect } ∷ placed more n m) (effect_split kept rest h m)
-    ∙ ap (λ (ps : List Placed). record { head = x; size = next_start kept h.start - x.start; effects = next_effect kept h.first_effect - x.first_effect } ∷ ps) (placed_split kept rest h n m)
+    ∙ ap (λ (ps : List PlacedFold). record { head = x; size = next_start kept h.start - x.start; effects = next_effect kept h.first_effect - x.first_effect } ∷ ps) (placed_split kept rest h n m)
 
 pub length_placed : (hs : List FoldedHead) (n m : ℕ) → length (placed hs n m) ≡ length hs
 length_placed [] n m = refl
@@ -35,7 +35,7 @@ folded_count hs ws es v is =
     sym (length_placed hs (length ws) (length es)) ∙ sym (length-map (placed hs (length ws) (length es)) (folded_at ws es)) ∙ ap length is
 
 -- the turn that is put last
-abbrev pub last_placed : FoldedHead → ℕ → ℕ → Placed
+abbrev pub last_placed : FoldedHead → ℕ → ℕ → PlacedFold
 last_placed h n m = record { head = h; size = n - h.start; effects = m - h.first_effect }
 
 placed_push : (hs hs' : List FoldedHead) (h : FoldedHead) (n m n' m' : ℕ) → hs' ≡ hs ++ h ∷ [] → h.start ≡ n → h.first_effect ≡ m → placed hs' n' m' ≡ placed hs n m ++ last_placed h n' m' ∷ []
@@ -63,7 +63,7 @@ pushed_placed hs hs' ws ws' dw es es' de h eh ew ee start first laid =
     (placed_push hs hs' h (length ws) (length es) (length ws') (length es') eh start first) ew ee start first (gained ws ws' dw h.start ew start) (gained es es' de h.first_effect ee first) laid
 
 -- the turn at a place
-abbrev pub placed_at : List FoldedHead → ℕ → FoldedHead → ℕ → ℕ → Placed
+abbrev pub placed_at : List FoldedHead → ℕ → FoldedHead → ℕ → ℕ → PlacedFold
 placed_at hs k h n m = record { head = h; size = next_start (drop (k + 1) hs) n - h.start; effects = next_effect (drop (k + 1) hs) m - h.first_effect }
 
 placed_around : (hs : List FoldedHead) (k : ℕ) (h : FoldedHead) (n m : ℕ) → k < length hs → h ≡ get_or hs k h
@@ -85,7 +85,7 @@ folded_is hs k h ws es v d lt at is =
     let place : length kept ≡ k = length_placed (take k hs) h.start h.first_effect ∙ length-take-le k hs (omega (arith, lt)) in
     ap (λ (x : List FoldedView). get_or x k d) (sym is)
     ∙ get_or-map f (placed hs n m) k p d (omega (arith, lt, long))
-    ∙ ap (λ (x : List Placed). f (get_or x k p)) (placed_around hs k h n m lt at)
+    ∙ ap (λ (x : List PlacedFold). f (get_or x k p)) (placed_around hs k h n m lt at)
     ∙ ap (λ (j : ℕ). f (get_or (kept ++ p ∷ placed (drop (k + 1) hs) n m) j p)) (sym place)
     ∙ ap f (seam kept (placed (drop (k + 1) hs) n m) p p)
 
@@ -120,5 +120,5 @@ pub left_laid : (hs hs' : List FoldedHead) (k : ℕ) (h : FoldedHead) (ws ws' : 
     → AreLaid placed_span (reverse (placed hs' (length ws') (length es'))) (length ws') (length es')
 left_laid hs hs' k h ws ws' es es' lt at eh ew ee laid =
     let n = length ws in let m = length es in
-    subst (λ (x : List Placed). AreLaid placed_span (reverse x) (length ws') (length es')) (sym (left hs hs' k h ws ws' es es' lt at eh ew ee laid))
+    subst (λ (x : List PlacedFold). AreLaid placed_span (reverse x) (length ws') (length es')) (sym (left hs hs' k h ws ws' es es' lt at eh ew ee laid))
     (laid_before placed_span (placed hs n m) (placed (take k hs) h.start h.first_effect) (placed (drop (k + 1) hs) n m) (placed_at hs k h n m) ws ws' es es' (placed_around hs k h n m lt at) ew ee laid)

@@ -10,7 +10,7 @@ use Rattle.swift_journal.specs.Ends.{pending_of, pending_kind, pending_words, sk
 use Rattle.swift_journal.specs.FrameWords.{skip_handles, skip_own, skip_groups, skip_frame, skip_counts, counts_of, counts_words, frame_counts, frame_from, frame_of, frame_words, list_words}
 use Rattle.swift_journal.specs.Words.{ReadsBack, numbers_of, pair_words, pairs_from, AreNarrow}
 use Rattle.swift_journal.specs.declared.stored.StoredFault.{StoredFault}
-use Rattle.swift_journal.specs.declared.stored.Counts.{Counts}
+use Rattle.swift_journal.specs.declared.stored.FrameCounts.{FrameCounts}
 use Rattle.swift_journal.specs.declared.stored.FrameHead.{FrameHead}
 use Rattle.swift_journal.proofs.EndsReadBack.{pending_reads_back}
 use Rattle.swift_journal.proofs.Pairs.{own_reversed, pairs_back, length-pair_words}
@@ -29,10 +29,10 @@ numbers_read_back : (vs : List ℤ) (n : ℕ) → n ≡ length vs → ReadsBack 
 numbers_read_back vs n e = record { reads = λ rest. take_at vs rest n (sym e); leaves = λ rest. drop_at vs rest n (sym e) }
 
 -- a frame by its head and its lists
-abbrev pub frame_by : FrameHead → List ℤ → Counts → List ℕ → List (ℕ × ℤ) → List ℕ → Option Fault → FrameView
+abbrev pub frame_by : FrameHead → List ℤ → FrameCounts → List ℕ → List (ℕ × ℤ) → List ℕ → Option Fault → FrameView
 frame_by h vs c hs own gs p = record {
   method = h.method.0;
-  line = h.line;
+  instruction = h.instruction;
   variables = vs;
   handles = hs;
   own = own;
@@ -42,7 +42,7 @@ frame_by h vs c hs own gs p = record {
   opened = c.opened;
 }
 
-pub frame_same : (h : FrameHead) (vs : List ℤ) (c : Counts) (ws : List ℤ) (hs : List ℕ) (own : List Binding) (gs : List ℕ) (p : Option Fault)
+pub frame_same : (h : FrameHead) (vs : List ℤ) (c : FrameCounts) (ws : List ℤ) (hs : List ℕ) (own : List Binding) (gs : List ℕ) (p : Option Fault)
     → hs ≡ numbers_of (take c.handles ws) → map pair_of own ≡ pairs_from c.own (skip_handles c ws)
     → gs ≡ numbers_of (take c.groups (skip_own c ws)) → p ≡ pending_of h.pending (skip_groups c ws)
     → frame_by h vs c hs (pairs_of own) (reverse gs) p ≡ frame_from h vs c ws
@@ -71,7 +71,7 @@ cut f rest =
     let e4 = ap (drop c.groups) e3 ∙ drop_at (map pos f.groups.items) _ c.groups (length-map f.groups.items pos) in
     record { own = e2; groups = e3; pending = e4 }
 
-lists_read_back : (f : Frame) (h : FrameHead) → h.method ≡ f.method → h.line ≡ f.line → h.pending ≡ pending_kind f.pending
+lists_read_back : (f : Frame) (h : FrameHead) → h.method ≡ f.method → h.instruction ≡ f.instruction → h.pending ≡ pending_kind f.pending
     → numbers_of (map pos f.handles.items) ≡ f.handles.items → AreNarrow (map pair_of f.own.items) → numbers_of (map pos f.groups.items) ≡ f.groups.items
     → ReadsBack FrameView (frame_from h f.variables.items (frame_counts f)) (λ ws. skip_pending h.pending (skip_groups (frame_counts f) ws)) (list_words f ++ pending_words f.pending) (frame_view f)
 lists_read_back f h em el ek handles_fit own_fit groups_fit =
@@ -86,13 +86,13 @@ lists_read_back f h em el ek handles_fit own_fit groups_fit =
           ∙ pairs_back (map pair_of f.own.items) _ ∙ own_fit))
           (sym (ap (λ s. numbers_of (take c.groups s)) at.groups ∙ ap numbers_of (take_at (map pos f.groups.items) _ c.groups (length-map f.groups.items pos)) ∙ groups_fit))
           (sym (ap (pending_of h.pending) at.pending ∙ pend rest)))
-          ∙ ap (λ m. record (frame_view f) { method = m.0; line = h.line }) em ∙ ap (λ (l : ℕ). record (frame_view f) { line = l }) el;
+          ∙ ap (λ m. record (frame_view f) { method = m.0; instruction = h.instruction }) em ∙ ap (λ (l : ℕ). record (frame_view f) { instruction = l }) el;
       leaves = λ rest. ap (skip_pending h.pending) (cut f rest).pending
           ∙ ap (λ (k : StoredFault). skip_pending k (pending_words f.pending ++ rest)) ek ∙ (pending_reads_back f.pending).leaves rest;
     }
 
-pub frame_reads_back : (f : Frame) (h : FrameHead) → h.method ≡ f.method → h.line ≡ f.line → h.variables ≡ length f.variables.items → h.pending ≡ pending_kind f.pending
-    → ReadsBack Counts (counts_of h.counted) (skip_counts h.counted) (counts_words h.counted (frame_counts f)) (frame_counts f)
+pub frame_reads_back : (f : Frame) (h : FrameHead) → h.method ≡ f.method → h.instruction ≡ f.instruction → h.variables ≡ length f.variables.items → h.pending ≡ pending_kind f.pending
+    → ReadsBack FrameCounts (counts_of h.counted) (skip_counts h.counted) (counts_words h.counted (frame_counts f)) (frame_counts f)
     → numbers_of (map pos f.handles.items) ≡ f.handles.items → AreNarrow (map pair_of f.own.items) → numbers_of (map pos f.groups.items) ≡ f.groups.items
     → ReadsBack FrameView (frame_of h) (skip_frame h) (frame_words h.counted f) (frame_view f)
 frame_reads_back f h em el ev ek counts handles_fit own_fit groups_fit =

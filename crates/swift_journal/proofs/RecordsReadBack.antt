@@ -8,11 +8,11 @@ use Rattle.swift_journal.specs.EffectWords.{effects_of, skip_effects}
 use Rattle.swift_journal.specs.Ends.{resume_of, skip_resume, exit_of, skip_exit}
 use Rattle.swift_journal.specs.FrameWords.{frame_of, skip_frame, frame_if_of, skip_frame_if}
 use Rattle.swift_journal.specs.JournalInside.{exit_part, frame_part, outer_part, effect_part, record_of}
-use Rattle.swift_journal.specs.Laid.{Span}
+use Rattle.swift_journal.specs.Laid.{TurnSpan}
 use Rattle.swift_journal.specs.Records.{RecordView}
 use Rattle.swift_journal.specs.Words.{ReadsBack, bindings_of, skip_bindings}
 use Rattle.swift_journal.specs.declared.stored.StoredEffect.{StoredEffect}
-use Rattle.swift_journal.specs.declared.stored.Head.{Head}
+use Rattle.swift_journal.specs.declared.stored.TurnHead.{TurnHead}
 
 -- the words of a turn, written one part after another
 pub begun : (w0 w1 w2 w3 r f o : List ℤ) → w0 ≡ [] → w1 ≡ w0 ++ r → w2 ≡ w1 ++ f → w3 ≡ w2 ++ o → w3 ≡ (r ++ f) ++ o
@@ -22,7 +22,7 @@ pub chained : (w3 w4 w5 w6 r f o e a x : List ℤ) → w3 ≡ (r ++ f) ++ o → 
 chained w3 w4 w5 w6 r f o e a x e3 e4 e5 e6 = e6 ∙ ap (λ s. s ++ x) (e5 ∙ ap (λ s. s ++ a) (e4 ∙ ap (λ s. s ++ e) e3))
 
 -- a turn by its head, and by what its words say
-abbrev pub record_by : Head → FrameView → List (ℕ × ℤ) → Resume → ExitView → List EffectView → Option FrameView → RecordView
+abbrev pub record_by : TurnHead → FrameView → List (ℕ × ℤ) → Resume → ExitView → List EffectView → Option FrameView → RecordView
 record_by h frame outer resume exit effects after = record {
   task = h.task.0;
   number = h.number;
@@ -36,7 +36,7 @@ record_by h frame outer resume exit effects after = record {
   after = after;
 }
 
-pub record_same : (h : Head) (es : List StoredEffect) (ws : List ℤ) (frame : FrameView) (outer : List (ℕ × ℤ)) (resume : Resume) (exit : ExitView) (effects : List EffectView) (after : Option FrameView)
+pub record_same : (h : TurnHead) (es : List StoredEffect) (ws : List ℤ) (frame : FrameView) (outer : List (ℕ × ℤ)) (resume : Resume) (exit : ExitView) (effects : List EffectView) (after : Option FrameView)
     → frame_of h.frame (frame_part h ws) ≡ frame → bindings_of h.outer (outer_part h ws) ≡ outer → resume_of h.resume ws ≡ resume → exit_of h.exit (exit_part h ws) ≡ exit
     → effects_of es (effect_part h.exit h.after (exit_part h ws)) ≡ effects → frame_if_of h.after (skip_exit h.exit (exit_part h ws)) ≡ after
     → record_of h ws es ≡ record_by h frame outer resume exit effects after
@@ -55,7 +55,7 @@ regroup r f o e a x = simp append_assoc
 regroup_end : (p e a x : List ℤ) → ((p ++ e) ++ a) ++ x ≡ p ++ (e ++ (a ++ x))
 regroup_end p e a x = simp append_assoc
 
-pub record_reads : (h : Head) (es : List StoredEffect) (frame : FrameView) (outer : List (ℕ × ℤ)) (resume : Resume) (exit : ExitView) (effects : List EffectView) (after : Option FrameView)
+pub record_reads : (h : TurnHead) (es : List StoredEffect) (frame : FrameView) (outer : List (ℕ × ℤ)) (resume : Resume) (exit : ExitView) (effects : List EffectView) (after : Option FrameView)
     (r f o e a x ws : List ℤ) → ws ≡ ((((r ++ f) ++ o) ++ e) ++ a) ++ x
     → h.ended ≡ length ((r ++ f) ++ o)
     → ReadsBack Resume (resume_of h.resume) (skip_resume h.resume) r resume
@@ -81,7 +81,7 @@ record_reads h es frame outer resume exit effects after r f o e a x ws is ended 
     (ap (frame_if_of h.after) p4 ∙ ka.reads x)
 
 -- where a turn stands, number by number
-pub span_same : (s : Span) (start size first_effect effects : ℕ) → s.start ≡ start → s.size ≡ size → s.first_effect ≡ first_effect → s.effects ≡ effects
+pub span_same : (s : TurnSpan) (start size first_effect effects : ℕ) → s.start ≡ start → s.size ≡ size → s.first_effect ≡ first_effect → s.effects ≡ effects
     → s ≡ record { start = start; size = size; first_effect = first_effect; effects = effects }
 span_same s start size first_effect effects e1 e2 e3 e4 =
     ap (λ (n : ℕ). record s { start = n }) e1

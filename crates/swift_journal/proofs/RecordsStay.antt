@@ -2,24 +2,24 @@
 use Rattle.std.proofs.Common.{◌≡◌, ℕ, ℤ, ◌-◌, ◌<◌, List, [], ◌∷◌, ◌++◌, length, map, reverse, get_or, refl, sym, ap, ◌∙◌, arith}
 use Rattle.std.proofs.lemmas.List.{get_or-map, get_or_push, length_push}
 use Rattle.swift_journal.specs.JournalInside.{IsPut, record_at, record_of, span_of}
-use Rattle.swift_journal.specs.Laid.{AreLaid, Span}
+use Rattle.swift_journal.specs.Laid.{AreLaid, TurnSpan}
 use Rattle.swift_journal.specs.Records.{RecordView}
-use Rattle.swift_journal.specs.TailInside.{TailIs, since, whole}
-use Rattle.swift_journal.specs.declared.stored.Head.{Head}
+use Rattle.swift_journal.specs.TailInside.{TailView, since, whole}
+use Rattle.swift_journal.specs.declared.stored.TurnHead.{TurnHead}
 use Rattle.swift_journal.specs.declared.stored.StoredEffect.{StoredEffect}
 use Rattle.swift_journal.proofs.TurnsStay.{pushed}
 
-pub put_view : (hs hs' : List Head) (ws : List ℤ) (begun t : TailIs) (es es' : List StoredEffect) (r : RecordView)
+pub put_view : (hs hs' : List TurnHead) (ws : List ℤ) (begun t : TailView) (es es' : List StoredEffect) (r : RecordView)
     → begun ≡ record { before = ws; written = [] } → t.before ≡ begun.before → es' ≡ es ++ since es es'
     → IsPut hs hs' (length begun.before) t.written (length es) (since es es') r
     → AreLaid span_of (reverse hs) (length ws) (length es) → map (record_at (whole t) es') hs' ≡ map (record_at ws es) hs ++ r ∷ []
 put_view hs hs' ws begun t es es' r eb before gained p laid =
-    let at = ap (λ (x : TailIs). x.before) eb in
+    let at = ap (λ (x : TailView). x.before) eb in
     pushed span_of record_of hs hs' ws (whole t) t.written es es' (since es es') p.head r p.put (ap (λ s. s ++ t.written) (before ∙ at)) gained
-    (ap (λ (s : Span). s.start) p.span ∙ ap length at) (ap (λ (s : Span). s.first_effect) p.span) (ap (λ (s : Span). s.size) p.span) (ap (λ (s : Span). s.effects) p.span) p.says laid
+    (ap (λ (s : TurnSpan). s.start) p.span ∙ ap length at) (ap (λ (s : TurnSpan). s.first_effect) p.span) (ap (λ (s : TurnSpan). s.size) p.span) (ap (λ (s : TurnSpan). s.effects) p.span) p.says laid
 
 -- the turn at a place, by its head
-pub turn_at : (f : Head → RecordView) (hs : List Head) (k : ℕ) (h : Head) (v : List RecordView) (d : RecordView) → k < length hs → h ≡ get_or hs k h → map f hs ≡ v → get_or v k d ≡ f h
+pub turn_at : (f : TurnHead → RecordView) (hs : List TurnHead) (k : ℕ) (h : TurnHead) (v : List RecordView) (d : RecordView) → k < length hs → h ≡ get_or hs k h → map f hs ≡ v → get_or v k d ≡ f h
 turn_at f hs k h v d lt at is = ap (λ (x : List RecordView). get_or x k d) (sym is) ∙ get_or-map f hs k h d lt ∙ ap f (sym at)
 
 -- the turn that was put last

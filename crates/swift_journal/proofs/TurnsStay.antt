@@ -1,7 +1,7 @@
 -- Turns that are laid one after another stay as they are when one is put after them, and when the last ones are dropped.
 use Rattle.std.proofs.Common.{◌≡◌, ℕ, ℤ, ◌+◌, ◌-◌, ◌≤◌, ◌<◌, List, [], ◌∷◌, ◌++◌, length, map, reverse, take, drop, get_or, refl, sym, ap, subst, ◌∙◌, arith, append_assoc, length-append}
 use Rattle.std.proofs.lemmas.List.{map-append, reverse-append, reverse-reverse, take-take, take_at, take_all, take-append-le, take-append-drop, take-map, drop-take, drop_at, drop_more, length_push, length-take-le, length-map}
-use Rattle.swift_journal.specs.Laid.{Span, AreLaid, read_at}
+use Rattle.swift_journal.specs.Laid.{TurnSpan, AreLaid, read_at}
 use Rattle.swift_journal.specs.declared.stored.StoredEffect.{StoredEffect}
 use Rattle.swift_journal.proofs.Pairs.{map_reverse}
 
@@ -12,7 +12,7 @@ take_less m n xs ys h e = sym (take-take m n xs h) ∙ ap (take m) e ∙ take-ta
 part_same : {X : Type 0} (n s k : ℕ) (xs ys : List X) → s + k ≤ n → take n xs ≡ take n ys → take k (drop s xs) ≡ take k (drop s ys)
 part_same n s k xs ys h e = sym (drop-take s k xs) ∙ ap (drop s) (take_less (s + k) n xs ys h e) ∙ drop-take s k ys
 
-turns_same : {H V : Type 0} (span : H → Span) (read : H → List ℤ → List StoredEffect → V) (hs : List H) (n m : ℕ) (ws ws' : List ℤ) (es es' : List StoredEffect)
+turns_same : {H V : Type 0} (span : H → TurnSpan) (read : H → List ℤ → List StoredEffect → V) (hs : List H) (n m : ℕ) (ws ws' : List ℤ) (es es' : List StoredEffect)
     → AreLaid span hs n m → take n ws ≡ take n ws' → take m es ≡ take m es' → map (read_at span read ws es) hs ≡ map (read_at span read ws' es') hs
 turns_same span read [] n m ws ws' es es' laid w e = refl
 turns_same {V = V} span read (h ∷ hs) n m ws ws' es es' laid w e =
@@ -27,13 +27,13 @@ turns_same {V = V} span read (h ∷ hs) n m ws ws' es es' laid w e =
 turned : {H V : Type 0} (f : H → V) (hs : List H) → map f hs ≡ reverse (map f (reverse hs))
 turned f hs = ap (map f) (sym (reverse-reverse hs)) ∙ map_reverse f (reverse hs)
 
-pub view_same : {H V : Type 0} (span : H → Span) (read : H → List ℤ → List StoredEffect → V) (hs : List H) (n m : ℕ) (ws ws' : List ℤ) (es es' : List StoredEffect)
+pub view_same : {H V : Type 0} (span : H → TurnSpan) (read : H → List ℤ → List StoredEffect → V) (hs : List H) (n m : ℕ) (ws ws' : List ℤ) (es es' : List StoredEffect)
     → AreLaid span (reverse hs) n m → take n ws ≡ take n ws' → take m es ≡ take m es' → map (read_at span read ws es) hs ≡ map (read_at span read ws' es') hs
 view_same span read hs n m ws ws' es es' laid w e =
     turned (read_at span read ws es) hs ∙ ap reverse (turns_same span read (reverse hs) n m ws ws' es es' laid w e) ∙ sym (turned (read_at span read ws' es') hs)
 
 -- the turn that was put last reads as what was written
-last_reads : {H V : Type 0} (span : H → Span) (read : H → List ℤ → List StoredEffect → V) (ws dw : List ℤ) (es de : List StoredEffect) (h : H) (r : V)
+last_reads : {H V : Type 0} (span : H → TurnSpan) (read : H → List ℤ → List StoredEffect → V) (ws dw : List ℤ) (es de : List StoredEffect) (h : H) (r : V)
     → (span h).start ≡ length ws → (span h).first_effect ≡ length es → (span h).size ≡ length dw → (span h).effects ≡ length de
     → read h dw de ≡ r → read_at span read (ws ++ dw) (es ++ de) h ≡ r
 last_reads span read ws dw es de h r start first size effects says =
@@ -43,7 +43,7 @@ last_reads span read ws dw es de h r start first size effects says =
     ap (λ (x : List ℤ). read h x (take s.effects (drop s.first_effect (es ++ de)))) w ∙ ap (λ (x : List StoredEffect). read h dw x) e ∙ says
 
 -- one more turn
-pub pushed : {H V : Type 0} (span : H → Span) (read : H → List ℤ → List StoredEffect → V) (hs hs' : List H) (ws ws' dw : List ℤ) (es es' de : List StoredEffect) (h : H) (r : V)
+pub pushed : {H V : Type 0} (span : H → TurnSpan) (read : H → List ℤ → List StoredEffect → V) (hs hs' : List H) (ws ws' dw : List ℤ) (es es' de : List StoredEffect) (h : H) (r : V)
     → hs' ≡ hs ++ h ∷ [] → ws' ≡ ws ++ dw → es' ≡ es ++ de
     → (span h).start ≡ length ws → (span h).first_effect ≡ length es → (span h).size ≡ length dw → (span h).effects ≡ length de → read h dw de ≡ r
     → AreLaid span (reverse hs) (length ws) (length es) → map (read_at span read ws' es') hs' ≡ map (read_at span read ws es) hs ++ r ∷ []
@@ -55,7 +55,7 @@ pushed {V = V} span read hs hs' ws ws' dw es es' de h r eh ew ee start first siz
     ∙ ap (λ (x : List V). x ++ new h ∷ []) (sym old)
     ∙ ap (λ (x : V). map (read_at span read ws es) hs ++ x ∷ []) (last_reads span read ws dw es de h r start first size effects says)
 
-pub pushed_laid : {H : Type 0} (span : H → Span) (hs hs' : List H) (ws ws' dw : List ℤ) (es es' de : List StoredEffect) (h : H)
+pub pushed_laid : {H : Type 0} (span : H → TurnSpan) (hs hs' : List H) (ws ws' dw : List ℤ) (es es' de : List StoredEffect) (h : H)
     → hs' ≡ hs ++ h ∷ [] → ws' ≡ ws ++ dw → es' ≡ es ++ de
     → (span h).start ≡ length ws → (span h).first_effect ≡ length es → (span h).size ≡ length dw → (span h).effects ≡ length de
     → AreLaid span (reverse hs) (length ws) (length es) → AreLaid span (reverse hs') (length ws') (length es')
@@ -68,12 +68,12 @@ pushed_laid {H = H} span hs hs' ws ws' dw es es' de h eh ew ee start first size 
     (omega (arith, w, start, size), omega (arith, e, first, effects), older)
 
 -- the older turns end where a turn begins
-pub record EndBefore (H : Type 0) (span : H → Span) (older : List H) (h : H) (n m : ℕ) : Type 0 where
+pub record EndBefore (H : Type 0) (span : H → TurnSpan) (older : List H) (h : H) (n m : ℕ) : Type 0 where
   pub laid : AreLaid span older (span h).start (span h).first_effect
   pub words : (span h).start ≤ n
   pub effects : (span h).first_effect ≤ m
 
-end_before : {H : Type 0} (span : H → Span) (newer older : List H) (h : H) (n m : ℕ) → AreLaid span (newer ++ h ∷ older) n m → EndBefore H span older h n m
+end_before : {H : Type 0} (span : H → TurnSpan) (newer older : List H) (h : H) (n m : ℕ) → AreLaid span (newer ++ h ∷ older) n m → EndBefore H span older h n m
 end_before span [] older h n m laid =
     let fits = laid.0 in let fits' = laid.1 in
     record { laid = laid.2; words = omega (arith, fits); effects = omega (arith, fits') }
@@ -86,12 +86,12 @@ turned_round : {H : Type 0} (kept dropped : List H) (h : H) → reverse (kept ++
 turned_round kept dropped h =
     reverse-append kept (h ∷ dropped) ∙ ap (λ s. s ++ reverse kept) (reverse-append (h ∷ []) dropped) ∙ append_assoc (reverse dropped) (h ∷ []) (reverse kept)
 
-pub cut_before : {H : Type 0} (span : H → Span) (hs kept dropped : List H) (h : H) (n m : ℕ) → hs ≡ kept ++ h ∷ dropped → AreLaid span (reverse hs) n m → EndBefore H span (reverse kept) h n m
+pub cut_before : {H : Type 0} (span : H → TurnSpan) (hs kept dropped : List H) (h : H) (n m : ℕ) → hs ≡ kept ++ h ∷ dropped → AreLaid span (reverse hs) n m → EndBefore H span (reverse kept) h n m
 cut_before {H = H} span hs kept dropped h n m eh laid =
     end_before span (reverse dropped) (reverse kept) h n m (subst (λ (x : List H). AreLaid span x n m) (ap reverse eh ∙ turned_round kept dropped h) laid)
 
 -- the turns from one on are dropped
-pub dropped_from : {H V : Type 0} (span : H → Span) (read : H → List ℤ → List StoredEffect → V) (hs kept dropped : List H) (h : H) (ws ws' : List ℤ) (es es' : List StoredEffect)
+pub dropped_from : {H V : Type 0} (span : H → TurnSpan) (read : H → List ℤ → List StoredEffect → V) (hs kept dropped : List H) (h : H) (ws ws' : List ℤ) (es es' : List StoredEffect)
     → hs ≡ kept ++ h ∷ dropped → ws' ≡ take (span h).start ws → es' ≡ take (span h).first_effect es
     → AreLaid span (reverse hs) (length ws) (length es) → map (read_at span read ws' es') kept ≡ take (length kept) (map (read_at span read ws es) hs)
 dropped_from span read hs kept dropped h ws ws' es es' eh ew ee laid =
@@ -102,7 +102,7 @@ dropped_from span read hs kept dropped h ws ws' es es' eh ew ee laid =
     ∙ sym (take-map (read_at span read ws es) (length kept) hs)
 
 -- those that are left end where the words and the effects now end
-pub laid_before : {H : Type 0} (span : H → Span) (hs kept dropped : List H) (h : H) (ws ws' : List ℤ) (es es' : List StoredEffect)
+pub laid_before : {H : Type 0} (span : H → TurnSpan) (hs kept dropped : List H) (h : H) (ws ws' : List ℤ) (es es' : List StoredEffect)
     → hs ≡ kept ++ h ∷ dropped → ws' ≡ take (span h).start ws → es' ≡ take (span h).first_effect es
     → AreLaid span (reverse hs) (length ws) (length es) → AreLaid span (reverse kept) (length ws') (length es')
 laid_before span hs kept dropped h ws ws' es es' eh ew ee laid =
@@ -112,7 +112,7 @@ laid_before span hs kept dropped h ws ws' es es' eh ew ee laid =
     subst (λ (n : ℕ). AreLaid span (reverse kept) n (length es')) (sym w) (subst (λ (m : ℕ). AreLaid span (reverse kept) (span h).start m) (sym e) cut.laid)
 
 -- the last turn is dropped
-pub retracted : {H V : Type 0} (span : H → Span) (read : H → List ℤ → List StoredEffect → V) (hs hs' : List H) (ws ws' : List ℤ) (es es' : List StoredEffect) (h : H) (v : List V)
+pub retracted : {H V : Type 0} (span : H → TurnSpan) (read : H → List ℤ → List StoredEffect → V) (hs hs' : List H) (ws ws' : List ℤ) (es es' : List StoredEffect) (h : H) (v : List V)
     → hs ≡ hs' ++ h ∷ [] → ws' ≡ take (span h).start ws → es' ≡ take (span h).first_effect es
     → AreLaid span (reverse hs) (length ws) (length es) → map (read_at span read ws es) hs ≡ v → map (read_at span read ws' es') hs' ≡ take (length v - 1) v
 retracted {V = V} span read hs hs' ws ws' es es' h v eh ew ee laid is =

@@ -5,13 +5,13 @@ use Rattle.swift_journal.specs.EffectWords.{effects_of}
 use Rattle.swift_journal.specs.Ends.{exit_of, skip_exit}
 use Rattle.swift_journal.specs.FrameWords.{frame_if_of}
 use Rattle.swift_journal.specs.JournalInside.{effect_part}
-use Rattle.swift_journal.specs.Laid.{Span, read_at}
+use Rattle.swift_journal.specs.Laid.{TurnSpan, read_at}
 use Rattle.swift_journal.specs.declared.stored.StoredEffect.{StoredEffect}
 use Rattle.swift_journal.specs.declared.stored.StoredAfter.{StoredAfter}
 use Rattle.swift_journal.specs.declared.stored.StoredAfter.TheVariants.{Absent, Plain, Counted}
 use Rattle.swift_journal.specs.declared.stored.FoldedHead.{FoldedHead}
 use Rattle.swift_journal.specs.declared.stored.FrameHead.{FrameHead}
-use Rattle.swift_journal.specs.declared.journal.Ended.{Ended}
+use Rattle.swift_journal.specs.declared.journal.EndedTurn.{EndedTurn}
 
 -- whether a frame stands after a turn, and whether its counts are stored
 abbrev pub after_kind : Bool → Bool → StoredAfter
@@ -33,7 +33,7 @@ has_counts Counted = true
 abbrev pub after_of : FoldedHead → FrameHead
 after_of h = record {
   method = h.method;
-  line = h.line;
+  instruction = h.instruction;
   variables = h.variables;
   pending = h.pending;
   counted = has_counts h.after;
@@ -51,7 +51,7 @@ folded_from h ws es = record {
 }
 
 -- what a journal lends of a turn for that
-abbrev pub ended_view : Ended → FoldedView
+abbrev pub ended_view : EndedTurn → FoldedView
 ended_view e = record {
   task = e.task.0;
   number = e.number;
@@ -70,23 +70,23 @@ next_effect [] effects = effects
 next_effect (h ∷ hs) effects = h.first_effect
 
 -- a turn that was folded, and how many words and effects it has
-pub record Placed : Type 0 where
+pub record PlacedFold : Type 0 where
   pub head : FoldedHead
   pub size : ℕ
   pub effects : ℕ
 
 -- turns in order, each of which ends where the next one begins
-abbrev pub placed : List FoldedHead → ℕ → ℕ → List Placed
+abbrev pub placed : List FoldedHead → ℕ → ℕ → List PlacedFold
 placed [] words effects = []
 placed (h ∷ hs) words effects =
     record { head = h; size = next_start hs words - h.start; effects = next_effect hs effects - h.first_effect } ∷ placed hs words effects
 
 -- where the words and the effects of a turn stand
-abbrev pub placed_span : Placed → Span
+abbrev pub placed_span : PlacedFold → TurnSpan
 placed_span p = record { start = p.head.start; size = p.size; first_effect = p.head.first_effect; effects = p.effects }
 
-abbrev pub placed_from : Placed → List ℤ → List StoredEffect → FoldedView
+abbrev pub placed_from : PlacedFold → List ℤ → List StoredEffect → FoldedView
 placed_from p = folded_from p.head
 
-abbrev pub folded_at : List ℤ → List StoredEffect → Placed → FoldedView
+abbrev pub folded_at : List ℤ → List StoredEffect → PlacedFold → FoldedView
 folded_at = read_at placed_span placed_from

@@ -1,9 +1,9 @@
 -- Turns that were folded, and checkpoints (our own).
 use Rattle.std.specs.Prelude.{ℕ, ℤ, Option, List, ◌++◌, map}
-use Rattle.swift_interpreter.specs.Frames.{FrameView, effect_views}
+use Rattle.swift_interpreter.specs.Frames.{FrameView, effect_views, frame_if}
 use Rattle.swift_interpreter.specs.Turn.{EffectView, ExitView}
 use Rattle.swift_interpreter.specs.TurnStates.{exit_view}
-use Rattle.swift_journal.specs.Records.{RecordView, frame_if}
+use Rattle.swift_journal.specs.Records.{RecordView}
 use Rattle.swift_journal.specs.declared.folded.Folded.{Folded}
 
 -- what is left of a turn that was folded: which turn it was, how it ended, what it did beside its fields, and the frame after
@@ -27,7 +27,7 @@ pub record CheckpointView : Type 0 where
   pub folded : List FoldedView
 
 -- a checkpoint, and the turns for which it has room: they can be folded without memory
-pub record CheckpointRoom : Type 0 where
+pub record CheckpointRoomView : Type 0 where
   pub view : CheckpointView
   pub room : List FoldedView
 

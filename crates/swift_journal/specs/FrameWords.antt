@@ -7,7 +7,7 @@ use Rattle.swift_interpreter.specs.Frames.{FrameView}
 use Rattle.swift_interpreter.specs.declared.frame.Frame.{Frame}
 use Rattle.swift_journal.specs.Words.{numbers_of, pair_words, bindings_of, skip_bindings}
 use Rattle.swift_journal.specs.Ends.{pending_of, pending_words, skip_pending}
-use Rattle.swift_journal.specs.declared.stored.Counts.{Counts}
+use Rattle.swift_journal.specs.declared.stored.FrameCounts.{FrameCounts}
 use Rattle.swift_journal.specs.declared.stored.FrameHead.{FrameHead}
 
 -- the word at a place, as a count
@@ -15,7 +15,7 @@ abbrev pub count_at : List ℤ → ℕ → ℕ
 count_at ws k = cast_unsigned w64 (slice_index_or ws k (pos 0))
 
 -- the counts of a frame, which are 0 where none are stored
-abbrev pub counts_of : Bool → List ℤ → Counts
+abbrev pub counts_of : Bool → List ℤ → FrameCounts
 counts_of false ws = record { made = 0; opened = 0; handles = 0; own = 0; groups = 0 }
 counts_of true ws = record { made = count_at ws 0; opened = count_at ws 1; handles = count_at ws 2; own = count_at ws 3; groups = count_at ws 4 }
 
@@ -23,28 +23,28 @@ abbrev pub skip_counts : Bool → List ℤ → List ℤ
 skip_counts false ws = ws
 skip_counts true ws = drop 5 ws
 
-abbrev pub counts_words : Bool → Counts → List ℤ
+abbrev pub counts_words : Bool → FrameCounts → List ℤ
 counts_words false c = []
 counts_words true c = cast_signed w64 c.made ∷ cast_signed w64 c.opened ∷ cast_signed w64 c.handles ∷ cast_signed w64 c.own ∷ cast_signed w64 c.groups ∷ []
 
-abbrev pub frame_counts : Frame → Counts
+abbrev pub frame_counts : Frame → FrameCounts
 frame_counts f = record { made = f.made; opened = f.opened; handles = length f.handles.items; own = length f.own.items; groups = length f.groups.items }
 
 -- the words after the handles, the bindings and the groups of a frame
-abbrev pub skip_handles : Counts → List ℤ → List ℤ
+abbrev pub skip_handles : FrameCounts → List ℤ → List ℤ
 skip_handles c ws = drop c.handles ws
 
-abbrev pub skip_own : Counts → List ℤ → List ℤ
+abbrev pub skip_own : FrameCounts → List ℤ → List ℤ
 skip_own c ws = skip_bindings c.own (skip_handles c ws)
 
-abbrev pub skip_groups : Counts → List ℤ → List ℤ
+abbrev pub skip_groups : FrameCounts → List ℤ → List ℤ
 skip_groups c ws = drop c.groups (skip_own c ws)
 
 -- a frame, by its head, its variables, its counts and the words of its lists
-abbrev pub frame_from : FrameHead → List ℤ → Counts → List ℤ → FrameView
+abbrev pub frame_from : FrameHead → List ℤ → FrameCounts → List ℤ → FrameView
 frame_from h variables c ws = record {
   method = h.method.0;
-  line = h.line;
+  instruction = h.instruction;
   variables = variables;
   handles = numbers_of (take c.handles ws);
   own = bindings_of c.own (skip_handles c ws);
@@ -58,7 +58,7 @@ frame_from h variables c ws = record {
 abbrev pub skip_variables : FrameHead → List ℤ → List ℤ
 skip_variables h ws = drop h.variables ws
 
-abbrev pub head_counts : FrameHead → List ℤ → Counts
+abbrev pub head_counts : FrameHead → List ℤ → FrameCounts
 head_counts h ws = counts_of h.counted (skip_variables h ws)
 
 abbrev pub list_part : FrameHead → List ℤ → List ℤ

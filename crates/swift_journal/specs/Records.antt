@@ -2,8 +2,8 @@
 use Rattle.std.specs.Prelude.{ℕ, ℤ, Option, Some, None, List}
 use denote.Bor.{Bor}
 use Rattle.swift_types.specs.declared.outcome.Resume.{Resume}
-use Rattle.script_code.specs.declared.env.Env.{Env}
-use Rattle.swift_interpreter.specs.Frames.{FrameView, frame_view, effect_views}
+use Rattle.swift_types.specs.declared.env.Env.{Env}
+use Rattle.swift_interpreter.specs.Frames.{FrameView, frame_view, effect_views, frame_if}
 use Rattle.swift_interpreter.specs.Turn.{EffectView, ExitView, calling, waiting, asking_next, closing, yielding, returning, failing}
 use Rattle.swift_interpreter.specs.TurnStates.{exit_view}
 use Rattle.swift_interpreter.specs.declared.frame.Frame.{Frame}
@@ -29,10 +29,6 @@ pub record RecordView : Type 0 where
   pub effects : List EffectView
   -- the frame as the turn left it, where it goes on
   pub after : Option FrameView
-
-abbrev pub frame_if : Option Frame → Option FrameView
-frame_if None = None
-frame_if (Some f) = Some (frame_view f)
 
 abbrev pub frame_if_lent : Option (Bor Frame) → Option FrameView
 frame_if_lent None = None

@@ -5,7 +5,7 @@ use Rattle.script_code.specs.Tree.{Term}
 use Rattle.script_code.specs.Value.{holds}
 use Rattle.swift_script.specs.Scripts.{ScriptView, actor_executor, executor_invariants, method_actor}
 use Rattle.swift_interpreter.specs.Frames.{FrameView}
-use Rattle.swift_interpreter.specs.Turn.{State, ExitView, returning, failing, Played}
+use Rattle.swift_interpreter.specs.Turn.{TurnStateView, ExitView, returning, failing, Played}
 use Rattle.swift_turn.specs.Body.{kept_turn, state_at}
 use Rattle.swift_journal.specs.Records.{RecordView}
 
@@ -23,12 +23,12 @@ replay script fields [] = fields
 replay script fields (r ∷ rs) = replay script (fields_after script fields r) rs
 
 -- there is a frame of this method, which stands for what a turn leaves to do
-abbrev pub StandsFor : ScriptView → ℕ → State → Option FrameView → Type 0
+abbrev pub StandsFor : ScriptView → ℕ → TurnStateView → Option FrameView → Type 0
 StandsFor script method s None = ⊥
 StandsFor script method s (Some p) = (p.method ≡ method) × (state_at script p s.fields s.effects s.room ≡ s)
 
 -- the frame after a turn that ends so: none where it was left, else the frame as the turn leaves it
-abbrev pub IsAfter : ScriptView → ℕ → State → ExitView → Option FrameView → Type 0
+abbrev pub IsAfter : ScriptView → ℕ → TurnStateView → ExitView → Option FrameView → Type 0
 IsAfter script method s (returning v) after = after ≡ None
 IsAfter script method s (failing f) after = after ≡ None
 IsAfter script method s _ after = StandsFor script method s after

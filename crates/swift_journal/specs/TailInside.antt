@@ -2,11 +2,11 @@
 use Rattle.std.specs.Prelude.{ℤ, List, ◌++◌, drop, length}
 
 -- the words that stood before, and those that were written since
-pub record TailIs : Type 0 where
+pub record TailView : Type 0 where
   pub before : List ℤ
   pub written : List ℤ
 
-abbrev pub whole : TailIs → List ℤ
+abbrev pub whole : TailView → List ℤ
 whole t = t.before ++ t.written
 
 -- what a list has gained

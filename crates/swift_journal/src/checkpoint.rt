@@ -7,7 +7,7 @@ ghost use Rattle.swift_journal.specs.Checkpoints.{folded_of};
 use crate::brief::BriefExit;
 use crate::folded::Folded;
 use crate::journal::Journal;
-use crate::turns::Turns;
+use crate::turns::FoldedTurns;
 use std::alloc::{AllocError, Global};
 use std::marker::Model;
 use swift_types::TaskId;
@@ -20,7 +20,7 @@ use swift_types::TaskId;
 pub struct Checkpoint {
     fields: Vec<Vec<i64>>,
     // The turns that were folded, and after them those that are written ahead.
-    turns: Turns,
+    turns: FoldedTurns,
     // How many were folded.
     count: usize,
 }
@@ -40,9 +40,9 @@ impl Drop for Checkpoint {
 impl Model for Checkpoint {
     ghost use Rattle.std.specs.Prelude.{◌≤◌, drop, length, take};
     ghost use Rattle.script_code.specs.Seen.{rows_of};
-    ghost use Rattle.swift_journal.specs.Checkpoints.{CheckpointRoom};
+    ghost use Rattle.swift_journal.specs.Checkpoints.{CheckpointRoomView};
 
-    ghost Value = { CheckpointRoom };
+    ghost Value = { CheckpointRoomView };
 
     ghost view = { λ c. record { view = record { fields = rows_of c.fields.items; folded = take c.count c.turns }; room = drop c.count c.turns } };
 
@@ -59,7 +59,7 @@ impl Checkpoint {
     {
         Checkpoint {
             fields,
-            turns: Turns::new(alloc),
+            turns: FoldedTurns::new(alloc),
             count: 0,
         }
     }
@@ -138,7 +138,7 @@ impl Checkpoint {
 }
 
 // Writes the turns of a journal after others. Where a growth is refused those are as they were.
-fn write_ahead(turns: &mut Turns, journal: &Journal) -> Result<(), AllocError>
+fn write_ahead(turns: &mut FoldedTurns, journal: &Journal) -> Result<(), AllocError>
     ensures ok { OnOk result (turns.new ≡ turns.old ++ map folded_of journal.now) }
     ensures err { OnErr result (turns.new ≡ turns.old) }
 {

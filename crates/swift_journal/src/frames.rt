@@ -7,7 +7,7 @@ ghost use Rattle.swift_journal.specs.Words.{AreNarrow, ReadsBack, numbers_of};
 ghost use Rattle.script_code.specs.Seen.{pair_of};
 
 use crate::ends::{pending, skip_pending, write_pending};
-use crate::stored::{Counts, FrameHead};
+use crate::stored::{FrameCounts, FrameHead};
 use crate::tail::Tail;
 use crate::words::{
     read_numbers, read_own, short, skip_bindings, split, word_at, write_numbers, write_own,
@@ -16,10 +16,10 @@ use std::alloc::{AllocError, Global};
 use swift_interpreter::Frame;
 
 // The counts of a frame.
-fn counts(frame: &Frame) -> Counts
+fn counts(frame: &Frame) -> FrameCounts
     ensures { result ≡ frame_counts frame.now }
 {
-    Counts {
+    FrameCounts {
         made: frame.made,
         opened: frame.opened,
         handles: frame.handles.len(),
@@ -29,7 +29,7 @@ fn counts(frame: &Frame) -> Counts
 }
 
 // Whether a count is not 0.
-fn is_counted(counts: &Counts) -> bool
+fn is_counted(counts: &FrameCounts) -> bool
     ensures { result ≡ false → counts.now ≡ counts_of false [] }
 {
     counts.made != 0
@@ -40,7 +40,7 @@ fn is_counted(counts: &Counts) -> bool
 }
 
 // Appends all counts.
-fn write_all(words: &mut Tail, counts: &Counts) -> Result<(), AllocError>
+fn write_all(words: &mut Tail, counts: &FrameCounts) -> Result<(), AllocError>
     ensures before { words.new.before ≡ words.old.before }
     ensures words { OnOk result (words.new.written ≡ words.old.written ++ counts_words true counts.now) }
     ensures reads { OnOk result (counts_of true (counts_words true counts.now) ≡ counts.now) }
@@ -99,7 +99,7 @@ pub fn write_frame(words: &mut Tail, frame: &Frame) -> Result<FrameHead, AllocEr
     let counted = write_counted(words, frame)?;
     Ok(FrameHead {
         method: frame.method,
-        line: frame.line,
+        instruction: frame.instruction,
         variables,
         pending: write_pending(words, frame.pending)?,
         counted,
@@ -108,11 +108,11 @@ pub fn write_frame(words: &mut Tail, frame: &Frame) -> Result<FrameHead, AllocEr
 }
 
 // The counts of a frame.
-fn read_counts(counted: bool, words: &[i64]) -> Counts
+fn read_counts(counted: bool, words: &[i64]) -> FrameCounts
     ensures { result ≡ counts_of counted words.now }
 {
     if counted {
-        Counts {
+        FrameCounts {
             made: count(words, 0),
             opened: count(words, 1),
             handles: count(words, 2) as usize,
@@ -120,7 +120,7 @@ fn read_counts(counted: bool, words: &[i64]) -> Counts
             groups: count(words, 4) as usize,
         }
     } else {
-        Counts {
+        FrameCounts {
             made: 0,
             opened: 0,
             handles: 0,
@@ -152,7 +152,7 @@ fn list_part<'a>(head: &FrameHead, words: &'a [i64]) -> &'a [i64]
 }
 
 // The counts of a frame, of its words.
-fn counts_in(head: &FrameHead, words: &[i64]) -> Counts
+fn counts_in(head: &FrameHead, words: &[i64]) -> FrameCounts
     ensures { result ≡ head_counts head.now words.now }
 {
     read_counts(head.counted, split(words, head.variables as usize).1)
@@ -167,21 +167,21 @@ pub fn skip_frame<'a>(head: &FrameHead, words: &'a [i64]) -> &'a [i64]
 }
 
 // The words after the groups of a frame.
-fn skip_groups<'a>(counts: &Counts, words: &'a [i64]) -> &'a [i64]
+fn skip_groups<'a>(counts: &FrameCounts, words: &'a [i64]) -> &'a [i64]
     ensures { result.now ≡ after_groups counts.now words.now }
 {
     split(skip_own(counts, words), counts.groups).1
 }
 
 // The words after the bindings of a frame.
-fn skip_own<'a>(counts: &Counts, words: &'a [i64]) -> &'a [i64]
+fn skip_own<'a>(counts: &FrameCounts, words: &'a [i64]) -> &'a [i64]
     ensures { result.now ≡ after_own counts.now words.now }
 {
     skip_bindings(skip_handles(counts, words), counts.own)
 }
 
 // The words after the handles of a frame.
-fn skip_handles<'a>(counts: &Counts, words: &'a [i64]) -> &'a [i64]
+fn skip_handles<'a>(counts: &FrameCounts, words: &'a [i64]) -> &'a [i64]
     ensures { result.now ≡ after_handles counts.now words.now }
 {
     split(words, counts.handles).1
@@ -200,7 +200,7 @@ pub fn read_frame(alloc: Global, head: &FrameHead, words: &[i64]) -> Result<Fram
 fn read_lists(
     alloc: Global,
     head: &FrameHead,
-    counts: &Counts,
+    counts: &FrameCounts,
     variables: &[i64],
     words: &[i64],
 ) -> Result<Frame, AllocError>
@@ -210,7 +210,7 @@ fn read_lists(
     let groups = split(skip_own(counts, words), counts.groups).0;
     Ok(Frame {
         method: head.method,
-        line: head.line,
+        instruction: head.instruction,
         variables: Vec::from_slice(alloc, variables)?,
         handles: read_numbers(alloc, handles)?,
         own: read_own(alloc, skip_handles(counts, words), counts.own)?,

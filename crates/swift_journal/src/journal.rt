@@ -9,13 +9,12 @@ use crate::ends::{brief, resume};
 use crate::folded::Folded;
 use crate::parts::{effects_of, env_of, exit_part, read_ended, read_record, words_of};
 use crate::record::{OwnedRecord, Record};
-use crate::stored::{FrameHead, Head, StoredEffect, StoredExit};
+use crate::stored::{FrameHead, StoredEffect, StoredExit, TurnHead};
 use crate::tail::Tail;
 use crate::written::write_turn;
-use script_code::Env;
 use std::alloc::{AllocError, Global};
 use std::marker::Model;
-use swift_types::{MethodId, Resume, TaskId};
+use swift_types::{Env, MethodId, Resume, TaskId};
 
 /// The turns that an executor has run, in order (our own). Contracts see a list of records.
 ///
@@ -23,7 +22,7 @@ use swift_types::{MethodId, Resume, TaskId};
 /// frame has one variable and goes on. Effects take a list of their own. A journal allocates where one of its lists grows,
 /// and nowhere else.
 pub struct Journal {
-    heads: Vec<Head>,
+    heads: Vec<TurnHead>,
     // The words of each turn, in the order of turns.
     words: Tail,
     // The effects of each turn, in the order of turns.
@@ -118,12 +117,12 @@ impl Journal {
     }
 
     /// What is kept of the turn at a place when it is folded.
-    pub(crate) fn ended(&self, place: usize) -> Ended<'_>
+    pub(crate) fn ended(&self, place: usize) -> EndedTurn<'_>
         requires { place < length self.now }
         ensures { (d : RecordView) → ended_view result ≡ folded_of (slice_index_or self.now place d) }
     {
         let head = &self.heads[place];
-        Ended {
+        EndedTurn {
             task: head.task,
             number: head.number,
             exit: head.exit,
@@ -232,7 +231,7 @@ impl Journal {
     }
 
     // Whether the last turn has this head but for its places, these words and these effects.
-    fn ends_with(&self, head: &Head, words: &[i64], effects: &[StoredEffect]) -> bool
+    fn ends_with(&self, head: &TurnHead, words: &[i64], effects: &[StoredEffect]) -> bool
         requires { 0 < length self.now }
         ensures { IsTrue result → (d : RecordView) → slice_index_or self.now (length self.now - 1) d ≡ record_of head.now words.now effects.now }
     {
@@ -244,7 +243,7 @@ impl Journal {
 }
 
 // Whether they say the same turn with the same words and the same effects.
-fn is_same_head(head: &Head, other: &Head) -> bool
+fn is_same_head(head: &TurnHead, other: &TurnHead) -> bool
     ensures { IsTrue result → (words : List ℤ) (effects : List StoredEffect) → record_of head.now words effects ≡ record_of other.now words effects }
 {
     is_same_turn(head, other)
@@ -255,7 +254,7 @@ fn is_same_head(head: &Head, other: &Head) -> bool
         && is_same_end(head, other)
 }
 
-fn is_same_turn(head: &Head, other: &Head) -> bool
+fn is_same_turn(head: &TurnHead, other: &TurnHead) -> bool
     ensures { IsTrue result → (head.now.task ≡ other.now.task) × (head.now.number ≡ other.now.number) × (head.now.worker ≡ other.now.worker) }
 {
     if head.task != other.task || head.number != other.number {
@@ -265,13 +264,13 @@ fn is_same_turn(head: &Head, other: &Head) -> bool
 }
 
 // Whether they say that the outer bindings and the end stand at the same places.
-fn is_same_cut(head: &Head, other: &Head) -> bool
+fn is_same_cut(head: &TurnHead, other: &TurnHead) -> bool
     ensures { IsTrue result → (head.now.outer ≡ other.now.outer) × (head.now.ended ≡ other.now.ended) }
 {
     head.outer == other.outer && head.ended == other.ended
 }
 
-fn is_same_env(head: &Head, other: &Head) -> bool
+fn is_same_env(head: &TurnHead, other: &TurnHead) -> bool
     ensures { IsTrue result → (head.now.room ≡ other.now.room) × (head.now.priority ≡ other.now.priority) × (head.now.cancelled ≡ other.now.cancelled) }
 {
     if head.room != other.room {
@@ -280,7 +279,7 @@ fn is_same_env(head: &Head, other: &Head) -> bool
     head.priority == other.priority && head.cancelled == other.cancelled
 }
 
-fn is_same_end(head: &Head, other: &Head) -> bool
+fn is_same_end(head: &TurnHead, other: &TurnHead) -> bool
     ensures { IsTrue result → (head.now.exit ≡ other.now.exit) × (head.now.resume ≡ other.now.resume) }
 {
     head.exit == other.exit && head.resume == other.resume
@@ -321,7 +320,7 @@ fn is_same_effect(effect: &StoredEffect, other: &StoredEffect) -> bool
 
 // What a journal has of a turn from its exit on: the words of the exit, of the frame after the turn and of the effects.
 #[derive(Clone, Copy)]
-pub struct Ended<'a> {
+pub struct EndedTurn<'a> {
     pub task: TaskId,
     pub number: u32,
     pub exit: StoredExit,

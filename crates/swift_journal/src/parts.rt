@@ -5,19 +5,20 @@ ghost use Rattle.swift_journal.specs.FrameWords.{frame_if_of};
 ghost use Rattle.swift_journal.specs.JournalInside.{effect_part as effect_of, effects_at, exit_part as exit_of, frame_part as frame_of, outer_part as outer_of, record_of, words_at};
 ghost use Rattle.swift_journal.specs.CheckpointInside.{ended_view};
 ghost use Rattle.swift_journal.specs.Checkpoints.{folded_view};
-ghost use Rattle.swift_journal.specs.Records.{frame_if, owned_view};
+ghost use Rattle.swift_journal.specs.Records.{owned_view};
+ghost use Rattle.swift_interpreter.specs.Frames.{frame_if};
 
 use crate::effects::read_effects;
 use crate::ends::{read_exit, resume, skip_exit, skip_resume};
 use crate::folded::Folded;
 use crate::frames::{read_frame, skip_frame};
-use crate::journal::Ended;
+use crate::journal::EndedTurn;
 use crate::record::OwnedRecord;
-use crate::stored::{FrameHead, Head, StoredEffect, StoredExit};
+use crate::stored::{FrameHead, StoredEffect, StoredExit, TurnHead};
 use crate::words::{read_bindings, split};
-use script_code::Env;
 use std::alloc::{AllocError, Global};
 use swift_interpreter::Frame;
+use swift_types::Env;
 
 // So many of the words from a place on.
 pub fn part(words: &[i64], start: usize, size: usize) -> &[i64]
@@ -35,35 +36,35 @@ pub fn part_of_effects(effects: &[StoredEffect], start: usize, size: usize) -> &
 }
 
 // The words of a turn, of the words of a journal.
-pub fn words_of<'a>(words: &'a [i64], head: &Head) -> &'a [i64]
+pub fn words_of<'a>(words: &'a [i64], head: &TurnHead) -> &'a [i64]
     ensures { result.now ≡ words_at words.now head.now }
 {
     part(words, head.start, head.size as usize)
 }
 
 // The effects of a turn, of those of a journal.
-pub fn effects_of<'a>(effects: &'a [StoredEffect], head: &Head) -> &'a [StoredEffect]
+pub fn effects_of<'a>(effects: &'a [StoredEffect], head: &TurnHead) -> &'a [StoredEffect]
     ensures { result.now ≡ effects_at effects.now head.now }
 {
     part_of_effects(effects, head.first_effect, head.effects as usize)
 }
 
 // The words from the frame on.
-fn frame_part<'a>(head: &Head, words: &'a [i64]) -> &'a [i64]
+fn frame_part<'a>(head: &TurnHead, words: &'a [i64]) -> &'a [i64]
     ensures { result.now ≡ frame_of head.now words.now }
 {
     skip_resume(head.resume, words)
 }
 
 // The words from the outer bindings on.
-fn outer_part<'a>(head: &Head, words: &'a [i64]) -> &'a [i64]
+fn outer_part<'a>(head: &TurnHead, words: &'a [i64]) -> &'a [i64]
     ensures { result.now ≡ outer_of head.now words.now }
 {
     skip_frame(&head.frame, frame_part(head, words))
 }
 
 // The words from the exit on. Constant time.
-pub fn exit_part<'a>(head: &Head, words: &'a [i64]) -> &'a [i64]
+pub fn exit_part<'a>(head: &TurnHead, words: &'a [i64]) -> &'a [i64]
     ensures { result.now ≡ exit_of head.now words.now }
 {
     split(words, head.ended as usize).1
@@ -82,7 +83,7 @@ fn effect_part<'a>(exit: StoredExit, after: &FrameHead, words: &'a [i64]) -> &'a
 }
 
 // What a turn was given.
-pub fn env_of(head: &Head) -> Env
+pub fn env_of(head: &TurnHead) -> Env
     ensures { result ≡ record { priority = head.now.priority; cancelled = head.now.cancelled; room = head.now.room } }
 {
     Env {
@@ -106,7 +107,7 @@ fn read_after(alloc: Global, head: &FrameHead, words: &[i64]) -> Result<Option<F
 // A turn.
 pub fn read_record(
     alloc: Global,
-    head: &Head,
+    head: &TurnHead,
     words: &[i64],
     effects: &[StoredEffect],
 ) -> Result<OwnedRecord, AllocError>
@@ -128,10 +129,10 @@ pub fn read_record(
 }
 
 // What is left of a turn when it is folded.
-pub fn read_ended(alloc: Global, turn: Ended<'_>) -> Result<Folded, AllocError>
+pub fn read_ended(alloc: Global, turn: EndedTurn<'_>) -> Result<Folded, AllocError>
     ensures { IfOk result (λ folded. folded_view folded ≡ ended_view turn.entry) }
 {
-    let Ended {
+    let EndedTurn {
         task,
         number,
         exit,

@@ -1,9 +1,8 @@
 //! A turn, as a journal is given it and as it gives it back.
 
-use script_code::Env;
 use swift_interpreter::{Effect, Exit, Frame};
 use swift_locals::Bindings;
-use swift_types::{Resume, TaskId};
+use swift_types::{Env, Resume, TaskId};
 
 /// A turn of a task, lent to a journal (our own).
 #[derive(Clone, Copy)]

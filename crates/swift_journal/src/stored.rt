@@ -66,7 +66,7 @@ pub enum StoredEffect {
 /// What a frame seldom has: tasks and groups that its task made, handles, bindings and groups of its own. It is how many
 /// of each there are.
 #[derive(Clone, Copy)]
-pub struct Counts {
+pub struct FrameCounts {
     pub made: u64,
     pub opened: u64,
     pub handles: usize,
@@ -78,7 +78,7 @@ pub struct Counts {
 #[derive(Clone, Copy, PartialEq, Eq)]
 pub struct FrameHead {
     pub method: MethodId,
-    pub line: u32,
+    pub instruction: u32,
     /// How many variables it has.
     pub variables: u32,
     pub pending: StoredFault,
@@ -90,7 +90,7 @@ pub struct FrameHead {
 
 /// A turn, but for what stands among the numbers and among the effects.
 #[derive(Clone, Copy)]
-pub struct Head {
+pub struct TurnHead {
     /// Where its numbers begin.
     pub start: usize,
     /// Where its effects begin.
@@ -117,7 +117,7 @@ pub struct Head {
 }
 
 // A turn takes no more than this beside its numbers.
-const _: () = prove!(size_of::<Head>() == 88);
+const _: () = prove!(size_of::<TurnHead>() == 88);
 
 /// Whether a frame stands after a turn, and whether its counts are stored.
 #[derive(Clone, Copy, PartialEq, Eq)]
@@ -137,10 +137,10 @@ pub struct FoldedHead {
     pub first_effect: u32,
     pub task: TaskId,
     pub number: u32,
-    /// The method of the frame after the turn, its line, how many variables it has, and the fault that is pending. They mean
+    /// The method of the frame after the turn, the number of its next instruction, how many variables it has, and the fault that is pending. They mean
     /// nothing where the frame is left.
     pub method: MethodId,
-    pub line: u32,
+    pub instruction: u32,
     pub variables: u32,
     pub pending: StoredFault,
     pub after: StoredAfter,

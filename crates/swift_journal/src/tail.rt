@@ -18,9 +18,9 @@ pub struct Tail {
 
 impl Model for Tail {
     ghost use Rattle.std.specs.Prelude.{◌≤◌, drop, length, take};
-    ghost use Rattle.swift_journal.specs.TailInside.{TailIs};
+    ghost use Rattle.swift_journal.specs.TailInside.{TailView};
 
-    ghost Value = { TailIs };
+    ghost Value = { TailView };
 
     ghost view = { λ t. record { before = take t.start t.words.items; written = drop t.start t.words.items } };
 

@@ -6,7 +6,7 @@ ghost use Rattle.swift_journal.specs.CheckpointInside.{after_kind, after_of as a
 use crate::brief::BriefExit;
 use crate::ends::brief;
 use crate::folded::Folded;
-use crate::journal::Ended;
+use crate::journal::EndedTurn;
 use crate::parts::{part, part_of_effects, read_ended};
 use crate::stored::{FoldedHead, FrameHead, StoredAfter, StoredEffect};
 use crate::words::{append_words, short};
@@ -16,7 +16,7 @@ use swift_types::TaskId;
 
 // Turns in order, each without what it began with. Contracts see a list of what is left of them.
 #[derive(Drop)]
-pub struct Turns {
+pub struct FoldedTurns {
     heads: Vec<FoldedHead>,
     // The words of each turn, in the order of turns.
     words: Vec<i64>,
@@ -24,7 +24,7 @@ pub struct Turns {
     effects: Vec<StoredEffect>,
 }
 
-impl Model for Turns {
+impl Model for FoldedTurns {
     ghost use Rattle.std.specs.Prelude.{List, length, map, reverse};
     ghost use Rattle.swift_journal.specs.CheckpointInside.{folded_at, placed, placed_span};
     ghost use Rattle.swift_journal.specs.Checkpoints.{FoldedView};
@@ -37,7 +37,7 @@ impl Model for Turns {
     ghost invariant = { λ t. AreLaid placed_span (reverse (placed t.heads.items (length t.words.items) (length t.effects.items))) (length t.words.items) (length t.effects.items) };
 }
 
-impl Turns {
+impl FoldedTurns {
     ghost use Rattle.swift_journal.specs.CheckpointInside.{ended_view};
     ghost use Rattle.swift_journal.specs.Checkpoints.{FoldedView, folded_view};
     ghost use Rattle.swift_journal.specs.Records.{brief_of};
@@ -46,7 +46,7 @@ impl Turns {
     pub fn new(alloc: Global) -> Self
         ensures { result ≡ [] }
     {
-        Turns {
+        FoldedTurns {
             heads: Vec::new(alloc),
             words: Vec::new(alloc),
             effects: Vec::new(alloc),
@@ -60,7 +60,7 @@ impl Turns {
     }
 
     // Puts a turn after the others. An `Err` leaves them as they were.
-    pub fn push(&mut self, turn: &Ended<'_>) -> Result<(), AllocError>
+    pub fn push(&mut self, turn: &EndedTurn<'_>) -> Result<(), AllocError>
         ensures ok { OnOk result (self.new ≡ self.old ++ ended_view turn.now ∷ []) }
         ensures err { OnErr result (self.new ≡ self.old) }
     {
@@ -70,7 +70,7 @@ impl Turns {
             task: turn.task,
             number: turn.number,
             method: turn.after.method,
-            line: turn.after.line,
+            instruction: turn.after.instruction,
             variables: turn.after.variables,
             pending: turn.after.pending,
             after: kind_of_after(&turn.after),
@@ -99,7 +99,7 @@ impl Turns {
     }
 
     // What is kept of the turn at a place. Constant time.
-    pub fn at(&self, place: usize) -> Ended<'_>
+    pub fn at(&self, place: usize) -> EndedTurn<'_>
         requires { place < length self.now }
         ensures { (d : FoldedView) → ended_view result ≡ slice_index_or self.now place d }
     {
@@ -108,7 +108,7 @@ impl Turns {
         let end = next_start(&self.heads, place, self.words.len());
         let first_effect = head.first_effect as usize;
         let last_effect = next_effect(&self.heads, place, self.effects.len());
-        Ended {
+        EndedTurn {
             task: head.task,
             number: head.number,
             exit: head.exit,
@@ -195,7 +195,7 @@ fn after_of(head: &FoldedHead) -> FrameHead
 {
     FrameHead {
         method: head.method,
-        line: head.line,
+        instruction: head.instruction,
         variables: head.variables,
         pending: head.pending,
         counted: matches!(head.after, StoredAfter::Counted),
@@ -208,7 +208,7 @@ fn append(
     heads: &mut Vec<FoldedHead>,
     words: &mut Vec<i64>,
     effects: &mut Vec<StoredEffect>,
-    turn: &Ended<'_>,
+    turn: &EndedTurn<'_>,
     head: FoldedHead,
 ) -> Result<(), AllocError>
     ensures heads { OnOk result (heads.new.items ≡ heads.old.items ++ head ∷ []) }

@@ -11,7 +11,7 @@ use crate::effects::write_effects;
 use crate::ends::{write_exit, write_resume};
 use crate::frames::write_frame;
 use crate::record::Record;
-use crate::stored::{FrameHead, Head, StoredEffect, StoredFault};
+use crate::stored::{FrameHead, StoredEffect, StoredFault, TurnHead};
 use crate::tail::Tail;
 use crate::words::{short, write_bindings};
 use std::alloc::AllocError;
@@ -21,7 +21,7 @@ use swift_types::MethodId;
 // Writes a turn: its words, its effects, and at last its head. Where a growth is refused, some of its words and of its
 // effects may stand after those that were there.
 pub fn write_turn(
-    heads: &mut Vec<Head>,
+    heads: &mut Vec<TurnHead>,
     words: &mut Tail,
     effects: &mut Vec<StoredEffect>,
     turn: &Record<'_>,
@@ -40,7 +40,7 @@ pub fn write_turn(
     let exit = write_exit(words, turn.exit)?;
     let after = write_after(words, turn.after)?;
     write_effects(words, effects, turn.effects)?;
-    let head = Head {
+    let head = TurnHead {
         start: words.start(),
         first_effect,
         frame,
@@ -64,7 +64,7 @@ pub fn write_turn(
 
 // Puts a head behind the others. Always inlined, so that it is built in its place.
 #[inline(always)]
-fn put_head(heads: &mut Vec<Head>, head: Head) -> Result<(), AllocError>
+fn put_head(heads: &mut Vec<TurnHead>, head: TurnHead) -> Result<(), AllocError>
     ensures items { OnOk result (heads.new.items ≡ heads.old.items ++ head ∷ []) }
     ensures same { OnErr result (heads.new.items ≡ heads.old.items) }
 {
@@ -88,7 +88,7 @@ fn write_after(words: &mut Tail, after: Option<&Frame>) -> Result<FrameHead, All
 // What stands where there is no frame.
 const NO_FRAME: FrameHead = FrameHead {
     method: MethodId(0),
-    line: 0,
+    instruction: 0,
     variables: 0,
     pending: StoredFault::Absent,
     counted: false,

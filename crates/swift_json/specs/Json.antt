@@ -10,15 +10,15 @@ use Rattle.swift_types.specs.declared.outcome.Resume.{Resume}
 use Rattle.swift_types.specs.declared.outcome.Resume.TheVariants.{Start, Go, Value, Fault as Raise}
 use Rattle.swift_types.specs.declared.outcome.Ending.{Ending}
 use Rattle.swift_types.specs.declared.outcome.Ending.TheVariants.{Value as Returned, Fault as Failed}
-use Rattle.script_code.specs.declared.env.Env.{Env}
-use Rattle.script_grammar.specs.declared.declaration.ExecutorKind.{ExecutorKind}
-use Rattle.script_grammar.specs.declared.declaration.ExecutorKind.TheVariants as kind
+use Rattle.swift_types.specs.declared.env.Env.{Env}
+use Rattle.swift_types.specs.declared.executor_kind.ExecutorKind.{ExecutorKind}
+use Rattle.swift_types.specs.declared.executor_kind.ExecutorKind.TheVariants as kind
 use Rattle.swift_script.specs.Scripts.{ScriptView, actor_count, actor_name, executor_kind, executor_name, field_name, root_name}
-use Rattle.swift_journal.specs.Checkpoints.{CheckpointRoom}
+use Rattle.swift_journal.specs.Checkpoints.{CheckpointRoomView}
 use Rattle.swift_journal.specs.Records.{RecordView, brief_of}
 use Rattle.swift_journal.specs.declared.brief.BriefExit.{BriefExit}
 use Rattle.swift_journal.specs.declared.brief.BriefExit.TheVariants.{Call, Wait, Next, Yield, Close, Return, Fault as Fails}
-use Rattle.swift_json.specs.declared.line.Line.{Line}
+use Rattle.swift_json.specs.declared.line.TurnJson.{TurnJson}
 use Rattle.swift_events.specs.declared.life.Origin.{Origin}
 use Rattle.swift_events.specs.declared.life.Origin.TheVariants.{Root, Child, Spawned, Detached}
 use Rattle.swift_report.specs.declared.report.Report.{Report}
@@ -89,23 +89,23 @@ abbrev pub env_json : Env → List ℕ
 env_json e = codes ",\"priority\":" ++ decimal (rank e.priority) ++ codes ",\"cancelled\":" ++ flag_json e.cancelled
 
 -- what is told of a turn
-abbrev pub line_of : RecordView → Line
+abbrev pub line_of : RecordView → TurnJson
 line_of r = record { task = record { 0 = r.task }; number = r.number; worker = r.worker; method = record { 0 = r.frame.method }; env = r.env; resume = r.resume; exit = brief_of r.exit }
 
 -- which turn stands at this place of a journal: the task, the turn's number in it, and the worker
-abbrev pub run_json : ℕ → Line → List ℕ
+abbrev pub run_json : ℕ → TurnJson → List ℕ
 run_json place r = codes "\n{\"place\":" ++ decimal place ++ codes ",\"task\":" ++ decimal r.task.0 ++ codes ",\"turn\":" ++ decimal r.number ++ codes ",\"worker\":" ++ decimal r.worker
 
 -- how a turn began and how it ended
-abbrev pub resume_and_exit_json : ScriptView → Line → List ℕ
+abbrev pub resume_and_exit_json : ScriptView → TurnJson → List ℕ
 resume_and_exit_json p r = codes ",\"resume\":" ++ resume_json r.resume ++ codes ",\"exit\":" ++ exit_json p r.exit
 
 -- the turn at this place of a journal
-abbrev pub turn_json : ScriptView → ℕ → Line → List ℕ
+abbrev pub turn_json : ScriptView → ℕ → TurnJson → List ℕ
 turn_json p place r = run_json place r ++ codes ",\"method\":\"" ++ method_text p r.method.0 ++ codes "\"" ++ env_json r.env ++ resume_and_exit_json p r ++ codes "}"
 
 -- the same in a list whose first turn has this place
-abbrev pub listed_json : ScriptView → ℕ → ℕ → Line → List ℕ
+abbrev pub listed_json : ScriptView → ℕ → ℕ → TurnJson → List ℕ
 listed_json p first place r = comma first place ++ turn_json p place r
 
 -- the turns from this place of a journal on, whose first turn has that place
@@ -137,12 +137,12 @@ abbrev pub executor_json : ScriptView → ℕ → ℕ → List RecordView → Li
 executor_json p e folded j = heading_json p e (folded + length j) ++ codes ",\"folded\":" ++ decimal folded ++ codes ",\"records\":[" ++ turns_json p folded folded j ++ codes "]}"
 
 -- the executors from this number on, each with its turns
-abbrev pub executors_json : ScriptView → List CheckpointRoom → ℕ → List (List RecordView) → List ℕ
+abbrev pub executors_json : ScriptView → List CheckpointRoomView → ℕ → List (List RecordView) → List ℕ
 executors_json p cs k [] = []
 executors_json p cs k (j ∷ js) = (comma 0 k ++ executor_json p k (folded_count (slice_get cs k)) j) ++ executors_json p cs (k + 1) js
 
 -- the journals, which a quiet report leaves out
-abbrev pub journals_json : ScriptView → Bool → List CheckpointRoom → List (List RecordView) → List ℕ
+abbrev pub journals_json : ScriptView → Bool → List CheckpointRoomView → List (List RecordView) → List ℕ
 journals_json p true cs js = []
 journals_json p false cs js = codes "\"journals\":[" ++ executors_json p cs 0 js ++ codes "],\n"
 

@@ -4,13 +4,12 @@ ghost use Rattle.std.specs.Prelude.{◌≡◌, ◌<◌, length, slice_index_or};
 ghost use Rattle.swift_journal.specs.Records.{RecordView};
 ghost use Rattle.swift_json.specs.Json.{line_of};
 
-use script_code::Env;
 use swift_journal::{BriefExit, Journal};
-use swift_types::{MethodId, Resume, TaskId};
+use swift_types::{Env, MethodId, Resume, TaskId};
 
 /// What is told of a turn.
 #[derive(Clone, Copy)]
-pub struct Line {
+pub struct TurnJson {
     pub task: TaskId,
     /// The turn's number among the turns of its task, from 0.
     pub number: u32,
@@ -22,11 +21,11 @@ pub struct Line {
 }
 
 /// What is told of the turn at a place of a journal.
-pub fn line_at(journal: &Journal, place: usize) -> Line
+pub fn line_at(journal: &Journal, place: usize) -> TurnJson
     requires { place < length journal.now }
     ensures { (d : RecordView) → result ≡ line_of (slice_index_or journal.now place d) }
 {
-    Line {
+    TurnJson {
         task: journal.task(place),
         number: journal.number(place),
         worker: journal.worker(place),

@@ -5,15 +5,13 @@ ghost use Rattle.swift_report.specs.Text.{folded_count, method_text};
 ghost use Rattle.swift_json.specs.Json.{comma, env_json, executor_json, executors_json, exit_json, flag_json, heading_json, kind_json, kind_word, pinned_json, listed_json, resume_and_exit_json, run_json, turn_json, turns_json};
 
 use crate::append::{comma, number};
-use crate::line::{Line, line_at};
+use crate::line::{TurnJson, line_at};
 use crate::names::{executor_kind, executor_name};
 use crate::word;
-use script_code::Env;
-use script_grammar::ExecutorKind;
 use std::alloc::AllocError;
 use swift_journal::{BriefExit, Checkpoint, Journal};
 use swift_script::Script;
-use swift_types::MethodId;
+use swift_types::{Env, ExecutorKind, MethodId};
 
 // A method by its names.
 fn method(out: &mut Vec<u8>, script: &Script, method: MethodId) -> Result<(), AllocError>
@@ -74,7 +72,7 @@ fn env(out: &mut Vec<u8>, env: &Env) -> Result<(), AllocError>
 }
 
 // The turn's place, its task, its number there and its worker.
-fn run(out: &mut Vec<u8>, place: usize, entry: &Line) -> Result<(), AllocError>
+fn run(out: &mut Vec<u8>, place: usize, entry: &TurnJson) -> Result<(), AllocError>
     ensures { OnOk result (out.new.items ≡ out.old.items ++ run_json place entry.now) }
 {
     out.extend_from_slice(b"\n{\"place\":")?;
@@ -88,7 +86,7 @@ fn run(out: &mut Vec<u8>, place: usize, entry: &Line) -> Result<(), AllocError>
 }
 
 // How a turn began and how it ended.
-fn resume_and_exit(out: &mut Vec<u8>, script: &Script, entry: &Line) -> Result<(), AllocError>
+fn resume_and_exit(out: &mut Vec<u8>, script: &Script, entry: &TurnJson) -> Result<(), AllocError>
     ensures { OnOk result (out.new.items ≡ out.old.items ++ resume_and_exit_json script.now entry.now) }
 {
     out.extend_from_slice(b",\"resume\":")?;
@@ -97,7 +95,12 @@ fn resume_and_exit(out: &mut Vec<u8>, script: &Script, entry: &Line) -> Result<(
     exit(out, script, entry.exit)
 }
 
-fn turn(out: &mut Vec<u8>, script: &Script, place: usize, entry: &Line) -> Result<(), AllocError>
+fn turn(
+    out: &mut Vec<u8>,
+    script: &Script,
+    place: usize,
+    entry: &TurnJson,
+) -> Result<(), AllocError>
     ensures { OnOk result (out.new.items ≡ out.old.items ++ turn_json script.now place entry.now) }
 {
     run(out, place, entry)?;
@@ -115,7 +118,7 @@ fn listed(
     script: &Script,
     first: usize,
     place: usize,
-    entry: &Line,
+    entry: &TurnJson,
 ) -> Result<(), AllocError>
     ensures { OnOk result (out.new.items ≡ out.old.items ++ listed_json script.now first place entry.now) }
 {

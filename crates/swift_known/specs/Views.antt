@@ -1,16 +1,16 @@
 -- What the lock of a book keeps, and what the seats of threads know of a run that is under way (our own).
 use Rattle.std.specs.Prelude.{ℕ, Option, None, List, [], replicate}
-use Rattle.script_code.specs.declared.env.Env.{Env}
+use Rattle.swift_types.specs.declared.env.Env.{Env}
 use Rattle.swift_script.specs.Scripts.{ScriptView, root_count}
 use Rattle.swift_events.specs.declared.event.Event.{Event}
 use Rattle.swift_journal.specs.Records.{RecordView}
-use Rattle.swift_history.specs.TurnEnds.{HeldView, JobView}
+use Rattle.swift_history.specs.TurnEnds.{WaitingTaskView, JobFacts}
 
 -- What is locked: the script, what happened so far, and the tasks that wait, by number.
 pub record BookFacts : Type 0 where
   pub script : ScriptView
   pub log : List Event
-  pub held : List (Option HeldView)
+  pub held : List (Option WaitingTaskView)
 
 -- All turns of an executor so far, in order, those that its checkpoint has folded too.
 pub record Account : Type 0 where
@@ -19,7 +19,7 @@ pub record Account : Type 0 where
 
 -- The right to run the turn of a job; where the turn has begun, in which environment.
 pub record Ticket : Type 0 where
-  pub job : JobView
+  pub job : JobFacts
   pub begun : Option Env
 
 -- How many executors have an account, and how many roots were added.
@@ -29,13 +29,13 @@ pub record Maker : Type 0 where
 
 -- What a seat knows: the script; the accounts of its executors; its tickets; and where it is the one that opens accounts and adds
 -- roots, how many there are. A seat that was joined to another knows nothing.
-pub record SeatView : Type 0 where
+pub record BookKnown : Type 0 where
   pub script : Option ScriptView
   pub accounts : List Account
   pub tickets : List Ticket
   pub maker : Option Maker
 
-abbrev pub no_view : SeatView
+abbrev pub no_view : BookKnown
 no_view = record { script = None; accounts = []; tickets = []; maker = None }
 
 -- the book of a run that has not begun
@@ -43,5 +43,5 @@ abbrev pub first_facts : ScriptView → BookFacts
 first_facts script = record { script = script; log = []; held = replicate (root_count script) None }
 
 -- the ticket of a job whose turn has not begun
-abbrev pub fresh : JobView → Ticket
+abbrev pub fresh : JobFacts → Ticket
 fresh job = record { job = job; begun = None }

@@ -2,7 +2,7 @@
 
 ghost use Rattle.std.specs.Coded.{codes};
 ghost use Rattle.swift_script.specs.Codes.{expression_code, statement_code, block_code};
-ghost use Rattle.swift_known.specs.Views.{BookFacts, SeatView};
+ghost use Rattle.swift_known.specs.Views.{BookFacts, BookKnown};
 
 use std::marker::Model;
 
@@ -20,7 +20,7 @@ impl Model for BookImage {
 
 /// What a seat knows of the book. No value of it is made.
 pub struct Known {
-    pub ghost view: { SeatView } by { Prim.hlevel (codes, expression_code, statement_code (block_code (Prim.hlevel (codes, expression_code)) (Prim.hlevel (codes, expression_code)))) },
+    pub ghost view: { BookKnown } by { Prim.hlevel (codes, expression_code, statement_code (block_code (Prim.hlevel (codes, expression_code)) (Prim.hlevel (codes, expression_code)))) },
 }
 
 impl Model for Known {

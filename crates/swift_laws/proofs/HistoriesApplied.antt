@@ -5,7 +5,7 @@ use Rattle.std.specs.List.{filter_map, cons_option}
 use Rattle.std.proofs.lemmas.Bool.{cases_eq, eq-eqb}
 use Rattle.std.proofs.lemmas.Option.{none-some, same_Some, some_pair_parts}
 use Rattle.std.proofs.lemmas.List.{append-nil}
-use Rattle.script_code.specs.declared.env.Env.{Env}
+use Rattle.swift_types.specs.declared.env.Env.{Env}
 use Rattle.swift_script.specs.Scripts.{ScriptView, root_count, root_priority, executor_count, method_actor}
 use Rattle.swift_interpreter.specs.Frames.{FrameView}
 use Rattle.swift_interpreter.specs.Turn.{EffectView, ExitView}
@@ -15,7 +15,7 @@ use Rattle.swift_journal.specs.Checkpoints.{FoldedView, CheckpointView}
 use Rattle.swift_events.specs.declared.event.Event.{Event}
 use Rattle.swift_events.specs.declared.event.Event.TheVariants.{Root, Begin, Apply, Give}
 use Rattle.swift_events.specs.Lives.{life_of}
-use Rattle.swift_history.specs.TurnEnds.{task, JobView, exit_events, log_after, root_job}
+use Rattle.swift_history.specs.TurnEnds.{task, JobFacts, exit_events, log_after, root_job}
 use Rattle.swift_history.specs.Histories.{Block, added, begun, ran, folded, Standing, Stands, AllStand, TurnStands, IsLegal, ReportView, after_block, after_blocks, at_first, left_as, begun_priority, turn_applied, record_in, records_of, folded_in, folded_of}
 use Rattle.swift_laws.specs.Laws.{ActorsHaveExecutors, TurnPlace, in_journal, in_checkpoint, HasTurn}
 use Rattle.swift_laws.proofs.HistoriesWritten.{keeps_effects, keeps_exit}
@@ -26,7 +26,7 @@ use Rattle.swift_laws.proofs.HistoriesOnce.{turn_of, block_next, has_block}
 use Rattle.swift_laws.proofs.HistoriesSplit.{split_at}
 
 -- a turn of another task changes nothing
-turn_other : (script : ScriptView) (s : Standing) (e t n : ℕ) (effects : List EffectView) (exit : ExitView) (after : Option FrameView) (job : JobView) (env : Env) (frame : FrameView) (u : ℕ)
+turn_other : (script : ScriptView) (s : Standing) (e t n : ℕ) (effects : List EffectView) (exit : ExitView) (after : Option FrameView) (job : JobFacts) (env : Env) (frame : FrameView) (u : ℕ)
     → TurnStands script s e t n effects exit job env frame → t ≢ u → applied u (turn_applied script s t n effects exit after).log ≡ applied u s.log
 turn_other script s e t n effects exit after job env frame u stands ne =
     let roots = root_count script in

@@ -3,16 +3,16 @@ use Rattle.std.proofs.Common.{◌≡◌, ℕ, List, [], ◌∷◌, ◌++◌, ref
 use Rattle.std.specs.Prelude.{Option, Some, None, IfSome}
 use Rattle.std.specs.List.{list_any}
 use Rattle.std.proofs.lemmas.Bool.{cases_eq, ne_eqb, false≢true, true≢false}
-use Rattle.script_code.specs.declared.env.Env.{Env}
+use Rattle.swift_types.specs.declared.env.Env.{Env}
 use Rattle.swift_script.specs.Scripts.{ScriptView, root_count}
 use Rattle.swift_journal.specs.Records.{RecordView}
 use Rattle.swift_journal.specs.Checkpoints.{CheckpointView}
 use Rattle.swift_events.specs.declared.event.Event.{Event}
 use Rattle.swift_events.specs.declared.event.Event.TheVariants.{Root, Begin, Apply, Free, Open, Child, Skip, CancelTask, CancelGroup, Wait, Next, Close, End, Give}
 use Rattle.swift_events.specs.declared.life.Life.{Life}
-use Rattle.swift_events.specs.declared.life.Given.{Given}
-use Rattle.swift_events.specs.declared.life.Stage.{Stage}
-use Rattle.swift_events.specs.declared.life.Stage.TheVariants as stage
+use Rattle.swift_events.specs.declared.life.LastJob.{LastJob}
+use Rattle.swift_events.specs.declared.life.JobStage.{JobStage}
+use Rattle.swift_events.specs.declared.life.JobStage.TheVariants as stage
 use Rattle.swift_events.specs.Events.{task_of, later}
 use Rattle.swift_events.specs.Lives.{life_of, given_in, stage_in}
 use Rattle.swift_events.specs.Room.{IsEnv}
@@ -27,7 +27,7 @@ use Rattle.swift_laws.proofs.HistoriesGrow.{begins, keeps_blocks, log_grows, tur
 use Rattle.swift_laws.proofs.HistoriesSplit.{at_record}
 
 -- the last begin of a turn of the task, which is that of its last job
-pub record HasBegun (script : ScriptView) (log : List Event) (given : Option Given) (t : ℕ) (env : Env) : Type 0 where
+pub record HasBegun (script : ScriptView) (log : List Event) (given : Option LastJob) (t : ℕ) (env : Env) : Type 0 where
   pub number : ℕ
   pub is_number : IfSome given (λ g. g.number ≡ number)
   pub before : List Event
@@ -44,7 +44,7 @@ begins_none t (Begin u n x) none = absurd (true≢false none)
 begins_none t e none = refl
 
 -- an event that begins no turn leaves a stage, and the job with it, or ends it
-was_begun : (e : Event) (s : Option Stage) (g : Option Given) (env : Env) → begins e ≡ false → later (stage_in e) s ≡ Some (stage.Begun env) → (s ≡ Some (stage.Begun env)) × (later (given_in e) g ≡ g)
+was_begun : (e : Event) (s : Option JobStage) (g : Option LastJob) (env : Env) → begins e ≡ false → later (stage_in e) s ≡ Some (stage.Begun env) → (s ≡ Some (stage.Begun env)) × (later (given_in e) g ≡ g)
 was_begun (Begin u n x) s g env none is = absurd (true≢false none)
 was_begun (Apply u n) s g env none is = absurd (false≢true (ap is_begun is))
 was_begun (Give u n resume) s g env none is = absurd (false≢true (ap is_begun is))
@@ -60,10 +60,10 @@ was_begun (CancelTask u) s g env none is = (is, refl)
 was_begun (CancelGroup o k) s g env none is = (is, refl)
 was_begun (End u ending) s g env none is = (is, refl)
 
-more_begun : (script : ScriptView) (log : List Event) (e : Event) (t : ℕ) (env : Env) (g : Option Given) → begins_turn t e ≡ false → (life_of t log).given ≡ g → HasBegun script log (life_of t log).given t env → HasBegun script (log ++ e ∷ []) g t env
+more_begun : (script : ScriptView) (log : List Event) (e : Event) (t : ℕ) (env : Env) (g : Option LastJob) → begins_turn t e ≡ false → (life_of t log).given ≡ g → HasBegun script log (life_of t log).given t env → HasBegun script (log ++ e ∷ []) g t env
 more_begun script log e t env g none same h = record {
   number = h.number;
-  is_number = subst (λ (x : Option Given). IfSome x (λ y. y.number ≡ h.number)) same h.is_number;
+  is_number = subst (λ (x : Option LastJob). IfSome x (λ y. y.number ≡ h.number)) same h.is_number;
   before = h.before;
   since = h.since ++ e ∷ [];
   parts = ap (λ (l : List Event). l ++ e ∷ []) h.parts ∙ append_assoc h.before (Begin (task t) h.number env ∷ h.since) (e ∷ []);
@@ -82,11 +82,11 @@ begun_keeps script log e none all t env is = elim (cases_eq (task_of e) t) [
       more_begun script log e t env (life_of t (log ++ e ∷ [])).given (begins_none t e none) (sym (ap (λ (l : Life). l.given) life)) (all t env (sym (ap (λ (l : Life). l.stage) life) ∙ is))
 ]
 
-abbrev env_in : Env → Option Stage → Env
+abbrev env_in : Env → Option JobStage → Env
 env_in d (Some (stage.Begun env)) = env
 env_in d _ = d
 
-number_of : (g : Option Given) (n : ℕ) → HasNumber g n → IfSome g (λ x. x.number ≡ n)
+number_of : (g : Option LastJob) (n : ℕ) → HasNumber g n → IfSome g (λ x. x.number ≡ n)
 number_of None n has = tt
 number_of (Some g) n has = has
 
@@ -98,7 +98,7 @@ begin_keeps script log t n env has is all u env' now =
           let life = life_of-push_same u log e same in
           let stage : Some (stage.Begun env) ≡ Some (stage.Begun env') = sym (ap (λ (l : Life). l.stage) life) ∙ now in
           subst (λ (x : Env). HasBegun script (log ++ e ∷ []) (life_of u (log ++ e ∷ [])).given u x) (ap (env_in env) stage)
-          (subst (λ (g : Option Given). HasBegun script (log ++ e ∷ []) g u env) (sym (ap (λ (l : Life). l.given) life))
+          (subst (λ (g : Option LastJob). HasBegun script (log ++ e ∷ []) g u env) (sym (ap (λ (l : Life). l.given) life))
           (subst (λ (k : ℕ). HasBegun script (log ++ e ∷ []) (life_of k log).given k env) same
           (record { number = n; is_number = number_of (life_of t log).given n has; before = log; since = []; parts = refl; once = refl; is_env = is })))
       | inr other ↦
@@ -114,7 +114,7 @@ all_begun script cps bs all = keeps_blocks (AllBegun script) (begun_keeps script
     (λ before t n env stands is. begin_keeps script (after_blocks script (at_first script) before).log t n env (current_is (life_of t (after_blocks script (at_first script) before).log) n stands.0.resume stands.2).0 stands.3 is)
     [] bs all (none_begun script)
 
-one_number : (g : Option Given) (n m : ℕ) → HasNumber g n → IfSome g (λ x. x.number ≡ m) → m ≡ n
+one_number : (g : Option LastJob) (n m : ℕ) → HasNumber g n → IfSome g (λ x. x.number ≡ m) → m ≡ n
 one_number None n m has is = absurd has
 one_number (Some g) n m has is = sym is ∙ has
 

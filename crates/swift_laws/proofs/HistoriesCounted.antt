@@ -7,19 +7,19 @@ use Rattle.std.proofs.lemmas.Bool.{cases_eq, false≢true, true≢false, eq-eqb,
 use Rattle.std.proofs.lemmas.Option.{none-some}
 use Rattle.std.proofs.lemmas.List.{length-append}
 use Rattle.std.proofs.lemmas.List.Elements.{filter_map-append}
-use Rattle.script_code.specs.declared.env.Env.{Env}
+use Rattle.swift_types.specs.declared.env.Env.{Env}
 use Rattle.swift_events.specs.declared.event.Event.{Event}
 use Rattle.swift_events.specs.declared.event.Event.TheVariants.{Root, Begin, Apply, Free, Open, Child, Skip, CancelTask, CancelGroup, Wait, Next, Close, End, Give}
 use Rattle.swift_events.specs.declared.life.Life.{Life}
 use Rattle.swift_events.specs.declared.life.Origin.{Origin}
-use Rattle.swift_events.specs.declared.life.Given.{Given}
-use Rattle.swift_events.specs.declared.life.Stage.{Stage}
-use Rattle.swift_events.specs.declared.life.Stage.TheVariants as stage
+use Rattle.swift_events.specs.declared.life.LastJob.{LastJob}
+use Rattle.swift_events.specs.declared.life.JobStage.{JobStage}
+use Rattle.swift_events.specs.declared.life.JobStage.TheVariants as stage
 use Rattle.swift_events.specs.Events.{task_of, is_made, tasks_of, later}
 use Rattle.swift_events.specs.Lives.{life_of, lived, origin_in, given_in, stage_in}
 use Rattle.swift_events.proofs.LogLemmas.{life_of-push_same, life_of-push_other, origin-push, tasks_of-push_made, tasks_of-push_other, filter_map-push_none}
 use Rattle.swift_history.specs.Checks.{is_under_way}
-use Rattle.swift_history.specs.TurnEnds.{task, JobView, HeldView}
+use Rattle.swift_history.specs.TurnEnds.{task, JobFacts, WaitingTaskView}
 use Rattle.swift_laws.specs.Laws.{turn_in, turns_of}
 use Rattle.swift_laws.proofs.HistoriesWritten.{IsWritten}
 use Rattle.swift_laws.proofs.OpenLogs.{cases_of}
@@ -28,28 +28,28 @@ use Rattle.swift_laws.proofs.OpenLogs.{cases_of}
 abbrev pub applied : ℕ → List Event → ℕ
 applied t log = length (turns_of t log)
 
-abbrev pub held_at : List (Option HeldView) → ℕ → Option HeldView
+abbrev pub held_at : List (Option WaitingTaskView) → ℕ → Option WaitingTaskView
 held_at held t = slice_index_or held t None
 
 -- the last job is of this number
-abbrev pub HasNumber : Option Given → ℕ → Type 0
+abbrev pub HasNumber : Option LastJob → ℕ → Type 0
 HasNumber None n = ⊥
 HasNumber (Some g) n = g.number ≡ n
 
 -- A task, by where it comes from, its last job, its stage, how many turns of it were applied, and what is held of it. Before it
 -- is made it has none of them. A turn under way has the next number, and so has one that waits; never both.
-pub record IsCounted (o : Option Origin) (g : Option Given) (s : Option Stage) (turns : ℕ) (h : Option HeldView) : Type 0 where
+pub record IsCounted (o : Option Origin) (g : Option LastJob) (s : Option JobStage) (turns : ℕ) (h : Option WaitingTaskView) : Type 0 where
   pub unmade : o ≡ None → (turns ≡ 0) × (g ≡ None) × (h ≡ None)
   pub current : is_under_way s ≡ true → HasNumber g turns × (h ≡ None)
   pub waits : IfSome h (λ x. x.number ≡ turns)
 
-abbrev pub Counts : List Event → List (Option HeldView) → ℕ → Type 0
+abbrev pub Counts : List Event → List (Option WaitingTaskView) → ℕ → Type 0
 Counts log held t = IsCounted (life_of t log).origin (life_of t log).given (life_of t log).stage (applied t log) (held_at held t)
 
 abbrev pub Beyond : ℕ → List Event → Type 0
 Beyond roots log = (t : ℕ) → tasks_of roots log ≤ t → (life_of t log).origin ≡ None
 
-pub record AreCounted (roots : ℕ) (log : List Event) (held : List (Option HeldView)) : Type 0 where
+pub record AreCounted (roots : ℕ) (log : List Event) (held : List (Option WaitingTaskView)) : Type 0 where
   pub each : (t : ℕ) → Counts log held t
   pub beyond : Beyond roots log
   pub numbered : (t : ℕ) → turns_of t log ≡ range_with_len 0 (applied t log)
@@ -83,26 +83,26 @@ idle_applied t log e none = ap length (filter_map-push_none (turn_in t) log e no
 -- of one task
 
 -- before it is made, no turn of it is under way
-pub unbegun : {o : Option Origin} {g : Option Given} {s : Option Stage} {n : ℕ} {h : Option HeldView} → IsCounted o g s n h → o ≡ None → is_under_way s ≡ false
+pub unbegun : {o : Option Origin} {g : Option LastJob} {s : Option JobStage} {n : ℕ} {h : Option WaitingTaskView} → IsCounted o g s n h → o ≡ None → is_under_way s ≡ false
 unbegun {s = s} {n = n} c none = elim (cases_of (is_under_way s)) [
-  | inl under ↦ absurd (subst (λ (x : Option Given). HasNumber x n) (c.unmade none).1 (c.current under).0)
+  | inl under ↦ absurd (subst (λ (x : Option LastJob). HasNumber x n) (c.unmade none).1 (c.current under).0)
   | inr rest ↦ rest
 ]
 
 -- nor where it waits
-pub held_rests : {o : Option Origin} {g : Option Given} {s : Option Stage} {n : ℕ} {h : Option HeldView} (x : HeldView) → h ≡ Some x → IsCounted o g s n h → is_under_way s ≡ false
+pub held_rests : {o : Option Origin} {g : Option LastJob} {s : Option JobStage} {n : ℕ} {h : Option WaitingTaskView} (x : WaitingTaskView) → h ≡ Some x → IsCounted o g s n h → is_under_way s ≡ false
 held_rests {s = s} x is c = elim (cases_of (is_under_way s)) [
   | inl under ↦ absurd (none-some x (sym (c.current under).1 ∙ is))
   | inr rest ↦ rest
 ]
 
-is_made_now : {o : Option Origin} {g : Option Given} {s : Option Stage} {n : ℕ} {h : Option HeldView} (x : Origin) → IsCounted o g s n h → IsCounted (Some x) g s n h
+is_made_now : {o : Option Origin} {g : Option LastJob} {s : Option JobStage} {n : ℕ} {h : Option WaitingTaskView} (x : Origin) → IsCounted o g s n h → IsCounted (Some x) g s n h
 is_made_now x c = record { unmade = λ (none : Some x ≡ None). cc; current = c.current; waits = c.waits }
 
-rests_now : {o : Option Origin} {g : Option Given} {s : Option Stage} {n : ℕ} {h : Option HeldView} (x : Option Stage) → is_under_way x ≡ false → IsCounted o g s n h → IsCounted o g x n h
+rests_now : {o : Option Origin} {g : Option LastJob} {s : Option JobStage} {n : ℕ} {h : Option WaitingTaskView} (x : Option JobStage) → is_under_way x ≡ false → IsCounted o g s n h → IsCounted o g x n h
 rests_now x rest c = record { unmade = c.unmade; current = λ is. absurd (true≢false (sym is ∙ rest)); waits = c.waits }
 
-pub idle_counted : {o : Option Origin} {g : Option Given} {s : Option Stage} {n : ℕ} {h : Option HeldView} (e : Event) → starts e ≡ false → IsCounted o g s n h
+pub idle_counted : {o : Option Origin} {g : Option LastJob} {s : Option JobStage} {n : ℕ} {h : Option WaitingTaskView} (e : Event) → starts e ≡ false → IsCounted o g s n h
     → IsCounted (later (origin_in e) o) (later (given_in e) g) (later (stage_in e) s) n h
 idle_counted (Begin u n env) h c = absurd (true≢false h)
 idle_counted (Apply u n) h c = absurd (true≢false h)
@@ -121,15 +121,15 @@ idle_counted (Close o g) h c = rests_now _ refl c
 idle_counted (End u ending) h c = c
 
 -- what is held of a task is taken, or held
-pub none_held : {o : Option Origin} {g : Option Given} {s : Option Stage} {n : ℕ} {h : Option HeldView} → IsCounted o g s n h → IsCounted o g s n None
+pub none_held : {o : Option Origin} {g : Option LastJob} {s : Option JobStage} {n : ℕ} {h : Option WaitingTaskView} → IsCounted o g s n h → IsCounted o g s n None
 none_held c = record { unmade = λ none. ((c.unmade none).0, (c.unmade none).1, refl); current = λ is. ((c.current is).0, refl); waits = tt }
 
-pub some_held : {o : Option Origin} {g : Option Given} {s : Option Stage} {n : ℕ} {h : Option HeldView} (x : HeldView) → o ≢ None → is_under_way s ≡ false → x.number ≡ n → IsCounted o g s n h → IsCounted o g s n (Some x)
+pub some_held : {o : Option Origin} {g : Option LastJob} {s : Option JobStage} {n : ℕ} {h : Option WaitingTaskView} (x : WaitingTaskView) → o ≢ None → is_under_way s ≡ false → x.number ≡ n → IsCounted o g s n h → IsCounted o g s n (Some x)
 some_held x made rest number c = record { unmade = λ none. absurd (made none); current = λ is. absurd (true≢false (sym is ∙ rest)); waits = number }
 
 -- one more event, of all tasks
 
-counts_push : (log : List Event) (held : List (Option HeldView)) (e : Event) (t : ℕ)
+counts_push : (log : List Event) (held : List (Option WaitingTaskView)) (e : Event) (t : ℕ)
     → (task_of e ≡ t → IsCounted (later (origin_in e) (life_of t log).origin) (later (given_in e) (life_of t log).given) (later (stage_in e) (life_of t log).stage) (applied t (log ++ e ∷ [])) (held_at held t))
     → (task_of e ≢ t → applied t (log ++ e ∷ []) ≡ applied t log) → Counts log held t → Counts (log ++ e ∷ []) held t
 counts_push log held e t own none is = elim (cases_eq (task_of e) t) [
@@ -161,7 +161,7 @@ beyond_push roots log e within beyond t le =
 numbered_idle : (t : ℕ) (log : List Event) (e : Event) → turn_in t e ≡ None → turns_of t log ≡ range_with_len 0 (applied t log) → turns_of t (log ++ e ∷ []) ≡ range_with_len 0 (applied t (log ++ e ∷ []))
 numbered_idle t log e none is = filter_map-push_none (turn_in t) log e none ∙ is ∙ ap (range_with_len 0) (sym (idle_applied t log e none))
 
-pub idle_push : (roots : ℕ) (log : List Event) (held : List (Option HeldView)) (e : Event) → starts e ≡ false → MakesWithin roots log e → AreCounted roots log held → AreCounted roots (log ++ e ∷ []) held
+pub idle_push : (roots : ℕ) (log : List Event) (held : List (Option WaitingTaskView)) (e : Event) → starts e ≡ false → MakesWithin roots log e → AreCounted roots log held → AreCounted roots (log ++ e ∷ []) held
 idle_push roots log held e idle within are = record {
   each = λ t. counts_push log held e t
       (λ same. subst (λ (n : ℕ). IsCounted (later (origin_in e) (life_of t log).origin) (later (given_in e) (life_of t log).given) (later (stage_in e) (life_of t log).stage) n (held_at held t)) (sym (idle_applied t log e (idle_turn t e idle))) (idle_counted e idle (are.each t)))
@@ -233,28 +233,28 @@ applied_push t n log = ap length (turns_push t n log) ∙ length_push (turns_of 
 pub applied_other : (u t n : ℕ) (log : List Event) → t ≢ u → applied u (log ++ Apply (task t) n ∷ []) ≡ applied u log
 applied_other u t n log ne = idle_applied u log (Apply (task t) n) (turn_elsewhere u t n ne)
 
-number_is : {o : Option Origin} {g : Option Given} {s : Option Stage} {turns : ℕ} {h : Option HeldView} (n : ℕ) → HasNumber g n → is_under_way s ≡ true → IsCounted o g s turns h → n ≡ turns
+number_is : {o : Option Origin} {g : Option LastJob} {s : Option JobStage} {turns : ℕ} {h : Option WaitingTaskView} (n : ℕ) → HasNumber g n → is_under_way s ≡ true → IsCounted o g s turns h → n ≡ turns
 number_is {g = None} n has is c = absurd has
 number_is {g = Some x} n has is c = sym has ∙ (c.current is).0
 
-has_origin : {o : Option Origin} {g : Option Given} {s : Option Stage} {turns : ℕ} {h : Option HeldView} (n : ℕ) → HasNumber g n → IsCounted o g s turns h → o ≢ None
+has_origin : {o : Option Origin} {g : Option LastJob} {s : Option JobStage} {turns : ℕ} {h : Option WaitingTaskView} (n : ℕ) → HasNumber g n → IsCounted o g s turns h → o ≢ None
 has_origin {g = None} n has c none = has
 has_origin {g = Some x} n has c none = (let e : Some x ≡ None = (c.unmade none).1 in cc)
 
-applied_now : {o : Option Origin} {g : Option Given} {h : Option HeldView} (k : ℕ) → o ≢ None → h ≡ None → IsCounted o g (Some stage.Applied) k h
-applied_now {h = h} k made free = record { unmade = λ none. absurd (made none); current = λ is. absurd (false≢true is); waits = subst (λ (x : Option HeldView). IfSome x (λ y. y.number ≡ k)) (sym free) tt }
+applied_now : {o : Option Origin} {g : Option LastJob} {h : Option WaitingTaskView} (k : ℕ) → o ≢ None → h ≡ None → IsCounted o g (Some stage.Applied) k h
+applied_now {h = h} k made free = record { unmade = λ none. absurd (made none); current = λ is. absurd (false≢true is); waits = subst (λ (x : Option WaitingTaskView). IfSome x (λ y. y.number ≡ k)) (sym free) tt }
 
 -- A turn of a task was applied, and its next one has no job yet and doesn't wait.
-pub record Rests (log : List Event) (held : List (Option HeldView)) (t n : ℕ) : Type 0 where
+pub record Rests (log : List Event) (held : List (Option WaitingTaskView)) (t n : ℕ) : Type 0 where
   pub made : (life_of t log).origin ≢ None
   pub rest : is_under_way (life_of t log).stage ≡ false
   pub turns : applied t log ≡ n + 1
   pub free : held_at held t ≡ None
 
-pub counted_number : (roots : ℕ) (log : List Event) (held : List (Option HeldView)) (t n : ℕ) → AreCounted roots log held → HasNumber (life_of t log).given n → is_under_way (life_of t log).stage ≡ true → n ≡ applied t log
+pub counted_number : (roots : ℕ) (log : List Event) (held : List (Option WaitingTaskView)) (t n : ℕ) → AreCounted roots log held → HasNumber (life_of t log).given n → is_under_way (life_of t log).stage ≡ true → n ≡ applied t log
 counted_number roots log held t n are has is = number_is n has is (are.each t)
 
-pub apply_push : (roots : ℕ) (log : List Event) (held : List (Option HeldView)) (t n : ℕ) → HasNumber (life_of t log).given n → is_under_way (life_of t log).stage ≡ true → AreCounted roots log held
+pub apply_push : (roots : ℕ) (log : List Event) (held : List (Option WaitingTaskView)) (t n : ℕ) → HasNumber (life_of t log).given n → is_under_way (life_of t log).stage ≡ true → AreCounted roots log held
     → AreCounted roots (log ++ Apply (task t) n ∷ []) held × Rests (log ++ Apply (task t) n ∷ []) held t n
 apply_push roots log held t n has is are =
     let e : Event = Apply (task t) n in
@@ -295,7 +295,7 @@ made_push t log e made = elim (cases_eq (task_of e) t) [
   | inr other ↦ subst (λ (l : Life). l.origin ≢ None) (sym (life_of-push_other t log e other)) made
 ]
 
-pub idle_stage : (e : Event) (s : Option Stage) → starts e ≡ false → is_under_way s ≡ false → is_under_way (later (stage_in e) s) ≡ false
+pub idle_stage : (e : Event) (s : Option JobStage) → starts e ≡ false → is_under_way s ≡ false → is_under_way (later (stage_in e) s) ≡ false
 idle_stage (Begin u n env) s h is = absurd (true≢false h)
 idle_stage (Apply u n) s h is = absurd (true≢false h)
 idle_stage (Give u n resume) s h is = absurd (true≢false h)
@@ -317,7 +317,7 @@ rest_push t log e idle rest = elim (cases_eq (task_of e) t) [
   | inr other ↦ subst (λ (l : Life). is_under_way l.stage ≡ false) (sym (life_of-push_other t log e other)) rest
 ]
 
-pub rests_push : (log : List Event) (held : List (Option HeldView)) (t n : ℕ) (e : Event) → starts e ≡ false → Rests log held t n → Rests (log ++ e ∷ []) held t n
+pub rests_push : (log : List Event) (held : List (Option WaitingTaskView)) (t n : ℕ) (e : Event) → starts e ≡ false → Rests log held t n → Rests (log ++ e ∷ []) held t n
 rests_push log held t n e idle r = record {
   made = made_push t log e r.made;
   rest = rest_push t log e idle r.rest;
@@ -327,18 +327,18 @@ rests_push log held t n e idle r = record {
 
 -- jobs that are made, and not logged yet
 
-pub record JobFits (log : List Event) (held : List (Option HeldView)) (j : JobView) : Type 0 where
+pub record JobFits (log : List Event) (held : List (Option WaitingTaskView)) (j : JobFacts) : Type 0 where
   pub made : (life_of j.task log).origin ≢ None
   pub number : j.number ≡ applied j.task log
   pub free : held_at held j.task ≡ None
 
-pub fits_push : (log : List Event) (held : List (Option HeldView)) (j : JobView) (e : Event) → turn_in j.task e ≡ None → JobFits log held j → JobFits (log ++ e ∷ []) held j
+pub fits_push : (log : List Event) (held : List (Option WaitingTaskView)) (j : JobFacts) (e : Event) → turn_in j.task e ≡ None → JobFits log held j → JobFits (log ++ e ∷ []) held j
 fits_push log held j e none f = record { made = made_push j.task log e f.made; number = f.number ∙ sym (idle_applied j.task log e none); free = f.free }
 
-given_now : {o : Option Origin} {h : Option HeldView} (g : Given) (k : ℕ) → g.number ≡ k → o ≢ None → h ≡ None → IsCounted o (Some g) (Some stage.Given) k h
-given_now {h = h} g k number made free = record { unmade = λ none. absurd (made none); current = λ is. (number, free); waits = subst (λ (x : Option HeldView). IfSome x (λ y. y.number ≡ k)) (sym free) tt }
+given_now : {o : Option Origin} {h : Option WaitingTaskView} (g : LastJob) (k : ℕ) → g.number ≡ k → o ≢ None → h ≡ None → IsCounted o (Some g) (Some stage.Given) k h
+given_now {h = h} g k number made free = record { unmade = λ none. absurd (made none); current = λ is. (number, free); waits = subst (λ (x : Option WaitingTaskView). IfSome x (λ y. y.number ≡ k)) (sym free) tt }
 
-pub give_push : (roots : ℕ) (log : List Event) (held : List (Option HeldView)) (j : JobView) → JobFits log held j → AreCounted roots log held → AreCounted roots (log ++ Give (task j.task) j.number j.resume ∷ []) held
+pub give_push : (roots : ℕ) (log : List Event) (held : List (Option WaitingTaskView)) (j : JobFacts) → JobFits log held j → AreCounted roots log held → AreCounted roots (log ++ Give (task j.task) j.number j.resume ∷ []) held
 give_push roots log held j f are =
     let e : Event = Give (task j.task) j.number j.resume in
     record {
@@ -352,10 +352,10 @@ give_push roots log held j f are =
 
 -- a turn begins
 
-begun_now : {o : Option Origin} {g : Option Given} {s : Option Stage} {n : ℕ} {h : Option HeldView} (env : Env) → is_under_way s ≡ true → IsCounted o g s n h → IsCounted o g (Some (stage.Begun env)) n h
+begun_now : {o : Option Origin} {g : Option LastJob} {s : Option JobStage} {n : ℕ} {h : Option WaitingTaskView} (env : Env) → is_under_way s ≡ true → IsCounted o g s n h → IsCounted o g (Some (stage.Begun env)) n h
 begun_now env is c = record { unmade = c.unmade; current = λ _. c.current is; waits = c.waits }
 
-pub begin_push : (roots : ℕ) (log : List Event) (held : List (Option HeldView)) (t n : ℕ) (env : Env) → is_under_way (life_of t log).stage ≡ true → AreCounted roots log held → AreCounted roots (log ++ Begin (task t) n env ∷ []) held
+pub begin_push : (roots : ℕ) (log : List Event) (held : List (Option WaitingTaskView)) (t n : ℕ) (env : Env) → is_under_way (life_of t log).stage ≡ true → AreCounted roots log held → AreCounted roots (log ++ Begin (task t) n env ∷ []) held
 begin_push roots log held t n env is are =
     let e : Event = Begin (task t) n env in
     record {

@@ -8,7 +8,7 @@ use Rattle.std.proofs.lemmas.List.{append-nil}
 use Rattle.std.proofs.lemmas.List.Elements.{filter_map-append}
 use Rattle.swift_types.specs.declared.outcome.Resume.{Resume}
 use Rattle.swift_types.specs.declared.priority.Priority.{Priority}
-use Rattle.script_code.specs.declared.env.Env.{Env}
+use Rattle.swift_types.specs.declared.env.Env.{Env}
 use Rattle.swift_script.specs.Scripts.{ScriptView, root_count, root_priority}
 use Rattle.swift_interpreter.specs.Frames.{FrameView}
 use Rattle.swift_interpreter.specs.Turn.{EffectView, ExitView}
@@ -21,7 +21,7 @@ use Rattle.swift_events.specs.Events.{task_of, tasks_of, later}
 use Rattle.swift_events.specs.Lives.{life_of, stage_in}
 use Rattle.swift_events.proofs.LogLemmas.{life_of-push_same, life_of-push_other, filter_map-push_none, unborn_without}
 use Rattle.swift_history.specs.Checks.{is_under_way}
-use Rattle.swift_history.specs.TurnEnds.{task, JobView, HeldView, exit_events, log_after, gives, turn_end, root_job, root_events}
+use Rattle.swift_history.specs.TurnEnds.{task, JobFacts, WaitingTaskView, exit_events, log_after, gives, turn_end, root_job, root_events}
 use Rattle.swift_history.specs.Histories.{Block, added, begun, ran, folded, Standing, Stands, AllStand, TurnStands, IsLegal, ReportView, after_block, after_blocks, at_first, left_as, begun_priority, turn_applied}
 use Rattle.swift_laws.specs.Laws.{turns_of, turn_in, jobs_given, given_job, TurnsAreNumbered, GivenJobsAreApplied}
 use Rattle.swift_laws.specs.Accepted.{AcceptedTurnsStand, AcceptedJobsStand}
@@ -115,7 +115,7 @@ job_here t n resume = ap (λ (b : Bool). if b then Some n else None) (eq-eqb t t
 jobs_push : (t n : ℕ) (resume : Resume) (log : List Event) → jobs_given t (log ++ Give (task t) n resume ∷ []) ≡ jobs_given t log ++ n ∷ []
 jobs_push t n resume log = filter_map-append (given_job t) log (Give (task t) n resume ∷ []) ∙ ap (λ (o : Option ℕ). jobs_given t log ++ cons_option o []) (job_here t n resume)
 
-give_given : (log : List Event) (j : JobView) → Resting log j → j.number ≡ applied j.task log → AreGiven log → AreGiven (log ++ Give (task j.task) j.number j.resume ∷ [])
+give_given : (log : List Event) (j : JobFacts) → Resting log j → j.number ≡ applied j.task log → AreGiven log → AreGiven (log ++ Give (task j.task) j.number j.resume ∷ [])
 give_given log j rest number are u =
     let e : Event = Give (task j.task) j.number j.resume in
     elim (cases_eq j.task u) [
@@ -130,17 +130,17 @@ all_with : {X : Type 0} {P Q R : X → Type 0} → ((x : X) → P x → Q x → 
 all_with f [] p q = tt
 all_with f (x ∷ xs) p q = (f x p.0 q.0, all_with f xs p.1 q.1)
 
-gives_given : (log : List Event) (held : List (Option HeldView)) (jobs : List JobView) → AllByRecursion (JobFits log held) jobs → AllByRecursion (Resting log) jobs → Apart jobs → AreGiven log → AreGiven (log ++ gives jobs)
+gives_given : (log : List Event) (held : List (Option WaitingTaskView)) (jobs : List JobFacts) → AllByRecursion (JobFits log held) jobs → AllByRecursion (Resting log) jobs → Apart jobs → AreGiven log → AreGiven (log ++ gives jobs)
 gives_given log held [] fits resting apart are = subst AreGiven (sym (append-nil log)) are
 gives_given log held (j ∷ js) fits resting apart are =
     let e : Event = Give (task j.task) j.number j.resume in
     let later : AllByRecursion (Resting (log ++ e ∷ [])) js =
-    all_with (λ (i : JobView) (other : IsOther j.task i) (rest : Resting log i). ap (λ (l : Life). is_under_way l.stage) (life_of-push_other i.task log e (λ same. other (sym same))) ∙ rest) js apart.0 resting.1 in
+    all_with (λ (i : JobFacts) (other : IsOther j.task i) (rest : Resting log i). ap (λ (l : Life). is_under_way l.stage) (life_of-push_other i.task log e (λ same. other (sym same))) ∙ rest) js apart.0 resting.1 in
     subst AreGiven (append_assoc log (e ∷ []) (gives js))
     (gives_given (log ++ e ∷ []) held js (all_map (λ i f. fits_push log held i e refl f) js fits.1) later apart.1 (give_given log j resting.0 fits.0.number are))
 
 -- the whole end of a turn
-turn_given : (script : ScriptView) (held : List (Option HeldView)) (t n : ℕ) (own : Priority) (log : List Event) (effects : List EffectView) (exit : ExitView) (after : Advanced)
+turn_given : (script : ScriptView) (held : List (Option WaitingTaskView)) (t n : ℕ) (own : Priority) (log : List Event) (effects : List EffectView) (exit : ExitView) (after : Advanced)
     → HasNumber (life_of t log).given n → is_under_way (life_of t log).stage ≡ true → AreCounted (root_count script) log held → AreGiven log → AreGiven (turn_end script log held t n own effects exit after).log
 turn_given script held t n own log effects exit after has under are given =
     let roots = root_count script in
@@ -156,7 +156,7 @@ turn_given script held t n own log effects exit after has under are given =
 
 -- blocks
 
-turn_gives : (script : ScriptView) (s : Standing) (e t n : ℕ) (effects : List EffectView) (exit : ExitView) (after : Option FrameView) (job : JobView) (env : Env) (frame : FrameView)
+turn_gives : (script : ScriptView) (s : Standing) (e t n : ℕ) (effects : List EffectView) (exit : ExitView) (after : Option FrameView) (job : JobFacts) (env : Env) (frame : FrameView)
     → TurnStands script s e t n effects exit job env frame → AreCounted (root_count script) s.log s.held → AreGiven s.log → AreGiven (turn_applied script s t n effects exit after).log
 turn_gives script s e t n effects exit after job env frame stands are given =
     let is = current_is (life_of t s.log) n job.resume stands.current in

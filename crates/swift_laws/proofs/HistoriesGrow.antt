@@ -5,7 +5,7 @@ use Rattle.std.specs.List.{filter_map}
 use Rattle.std.proofs.lemmas.List.{append-nil, length-append}
 use Rattle.std.proofs.lemmas.List.Elements.{filter_map-append}
 use Rattle.swift_types.specs.declared.priority.Priority.{Priority}
-use Rattle.script_code.specs.declared.env.Env.{Env}
+use Rattle.swift_types.specs.declared.env.Env.{Env}
 use Rattle.swift_script.specs.Scripts.{ScriptView, root_count, root_priority}
 use Rattle.swift_interpreter.specs.Frames.{FrameView}
 use Rattle.swift_interpreter.specs.Turn.{EffectView, ExitView}
@@ -14,7 +14,7 @@ use Rattle.swift_journal.specs.Checkpoints.{CheckpointView}
 use Rattle.swift_events.specs.declared.event.Event.{Event}
 use Rattle.swift_events.specs.declared.event.Event.TheVariants.{Root, Begin, Apply, Free, Open, Child, Skip, CancelTask, CancelGroup, Wait, Next, Close, End, Give}
 use Rattle.swift_events.specs.Lives.{life_of}
-use Rattle.swift_history.specs.TurnEnds.{task, JobView, HeldView, exit_events, log_after, gives, turn_end, root_job}
+use Rattle.swift_history.specs.TurnEnds.{task, JobFacts, WaitingTaskView, exit_events, log_after, gives, turn_end, root_job}
 use Rattle.swift_history.specs.Histories.{Block, added, begun, ran, folded, Standing, Stands, AllStand, TurnStands, after_block, after_blocks, at_first, left_as, begun_priority, turn_applied}
 use Rattle.swift_laws.specs.Laws.{turn_in, turns_of}
 use Rattle.swift_laws.proofs.HistoriesWritten.{IsWritten, keeps_effects, keeps_exit}
@@ -42,32 +42,32 @@ written_after roots t log (Close o g) w = refl
 written_after roots t log (End u ending) w = refl
 
 module _ (P : List Event → Type 0) (keeps : (log : List Event) (e : Event) → begins e ≡ false → P log → P (log ++ e ∷ [])) where
-  keeps_gives : (log : List Event) (jobs : List JobView) → P log → P (log ++ gives jobs)
+  keeps_gives : (log : List Event) (jobs : List JobFacts) → P log → P (log ++ gives jobs)
   keeps_gives log [] is = subst P (sym (append-nil log)) is
   keeps_gives log (j ∷ js) is =
       let e : Event = Give (task j.task) j.number j.resume in
       subst P (append_assoc log (e ∷ []) (gives js)) (keeps_gives (log ++ e ∷ []) js (keeps log e refl is))
 
   -- from the effects on, from the turn's being applied on, and as a whole
-  pub keeps_rest : (script : ScriptView) (log : List Event) (held : List (Option HeldView)) (t n : ℕ) (own : Priority) (effects : List EffectView) (exit : ExitView) (after : Advanced)
+  pub keeps_rest : (script : ScriptView) (log : List Event) (held : List (Option WaitingTaskView)) (t n : ℕ) (own : Priority) (effects : List EffectView) (exit : ExitView) (after : Advanced)
       → P (log_after (root_count script) t own (log ++ Apply (task t) n ∷ []) effects) → P (turn_end script log held t n own effects exit after).log
   keeps_rest script log held t n own effects exit after is =
       let roots = root_count script in
       let done = log_after roots t own (log ++ Apply (task t) n ∷ []) effects in
       keeps_gives (done ++ exit_events t done exit after.step) _ (keeps_exit P roots t own (λ l e w p. keeps l e (written_after roots t l e w) p) done exit after.step is)
 
-  pub keeps_applied : (script : ScriptView) (log : List Event) (held : List (Option HeldView)) (t n : ℕ) (own : Priority) (effects : List EffectView) (exit : ExitView) (after : Advanced)
+  pub keeps_applied : (script : ScriptView) (log : List Event) (held : List (Option WaitingTaskView)) (t n : ℕ) (own : Priority) (effects : List EffectView) (exit : ExitView) (after : Advanced)
       → P (log ++ Apply (task t) n ∷ []) → P (turn_end script log held t n own effects exit after).log
   keeps_applied script log held t n own effects exit after is =
       let roots = root_count script in
       keeps_rest script log held t n own effects exit after
       (keeps_effects P roots t own (λ l e w p. keeps l e (written_after roots t l e w) p) (log ++ Apply (task t) n ∷ []) effects is)
 
-  pub keeps_turn : (script : ScriptView) (log : List Event) (held : List (Option HeldView)) (t n : ℕ) (own : Priority) (effects : List EffectView) (exit : ExitView) (after : Advanced)
+  pub keeps_turn : (script : ScriptView) (log : List Event) (held : List (Option WaitingTaskView)) (t n : ℕ) (own : Priority) (effects : List EffectView) (exit : ExitView) (after : Advanced)
       → P log → P (turn_end script log held t n own effects exit after).log
   keeps_turn script log held t n own effects exit after is = keeps_applied script log held t n own effects exit after (keeps log (Apply (task t) n) refl is)
 
-  keeps_stand : (script : ScriptView) (s : Standing) (e t n : ℕ) (effects : List EffectView) (exit : ExitView) (after : Option FrameView) (job : JobView) (env : Env) (frame : FrameView)
+  keeps_stand : (script : ScriptView) (s : Standing) (e t n : ℕ) (effects : List EffectView) (exit : ExitView) (after : Option FrameView) (job : JobFacts) (env : Env) (frame : FrameView)
       → TurnStands script s e t n effects exit job env frame → P s.log → P (turn_applied script s t n effects exit after).log
   keeps_stand script s e t n effects exit after job env frame stands is =
       subst (λ (z : Standing). P z.log) (sym (applied_is script s t n job frame stands.runs.0 effects exit after stands.given stands.runs.1))
@@ -122,7 +122,7 @@ log_grows script cps before bs all =
     keeps_blocks (Extends front) (λ l e _ x. extends_push front l e x) script cps (λ b t n env _ x. extends_push front (after_blocks script (at_first script) b).log (Begin (task t) n env) x) before bs all ([], sym (append-nil front))
 
 -- and a turn writes first that it is applied
-pub turn_extends : (script : ScriptView) (s : Standing) (e t n : ℕ) (effects : List EffectView) (exit : ExitView) (after : Option FrameView) (job : JobView) (env : Env) (frame : FrameView)
+pub turn_extends : (script : ScriptView) (s : Standing) (e t n : ℕ) (effects : List EffectView) (exit : ExitView) (after : Option FrameView) (job : JobFacts) (env : Env) (frame : FrameView)
     → TurnStands script s e t n effects exit job env frame → Extends (s.log ++ Apply (task t) n ∷ []) (turn_applied script s t n effects exit after).log
 turn_extends script s e t n effects exit after job env frame stands =
     let front = s.log ++ Apply (task t) n ∷ [] in

@@ -11,13 +11,13 @@ use Rattle.script_code.specs.Tree.{Term, Operation, Wanted, Code}
 use Rattle.script_code.specs.Tree as code
 use Rattle.script_code.specs.Value.{ev, evs}
 use Rattle.script_code.specs.Instructions.{NextAction, first, ends, does, tests}
-use Rattle.script_code.specs.declared.instruction.Place.{Place}
-use Rattle.script_code.specs.declared.instruction.Place.TheVariants.{Variable, Field}
+use Rattle.script_code.specs.declared.instruction.NumberPlace.{NumberPlace}
+use Rattle.script_code.specs.declared.instruction.NumberPlace.TheVariants.{Variable, Field}
 use Rattle.script_code.specs.declared.instruction.Cancelled.{Cancelled as Subject}
 use Rattle.script_code.specs.declared.instruction.Cancelled.TheVariants as subject
 use Rattle.swift_script.specs.Scripts.{ScriptView, executor_invariants, actor_executor, method_actor}
 use Rattle.swift_interpreter.specs.Turn
-use Rattle.swift_interpreter.specs.Turn.{State, Given, InvocationView, EffectView, ExitView, failing, Next, goes, leaves, Played, scene, standing, with_value, with_invocation, given, perform, act, settled, at_limit, on, end_of, turn, caught, received, raised_by, taken_by, taken, whole_turn, left_by, exits, undoes, all_hold, kept_of, kept}
+use Rattle.swift_interpreter.specs.Turn.{TurnStateView, TurnInputView, InvocationView, EffectView, ExitView, failing, AfterStatement, goes, leaves, Played, scene, standing, with_value, with_invocation, given, perform, act, settled, at_limit, on, end_of, turn, caught, received, raised_by, taken_by, taken, whole_turn, left_by, exits, undoes, all_hold, kept_of, kept}
 use Rattle.swift_journal.specs.Records.{RecordView}
 use Rattle.swift_turn.specs.Body.{state_at}
 use Rattle.swift_history.specs.Histories.{IsLegal, ReportView, fields_of}
@@ -32,38 +32,38 @@ record Adds (standing : List (ℕ × ℤ)) (before after : List EffectView) : Ty
   more : after ≡ before ++ effect ∷ []
   hands_on : HandsOn standing effect
 
-abbrev Step : List (ℕ × ℤ) → List EffectView → Next → Type 0
+abbrev Step : List (ℕ × ℤ) → List EffectView → AfterStatement → Type 0
 Step standing before (goes s) = (s.effects ≡ before) ⊎ Adds standing before s.effects
 Step standing before (leaves s e) = s.effects ≡ before
 
-value_steps : (x : List (ℕ × ℤ)) (v : Option ℤ) (s : State) (go : ℤ → Next) → ((y : ℤ) → Step x s.effects (go y)) → Step x s.effects (with_value v s go)
+value_steps : (x : List (ℕ × ℤ)) (v : Option ℤ) (s : TurnStateView) (go : ℤ → AfterStatement) → ((y : ℤ) → Step x s.effects (go y)) → Step x s.effects (with_value v s go)
 value_steps x None s go k = refl
 value_steps x (Some y) s go k = k y
 
-invocation_steps : (x : List (ℕ × ℤ)) (i : Option InvocationView) (s : State) (go : InvocationView → Next) → ((y : InvocationView) → Step x s.effects (go y)) → Step x s.effects (with_invocation i s go)
+invocation_steps : (x : List (ℕ × ℤ)) (i : Option InvocationView) (s : TurnStateView) (go : InvocationView → AfterStatement) → ((y : InvocationView) → Step x s.effects (go y)) → Step x s.effects (with_invocation i s go)
 invocation_steps x None s go k = refl
 invocation_steps x (Some y) s go k = k y
 
-if_steps : (x : List (ℕ × ℤ)) (before : List EffectView) (b : Bool) (n m : Next) → Step x before n → Step x before m → Step x before (if b then n else m)
+if_steps : (x : List (ℕ × ℤ)) (before : List EffectView) (b : Bool) (n m : AfterStatement) → Step x before n → Step x before m → Step x before (if b then n else m)
 if_steps x before true n m p q = p
 if_steps x before false n m p q = q
 
-given_steps : (x : List (ℕ × ℤ)) (place : Option Place) (rest : Code) (s : State) (v : ℤ) → Step x s.effects (given place rest s v)
+given_steps : (x : List (ℕ × ℤ)) (place : Option NumberPlace) (rest : Code) (s : TurnStateView) (v : ℤ) → Step x s.effects (given place rest s v)
 given_steps x None rest s v = inl refl
 given_steps x (Some (Variable y)) rest s v = inl refl
 given_steps x (Some (Field p)) rest s v = inl refl
 
-make_steps : (x : List (ℕ × ℤ)) (e : EffectView) (handle : Option ℕ) (rest : Code) (s : State) → HandsOn x e → Step x s.effects (Turn.make e handle rest s)
+make_steps : (x : List (ℕ × ℤ)) (e : EffectView) (handle : Option ℕ) (rest : Code) (s : TurnStateView) → HandsOn x e → Step x s.effects (Turn.make e handle rest s)
 make_steps x e handle rest s on = if_steps x s.effects (nat_lt 0 s.room) _ _ (if_steps x s.effects (nat_lt s.made (2 ^ 32)) _ _ (inr (record { effect = e; more = refl; hands_on = on })) refl) refl
 
-add_steps : (x : List (ℕ × ℤ)) (e : EffectView) (rest : Code) (s : State) → HandsOn x e → Step x s.effects (Turn.add_child e rest s)
+add_steps : (x : List (ℕ × ℤ)) (e : EffectView) (rest : Code) (s : TurnStateView) → HandsOn x e → Step x s.effects (Turn.add_child e rest s)
 add_steps x e rest s on = if_steps x s.effects (nat_lt 0 s.room) _ _ (inr (record { effect = e; more = refl; hands_on = on })) refl
 
-close_steps : (x : List (ℕ × ℤ)) (gs : List ℕ) (rest : Code) (s : State) → Step x s.effects (Turn.close_group gs rest s)
+close_steps : (x : List (ℕ × ℤ)) (gs : List ℕ) (rest : Code) (s : TurnStateView) → Step x s.effects (Turn.close_group gs rest s)
 close_steps x [] rest s = inl refl
 close_steps x (g ∷ gs) rest s = refl
 
-wait_steps : (g : Given) (w : Wanted) (rest : Code) (s : State) → Step (standing g s) s.effects (Turn.wait_for g w rest s)
+wait_steps : (g : TurnInputView) (w : Wanted) (rest : Code) (s : TurnStateView) → Step (standing g s) s.effects (Turn.wait_for g w rest s)
 wait_steps g (code.call c) rest s = invocation_steps (standing g s) (Turn.invoked c (evs c.args (scene g s))) s _ (λ i. refl)
 wait_steps g (code.root r) rest s = refl
 wait_steps g (code.task x) rest s = refl
@@ -74,7 +74,7 @@ cancel_on x handles (subject.Root r) = tt
 cancel_on x handles (subject.Task y) = tt
 cancel_on x handles (subject.Group y) = tt
 
-perform_steps : (g : Given) (d : Operation) (rest : Code) (s : State) → Step (standing g s) s.effects (perform g d rest s)
+perform_steps : (g : TurnInputView) (d : Operation) (rest : Code) (s : TurnStateView) → Step (standing g s) s.effects (perform g d rest s)
 perform_steps g (code.set_variable x t) rest s = value_steps (standing g s) (ev t (scene g s)) s _ (λ v. inl refl)
 perform_steps g (code.set_field p t) rest s = value_steps (standing g s) (ev t (scene g s)) s _ (λ v. inl refl)
 perform_steps g (code.return t) rest s = value_steps (standing g s) (ev t (scene g s)) s _ (λ v. refl)
@@ -95,30 +95,30 @@ perform_steps g code.unbind rest s = inl refl
 perform_steps g code.assume rest s = inl refl
 perform_steps g code.isolated rest s = refl
 
-act_steps : (g : Given) (here : NextAction) (s : State) → Step (standing g s) s.effects (act g here s)
+act_steps : (g : TurnInputView) (here : NextAction) (s : TurnStateView) → Step (standing g s) s.effects (act g here s)
 act_steps g ends s = refl
 act_steps g (does d rest) s = perform_steps g d rest s
 act_steps g (tests t held failed) s = value_steps (standing g s) (ev t (scene g s)) s _ (λ v. inl refl)
 
-settled_effects : (c : Code) (s : State) → (settled c s).effects ≡ s.effects
+settled_effects : (c : Code) (s : TurnStateView) → (settled c s).effects ≡ s.effects
 settled_effects (code.act code.unbind rest) s = settled_effects rest _
 settled_effects c s = refl
 
 -- the end of the steps adds none
 
-close_limit : (gs : List ℕ) (rest : Code) (s : State) → (end_of (Turn.close_group gs rest s)).state.effects ≡ s.effects
+close_limit : (gs : List ℕ) (rest : Code) (s : TurnStateView) → (end_of (Turn.close_group gs rest s)).state.effects ≡ s.effects
 close_limit [] rest s = refl
 close_limit (g ∷ gs) rest s = refl
 
-limit_effects : (here : NextAction) (s : State) → (end_of (at_limit here s)).state.effects ≡ s.effects
+limit_effects : (here : NextAction) (s : TurnStateView) → (end_of (at_limit here s)).state.effects ≡ s.effects
 limit_effects ends s = refl
 limit_effects (does code.close_group rest) s = close_limit s.groups rest s
 limit_effects here s = refl
 
 -- an effect of a turn is that of a statement at which the turn has the effects before it
 
-record DoneAt (g : Given) (P : State → Type 0) (before : List EffectView) (x : EffectView) : Type 0 where
-  at : State
+record DoneAt (g : TurnInputView) (P : TurnStateView → Type 0) (before : List EffectView) (x : EffectView) : Type 0 where
+  at : TurnStateView
   passes : P at
   has : at.effects ≡ before
   adds : GoesOn (act g (first at.todo) at) (λ s. s.effects ≡ before ++ x ∷ [])
@@ -141,11 +141,11 @@ last_or_before before x after xs y is = elim (in_order before x after xs y [] (s
 abbrev HasEffect : List EffectView → List EffectView → EffectView → Type 0
 HasEffect effects before x = (after : List EffectView) × (effects ≡ before ++ x ∷ after)
 
-abbrev Done : Given → (State → Type 0) → List EffectView → List EffectView → Type 0
+abbrev Done : TurnInputView → (TurnStateView → Type 0) → List EffectView → List EffectView → Type 0
 Done g P first_effects effects = (before : List EffectView) (x : EffectView) (after : List EffectView) → effects ≡ before ++ x ∷ after → HasEffect first_effects before x ⊎ DoneAt g P before x
 
-step_done : (g : Given) (n : ℕ) (at : State) (first_effects : List EffectView) (next : Next) (P : State → Type 0) → act g (first at.todo) at ≡ next → at.effects ≡ first_effects → P at → ((y : State) → GoesOn next (λ m. Passes g n m y) → P y)
-    → ((m : State) → Done g (Passes g n m) m.effects (turn g n m).state.effects) → Step (standing g at) at.effects next → Done g P first_effects (on next (turn g n)).state.effects
+step_done : (g : TurnInputView) (n : ℕ) (at : TurnStateView) (first_effects : List EffectView) (next : AfterStatement) (P : TurnStateView → Type 0) → act g (first at.todo) at ≡ next → at.effects ≡ first_effects → P at → ((y : TurnStateView) → GoesOn next (λ m. Passes g n m y) → P y)
+    → ((m : TurnStateView) → Done g (Passes g n m) m.effects (turn g n m).state.effects) → Step (standing g at) at.effects next → Done g P first_effects (on next (turn g n)).state.effects
 step_done g n at es (leaves s e) P acts same here later rest steps before x after is = inl (after, sym same ∙ sym steps ∙ is)
 step_done g n at es (goes m) P acts same here later rest (inl none) before x after is = elim (rest m before x after is) [
   | inl has ↦ inl (has.0, sym same ∙ sym none ∙ has.1)
@@ -166,7 +166,7 @@ step_done g n at es (goes m) P acts same here later rest (inr adds) before x aft
   | inr done ↦ inr (record { at = done.at; passes = later done.at done.passes; has = done.has; adds = done.adds; hands_on = done.hands_on })
 ]
 
-turn_done : (g : Given) (n : ℕ) (s : State) → Done g (Passes g n s) s.effects (turn g n s).state.effects
+turn_done : (g : TurnInputView) (n : ℕ) (s : TurnStateView) → Done g (Passes g n s) s.effects (turn g n s).state.effects
 unfolding turn
 turn_done g zero s = λ before x after is. inl (after, sym (settled_effects s.todo s) ∙ sym (limit_effects (first (settled s.todo s).todo) (settled s.todo s)) ∙ is)
 turn_done g (suc n) s =
@@ -175,40 +175,40 @@ turn_done g (suc n) s =
 
 -- the resume adds none
 
-abbrev SameEffects : List EffectView → Next → Type 0
+abbrev SameEffects : List EffectView → AfterStatement → Type 0
 SameEffects es (goes s) = s.effects ≡ es
 SameEffects es (leaves s e) = s.effects ≡ es
 
-given_same : (place : Option Place) (rest : Code) (s : State) (v : ℤ) → SameEffects s.effects (given place rest s v)
+given_same : (place : Option NumberPlace) (rest : Code) (s : TurnStateView) (v : ℤ) → SameEffects s.effects (given place rest s v)
 given_same None rest s v = refl
 given_same (Some (Variable y)) rest s v = refl
 given_same (Some (Field p)) rest s v = refl
 
-value_same : (v : Option ℤ) (s : State) (go : ℤ → Next) → ((y : ℤ) → SameEffects s.effects (go y)) → SameEffects s.effects (with_value v s go)
+value_same : (v : Option ℤ) (s : TurnStateView) (go : ℤ → AfterStatement) → ((y : ℤ) → SameEffects s.effects (go y)) → SameEffects s.effects (with_value v s go)
 value_same None s go k = refl
 value_same (Some y) s go k = k y
 
-caught_same : (g : Given) (f : Fault) (other : Option Term) (s : State) (go : ℤ → Next) → ((y : ℤ) → SameEffects s.effects (go y)) → SameEffects s.effects (caught g f other s go)
+caught_same : (g : TurnInputView) (f : Fault) (other : Option Term) (s : TurnStateView) (go : ℤ → AfterStatement) → ((y : ℤ) → SameEffects s.effects (go y)) → SameEffects s.effects (caught g f other s go)
 caught_same g Turns other s go k = refl
 caught_same g f None s go k = refl
 caught_same g f (Some t) s go k = value_same (ev t (scene g s)) s go k
 
-raised_same : (resume : Resume) (s : State) → SameEffects s.effects (raised_by resume s)
+raised_same : (resume : Resume) (s : TurnStateView) → SameEffects s.effects (raised_by resume s)
 raised_same (Raise f) s = refl
 raised_same resume s = refl
 
-by_same : (g : Given) (here : NextAction) (resume : Resume) (s : State) → SameEffects s.effects (taken_by g here resume s)
+by_same : (g : TurnInputView) (here : NextAction) (resume : Resume) (s : TurnStateView) → SameEffects s.effects (taken_by g here resume s)
 by_same g (does (code.receive place other) rest) Start s = given_same place rest s _
 by_same g (does (code.receive place other) rest) Go s = given_same place rest s _
 by_same g (does (code.receive place other) rest) (Value v) s = given_same place rest s v
 by_same g (does (code.receive place other) rest) (Raise f) s = caught_same g f other s (given place rest s) (λ y. given_same place rest s y)
 by_same g here resume s = raised_same resume s
 
-taken_same : (g : Given) (pending : Option Fault) (here : NextAction) (resume : Resume) (s : State) → SameEffects s.effects (taken g pending here resume s)
+taken_same : (g : TurnInputView) (pending : Option Fault) (here : NextAction) (resume : Resume) (s : TurnStateView) → SameEffects s.effects (taken g pending here resume s)
 taken_same g None here resume s = by_same g here resume s
 taken_same g (Some f) here resume s = refl
 
-on_done : (g : Given) (n : ℕ) (es : List EffectView) (next : Next) → SameEffects es next → Done g (λ at. GoesOn next (λ m. Passes g n m at)) es (on next (turn g n)).state.effects
+on_done : (g : TurnInputView) (n : ℕ) (es : List EffectView) (next : AfterStatement) → SameEffects es next → Done g (λ at. GoesOn next (λ m. Passes g n m at)) es (on next (turn g n)).state.effects
 on_done g n es (leaves s e) same before x after is = inl (after, sym same ∙ is)
 on_done g n es (goes m) same before x after is = elim (turn_done g n m before x after is) [
   | inl has ↦ inl (has.0, sym same ∙ has.1)
@@ -217,11 +217,11 @@ on_done g n es (goes m) same before x after is = elim (turn_done g n m before x 
 
 -- what is kept of a turn
 
-left_effects : (f : Fault) (gs : List ℕ) (s : State) → (left_by f gs s).state.effects ≡ s.effects
+left_effects : (f : Fault) (gs : List ℕ) (s : TurnStateView) → (left_by f gs s).state.effects ≡ s.effects
 left_effects f [] s = refl
 left_effects f (g ∷ gs) s = refl
 
-exits_effects : (s : State) (e : ExitView) → (exits s e).state.effects ≡ s.effects
+exits_effects : (s : TurnStateView) (e : ExitView) → (exits s e).state.effects ≡ s.effects
 exits_effects s (failing f) = left_effects f s.groups s
 exits_effects s e = refl
 
@@ -232,7 +232,7 @@ if_one : (xs ys : List EffectView) (b : Bool) (p q : Played) → OneOf xs ys p.s
 if_one xs ys true p q h k = h
 if_one xs ys false p q h k = k
 
-kept_one : (g : Given) (n : ℕ) (invariants : List Term) (s : State) (resume : Resume) → OneOf s.effects (whole_turn g n s resume).state.effects (kept g n invariants s resume).state.effects
+kept_one : (g : TurnInputView) (n : ℕ) (invariants : List Term) (s : TurnStateView) (resume : Resume) → OneOf s.effects (whole_turn g n s resume).state.effects (kept g n invariants s resume).state.effects
 kept_one g n invariants s resume =
     let p = whole_turn g n s resume in
     if_one s.effects p.state.effects (undoes p.exit) _ _ (inl (exits_effects s p.exit))
@@ -241,7 +241,7 @@ kept_one g n invariants s resume =
 no_effect : (before : List EffectView) (x : EffectView) (after : List EffectView) → ◌≡◌ {A = List EffectView} [] (before ++ x ∷ after) → ⊥
 no_effect before x after is = let a = ap length is in let b = length-append before (x ∷ after) in omega (arith, a, b)
 
-kept_done : (g : Given) (n : ℕ) (invariants : List Term) (s : State) (resume : Resume) (before : List EffectView) (x : EffectView) (after : List EffectView) → s.effects ≡ [] → (kept g n invariants s resume).state.effects ≡ before ++ x ∷ after
+kept_done : (g : TurnInputView) (n : ℕ) (invariants : List Term) (s : TurnStateView) (resume : Resume) (before : List EffectView) (x : EffectView) (after : List EffectView) → s.effects ≡ [] → (kept g n invariants s resume).state.effects ≡ before ++ x ∷ after
     → DoneAt g (λ at. GoesOn (taken g s.pending (first s.todo) resume s) (λ m. Passes g n m at)) before x
 kept_done g n invariants s resume before x after none is = elim (kept_one g n invariants s resume) [
   | inl undone ↦ absurd (no_effect before x after (sym none ∙ sym undone ∙ is))

@@ -11,7 +11,7 @@ use Rattle.swift_types.specs.declared.outcome.Ending.{Ending}
 use Rattle.swift_types.specs.declared.outcome.Resume.{Resume}
 use Rattle.swift_types.specs.declared.priority.Priority.{Priority}
 use Rattle.swift_locals.specs.Bindings.{value_of}
-use Rattle.script_code.specs.declared.env.Env.{Env}
+use Rattle.swift_types.specs.declared.env.Env.{Env}
 use Rattle.swift_script.specs.Scripts.{ScriptView, root_count}
 use Rattle.swift_interpreter.specs.Frames.{FrameView}
 use Rattle.swift_interpreter.specs.Turn.{InvocationView, EffectView, spawning, detaching, opening, adding, cancelling_task, cancelling_group, ExitView, calling, waiting, asking_next, closing, yielding, returning, failing}
@@ -22,7 +22,7 @@ use Rattle.swift_events.specs.declared.event.Event.{Event}
 use Rattle.swift_events.specs.declared.event.Event.TheVariants.{Apply}
 use Rattle.swift_events.specs.Events.{tasks_of}
 use Rattle.swift_events.specs.Lives.{life_of}
-use Rattle.swift_history.specs.TurnEnds.{task, JobView, first_job, effect_events, effect_jobs, is_left_out, jobs_made, root_job}
+use Rattle.swift_history.specs.TurnEnds.{task, JobFacts, first_job, effect_events, effect_jobs, is_left_out, jobs_made, root_job}
 use Rattle.swift_history.specs.Histories.{Block, added, begun, ran, folded, Standing, Stands, AllStand, TurnStands, IsLegal, ReportView, after_block, after_blocks, at_first, taken, left_as, begun_priority, turn_applied}
 use Rattle.swift_laws.specs.Laws.{IsRecord}
 use Rattle.swift_laws.specs.Inherited.{OneMakes, BlockMakes, IsMadeWith, bindings_over, FindsInherited}
@@ -75,7 +75,7 @@ advanced_outer script p callers outer base (failing f) is = resumed_outer script
 
 -- the jobs of the tasks that effects make
 
-record IsFirst (script : ScriptView) (by : ℕ) (own : Priority) (log : List Event) (es : List EffectView) (j : JobView) : Type 0 where
+record IsFirst (script : ScriptView) (by : ℕ) (own : Priority) (log : List Event) (es : List EffectView) (j : JobFacts) : Type 0 where
   made_with : List (ℕ × ℤ)
   makes : OneMakes script by own log es j.task made_with
   outer : j.frames.outer ≡ bindings_over (callers_of j.frames.frames) made_with
@@ -106,7 +106,7 @@ pub record AllInherit (script : ScriptView) (blocks : List Block) (s : Standing)
   pub jobs : JobsHave (Inherits script blocks) s.jobs
   pub held : HeldHave (Inherits script blocks) s.held
 
-turn_inherits : (script : ScriptView) (blocks : List Block) (b : Block) (e t n : ℕ) (effects : List EffectView) (exit : ExitView) (after : Option FrameView) (job : JobView) (env : Env) (frame : FrameView)
+turn_inherits : (script : ScriptView) (blocks : List Block) (b : Block) (e t n : ℕ) (effects : List EffectView) (exit : ExitView) (after : Option FrameView) (job : JobFacts) (env : Env) (frame : FrameView)
     → (let s = after_blocks script (at_first script) blocks in
     TurnStands script s e t n effects exit job env frame
     → ((u : ℕ) (bindings : List (ℕ × ℤ)) → OneMakes script t (begun_priority (life_of t s.log).stage) (s.log ++ Apply (task t) n ∷ []) effects u bindings → BlockMakes script s b u bindings)

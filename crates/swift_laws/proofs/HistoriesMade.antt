@@ -6,7 +6,7 @@ use Rattle.std.proofs.lemmas.List.{append-nil}
 use Rattle.std.proofs.lemmas.Option.{none-some}
 use Rattle.swift_types.specs.declared.priority.Priority.{Priority}
 use Rattle.swift_types.specs.declared.priority.Priority.TheVariants.{Background}
-use Rattle.script_code.specs.declared.env.Env.{Env}
+use Rattle.swift_types.specs.declared.env.Env.{Env}
 use Rattle.swift_script.specs.Scripts.{ScriptView, root_count, root_priority}
 use Rattle.swift_interpreter.specs.Frames.{FrameView}
 use Rattle.swift_interpreter.specs.Turn.{EffectView, spawning, detaching, opening, adding, cancelling_task, cancelling_group, ExitView}
@@ -19,7 +19,7 @@ use Rattle.swift_events.specs.declared.life.Origin.{Origin}
 use Rattle.swift_events.specs.Events.{task_of, tasks_of, later}
 use Rattle.swift_events.specs.Lives.{life_of, origin_in}
 use Rattle.swift_events.proofs.LogLemmas.{life_of-push_same}
-use Rattle.swift_history.specs.TurnEnds.{task, JobView, effect_events, is_left_out, log_after, root_job}
+use Rattle.swift_history.specs.TurnEnds.{task, JobFacts, effect_events, is_left_out, log_after, root_job}
 use Rattle.swift_history.specs.Histories.{Block, added, begun, ran, folded, Standing, Stands, AllStand, TurnStands, IsLegal, ReportView, after_block, after_blocks, at_first, left_as, begun_priority, turn_applied}
 use Rattle.swift_laws.specs.Inherited.{Makes, OneMakes, BlockMakes, IsMadeWith}
 use Rattle.swift_laws.proofs.HistoriesWritten.{keeps_effect, keeps_effects}
@@ -138,7 +138,7 @@ module _ (script : ScriptView) (cps : List CheckpointView) (before : List Block)
   block_unborn (ran e r) t bindings stands good m = turn_unborn r.task r.number _ r.effects t bindings good m
   block_unborn (folded e f) t bindings stands good m = turn_unborn f.task f.number _ f.effects t bindings good m
 
-  turn_born : (e u n : ℕ) (effects : List EffectView) (exit : ExitView) (after : Option FrameView) (job : JobView) (env : Env) (frame : FrameView) (t : ℕ) (bindings : List (ℕ × ℤ))
+  turn_born : (e u n : ℕ) (effects : List EffectView) (exit : ExitView) (after : Option FrameView) (job : JobFacts) (env : Env) (frame : FrameView) (t : ℕ) (bindings : List (ℕ × ℤ))
       → (let s = after_blocks script (at_first script) before in
       TurnStands script s e u n effects exit job env frame → OneMakes script u (begun_priority (life_of u s.log).stage) (s.log ++ Apply (task u) n ∷ []) effects t bindings → IsBorn t (turn_applied script s u n effects exit after).log)
   turn_born e u n effects exit after job env frame t bindings stands m =

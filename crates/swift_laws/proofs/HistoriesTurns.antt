@@ -12,7 +12,7 @@ use Rattle.swift_types.specs.declared.priority.Priority.TheVariants.{Background}
 use Rattle.swift_groups.specs.declared.answer.Close.{Close as Closing}
 use Rattle.swift_groups.specs.declared.answer.Close.TheVariants as closing
 use Rattle.swift_groups.specs.Close.{close_of}
-use Rattle.script_code.specs.declared.env.Env.{Env}
+use Rattle.swift_types.specs.declared.env.Env.{Env}
 use Rattle.swift_script.specs.Scripts.{ScriptView, root_count, root_priority}
 use Rattle.swift_interpreter.specs.Frames.{FrameView}
 use Rattle.swift_interpreter.specs.Turn.{EffectView, spawning, detaching, opening, adding, cancelling_task, cancelling_group, ExitView}
@@ -24,15 +24,15 @@ use Rattle.swift_events.specs.declared.event.Event.{Event}
 use Rattle.swift_events.specs.declared.event.Event.TheVariants.{Root, Apply, Child, Skip, Give}
 use Rattle.swift_events.specs.declared.life.Life.{Life}
 use Rattle.swift_events.specs.declared.life.Origin.{Origin}
-use Rattle.swift_events.specs.declared.life.Given.{Given}
-use Rattle.swift_events.specs.declared.life.Stage.{Stage}
-use Rattle.swift_events.specs.declared.life.Stage.TheVariants as stage
+use Rattle.swift_events.specs.declared.life.LastJob.{LastJob}
+use Rattle.swift_events.specs.declared.life.JobStage.{JobStage}
+use Rattle.swift_events.specs.declared.life.JobStage.TheVariants as stage
 use Rattle.swift_events.specs.Events.{task_of, is_made, tasks_of, later}
 use Rattle.swift_events.specs.Lives.{life_of, origin_in}
 use Rattle.swift_events.specs.Relations.{group_of, parent_of, waiters_of}
 use Rattle.swift_events.proofs.LogLemmas.{life_of-push_same, unborn_without, tasks_of-push_made}
 use Rattle.swift_history.specs.Checks.{is_current, was_given, same_resume, is_under_way}
-use Rattle.swift_history.specs.TurnEnds.{task, JobView, HeldView, Follows, woken, wake, wake_each, wake_closing, wake_owner, wake_parent, wake_all, followed, resume_of, first_job, effect_events, effect_jobs, exit_events, exit_resume, is_left_out, log_after, jobs_made, gives, turn_end, root_job, root_events}
+use Rattle.swift_history.specs.TurnEnds.{task, JobFacts, WaitingTaskView, AfterTurn, woken, wake, wake_each, wake_closing, wake_owner, wake_parent, wake_all, followed, resume_of, first_job, effect_events, effect_jobs, exit_events, exit_resume, is_left_out, log_after, jobs_made, gives, turn_end, root_job, root_events}
 use Rattle.swift_history.specs.Histories.{Block, added, begun, ran, folded, Standing, Stands, AllStand, TurnStands, after_block, after_blocks, at_first, left_as, begun_priority, frames_applied, job_applied, turn_applied}
 use Rattle.swift_laws.proofs.OpenLogs.{tasks_grow}
 use Rattle.swift_laws.proofs.HistoriesWritten.{IsWritten, keeps_effect, keeps_effects, keeps_exit}
@@ -57,44 +57,44 @@ none_in zero u = refl
 none_in (suc k) zero = refl
 none_in (suc k) (suc u) = none_in k u
 
-pub held_more : (held : List (Option HeldView)) (k u : ℕ) → held_at (held ++ replicate k None) u ≡ held_at held u
+pub held_more : (held : List (Option WaitingTaskView)) (k u : ℕ) → held_at (held ++ replicate k None) u ≡ held_at held u
 held_more [] k u = none_in k u
 held_more (x ∷ xs) k zero = refl
 held_more (x ∷ xs) k (suc u) = held_more xs k u
 
-pub none_set : (held : List (Option HeldView)) (u : ℕ) → held_at (slice_set held u None) u ≡ None
+pub none_set : (held : List (Option WaitingTaskView)) (u : ℕ) → held_at (slice_set held u None) u ≡ None
 none_set [] u = refl
 none_set (x ∷ xs) zero = refl
 none_set (x ∷ xs) (suc u) = none_set xs u
 
-pub some_set : (held : List (Option HeldView)) (u : ℕ) (h : HeldView) → (held_at (slice_set held u (Some h)) u ≡ Some h) ⊎ (held_at (slice_set held u (Some h)) u ≡ held_at held u)
+pub some_set : (held : List (Option WaitingTaskView)) (u : ℕ) (h : WaitingTaskView) → (held_at (slice_set held u (Some h)) u ≡ Some h) ⊎ (held_at (slice_set held u (Some h)) u ≡ held_at held u)
 some_set [] u h = inr refl
 some_set (x ∷ xs) zero h = inl refl
 some_set (x ∷ xs) (suc u) h = some_set xs u h
 
-pub other_set : (held : List (Option HeldView)) (u t : ℕ) (o : Option HeldView) → t ≢ u → held_at (slice_set held u o) t ≡ held_at held t
+pub other_set : (held : List (Option WaitingTaskView)) (u t : ℕ) (o : Option WaitingTaskView) → t ≢ u → held_at (slice_set held u o) t ≡ held_at held t
 other_set held u t o ne = get_or-set_other held u t o None ne
 
 -- what is held changes
 
-counts_held : (log : List Event) (held held' : List (Option HeldView)) (t : ℕ) → held_at held' t ≡ held_at held t → Counts log held t → Counts log held' t
-counts_held log held held' t same c = subst (λ (h : Option HeldView). IsCounted (life_of t log).origin (life_of t log).given (life_of t log).stage (applied t log) h) (sym same) c
+counts_held : (log : List Event) (held held' : List (Option WaitingTaskView)) (t : ℕ) → held_at held' t ≡ held_at held t → Counts log held t → Counts log held' t
+counts_held log held held' t same c = subst (λ (h : Option WaitingTaskView). IsCounted (life_of t log).origin (life_of t log).given (life_of t log).stage (applied t log) h) (sym same) c
 
-pub counted_more : (roots : ℕ) (log : List Event) (held : List (Option HeldView)) (k : ℕ) → AreCounted roots log held → AreCounted roots log (held ++ replicate k None)
+pub counted_more : (roots : ℕ) (log : List Event) (held : List (Option WaitingTaskView)) (k : ℕ) → AreCounted roots log held → AreCounted roots log (held ++ replicate k None)
 counted_more roots log held k are = record { each = λ t. counts_held log held (held ++ replicate k None) t (held_more held k t) (are.each t); beyond = are.beyond; numbered = are.numbered }
 
-pub counted_taken : (roots : ℕ) (log : List Event) (held : List (Option HeldView)) (u : ℕ) → AreCounted roots log held → AreCounted roots log (slice_set held u None)
+pub counted_taken : (roots : ℕ) (log : List Event) (held : List (Option WaitingTaskView)) (u : ℕ) → AreCounted roots log held → AreCounted roots log (slice_set held u None)
 counted_taken roots log held u are = record {
   each = λ t. elim (cases_eq u t) [
     | inl same ↦ subst (λ (k : ℕ). Counts log (slice_set held u None) k) same
-        (subst (λ (h : Option HeldView). IsCounted (life_of u log).origin (life_of u log).given (life_of u log).stage (applied u log) h) (sym (none_set held u)) (none_held (are.each u)))
+        (subst (λ (h : Option WaitingTaskView). IsCounted (life_of u log).origin (life_of u log).given (life_of u log).stage (applied u log) h) (sym (none_set held u)) (none_held (are.each u)))
     | inr other ↦ counts_held log held (slice_set held u None) t (other_set held u t None (λ q. other (sym q))) (are.each t)
   ];
   beyond = are.beyond;
   numbered = are.numbered;
 }
 
-pub fits_taken : (log : List Event) (held : List (Option HeldView)) (u : ℕ) (j : JobView) → JobFits log held j → JobFits log (slice_set held u None) j
+pub fits_taken : (log : List Event) (held : List (Option WaitingTaskView)) (u : ℕ) (j : JobFacts) → JobFits log held j → JobFits log (slice_set held u None) j
 fits_taken log held u j f = record {
   made = f.made;
   number = f.number;
@@ -107,31 +107,31 @@ fits_taken log held u j f = record {
 -- jobs of one end of a turn
 
 -- no turn of the job's task is under way
-abbrev pub Resting : List Event → JobView → Type 0
+abbrev pub Resting : List Event → JobFacts → Type 0
 Resting log j = is_under_way (life_of j.task log).stage ≡ false
 
 -- a job of another task than this one
-abbrev pub IsOther : ℕ → JobView → Type 0
+abbrev pub IsOther : ℕ → JobFacts → Type 0
 IsOther t j = j.task ≢ t
 
 -- no two jobs are of one task
-abbrev pub Apart : List JobView → Type 0
+abbrev pub Apart : List JobFacts → Type 0
 Apart [] = Unit {0}
 Apart (j ∷ js) = AllByRecursion (IsOther j.task) js × Apart js
 
-apart_push : (js : List JobView) (j : JobView) → Apart js → AllByRecursion (IsOther j.task) js → Apart (js ++ j ∷ [])
+apart_push : (js : List JobFacts) (j : JobFacts) → Apart js → AllByRecursion (IsOther j.task) js → Apart (js ++ j ∷ [])
 apart_push [] j apart all = (tt, tt)
 apart_push (i ∷ js) j apart all = (all_append (IsOther i.task) js (j ∷ []) apart.0 ((λ same. all.0 (sym same)), tt), apart_push js j apart.1 all.1)
 
 -- what follows from a turn
 
-pub record FollowFits (roots : ℕ) (log : List Event) (f : Follows) : Type 0 where
+pub record FollowFits (roots : ℕ) (log : List Event) (f : AfterTurn) : Type 0 where
   pub counted : AreCounted roots log f.held
   pub jobs : AllByRecursion (JobFits log f.held) f.jobs
   pub resting : AllByRecursion (Resting log) f.jobs
   pub apart : Apart f.jobs
 
-woken_fits : (roots : ℕ) (log : List Event) (u : ℕ) (resume : Resume) (f : Follows) (o : Option HeldView) → held_at f.held u ≡ o → FollowFits roots log f → FollowFits roots log (woken u resume f o)
+woken_fits : (roots : ℕ) (log : List Event) (u : ℕ) (resume : Resume) (f : AfterTurn) (o : Option WaitingTaskView) → held_at f.held u ≡ o → FollowFits roots log f → FollowFits roots log (woken u resume f o)
 woken_fits roots log u resume f None is fits = fits
 woken_fits roots log u resume f (Some h) is fits =
     let others : AllByRecursion (IsOther u) f.jobs =
@@ -141,7 +141,7 @@ woken_fits roots log u resume f (Some h) is fits =
       jobs = all_append (JobFits log (slice_set f.held u None)) f.jobs _ (all_map (fits_taken log f.held u) f.jobs fits.jobs) (
         record {
           made = λ none. (let e : Some h ≡ None = sym is ∙ ((fits.counted.each u).unmade none).2 in cc);
-          number = subst (λ (x : Option HeldView). IfSome x (λ y. y.number ≡ applied u log)) is (fits.counted.each u).waits;
+          number = subst (λ (x : Option WaitingTaskView). IfSome x (λ y. y.number ≡ applied u log)) is (fits.counted.each u).waits;
           free = none_set f.held u;
         },
         tt,
@@ -150,22 +150,22 @@ woken_fits roots log u resume f (Some h) is fits =
       apart = apart_push f.jobs _ fits.apart others;
     }
 
-wake_fits : (roots : ℕ) (log : List Event) (u : ℕ) (resume : Resume) (f : Follows) → FollowFits roots log f → FollowFits roots log (wake u resume f)
+wake_fits : (roots : ℕ) (log : List Event) (u : ℕ) (resume : Resume) (f : AfterTurn) → FollowFits roots log f → FollowFits roots log (wake u resume f)
 wake_fits roots log u resume f fits = woken_fits roots log u resume f (held_at f.held u) refl fits
 
-wake_each_fits : (roots : ℕ) (log : List Event) (us : List TaskId) (resume : Resume) (f : Follows) → FollowFits roots log f → FollowFits roots log (wake_each us resume f)
+wake_each_fits : (roots : ℕ) (log : List Event) (us : List TaskId) (resume : Resume) (f : AfterTurn) → FollowFits roots log f → FollowFits roots log (wake_each us resume f)
 wake_each_fits roots log [] resume f fits = fits
 wake_each_fits roots log (u ∷ us) resume f fits = wake_each_fits roots log us resume (wake u.0 resume f) (wake_fits roots log u.0 resume f fits)
 
-wake_closing_fits : (roots : ℕ) (log : List Event) (o : ℕ) (c : Closing) (f : Follows) → FollowFits roots log f → FollowFits roots log (wake_closing o c f)
+wake_closing_fits : (roots : ℕ) (log : List Event) (o : ℕ) (c : Closing) (f : AfterTurn) → FollowFits roots log f → FollowFits roots log (wake_closing o c f)
 wake_closing_fits roots log o closing.Done f fits = wake_fits roots log o _ f fits
 wake_closing_fits roots log o closing.Wait f fits = fits
 
-either_fits : (roots : ℕ) (log : List Event) (b : Bool) (f g : Follows) → FollowFits roots log f → FollowFits roots log g → FollowFits roots log (if b then f else g)
+either_fits : (roots : ℕ) (log : List Event) (b : Bool) (f g : AfterTurn) → FollowFits roots log f → FollowFits roots log g → FollowFits roots log (if b then f else g)
 either_fits roots log true f g p q = p
 either_fits roots log false f g p q = q
 
-wake_owner_fits : (roots : ℕ) (log : List Event) (o g : ℕ) (e : Ending) (s : Option Stage) (f : Follows) → FollowFits roots log f → FollowFits roots log (wake_owner o g e s log f)
+wake_owner_fits : (roots : ℕ) (log : List Event) (o g : ℕ) (e : Ending) (s : Option JobStage) (f : AfterTurn) → FollowFits roots log f → FollowFits roots log (wake_owner o g e s log f)
 wake_owner_fits roots log o g e (Some (stage.Asks asked)) f fits = either_fits roots log (asked == g) (wake o (resume_of e) f) f (wake_fits roots log o (resume_of e) f fits) fits
 wake_owner_fits roots log o g e (Some (stage.Closes closed)) f fits =
     either_fits roots log (closed == g) (wake_closing o (close_of (group_of o g log)) f) f (wake_closing_fits roots log o (close_of (group_of o g log)) f fits) fits
@@ -175,30 +175,30 @@ wake_owner_fits roots log o g e (Some stage.Applied) f fits = fits
 wake_owner_fits roots log o g e (Some (stage.Waits awaited)) f fits = fits
 wake_owner_fits roots log o g e None f fits = fits
 
-wake_parent_fits : (roots : ℕ) (log : List Event) (p : Option (ℕ × ℕ)) (e : Ending) (f : Follows) → FollowFits roots log f → FollowFits roots log (wake_parent p e log f)
+wake_parent_fits : (roots : ℕ) (log : List Event) (p : Option (ℕ × ℕ)) (e : Ending) (f : AfterTurn) → FollowFits roots log f → FollowFits roots log (wake_parent p e log f)
 wake_parent_fits roots log None e f fits = fits
 wake_parent_fits roots log (Some x) e f fits = wake_owner_fits roots log x.0 x.1 e (life_of x.0 log).stage f fits
 
-wake_all_fits : (roots : ℕ) (log : List Event) (t : ℕ) (e : Ending) (f : Follows) → FollowFits roots log f → FollowFits roots log (wake_all t e log f)
+wake_all_fits : (roots : ℕ) (log : List Event) (t : ℕ) (e : Ending) (f : AfterTurn) → FollowFits roots log f → FollowFits roots log (wake_all t e log f)
 wake_all_fits roots log t e f fits = wake_parent_fits roots log (parent_of t log) e (wake_each (waiters_of t log) (resume_of e) f) (wake_each_fits roots log (waiters_of t log) (resume_of e) f fits)
 
 -- a job of another task than the one whose turn it is
-pub record MadeFits (log : List Event) (held : List (Option HeldView)) (t : ℕ) (j : JobView) : Type 0 where
+pub record MadeFits (log : List Event) (held : List (Option WaitingTaskView)) (t : ℕ) (j : JobFacts) : Type 0 where
   pub fits : JobFits log held j
   pub rest : Resting log j
   pub other : j.task ≢ t
 
-waits_fits : (roots : ℕ) (log : List Event) (held : List (Option HeldView)) (jobs : List JobView) (t n : ℕ) (frames : TaskView) → AreCounted roots log held → Rests log held t n → AllByRecursion (MadeFits log held t) jobs → Apart jobs
+waits_fits : (roots : ℕ) (log : List Event) (held : List (Option WaitingTaskView)) (jobs : List JobFacts) (t n : ℕ) (frames : TaskView) → AreCounted roots log held → Rests log held t n → AllByRecursion (MadeFits log held t) jobs → Apart jobs
     → FollowFits roots log (record { held = slice_set held t (Some (record { number = n + 1; frames = frames })); jobs = jobs })
 waits_fits roots log held jobs t n frames are rests all apart =
-    let h : HeldView = record { number = n + 1; frames = frames } in
+    let h : WaitingTaskView = record { number = n + 1; frames = frames } in
     let held' = slice_set held t (Some h) in
     record {
       counted = record {
         each = λ u. elim (cases_eq t u) [
           | inl same ↦ subst (λ (k : ℕ). Counts log held' k) same
               (elim (some_set held t h) [
-                | inl is ↦ subst (λ (x : Option HeldView). IsCounted (life_of t log).origin (life_of t log).given (life_of t log).stage (applied t log) x) (sym is) (some_held h rests.made rests.rest (sym rests.turns) (are.each t))
+                | inl is ↦ subst (λ (x : Option WaitingTaskView). IsCounted (life_of t log).origin (life_of t log).given (life_of t log).stage (applied t log) x) (sym is) (some_held h rests.made rests.rest (sym rests.turns) (are.each t))
                 | inr is ↦ counts_held log held held' t is (are.each t)
               ])
           | inr other ↦ counts_held log held held' u (other_set held t u (Some h) (λ q. other (sym q))) (are.each u)
@@ -211,7 +211,7 @@ waits_fits roots log held jobs t n frames are rests all apart =
       apart = apart;
     }
 
-followed_fits : (roots : ℕ) (log : List Event) (held : List (Option HeldView)) (jobs : List JobView) (t n : ℕ) (frames : TaskView) (o : Option Resume) (step : Step)
+followed_fits : (roots : ℕ) (log : List Event) (held : List (Option WaitingTaskView)) (jobs : List JobFacts) (t n : ℕ) (frames : TaskView) (o : Option Resume) (step : Step)
     → AreCounted roots log held → Rests log held t n → AllByRecursion (MadeFits log held t) jobs → Apart jobs → FollowFits roots log (followed t (n + 1) frames o step log (record { held = held; jobs = jobs }))
 followed_fits roots log held jobs t n frames (Some resume) step are rests all apart = record {
   counted = are;
@@ -224,14 +224,14 @@ followed_fits roots log held jobs t n frames None (Ended e) are rests all apart 
 followed_fits roots log held jobs t n frames None (Run actor resume) are rests all apart = waits_fits roots log held jobs t n frames are rests all apart
 followed_fits roots log held jobs t n frames None Await are rests all apart = waits_fits roots log held jobs t n frames are rests all apart
 
-gives_counted : (roots : ℕ) (log : List Event) (held : List (Option HeldView)) (jobs : List JobView) → AreCounted roots log held → AllByRecursion (JobFits log held) jobs → AreCounted roots (log ++ gives jobs) held
+gives_counted : (roots : ℕ) (log : List Event) (held : List (Option WaitingTaskView)) (jobs : List JobFacts) → AreCounted roots log held → AllByRecursion (JobFits log held) jobs → AreCounted roots (log ++ gives jobs) held
 gives_counted roots log held [] are all = subst (λ (l : List Event). AreCounted roots l held) (sym (append-nil log)) are
 gives_counted roots log held (j ∷ js) are all =
     let e : Event = Give (task j.task) j.number j.resume in
     subst (λ (l : List Event). AreCounted roots l held) (append_assoc log (e ∷ []) (gives js))
     (gives_counted roots (log ++ e ∷ []) held js (give_push roots log held j all.0 are) (all_map (λ i f. fits_push log held i e refl f) js all.1))
 
-pub gives_applied : (t : ℕ) (log : List Event) (jobs : List JobView) → applied t (log ++ gives jobs) ≡ applied t log
+pub gives_applied : (t : ℕ) (log : List Event) (jobs : List JobFacts) → applied t (log ++ gives jobs) ≡ applied t log
 gives_applied t log [] = ap (applied t) (append-nil log)
 gives_applied t log (j ∷ js) =
     let e : Event = Give (task j.task) j.number j.resume in
@@ -240,23 +240,23 @@ gives_applied t log (j ∷ js) =
 -- the jobs of the tasks that effects make
 
 -- their tasks have numbers from this one on, and each its own
-abbrev MadeFrom : ℕ → List JobView → Type 0
-MadeFrom n js = AllByRecursion (λ (j : JobView). n ≤ j.task) js × Apart js
+abbrev MadeFrom : ℕ → List JobFacts → Type 0
+MadeFrom n js = AllByRecursion (λ (j : JobFacts). n ≤ j.task) js × Apart js
 
-made_later : (n m : ℕ) (js : List JobView) → n ≤ m → MadeFrom m js → MadeFrom n js
-made_later n m js le p = (all_map (λ (j : JobView) (at : m ≤ j.task). (let it : n ≤ j.task = omega (arith, le, at) in it)) js p.0, p.1)
+made_later : (n m : ℕ) (js : List JobFacts) → n ≤ m → MadeFrom m js → MadeFrom n js
+made_later n m js le p = (all_map (λ (j : JobFacts) (at : m ≤ j.task). (let it : n ≤ j.task = omega (arith, le, at) in it)) js p.0, p.1)
 
-made_next : (roots : ℕ) (log : List Event) (e : Event) (j : JobView) (js : List JobView) → is_made e ≡ true → j.task ≡ tasks_of roots log → MadeFrom (tasks_of roots (log ++ e ∷ [])) js → MadeFrom (tasks_of roots log) (j ∷ js)
+made_next : (roots : ℕ) (log : List Event) (e : Event) (j : JobFacts) (js : List JobFacts) → is_made e ≡ true → j.task ≡ tasks_of roots log → MadeFrom (tasks_of roots (log ++ e ∷ [])) js → MadeFrom (tasks_of roots log) (j ∷ js)
 made_next roots log e j js made at p =
     let more = tasks_of-push_made roots log e made in
     let later = made_later (tasks_of roots log) (tasks_of roots (log ++ e ∷ [])) js (omega (arith, more)) p in
     let here : tasks_of roots log ≤ j.task = omega (arith, at) in
     let others : AllByRecursion (IsOther j.task) js =
-    all_map (λ (i : JobView) (le : tasks_of roots (log ++ e ∷ []) ≤ i.task). λ (same : i.task ≡ j.task). absurd (omega (arith, more, at, le, same))) js p.0 in
+    all_map (λ (i : JobFacts) (le : tasks_of roots (log ++ e ∷ []) ≤ i.task). λ (same : i.task ≡ j.task). absurd (omega (arith, more, at, le, same))) js p.0 in
     ((here, later.0), (others, p.1))
 
 module _ (script : ScriptView) (t : ℕ) (own : Priority) where
-  made_or : (log : List Event) (skip child : Event) (j : JobView) (es : List EffectView) (b : Bool) → is_made child ≡ true → j.task ≡ tasks_of (root_count script) log
+  made_or : (log : List Event) (skip child : Event) (j : JobFacts) (es : List EffectView) (b : Bool) → is_made child ≡ true → j.task ≡ tasks_of (root_count script) log
       → MadeFrom (tasks_of (root_count script) (log ++ skip ∷ [])) (jobs_made script t own (log ++ skip ∷ []) es)
       → MadeFrom (tasks_of (root_count script) (log ++ child ∷ [])) (jobs_made script t own (log ++ child ∷ []) es)
       → MadeFrom (tasks_of (root_count script) log) ((if b then [] else j ∷ []) ++ jobs_made script t own (log ++ (if b then skip ∷ [] else child ∷ [])) es)
@@ -276,7 +276,7 @@ module _ (script : ScriptView) (t : ℕ) (own : Priority) where
   made_from log (cancelling_task name ∷ es) = made_later _ _ _ (tasks_grow (root_count script) log _) (made_from (log ++ effect_events (root_count script) t own log (cancelling_task name)) es)
   made_from log (cancelling_group g ∷ es) = made_later _ _ _ (tasks_grow (root_count script) log _) (made_from (log ++ effect_events (root_count script) t own log (cancelling_group g)) es)
 
-module _ (script : ScriptView) (held : List (Option HeldView)) (t n : ℕ) (own : Priority) where
+module _ (script : ScriptView) (held : List (Option WaitingTaskView)) (t n : ℕ) (own : Priority) where
   -- what holds from the turn's being applied until its jobs are made
   abbrev pub Here : List Event → Type 0
   Here log = AreCounted (root_count script) log held × Rests log held t n
@@ -286,12 +286,12 @@ module _ (script : ScriptView) (held : List (Option HeldView)) (t n : ℕ) (own 
       let idle = written_idle (root_count script) t log e w in
       (idle_push (root_count script) log held e idle (written_within (root_count script) t log e w) h.0, rests_push log held t n e idle h.1)
 
-  fits_on : (log : List Event) (j : JobView) (e : Event) → IsWritten (root_count script) t log e → MadeFits log held t j → MadeFits (log ++ e ∷ []) held t j
+  fits_on : (log : List Event) (j : JobFacts) (e : Event) → IsWritten (root_count script) t log e → MadeFits log held t j → MadeFits (log ++ e ∷ []) held t j
   fits_on log j e w m =
       let idle = written_idle (root_count script) t log e w in
       record { fits = fits_push log held j e (idle_turn j.task e idle) m.fits; rest = rest_push j.task log e idle m.rest; other = m.other }
 
-  made_one : (log : List Event) (e : Event) (j : JobView) (x : Origin) → origin_in e ≡ Some x → starts e ≡ false → task_of e ≡ j.task → j.task ≡ tasks_of (root_count script) log → j.number ≡ 0 → Here log → MadeFits (log ++ e ∷ []) held t j
+  made_one : (log : List Event) (e : Event) (j : JobFacts) (x : Origin) → origin_in e ≡ Some x → starts e ≡ false → task_of e ≡ j.task → j.task ≡ tasks_of (root_count script) log → j.number ≡ 0 → Here log → MadeFits (log ++ e ∷ []) held t j
   made_one log e j x made idle of at first h =
       let none : (life_of j.task log).origin ≡ None = h.0.beyond j.task (omega (arith, at)) in
       let before = (h.0.each j.task).unmade none in
@@ -306,10 +306,10 @@ module _ (script : ScriptView) (held : List (Option HeldView)) (t n : ℕ) (own 
         other = λ same. h.1.made (subst (λ (k : ℕ). (life_of k log).origin ≡ None) same none);
       }
 
-  lift : (log : List Event) (es : List EffectView) (js : List JobView) → AllByRecursion (MadeFits log held t) js → AllByRecursion (MadeFits (log_after (root_count script) t own log es) held t) js
+  lift : (log : List Event) (es : List EffectView) (js : List JobFacts) → AllByRecursion (MadeFits log held t) js → AllByRecursion (MadeFits (log_after (root_count script) t own log es) held t) js
   lift log es js all = all_map (λ j m. keeps_effects (λ (l : List Event). MadeFits l held t j) (root_count script) t own (λ l e w p. fits_on l j e w p) log es m) js all
 
-  added_first : (log : List Event) (skip child : Event) (j : JobView) (b : Bool) → MadeFits (log ++ child ∷ []) held t j → AllByRecursion (MadeFits (log ++ (if b then skip ∷ [] else child ∷ [])) held t) (if b then [] else j ∷ [])
+  added_first : (log : List Event) (skip child : Event) (j : JobFacts) (b : Bool) → MadeFits (log ++ child ∷ []) held t j → AllByRecursion (MadeFits (log ++ (if b then skip ∷ [] else child ∷ [])) held t) (if b then [] else j ∷ [])
   added_first log skip child j true m = tt
   added_first log skip child j false m = (m, tt)
 
@@ -365,7 +365,7 @@ module _ (script : ScriptView) (held : List (Option HeldView)) (t n : ℕ) (own 
 
 -- blocks
 
-number_in : (g : Option Given) (n : ℕ) (resume : Resume) → was_given g n resume ≡ true → HasNumber g n
+number_in : (g : Option LastJob) (n : ℕ) (resume : Resume) → was_given g n resume ≡ true → HasNumber g n
 number_in None n resume is = absurd (false≢true is)
 number_in (Some g) n resume is = eqb-true g.number n (both (g.number == n) (same_resume g.resume resume) is).0
 
@@ -376,14 +376,14 @@ current_is l n resume is =
     (number_in l.given n resume p.0, (both (nat_lt n _) (is_under_way l.stage) p.1).1)
 
 -- what a turn of a job leaves
-pub applied_is : (script : ScriptView) (s : Standing) (t n : ℕ) (j : JobView) (p : FrameView) (callers : List FrameView) (effects : List EffectView) (exit : ExitView) (after : Option FrameView)
+pub applied_is : (script : ScriptView) (s : Standing) (t n : ℕ) (j : JobFacts) (p : FrameView) (callers : List FrameView) (effects : List EffectView) (exit : ExitView) (after : Option FrameView)
     → s.jobs t ≡ Some j → j.frames.frames ≡ p ∷ callers
     → turn_applied script s t n effects exit after ≡ frames_applied script s t n (p ∷ callers) j.frames.outer effects exit after
 applied_is script s t n j p callers effects exit after given is =
-    ap (λ (o : Option JobView). job_applied script s t n o effects exit after) given
+    ap (λ (o : Option JobFacts). job_applied script s t n o effects exit after) given
     ∙ ap (λ (fs : List FrameView). frames_applied script s t n fs j.frames.outer effects exit after) is
 
-pub turn_keeps : (script : ScriptView) (s : Standing) (e t n : ℕ) (effects : List EffectView) (exit : ExitView) (after : Option FrameView) (job : JobView) (env : Env) (frame : FrameView)
+pub turn_keeps : (script : ScriptView) (s : Standing) (e t n : ℕ) (effects : List EffectView) (exit : ExitView) (after : Option FrameView) (job : JobFacts) (env : Env) (frame : FrameView)
     → TurnStands script s e t n effects exit job env frame → AreCounted (root_count script) s.log s.held
     → (let z = turn_applied script s t n effects exit after in AreCounted (root_count script) z.log z.held × (applied t z.log ≡ n + 1) × (applied t s.log ≡ n))
 turn_keeps script s e t n effects exit after job env frame stands are =
@@ -422,7 +422,7 @@ block_keeps script cps before (folded e f) stands are = (turn_keeps script (afte
 pub first_counted : (script : ScriptView) → AreCounted (root_count script) (at_first script).log (at_first script).held
 first_counted script = record {
   each = λ t. subst (λ (l : Life). IsCounted l.origin l.given l.stage 0 (held_at (replicate (root_count script) None) t)) (sym (unborn_without t [] refl))
-      (subst (λ (h : Option HeldView). IsCounted None None None 0 h) (sym (none_in (root_count script) t))
+      (subst (λ (h : Option WaitingTaskView). IsCounted None None None 0 h) (sym (none_in (root_count script) t))
       (record { unmade = λ none. (refl, refl, refl); current = λ is. absurd (false≢true is); waits = tt }));
   beyond = λ t le. ap (λ (l : Life). l.origin) (unborn_without t [] refl);
   numbered = λ t. refl;

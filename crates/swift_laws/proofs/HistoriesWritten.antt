@@ -7,8 +7,8 @@ use Rattle.swift_types.specs.declared.outcome.Ending.{Ending}
 use Rattle.swift_types.specs.declared.outcome.Fault.{Fault}
 use Rattle.swift_types.specs.declared.priority.Priority.{Priority}
 use Rattle.swift_types.specs.declared.priority.Priority.TheVariants.{Background}
-use Rattle.swift_groups.specs.declared.answer.Next.{Next as Answer}
-use Rattle.swift_groups.specs.declared.answer.Next.TheVariants as answer
+use Rattle.swift_groups.specs.declared.answer.NextResult.{NextResult as Answer}
+use Rattle.swift_groups.specs.declared.answer.NextResult.TheVariants as answer
 use Rattle.swift_groups.specs.Next.{next_of}
 use Rattle.swift_interpreter.specs.Turn.{EffectView, spawning, detaching, opening, adding, cancelling_task, cancelling_group, ExitView, calling, waiting, asking_next, closing, yielding, returning, failing}
 use Rattle.swift_turn.specs.declared.step.Step.{Step}

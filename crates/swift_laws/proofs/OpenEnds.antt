@@ -12,8 +12,8 @@ use Rattle.swift_types.specs.declared.outcome.Fault.TheVariants.{Depth, Empty}
 use Rattle.swift_types.specs.declared.outcome.Resume.{Resume}
 use Rattle.swift_types.specs.declared.outcome.Resume.TheVariants.{Start, Go, Value as GivenValue, Fault as Raise}
 use Rattle.swift_types.specs.declared.priority.Priority.{Priority}
-use Rattle.swift_groups.specs.declared.answer.Next.{Next as Answer}
-use Rattle.swift_groups.specs.declared.answer.Next.TheVariants as answer
+use Rattle.swift_groups.specs.declared.answer.NextResult.{NextResult as Answer}
+use Rattle.swift_groups.specs.declared.answer.NextResult.TheVariants as answer
 use Rattle.swift_groups.specs.declared.answer.Close.{Close as Closing}
 use Rattle.swift_groups.specs.declared.answer.Close.TheVariants as closing
 use Rattle.swift_groups.specs.Next.{next_of}
@@ -26,12 +26,12 @@ use Rattle.swift_turn.specs.declared.step.Step.TheVariants.{Run, Ended, Await}
 use Rattle.swift_turn.specs.Body.{TaskView, Advanced, advanced, resumed, called}
 use Rattle.swift_events.specs.declared.event.Event.{Event}
 use Rattle.swift_events.specs.declared.event.Event.TheVariants.{CancelGroup, Child, Wait, Next, Close, End}
-use Rattle.swift_events.specs.declared.life.Stage.{Stage}
-use Rattle.swift_events.specs.declared.life.Stage.TheVariants as stage
+use Rattle.swift_events.specs.declared.life.JobStage.{JobStage}
+use Rattle.swift_events.specs.declared.life.JobStage.TheVariants as stage
 use Rattle.swift_events.specs.Events.{task_of}
 use Rattle.swift_events.specs.Lives.{life_of, origin_in, given_in, stage_in, ending_in, waits_at}
 use Rattle.swift_events.specs.Relations.{group_of, parent_of, waiters_of}
-use Rattle.swift_history.specs.TurnEnds.{JobView, HeldView, Follows, task, named_task, wait_events, wait_resume, next_events, next_resume, close_events, close_resume, end_events, step_resume, exit_events, exit_resume, resume_of, woken, wake, wake_each, wake_closing, wake_owner, wake_parent, wake_all, followed}
+use Rattle.swift_history.specs.TurnEnds.{JobFacts, WaitingTaskView, AfterTurn, task, named_task, wait_events, wait_resume, next_events, next_resume, close_events, close_resume, end_events, step_resume, exit_events, exit_resume, resume_of, woken, wake, wake_each, wake_closing, wake_owner, wake_parent, wake_all, followed}
 use Rattle.swift_laws.specs.Ended.{HasEnded}
 use Rattle.swift_laws.proofs.OpenLogs.{In, in_push, not_both, was_given, stage_at, given_stays, stage_same, stage_now, ended_stays, ended_came, ended_now, equal_of, IsFree, Sound, May, Leads, stays, leads_by, leads_on, sound_push, holds_at}
 use Rattle.swift_laws.proofs.OpenSteps.{each_append, is_child, no_child, no_wait, Calm, may_calm, may_move, Active, active_push, Fresh, fresh_push, Goes, goes_free, AllGo}
@@ -50,25 +50,25 @@ Requires t log None _ = Unit {0}
 -- the jobs that are made for tasks that are woken
 
 module _ (roots : ℕ) (log : List Event) where
-  woken_go : (u : ℕ) (resume : Resume) (f : Follows) (o : Option HeldView) → Goes u log → AllGo log f.jobs → AllGo log (woken u resume f o).jobs
+  woken_go : (u : ℕ) (resume : Resume) (f : AfterTurn) (o : Option WaitingTaskView) → Goes u log → AllGo log f.jobs → AllGo log (woken u resume f o).jobs
   woken_go u resume f None goes all = all
   woken_go u resume f (Some h) goes all = each_append (λ j. Goes j.task log) f.jobs _ all (goes, tt)
 
-  wake_go : (u : ℕ) (resume : Resume) (f : Follows) → Goes u log → AllGo log f.jobs → AllGo log (wake u resume f).jobs
+  wake_go : (u : ℕ) (resume : Resume) (f : AfterTurn) → Goes u log → AllGo log f.jobs → AllGo log (wake u resume f).jobs
   wake_go u resume f goes all = woken_go u resume f (slice_index_or f.held u None) goes all
 
-  wake_each_go : (us : List TaskId) (resume : Resume) (f : Follows) → EachTask (λ (k : ℕ). Goes k log) us → AllGo log f.jobs → AllGo log (wake_each us resume f).jobs
+  wake_each_go : (us : List TaskId) (resume : Resume) (f : AfterTurn) → EachTask (λ (k : ℕ). Goes k log) us → AllGo log f.jobs → AllGo log (wake_each us resume f).jobs
   wake_each_go [] resume f each all = all
   wake_each_go (u ∷ us) resume f each all = wake_each_go us resume (wake u.0 resume f) each.1 (wake_go u.0 resume f each.0 all)
 
-  wake_if : (b : Bool) (f g : Follows) → (b ≡ true → AllGo log f.jobs) → AllGo log g.jobs → AllGo log (if b then f else g).jobs
+  wake_if : (b : Bool) (f g : AfterTurn) → (b ≡ true → AllGo log f.jobs) → AllGo log g.jobs → AllGo log (if b then f else g).jobs
   wake_if true f g p q = p refl
   wake_if false f g p q = q
 
-  not_ended : Sound roots log → (o : ℕ) (at : Stage) → stage_at o log ≡ Some at → waits_at (Some at) ≡ true → HasEnded o log → ⊥
+  not_ended : Sound roots log → (o : ℕ) (at : JobStage) → stage_at o log ≡ Some at → waits_at (Some at) ≡ true → HasEnded o log → ⊥
   not_ended s o at is waits ended = not_both (waits_at (stage_at o log)) (ap waits_at is ∙ waits) (ap waits_at (s.rests o ended).1)
 
-  given_at : Sound roots log → (o : ℕ) (at : Stage) → stage_at o log ≡ Some at → was_given o log ≡ true
+  given_at : Sound roots log → (o : ℕ) (at : JobStage) → stage_at o log ≡ Some at → was_given o log ≡ true
   given_at s o at is = s.staged o (ap is_some is)
 
   -- the owner of a group that it closes goes on where each child has ended
@@ -90,19 +90,19 @@ module _ (roots : ℕ) (log : List Event) where
     };
   }
     where
-      is_waits : Option Stage → Bool
+      is_waits : Option JobStage → Bool
       is_waits (Some (stage.Waits u)) = true
       is_waits _ = false
 
-      closes_one : Option Stage → ℕ
+      closes_one : Option JobStage → ℕ
       closes_one (Some (stage.Closes g)) = g
       closes_one _ = 0
 
-  closing_go : Sound roots log → (o g : ℕ) (c : Closing) (f : Follows) → close_of (group_of o g log) ≡ c → stage_at o log ≡ Some (stage.Closes g) → AllGo log f.jobs → AllGo log (wake_closing o c f).jobs
+  closing_go : Sound roots log → (o g : ℕ) (c : Closing) (f : AfterTurn) → close_of (group_of o g log) ≡ c → stage_at o log ≡ Some (stage.Closes g) → AllGo log f.jobs → AllGo log (wake_closing o c f).jobs
   closing_go s o g closing.Done f done is all = wake_go o Go f (goes_closing s o g is (λ u owner p of h. closed_done o g log done u owner p of h)) all
   closing_go s o g closing.Wait f done is all = all
 
-  owner_go : Sound roots log → (o g : ℕ) (e : Ending) (st : Option Stage) (f : Follows) → stage_at o log ≡ st → AllGo log f.jobs → AllGo log (wake_owner o g e st log f).jobs
+  owner_go : Sound roots log → (o g : ℕ) (e : Ending) (st : Option JobStage) (f : AfterTurn) → stage_at o log ≡ st → AllGo log f.jobs → AllGo log (wake_owner o g e st log f).jobs
   owner_go s o g e (Some (stage.Asks asked)) f is all =
       wake_if (asked == g) (wake o (resume_of e) f) f (λ so. wake_go o (resume_of e) f (goes_free roots o log s (given_at s o (stage.Asks asked) is) (not_ended s o (stage.Asks asked) is refl) (ap holds_at is)) all) all
   owner_go s o g e (Some (stage.Closes closed)) f is all =
@@ -110,15 +110,15 @@ module _ (roots : ℕ) (log : List Event) where
       (λ so. closing_go s o g (close_of (group_of o g log)) f refl (is ∙ ap (λ (k : ℕ). Some (stage.Closes k)) (equal_of closed g so)) all) all
   owner_go s o g e st f is all = all
 
-  parent_go : Sound roots log → (x : Option (ℕ × ℕ)) (e : Ending) (f : Follows) → AllGo log f.jobs → AllGo log (wake_parent x e log f).jobs
+  parent_go : Sound roots log → (x : Option (ℕ × ℕ)) (e : Ending) (f : AfterTurn) → AllGo log f.jobs → AllGo log (wake_parent x e log f).jobs
   parent_go s None e f all = all
   parent_go s (Some x) e f all = owner_go s x.0 x.1 e (stage_at x.0 log) f refl all
 
-  wake_all_go : Sound roots log → (t : ℕ) (e : Ending) (f : Follows) → WaitersGo t log → AllGo log f.jobs → AllGo log (wake_all t e log f).jobs
+  wake_all_go : Sound roots log → (t : ℕ) (e : Ending) (f : AfterTurn) → WaitersGo t log → AllGo log f.jobs → AllGo log (wake_all t e log f).jobs
   wake_all_go s t e f waiters all = parent_go s (parent_of t log) e _ (wake_each_go (waiters_of t log) (resume_of e) f (each_waiter (λ (k : ℕ). Goes k log) t log waiters) all)
 
   -- the jobs that are made as an exit is followed
-  pub followed_go : Sound roots log → (t n : ℕ) (frames : TaskView) (resume : Option Resume) (step : Step) (f : Follows) → Requires t log resume step → AllGo log f.jobs → AllGo log (followed t n frames resume step log f).jobs
+  pub followed_go : Sound roots log → (t n : ℕ) (frames : TaskView) (resume : Option Resume) (step : Step) (f : AfterTurn) → Requires t log resume step → AllGo log f.jobs → AllGo log (followed t n frames resume step log f).jobs
   followed_go s t n frames (Some resume) step f goes all = each_append (λ j. Goes j.task log) f.jobs _ all (goes, tt)
   followed_go s t n frames None (Ended e) f waiters all = wake_all_go s t e f waiters all
   followed_go s t n frames None Await f h all = all
@@ -128,7 +128,7 @@ module _ (roots : ℕ) (log : List Event) where
 
 pub record Wrote (roots : ℕ) (t : ℕ) (a b : List Event) (resume : Option Resume) (step : Step) : Type 0 where
   pub leads : Leads roots a b
-  pub fresh : (j : JobView) → Fresh a j → Fresh b j
+  pub fresh : (j : JobFacts) → Fresh a j → Fresh b j
   pub requires : Requires t b resume step
 
 module _ (roots : ℕ) (t : ℕ) (log : List Event) (sound : Sound roots log) (active : Active t log) where
@@ -206,7 +206,7 @@ module _ (roots : ℕ) (t : ℕ) (log : List Event) (sound : Sound roots log) (a
       } in
       event_wrote e None (Ended ending) may refl (λ w a i of. waiter_goes ending may w a of i)
     where
-      awaited_of : Option Stage → ℕ
+      awaited_of : Option JobStage → ℕ
       awaited_of (Some (stage.Waits u)) = u.0
       awaited_of _ = 0
 
@@ -237,7 +237,7 @@ module _ (roots : ℕ) (t : ℕ) (log : List Event) (sound : Sound roots log) (a
             };
           }
         where
-          is_closes : Option Stage → Bool
+          is_closes : Option JobStage → Bool
           is_closes (Some (stage.Closes g)) = true
           is_closes _ = false
 

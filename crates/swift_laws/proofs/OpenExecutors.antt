@@ -5,16 +5,16 @@ use Rattle.std.proofs.lemmas.Bool.{false≢true}
 use Rattle.std.specs.Str.{bytes_eq}
 use Rattle.script_grammar.specs.Tree.{ExecutorTree, ActorTree, DeclTree, Executes, Binds, Acts, Roots}
 use Rattle.script_names.specs.Texts.{is_among, place_of}
-use Rattle.script_names.specs.Directory.{Directory, directory_of, executors_in}
+use Rattle.script_names.specs.Directory.{DirectoryView, directory_of, executors_in}
 use Rattle.script_names.specs.declared.error.NameErrorKind.TheVariants.{Unknown}
-use Rattle.script_names.specs.Rules.{Seen, at_name, on_error, repeat_error, decl_error, declarations_error, names_error, seen_after, past_decl}
+use Rattle.script_names.specs.Rules.{SeenView, at_name, on_error, repeat_error, decl_error, declarations_error, names_error, seen_after, past_decl}
 use Rattle.script_names.proofs.LeftOut.{nothing_left_out}
-use Rattle.script_lowering.specs.Plan.{Plan, on_executor, executors_from}
-use Rattle.script_printing.specs.Script.{ScriptTree, script_in}
+use Rattle.script_lowering.specs.Plan.{PlanView, on_executor, executors_from}
+use Rattle.script_printing.specs.Script.{ScriptView, script_in}
 use Rattle.script_compiler.specs.Compiled.{plan_in, own_executor, own_executors, executors_from as views_from, actors_from, methods_from}
 use Rattle.script_compiler.proofs.ByKinds.{same_plan}
 use Rattle.swift_script.specs.Accepted.{WasAccepted}
-use Rattle.swift_script.specs.Scripts.{ScriptView, parts_of, no_actor, executor_count, method_count, root_count, actor_executor}
+use Rattle.swift_script.specs.Scripts.{parts_of, no_actor, executor_count, method_count, root_count, actor_executor}
 use Rattle.swift_script.proofs.NamesAnywhere.{earlier_parts}
 use Rattle.swift_script.proofs.Facts.{root_method_there}
 
@@ -75,11 +75,11 @@ named_of : (at : ℕ) (b : Bool) → at_name at (if b then None else Some Unknow
 named_of at true e = refl
 named_of at false e = absurd cc
 
-on_declared : (d : Directory) (at : ℕ) (o : Option (List ℕ)) → on_error d at o ≡ None → NameIn d.executors o
+on_declared : (d : DirectoryView) (at : ℕ) (o : Option (List ℕ)) → on_error d at o ≡ None → NameIn d.executors o
 on_declared d at None e = tt
 on_declared d at (Some n) e = named_of at (is_among d.executors n) e
 
-names_in : (d : Directory) (seen : Seen) (at : ℕ) (ds : List DeclTree) → declarations_error d seen at ds ≡ None → NamesIn d.executors ds
+names_in : (d : DirectoryView) (seen : SeenView) (at : ℕ) (ds : List DeclTree) → declarations_error d seen at ds ≡ None → NamesIn d.executors ds
 names_in d seen at [] e = tt
 names_in d seen at (Executes x ∷ ds) e = names_in d (seen_after seen (Executes x)) (past_decl (Executes x) at) ds (earlier_parts (decl_error d seen at (Executes x)) _ e).1
 names_in d seen at (Binds l ∷ ds) e = names_in d (seen_after seen (Binds l)) (past_decl (Binds l) at) ds (earlier_parts (decl_error d seen at (Binds l)) _ e).1
@@ -100,24 +100,24 @@ declared_many (Binds l ∷ ds) = declared_many ds
 declared_many (Acts a ∷ ds) = declared_many ds
 declared_many (Roots r ∷ ds) = declared_many ds
 
-views_many : (p : Plan) (actors : List ActorTree) (e : ℕ) (xs : List ExecutorTree) → length (views_from p actors e xs) ≡ length xs
+views_many : (p : PlanView) (actors : List ActorTree) (e : ℕ) (xs : List ExecutorTree) → length (views_from p actors e xs) ≡ length xs
 views_many p actors e [] = refl
 views_many p actors e (x ∷ xs) = ap suc (views_many p actors (suc e) xs)
 
 plan_below : (ds : List DeclTree) → names_error ds ≡ None → AllBelow (length (executors_in ds) + owners (script_in ds).actors) (plan_in (script_in ds)).executors
 plan_below ds e =
-    let d : (directory_of ds).executors ≡ executors_in ds = ap (λ (x : Directory). x.executors) (nothing_left_out ds e) in
+    let d : (directory_of ds).executors ≡ executors_in ds = ap (λ (x : DirectoryView). x.executors) (nothing_left_out ds e) in
     let is : NamesIn (executors_in ds) ds = subst (λ (ns : List (List ℕ)). NamesIn ns ds) d (names_in (directory_of ds) _ 0 ds e) in
     let many : ℕ = length (executors_in ds) in
-    subst (λ (p : Plan). AllBelow (many + owners (script_in ds).actors) p.executors) (same_plan ds) (all_below (executors_in ds) many (many + owners (script_in ds).actors) ds is (omega arith) (omega arith))
+    subst (λ (p : PlanView). AllBelow (many + owners (script_in ds).actors) p.executors) (same_plan ds) (all_below (executors_in ds) many (many + owners (script_in ds).actors) ds is (omega arith) (omega arith))
 
 -- an actor's executor is the plan's, or 0 where there is no such actor
-actor_on : (p : Plan) (k : ℕ) (actors : List ActorTree) (a bound : ℕ) → 0 < bound → AllBelow bound p.executors → (unwrap_or (slice_get (actors_from p k actors) a) no_actor).executor < bound
+actor_on : (p : PlanView) (k : ℕ) (actors : List ActorTree) (a bound : ℕ) → 0 < bound → AllBelow bound p.executors → (unwrap_or (slice_get (actors_from p k actors) a) no_actor).executor < bound
 actor_on p k [] a bound some all = some
 actor_on p k (x ∷ others) zero bound some all = below_at bound p.executors k some all
 actor_on p k (x ∷ others) (suc a) bound some all = actor_on p (suc k) others a bound some all
 
-methods_none : (p : Plan) (k : ℕ) (actors : List ActorTree) → 0 < length (methods_from p k actors) → 0 < length actors
+methods_none : (p : PlanView) (k : ℕ) (actors : List ActorTree) → 0 < length (methods_from p k actors) → 0 < length actors
 methods_none p k [] some = some
 methods_none p k (a ∷ others) some = omega arith
 
@@ -137,7 +137,7 @@ executors_many names own (Acts a ∷ ds) = one_longer names own a.executor (leng
 executors_many names own (Roots r ∷ ds) = executors_many names own ds
 
 plan_many : (ds : List DeclTree) → length (plan_in (script_in ds)).executors ≡ length (script_in ds).actors
-plan_many ds = ap (λ (p : Plan). length p.executors) (sym (same_plan ds)) ∙ executors_many (executors_in ds) (length (executors_in ds)) ds
+plan_many ds = ap (λ (p : PlanView). length p.executors) (sym (same_plan ds)) ∙ executors_many (executors_in ds) (length (executors_in ds)) ds
 
 count_is : (ds : List DeclTree) → executor_count (script_in ds) ≡ length (executors_in ds) + owners (script_in ds).actors
 unfolding parts_of
@@ -170,4 +170,4 @@ pub runs_on_executor : (script : ScriptView) → WasAccepted script → 0 < root
 runs_on_executor script was some a =
     let there = root_method_there script 0 was some in
     let actors : 0 < length script.actors = some_actor script (omega (arith, there)) in
-    subst (λ (s : ScriptTree). 0 < length s.actors → actor_executor s a < executor_count s) (sym was.1.is) (λ h. on_executors was.1.decls a was.1.names h) actors
+    subst (λ (s : ScriptView). 0 < length s.actors → actor_executor s a < executor_count s) (sym was.1.is) (λ h. on_executors was.1.decls a was.1.names h) actors

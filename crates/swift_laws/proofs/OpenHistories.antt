@@ -6,7 +6,7 @@ use Rattle.std.proofs.lemmas.Bool.Decides.{nat_tests}
 use Rattle.std.proofs.lemmas.List.{append-nil}
 use Rattle.swift_types.specs.declared.outcome.Resume.{Resume}
 use Rattle.swift_types.specs.declared.priority.Priority.{Priority}
-use Rattle.script_code.specs.declared.env.Env.{Env}
+use Rattle.swift_types.specs.declared.env.Env.{Env}
 use Rattle.swift_script.specs.Scripts.{ScriptView, root_count, root_priority}
 use Rattle.swift_interpreter.specs.Frames.{FrameView}
 use Rattle.swift_interpreter.specs.Turn.{EffectView, ExitView}
@@ -14,15 +14,15 @@ use Rattle.swift_turn.specs.Body.{Advanced, advanced}
 use Rattle.swift_journal.specs.Checkpoints.{CheckpointView}
 use Rattle.swift_events.specs.declared.event.Event.{Event}
 use Rattle.swift_events.specs.declared.event.Event.TheVariants.{Root, Begin, Apply}
-use Rattle.swift_events.specs.declared.life.Given.{Given}
-use Rattle.swift_events.specs.declared.life.Stage.{Stage}
-use Rattle.swift_events.specs.declared.life.Stage.TheVariants as stage
+use Rattle.swift_events.specs.declared.life.LastJob.{LastJob}
+use Rattle.swift_events.specs.declared.life.JobStage.{JobStage}
+use Rattle.swift_events.specs.declared.life.JobStage.TheVariants as stage
 use Rattle.swift_events.specs.Events.{task_of}
 use Rattle.swift_events.specs.Lives.{life_of, origin_in, given_in, ending_in}
 use Rattle.swift_events.proofs.LogLemmas.{opened_by-push_no, is_closed-push_no}
 use Rattle.swift_history.specs.Checks.{was_given as given_so, is_under_way, is_current, counters}
 use Rattle.swift_history.specs.Histories.{Block, added, begun, ran, folded, Standing, at_first, begun_priority, left_as, frames_applied, job_applied, turn_applied, after_block, after_blocks, TurnStands, Stands, AllStand, IsLegal, ReportView}
-use Rattle.swift_history.specs.TurnEnds.{JobView, Follows, task, root_job, root_events, gives, log_after, jobs_made, exit_events, exit_resume, followed}
+use Rattle.swift_history.specs.TurnEnds.{JobFacts, AfterTurn, task, root_job, root_events, gives, log_after, jobs_made, exit_events, exit_resume, followed}
 use Rattle.swift_laws.specs.Ended.{HasEnded}
 use Rattle.swift_laws.proofs.OpenLogs.{cases_of, not_both, none_some, was_given, stage_at, origin_now, given_same, given_stays, stage_now, ending_same, IsFree, Sound, May, Leads, stays, leads_by, leads_on, sound_from, sound_leads, free_at, holds_at}
 use Rattle.swift_laws.proofs.OpenSteps.{each_map, is_child, no_child, may_move, Active, Fresh, effects, Goes, goes_new, AllGo, leads_give, leads_gives}
@@ -33,7 +33,7 @@ both true true h = (refl, refl)
 both true false h = absurd (false≢true h)
 both false b h = absurd (false≢true h)
 
-given_some : (o : Option Given) (n : ℕ) (resume : Resume) → given_so o n resume ≡ true → is_some o ≡ true
+given_some : (o : Option LastJob) (n : ℕ) (resume : Resume) → given_so o n resume ≡ true → is_some o ≡ true
 given_some None n resume h = absurd (false≢true h)
 given_some (Some g) n resume h = refl
 
@@ -47,7 +47,7 @@ current_is t log n resume h =
     let first = both (given_so (life_of t log).given n resume) (nat_lt n (2 ^ 32 - 1) && is_under_way (stage_at t log)) h in
     record { given = given_some (life_of t log).given n resume first.0; under_way = (both (nat_lt n (2 ^ 32 - 1)) (is_under_way (stage_at t log)) first.1).1 }
 
-under_free : (o : Option Stage) → is_under_way o ≡ true → holds_at o ≡ false
+under_free : (o : Option JobStage) → is_under_way o ≡ true → holds_at o ≡ false
 under_free None h = absurd (false≢true h)
 under_free (Some stage.Given) h = refl
 under_free (Some (stage.Begun env)) h = refl
@@ -101,14 +101,14 @@ module _ (script : ScriptView) where
       (subst (λ (k : ℕ). HasEnded k log → ⊥) (sym of) (under_alive (root_count script) t log sound u))
 
   -- a turn begins
-  begun_leads : (s : Standing) (t n : ℕ) (env : Env) (j : JobView) → Written s.log → is_current (life_of t s.log) n j.resume ≡ true → Written (after_block script s (begun t n env)).log
+  begun_leads : (s : Standing) (t n : ℕ) (env : Env) (j : JobFacts) → Written s.log → is_current (life_of t s.log) n j.resume ≡ true → Written (after_block script s (begun t n env)).log
   begun_leads s t n env j written current =
       let e : Event = Begin (task t) n env in
       let may = may_go_on t s.log e (sound_from (root_count script) s.log written) (current_is t s.log n j.resume current) refl refl refl refl refl in
       leads_on (root_count script) [] s.log (s.log ++ e ∷ []) written (leads_by (root_count script) s.log e may)
 
   -- a turn is applied
-  frames_lead : (s : Standing) (executor t n : ℕ) (es : List EffectView) (exit : ExitView) (after : Option FrameView) (job : JobView) (env : Env) (frame : FrameView) → Written s.log → (stands : TurnStands script s executor t n es exit job env frame)
+  frames_lead : (s : Standing) (executor t n : ℕ) (es : List EffectView) (exit : ExitView) (after : Option FrameView) (job : JobFacts) (env : Env) (frame : FrameView) → Written s.log → (stands : TurnStands script s executor t n es exit job env frame)
       → Written (frames_applied script s t n (frame ∷ stands.runs.0) job.frames.outer es exit after).log
   frames_lead s executor t n es exit after job env frame written stands =
       let roots : ℕ = root_count script in
@@ -133,18 +133,18 @@ module _ (script : ScriptView) where
       let ended : List Event = done ++ exit_events t done exit next.step in
       let leads_ended : Written ended = leads_on roots [] done ended leads_done w.leads in
       let sound_ended : Sound roots ended = sound_from roots ended leads_ended in
-      let made : List JobView = jobs_made script t own first es in
+      let made : List JobFacts = jobs_made script t own first es in
       let new : AllGo ended made = each_map (Fresh done) (λ j. Goes j.task ended) (λ j x. (let y = w.fresh j x in goes_new roots j.task ended sound_ended y.made y.new)) made f.fresh in
-      let start : Follows = record { held = s.held ++ replicate (length made) None; jobs = made } in
-      let follows : Follows = followed t (n + 1) next.task resume next.step ended start in
+      let start : AfterTurn = record { held = s.held ++ replicate (length made) None; jobs = made } in
+      let follows : AfterTurn = followed t (n + 1) next.task resume next.step ended start in
       let all : AllGo ended follows.jobs = followed_go roots ended sound_ended t (n + 1) next.task resume next.step start w.requires new in
       leads_on roots [] ended (ended ++ gives follows.jobs) leads_ended (leads_gives roots ended follows.jobs all)
 
-  turn_leads : (s : Standing) (executor t n : ℕ) (es : List EffectView) (exit : ExitView) (after : Option FrameView) (job : JobView) (env : Env) (frame : FrameView) → Written s.log → TurnStands script s executor t n es exit job env frame
+  turn_leads : (s : Standing) (executor t n : ℕ) (es : List EffectView) (exit : ExitView) (after : Option FrameView) (job : JobFacts) (env : Env) (frame : FrameView) → Written s.log → TurnStands script s executor t n es exit job env frame
       → Written (turn_applied script s t n es exit after).log
   turn_leads s executor t n es exit after job env frame written stands =
       let is : turn_applied script s t n es exit after ≡ frames_applied script s t n (frame ∷ stands.runs.0) job.frames.outer es exit after =
-      ap (λ (o : Option JobView). job_applied script s t n o es exit after) stands.given ∙ ap (λ (ps : List FrameView). frames_applied script s t n ps job.frames.outer es exit after) stands.runs.1 in
+      ap (λ (o : Option JobFacts). job_applied script s t n o es exit after) stands.given ∙ ap (λ (ps : List FrameView). frames_applied script s t n ps job.frames.outer es exit after) stands.runs.1 in
       subst (λ (x : Standing). Written x.log) (sym is) (frames_lead s executor t n es exit after job env frame written stands)
 
   block_leads : (cps : List CheckpointView) (before : List Block) (b : Block) → Written (after_blocks script (at_first script) before).log → Stands script cps before b → Written (after_block script (after_blocks script (at_first script) before) b).log

@@ -9,8 +9,8 @@ use Rattle.swift_types.specs.declared.id.TaskId.{TaskId}
 use Rattle.swift_types.specs.declared.priority.Priority.{Priority}
 use Rattle.swift_events.specs.declared.event.Event.{Event}
 use Rattle.swift_events.specs.declared.event.Event.TheVariants.{Child, Wait, Close}
-use Rattle.swift_events.specs.declared.life.Stage.{Stage}
-use Rattle.swift_events.specs.declared.life.Stage.TheVariants as stage
+use Rattle.swift_events.specs.declared.life.JobStage.{JobStage}
+use Rattle.swift_events.specs.declared.life.JobStage.TheVariants as stage
 use Rattle.swift_events.specs.declared.life.Life.{Life}
 use Rattle.swift_events.specs.Events.{task_of, is_made, tasks_of, later}
 use Rattle.swift_events.specs.Lives.{life_of, lived, unborn, origin_in, given_in, stage_in, ending_in}
@@ -92,7 +92,7 @@ has_origin t log = is_some (life_of t log).origin
 abbrev pub was_given : ℕ → List Event → Bool
 was_given t log = is_some (life_of t log).given
 
-abbrev pub stage_at : ℕ → List Event → Option Stage
+abbrev pub stage_at : ℕ → List Event → Option JobStage
 stage_at t log = (life_of t log).stage
 
 pub origin_stays : (t : ℕ) (log : List Event) (e : Event) → has_origin t log ≡ true → has_origin t (log ++ e ∷ []) ≡ true
@@ -360,7 +360,7 @@ closed_front roots t g log front back p is ended closed =
     closed_before roots t g front back (all_back roots [] front back whole) ended (subst (λ (l : List Event). is_closed t g l ≡ true) is closed)
 
 -- the stages in which a task is held by a wait, or by a group that it closes
-abbrev pub holds_at : Option Stage → Bool
+abbrev pub holds_at : Option JobStage → Bool
 holds_at (Some (stage.Waits awaited)) = true
 holds_at (Some (stage.Closes g)) = true
 holds_at _ = false

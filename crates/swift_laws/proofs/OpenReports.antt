@@ -8,11 +8,11 @@ use Rattle.swift_types.specs.declared.priority.Priority.{Priority}
 use Rattle.swift_script.specs.Accepted.{WasAccepted}
 use Rattle.swift_script.specs.Scripts.{ScriptView, root_count}
 use Rattle.swift_journal.specs.Checkpoints.{CheckpointView}
-use Rattle.swift_escalation.specs.declared.waits.Event.TheVariants as link
+use Rattle.swift_escalation.specs.declared.waits.PriorityEvent.TheVariants as link
 use Rattle.swift_escalation.specs.Waits.{Reaches}
 use Rattle.swift_events.specs.declared.event.Event.{Event}
 use Rattle.swift_events.specs.declared.event.Event.TheVariants.{Root, Free, Child, Wait}
-use Rattle.swift_events.specs.declared.life.Stage.TheVariants.{Waits, Closes}
+use Rattle.swift_events.specs.declared.life.JobStage.TheVariants.{Waits, Closes}
 use Rattle.swift_events.specs.Events.{tasks_of}
 use Rattle.swift_events.specs.Lives.{life_of}
 use Rattle.swift_events.specs.Relations.{opened_by, is_closed, link_in, links_of}

@@ -8,20 +8,21 @@ use Rattle.script_grammar.specs.declared.region.Region.{Region}
 use Rattle.script_grammar.specs.declared.region.Region.TheVariants as region
 use Rattle.script_grammar.specs.Grammar.{may_return}
 use Rattle.script_grammar.specs.Tree.{ValueTree, Computed, Waited, MakeTree, Spawned, Detached, ActionTree, Let, LetTask, Assign, Await, Makes, Adds, Cancel, Return, Throw, Check, Yield, HeadTree, If, While, Bind, Group, Assume, StmtTree, Do, Headed, IfElse, BlockTree, nothing, first_then, block_tree, MethodTree, ActorTree}
-use Rattle.script_names.specs.Scope.{Scope}
+use Rattle.script_names.specs.Scope.{ScopeView}
 use Rattle.script_names.specs.Rules.{scope_after, scope_within}
 use Rattle.script_printing.specs.Limits.{ActionFits, region_in, StmtFits, BlockFits, MethodFits, ActorFits}
 use Rattle.script_printing.proofs.Read.{actors_fit}
-use Rattle.script_printing.specs.Script.{ScriptTree}
+use Rattle.script_printing.specs.Script.{ScriptView}
 use Rattle.script_parser.specs.declared.limits.TheConstants.{NESTING}
-use Rattle.script_code.specs.declared.instruction.Place.{Place}
-use Rattle.script_code.specs.declared.instruction.Place.TheVariants.{Variable, Field}
+use Rattle.script_code.specs.declared.instruction.NumberPlace.{NumberPlace}
+use Rattle.script_code.specs.declared.instruction.NumberPlace.TheVariants.{Variable, Field}
 use Rattle.script_code.specs.Tree as code
 use Rattle.script_code.specs.Tree.{Term, Operation, Code, end, act, followed}
-use Rattle.script_lowering.specs.Plan.{Plan}
+use Rattle.script_lowering.specs.Plan.{PlanView}
 use Rattle.script_lowering.specs.Lowered.{numbers_in, handles_in, place_named, set_at, value_to, make_to, action_code, headed_code, stmt_code, block_code}
-use Rattle.script_compiler.specs.Compiled.{MethodView, plan_in, method_of, method_scope, methods_from}
-use Rattle.swift_script.specs.Scripts.{ScriptView, parts_of, no_method}
+use Rattle.script_compiler.specs.Compiled.{MethodView, plan_in, method_of, methods_from}
+use Rattle.script_lowering.specs.Methods.{method_scope}
+use Rattle.swift_script.specs.Scripts.{parts_of, no_method}
 use Rattle.swift_script.specs.Accepted.{WasAccepted}
 use Rattle.swift_laws.specs.Accepted.{after_operation, LeadsTo, ClosesGroups}
 
@@ -44,19 +45,19 @@ leads_followed (code.loop t x rest) b n k m p q = (p.0, leads_followed rest b n 
 abbrev Depth : Region → ℕ → Type 0
 Depth r n = may_return r ≡ true → n ≡ 0
 
-set_leads : (place : Place) (t : Term) (n : ℕ) → LeadsTo (act (set_at place t) end) n n
+set_leads : (place : NumberPlace) (t : Term) (n : ℕ) → LeadsTo (act (set_at place t) end) n n
 set_leads (Variable k) t n = refl
 set_leads (Field f) t n = refl
 
-make_leads : (p : Plan) (s : Scope) (h : Option ℕ) (m : MakeTree) (n : ℕ) → LeadsTo (act (make_to p s h m) end) n n
+make_leads : (p : PlanView) (s : ScopeView) (h : Option ℕ) (m : MakeTree) (n : ℕ) → LeadsTo (act (make_to p s h m) end) n n
 make_leads p s h (Spawned c q) n = refl
 make_leads p s h (Detached c q) n = refl
 
-value_leads : (p : Plan) (s : Scope) (place : Place) (v : ValueTree) (n : ℕ) → LeadsTo (value_to p s place v) n n
+value_leads : (p : PlanView) (s : ScopeView) (place : NumberPlace) (v : ValueTree) (n : ℕ) → LeadsTo (value_to p s place v) n n
 value_leads p s place (Computed t) n = set_leads place _ n
 value_leads p s place (Waited w) n = refl
 
-action_leads : (limit : ℕ) (r : Region) (p : Plan) (s : Scope) (a : ActionTree) (n : ℕ) → ActionFits limit r a → Depth r n → LeadsTo (action_code p s a) n n
+action_leads : (limit : ℕ) (r : Region) (p : PlanView) (s : ScopeView) (a : ActionTree) (n : ℕ) → ActionFits limit r a → Depth r n → LeadsTo (action_code p s a) n n
 action_leads limit r p s (Let x v) n fits deep = value_leads p s (Variable (numbers_in s)) v n
 action_leads limit r p s (LetTask x m) n fits deep = make_leads p s (Some (handles_in s)) m n
 action_leads limit r p s (Assign x v) n fits deep = value_leads p s (place_named p s x) v n
@@ -73,7 +74,7 @@ assume_leads : (b : Bool) (inner : Code) (n : ℕ) → LeadsTo inner n n → Lea
 assume_leads true inner n h = h
 assume_leads false inner n h = refl
 
-head_leads : (p : Plan) (s : Scope) (h : HeadTree) (inner : Code) (r : Region) (n : ℕ) → Depth r n → ((m : ℕ) → Depth (region_in r h) m → LeadsTo inner m m) → LeadsTo (headed_code p s h inner) n n
+head_leads : (p : PlanView) (s : ScopeView) (h : HeadTree) (inner : Code) (r : Region) (n : ℕ) → Depth r n → ((m : ℕ) → Depth (region_in r h) m → LeadsTo inner m m) → LeadsTo (headed_code p s h inner) n n
 head_leads p s (If t) inner r n deep each = (each n deep, refl, refl)
 head_leads p s (While t) inner r n deep each = (each n deep, refl)
 head_leads p s (Bind x t) inner r n deep each = leads_followed inner (act code.unbind end) n n n (each n deep) refl
@@ -81,13 +82,13 @@ head_leads p s (Group x) inner r n deep each = leads_followed inner (act code.cl
 head_leads p s (Assume x) inner r n deep each = assume_leads _ inner n (each n (λ x. absurd (false≢true x)))
 
 mutual
-  stmt_leads : (limit : ℕ) (r : Region) (blocks : ℕ) (p : Plan) (s : Scope) (x : StmtTree) (n : ℕ) → StmtFits limit r blocks x → Depth r n → LeadsTo (stmt_code p s x) n n
+  stmt_leads : (limit : ℕ) (r : Region) (blocks : ℕ) (p : PlanView) (s : ScopeView) (x : StmtTree) (n : ℕ) → StmtFits limit r blocks x → Depth r n → LeadsTo (stmt_code p s x) n n
   stmt_leads limit r blocks p s (Do a) n fits deep = action_leads limit r p s a n fits deep
   stmt_leads limit r blocks p s (Headed h b) n fits deep =
       head_leads p s h (block_code p (scope_within s h) b) r n deep (λ m d. block_leads limit (region_in r h) (blocks - 1) p (scope_within s h) b m fits.2 d)
   stmt_leads limit r blocks p s (IfElse t a b) n fits deep = (block_leads limit r (blocks - 1) p s a n fits.2 deep, block_leads limit r (blocks - 1) p s b n fits.3 deep, refl)
 
-  block_leads : (limit : ℕ) (r : Region) (blocks : ℕ) (p : Plan) (s : Scope) (b : BlockTree) (n : ℕ) → BlockFits limit r blocks b → Depth r n → LeadsTo (block_code p s b) n n
+  block_leads : (limit : ℕ) (r : Region) (blocks : ℕ) (p : PlanView) (s : ScopeView) (b : BlockTree) (n : ℕ) → BlockFits limit r blocks b → Depth r n → LeadsTo (block_code p s b) n n
   block_leads limit r blocks p s nothing n fits deep = refl
   block_leads limit r blocks p s (first_then x xs) n fits deep =
       leads_followed (stmt_code p s x) (block_code p (scope_after s x) xs) n n n (stmt_leads limit r blocks p s x n fits.0 deep) (block_leads limit r blocks p (scope_after s x) xs n fits.1 deep)
@@ -100,11 +101,11 @@ each_append : (vs ws : List MethodView) → EachLeads vs → EachLeads ws → Ea
 each_append [] ws a b = b
 each_append (v ∷ vs) ws a b = (a.0, each_append vs ws a.1 b)
 
-methods_lead : (limit : ℕ) (p : Plan) (k : ℕ) (ms : List MethodTree) → AllByRecursion (MethodFits limit) ms → EachLeads (map (method_of p k) ms)
+methods_lead : (limit : ℕ) (p : PlanView) (k : ℕ) (ms : List MethodTree) → AllByRecursion (MethodFits limit) ms → EachLeads (map (method_of p k) ms)
 methods_lead limit p k [] fits = tt
 methods_lead limit p k (m ∷ ms) fits = (block_leads limit region.Method (limit - 1) p (method_scope p k m) (block_tree m.body) 0 fits.0.body (λ x. refl), methods_lead limit p k ms fits.1)
 
-actors_lead : (limit : ℕ) (p : Plan) (k : ℕ) (actors : List ActorTree) → AllByRecursion (ActorFits limit) actors → EachLeads (methods_from p k actors)
+actors_lead : (limit : ℕ) (p : PlanView) (k : ℕ) (actors : List ActorTree) → AllByRecursion (ActorFits limit) actors → EachLeads (methods_from p k actors)
 actors_lead limit p k [] fits = tt
 actors_lead limit p k (a ∷ others) fits =
     each_append (map (method_of p k) a.methods) (methods_from p (suc k) others) (methods_lead limit p k a.methods (recursion_from_All (MethodFits limit) a.methods fits.0.methods)) (actors_lead limit p (suc k) others fits.1)
@@ -117,5 +118,5 @@ lead_at (v ∷ vs) (suc m) each = lead_at vs m each.1
 pub accepted_closes : (script : ScriptView) → WasAccepted script → ClosesGroups script
 unfolding parts_of
 accepted_closes script a m =
-    let fits : All (ActorFits NESTING) script.actors = subst (λ (s : ScriptTree). All (ActorFits NESTING) s.actors) (sym a.1.is) (actors_fit NESTING a.1.spelled.pieces a.1.decls a.1.spelled.spelled) in
+    let fits : All (ActorFits NESTING) script.actors = subst (λ (s : ScriptView). All (ActorFits NESTING) s.actors) (sym a.1.is) (actors_fit NESTING a.1.spelled.pieces a.1.decls a.1.spelled.spelled) in
     lead_at (methods_from (plan_in script) 0 script.actors) m (actors_lead NESTING (plan_in script) 0 script.actors (recursion_from_All (ActorFits NESTING) script.actors fits))

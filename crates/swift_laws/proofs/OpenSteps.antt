@@ -12,27 +12,27 @@ use Rattle.swift_script.specs.Scripts.{ScriptView, root_count}
 use Rattle.swift_interpreter.specs.Turn.{EffectView, spawning, detaching, opening, adding, cancelling_task, cancelling_group, ExitView}
 use Rattle.swift_events.specs.declared.event.Event.{Event}
 use Rattle.swift_events.specs.declared.event.Event.TheVariants.{Free, Open, Child, Skip, CancelTask, CancelGroup, Wait, Give}
-use Rattle.swift_events.specs.declared.life.Stage.TheVariants as stage
+use Rattle.swift_events.specs.declared.life.JobStage.TheVariants as stage
 use Rattle.swift_events.specs.Events.{task_of, is_made, tasks_of}
 use Rattle.swift_events.specs.Lives.{life_of, origin_in, given_in, stage_in, ending_in}
 use Rattle.swift_events.specs.Relations.{opens, opened_by, closes, is_closed}
 use Rattle.swift_events.proofs.LogLemmas.{tasks_of-push_made, opened_by-push_yes, opened_by-push_no, is_closed-push_no}
 use Rattle.swift_history.specs.Checks.{Counters, can_use, fits_effect, counted, fits_turn}
 use Rattle.swift_history.specs.Histories.{opens_group}
-use Rattle.swift_history.specs.TurnEnds.{JobView, task, first_job, gives, named_task, is_left_out, effect_events, effect_jobs, log_after, jobs_made}
+use Rattle.swift_history.specs.TurnEnds.{JobFacts, task, first_job, gives, named_task, is_left_out, effect_events, effect_jobs, log_after, jobs_made}
 use Rattle.swift_laws.specs.Ended.{HasEnded}
 use Rattle.swift_laws.proofs.OpenLogs.{in_push, cases_of, not_both, none_some, has_origin, was_given, stage_at, origin_stays, origin_now, given_same, given_now, given_stays, stage_same, ended_stays, ending_same, closed_cases, IsFree, Sound, May, sound_leads, Leads, stays, leads_by, leads_on, holds_at, free_at}
 
 -- of each of some jobs
-abbrev pub Each : (JobView → Type 0) → List JobView → Type 0
+abbrev pub Each : (JobFacts → Type 0) → List JobFacts → Type 0
 Each P [] = Unit {0}
 Each P (j ∷ js) = P j × Each P js
 
-pub each_append : (P : JobView → Type 0) (js ks : List JobView) → Each P js → Each P ks → Each P (js ++ ks)
+pub each_append : (P : JobFacts → Type 0) (js ks : List JobFacts) → Each P js → Each P ks → Each P (js ++ ks)
 each_append P [] ks a b = b
 each_append P (j ∷ js) ks a b = (a.0, each_append P js ks a.1 b)
 
-pub each_map : (P Q : JobView → Type 0) → ((j : JobView) → P j → Q j) → (js : List JobView) → Each P js → Each Q js
+pub each_map : (P Q : JobFacts → Type 0) → ((j : JobFacts) → P j → Q j) → (js : List JobFacts) → Each P js → Each Q js
 each_map P Q f [] a = tt
 each_map P Q f (j ∷ js) a = (f j a.0, each_map P Q f js a.1)
 
@@ -108,15 +108,15 @@ active_push t log e calm a = record {
 }
 
 -- a task that was made and has had no job
-pub record Fresh (log : List Event) (j : JobView) : Type 0 where
+pub record Fresh (log : List Event) (j : JobFacts) : Type 0 where
   pub made : has_origin j.task log ≡ true
   pub new : was_given j.task log ≡ false
 
-pub fresh_push : (log : List Event) (e : Event) → given_in e ≡ None → (j : JobView) → Fresh log j → Fresh (log ++ e ∷ []) j
+pub fresh_push : (log : List Event) (e : Event) → given_in e ≡ None → (j : JobFacts) → Fresh log j → Fresh (log ++ e ∷ []) j
 fresh_push log e none j f = record { made = origin_stays j.task log e f.made; new = ap is_some (given_same j.task log e none) ∙ f.new }
 
 -- what effects leave
-pub record Effects (script : ScriptView) (t : ℕ) (log log' : List Event) (n : ℕ) (js : List JobView) : Type 0 where
+pub record Effects (script : ScriptView) (t : ℕ) (log log' : List Event) (n : ℕ) (js : List JobFacts) : Type 0 where
   pub leads : Leads (root_count script) log log'
   pub active : Active t log'
   pub opened : opened_by t log' ≡ opened_by t log + n
@@ -137,7 +137,7 @@ module _ (script : ScriptView) (t : ℕ) where
     fresh = tt;
   }
 
-  one : (log : List Event) (e : Event) (n : ℕ) (js : List JobView) → May (root_count script) log e → Calm e → Active t log → ((g : ℕ) → closes t g e ≡ false)
+  one : (log : List Event) (e : Event) (n : ℕ) (js : List JobFacts) → May (root_count script) log e → Calm e → Active t log → ((g : ℕ) → closes t g e ≡ false)
       → opened_by t (log ++ e ∷ []) ≡ opened_by t log + n → Each (Fresh (log ++ e ∷ [])) js → Effects script t log (log ++ e ∷ []) n js
   one log e n js may calm a unclosed opened fresh = record {
     leads = leads_by (root_count script) log e may;
@@ -150,12 +150,12 @@ module _ (script : ScriptView) (t : ℕ) where
   }
 
   -- an event that opens no group
-  plain : (log : List Event) (e : Event) (js : List JobView) → May (root_count script) log e → Calm e → Active t log → opens t e ≡ false → ((g : ℕ) → closes t g e ≡ false)
+  plain : (log : List Event) (e : Event) (js : List JobFacts) → May (root_count script) log e → Calm e → Active t log → opens t e ≡ false → ((g : ℕ) → closes t g e ≡ false)
       → Each (Fresh (log ++ e ∷ [])) js → Effects script t log (log ++ e ∷ []) 0 js
   plain log e js may calm a unopened unclosed fresh = one log e 0 js may calm a unclosed (let same = opened_by-push_no t log e unopened in omega (arith, same)) fresh
 
   -- the task that an event makes has had no job
-  new_one : (log : List Event) (e : Event) (j : JobView) → Sound (root_count script) log → Calm e → is_some (origin_in e) ≡ true → task_of e ≡ tasks_of (root_count script) log → j.task ≡ tasks_of (root_count script) log
+  new_one : (log : List Event) (e : Event) (j : JobFacts) → Sound (root_count script) log → Calm e → is_some (origin_in e) ≡ true → task_of e ≡ tasks_of (root_count script) log → j.task ≡ tasks_of (root_count script) log
       → Fresh (log ++ e ∷ []) j
   new_one log e j s calm born at is = record {
     made = ap is_some (origin_now j.task log e (at ∙ sym is) born) ∙ born;
@@ -168,7 +168,7 @@ module _ (script : ScriptView) (t : ℕ) where
         | inr not_so ↦ not_so
       ]
 
-  either : (b : Bool) (log es fs : List Event) (js ks : List JobView) → (b ≡ true → Effects script t log (log ++ es) 0 js) → (b ≡ false → Effects script t log (log ++ fs) 0 ks)
+  either : (b : Bool) (log es fs : List Event) (js ks : List JobFacts) → (b ≡ true → Effects script t log (log ++ es) 0 js) → (b ≡ false → Effects script t log (log ++ fs) 0 ks)
       → Effects script t log (log ++ (if b then es else fs)) 0 (if b then js else ks)
   either true log es fs js ks p q = p refl
   either false log es fs js ks p q = q refl
@@ -223,12 +223,12 @@ module _ (script : ScriptView) (t : ℕ) where
       → Effects script t log (log ++ effect_events (root_count script) t own log e) (cond (opens_group e) 1 0) (effect_jobs script t log e)
   effect own log first c (spawning i p bindings) s a count same fits =
       let e : Event = Free (task (tasks_of (root_count script) log)) (task t) (unwrap_or p own) false in
-      let j : JobView = first_job script (tasks_of (root_count script) log) i.method i.args bindings in
+      let j : JobFacts = first_job script (tasks_of (root_count script) log) i.method i.args bindings in
       plain log e (j ∷ []) (may_make (root_count script) log e (calm refl refl refl) refl refl (λ u o g q x. no_child e u o g q refl x)) (calm refl refl refl) a refl (λ g. refl)
       (new_one log e j s (calm refl refl refl) refl refl refl, tt)
   effect own log first c (detaching i p) s a count same fits =
       let e : Event = Free (task (tasks_of (root_count script) log)) (task t) p true in
-      let j : JobView = first_job script (tasks_of (root_count script) log) i.method i.args [] in
+      let j : JobFacts = first_job script (tasks_of (root_count script) log) i.method i.args [] in
       plain log e (j ∷ []) (may_make (root_count script) log e (calm refl refl refl) refl refl (λ u o g q x. no_child e u o g q refl x)) (calm refl refl refl) a refl (λ g. refl)
       (new_one log e j s (calm refl refl refl) refl refl refl, tt)
   effect own log first c opening s a count same fits = open_one log a
@@ -239,7 +239,7 @@ module _ (script : ScriptView) (t : ℕ) where
       let unclosed : is_closed t g log ≡ false = same g ∙ not_of (is_closed t g first) parts.1 in
       let skip : Event = Skip (task t) g in
       let add : Event = Child (task (tasks_of (root_count script) log)) (task t) g (unwrap_or p Background) in
-      let j : JobView = first_job script (tasks_of (root_count script) log) i.method i.args bindings in
+      let j : JobFacts = first_job script (tasks_of (root_count script) log) i.method i.args bindings in
       either (is_left_out t g unless log) log (skip ∷ []) (add ∷ []) [] (j ∷ [])
       (λ x. plain log skip [] (may_calm (root_count script) log skip (calm refl refl refl) refl refl) (calm refl refl refl) a refl (λ k. refl) tt)
       (λ x. plain log add (j ∷ [])
@@ -262,7 +262,7 @@ module _ (script : ScriptView) (t : ℕ) where
   counted_opened c (cancelling_task name) = omega arith
   counted_opened c (cancelling_group g) = omega arith
 
-  fresh_on : (a b : List Event) (n : ℕ) (js : List JobView) → Effects script t a b n js → (j : JobView) → Fresh a j → Fresh b j
+  fresh_on : (a b : List Event) (n : ℕ) (js : List JobFacts) → Effects script t a b n js → (j : JobFacts) → Fresh a j → Fresh b j
   fresh_on a b n js f j h = record { made = f.origins j.task h.made; new = f.givens j.task ∙ h.new }
 
   count_cons : (e : EffectView) (es : List EffectView) → count_by opens_group (e ∷ es) ≡ cond (opens_group e) 1 0 + count_by opens_group es
@@ -308,13 +308,13 @@ goes_new roots t log s origin new = record {
 
 -- jobs are made one after the other
 
-abbrev pub give_of : JobView → Event
+abbrev pub give_of : JobFacts → Event
 give_of j = Give (task j.task) j.number j.resume
 
 pub no_wait : (e : Event) (t u : TaskId) {X : Type 0} → is_wait e ≡ false → e ≡ Wait t u → X
 no_wait e t u none q = not_both (is_wait e) (ap is_wait q) none
 
-goes_on : (t : ℕ) (log : List Event) (j : JobView) → Goes t log → Goes t (log ++ give_of j ∷ [])
+goes_on : (t : ℕ) (log : List Event) (j : JobFacts) → Goes t log → Goes t (log ++ give_of j ∷ [])
 goes_on t log j h =
     let e : Event = give_of j in
     record {
@@ -333,17 +333,17 @@ goes_on t log j h =
     }
 
 -- each of some jobs may be made
-abbrev pub AllGo : List Event → List JobView → Type 0
+abbrev pub AllGo : List Event → List JobFacts → Type 0
 AllGo log js = Each (λ j. Goes j.task log) js
 
 module _ (roots : ℕ) where
-  pub leads_give : (log : List Event) (j : JobView) → Goes j.task log → Leads roots log (log ++ give_of j ∷ [])
+  pub leads_give : (log : List Event) (j : JobFacts) → Goes j.task log → Leads roots log (log ++ give_of j ∷ [])
   leads_give log j h = leads_by roots log (give_of j) (may_move roots log (give_of j) refl refl refl (λ q. h.origin) given_after h.free h.alive)
     where
       given_after : was_given j.task (log ++ give_of j ∷ []) ≡ true
       given_after = ap is_some (given_now j.task log (give_of j) refl refl)
 
-  pub leads_gives : (log : List Event) (js : List JobView) → AllGo log js → Leads roots log (log ++ gives js)
+  pub leads_gives : (log : List Event) (js : List JobFacts) → AllGo log js → Leads roots log (log ++ gives js)
   leads_gives log [] h = subst (λ (l : List Event). Leads roots log l) (sym (append-nil log)) (stays roots log)
   leads_gives log (j ∷ js) h =
       let mid : List Event = log ++ give_of j ∷ [] in

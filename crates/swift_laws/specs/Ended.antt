@@ -5,7 +5,7 @@ use Rattle.swift_types.specs.declared.priority.Priority.{Priority}
 use Rattle.swift_script.specs.Scripts.{ScriptView}
 use Rattle.swift_events.specs.declared.event.Event.{Event}
 use Rattle.swift_events.specs.declared.event.Event.TheVariants.{Child, Wait}
-use Rattle.swift_events.specs.declared.life.Stage.TheVariants.{Waits, Closes}
+use Rattle.swift_events.specs.declared.life.JobStage.TheVariants.{Waits, Closes}
 use Rattle.swift_events.specs.Lives.{life_of}
 use Rattle.swift_escalation.specs.Waits.{Reaches}
 use Rattle.swift_events.specs.Relations.{is_closed, links_of}

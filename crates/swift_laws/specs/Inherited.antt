@@ -8,7 +8,7 @@ use Rattle.script_code.specs.Value.{ev}
 use Rattle.script_code.specs.Instructions.{first}
 use Rattle.swift_script.specs.Scripts.{ScriptView, root_count}
 use Rattle.swift_interpreter.specs.Frames.{FrameView}
-use Rattle.swift_interpreter.specs.Turn.{EffectView, spawning, detaching, adding, State, Given, Next, goes, leaves, scene, act, settled, taken}
+use Rattle.swift_interpreter.specs.Turn.{EffectView, spawning, detaching, adding, TurnStateView, TurnInputView, AfterStatement, goes, leaves, scene, act, settled, taken}
 use Rattle.swift_turn.specs.Body.{state_at}
 use Rattle.swift_journal.specs.Records.{RecordView}
 use Rattle.swift_journal.specs.Replay.{IsLawfulRecord}
@@ -16,7 +16,7 @@ use Rattle.swift_events.specs.declared.event.Event.{Event}
 use Rattle.swift_events.specs.declared.event.Event.TheVariants.{Apply}
 use Rattle.swift_events.specs.Events.{tasks_of}
 use Rattle.swift_events.specs.Lives.{life_of}
-use Rattle.swift_history.specs.TurnEnds.{task, is_left_out, effect_events, JobView}
+use Rattle.swift_history.specs.TurnEnds.{task, is_left_out, effect_events, JobFacts}
 use Rattle.swift_history.specs.Histories.{Block, added, begun, ran, folded, Standing, after_blocks, at_first, begun_priority, IsLegal, ReportView}
 use Rattle.swift_laws.specs.Laws.{IsRecord}
 
@@ -73,14 +73,14 @@ pub record FindsInherited (script : ScriptView) (blocks : List Block) (executor 
   pub before : List Block
   pub after : List Block
   pub parts : blocks ≡ before ++ ran executor r ∷ after
-  pub job : JobView
+  pub job : JobFacts
   pub is_job : (after_blocks script (at_first script) before).jobs r.task ≡ Some job
   pub callers : List FrameView
   pub frames : job.frames.frames ≡ r.frame ∷ callers
   pub made_with : List (ℕ × ℤ)
   pub is_made : IsMadeWith script before r.task made_with
   pub outer : r.outer ≡ bindings_over callers made_with
-  pub reads : (s : State) (l : ℕ) (default : ℤ) → ev (local l default) (scene (record { outer = r.outer; env = r.env }) s)
+  pub reads : (s : TurnStateView) (l : ℕ) (default : ℤ) → ev (local l default) (scene (record { outer = r.outer; env = r.env }) s)
       ≡ Some (unwrap_or (value_of (s.own ++ bindings_over callers made_with) l) default)
 
 -- each turn of a legal report does, in each history that made the report
@@ -89,21 +89,21 @@ LocalsAreInherited = (script : ScriptView) (report : ReportView) (executor place
     → IsRecord report executor place r → FindsInherited script legal.blocks executor r
 
 -- what holds of the state in which a turn goes on, if it does
-abbrev pub GoesOn : Next → (State → Type 0) → Type 0
+abbrev pub GoesOn : AfterStatement → (TurnStateView → Type 0) → Type 0
 GoesOn (goes s) P = P s
 GoesOn (leaves s e) P = ⊥
 
 -- a turn of at most n steps does a statement at this state, once the blocks of `bind` that ended there have ended
-abbrev pub Passes : Given → ℕ → State → State → Type 0
+abbrev pub Passes : TurnInputView → ℕ → TurnStateView → TurnStateView → Type 0
 Passes g zero s at = ⊥
 Passes g (suc n) s at =
     (at ≡ settled s.todo s) ⊎ GoesOn (act g (first (settled s.todo s).todo) (settled s.todo s)) (λ s'. Passes g n s' at)
 
 -- the turn of a record does, on these fields
-abbrev pub RecordPasses : ScriptView → List (List ℤ) → RecordView → State → Type 0
+abbrev pub RecordPasses : ScriptView → List (List ℤ) → RecordView → TurnStateView → Type 0
 RecordPasses script fields r at =
-    let g : Given = record { outer = r.outer; env = r.env } in
-    let s : State = state_at script r.frame fields [] r.env.room in
+    let g : TurnInputView = record { outer = r.outer; env = r.env } in
+    let s : TurnStateView = state_at script r.frame fields [] r.env.room in
     GoesOn (taken g s.pending (first s.todo) r.resume s) (λ s'. Passes g STEPS s' at)
 
 -- an effect hands on these bindings, if it hands on any
@@ -117,7 +117,7 @@ HandsOn standing _ = Unit {0}
 pub record IsHandedOn (script : ScriptView) (r : RecordView) (before : List EffectView) (e : EffectView) : Type 0 where
   pub fields : List (List ℤ)
   pub lawful : IsLawfulRecord script fields r
-  pub at : State
+  pub at : TurnStateView
   pub passes : RecordPasses script fields r at
   pub has : at.effects ≡ before
   pub adds : GoesOn (act (record { outer = r.outer; env = r.env }) (first at.todo) at) (λ s. s.effects ≡ before ++ e ∷ [])
@@ -136,5 +136,5 @@ first_of_two (Some v) outer = Some v
 -- A read of a local gives its innermost binding among the frame's own, or else among those that stood when the frame
 -- began, or else its default.
 abbrev pub ReadsInnermost : Type 0
-ReadsInnermost = (g : Given) (s : State) (l : ℕ) (default : ℤ) →
+ReadsInnermost = (g : TurnInputView) (s : TurnStateView) (l : ℕ) (default : ℤ) →
     ev (local l default) (scene g s) ≡ Some (unwrap_or (first_of_two (value_of s.own l) (value_of g.outer l)) default)

@@ -1,7 +1,7 @@
 -- Laws of legal reports (SE-0304 for priorities, SE-0311 for bindings; the rest is our own).
 use Rattle.std.specs.Prelude.{◌≡◌, ℕ, ◌<◌, ◌==◌, Bool, false, if◌then◌else◌, Option, Some, None, List, ◌∷◌, ◌++◌, length, slice_get}
 use Rattle.std.specs.List.{filter_map, list_any, range_with_len}
-use Rattle.script_code.specs.declared.env.Env.{Env}
+use Rattle.swift_types.specs.declared.env.Env.{Env}
 use Rattle.swift_script.specs.Scripts.{ScriptView, root_count, executor_count, actor_executor}
 use Rattle.swift_journal.specs.Records.{RecordView}
 use Rattle.swift_journal.specs.Checkpoints.{FoldedView, CheckpointView}

@@ -9,17 +9,17 @@ use Rattle.std.specs.Map.{lookup}
 use Rattle.std.specs.HashMap.{spare}
 use Rattle.swift_types.specs.declared.limits.TheConstants.{TASKS}
 use Rattle.swift_types.specs.declared.id.TaskId.{TaskId}
-use Rattle.swift_groups.specs.Groups.{GroupIs, GroupsIs, opened_by as new_group}
+use Rattle.swift_groups.specs.Groups.{GroupView, GroupsView, opened_by as new_group}
 use Rattle.swift_groups.proofs.Lists.{slice_get_old, slice_get_new}
 use Rattle.swift_events.specs.declared.event.Event.{Event}
 use Rattle.swift_events.specs.declared.event.Event.TheVariants.{Open}
 use Rattle.swift_events.specs.declared.life.Origin.{Origin}
 use Rattle.swift_events.specs.Relations.{parent_by, opened_by}
 use Rattle.swift_events.proofs.LogLemmas.{opened_by-push, origin_of}
-use Rattle.swift_ledger.specs.declared.group_index.Held.{Held}
+use Rattle.swift_ledger.specs.declared.group_index.GroupNotes.{GroupNotes}
 use Rattle.swift_ledger.specs.declared.group_index.GroupIndex.{GroupIndex}
 use Rattle.swift_ledger.specs.Counts.{count_at, HasPlaces}
-use Rattle.swift_ledger.specs.GroupIndexes.{GroupFacts, facts_of, IsKept, AreGroupsOf, is_child_of, place_in, same_number}
+use Rattle.swift_ledger.specs.GroupIndexes.{GroupFacts, facts_of, AreNotesOf, AreGroupsOf, is_child_of, place_in, same_number}
 use Rattle.swift_ledger.proofs.GroupFacts.{parents-push, facts-quiet, opened-own, opened-other}
 use Rattle.swift_ledger.proofs.KeptGroups.{kept_new}
 use Rattle.swift_ledger.proofs.GroupSteps.{both, kept_at}
@@ -31,7 +31,7 @@ pub room-step : (w w' : GroupIndex) (log : List Event) → AreGroupsOf w log →
 room-step w w' log old groups places counts helds a b c d = record {
   opened = λ u h. ap is_some (places u h) ∙ old.opened u h;
   each = λ u h j there. let k = old.each u h j (sym (places u h) ∙ there) in
-      record { found = k.found; held = k.held; group = ap (λ (s : List GroupIs). slice_get s j) groups ∙ k.group; beside = ap (λ (s : List Held). slice_get s j) helds ∙ k.beside; kept = k.kept };
+      record { found = k.found; held = k.held; group = ap (λ (s : List GroupView). slice_get s j) groups ∙ k.group; beside = ap (λ (s : List GroupNotes). slice_get s j) helds ∙ k.beside; kept = k.kept };
   apart = λ u v h k j x y. old.apart u v h k j (sym (places u h) ∙ x) (sym (places v k) ∙ y);
   counted = λ u. counts u.0 ∙ old.counted u;
   unopened = old.unopened;
@@ -54,7 +54,7 @@ none-step w groups places counts helds spares room =
       counted = λ o. counts o.0;
       unopened = λ o g le. refl;
       parents = λ t o g. sym (ap (λ (x : Option Origin). is_child_of o g (parent_by x)) (origin_of t.0 []));
-      same = ap length helds ∙ sym (ap (λ (v : GroupsIs). length v.groups) groups);
+      same = ap length helds ∙ sym (ap (λ (v : GroupsView). length v.groups) groups);
       groups_room = omega (arith, spares);
       places_room = omega (arith, spares);
       counts_room = λ some. absurd (omega (arith, some, spares));
@@ -78,13 +78,13 @@ open-step w w' log o g n old number small place groups places counts helds spare
     let e : Event = Open o g in
     let facts : (u h : ℕ) → facts_of u h (log ++ e ∷ []) ≡ facts_of u h log = λ u h. facts-quiet u h log e refl refl refl refl refl in
     let own = opened-own log o g in
-    let groups' : w'.groups.groups ≡ w.groups.groups ++ new_group o ∷ [] = ap (λ (v : GroupsIs). v.groups) groups in
-    let reserved = ap (λ (v : GroupsIs). v.reserved) groups in
+    let groups' : w'.groups.groups ≡ w.groups.groups ++ new_group o ∷ [] = ap (λ (v : GroupsView). v.groups) groups in
+    let reserved = ap (λ (v : GroupsView). v.reserved) groups in
     let yes : (u : TaskId) (h : ℕ) → (eqb o.0 u.0 && eqb g h) ≡ true → place_in w' u h ≡ Some n = λ u h y. places u h ∙ cond-true (eqb o.0 u.0 && eqb g h) (Some n) (place_in w u h) y in
     let no : (u : TaskId) (h : ℕ) → (eqb o.0 u.0 && eqb g h) ≡ false → place_in w' u h ≡ place_in w u h = λ u h y. places u h ∙ cond-false (eqb o.0 u.0 && eqb g h) (Some n) (place_in w u h) y in
     let inside : (u : TaskId) (h j : ℕ) → place_in w u h ≡ Some j → j < n = λ u h j there. let k = old.each u h j there in let r = slice_get_within w.groups.groups j k.found k.group in omega (arith, r, place) in
-    let kept : IsKept o (facts_of o.0 g (log ++ e ∷ [])) (new_group o) (record { asked = 0; ended = 0; is_closed = false; is_named = false; has_children = false }) =
-    subst (λ (f : GroupFacts). IsKept o f (new_group o) (record { asked = 0; ended = 0; is_closed = false; is_named = false; has_children = false })) (sym (facts o.0 g ∙ old.unopened o.0 g (omega (arith, number)))) (kept_new o) in
+    let kept : AreNotesOf o (facts_of o.0 g (log ++ e ∷ [])) (new_group o) (record { asked = 0; ended = 0; is_closed = false; is_named = false; has_children = false }) =
+    subst (λ (f : GroupFacts). AreNotesOf o f (new_group o) (record { asked = 0; ended = 0; is_closed = false; is_named = false; has_children = false })) (sym (facts o.0 g ∙ old.unopened o.0 g (omega (arith, number)))) (kept_new o) in
     record {
       opened = λ u h. elim (cases_Bool (eqb o.0 u.0 && eqb g h)) [
         | inl y ↦
@@ -109,8 +109,8 @@ open-step w w' log o g n old number small place groups places counts helds spare
             record {
               found = new_group o;
               held = record { asked = 0; ended = 0; is_closed = false; is_named = false; has_children = false };
-              group = ap (λ (s : List GroupIs). slice_get s j) groups' ∙ ap (λ (m : ℕ). slice_get (w.groups.groups ++ new_group o ∷ []) m) (at ∙ place) ∙ slice_get_new w.groups.groups (new_group o);
-              beside = ap (λ (s : List Held). slice_get s j) helds
+              group = ap (λ (s : List GroupView). slice_get s j) groups' ∙ ap (λ (m : ℕ). slice_get (w.groups.groups ++ new_group o ∷ []) m) (at ∙ place) ∙ slice_get_new w.groups.groups (new_group o);
+              beside = ap (λ (s : List GroupNotes). slice_get s j) helds
                   ∙ ap (λ (m : ℕ). slice_get (w.held.items ++ record { asked = 0; ended = 0; is_closed = false; is_named = false; has_children = false } ∷ []) m) (at ∙ place ∙ sym old.same)
                   ∙ slice_get_new w.held.items (record { asked = 0; ended = 0; is_closed = false; is_named = false; has_children = false });
               kept = kept_at o u g h (log ++ e ∷ []) (new_group o) (record { asked = 0; ended = 0; is_closed = false; is_named = false; has_children = false }) p.0 p.1 kept;
@@ -120,9 +120,9 @@ open-step w w' log o g n old number small place groups places counts helds spare
             record {
               found = k.found;
               held = k.held;
-              group = ap (λ (s : List GroupIs). slice_get s j) groups' ∙ slice_get_old w.groups.groups (new_group o ∷ []) j k.found k.group;
-              beside = ap (λ (s : List Held). slice_get s j) helds ∙ slice_get_old w.held.items (record { asked = 0; ended = 0; is_closed = false; is_named = false; has_children = false } ∷ []) j k.held k.beside;
-              kept = subst (λ (f : GroupFacts). IsKept u f k.found k.held) (sym (facts u.0 h)) k.kept;
+              group = ap (λ (s : List GroupView). slice_get s j) groups' ∙ slice_get_old w.groups.groups (new_group o ∷ []) j k.found k.group;
+              beside = ap (λ (s : List GroupNotes). slice_get s j) helds ∙ slice_get_old w.held.items (record { asked = 0; ended = 0; is_closed = false; is_named = false; has_children = false } ∷ []) j k.held k.beside;
+              kept = subst (λ (f : GroupFacts). AreNotesOf u f k.found k.held) (sym (facts u.0 h)) k.kept;
             }
       ];
       apart = λ u v h k j a b. elim (cases_Bool (eqb o.0 u.0 && eqb g h)) [

@@ -10,7 +10,7 @@ use Rattle.swift_types.specs.declared.id.TaskId.{TaskId}
 use Rattle.swift_types.specs.declared.outcome.Ending.{Ending}
 use Rattle.swift_types.specs.declared.priority.Priority.{Priority}
 use Rattle.swift_groups.specs.declared.fault.GroupFault.TheVariants.{Child as NoChild}
-use Rattle.swift_groups.specs.Groups.{GroupIs, GroupsIs, is_among, unfinished, unfinished_of, with_child, as_cancelled}
+use Rattle.swift_groups.specs.Groups.{GroupView, GroupsView, is_among, unfinished, unfinished_of, with_child, as_cancelled}
 use Rattle.swift_groups.specs.Next.{handed_on}
 use Rattle.swift_groups.specs.Close.{closed_on}
 use Rattle.swift_groups.specs.Answers.{if_new, open_group, live_group, group_without, groups_after}
@@ -24,10 +24,10 @@ use Rattle.swift_events.specs.Lives.{life_of}
 use Rattle.swift_events.specs.Relations.{child_in, ending_among, asks, closes, names_group, opens, parent_of, parent_by, opened_by, is_open_group, is_closed, children_of, endings_of, is_named_group, stage_of}
 use Rattle.swift_events.proofs.LogLemmas.{opened_by-push_no, unborn_without}
 use Rattle.swift_events.proofs.GroupLemmas.{has_ended-unended}
-use Rattle.swift_ledger.specs.declared.group_index.Held.{Held}
+use Rattle.swift_ledger.specs.declared.group_index.GroupNotes.{GroupNotes}
 use Rattle.swift_ledger.specs.declared.group_index.GroupIndex.{GroupIndex}
 use Rattle.swift_ledger.specs.Counts.{count_at, HasPlaces}
-use Rattle.swift_ledger.specs.GroupIndexes.{GroupFacts, no_facts, facts_of, FitsGroups, IsKept, IsKeptAt, AreGroupsOf, CanEnd, ended_with, is_child_of, place_in, same_number}
+use Rattle.swift_ledger.specs.GroupIndexes.{GroupFacts, no_facts, facts_of, FitsGroups, AreNotesOf, IsKeptAt, AreGroupsOf, CanEnd, ended_with, is_child_of, place_in, same_number}
 use Rattle.swift_ledger.proofs.GroupFacts.{parents-push, facts-quiet, facts-next, facts-close, facts-cancel, facts-child, facts-end}
 use Rattle.swift_ledger.proofs.KeptGroups.{kept_next, stage_kept, kept_child, kept_cancel, kept_close, kept_end}
 use Rattle.swift_ledger.proofs.GroupCalls.{open_at, live_open}
@@ -44,22 +44,22 @@ own_pair o g = and_from (eqb o o) (eqb g g) (eq-eqb o o refl) (eq-eqb g g refl)
 pub not_closed : (log : List Event) (o g : ℕ) → IsTrue (is_open_group o g log) → is_closed o g log ≡ false
 not_closed log o g h = not-true (is_closed o g log) (and_parts (nat_lt g (opened_by o log)) (not (is_closed o g log)) h).1
 
-pub kept_at : (o u : TaskId) (g h : ℕ) (log : List Event) (found : GroupIs) (held : Held) → o.0 ≡ u.0 → g ≡ h → IsKept o (facts_of o.0 g log) found held → IsKept u (facts_of u.0 h log) found held
+pub kept_at : (o u : TaskId) (g h : ℕ) (log : List Event) (found : GroupView) (held : GroupNotes) → o.0 ≡ u.0 → g ≡ h → AreNotesOf o (facts_of o.0 g log) found held → AreNotesOf u (facts_of u.0 h log) found held
 kept_at o u g h log found held p q k =
-    subst (λ (v : TaskId). IsKept v (facts_of v.0 h log) found held) (same_id o u p) (subst (λ (n : ℕ). IsKept o (facts_of o.0 n log) found held) q k)
+    subst (λ (v : TaskId). AreNotesOf v (facts_of v.0 h log) found held) (same_id o u p) (subst (λ (n : ℕ). AreNotesOf o (facts_of o.0 n log) found held) q k)
 
 -- what is read at a place
-pub read_held : (w : GroupIndex) (o : TaskId) (f : GroupFacts) (i : ℕ) (held : Held) (k : IsKeptAt w o f i) → held ≡ get_or w.held.items i held → held ≡ k.held
+pub read_held : (w : GroupIndex) (o : TaskId) (f : GroupFacts) (i : ℕ) (held : GroupNotes) (k : IsKeptAt w o f i) → held ≡ get_or w.held.items i held → held ≡ k.held
 read_held w o f i held k read = read ∙ get_or_from_slice_get w.held.items i k.held held k.beside
 
 -- one group has changed
-pub changed : (w w' : GroupIndex) (log : List Event) (e : Event) (o : TaskId) (g i : ℕ) (found : GroupIs) (held : Held)
+pub changed : (w w' : GroupIndex) (log : List Event) (e : Event) (o : TaskId) (g i : ℕ) (found : GroupView) (held : GroupNotes)
     → AreGroupsOf w log → FitsGroups log e → place_in w o g ≡ Some i
     → w'.places ≡ w.places → w'.counts ≡ w.counts → w'.groups.groups ≡ set w.groups.groups i found → w'.held.items ≡ set w.held.items i held
     → w'.spare ≤ w'.groups.reserved → w'.spare ≤ w.spare → vec_len w'.held + w'.spare ≤ vec_capacity w'.held
     → ((u h : ℕ) → (eqb o.0 u && eqb g h) ≡ false → facts_of u h (log ++ e ∷ []) ≡ facts_of u h log)
     → ((u : ℕ) → opened_by u (log ++ e ∷ []) ≡ opened_by u log)
-    → IsKept o (facts_of o.0 g (log ++ e ∷ [])) found held
+    → AreNotesOf o (facts_of o.0 g (log ++ e ∷ [])) found held
     → AreGroupsOf w' (log ++ e ∷ [])
 changed w w' log e o g i found held old fits here places counts groups helds room less beside others count kept =
     let at : (u : TaskId) (h : ℕ) → place_in w' u h ≡ place_in w u h = λ u h. ap (λ m. get same_number m (u, h)) places in
@@ -79,8 +79,8 @@ changed w w' log e o g i found held old fits here places counts groups helds roo
                 record {
                   found = found;
                   held = held;
-                  group = ap (λ (s : List GroupIs). slice_get s j) groups ∙ ap (λ (n : ℕ). slice_get (set w.groups.groups i found) n) (sym same) ∙ slice_get_set w.groups.groups i found within;
-                  beside = ap (λ (s : List Held). slice_get s j) helds ∙ ap (λ (n : ℕ). slice_get (set w.held.items i held) n) (sym same) ∙ slice_get_set w.held.items i held within';
+                  group = ap (λ (s : List GroupView). slice_get s j) groups ∙ ap (λ (n : ℕ). slice_get (set w.groups.groups i found) n) (sym same) ∙ slice_get_set w.groups.groups i found within;
+                  beside = ap (λ (s : List GroupNotes). slice_get s j) helds ∙ ap (λ (n : ℕ). slice_get (set w.held.items i held) n) (sym same) ∙ slice_get_set w.held.items i held within';
                   kept = kept_at o u g h (log ++ e ∷ []) found held p.0 p.1 kept;
                 }
             | inr n ↦
@@ -91,9 +91,9 @@ changed w w' log e o g i found held old fits here places counts groups helds roo
                 record {
                   found = k.found;
                   held = k.held;
-                  group = ap (λ (s : List GroupIs). slice_get s j) groups ∙ slice_get_set_other w.groups.groups i j found ne ∙ k.group;
-                  beside = ap (λ (s : List Held). slice_get s j) helds ∙ slice_get_set_other w.held.items i j held ne ∙ k.beside;
-                  kept = subst (λ (f : GroupFacts). IsKept u f k.found k.held) (sym (others u.0 h n)) k.kept;
+                  group = ap (λ (s : List GroupView). slice_get s j) groups ∙ slice_get_set_other w.groups.groups i j found ne ∙ k.group;
+                  beside = ap (λ (s : List GroupNotes). slice_get s j) helds ∙ slice_get_set_other w.held.items i j held ne ∙ k.beside;
+                  kept = subst (λ (f : GroupFacts). AreNotesOf u f k.found k.held) (sym (others u.0 h n)) k.kept;
                 }
           ];
       apart = λ u v h k j a b. old.apart u v h k j (sym (at u h) ∙ a) (sym (at v k) ∙ b);
@@ -111,7 +111,7 @@ changed w w' log e o g i found held old fits here places counts groups helds roo
     }
 
 -- a result is asked for
-pub ask-step : (w w' : GroupIndex) (log : List Event) (o : TaskId) (g i : ℕ) (held : Held) → AreGroupsOf w log → IsTrue (is_open_group o.0 g log) → place_in w o g ≡ Some i → held ≡ get_or w.held.items i held
+pub ask-step : (w w' : GroupIndex) (log : List Event) (o : TaskId) (g i : ℕ) (held : GroupNotes) → AreGroupsOf w log → IsTrue (is_open_group o.0 g log) → place_in w o g ≡ Some i → held ≡ get_or w.held.items i held
     → w'.groups ≡ record w.groups { groups = groups_after handed_on w.groups.groups (record { 0 = i }) (open_group w.groups.groups (record { 0 = i })) }
     → w'.held.items ≡ set w.held.items i (record held { asked = held.asked + 1 })
     → w'.places ≡ w.places → w'.counts ≡ w.counts → w'.spare ≡ w.spare → vec_len w'.held ≡ vec_len w.held → vec_capacity w'.held ≡ vec_capacity w.held
@@ -121,16 +121,16 @@ ask-step w w' log o g i held old opened here read groups helds places counts spa
     let free = not_closed log o.0 g opened in
     let is : held ≡ at.held = read_held w o (facts_of o.0 g log) i held at read in
     let found = open_at w.groups.groups i at.found at.group (stage_kept o (facts_of o.0 g log) at.found at.held at.kept free) in
-    let reserved = ap (λ (v : GroupsIs). v.reserved) groups in
+    let reserved = ap (λ (v : GroupsView). v.reserved) groups in
     changed w w' log (Next o g) o g i (handed_on at.found) (record at.held { asked = at.held.asked + 1 }) old opened here places counts
-    (ap (λ (v : GroupsIs). v.groups) groups ∙ ap (groups_after handed_on w.groups.groups (record { 0 = i })) found)
-    (helds ∙ ap (λ (x : Held). set w.held.items i (record x { asked = x.asked + 1 })) is)
+    (ap (λ (v : GroupsView). v.groups) groups ∙ ap (groups_after handed_on w.groups.groups (record { 0 = i })) found)
+    (helds ∙ ap (λ (x : GroupNotes). set w.held.items i (record x { asked = x.asked + 1 })) is)
     (let r = old.groups_room in omega (arith, r, reserved, spares))
     (omega (arith, spares))
     (let r = old.held_room in omega (arith, r, len, cap, spares))
     (λ u h n. facts-quiet u h log (Next o g) refl refl n refl refl)
     (λ u. opened_by-push_no u log (Next o g) refl)
-    (subst (λ (f : GroupFacts). IsKept o f (handed_on at.found) (record at.held { asked = at.held.asked + 1 })) (sym (facts-next o.0 g log o g true (own_pair o.0 g)))
+    (subst (λ (f : GroupFacts). AreNotesOf o f (handed_on at.found) (record at.held { asked = at.held.asked + 1 })) (sym (facts-next o.0 g log o g true (own_pair o.0 g)))
     (kept_next o (facts_of o.0 g log) at.found at.held at.kept free))
 
 or_true : (b : Bool) → b || true ≡ true
@@ -138,7 +138,7 @@ or_true true = refl
 or_true false = refl
 
 -- a group is closed
-pub close-step : (w w' : GroupIndex) (log : List Event) (o : TaskId) (g i : ℕ) (held : Held) → AreGroupsOf w log → IsTrue (is_open_group o.0 g log) → place_in w o g ≡ Some i → held ≡ get_or w.held.items i held
+pub close-step : (w w' : GroupIndex) (log : List Event) (o : TaskId) (g i : ℕ) (held : GroupNotes) → AreGroupsOf w log → IsTrue (is_open_group o.0 g log) → place_in w o g ≡ Some i → held ≡ get_or w.held.items i held
     → w'.groups ≡ record w.groups { groups = groups_after closed_on w.groups.groups (record { 0 = i }) (live_group w.groups.groups (record { 0 = i })) }
     → w'.held.items ≡ set w.held.items i (record held { is_closed = true })
     → w'.places ≡ w.places → w'.counts ≡ w.counts → w'.spare ≡ w.spare → vec_len w'.held ≡ vec_len w.held → vec_capacity w'.held ≡ vec_capacity w.held
@@ -148,21 +148,21 @@ close-step w w' log o g i held old opened here read groups helds places counts s
     let free = not_closed log o.0 g opened in
     let is : held ≡ at.held = read_held w o (facts_of o.0 g log) i held at read in
     let found = live_open w.groups.groups i at.found at.group (stage_kept o (facts_of o.0 g log) at.found at.held at.kept free) in
-    let reserved = ap (λ (v : GroupsIs). v.reserved) groups in
+    let reserved = ap (λ (v : GroupsView). v.reserved) groups in
     changed w w' log (Close o g) o g i (closed_on at.found) (record at.held { is_closed = true }) old opened here places counts
-    (ap (λ (v : GroupsIs). v.groups) groups ∙ ap (groups_after closed_on w.groups.groups (record { 0 = i })) found)
-    (helds ∙ ap (λ (x : Held). set w.held.items i (record x { is_closed = true })) is)
+    (ap (λ (v : GroupsView). v.groups) groups ∙ ap (groups_after closed_on w.groups.groups (record { 0 = i })) found)
+    (helds ∙ ap (λ (x : GroupNotes). set w.held.items i (record x { is_closed = true })) is)
     (let r = old.groups_room in omega (arith, r, reserved, spares))
     (omega (arith, spares))
     (let r = old.held_room in omega (arith, r, len, cap, spares))
     (λ u h n. facts-quiet u h log (Close o g) refl refl refl n refl)
     (λ u. opened_by-push_no u log (Close o g) refl)
-    (subst (λ (f : GroupFacts). IsKept o f (closed_on at.found) (record at.held { is_closed = true }))
+    (subst (λ (f : GroupFacts). AreNotesOf o f (closed_on at.found) (record at.held { is_closed = true }))
     (sym (facts-close o.0 g log o g true (own_pair o.0 g) ∙ ap (λ (b : Bool). record (facts_of o.0 g log) { closed = b }) (or_true (is_closed o.0 g log))))
     (kept_close o (facts_of o.0 g log) at.found at.held at.kept))
 
 -- a group is cancelled
-pub cancel-step : (w w' : GroupIndex) (log : List Event) (o : TaskId) (g i : ℕ) (held : Held) → AreGroupsOf w log → IsTrue (is_open_group o.0 g log) → place_in w o g ≡ Some i → held ≡ get_or w.held.items i held
+pub cancel-step : (w w' : GroupIndex) (log : List Event) (o : TaskId) (g i : ℕ) (held : GroupNotes) → AreGroupsOf w log → IsTrue (is_open_group o.0 g log) → place_in w o g ≡ Some i → held ≡ get_or w.held.items i held
     → w'.groups ≡ record w.groups { groups = groups_after as_cancelled w.groups.groups (record { 0 = i }) (live_group w.groups.groups (record { 0 = i })) }
     → w'.held.items ≡ set w.held.items i (record held { is_named = true })
     → w'.places ≡ w.places → w'.counts ≡ w.counts → w'.spare ≡ w.spare → vec_len w'.held ≡ vec_len w.held → vec_capacity w'.held ≡ vec_capacity w.held
@@ -172,16 +172,16 @@ cancel-step w w' log o g i held old opened here read groups helds places counts 
     let free = not_closed log o.0 g opened in
     let is : held ≡ at.held = read_held w o (facts_of o.0 g log) i held at read in
     let found = live_open w.groups.groups i at.found at.group (stage_kept o (facts_of o.0 g log) at.found at.held at.kept free) in
-    let reserved = ap (λ (v : GroupsIs). v.reserved) groups in
+    let reserved = ap (λ (v : GroupsView). v.reserved) groups in
     changed w w' log (CancelGroup o g) o g i (as_cancelled at.found) (record at.held { is_named = true }) old opened here places counts
-    (ap (λ (v : GroupsIs). v.groups) groups ∙ ap (groups_after as_cancelled w.groups.groups (record { 0 = i })) found)
-    (helds ∙ ap (λ (x : Held). set w.held.items i (record x { is_named = true })) is)
+    (ap (λ (v : GroupsView). v.groups) groups ∙ ap (groups_after as_cancelled w.groups.groups (record { 0 = i })) found)
+    (helds ∙ ap (λ (x : GroupNotes). set w.held.items i (record x { is_named = true })) is)
     (let r = old.groups_room in omega (arith, r, reserved, spares))
     (omega (arith, spares))
     (let r = old.held_room in omega (arith, r, len, cap, spares))
     (λ u h n. facts-quiet u h log (CancelGroup o g) refl refl refl refl n)
     (λ u. opened_by-push_no u log (CancelGroup o g) refl)
-    (subst (λ (f : GroupFacts). IsKept o f (as_cancelled at.found) (record at.held { is_named = true }))
+    (subst (λ (f : GroupFacts). AreNotesOf o f (as_cancelled at.found) (record at.held { is_named = true }))
     (sym (facts-cancel o.0 g log o g true (own_pair o.0 g) ∙ ap (λ (b : Bool). record (facts_of o.0 g log) { named = b }) (or_true (is_named_group o.0 g log))))
     (kept_cancel o (facts_of o.0 g log) at.found at.held at.kept))
 
@@ -191,12 +191,12 @@ pub not_child : (w : GroupIndex) (log : List Event) (o t : TaskId) (g i : ℕ) �
 not_child w log o t g i old opened here new =
     let at = old.each o g i here in
     let none : is_among at.found.added t ≡ false =
-    ap (λ (x : GroupIs). is_among x.added t) at.kept.group ∙ old.parents t o.0 g ∙ ap (λ (l : Life). is_child_of o.0 g (parent_by l.origin)) (unborn_without t.0 log new) in
+    ap (λ (x : GroupView). is_among x.added t) at.kept.group ∙ old.parents t o.0 g ∙ ap (λ (l : Life). is_child_of o.0 g (parent_by l.origin)) (unborn_without t.0 log new) in
     ap (if_new t) (open_at w.groups.groups i at.found at.group (stage_kept o (facts_of o.0 g log) at.found at.held at.kept (not_closed log o.0 g opened)))
     ∙ cond-false (is_among at.found.added t) (Err NoChild) (Ok at.found) none
 
 -- a child is added
-pub child-step : (w w' : GroupIndex) (log : List Event) (t o : TaskId) (g i : ℕ) (p : Priority) (held : Held) → AreGroupsOf w log → events_of t.0 log ≡ [] → IsTrue (is_open_group o.0 g log) → place_in w o g ≡ Some i
+pub child-step : (w w' : GroupIndex) (log : List Event) (t o : TaskId) (g i : ℕ) (p : Priority) (held : GroupNotes) → AreGroupsOf w log → events_of t.0 log ≡ [] → IsTrue (is_open_group o.0 g log) → place_in w o g ≡ Some i
     → held ≡ get_or w.held.items i held
     → w'.groups ≡ record { groups = groups_after (with_child t) w.groups.groups (record { 0 = i }) (group_without w.groups.groups (record { 0 = i }) t); reserved = w.groups.reserved - 1 }
     → w'.held.items ≡ set w.held.items i (record held { has_children = true })
@@ -206,16 +206,16 @@ child-step w w' log t o g i p held old new opened here read groups helds places 
     let at = old.each o g i here in
     let free = not_closed log o.0 g opened in
     let is : held ≡ at.held = read_held w o (facts_of o.0 g log) i held at read in
-    let reserved = ap (λ (v : GroupsIs). v.reserved) groups in
+    let reserved = ap (λ (v : GroupsView). v.reserved) groups in
     changed w w' log (Child t o g p) o g i (with_child t at.found) (record at.held { has_children = true }) old (new, opened) here places counts
-    (ap (λ (v : GroupsIs). v.groups) groups ∙ ap (groups_after (with_child t) w.groups.groups (record { 0 = i })) (not_child w log o t g i old opened here new))
-    (helds ∙ ap (λ (x : Held). set w.held.items i (record x { has_children = true })) is)
+    (ap (λ (v : GroupsView). v.groups) groups ∙ ap (groups_after (with_child t) w.groups.groups (record { 0 = i })) (not_child w log o t g i old opened here new))
+    (helds ∙ ap (λ (x : GroupNotes). set w.held.items i (record x { has_children = true })) is)
     (let r = old.groups_room in omega (arith, r, reserved, spares))
     (omega (arith, spares))
     (let r = old.held_room in omega (arith, r, len, cap, spares))
     (λ u h n. facts-quiet u h log (Child t o g p) (cond-false (eqb o.0 u && eqb g h) (Some t) None n) refl refl refl refl)
     (λ u. opened_by-push_no u log (Child t o g p) refl)
-    (subst (λ (f : GroupFacts). IsKept o f (with_child t at.found) (record at.held { has_children = true })) (sym (facts-child o.0 g log t o g p true new (own_pair o.0 g)))
+    (subst (λ (f : GroupFacts). AreNotesOf o f (with_child t at.found) (record at.held { has_children = true })) (sym (facts-child o.0 g log t o g p true new (own_pair o.0 g)))
     (kept_child o (facts_of o.0 g log) at.found at.held t at.kept free))
 
 pub own_among : (w : GroupIndex) (log : List Event) (t o : TaskId) (g : ℕ) → AreGroupsOf w log → parent_of t.0 log ≡ Some (o.0, g) → is_among (children_of o.0 g log) t ≡ true
@@ -227,7 +227,7 @@ child_opened w log t o g old parent = elim (cases_lt g (opened_by o.0 log)) [
   | inr ge ↦ absurd (true≢false (sym (own_among w log t o g old parent) ∙ ap (λ (f : GroupFacts). is_among f.children t) (old.unopened o.0 g ge)))
 ]
 
-pub can_end : (w : GroupIndex) (log : List Event) (t o : TaskId) (g i : ℕ) (held : Held) → AreGroupsOf w log → (life_of t.0 log).ending ≡ None → parent_of t.0 log ≡ Some (o.0, g) → place_in w o g ≡ Some i
+pub can_end : (w : GroupIndex) (log : List Event) (t o : TaskId) (g i : ℕ) (held : GroupNotes) → AreGroupsOf w log → (life_of t.0 log).ending ≡ None → parent_of t.0 log ≡ Some (o.0, g) → place_in w o g ≡ Some i
     → held ≡ get_or w.held.items i held → CanEnd w.groups.groups i held t
 can_end w log t o g i held old alive parent here read =
     let at = old.each o g i here in
@@ -235,17 +235,17 @@ can_end w log t o g i held old alive parent here read =
     record {
       found = at.found;
       at = at.group;
-      among = ap (λ (x : GroupIs). is_among (unfinished x) t) at.kept.group
+      among = ap (λ (x : GroupView). is_among (unfinished x) t) at.kept.group
           ∙ among_unfinished (children_of o.0 g log) (endings_of o.0 g log) t (has_ended-unended o.0 g log t alive)
           ∙ own_among w log t o g old parent;
-      stage = ap (λ (x : GroupIs). x.stage) at.kept.group
-          ∙ ap (λ (b : Bool). stage_of b (unfinished_of (children_of o.0 g log) (endings_of o.0 g log))) (sym (ap (λ (x : Held). x.is_closed) is ∙ at.kept.closed))
-          ∙ ap (λ (x : GroupIs). stage_of held.is_closed (unfinished x)) (sym at.kept.group);
+      stage = ap (λ (x : GroupView). x.stage) at.kept.group
+          ∙ ap (λ (b : Bool). stage_of b (unfinished_of (children_of o.0 g log) (endings_of o.0 g log))) (sym (ap (λ (x : GroupNotes). x.is_closed) is ∙ at.kept.closed))
+          ∙ ap (λ (x : GroupView). stage_of held.is_closed (unfinished x)) (sym at.kept.group);
     }
 
-pub end-step : (w w' : GroupIndex) (log : List Event) (t o : TaskId) (x : Ending) (g i : ℕ) (held : Held) → AreGroupsOf w log → (life_of t.0 log).ending ≡ None → parent_of t.0 log ≡ Some (o.0, g) → place_in w o g ≡ Some i
+pub end-step : (w w' : GroupIndex) (log : List Event) (t o : TaskId) (x : Ending) (g i : ℕ) (held : GroupNotes) → AreGroupsOf w log → (life_of t.0 log).ending ≡ None → parent_of t.0 log ≡ Some (o.0, g) → place_in w o g ≡ Some i
     → held ≡ get_or w.held.items i held
-    → ((found : GroupIs) → slice_get w.groups.groups i ≡ Some found → w'.groups ≡ record w.groups { groups = set w.groups.groups i (ended_with held t x found) })
+    → ((found : GroupView) → slice_get w.groups.groups i ≡ Some found → w'.groups ≡ record w.groups { groups = set w.groups.groups i (ended_with held t x found) })
     → w'.held.items ≡ set w.held.items i (record held { ended = held.ended + 1 })
     → w'.places ≡ w.places → w'.counts ≡ w.counts → w'.spare ≡ w.spare → vec_len w'.held ≡ vec_len w.held → vec_capacity w'.held ≡ vec_capacity w.held
     → AreGroupsOf w' (log ++ End t x ∷ [])
@@ -253,10 +253,10 @@ end-step w w' log t o x g i held old alive parent here read groups helds places 
     let at = old.each o g i here in
     let is : held ≡ at.held = read_held w o (facts_of o.0 g log) i held at read in
     let groups' = groups at.found at.group in
-    let reserved = ap (λ (v : GroupsIs). v.reserved) groups' in
-    let kept : IsKept o (facts_of o.0 g log) at.found held = subst (λ (v : Held). IsKept o (facts_of o.0 g log) at.found v) (sym is) at.kept in
+    let reserved = ap (λ (v : GroupsView). v.reserved) groups' in
+    let kept : AreNotesOf o (facts_of o.0 g log) at.found held = subst (λ (v : GroupNotes). AreNotesOf o (facts_of o.0 g log) at.found v) (sym is) at.kept in
     changed w w' log (End t x) o g i (ended_with held t x at.found) (record held { ended = held.ended + 1 }) old alive here places counts
-    (ap (λ (v : GroupsIs). v.groups) groups')
+    (ap (λ (v : GroupsView). v.groups) groups')
     helds
     (let r = old.groups_room in omega (arith, r, reserved, spares))
     (omega (arith, spares))
@@ -264,7 +264,7 @@ end-step w w' log t o x g i held old alive parent here read groups helds places 
     (λ u h n. facts-quiet u h log (End t x) refl
     (cond-false (is_among (children_of u h log) t) (Some (t, x)) None (old.parents t u h ∙ ap (is_child_of u h) parent ∙ n)) refl refl refl)
     (λ u. opened_by-push_no u log (End t x) refl)
-    (subst (λ (f : GroupFacts). IsKept o f (ended_with held t x at.found) (record held { ended = held.ended + 1 })) (sym (facts-end o.0 g log t x true (own_among w log t o g old parent)))
+    (subst (λ (f : GroupFacts). AreNotesOf o f (ended_with held t x at.found) (record held { ended = held.ended + 1 })) (sym (facts-end o.0 g log t x true (own_among w log t o g old parent)))
     (kept_end o (facts_of o.0 g log) at.found held t x kept))
 
 -- a count is no more than there are events
@@ -276,16 +276,16 @@ filter_map_few : {X Y : Type 0} (h : X → Option Y) (xs : List X) → length (f
 filter_map_few h [] = omega arith
 filter_map_few h (x ∷ xs) = cons_few (h x) (filter_map h xs) (length xs) (filter_map_few h xs)
 
-pub asked_few : (w : GroupIndex) (log : List Event) (o : TaskId) (g i : ℕ) (held : Held) → AreGroupsOf w log → place_in w o g ≡ Some i → held ≡ get_or w.held.items i held → held.asked ≤ length log
+pub asked_few : (w : GroupIndex) (log : List Event) (o : TaskId) (g i : ℕ) (held : GroupNotes) → AreGroupsOf w log → place_in w o g ≡ Some i → held ≡ get_or w.held.items i held → held.asked ≤ length log
 asked_few w log o g i held old here read =
     let at = old.each o g i here in
-    let is = ap (λ (x : Held). x.asked) (read_held w o (facts_of o.0 g log) i held at read) in let a = at.kept.asked in
+    let is = ap (λ (x : GroupNotes). x.asked) (read_held w o (facts_of o.0 g log) i held at read) in let a = at.kept.asked in
     let few = count_by-le-length (asks o.0 g) log in omega (arith, is, a, few)
 
-pub ended_few : (w : GroupIndex) (log : List Event) (o : TaskId) (g i : ℕ) (held : Held) → AreGroupsOf w log → place_in w o g ≡ Some i → held ≡ get_or w.held.items i held → held.ended ≤ length log
+pub ended_few : (w : GroupIndex) (log : List Event) (o : TaskId) (g i : ℕ) (held : GroupNotes) → AreGroupsOf w log → place_in w o g ≡ Some i → held ≡ get_or w.held.items i held → held.ended ≤ length log
 ended_few w log o g i held old here read =
     let at = old.each o g i here in
-    let is = ap (λ (x : Held). x.ended) (read_held w o (facts_of o.0 g log) i held at read) in let a = at.kept.ended in
+    let is = ap (λ (x : GroupNotes). x.ended) (read_held w o (facts_of o.0 g log) i held at read) in let a = at.kept.ended in
     let few = filter_map_few (ending_among (children_of o.0 g log)) log in omega (arith, is, a, few)
 
 -- a group without a place
@@ -298,7 +298,7 @@ pub kept-step : (w : GroupIndex) (log : List Event) (e : Event) → AreGroupsOf 
 kept-step w log e old fits facts count = record {
   opened = λ u h. old.opened u h ∙ ap (nat_lt h) (sym (count u.0));
   each = λ u h j there. let k = old.each u h j there in
-      record { found = k.found; held = k.held; group = k.group; beside = k.beside; kept = subst (λ (f : GroupFacts). IsKept u f k.found k.held) (sym (facts u.0 h)) k.kept };
+      record { found = k.found; held = k.held; group = k.group; beside = k.beside; kept = subst (λ (f : GroupFacts). AreNotesOf u f k.found k.held) (sym (facts u.0 h)) k.kept };
   apart = old.apart;
   counted = λ u. old.counted u ∙ sym (count u.0);
   unopened = λ u h le. facts u h ∙ old.unopened u h (let c = count u in omega (arith, le, c));

@@ -5,8 +5,8 @@ use Rattle.std.proofs.lemmas.Bool.{cases_lt, false≢true}
 use Rattle.swift_types.specs.Priority.{rank}
 use Rattle.swift_types.specs.declared.id.TaskId.{TaskId}
 use Rattle.swift_types.specs.declared.priority.Priority.{Priority}
-use Rattle.swift_escalation.specs.declared.waits.Event.{Event as Link}
-use Rattle.swift_escalation.specs.declared.waits.Event.TheVariants as link
+use Rattle.swift_escalation.specs.declared.waits.PriorityEvent.{PriorityEvent as Link}
+use Rattle.swift_escalation.specs.declared.waits.PriorityEvent.TheVariants as link
 use Rattle.swift_escalation.specs.Waits.{IsPriority, IsKnown}
 use Rattle.swift_events.specs.declared.event.Event.{Event}
 use Rattle.swift_events.specs.declared.event.Event.TheVariants.{Root, Free, Child, Wait}

@@ -4,8 +4,8 @@ use Rattle.std.specs.Prelude.{Option, Some, None, ◌==◌, IsSome, is_some, Con
 use Rattle.std.proofs.lemmas.Bool.{cases_Bool, eqb-true, eq-eqb, false≢true}
 use Rattle.std.proofs.lemmas.List.Elements.{Contains-append_left, Contains-append_right, Contains-push, Contains-push_cases, Contains-append_cases}
 use Rattle.swift_types.specs.declared.id.TaskId.{TaskId}
-use Rattle.swift_escalation.specs.declared.waits.Event.{Event as Link}
-use Rattle.swift_escalation.specs.declared.waits.Event.TheVariants as link
+use Rattle.swift_escalation.specs.declared.waits.PriorityEvent.{PriorityEvent as Link}
+use Rattle.swift_escalation.specs.declared.waits.PriorityEvent.TheVariants as link
 use Rattle.swift_escalation.specs.declared.waits.WaitsFault.{WaitsFault}
 use Rattle.swift_escalation.specs.declared.waits.WaitsFault.TheVariants as fault
 use Rattle.swift_escalation.specs.Waits.{IsKnown}

@@ -3,7 +3,7 @@ use Rattle.std.proofs.Common.{◌≡◌, ◌≢◌, ℕ, ◌+◌, List, [], ◌�
 use Rattle.std.specs.Prelude.{Option, Some, ◌==◌, slice_get}
 use Rattle.std.proofs.lemmas.Bool.{cases_eq, cond-true, cond-false, eq-eqb, ne_eqb}
 use Rattle.swift_types.specs.declared.id.TaskId.{TaskId}
-use Rattle.swift_ledger.specs.Lists.{AreKept, same_place, pushed}
+use Rattle.swift_ledger.specs.Lists.{AreListsKept, same_place, pushed}
 
 at_end : {X : Type 0} (xs : List X) (y : X) → slice_get (xs ++ y ∷ []) (length xs) ≡ Some y
 at_end [] y = refl
@@ -25,7 +25,7 @@ pub kept_pushed : (count count' : ℕ → ℕ) (element element' : TaskId × ℕ
     → n ≡ count task.0
     → ((t : ℕ) → count' t ≡ cond (task.0 == t) (n + 1) (count t))
     → ((q : TaskId × ℕ) → element' q ≡ cond (same_place (task, n) q) (Some x) (element q))
-    → AreKept count element lists → AreKept count' element' (pushed lists task x)
+    → AreListsKept count element lists → AreListsKept count' element' (pushed lists task x)
 kept_pushed count count' element element' lists task x n is counts elements kept =
     let long : n ≡ length (lists task.0) = is ∙ kept.lengths task.0 in
     record {
@@ -52,14 +52,14 @@ kept_pushed count count' element element' lists task x n is counts elements kept
     }
 
 -- lists that are the same at each task
-pub kept_same : (count : ℕ → ℕ) (element : TaskId × ℕ → Option TaskId) (lists lists' : ℕ → List TaskId) → ((t : ℕ) → lists t ≡ lists' t) → AreKept count element lists → AreKept count element lists'
+pub kept_same : (count : ℕ → ℕ) (element : TaskId × ℕ → Option TaskId) (lists lists' : ℕ → List TaskId) → ((t : ℕ) → lists t ≡ lists' t) → AreListsKept count element lists → AreListsKept count element lists'
 kept_same count element lists lists' same kept = record {
   lengths = λ t. kept.lengths t ∙ ap length (same t);
   elements = λ t i. kept.elements t i ∙ ap (λ l. slice_get l i) (same t.0);
 }
 
 -- maps with the same answers keep the same lists
-pub kept_again : (count count' : ℕ → ℕ) (element element' : TaskId × ℕ → Option TaskId) (lists : ℕ → List TaskId) → ((t : ℕ) → count' t ≡ count t) → ((p : TaskId × ℕ) → element' p ≡ element p) → AreKept count element lists → AreKept count' element' lists
+pub kept_again : (count count' : ℕ → ℕ) (element element' : TaskId × ℕ → Option TaskId) (lists : ℕ → List TaskId) → ((t : ℕ) → count' t ≡ count t) → ((p : TaskId × ℕ) → element' p ≡ element p) → AreListsKept count element lists → AreListsKept count' element' lists
 kept_again count count' element element' lists same_count same_element kept = record {
   lengths = λ t. same_count t ∙ kept.lengths t;
   elements = λ t i. same_element (t, i) ∙ kept.elements t i;

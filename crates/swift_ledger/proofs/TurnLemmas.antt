@@ -25,7 +25,7 @@ use Rattle.swift_ledger.specs.Indexes.{AreIndexes, HasSpare}
 use Rattle.swift_ledger.specs.LevelsInside.{KeepsLevels}
 use Rattle.swift_ledger.specs.LedgerInside.{IsLedger}
 use Rattle.swift_ledger.specs.declared.ledger.Ledger.TheInside.{Inside}
-use Rattle.swift_ledger.specs.declared.lists.Lists.{Lists}
+use Rattle.swift_ledger.specs.declared.lists.TaskLists.{TaskLists}
 use Rattle.swift_ledger.specs.declared.lives.Lives.{Lives}
 use Rattle.swift_ledger.specs.declared.levels.Levels.{Levels}
 use Rattle.swift_ledger.specs.declared.indexes.Indexes.{Indexes}
@@ -81,11 +81,11 @@ no_link _ turn = absurd (false≢true turn)
 flags_stay : (roots : ℕ) (log : List Event) (e : Event) (flags : List Bool) → IsWellFormed roots log → CanNote roots log e → is_of_turn e ≡ true → flags ≡ flags_of (tasks_of roots log) log → flags ≡ flags_of (tasks_of roots (log ++ e ∷ [])) (log ++ e ∷ [])
 flags_stay roots log e flags form can turn are = flags_same roots log e flags form can (makes_none e turn) (names_none log e turn) are
 
-own_stays : (l : Lists) (log : List Event) (e : Event) → is_of_turn e ≡ true → AreLists l (λ t. own_tasks t log) → AreLists l (λ t. own_tasks t (log ++ e ∷ []))
+own_stays : (l : TaskLists) (log : List Event) (e : Event) → is_of_turn e ≡ true → AreLists l (λ t. own_tasks t log) → AreLists l (λ t. own_tasks t (log ++ e ∷ []))
 own_stays l log e turn are =
     kept_same (λ t. count_at l.counts t) (λ p. get same_place l.tasks p) (λ t. own_tasks t log) (λ t. own_tasks t (log ++ e ∷ [])) (λ t. own_same t log e (no_own e turn)) are
 
-waiters_stay : (l : Lists) (log : List Event) (e : Event) → is_of_turn e ≡ true → AreLists l (λ t. waiters_of t log) → AreLists l (λ t. waiters_of t (log ++ e ∷ []))
+waiters_stay : (l : TaskLists) (log : List Event) (e : Event) → is_of_turn e ≡ true → AreLists l (λ t. waiters_of t log) → AreLists l (λ t. waiters_of t (log ++ e ∷ []))
 waiters_stay l log e turn are =
     kept_same (λ t. count_at l.counts t) (λ p. get same_place l.tasks p) (λ t. waiters_of t log) (λ t. waiters_of t (log ++ e ∷ [])) (λ t. waiter_same t log e (no_waiter e turn)) are
 

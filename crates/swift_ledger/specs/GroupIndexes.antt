@@ -4,7 +4,7 @@ use Rattle.std.specs.HashMap.{get, spare}
 use Rattle.swift_types.specs.declared.limits.TheConstants.{TASKS}
 use Rattle.swift_types.specs.declared.id.TaskId.{TaskId}
 use Rattle.swift_types.specs.declared.outcome.Ending.{Ending}
-use Rattle.swift_groups.specs.Groups.{GroupIs, is_among, unfinished, unfinished_of, with_ending}
+use Rattle.swift_groups.specs.Groups.{GroupView, is_among, unfinished, unfinished_of, with_ending}
 use Rattle.swift_groups.specs.Next.{handed_on}
 use Rattle.swift_groups.specs.Close.{closed_on}
 use Rattle.swift_events.specs.declared.event.Event.{Event}
@@ -13,7 +13,7 @@ use Rattle.swift_events.specs.Events.{events_of}
 use Rattle.swift_events.specs.Lives.{life_of}
 use Rattle.swift_events.specs.Relations.{opened_by, is_open_group, children_of, endings_of, asked_of, is_closed, is_named_group, stage_of, parent_of, of_parent}
 use Rattle.swift_ledger.specs.Counts.{count_at, HasPlaces}
-use Rattle.swift_ledger.specs.declared.group_index.Held.{Held}
+use Rattle.swift_ledger.specs.declared.group_index.GroupNotes.{GroupNotes}
 use Rattle.swift_ledger.specs.declared.group_index.GroupIndex.{GroupIndex}
 
 -- An event that fits the groups of a log: a task that is made has no events yet, or is a root that was not added; a group
@@ -59,7 +59,7 @@ abbrev pub no_facts : GroupFacts
 no_facts = record { children = []; endings = []; asked = 0; closed = false; named = false }
 
 -- the group of these facts, of which so many results were handed out
-abbrev pub group_with : TaskId → ℕ → GroupFacts → GroupIs
+abbrev pub group_with : TaskId → ℕ → GroupFacts → GroupView
 group_with o handed f = record { owner = o; added = f.children; ended = f.endings; handed = handed; cancelled = f.named; stage = stage_of f.closed (unfinished_of f.children f.endings) }
 
 -- whether there are any children
@@ -68,7 +68,7 @@ has_any [] = false
 has_any (t ∷ ts) = true
 
 -- What is kept of one group is what the log says of it. How many results were handed out counts only while it is open.
-pub record IsKept (o : TaskId) (f : GroupFacts) (found : GroupIs) (held : Held) : Type 0 where
+pub record AreNotesOf (o : TaskId) (f : GroupFacts) (found : GroupView) (held : GroupNotes) : Type 0 where
   pub group : found ≡ group_with o found.handed f
   pub handed : f.closed ≡ false → found.handed ≡ min f.asked (length f.endings)
   pub asked : held.asked ≡ f.asked
@@ -83,11 +83,11 @@ place_in index o g = get same_number index.places (o, g)
 
 -- a group is kept at a place
 pub record IsKeptAt (index : GroupIndex) (o : TaskId) (f : GroupFacts) (place : ℕ) : Type 0 where
-  pub found : GroupIs
-  pub held : Held
+  pub found : GroupView
+  pub held : GroupNotes
   pub group : slice_get index.groups.groups place ≡ Some found
   pub beside : slice_get index.held.items place ≡ Some held
-  pub kept : IsKept o f found held
+  pub kept : AreNotesOf o f found held
 
 -- whether a task is the child of a group, by its parent
 abbrev pub is_child_of : ℕ → ℕ → Option (ℕ × ℕ) → Bool
@@ -109,14 +109,14 @@ pub record AreGroupsOf (index : GroupIndex) (log : List Event) : Type 0 where
 
 -- A group once a child of it has ended: closed anew where it is closed, and with one more result handed out where its owner
 -- waits for one.
-abbrev pub ended_with : Held → TaskId → Ending → GroupIs → GroupIs
+abbrev pub ended_with : GroupNotes → TaskId → Ending → GroupView → GroupView
 ended_with held t ending g =
     let after = with_ending t ending g in
     if held.is_closed then closed_on after else (if nat_le held.asked held.ended then after else handed_on after)
 
 -- a group of which the task is a child that has not ended
-pub record CanEnd (groups : List GroupIs) (place : ℕ) (held : Held) (t : TaskId) : Type 0 where
-  pub found : GroupIs
+pub record CanEnd (groups : List GroupView) (place : ℕ) (held : GroupNotes) (t : TaskId) : Type 0 where
+  pub found : GroupView
   pub at : slice_get groups place ≡ Some found
   pub among : is_among (unfinished found) t ≡ true
   pub stage : found.stage ≡ stage_of held.is_closed (unfinished found)

@@ -3,22 +3,22 @@ use Rattle.std.specs.Prelude.{◌≡◌, ℕ, ◌<◌, ◌≤◌, Bool, if◌the
 use Rattle.std.specs.HashMap.{get, spare}
 use Rattle.swift_types.specs.declared.id.TaskId.{TaskId}
 use Rattle.swift_ledger.specs.Counts.{count_at, HasPlaces}
-use Rattle.swift_ledger.specs.declared.lists.Lists.{Lists}
+use Rattle.swift_ledger.specs.declared.lists.TaskLists.{TaskLists}
 
 abbrev pub same_place : TaskId × ℕ → TaskId × ℕ → Bool
 same_place x y = nat_eq x.0.0 y.0.0 && nat_eq x.1 y.1
 
 -- what is kept of each list: its length, and each element by its place
-pub record AreKept (count : ℕ → ℕ) (element : TaskId × ℕ → Option TaskId) (lists : ℕ → List TaskId) : Type 0 where
+pub record AreListsKept (count : ℕ → ℕ) (element : TaskId × ℕ → Option TaskId) (lists : ℕ → List TaskId) : Type 0 where
   pub lengths : (t : ℕ) → count t ≡ length (lists t)
   pub elements : (t : TaskId) (i : ℕ) → element (t, i) ≡ slice_get (lists t.0) i
 
 -- these are the lists
-abbrev pub AreLists : Lists → (ℕ → List TaskId) → Type 0
-AreLists l lists = AreKept (λ t. count_at l.counts t) (λ p. get same_place l.tasks p) lists
+abbrev pub AreLists : TaskLists → (ℕ → List TaskId) → Type 0
+AreLists l lists = AreListsKept (λ t. count_at l.counts t) (λ p. get same_place l.tasks p) lists
 
 -- so many more elements find memory
-abbrev pub HasSpare : Lists → ℕ → Type 0
+abbrev pub HasSpare : TaskLists → ℕ → Type 0
 HasSpare l n = (0 < n → HasPlaces l.counts) × (n ≤ spare l.tasks)
 
 -- one more element of one list

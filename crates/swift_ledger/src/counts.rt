@@ -10,17 +10,17 @@ use swift_types::limits::TASKS;
 
 /// A count for each task that a run may have, 0 until it is set.
 #[derive(Drop)]
-pub(crate) struct Counts {
+pub(crate) struct TaskCounts {
     // Empty until room is made for the first time, then so long that each number of a task is in it.
     counts: Vec<usize>,
 }
 
-impl Counts {
+impl TaskCounts {
     /// Each count is 0. Takes no memory.
-    pub(crate) fn new(alloc: Global) -> Counts
+    pub(crate) fn new(alloc: Global) -> TaskCounts
         ensures { (t : ℕ) → count_at result t ≡ 0 }
     {
-        Counts {
+        TaskCounts {
             counts: Vec::new(alloc),
         }
     }

@@ -3,7 +3,7 @@
 ghost use Rattle.std.specs.Prelude.{◌≡◌, ℕ, ◌+◌, ◌<◌, ◌≤◌, [], ◌∷◌, ◌++◌, List, OnOk, IsTrue, Some, None, length, slice_set, slice_get};
 ghost use Rattle.swift_types.specs.declared.limits.TheConstants.{TASKS};
 ghost use Rattle.swift_types.specs.declared.priority.Priority.{Priority as Level};
-ghost use Rattle.swift_groups.specs.Groups.{GroupIs};
+ghost use Rattle.swift_groups.specs.Groups.{GroupView};
 ghost use Rattle.swift_groups.specs.Next.{next_of};
 ghost use Rattle.swift_groups.specs.Close.{close_of};
 ghost use Rattle.swift_events.specs.declared.event.Event.{Event as Noted};
@@ -12,17 +12,17 @@ ghost use Rattle.swift_events.specs.Lives.{life_of};
 ghost use Rattle.swift_events.specs.Relations.{opened_by, is_open_group, is_named_group, children_of, group_of, parent_of};
 ghost use Rattle.swift_ledger.specs.GroupIndexes.{AreGroupsOf, FitsGroups, IsParentIn, CanEnd, has_any, place_in, ended_with};
 
-use crate::counts::Counts;
+use crate::counts::TaskCounts;
 use std::alloc::{AllocError, Global};
 use std::collections::HashMap;
 use swift_events::Event;
-use swift_groups::{Close, GroupId, Groups, Next};
+use swift_groups::{Close, GroupId, Groups, NextResult};
 use swift_log::EventLog;
 use swift_types::{Ending, TaskId};
 
 /// What is kept of a group beside the groups themselves.
 #[derive(Clone, Copy)]
-struct Held {
+struct GroupNotes {
     // How many results its owner has asked for.
     asked: usize,
     // How many of its children have ended.
@@ -45,9 +45,9 @@ pub struct GroupIndex {
     // The places of groups, by owner and number within the owner.
     places: HashMap<(TaskId, u32), usize>,
     // How many groups each task has opened.
-    counts: Counts,
+    counts: TaskCounts,
     // By a group's place.
-    held: Vec<Held>,
+    held: Vec<GroupNotes>,
     // How many more events find memory for sure.
     spare: usize,
 }
@@ -61,7 +61,7 @@ impl GroupIndex {
         GroupIndex {
             groups: Groups::new(alloc),
             places: HashMap::new(alloc),
-            counts: Counts::new(alloc),
+            counts: TaskCounts::new(alloc),
             held: Vec::new(alloc),
             spare: 0,
         }
@@ -149,7 +149,7 @@ impl GroupIndex {
     }
 
     /// What asking an open group for its next result would give (SE-0304).
-    pub fn next_of(&self, log: &EventLog, owner: TaskId, group: u32) -> Next
+    pub fn next_of(&self, log: &EventLog, owner: TaskId, group: u32) -> NextResult
         requires groups { AreGroupsOf self.now log.now.events }
         requires is_open { IsTrue (is_open_group owner.0 group log.now.events) }
         ensures { result ≡ next_of (group_of owner.0 group log.now.events) }
@@ -217,7 +217,7 @@ impl GroupIndex {
             unreachable!()
         };
         self.counts.set(owner, group as usize + 1);
-        self.held.push_reserved(Held {
+        self.held.push_reserved(GroupNotes {
             asked: 0,
             ended: 0,
             is_closed: false,
@@ -241,7 +241,7 @@ impl GroupIndex {
         let Ok(()) = self.groups.add(GroupId(place), task) else {
             unreachable!()
         };
-        self.held[place] = Held {
+        self.held[place] = GroupNotes {
             has_children: true,
             ..held
         };
@@ -258,7 +258,7 @@ impl GroupIndex {
         let place = self.place_of(log, owner, group);
         let held = self.held[place];
         let _ = self.groups.cancel_all(GroupId(place));
-        self.held[place] = Held {
+        self.held[place] = GroupNotes {
             is_named: true,
             ..held
         };
@@ -275,7 +275,7 @@ impl GroupIndex {
         let held = self.held[place];
         prove!(held.asked <= log.len());
         let _ = self.groups.next(GroupId(place));
-        self.held[place] = Held {
+        self.held[place] = GroupNotes {
             asked: held.asked + 1,
             ..held
         };
@@ -291,7 +291,7 @@ impl GroupIndex {
         let place = self.place_of(log, owner, group);
         let held = self.held[place];
         let _ = self.groups.close(GroupId(place));
-        self.held[place] = Held {
+        self.held[place] = GroupNotes {
             is_closed: true,
             ..held
         };
@@ -309,7 +309,7 @@ impl GroupIndex {
         let held = self.held[place];
         prove!(held.ended <= log.len());
         end_in(&mut self.groups, GroupId(place), held, task, ending);
-        self.held[place] = Held {
+        self.held[place] = GroupNotes {
             ended: held.ended + 1,
             ..held
         };
@@ -318,9 +318,9 @@ impl GroupIndex {
 
 /// Records that a child ended in a group. A closed group is closed anew, since this may have been its last child; in
 /// one that is open the result is handed out where its owner waits for one.
-fn end_in(groups: &mut Groups, id: GroupId, held: Held, task: TaskId, ending: Ending)
+fn end_in(groups: &mut Groups, id: GroupId, held: GroupNotes, task: TaskId, ending: Ending)
     requires { CanEnd groups.old.groups id.0 held task }
-    ensures { (found : GroupIs) → slice_get groups.old.groups id.0 ≡ Some found → groups.new ≡ record groups.old { groups = slice_set groups.old.groups id.0 (ended_with held task ending found) } }
+    ensures { (found : GroupView) → slice_get groups.old.groups id.0 ≡ Some found → groups.new ≡ record groups.old { groups = slice_set groups.old.groups id.0 (ended_with held task ending found) } }
 {
     let Ok(()) = groups.finished(id, task, ending) else {
         unreachable!()

@@ -15,7 +15,7 @@ ghost use Rattle.swift_ledger.specs.Indexes.{AreIndexes, HasSpare};
 use crate::flags::Flags;
 use crate::group_index::GroupIndex;
 use crate::links::{note_link, reserve_links};
-use crate::lists::Lists;
+use crate::lists::TaskLists;
 use crate::lives::Lives;
 use crate::relatives::{note_own, note_waiter};
 use std::alloc::{AllocError, Global};
@@ -32,9 +32,9 @@ pub(crate) struct Indexes {
     /// Which tasks are cancelled.
     pub(crate) flags: Flags,
     /// The tasks that each task has spawned or detached.
-    pub(crate) own: Lists,
+    pub(crate) own: TaskLists,
     /// The tasks that have waited for each task.
-    pub(crate) waiters: Lists,
+    pub(crate) waiters: TaskLists,
     /// Each task's priority.
     pub(crate) waits: Waits,
     /// The groups.
@@ -60,8 +60,8 @@ impl Indexes {
         Ok(Indexes {
             lives: Lives::new(alloc, roots)?,
             flags: Flags::new(alloc, roots)?,
-            own: Lists::new(alloc),
-            waiters: Lists::new(alloc),
+            own: TaskLists::new(alloc),
+            waiters: TaskLists::new(alloc),
             waits: Waits::new(alloc),
             groups: GroupIndex::new(alloc),
         })

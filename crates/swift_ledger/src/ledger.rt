@@ -17,14 +17,13 @@ ghost use Rattle.swift_ledger.specs.Levels.{AreLevels};
 
 use crate::indexes::Indexes;
 use crate::levels::Levels;
-use script_code::Env;
 use std::alloc::{AllocError, Global};
 use std::marker::Model;
 use swift_events::{Event, Life};
-use swift_groups::{Close, Next};
+use swift_groups::{Close, NextResult};
 use swift_log::EventLog;
 use swift_types::limits::{MADE, TASKS};
-use swift_types::{Priority, Resume, TaskId};
+use swift_types::{Env, Priority, Resume, TaskId};
 
 // For how many events room is made at once, so that a turn seldom asks each index for some.
 const EVENTS_AT_ONCE: usize = 64;
@@ -229,7 +228,7 @@ impl Ledger {
     }
 
     /// What asking an open group for its next result would give (SE-0304).
-    pub fn next_of(&self, owner: TaskId, group: u32) -> Next
+    pub fn next_of(&self, owner: TaskId, group: u32) -> NextResult
         requires { IsTrue (is_open_group owner.0 group self.now.log) }
         ensures { result ≡ next_of (group_of owner.0 group self.now.log) }
     {

@@ -1,14 +1,14 @@
 //! The log's part in priorities: the tasks that it adds, and who waits for whom.
 
 ghost use Rattle.std.specs.Prelude.{◌≡◌, ◌+◌, ◌<◌, ◌≤◌, ◌∷◌, [], ◌++◌, Some, OnOk};
-ghost use Rattle.swift_escalation.specs.Waits.{WaitsIs};
+ghost use Rattle.swift_escalation.specs.Waits.{WaitsView};
 ghost use Rattle.swift_events.specs.Relations.{link_in, links_of};
 ghost use Rattle.swift_ledger.specs.Ledgers.{CanNote};
 ghost use Rattle.swift_ledger.specs.WellFormed.{IsWellFormed};
 ghost use Rattle.swift_ledger.specs.Links.{CanLink};
 
 use std::alloc::AllocError;
-use swift_escalation::{Event as Link, Waits};
+use swift_escalation::{PriorityEvent as Link, Waits};
 use swift_events::Event;
 use swift_log::EventLog;
 

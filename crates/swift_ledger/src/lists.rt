@@ -6,27 +6,27 @@ ghost use Rattle.swift_types.specs.declared.limits.TheConstants.{TASKS};
 ghost use Rattle.swift_ledger.specs.Counts.{count_at};
 ghost use Rattle.swift_ledger.specs.Lists.{AreLists, HasSpare, pushed};
 
-use crate::counts::Counts;
+use crate::counts::TaskCounts;
 use std::alloc::{AllocError, Global};
 use std::collections::HashMap;
 use swift_types::TaskId;
 
 /// For each task a list of tasks. An element is read by the list's task and its place, in constant time.
 #[derive(Drop)]
-pub(crate) struct Lists {
+pub(crate) struct TaskLists {
     // How many tasks there are in a task's list.
-    counts: Counts,
+    counts: TaskCounts,
     // By a task and a place in its list, what is there.
     tasks: HashMap<(TaskId, usize), TaskId>,
 }
 
-impl Lists {
+impl TaskLists {
     /// Each list is empty. Takes no memory.
-    pub(crate) fn new(alloc: Global) -> Lists
+    pub(crate) fn new(alloc: Global) -> TaskLists
         ensures { AreLists result (λ _. []) }
     {
-        Lists {
-            counts: Counts::new(alloc),
+        TaskLists {
+            counts: TaskCounts::new(alloc),
             tasks: HashMap::new(alloc),
         }
     }

@@ -10,11 +10,10 @@ ghost use Rattle.swift_ledger.specs.Ledgers.{CanNote};
 ghost use Rattle.swift_ledger.specs.WellFormed.{IsWellFormed};
 ghost use Rattle.swift_ledger.specs.Lives.{AreLives, HasSpare};
 
-use script_code::Env;
 use std::alloc::{AllocError, Global};
-use swift_events::{Event, Given, Life, Stage};
+use swift_events::{Event, JobStage, LastJob, Life};
 use swift_log::EventLog;
-use swift_types::{Resume, TaskId};
+use swift_types::{Env, Resume, TaskId};
 
 /// What the log says of each task, how many of them are open, and the room that is reserved for their turns.
 #[derive(Drop)]
@@ -165,7 +164,7 @@ impl Lives {
     {
         let place = task.0 as usize;
         self.reserved = self.reserved - self.lives[place].room() + env.room;
-        self.lives[place].stage = Some(Stage::Begun(env));
+        self.lives[place].stage = Some(JobStage::Begun(env));
     }
 
     /// Follows the log by the end of a turn, whose room is free.
@@ -178,7 +177,7 @@ impl Lives {
     {
         let place = task.0 as usize;
         self.reserved -= self.lives[place].room();
-        self.lives[place].stage = Some(Stage::Applied);
+        self.lives[place].stage = Some(JobStage::Applied);
     }
 
     /// Follows the log by a job that is made.
@@ -199,7 +198,7 @@ impl Lives {
         let place = task.0 as usize;
         self.reserved -= self.lives[place].room();
         let life = &mut self.lives[place];
-        life.given = Some(Given { number, resume });
-        life.stage = Some(Stage::Given);
+        life.given = Some(LastJob { number, resume });
+        life.stage = Some(JobStage::Given);
     }
 }

@@ -8,7 +8,7 @@ ghost use Rattle.swift_ledger.specs.WellFormed.{IsWellFormed};
 ghost use Rattle.swift_ledger.specs.Lists.{AreLists, HasSpare};
 ghost use Rattle.swift_ledger.specs.Relatives.{own_pair, waiter_pair};
 
-use crate::lists::Lists;
+use crate::lists::TaskLists;
 use swift_events::Event;
 use swift_log::EventLog;
 use swift_types::TaskId;
@@ -58,7 +58,7 @@ fn waiter_pair(event: Event) -> Option<(TaskId, TaskId)>
 }
 
 /// Keeps the tasks that each task has spawned or detached, by one event.
-pub(crate) fn note_own(own: &mut Lists, roots: usize, log: &EventLog, event: Event)
+pub(crate) fn note_own(own: &mut TaskLists, roots: usize, log: &EventLog, event: Event)
     requires own { AreLists own.old (λ t. own_tasks t log.now.events) }
     requires log { IsWellFormed roots log.now.events }
     requires fits { CanNote roots log.now.events event }
@@ -73,7 +73,7 @@ pub(crate) fn note_own(own: &mut Lists, roots: usize, log: &EventLog, event: Eve
 }
 
 /// Keeps the tasks that have waited for each task, by one event.
-pub(crate) fn note_waiter(waiters: &mut Lists, roots: usize, log: &EventLog, event: Event)
+pub(crate) fn note_waiter(waiters: &mut TaskLists, roots: usize, log: &EventLog, event: Event)
     requires waiters { AreLists waiters.old (λ t. waiters_of t log.now.events) }
     requires log { IsWellFormed roots log.now.events }
     requires fits { CanNote roots log.now.events event }

@@ -8,7 +8,7 @@ use swift_types::LocalId;
 
 /// A binding, and the place of the next outer binding of the same local.
 #[derive(Clone, Copy)]
-struct Entry {
+struct BindingEntry {
     local: LocalId,
     value: i64,
     below: Option<usize>,
@@ -22,7 +22,7 @@ struct Entry {
 /// number of a local that was ever bound, plus one: locals are meant to be numbered densely from 0.
 pub struct Bindings {
     // Outermost first.
-    entries: Vec<Entry>,
+    entries: Vec<BindingEntry>,
     // By the local's number.
     newest: Vec<Option<usize>>,
 }
@@ -101,7 +101,7 @@ impl Bindings {
         reach(&mut self.newest, index)?;
         let place = self.entries.len();
         let below = self.newest[index];
-        self.entries.push(Entry {
+        self.entries.push(BindingEntry {
             local,
             value,
             below,

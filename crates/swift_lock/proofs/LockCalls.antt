@@ -5,9 +5,9 @@ use mathlib.Core.Option.{some, some-injective}
 use lib.ListN.{get_elem?}
 use Rattle.atomic_table.specs.Table.{Step, Allows, Final, Seen}
 use Rattle.atomic_table.proofs.Lists.{at_map}
-use Rattle.swift_lock.specs.declared.view.LockView.{LockView}
+use Rattle.swift_lock.specs.declared.view.LockKnown.{LockKnown}
 use Rattle.swift_lock.specs.Seat.{MayLearn, MayUnlock}
-use Rattle.swift_lock.specs.Rule.{TableOf, known_in, IsWordFor, IsHome, IsKeptBy, LockInvariant}
+use Rattle.swift_lock.specs.Rule.{TableOf, known_in, IsWordFor, IsUnlocked, IsKeptBy, LockInvariant}
 use Rattle.swift_lock.specs.StepsInside.{SeatOf, Takes, Unlocks, CarriesFor}
 use Rattle.swift_lock.proofs.LockSteps.{Rule, unlocks}
 
@@ -38,11 +38,11 @@ module _ {T I V : Type 0} (image_of : T → I) (holds : I → List V → Type 0)
   free_hand (Some x) carried is e = cc
 
   -- where the word is 0, what is kept is in the slot
-  free_home : (s : TableOf T I V) (k : LockInvariant image_of holds s) → k.number ≡ 0 → (h : Option ℕ) → k.holder ≡ h → IsHome image_of holds k.image s.homes
+  free_home : (s : TableOf T I V) (k : LockInvariant image_of holds s) → k.number ≡ 0 → (h : Option ℕ) → k.holder ≡ h → IsUnlocked image_of holds k.image s.homes
   free_home s k zero' None e = subst (λ h. IsKeptBy image_of holds h k.image s.homes) e k.home
   free_home s k zero' (Some x) e = let held : (0 < k.number) × (k.number ≤ 2) = subst (λ h. IsWordFor h k.number) e k.tells in absurd (omega arith)
 
-  pub closes : (words : List ℕ) (slots : List (Option T)) (id n : ℕ) (slot : Option T) (v : LockView I V) (fact : V → I → Type 0) → Final (Seen (LockInvariant image_of holds) id v) words slots
+  pub closes : (words : List ℕ) (slots : List (Option T)) (id n : ℕ) (slot : Option T) (v : LockKnown I V) (fact : V → I → Type 0) → Final (Seen (LockInvariant image_of holds) id v) words slots
       → get_elem? words 0 ≡ some n → get_elem? slots 0 ≡ some slot → n ≡ 0 → MayLearn holds v.known (fact v.known) → IfSome slot (λ t. fact v.known (image_of t))
   closes words slots id n slot v fact last at_word at_slot zero' may =
       let s = last.0 in
@@ -51,11 +51,11 @@ module _ {T I V : Type 0} (image_of : T → I) (holds : I → List V → Type 0)
       let home = free_home s k (one ∙ zero') k.holder refl in
       let there = last.4 0 (Some home.value) (ap (λ l. get_elem? l 0) home.home) in
       let is : Some home.value ≡ slot = some-injective (Some home.value) slot (sym there ∙ at_slot) in
-      let known : get_elem? (known_in s.views) id ≡ some v.known = at_map (λ (x : LockView I V). x.known) s.views id v last.1.1 in
+      let known : get_elem? (known_in s.views) id ≡ some v.known = at_map (λ (x : LockKnown I V). x.known) s.views id v last.1.1 in
       subst (λ x. IfSome x (λ t. fact v.known (image_of t))) is (subst (fact v.known) (sym home.named) (may k.image (known_in s.views) id k.kept known))
 
 -- a list with one entry of what is known is a list with one view
-pub one_view : {I V : Type 0} (views : List (LockView I V)) (known : V) → known_in views ≡ known ∷ [] → (v : LockView I V) × (views ≡ v ∷ [])
+pub one_view : {I V : Type 0} (views : List (LockKnown I V)) (known : V) → known_in views ≡ known ∷ [] → (v : LockKnown I V) × (views ≡ v ∷ [])
 one_view [] known e = cc
 one_view (v ∷ []) known e = (v, refl)
 one_view (v ∷ w ∷ vs) known e = cc

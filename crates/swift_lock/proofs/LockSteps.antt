@@ -8,9 +8,9 @@ use prog.Atomic.{either}
 use lib.ListN.{get_elem?}
 use Rattle.atomic_table.specs.Table.{Step, Act, keeps, takes, gives, stepped, Valid, carried_after, Allows, Splits, Joins, put_back}
 use Rattle.atomic_table.proofs.Lists.{at_set, at_snoc, at_map, at_longer, set_else, set_again, exchanged}
-use Rattle.swift_lock.specs.declared.view.LockView.{LockView}
+use Rattle.swift_lock.specs.declared.view.LockKnown.{LockKnown}
 use Rattle.swift_lock.specs.Seat.{MayLearn, MayUnlock, MaySplit, MayJoin}
-use Rattle.swift_lock.specs.Rule.{TableOf, known_in, IsWordFor, IsHolder, HolderHolds, IsHome, IsKeptBy, LockInvariant}
+use Rattle.swift_lock.specs.Rule.{TableOf, known_in, IsWordFor, IsHolder, HolderHolds, IsUnlocked, IsKeptBy, LockInvariant}
 use Rattle.swift_lock.specs.StepsInside.{free, with_known, SeatOf, given, Takes, Locks, Unlocks}
 
 -- what a step that locks makes of a word
@@ -37,27 +37,27 @@ module _ {A : Type 0} where
   none_is_some (Some x) e is = cc
 
 module _ {I V : Type 0} where
-  pub known_set : (views : List (LockView I V)) (i : ℕ) (w : LockView I V) → known_in (set views i w) ≡ set (known_in views) i w.known
+  pub known_set : (views : List (LockKnown I V)) (i : ℕ) (w : LockKnown I V) → known_in (set views i w) ≡ set (known_in views) i w.known
   known_set [] i w = refl
   known_set (v ∷ vs) zero w = refl
   known_set (v ∷ vs) (suc i) w = ap (λ l. v.known ∷ l) (known_set vs i w)
 
-  pub known_push : (views : List (LockView I V)) (w : LockView I V) → known_in (views ++ w ∷ []) ≡ known_in views ++ w.known ∷ []
+  pub known_push : (views : List (LockKnown I V)) (w : LockKnown I V) → known_in (views ++ w ∷ []) ≡ known_in views ++ w.known ∷ []
   known_push [] w = refl
   known_push (v ∷ vs) w = ap (λ l. v.known ∷ l) (known_push vs w)
 
   -- the holder still holds where a seat that held holds
-  holds_set : (h : Option ℕ) (views : List (LockView I V)) (id : ℕ) (v w : LockView I V) → get_elem? views id ≡ some v → (IsSome v.held → IsSome w.held)
+  holds_set : (h : Option ℕ) (views : List (LockKnown I V)) (id : ℕ) (v w : LockKnown I V) → get_elem? views id ≡ some v → (IsSome v.held → IsSome w.held)
       → HolderHolds h views → HolderHolds h (set views id w)
   holds_set None views id v w at more is = tt
   holds_set (Some x) views id v w at more is =
       dite (ℕ_discrete x id)
       (λ e.
       let same : is.0 ≡ v = some-injective is.0 v (sym is.1 ∙ ap (λ i. get_elem? views i) e ∙ at) in
-      (w, ap (λ i. get_elem? (set views id w) i) e ∙ set_at views id v w at, more (subst (λ (u : LockView I V). IsSome u.held) same is.2)))
+      (w, ap (λ i. get_elem? (set views id w) i) e ∙ set_at views id v w at, more (subst (λ (u : LockKnown I V). IsSome u.held) same is.2)))
       (λ ne. (is.0, set_else views id x w ne ∙ is.1, is.2))
 
-  holds_push : (h : Option ℕ) (views : List (LockView I V)) (w : LockView I V) → HolderHolds h views → HolderHolds h (views ++ w ∷ [])
+  holds_push : (h : Option ℕ) (views : List (LockKnown I V)) (w : LockKnown I V) → HolderHolds h views → HolderHolds h (views ++ w ∷ [])
   holds_push None views w is = tt
   holds_push (Some x) views w is = (is.0, at_longer views (w ∷ []) x is.0 is.1, is.2)
 
@@ -66,9 +66,9 @@ module _ {T I V : Type 0} (image_of : T → I) (holds : I → List V → Type 0)
   Rule = LockInvariant image_of holds
 
   -- a step in which one view changes
-  moved : (s : TableOf T I V) (k : Rule s) (id : ℕ) (w : LockView I V) (n : ℕ) (h : Option ℕ) (image : I) (homes : List (mathlib.Core.Option.Option (Option T)))
+  moved : (s : TableOf T I V) (k : Rule s) (id : ℕ) (w : LockKnown I V) (n : ℕ) (h : Option ℕ) (image : I) (homes : List (mathlib.Core.Option.Option (Option T)))
       → IsWordFor h n → IsKeptBy image_of holds h image homes → IsHolder h image id w.held
-      → ((seat : ℕ) (u : LockView I V) → seat ≢ id → get_elem? s.views seat ≡ some u → IsHolder h image seat u.held)
+      → ((seat : ℕ) (u : LockKnown I V) → seat ≢ id → get_elem? s.views seat ≡ some u → IsHolder h image seat u.held)
       → HolderHolds h (set s.views id w) → holds image (set (known_in s.views) id w.known)
       → Rule (record { words = set s.words 0 n; homes = homes; views = set s.views id w })
   moved s k id w n h image homes tells home mine others there kept =
@@ -80,7 +80,7 @@ module _ {T I V : Type 0} (image_of : T → I) (holds : I → List V → Type 0)
         tells = tells;
         home = home;
         held = (λ seat u e. ⊎_elim
-            (λ x. subst (λ i. IsHolder h image i u.held) (sym x.0) (subst (λ (y : LockView I V). IsHolder h image id y.held) x.1 mine))
+            (λ x. subst (λ i. IsHolder h image i u.held) (sym x.0) (subst (λ (y : LockKnown I V). IsHolder h image id y.held) x.1 mine))
             (λ x. others seat u x.0 x.1)
             (at_set s.views id seat w u e));
         holder_holds = there;
@@ -103,12 +103,12 @@ module _ {T I V : Type 0} (image_of : T → I) (holds : I → List V → Type 0)
 
   locks_at : (slots id : ℕ) (me : SeatOf T I V) (fact : V → I → Type 0) (f : ℕ → ℕ) (st : Step (Option T)) → KeepsHeld f → MayLearn holds me.0.known (fact me.0.known)
       → (s : TableOf T I V) (k : Rule s) (n : ℕ) → n ≡ k.number → get_elem? s.views id ≡ some me.0 → (h : Option ℕ) → k.holder ≡ h
-      → (w : LockView I V) × (a : Act (Option T)) × Valid s.homes me.1 a × Rule (stepped s 0 (f n) id me.1 w a) × Locks image_of fact st me n (w, carried_after me.1 a)
+      → (w : LockKnown I V) × (a : Act (Option T)) × Valid s.homes me.1 a × Rule (stepped s 0 (f n) id me.1 w a) × Locks image_of fact st me n (w, carried_after me.1 a)
   locks_at slots id me fact f st fits may s k n is at None e =
       let zero' : n ≡ 0 = is ∙ subst (λ h. IsWordFor h k.number) e k.tells in
-      let home : IsHome image_of holds k.image s.homes = subst (λ h. IsKeptBy image_of holds h k.image s.homes) e k.home in
-      let w : LockView I V = record me.0 { held = Some (image_of home.value) } in
-      let known : get_elem? (known_in s.views) id ≡ some me.0.known = at_map (λ (v : LockView I V). v.known) s.views id me.0 at in
+      let home : IsUnlocked image_of holds k.image s.homes = subst (λ h. IsKeptBy image_of holds h k.image s.homes) e k.home in
+      let w : LockKnown I V = record me.0 { held = Some (image_of home.value) } in
+      let known : get_elem? (known_in s.views) id ≡ some me.0.known = at_map (λ (v : LockKnown I V). v.known) s.views id me.0 at in
       let told : fact me.0.known (image_of home.value) = subst (fact me.0.known) (sym home.named) (may k.image (known_in s.views) id k.kept known) in (
         w,
         takes 0 (Some home.value),
@@ -123,7 +123,7 @@ module _ {T I V : Type 0} (image_of : T → I) (holds : I → List V → Type 0)
   locks_at slots id me fact f st fits may s k n is at (Some x) e =
       let in_range : IsHeldWord k.number = subst (λ h. IsWordFor h k.number) e k.tells in
       let held_word : IsHeldWord n = subst IsHeldWord (sym is) in_range in
-      let known : get_elem? (known_in s.views) id ≡ some me.0.known = at_map (λ (v : LockView I V). v.known) s.views id me.0 at in (
+      let known : get_elem? (known_in s.views) id ≡ some me.0.known = at_map (λ (v : LockKnown I V). v.known) s.views id me.0 at in (
         me.0,
         keeps,
         tt,
@@ -145,7 +145,7 @@ module _ {T I V : Type 0} (image_of : T → I) (holds : I → List V → Type 0)
       → Allows Rule slots id me 0 (λ n. 0) (Unlocks image_of then st me)
   unlocks slots id me then st taken value holding in_hand may s k len at below =
       let mine : (k.holder ≡ Some id) × (taken ≡ k.image) = subst (IsHolder k.holder k.image id) holding (k.held id me.0 at) in
-      let known : get_elem? (known_in s.views) id ≡ some me.0.known = at_map (λ (v : LockView I V). v.known) s.views id me.0 at in
+      let known : get_elem? (known_in s.views) id ≡ some me.0.known = at_map (λ (v : LockKnown I V). v.known) s.views id me.0 at in
       let m = may (known_in s.views) id (subst (λ x. holds x (known_in s.views)) (sym mine.1) k.kept) known in
       let out : s.homes ≡ none ∷ [] = subst (λ h. IsKeptBy image_of holds h k.image s.homes) mine.0 k.home in
       let homes : put_back s.homes me.1 ≡ some (Some value) ∷ [] = ap (λ c. put_back s.homes c) in_hand ∙ ap (λ l. set l 0 (some (Some value))) out in (
@@ -165,39 +165,39 @@ module _ {T I V : Type 0} (image_of : T → I) (holds : I → List V → Type 0)
       )
 
   -- only the views change
-  viewed : (s : TableOf T I V) (k : Rule s) (views : List (LockView I V)) → ((seat : ℕ) (u : LockView I V) → get_elem? views seat ≡ some u → IsHolder k.holder k.image seat u.held)
+  viewed : (s : TableOf T I V) (k : Rule s) (views : List (LockKnown I V)) → ((seat : ℕ) (u : LockKnown I V) → get_elem? views seat ≡ some u → IsHolder k.holder k.image seat u.held)
       → HolderHolds k.holder views → holds k.image (known_in views) → Rule (record { words = s.words; homes = s.homes; views = views })
   viewed s k views held there kept =
       record { image = k.image; holder = k.holder; number = k.number; word = k.word; tells = k.tells; home = k.home; held = held; holder_holds = there; kept = kept }
 
-  held_set : (h : Option ℕ) (image : I) (views : List (LockView I V)) (id : ℕ) (w : LockView I V) → IsHolder h image id w.held
-      → ((seat : ℕ) (u : LockView I V) → get_elem? views seat ≡ some u → IsHolder h image seat u.held)
-      → (seat : ℕ) (u : LockView I V) → get_elem? (set views id w) seat ≡ some u → IsHolder h image seat u.held
+  held_set : (h : Option ℕ) (image : I) (views : List (LockKnown I V)) (id : ℕ) (w : LockKnown I V) → IsHolder h image id w.held
+      → ((seat : ℕ) (u : LockKnown I V) → get_elem? views seat ≡ some u → IsHolder h image seat u.held)
+      → (seat : ℕ) (u : LockKnown I V) → get_elem? (set views id w) seat ≡ some u → IsHolder h image seat u.held
   held_set h image views id w mine old seat u e =
-      ⊎_elim (λ x. subst (λ i. IsHolder h image i u.held) (sym x.0) (subst (λ (y : LockView I V). IsHolder h image id y.held) x.1 mine)) (λ x. old seat u x.1) (at_set views id seat w u e)
+      ⊎_elim (λ x. subst (λ i. IsHolder h image i u.held) (sym x.0) (subst (λ (y : LockKnown I V). IsHolder h image id y.held) x.1 mine)) (λ x. old seat u x.1) (at_set views id seat w u e)
 
-  pub splits : (id : ℕ) (v : LockView I V) (left right : V) → MaySplit holds v.known left right → Splits Rule id v (with_known v left) (free right)
+  pub splits : (id : ℕ) (v : LockKnown I V) (left right : V) → MaySplit holds v.known left right → Splits Rule id v (with_known v left) (free right)
   splits id v left right may s k at =
-      let known : get_elem? (known_in s.views) id ≡ some v.known = at_map (λ (x : LockView I V). x.known) s.views id v at in
+      let known : get_elem? (known_in s.views) id ≡ some v.known = at_map (λ (x : LockKnown I V). x.known) s.views id v at in
       let front = set s.views id (with_known v left) in
-      let new : LockView I V = free right in
+      let new : LockKnown I V = free right in
       let is : known_in (front ++ new ∷ []) ≡ set (known_in s.views) id left ++ right ∷ [] = known_push front new ∙ ap (λ l. l ++ right ∷ []) (known_set s.views id (with_known v left)) in
       viewed s k (front ++ new ∷ [])
       (λ seat u e. ⊎_elim
       (λ x. held_set k.holder k.image s.views id (with_known v left) (k.held id v at) k.held seat u x)
-      (λ x. subst (λ (y : LockView I V). IsHolder k.holder k.image seat y.held) x tt)
+      (λ x. subst (λ (y : LockKnown I V). IsHolder k.holder k.image seat y.held) x tt)
       (at_snoc front new u seat e))
       (holds_push k.holder front new (holds_set k.holder s.views id v (with_known v left) at (λ h. h) k.holder_holds))
       (subst (holds k.image) (sym is) (may k.image (known_in s.views) id k.kept known))
 
-  pub joins : (id : ℕ) (v : LockView I V) (other : ℕ) (u : LockView I V) (both spent : V) → u.held ≡ None → MayJoin holds v.known u.known both spent
+  pub joins : (id : ℕ) (v : LockKnown I V) (other : ℕ) (u : LockKnown I V) (both spent : V) → u.held ≡ None → MayJoin holds v.known u.known both spent
       → Joins Rule id v other u (with_known v both) (free spent)
   joins id v other u both spent nothing may s k at apart at' =
-      let known : get_elem? (known_in s.views) id ≡ some v.known = at_map (λ (x : LockView I V). x.known) s.views id v at in
+      let known : get_elem? (known_in s.views) id ≡ some v.known = at_map (λ (x : LockKnown I V). x.known) s.views id v at in
       let front = set s.views id (with_known v both) in
       let known' : get_elem? (set (known_in s.views) id both) other ≡ some u.known =
-      subst (λ l. get_elem? l other ≡ some u.known) (known_set s.views id (with_known v both)) (at_map (λ (x : LockView I V). x.known) front other u at') in
-      let none' : LockView I V = free spent in
+      subst (λ l. get_elem? l other ≡ some u.known) (known_set s.views id (with_known v both)) (at_map (λ (x : LockKnown I V). x.known) front other u at') in
+      let none' : LockKnown I V = free spent in
       let is : known_in (set front other none') ≡ set (set (known_in s.views) id both) other spent = known_set front other none' ∙ ap (λ l. set l other spent) (known_set s.views id (with_known v both)) in
       viewed s k (set front other none')
       (held_set k.holder k.image front other none' tt (held_set k.holder k.image s.views id (with_known v both) (k.held id v at) k.held))

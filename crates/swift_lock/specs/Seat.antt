@@ -5,40 +5,40 @@ use lib.ListN.{get_elem?}
 use Rattle.atomic_table.specs.Seated.{TableId}
 
 -- which lock it is, and the image of what it was made with
-pub record LockIs (I : Type 0) : Type 0 where
+pub record LockView (I : Type 0) : Type 0 where
   pub id : TableId
   pub opened : I
 
 -- a seat: its lock, what it knows, and where it holds, the image of what it took
-pub record SeatIs (I V : Type 0) : Type 0 where
+pub record LockSeatView (I V : Type 0) : Type 0 where
   pub lock : TableId
   pub known : V
   pub held : Option I
 
 -- a badge: its lock, and what its seat knows; nothing where it is no seat
-pub record BadgeIs (V : Type 0) : Type 0 where
+pub record BadgeView (V : Type 0) : Type 0 where
   pub lock : TableId
   pub knows : List V
 
 module _ {I V : Type 0} where
   -- a seat of this lock
-  abbrev pub IsSeatOf : LockIs I → SeatIs I V → Type 0
+  abbrev pub IsSeatOf : LockView I → LockSeatView I V → Type 0
   IsSeatOf l s = s.lock ≡ l.id
 
   -- a new seat of this lock, which knows v
-  abbrev pub new_seat : LockIs I → V → SeatIs I V
+  abbrev pub new_seat : LockView I → V → LockSeatView I V
   new_seat l v = record { lock = l.id; known = v; held = None }
 
   -- the seat holds, and took something of this image
-  abbrev pub held_by : SeatIs I V → I → SeatIs I V
+  abbrev pub held_by : LockSeatView I V → I → LockSeatView I V
   held_by s image = record s { held = Some image }
 
   -- the seat does not hold, and knows v
-  abbrev pub free_seat : SeatIs I V → V → SeatIs I V
+  abbrev pub free_seat : LockSeatView I V → V → LockSeatView I V
   free_seat s v = record { lock = s.lock; known = v; held = None }
 
   -- the seat knows v, and holds as before
-  abbrev pub with_known : SeatIs I V → V → SeatIs I V
+  abbrev pub with_known : LockSeatView I V → V → LockSeatView I V
   with_known s v = record s { known = v }
 
 module _ {I V : Type 0} (holds : I → List V → Type 0) where

@@ -2,20 +2,20 @@
 use Rattle.std.specs.Prelude.{◌≡◌, ℕ, ◌==◌, List, [], ◌∷◌, Option, Some, None, IfSome, MatchBool}
 use Rattle.atomic_table.specs.Table.{Step, Me, rest}
 use Rattle.atomic_table.specs.Seated.{TableId}
-use Rattle.swift_lock.specs.Seat.{SeatIs}
-use Rattle.swift_lock.specs.declared.view.LockView.{LockView}
+use Rattle.swift_lock.specs.Seat.{LockSeatView}
+use Rattle.swift_lock.specs.declared.view.LockKnown.{LockKnown}
 
 module _ {I V : Type 0} where
   -- the view of a seat that does not hold
-  abbrev pub free : V → LockView I V
+  abbrev pub free : V → LockKnown I V
   free v = record { known = v; held = None }
 
-  abbrev pub with_known : LockView I V → V → LockView I V
+  abbrev pub with_known : LockKnown I V → V → LockKnown I V
   with_known v known = record v { known = known }
 
 -- A seat with what it holds: the slot, or nothing.
 abbrev pub SeatOf : Type 0 → Type 0 → Type 0 → Type 0
-SeatOf T I V = Me (Option T) (LockView I V)
+SeatOf T I V = Me (Option T) (LockKnown I V)
 
 -- what the slot has that the seat holds
 abbrev pub given : {T : Type 0} → List (ℕ × Option T) → Option T
@@ -41,9 +41,9 @@ abbrev pub CarriesFor : {T I : Type 0} → Option I → List (ℕ × Option T) �
 CarriesFor None carried = carried ≡ []
 CarriesFor (Some image) carried = carried ≡ (0, None) ∷ []
 
-abbrev pub Carries : {T I V : Type 0} → Me (Option T) (LockView I V) → Type 0
+abbrev pub Carries : {T I V : Type 0} → Me (Option T) (LockKnown I V) → Type 0
 Carries me = CarriesFor me.0.held me.1
 
 -- What clauses see of a seat of this table with this view.
-abbrev pub seat_is : {I V : Type 0} → TableId → LockView I V → SeatIs I V
+abbrev pub seat_is : {I V : Type 0} → TableId → LockKnown I V → LockSeatView I V
 seat_is table v = record { lock = table; known = v.known; held = v.held }

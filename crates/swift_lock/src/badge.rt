@@ -3,8 +3,8 @@
 ghost use Rattle.std.specs.Prelude.{◌≡◌, None, [], ◌∷◌};
 
 use crate::lock::Locked;
-use crate::seat::Seat;
-use crate::view::LockView;
+use crate::seat::LockSeat;
+use crate::view::LockKnown;
 use std::marker::Model;
 use std::mem;
 
@@ -15,15 +15,15 @@ use std::mem;
 /// for one that was taken out of its place.
 #[derive(Drop)]
 pub struct Badge<I, V> {
-    badge: atomic_table::Badge<LockView<I, V>>,
+    badge: atomic_table::Badge<LockKnown<I, V>>,
 }
 
 impl<I, V> Model for Badge<I, V> {
     ghost use Rattle.std.specs.Prelude.{◌≡◌, map, None, All};
-    ghost use Rattle.swift_lock.specs.Seat.{BadgeIs};
+    ghost use Rattle.swift_lock.specs.Seat.{BadgeView};
     ghost use Rattle.swift_lock.specs.Rule.{known_in};
 
-    ghost Value = { BadgeIs V };
+    ghost Value = { BadgeView V };
 
     ghost view = { λ b. record { lock = b.badge.table_id; knows = known_in b.badge.views } };
 
@@ -41,20 +41,20 @@ impl<I, V> Badge<I, V> {
     }
 
     /// The seat again.
-    pub fn into_seat<T: Locked<Image = I>>(self) -> Seat<T, V>
+    pub fn into_seat<T: Locked<Image = I>>(self) -> LockSeat<T, V>
         requires { (known : V) × (self.knows ≡ known ∷ []) }
         ensures lock { result.lock ≡ self.lock }
         ensures known { self.knows ≡ result.known ∷ [] }
         ensures free { result.held ≡ None }
     {
         let Badge { badge } = self;
-        Seat {
+        LockSeat {
             token: badge.into_seat(),
         }
     }
 
     /// The seat again, out of its place, where a blank badge stays.
-    pub fn take<T: Locked<Image = I>>(&mut self) -> Seat<T, V>
+    pub fn take<T: Locked<Image = I>>(&mut self) -> LockSeat<T, V>
         requires { (known : V) × (self.old.knows ≡ known ∷ []) }
         ensures blank { self.new.knows ≡ [] }
         ensures lock { result.lock ≡ self.old.lock }
@@ -65,14 +65,14 @@ impl<I, V> Badge<I, V> {
     }
 }
 
-impl<T: Locked, V> Seat<T, V> {
+impl<T: Locked, V> LockSeat<T, V> {
     /// A badge of this seat, which does not hold.
     pub fn into_badge(self) -> Badge<T::Image, V>
         requires { self.held ≡ None }
         ensures lock { result.lock ≡ self.lock }
         ensures known { result.knows ≡ self.known ∷ [] }
     {
-        let Seat { token } = self;
+        let LockSeat { token } = self;
         Badge {
             badge: token.into_badge(),
         }

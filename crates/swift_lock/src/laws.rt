@@ -7,14 +7,14 @@ ghost use Rattle.swift_lock.specs.Rule.{LockInvariant, TableOf, ViewOf, known_in
 
 use crate::lock::Locked;
 use crate::rule::{LockRule, TheRule};
-use crate::view::LockView;
+use crate::view::LockKnown;
 use atomic_table::TableRule;
 use std::snapshot::Snapshot;
 
 /// What the table of a lock keeps between any two steps is the invariant, with the rule of the lock's user.
 pub fn lock_keeps_its_rule<T: Locked, V, P: LockRule<T::Image, V>>()
     ensures { (opened : Snapshot T) (s : TableOf T T.Image V)
-        → ⟦<TheRule<T, V, P> as TableRule<Option<T>, LockView<T::Image, V>, Snapshot<T>>>⟧.holds opened s
+        → ⟦<TheRule<T, V, P> as TableRule<Option<T>, LockKnown<T::Image, V>, Snapshot<T>>>⟧.holds opened s
         → LockInvariant T.image P.holds s }
 {}
 

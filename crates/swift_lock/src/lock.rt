@@ -13,9 +13,9 @@
 ghost use Rattle.std.specs.Prelude.{◌≡◌, Some, None, [], ◌∷◌, IfSome, IfNone, IsSome, IfOk, IfErr};
 ghost use Rattle.swift_lock.specs.Seat.{IsSeatOf, MayLearn, MayUnlock, free_seat, held_by, new_seat};
 
-use crate::rule::{Lesson, LockRule, Locks, Outcome, TheRule, Unlocks};
-use crate::seat::{Seat, Token};
-use crate::view::LockView;
+use crate::rule::{Lesson, LockRule, Locks, TheRule, UnlockOutcome, Unlocks};
+use crate::seat::{LockSeat, LockToken};
+use crate::view::LockKnown;
 use atomic_table::{Refused, Table};
 use std::alloc::{AllocError, Global};
 use std::hint;
@@ -32,13 +32,13 @@ pub trait Locked: Drop {
     ghost image: { Self → Self.Image };
 }
 
-/// A lock. Any number of threads share it by reference; each locks with a `Seat` of its own. In a clause it is which lock
+/// A lock. Any number of threads share it by reference; each locks with a `LockSeat` of its own. In a clause it is which lock
 /// it is, and the image of what it was made with.
 #[derive(Drop)]
 pub struct Lock<T: Locked, V, P: LockRule<T::Image, V>> {
     pub(crate) table: Table<
         Option<T>,
-        LockView<T::Image, V>,
+        LockKnown<T::Image, V>,
         Snapshot<T>,
         TheRule<T, V, P>,
         Global,
@@ -47,9 +47,9 @@ pub struct Lock<T: Locked, V, P: LockRule<T::Image, V>> {
 
 impl<T: Locked, V, P: LockRule<T::Image, V>> Model for Lock<T, V, P> {
     ghost use Rattle.std.specs.Prelude.{◌≡◌};
-    ghost use Rattle.swift_lock.specs.Seat.{LockIs};
+    ghost use Rattle.swift_lock.specs.Seat.{LockView};
 
-    ghost Value = { LockIs T.Image };
+    ghost Value = { LockView T.Image };
 
     ghost view = { λ l. record { id = l.table.shared.table_id; opened = T.image l.table.shared.key.value } };
 
@@ -77,7 +77,7 @@ const TRIES: u32 = 10;
 impl<T: Locked, V, P: LockRule<T::Image, V>> Lock<T, V, P> {
     /// A lock that keeps this value, and its first seat, which knows what the rule says. An `Err` says that a growth was
     /// refused, and gives the value back.
-    pub fn new(alloc: Global, value: T) -> Result<(Lock<T, V, P>, Seat<T, V>), (T, AllocError)>
+    pub fn new(alloc: Global, value: T) -> Result<(Lock<T, V, P>, LockSeat<T, V>), (T, AllocError)>
         requires { P.holds (T.image value) (P.first (T.image value) ∷ []) }
         ensures opened { IfOk result (λ r. r.0.opened ≡ T.image value) }
         ensures seat { IfOk result (λ r. r.1 ≡ new_seat r.0 (P.first (T.image value))) }
@@ -89,13 +89,13 @@ impl<T: Locked, V, P: LockRule<T::Image, V>> Lock<T, V, P> {
             return Err((refused.value.unwrap(), AllocError));
         }
         match Table::new(alloc, &[FREE], slots, &opened) {
-            Ok((table, token)) => Ok((Lock { table }, Seat::first(token))),
+            Ok((table, token)) => Ok((Lock { table }, LockSeat::first(token))),
             Err(Refused { mut slots }) => Err((slots.pop().unwrap().unwrap(), AllocError)),
         }
     }
 
     // Takes what is in the slot, which the token holds.
-    fn empty(&self, token: &mut Token<T, V>) -> T
+    fn empty(&self, token: &mut LockToken<T, V>) -> T
         requires lock { token.old.table_id ≡ self.now.id }
         requires full { (value : T) × (token.old.me.1 ≡ (0, Some value) ∷ []) }
         ensures lock { (token.new.table_id ≡ token.old.table_id) × (token.new.id ≡ token.old.id) }
@@ -110,7 +110,7 @@ impl<T: Locked, V, P: LockRule<T::Image, V>> Lock<T, V, P> {
 
     /// Takes what the lock keeps, where no seat holds: one atomic step. The seat learns what the lesson says, which the
     /// rule has to give whatever other seats know.
-    pub fn try_lock<L: Lesson<T::Image, V>>(&self, seat: &mut Seat<T, V>) -> Option<T>
+    pub fn try_lock<L: Lesson<T::Image, V>>(&self, seat: &mut LockSeat<T, V>) -> Option<T>
         requires same_lock { IsSeatOf self.now seat.old }
         requires free { seat.old.held ≡ None }
         requires rule { MayLearn P.holds seat.old.known (L.fact seat.old.known) }
@@ -127,7 +127,7 @@ impl<T: Locked, V, P: LockRule<T::Image, V>> Lock<T, V, P> {
     }
 
     // The same, and says that a thread may sleep.
-    fn lock_awaited<L: Lesson<T::Image, V>>(&self, seat: &mut Seat<T, V>) -> Option<T>
+    fn lock_awaited<L: Lesson<T::Image, V>>(&self, seat: &mut LockSeat<T, V>) -> Option<T>
         requires same_lock { IsSeatOf self.now seat.old }
         requires free { seat.old.held ≡ None }
         requires rule { MayLearn P.holds seat.old.known (L.fact seat.old.known) }
@@ -157,7 +157,7 @@ impl<T: Locked, V, P: LockRule<T::Image, V>> Lock<T, V, P> {
 
     // Takes what the lock keeps, if it is found free within some looks. Another thread may be faster after each.
     #[inline(never)]
-    fn lock_awake<L: Lesson<T::Image, V>>(&self, seat: &mut Seat<T, V>) -> Option<T>
+    fn lock_awake<L: Lesson<T::Image, V>>(&self, seat: &mut LockSeat<T, V>) -> Option<T>
         requires same_lock { IsSeatOf self.now seat.old }
         requires free { seat.old.held ≡ None }
         requires rule { MayLearn P.holds seat.old.known (L.fact seat.old.known) }
@@ -176,7 +176,7 @@ impl<T: Locked, V, P: LockRule<T::Image, V>> Lock<T, V, P> {
 
     // Takes what the lock keeps, and sleeps until it can.
     #[inline(never)]
-    fn lock_asleep<L: Lesson<T::Image, V>, R: Wait>(&self, rt: &R, seat: &mut Seat<T, V>) -> T
+    fn lock_asleep<L: Lesson<T::Image, V>, R: Wait>(&self, rt: &R, seat: &mut LockSeat<T, V>) -> T
         requires same_lock { IsSeatOf self.now seat.old }
         requires free { seat.old.held ≡ None }
         requires rule { MayLearn P.holds seat.old.known (L.fact seat.old.known) }
@@ -195,7 +195,7 @@ impl<T: Locked, V, P: LockRule<T::Image, V>> Lock<T, V, P> {
 
     /// Takes what the lock keeps, and waits until it can: it looks for some microseconds, and then sleeps until a thread that
     /// unlocks wakes it. Where the lock is free, it is one atomic step. What the seat learns is as for `try_lock`.
-    pub fn lock<L: Lesson<T::Image, V>, R: Wait>(&self, rt: &R, seat: &mut Seat<T, V>) -> T
+    pub fn lock<L: Lesson<T::Image, V>, R: Wait>(&self, rt: &R, seat: &mut LockSeat<T, V>) -> T
         requires same_lock { IsSeatOf self.now seat.old }
         requires free { seat.old.held ≡ None }
         requires rule { MayLearn P.holds seat.old.known (L.fact seat.old.known) }
@@ -212,7 +212,7 @@ impl<T: Locked, V, P: LockRule<T::Image, V>> Lock<T, V, P> {
     }
 
     // Puts a value into the slot, which the token holds, and which is empty.
-    fn fill(&self, token: &mut Token<T, V>, value: T)
+    fn fill(&self, token: &mut LockToken<T, V>, value: T)
         requires lock { token.old.table_id ≡ self.now.id }
         requires empty { token.old.me.1 ≡ (0, None) ∷ [] }
         ensures lock { (token.new.table_id ≡ token.old.table_id) × (token.new.id ≡ token.old.id) }
@@ -226,7 +226,7 @@ impl<T: Locked, V, P: LockRule<T::Image, V>> Lock<T, V, P> {
 
     /// Gives a value back: one atomic step, and a call of the system where another thread may sleep. The rule has to
     /// allow this value for what the seat took, whatever other seats know, and the seat then knows what the outcome says.
-    pub fn unlock<O: Outcome<T::Image, V>>(&self, seat: &mut Seat<T, V>, value: T)
+    pub fn unlock<O: UnlockOutcome<T::Image, V>>(&self, seat: &mut LockSeat<T, V>, value: T)
         requires same_lock { IsSeatOf self.now seat.old }
         requires holds { IsSome seat.old.held }
         requires rule { IfSome seat.old.held (λ taken. MayUnlock P.holds seat.old.known taken (T.image value) (O.then seat.old.known taken (T.image value))) }
@@ -242,14 +242,14 @@ impl<T: Locked, V, P: LockRule<T::Image, V>> Lock<T, V, P> {
     }
 
     /// Gives the lock up: what it keeps, where no seat holds. What a seat still holds stays with whoever has it.
-    pub fn close<L: Lesson<T::Image, V>>(self, seat: Seat<T, V>) -> Option<T>
+    pub fn close<L: Lesson<T::Image, V>>(self, seat: LockSeat<T, V>) -> Option<T>
         requires same_lock { IsSeatOf self seat }
         requires free { seat.held ≡ None }
         requires rule { MayLearn P.holds seat.known (L.fact seat.known) }
         ensures { IfSome result (λ x. L.fact seat.known (T.image x)) }
     {
         let Lock { table } = self;
-        let Seat { token } = seat;
+        let LockSeat { token } = seat;
         let mut closed = table.close_with(token);
         let word = closed.word(WORD);
         let slot = closed.take(SLOT);

@@ -5,7 +5,7 @@ ghost use Rattle.swift_lock.specs.Rule.{LockInvariant};
 ghost use Rattle.swift_lock.specs.StepsInside as steps;
 
 use crate::lock::Locked;
-use crate::view::LockView;
+use crate::view::LockKnown;
 use atomic_table::{Join, Play, Split, TableRule};
 use std::marker::PhantomData;
 use std::snapshot::Snapshot;
@@ -26,7 +26,7 @@ pub trait Lesson<I, V> {
 
 /// What a seat knows once it has unlocked: of what it knew, the image of what it took, the image of what it gave back,
 /// and what it knows then.
-pub trait Outcome<I, V> {
+pub trait UnlockOutcome<I, V> {
     ghost then: { V → I → I → V → Type 0 };
 }
 
@@ -37,7 +37,7 @@ pub struct TheRule<T, V, P> {
 
 impl<T: Locked, V, P: LockRule<T::Image, V>> TableRule<
     Option<T>,
-    LockView<T::Image, V>,
+    LockKnown<T::Image, V>,
     Snapshot<T>,
 > for TheRule<T, V, P> {
     ghost holds = { λ opened. LockInvariant T.image P.holds };
@@ -50,7 +50,7 @@ pub struct Locks<L> {
     of: PhantomData<L>,
 }
 
-impl<T: Locked, V, L: Lesson<T::Image, V>> Play<Option<T>, LockView<T::Image, V>> for Locks<L> {
+impl<T: Locked, V, L: Lesson<T::Image, V>> Play<Option<T>, LockKnown<T::Image, V>> for Locks<L> {
     ghost then = { steps.Locks T.image L.fact };
 }
 
@@ -59,7 +59,8 @@ pub struct Unlocks<O> {
     of: PhantomData<O>,
 }
 
-impl<T: Locked, V, O: Outcome<T::Image, V>> Play<Option<T>, LockView<T::Image, V>> for Unlocks<O> {
+impl<T: Locked, V, O: UnlockOutcome<T::Image, V>> Play<Option<T>, LockKnown<T::Image, V>>
+    for Unlocks<O> {
     ghost then = { steps.Unlocks T.image O.then };
 }
 
@@ -68,13 +69,13 @@ pub struct Knows<M> {
     of: PhantomData<M>,
 }
 
-impl<I, V, M: Split<V>> Split<LockView<I, V>> for Knows<M> {
+impl<I, V, M: Split<V>> Split<LockKnown<I, V>> for Knows<M> {
     ghost left = { λ v. steps.with_known v (M.left v.known) };
 
     ghost right = { λ v. steps.free (M.right v.known) };
 }
 
-impl<I, V, M: Join<V>> Join<LockView<I, V>> for Knows<M> {
+impl<I, V, M: Join<V>> Join<LockKnown<I, V>> for Knows<M> {
     ghost both = { λ v w. steps.with_known v (M.both v.known w.known) };
 
     ghost spent = { steps.free M.spent };

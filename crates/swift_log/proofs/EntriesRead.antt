@@ -12,10 +12,10 @@ use Rattle.swift_types.specs.declared.outcome.Resume.{Resume}
 use Rattle.swift_types.specs.declared.outcome.Resume.TheVariants as resume
 use Rattle.swift_events.specs.declared.event.Event.{Event}
 use Rattle.swift_events.specs.declared.event.Event.TheVariants as event
-use Rattle.swift_log.specs.declared.entry.Outcome.{Outcome}
-use Rattle.swift_log.specs.declared.entry.Outcome.TheVariants as outcome
-use Rattle.swift_log.specs.declared.entry.Entry.{Entry}
-use Rattle.swift_log.specs.declared.entry.Entry.TheVariants as entry
+use Rattle.swift_log.specs.declared.entry.EndingKind.{EndingKind}
+use Rattle.swift_log.specs.declared.entry.EndingKind.TheVariants as outcome
+use Rattle.swift_log.specs.declared.entry.LogEntry.{LogEntry}
+use Rattle.swift_log.specs.declared.entry.LogEntry.TheVariants as entry
 use Rattle.swift_log.specs.EntriesInside.{ending_of, entry_of, event_of, fault_numbers, fault_outcome, give_entry, needed, number_at, numbers_in, numbers_of, numbers_to, outcome_of, resume_numbers, resume_of, IsWithin}
 
 -- a number that is added stands behind the others
@@ -147,7 +147,7 @@ one_number (event.Give t n r) = resume_one r
 number_kept : (ns ms : List ℤ) (k : ℕ) → k < length ns → number_at (ns ++ ms) k ≡ number_at ns k
 number_kept ns ms k below = get_or_append_left ns ms (pos 0) k below
 
-ending_kept : (ns ms : List ℤ) (o : Outcome) (k : ℕ) → numbers_to o k ≤ length ns → ending_of o (number_at (ns ++ ms) k) ≡ ending_of o (number_at ns k)
+ending_kept : (ns ms : List ℤ) (o : EndingKind) (k : ℕ) → numbers_to o k ≤ length ns → ending_of o (number_at (ns ++ ms) k) ≡ ending_of o (number_at ns k)
 ending_kept ns ms outcome.Value k within = ap (λ n. ending.Value n) (number_kept ns ms k (omega (arith, within)))
 ending_kept ns ms outcome.Thrown k within = ap (λ n. ending.Fault (fault.Thrown n)) (number_kept ns ms k (omega (arith, within)))
 ending_kept ns ms outcome.Cancelled k within = refl
@@ -160,7 +160,7 @@ ending_kept ns ms outcome.Tasks k within = refl
 ending_kept ns ms outcome.Empty k within = refl
 ending_kept ns ms outcome.Isolation k within = refl
 
-entry_kept : (ns ms : List ℤ) (x : Entry) → IsWithin (length ns) x → event_of (ns ++ ms) x ≡ event_of ns x
+entry_kept : (ns ms : List ℤ) (x : LogEntry) → IsWithin (length ns) x → event_of (ns ++ ms) x ≡ event_of ns x
 entry_kept ns ms (entry.Root p t) within = refl
 entry_kept ns ms (entry.Begin p cancelled t n room) within = refl
 entry_kept ns ms (entry.Apply t n) within = refl
@@ -178,7 +178,7 @@ entry_kept ns ms (entry.GiveGo t n) within = refl
 entry_kept ns ms (entry.End o t k) within = ap (λ e. event.End t e) (ending_kept ns ms o k within)
 entry_kept ns ms (entry.GiveAfter o t n k) within = ap (λ e. event.Give t n (resume_of e)) (ending_kept ns ms o k within)
 
-pub entries_kept : (ns ms : List ℤ) (xs : List Entry) → All (IsWithin (length ns)) xs → map (event_of (ns ++ ms)) xs ≡ map (event_of ns) xs
+pub entries_kept : (ns ms : List ℤ) (xs : List LogEntry) → All (IsWithin (length ns)) xs → map (event_of (ns ++ ms)) xs ≡ map (event_of ns) xs
 entries_kept ns ms [] within = refl
 entries_kept ns ms (x ∷ xs) within =
     ap (λ e. e ∷ map (event_of (ns ++ ms)) xs) (entry_kept ns ms x (All-head (IsWithin (length ns)) x xs within))

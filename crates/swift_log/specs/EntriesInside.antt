@@ -9,13 +9,13 @@ use Rattle.swift_types.specs.declared.outcome.Resume.{Resume}
 use Rattle.swift_types.specs.declared.outcome.Resume.TheVariants as resume
 use Rattle.swift_events.specs.declared.event.Event.{Event}
 use Rattle.swift_events.specs.declared.event.Event.TheVariants as event
-use Rattle.swift_log.specs.declared.entry.Outcome.{Outcome}
-use Rattle.swift_log.specs.declared.entry.Outcome.TheVariants as outcome
-use Rattle.swift_log.specs.declared.entry.Entry.{Entry}
-use Rattle.swift_log.specs.declared.entry.Entry.TheVariants as entry
+use Rattle.swift_log.specs.declared.entry.EndingKind.{EndingKind}
+use Rattle.swift_log.specs.declared.entry.EndingKind.TheVariants as outcome
+use Rattle.swift_log.specs.declared.entry.LogEntry.{LogEntry}
+use Rattle.swift_log.specs.declared.entry.LogEntry.TheVariants as entry
 
 -- a fault without its number
-abbrev pub fault_outcome : Fault → Outcome
+abbrev pub fault_outcome : Fault → EndingKind
 fault_outcome (fault.Thrown n) = outcome.Thrown
 fault_outcome fault.Cancelled = outcome.Cancelled
 fault_outcome fault.Invariant = outcome.Invariant
@@ -28,12 +28,12 @@ fault_outcome fault.Empty = outcome.Empty
 fault_outcome fault.Isolation = outcome.Isolation
 
 -- an ending without its number
-abbrev pub outcome_of : Ending → Outcome
+abbrev pub outcome_of : Ending → EndingKind
 outcome_of (ending.Value n) = outcome.Value
 outcome_of (ending.Fault f) = fault_outcome f
 
 -- the ending, with this number where it has one
-abbrev pub ending_of : Outcome → ℤ → Ending
+abbrev pub ending_of : EndingKind → ℤ → Ending
 ending_of outcome.Value n = ending.Value n
 ending_of outcome.Thrown n = ending.Fault (fault.Thrown n)
 ending_of outcome.Cancelled n = ending.Fault fault.Cancelled
@@ -75,14 +75,14 @@ abbrev pub number_at : List ℤ → ℕ → ℤ
 number_at ns place = slice_index_or ns place (pos 0)
 
 -- the entry of a job that is made
-abbrev pub give_entry : Resume → TaskId → ℕ → ℕ → Entry
+abbrev pub give_entry : Resume → TaskId → ℕ → ℕ → LogEntry
 give_entry resume.Start t n place = entry.GiveStart t n
 give_entry resume.Go t n place = entry.GiveGo t n
 give_entry (resume.Value v) t n place = entry.GiveAfter outcome.Value t n place
 give_entry (resume.Fault f) t n place = entry.GiveAfter (fault_outcome f) t n place
 
 -- the entry of an event, whose number, if it has one, stands at this place
-abbrev pub entry_of : Event → ℕ → Entry
+abbrev pub entry_of : Event → ℕ → LogEntry
 entry_of (event.Root t p) place = entry.Root p t
 entry_of (event.Begin t n env) place = entry.Begin env.priority env.cancelled t n env.room
 entry_of (event.Apply t n) place = entry.Apply t n
@@ -99,7 +99,7 @@ entry_of (event.End t e) place = entry.End (outcome_of e) t place
 entry_of (event.Give t n r) place = give_entry r t n place
 
 -- the event of an entry, by the numbers beside it
-abbrev pub event_of : List ℤ → Entry → Event
+abbrev pub event_of : List ℤ → LogEntry → Event
 event_of ns (entry.Root p t) = event.Root t p
 event_of ns (entry.Begin p cancelled t n room) = event.Begin t n (record { priority = p; cancelled = cancelled; room = room })
 event_of ns (entry.Apply t n) = event.Apply t n
@@ -118,17 +118,17 @@ event_of ns (entry.GiveGo t n) = event.Give t n resume.Go
 event_of ns (entry.GiveAfter o t n place) = event.Give t n (resume_of (ending_of o (number_at ns place)))
 
 -- how many numbers there are up to that of an ending, which stands at this place; none where it has none
-abbrev pub numbers_to : Outcome → ℕ → ℕ
+abbrev pub numbers_to : EndingKind → ℕ → ℕ
 numbers_to outcome.Value place = place + 1
 numbers_to outcome.Thrown place = place + 1
 numbers_to _ place = 0
 
 -- how many numbers an entry needs beside it
-abbrev pub needed : Entry → ℕ
+abbrev pub needed : LogEntry → ℕ
 needed (entry.End o t place) = numbers_to o place
 needed (entry.GiveAfter o t n place) = numbers_to o place
 needed _ = 0
 
 -- there are as many
-abbrev pub IsWithin : ℕ → Entry → Type 0
+abbrev pub IsWithin : ℕ → LogEntry → Type 0
 IsWithin n x = needed x ≤ n

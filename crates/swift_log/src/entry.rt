@@ -4,13 +4,12 @@ ghost use Rattle.std.specs.Prelude.{◌≡◌};
 ghost use Rattle.std.specs.Option.{option_to_list};
 ghost use Rattle.swift_log.specs.EntriesInside.{ending_of, entry_of, event_of, number_at, numbers_in, numbers_of, outcome_of, resume_of};
 
-use script_code::Env;
 use swift_events::Event;
-use swift_types::{Ending, Fault, Priority, Resume, TaskId};
+use swift_types::{Ending, Env, Fault, Priority, Resume, TaskId};
 
 /// How a task ended, without the number that it may have ended with.
 #[derive(Clone, Copy)]
-pub(crate) enum Outcome {
+pub(crate) enum EndingKind {
     /// With a value.
     Value,
     /// By a `throw`, which has a value.
@@ -30,7 +29,7 @@ pub(crate) enum Outcome {
 /// An event as it is stored: in 16 bytes, since small fields come first, next to the tag. A number of 64 bits stands in a list
 /// beside the entries, and the last field of `End` and `GiveAfter` is its place there.
 #[derive(Clone, Copy)]
-pub(crate) enum Entry {
+pub(crate) enum LogEntry {
     Root(Priority, TaskId),
     Begin(Priority, bool, TaskId, u32, u32),
     Apply(TaskId, u32),
@@ -43,34 +42,34 @@ pub(crate) enum Entry {
     Wait(TaskId, TaskId),
     Next(TaskId, u32),
     Close(TaskId, u32),
-    End(Outcome, TaskId, u32),
+    End(EndingKind, TaskId, u32),
     /// A job that begins a task.
     GiveStart(TaskId, u32),
     /// A job that goes on without an answer.
     GiveGo(TaskId, u32),
     /// A job that goes on after something has ended so.
-    GiveAfter(Outcome, TaskId, u32, u32),
+    GiveAfter(EndingKind, TaskId, u32, u32),
 }
 
-const _: () = prove!(size_of::<Entry>() == 16);
+const _: () = prove!(size_of::<LogEntry>() == 16);
 
-impl Outcome {
+impl EndingKind {
     /// How a task ended.
-    pub(crate) fn of(ending: Ending) -> Outcome
+    pub(crate) fn of(ending: Ending) -> EndingKind
         ensures { result ≡ outcome_of ending }
     {
         match ending {
-            Ending::Value(_) => Outcome::Value,
-            Ending::Fault(Fault::Thrown(_)) => Outcome::Thrown,
-            Ending::Fault(Fault::Cancelled) => Outcome::Cancelled,
-            Ending::Fault(Fault::Invariant) => Outcome::Invariant,
-            Ending::Fault(Fault::Overflow) => Outcome::Overflow,
-            Ending::Fault(Fault::Steps) => Outcome::Steps,
-            Ending::Fault(Fault::Turns) => Outcome::Turns,
-            Ending::Fault(Fault::Depth) => Outcome::Depth,
-            Ending::Fault(Fault::Tasks) => Outcome::Tasks,
-            Ending::Fault(Fault::Empty) => Outcome::Empty,
-            Ending::Fault(Fault::Isolation) => Outcome::Isolation,
+            Ending::Value(_) => EndingKind::Value,
+            Ending::Fault(Fault::Thrown(_)) => EndingKind::Thrown,
+            Ending::Fault(Fault::Cancelled) => EndingKind::Cancelled,
+            Ending::Fault(Fault::Invariant) => EndingKind::Invariant,
+            Ending::Fault(Fault::Overflow) => EndingKind::Overflow,
+            Ending::Fault(Fault::Steps) => EndingKind::Steps,
+            Ending::Fault(Fault::Turns) => EndingKind::Turns,
+            Ending::Fault(Fault::Depth) => EndingKind::Depth,
+            Ending::Fault(Fault::Tasks) => EndingKind::Tasks,
+            Ending::Fault(Fault::Empty) => EndingKind::Empty,
+            Ending::Fault(Fault::Isolation) => EndingKind::Isolation,
         }
     }
 
@@ -79,17 +78,17 @@ impl Outcome {
         ensures { result ≡ ending_of self number }
     {
         match self {
-            Outcome::Value => Ending::Value(number),
-            Outcome::Thrown => Ending::Fault(Fault::Thrown(number)),
-            Outcome::Cancelled => Ending::Fault(Fault::Cancelled),
-            Outcome::Invariant => Ending::Fault(Fault::Invariant),
-            Outcome::Overflow => Ending::Fault(Fault::Overflow),
-            Outcome::Steps => Ending::Fault(Fault::Steps),
-            Outcome::Turns => Ending::Fault(Fault::Turns),
-            Outcome::Depth => Ending::Fault(Fault::Depth),
-            Outcome::Tasks => Ending::Fault(Fault::Tasks),
-            Outcome::Empty => Ending::Fault(Fault::Empty),
-            Outcome::Isolation => Ending::Fault(Fault::Isolation),
+            EndingKind::Value => Ending::Value(number),
+            EndingKind::Thrown => Ending::Fault(Fault::Thrown(number)),
+            EndingKind::Cancelled => Ending::Fault(Fault::Cancelled),
+            EndingKind::Invariant => Ending::Fault(Fault::Invariant),
+            EndingKind::Overflow => Ending::Fault(Fault::Overflow),
+            EndingKind::Steps => Ending::Fault(Fault::Steps),
+            EndingKind::Turns => Ending::Fault(Fault::Turns),
+            EndingKind::Depth => Ending::Fault(Fault::Depth),
+            EndingKind::Tasks => Ending::Fault(Fault::Tasks),
+            EndingKind::Empty => Ending::Fault(Fault::Empty),
+            EndingKind::Isolation => Ending::Fault(Fault::Isolation),
         }
     }
 }
@@ -139,37 +138,39 @@ pub(crate) fn number_of(event: Event) -> Option<i64>
     }
 }
 
-impl Entry {
+impl LogEntry {
     /// The entry of an event, whose number, if it has one, will stand at this place.
     #[inline(always)]
-    pub(crate) fn of(event: Event, place: u32) -> Entry
+    pub(crate) fn of(event: Event, place: u32) -> LogEntry
         ensures { result ≡ entry_of event place }
     {
         match event {
-            Event::Root(task, priority) => Entry::Root(priority, task),
+            Event::Root(task, priority) => LogEntry::Root(priority, task),
             Event::Begin(task, number, env) => {
-                Entry::Begin(env.priority, env.cancelled, task, number, env.room)
+                LogEntry::Begin(env.priority, env.cancelled, task, number, env.room)
             }
-            Event::Apply(task, number) => Entry::Apply(task, number),
-            Event::Free(task, by, priority, detached) => Entry::Free(priority, detached, task, by),
-            Event::Open(owner, group) => Entry::Open(owner, group),
+            Event::Apply(task, number) => LogEntry::Apply(task, number),
+            Event::Free(task, by, priority, detached) => LogEntry::Free(
+                priority, detached, task, by,
+            ),
+            Event::Open(owner, group) => LogEntry::Open(owner, group),
             Event::Child(task, owner, group, priority) => {
-                Entry::Child(priority, task, owner, group)
+                LogEntry::Child(priority, task, owner, group)
             }
-            Event::Skip(owner, group) => Entry::Skip(owner, group),
-            Event::CancelTask(task) => Entry::CancelTask(task),
-            Event::CancelGroup(owner, group) => Entry::CancelGroup(owner, group),
-            Event::Wait(task, awaited) => Entry::Wait(task, awaited),
-            Event::Next(owner, group) => Entry::Next(owner, group),
-            Event::Close(owner, group) => Entry::Close(owner, group),
-            Event::End(task, ending) => Entry::End(Outcome::of(ending), task, place),
-            Event::Give(task, number, Resume::Start) => Entry::GiveStart(task, number),
-            Event::Give(task, number, Resume::Go) => Entry::GiveGo(task, number),
+            Event::Skip(owner, group) => LogEntry::Skip(owner, group),
+            Event::CancelTask(task) => LogEntry::CancelTask(task),
+            Event::CancelGroup(owner, group) => LogEntry::CancelGroup(owner, group),
+            Event::Wait(task, awaited) => LogEntry::Wait(task, awaited),
+            Event::Next(owner, group) => LogEntry::Next(owner, group),
+            Event::Close(owner, group) => LogEntry::Close(owner, group),
+            Event::End(task, ending) => LogEntry::End(EndingKind::of(ending), task, place),
+            Event::Give(task, number, Resume::Start) => LogEntry::GiveStart(task, number),
+            Event::Give(task, number, Resume::Go) => LogEntry::GiveGo(task, number),
             Event::Give(task, number, Resume::Value(_)) => {
-                Entry::GiveAfter(Outcome::Value, task, number, place)
+                LogEntry::GiveAfter(EndingKind::Value, task, number, place)
             }
             Event::Give(task, number, Resume::Fault(fault)) => {
-                Entry::GiveAfter(Outcome::of(Ending::Fault(fault)), task, number, place)
+                LogEntry::GiveAfter(EndingKind::of(Ending::Fault(fault)), task, number, place)
             }
         }
     }
@@ -179,8 +180,8 @@ impl Entry {
         ensures { result ≡ event_of numbers.now self }
     {
         match self {
-            Entry::Root(priority, task) => Event::Root(task, priority),
-            Entry::Begin(priority, cancelled, task, number, room) => {
+            LogEntry::Root(priority, task) => Event::Root(task, priority),
+            LogEntry::Begin(priority, cancelled, task, number, room) => {
                 let env = Env {
                     priority,
                     cancelled,
@@ -188,24 +189,26 @@ impl Entry {
                 };
                 Event::Begin(task, number, env)
             }
-            Entry::Apply(task, number) => Event::Apply(task, number),
-            Entry::Free(priority, detached, task, by) => Event::Free(task, by, priority, detached),
-            Entry::Open(owner, group) => Event::Open(owner, group),
-            Entry::Child(priority, task, owner, group) => {
+            LogEntry::Apply(task, number) => Event::Apply(task, number),
+            LogEntry::Free(priority, detached, task, by) => Event::Free(
+                task, by, priority, detached,
+            ),
+            LogEntry::Open(owner, group) => Event::Open(owner, group),
+            LogEntry::Child(priority, task, owner, group) => {
                 Event::Child(task, owner, group, priority)
             }
-            Entry::Skip(owner, group) => Event::Skip(owner, group),
-            Entry::CancelTask(task) => Event::CancelTask(task),
-            Entry::CancelGroup(owner, group) => Event::CancelGroup(owner, group),
-            Entry::Wait(task, awaited) => Event::Wait(task, awaited),
-            Entry::Next(owner, group) => Event::Next(owner, group),
-            Entry::Close(owner, group) => Event::Close(owner, group),
-            Entry::End(outcome, task, place) => {
+            LogEntry::Skip(owner, group) => Event::Skip(owner, group),
+            LogEntry::CancelTask(task) => Event::CancelTask(task),
+            LogEntry::CancelGroup(owner, group) => Event::CancelGroup(owner, group),
+            LogEntry::Wait(task, awaited) => Event::Wait(task, awaited),
+            LogEntry::Next(owner, group) => Event::Next(owner, group),
+            LogEntry::Close(owner, group) => Event::Close(owner, group),
+            LogEntry::End(outcome, task, place) => {
                 Event::End(task, outcome.ending(number_at(numbers, place)))
             }
-            Entry::GiveStart(task, number) => Event::Give(task, number, Resume::Start),
-            Entry::GiveGo(task, number) => Event::Give(task, number, Resume::Go),
-            Entry::GiveAfter(outcome, task, number, place) => {
+            LogEntry::GiveStart(task, number) => Event::Give(task, number, Resume::Start),
+            LogEntry::GiveGo(task, number) => Event::Give(task, number, Resume::Go),
+            LogEntry::GiveAfter(outcome, task, number, place) => {
                 let ending = outcome.ending(number_at(numbers, place));
                 Event::Give(task, number, resume_of(ending))
             }

@@ -4,7 +4,7 @@ ghost use Rattle.std.specs.Prelude.{◌≡◌, ◌+◌, ◌<◌, ◌^◌, [], �
 ghost use Rattle.swift_events.specs.declared.event.Event.{Event};
 ghost use Rattle.swift_log.specs.EntriesInside.{numbers_of};
 
-use crate::entry::{Entry, number_of};
+use crate::entry::{LogEntry, number_of};
 use std::alloc::{AllocError, Global};
 use std::marker::Model;
 use swift_events::Event;
@@ -13,7 +13,7 @@ use swift_events::Event;
 /// that has ended, or of what it threw. In a clause it is the list of the events, and how many more are sure to find memory.
 #[derive(Drop)]
 pub struct EventLog {
-    entries: Vec<Entry>,
+    entries: Vec<LogEntry>,
     // The numbers that events say, in order.
     numbers: Vec<i64>,
     // How many more events find memory for sure.
@@ -122,7 +122,7 @@ impl EventLog {
         ensures room { self.new.room + 1 ≡ self.old.room }
     {
         let place = self.numbers.len() as u32;
-        self.entries.push_reserved(Entry::of(event, place));
+        self.entries.push_reserved(LogEntry::of(event, place));
         push_number(&mut self.numbers, event);
         self.room -= 1;
     }

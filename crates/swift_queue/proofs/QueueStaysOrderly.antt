@@ -9,7 +9,7 @@ use Rattle.swift_types.specs.declared.id.TaskId.{TaskId}
 use Rattle.swift_types.specs.declared.priority.Priority.{Priority}
 use Rattle.swift_types.specs.Priority.{rank}
 use Rattle.swift_queue.specs.Picks.{raised}
-use Rattle.swift_queue.specs.Queue.{IsOrderly, IsRestorable, IsWithout, QueueIs}
+use Rattle.swift_queue.specs.Queue.{IsOrderly, IsRestorable, IsWithout, QueueView}
 use Rattle.swift_queue.specs.declared.waiting.Waiting.{Waiting}
 use Rattle.swift_queue.proofs.PairsInAnyOrder.{pairs_added, pairs_first, pairs_permuted, pairs_rest}
 
@@ -30,7 +30,7 @@ module _ {B : Type 0} where
   }
 
   -- one is added
-  pub orderly_add : (q : QueueIs B) (x : Waiting B) (new : List (Waiting B)) (arrived : ℕ) → IsOrderly q → IsPermutation (x ∷ q.jobs) new → length q.jobs < q.room → q.arrived ≤ arrived → x.arrival < arrived → All (λ y. y.arrival ≢ x.arrival) q.jobs → IsWithout q.jobs x.job.task
+  pub orderly_add : (q : QueueView B) (x : Waiting B) (new : List (Waiting B)) (arrived : ℕ) → IsOrderly q → IsPermutation (x ∷ q.jobs) new → length q.jobs < q.room → q.arrived ≤ arrived → x.arrival < arrived → All (λ y. y.arrival ≢ x.arrival) q.jobs → IsWithout q.jobs x.job.task
       → IsOrderly (record { jobs = new; room = q.room; arrived = arrived })
   orderly_add q x new arrived h p room up below apart without =
       let len = length_permutation (x ∷ q.jobs) new p in
@@ -42,7 +42,7 @@ module _ {B : Type 0} where
       }
 
   -- one is taken
-  pub orderly_take : (q : QueueIs B) (x : Waiting B) (new : List (Waiting B)) → IsOrderly q → IsPermutation q.jobs (x ∷ new) → IsOrderly (record { jobs = new; room = q.room; arrived = q.arrived })
+  pub orderly_take : (q : QueueView B) (x : Waiting B) (new : List (Waiting B)) → IsOrderly q → IsPermutation q.jobs (x ∷ new) → IsOrderly (record { jobs = new; room = q.room; arrived = q.arrived })
   orderly_take q x new h p =
       let len = length_permutation q.jobs (x ∷ new) p in
       let few = h.few in
@@ -55,7 +55,7 @@ module _ {B : Type 0} where
       }
 
   -- and may then be added again
-  pub restorable : (q : QueueIs B) (x : Waiting B) (new : List (Waiting B)) → IsOrderly q → IsPermutation q.jobs (x ∷ new) → IsRestorable (record { jobs = new; room = q.room; arrived = q.arrived }) x.job.task x.arrival
+  pub restorable : (q : QueueView B) (x : Waiting B) (new : List (Waiting B)) → IsOrderly q → IsPermutation q.jobs (x ∷ new) → IsRestorable (record { jobs = new; room = q.room; arrived = q.arrived }) x.job.task x.arrival
   restorable q x new h p =
       let len = length_permutation q.jobs (x ∷ new) p in
       let few = h.few in
@@ -92,7 +92,7 @@ module _ {B : Type 0} where
       subst (λ (m : ℕ). R m (n (get_or (map (raised task p) jobs) j d))) (sym x) (subst (λ (m : ℕ). R (n (get_or jobs i d)) m) (sym y) (h i j d lt lj))
 
   -- some are raised
-  pub orderly_raise : (q : QueueIs B) (task : TaskId) (p : Priority) (new : List (Waiting B)) → IsOrderly q → IsPermutation (map (raised task p) q.jobs) new → IsOrderly (record { jobs = new; room = q.room; arrived = q.arrived })
+  pub orderly_raise : (q : QueueView B) (task : TaskId) (p : Priority) (new : List (Waiting B)) → IsOrderly q → IsPermutation (map (raised task p) q.jobs) new → IsOrderly (record { jobs = new; room = q.room; arrived = q.arrived })
   orderly_raise q task p new h k =
       let r : List (Waiting B) → List (Waiting B) = map (raised {B = B} task p) in
       let len = length_permutation (r q.jobs) new k in

@@ -2,7 +2,7 @@
 -- names these.
 pub mod List
 pub mod Lists
-pub mod ListsAre
+pub mod PriorityLists
 pub mod ListsInvariant
 pub mod ArrivalOf
 pub mod QueueInvariant

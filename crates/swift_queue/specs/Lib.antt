@@ -1,4 +1,3 @@
-pub mod Job
 pub mod Picks
 pub mod Queue
 pub mod Inside

@@ -1,8 +1,5 @@
-//! Jobs, each of which has to be spent once, and a run queue of them with room that was made at the start.
+//! A run queue of jobs, with room that was made at the start.
 #![tactic(auto)]
-
-// One turn of a task that is still to be run.
-mod job;
 
 // A job that waits in a queue.
 mod waiting;
@@ -16,5 +13,4 @@ mod lists;
 // The run queue.
 mod queue;
 
-pub use job::Job;
 pub use queue::Queue;

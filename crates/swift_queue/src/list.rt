@@ -3,7 +3,7 @@
 ghost use Rattle.std.specs.Prelude.{◌≡◌, ◌≢◌, ℕ, ◌<◌, ◌≤◌, ◌∷◌, All, IfSome, IfNone};
 ghost use Rattle.std.specs.List.Sorted.{IsPermutation};
 ghost use Rattle.std.specs.VecDeque.{deque_len, deque_capacity};
-ghost use Rattle.swift_queue.specs.Inside.List.{HasArrival, IsByArrival, StandsAt};
+ghost use Rattle.swift_queue.specs.Inside.List.{HasArrival, IsByArrival, IsAtPlace};
 ghost use Rattle.swift_queue.specs.Queue.{IsWithout};
 
 use crate::waiting::Waiting;
@@ -15,7 +15,7 @@ fn place_by_arrival<B>(list: &VecDeque<Waiting<B>>, task: TaskId, arrival: u64) 
     requires by_arrival { IsByArrival list.now.items }
     requires known { HasArrival list.now.items task arrival }
     ensures none { IfNone result (IsWithout list.now.items task) }
-    ensures some { IfSome result (StandsAt list.now.items task) }
+    ensures some { IfSome result (IsAtPlace list.now.items task) }
 {
     let place = list.partition_point(|x| x.arrival < arrival);
     if place >= list.len() {
@@ -36,7 +36,7 @@ pub(crate) fn place_of<B>(
     requires by_arrival { IsByArrival list.now.items }
     requires known { IfSome arrival (HasArrival list.now.items task) }
     ensures none { IfNone result (IsWithout list.now.items task) }
-    ensures some { IfSome result (StandsAt list.now.items task) }
+    ensures some { IfSome result (IsAtPlace list.now.items task) }
 {
     match arrival {
         Some(arrival) => place_by_arrival(list, task, arrival),

@@ -152,15 +152,15 @@ fn close_each<B>(lists: [VecDeque<Waiting<B>>; PRIORITIES])
 }
 
 /// Jobs that wait in a list for each priority. In a clause it is the list of all jobs, and the room for them.
-pub(crate) struct Lists<B> {
+pub(crate) struct PriorityLists<B> {
     lists: [VecDeque<Waiting<B>>; PRIORITIES],
     room: usize,
 }
 
-impl<B> Model for Lists<B> {
-    ghost use Rattle.swift_queue.specs.Inside.ListsAre.{ListsAre};
+impl<B> Model for PriorityLists<B> {
+    ghost use Rattle.swift_queue.specs.Inside.PriorityLists.{PriorityListsView};
 
-    ghost Value = { ListsAre B };
+    ghost Value = { PriorityListsView B };
 
     ghost use Rattle.swift_queue.specs.Inside.Lists.{jobs_of};
     ghost use Rattle.swift_queue.specs.Inside.ListsInvariant.{ListsInvariant};
@@ -170,23 +170,23 @@ impl<B> Model for Lists<B> {
     ghost invariant = { ListsInvariant };
 }
 
-impl<B> Lists<B> {
+impl<B> PriorityLists<B> {
     /// The lists of all priorities, which are empty and have room for this many each.
-    fn of(lists: [VecDeque<Waiting<B>>; PRIORITIES], room: usize) -> Lists<B>
+    fn of(lists: [VecDeque<Waiting<B>>; PRIORITIES], room: usize) -> PriorityLists<B>
         requires lists { AreLists room lists }
         requires empty { AreEmptyFrom 0 lists }
         ensures { result ≡ record { jobs = []; room = room } }
     {
-        Lists { lists, room }
+        PriorityLists { lists, room }
     }
 
     /// No job, with room for this many.
-    pub(crate) fn with_room(alloc: Global, room: usize) -> Result<Lists<B>, AllocError>
+    pub(crate) fn with_room(alloc: Global, room: usize) -> Result<PriorityLists<B>, AllocError>
         ensures { IfOk result (λ x. x ≡ record { jobs = []; room = room }) }
     {
         let (background, low) = two_lists(alloc, room)?;
         match two_lists(alloc, room) {
-            Ok((medium, high)) => Ok(Lists::of([background, low, medium, high], room)),
+            Ok((medium, high)) => Ok(PriorityLists::of([background, low, medium, high], room)),
             Err(fault) => {
                 background.destroy_empty();
                 low.destroy_empty();
@@ -296,7 +296,7 @@ impl<B> Lists<B> {
     pub(crate) fn close(self)
         requires { length self.jobs ≡ 0 }
     {
-        let Lists { lists, room: _room } = self;
+        let PriorityLists { lists, room: _room } = self;
         close_each(lists);
     }
 }

@@ -3,11 +3,11 @@
 ghost use Rattle.std.specs.Prelude.{◌≡◌, ◌≢◌, ℕ, ◌+◌, ◌<◌, ◌≤◌, ◌^◌, ◌↔◌, [], ◌∷◌, IfOk, IfSome, IfNone, IsSome, IsTrue, None, length, map, slice_set, false};
 ghost use Rattle.std.specs.List.Sorted.{IsPermutation};
 
-use crate::job::Job;
-use crate::lists::Lists;
+use crate::lists::PriorityLists;
 use crate::waiting::Waiting;
 use std::alloc::{AllocError, Global};
 use std::marker::Model;
+use swift_job::Job;
 use swift_types::limits::TASKS;
 use swift_types::{Priority, TaskId};
 
@@ -50,15 +50,15 @@ fn hand_out<B>(arrival_of: &mut Vec<Option<u64>>, taken: Waiting<B>) -> (Job<B>,
 /// all of these, as one that was just taken did where it keeps its priority. Of a task that is numbered 1,024 or more,
 /// `holds` and `raise` pass all jobs.
 pub struct Queue<B> {
-    lists: Lists<B>,
+    lists: PriorityLists<B>,
     arrival_of: Vec<Option<u64>>,
     arrived: u64,
 }
 
 impl<B> Model for Queue<B> {
-    ghost use Rattle.swift_queue.specs.Queue.{QueueIs};
+    ghost use Rattle.swift_queue.specs.Queue.{QueueView};
 
-    ghost Value = { QueueIs B };
+    ghost Value = { QueueView B };
 
     ghost use Rattle.swift_queue.specs.Inside.QueueInvariant.{QueueInvariant};
 
@@ -69,7 +69,7 @@ impl<B> Model for Queue<B> {
 
 impl<B> Queue<B> {
     ghost use Rattle.swift_queue.specs.Picks.{IsOlder, PicksFirst, raised};
-    ghost use Rattle.swift_queue.specs.Queue.{IsOrderly, IsRestorable, IsWithout, QueueIs, Takes, waiting};
+    ghost use Rattle.swift_queue.specs.Queue.{IsOrderly, IsRestorable, IsWithout, QueueView, TakesFirst, waiting};
 
     /// No job, with room for this many, which may be 0. The error says that it is out of memory, or that so much
     /// cannot be counted; nothing is left of the queue then.
@@ -78,7 +78,7 @@ impl<B> Queue<B> {
     {
         // As many as a run can have tasks, whatever the room: tasks are numbered over all executors.
         let arrival_of = vec![in alloc; None; TASKS]?;
-        let lists = Lists::with_room(alloc, room)?;
+        let lists = PriorityLists::with_room(alloc, room)?;
         Ok(Queue {
             lists,
             arrival_of,
@@ -191,7 +191,7 @@ impl<B> Queue<B> {
     /// where no job is inside.
     pub fn take(&mut self) -> Option<(Job<B>, u64)>
         ensures some { IsSome result ↔ (0 < length self.old.jobs) }
-        ensures first { IfSome result (λ r. Takes PicksFirst self.old.jobs r.0 r.1 self.new.jobs) }
+        ensures first { IfSome result (λ r. TakesFirst PicksFirst self.old.jobs r.0 r.1 self.new.jobs) }
         ensures len { IfSome result (λ _. length self.new.jobs + 1 ≡ length self.old.jobs) }
         ensures room { self.new.room ≡ self.old.room }
         ensures arrived { self.new.arrived ≡ self.old.arrived }
@@ -208,7 +208,7 @@ impl<B> Queue<B> {
     /// inside.
     pub fn take_oldest(&mut self) -> Option<(Job<B>, u64)>
         ensures some { IsSome result ↔ (0 < length self.old.jobs) }
-        ensures first { IfSome result (λ r. Takes IsOlder self.old.jobs r.0 r.1 self.new.jobs) }
+        ensures first { IfSome result (λ r. TakesFirst IsOlder self.old.jobs r.0 r.1 self.new.jobs) }
         ensures len { IfSome result (λ _. length self.new.jobs + 1 ≡ length self.old.jobs) }
         ensures room { self.new.room ≡ self.old.room }
         ensures arrived { self.new.arrived ≡ self.old.arrived }

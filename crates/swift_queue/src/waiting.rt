@@ -1,6 +1,6 @@
 //! A job that waits in a queue.
 
-use crate::job::Job;
+use swift_job::Job;
 use swift_types::Priority;
 
 /// A job that waits, with its priority and its arrival number.

@@ -2,7 +2,7 @@
 use Rattle.std.proofs.Common.{◌≡◌, ℕ, ◌≤◌, Option, List, [], length, sym, ap}
 use Rattle.std.specs.Prelude.{slice_get, unwrap_or}
 use Rattle.std.proofs.lemmas.Option.{slice_get_past}
-use Rattle.script_grammar.specs.declared.declaration.ExecutorKind.TheVariants as kind
+use Rattle.swift_types.specs.declared.executor_kind.ExecutorKind.TheVariants as kind
 use Rattle.swift_script.specs.Scripts.{ScriptView, parts_of, no_actor, no_executor, no_root, actor_count, actor_name, field_name, no_field, executor_count, executor_name, executor_kind, root_count, root_name}
 use Rattle.script_compiler.specs.Compiled.{ExecutorView, ActorView, RootView}
 

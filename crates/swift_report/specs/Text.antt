@@ -11,11 +11,11 @@ use Rattle.swift_types.specs.declared.outcome.Resume.{Resume}
 use Rattle.swift_types.specs.declared.outcome.Resume.TheVariants.{Start, Go, Value, Fault as Raise}
 use Rattle.swift_types.specs.declared.outcome.Ending.{Ending}
 use Rattle.swift_types.specs.declared.outcome.Ending.TheVariants.{Value as Returned, Fault as Failed}
-use Rattle.script_code.specs.declared.env.Env.{Env}
-use Rattle.script_grammar.specs.declared.declaration.ExecutorKind.{ExecutorKind}
-use Rattle.script_grammar.specs.declared.declaration.ExecutorKind.TheVariants as kind
+use Rattle.swift_types.specs.declared.env.Env.{Env}
+use Rattle.swift_types.specs.declared.executor_kind.ExecutorKind.{ExecutorKind}
+use Rattle.swift_types.specs.declared.executor_kind.ExecutorKind.TheVariants as kind
 use Rattle.swift_script.specs.Scripts.{ScriptView, actor_count, actor_executor, actor_name, executor_actors, executor_kind, executor_name, field_name, method_actor, method_count, method_name, root_name}
-use Rattle.swift_journal.specs.Checkpoints.{CheckpointRoom}
+use Rattle.swift_journal.specs.Checkpoints.{CheckpointRoomView}
 use Rattle.swift_journal.specs.Records.{RecordView, brief_of}
 use Rattle.swift_journal.specs.declared.brief.BriefExit.{BriefExit}
 use Rattle.swift_journal.specs.declared.brief.BriefExit.TheVariants.{Call, Wait, Next, Yield, Close, Return, Fault as Fails}
@@ -118,17 +118,17 @@ abbrev pub executor_text : ScriptView → ℕ → ℕ → List RecordView → Li
 executor_text p e folded j = heading_text p e (folded + length j) ++ folded_text folded ++ turns_text p folded j
 
 -- how many turns a checkpoint has
-abbrev pub folded_count : Option CheckpointRoom → ℕ
+abbrev pub folded_count : Option CheckpointRoomView → ℕ
 folded_count None = 0
 folded_count (Some c) = length c.view.folded
 
 -- the lines of the executors from this number on, each with its turns
-abbrev pub executors_text : ScriptView → List CheckpointRoom → ℕ → List (List RecordView) → List ℕ
+abbrev pub executors_text : ScriptView → List CheckpointRoomView → ℕ → List (List RecordView) → List ℕ
 executors_text p cs k [] = []
 executors_text p cs k (j ∷ js) = executor_text p k (folded_count (slice_get cs k)) j ++ executors_text p cs (k + 1) js
 
 -- the journals, which a quiet report leaves out
-abbrev pub journals_text : ScriptView → Bool → List CheckpointRoom → List (List RecordView) → List ℕ
+abbrev pub journals_text : ScriptView → Bool → List CheckpointRoomView → List (List RecordView) → List ℕ
 journals_text p true cs js = []
 journals_text p false cs js = codes "journals\n" ++ executors_text p cs 0 js
 

@@ -4,9 +4,8 @@ ghost use Rattle.std.specs.Prelude.{◌≡◌, ◌<◌, length, slice_index_or};
 ghost use Rattle.swift_journal.specs.Records.{RecordView};
 ghost use Rattle.swift_report.specs.Text.{line_of};
 
-use script_code::Env;
 use swift_journal::{BriefExit, Journal};
-use swift_types::{MethodId, Resume, TaskId};
+use swift_types::{Env, MethodId, Resume, TaskId};
 
 /// What the line of a turn says.
 #[derive(Clone, Copy)]

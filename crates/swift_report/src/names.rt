@@ -3,9 +3,8 @@
 ghost use Rattle.std.specs.Prelude.{◌≡◌};
 ghost use Rattle.swift_script.specs.Scripts.{actor_name, executor_kind, executor_name, field_name, root_name};
 
-use script_grammar::ExecutorKind;
 use swift_script::Script;
-use swift_types::{ActorId, ExecId, RootId};
+use swift_types::{ActorId, ExecId, ExecutorKind, RootId};
 
 /// The name of the actor at a place; empty where there is none.
 #[tactic(auto, using(crate::proofs::Past::no_actor_name))]

@@ -7,12 +7,10 @@ use crate::append::number;
 use crate::line::{Line, line_at};
 use crate::names::{executor_kind, executor_name};
 use crate::word;
-use script_code::Env;
-use script_grammar::ExecutorKind;
 use std::alloc::AllocError;
 use swift_journal::{BriefExit, Checkpoint, Journal};
 use swift_script::Script;
-use swift_types::MethodId;
+use swift_types::{Env, ExecutorKind, MethodId};
 
 // A method by its names.
 fn method(out: &mut Vec<u8>, script: &Script, method: MethodId) -> Result<(), AllocError>

@@ -3,7 +3,7 @@ use Rattle.std.proofs.Common.{◌≡◌, List, [], ◌∷◌, ◌++◌, map, ref
 use Rattle.std.proofs.lemmas.List.{map_push}
 use Rattle.script_grammar.specs.declared.declaration.Decl.{Decl}
 use Rattle.script_grammar.specs.Tree.{DeclTree, Executes, Binds, Acts, Roots, view_decl}
-use Rattle.script_printing.specs.Script.{ScriptTree, with_decl, script_in}
+use Rattle.script_printing.specs.Script.{ScriptView, with_decl, script_in}
 use Rattle.swift_script.specs.ScriptInvariant.{with_last}
 
 last_of_none : (d : DeclTree) → with_decl d (script_in []) ≡ with_last d (script_in [])
@@ -12,7 +12,7 @@ last_of_none (Binds l) = refl
 last_of_none (Acts a) = refl
 last_of_none (Roots r) = refl
 
-first_and_last : (c d : DeclTree) (s : ScriptTree) → with_decl c (with_last d s) ≡ with_last d (with_decl c s)
+first_and_last : (c d : DeclTree) (s : ScriptView) → with_decl c (with_last d s) ≡ with_last d (with_decl c s)
 first_and_last (Executes x) (Executes y) s = refl
 first_and_last (Executes x) (Binds l) s = refl
 first_and_last (Executes x) (Acts a) s = refl
@@ -36,5 +36,5 @@ script_push [] d = last_of_none d
 script_push (c ∷ ds) d = ap (with_decl c) (script_push ds d) ∙ first_and_last c d (script_in ds)
 
 -- the same of declarations of the code
-pub one_more : (seen : List Decl) (d : Decl) (t u : ScriptTree) → t ≡ script_in (map view_decl seen) → u ≡ with_last (view_decl d) t → u ≡ script_in (map view_decl (seen ++ d ∷ []))
+pub one_more : (seen : List Decl) (d : Decl) (t u : ScriptView) → t ≡ script_in (map view_decl seen) → u ≡ with_last (view_decl d) t → u ≡ script_in (map view_decl (seen ++ d ∷ []))
 one_more seen d t u e pushed = pushed ∙ ap (with_last (view_decl d)) e ∙ sym (script_push (map view_decl seen) (view_decl d)) ∙ ap script_in (sym (map_push view_decl seen d))

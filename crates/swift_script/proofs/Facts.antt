@@ -9,11 +9,11 @@ use Rattle.script_grammar.specs.Tree.{ExecutorTree, MethodTree, ActorTree, RootT
 use Rattle.script_names.specs.declared.error.NameErrorKind.TheVariants.{Unknown, Arguments}
 use Rattle.script_names.specs.Texts.{is_among, place_of}
 use Rattle.script_names.specs.Methods.{method_key}
-use Rattle.script_names.specs.Directory.{Directory, key_of, has_method, method_place, arity_of, directory_of, methods_from as keys_from, params_in, declared_in}
+use Rattle.script_names.specs.Directory.{DirectoryView, key_of, has_method, method_place, arity_of, directory_of, methods_from as keys_from, params_in, declared_in}
 use Rattle.script_names.specs.Rules.{at_name, target_error, names_error}
 use Rattle.script_names.proofs.LeftOut.{nothing_left_out}
-use Rattle.script_lowering.specs.Plan.{Plan}
-use Rattle.script_printing.specs.Script.{ScriptTree, script_in}
+use Rattle.script_lowering.specs.Plan.{PlanView}
+use Rattle.script_printing.specs.Script.{ScriptView, script_in}
 use Rattle.script_compiler.specs.Calls.{CallsAreThere}
 use Rattle.script_compiler.specs.Compiled.{MethodView, RootView, compiled_of, plan_in, own_executor, own_executors, executors_from, actors_from, method_of, methods_from, root_of}
 use Rattle.script_compiler.specs.Fits.{MethodsFit}
@@ -32,14 +32,14 @@ few_executors names count (x ∷ xs) le ok =
     let more = few_executors (names ++ x.name ∷ []) (suc count) xs (omega arith) ok.3 in
     omega (arith, more)
 
-few_actors : (d : Directory) (names : List (List ℕ)) (count : ℕ) (others : List ActorTree) → count ≤ ACTORS → ActorsOk d names count others → count + length others ≤ ACTORS
+few_actors : (d : DirectoryView) (names : List (List ℕ)) (count : ℕ) (others : List ActorTree) → count ≤ ACTORS → ActorsOk d names count others → count + length others ≤ ACTORS
 few_actors d names count [] le ok = omega arith
 few_actors d names count (a ∷ others) le ok =
     let room : count < ACTORS = leb-false ACTORS count ok.1 in
     let more = few_actors d (names ++ a.name ∷ []) (suc count) others (omega arith) ok.3 in
     omega (arith, more)
 
-few_roots : (d : Directory) (names : List (List ℕ)) (rs : List RootTree) → length names ≤ TASKS → RootsOk d names rs → length names + length rs ≤ TASKS
+few_roots : (d : DirectoryView) (names : List (List ℕ)) (rs : List RootTree) → length names ≤ TASKS → RootsOk d names rs → length names + length rs ≤ TASKS
 few_roots d names [] le ok = omega arith
 few_roots d names (r ∷ rs) le ok =
     let room : length names < TASKS = leb-false TASKS (length names) ok.1 in
@@ -58,11 +58,11 @@ few_own (a ∷ others) =
     one_at_most a None = omega arith
     one_at_most a (Some n) = omega arith
 
-as_many_executors : (p : Plan) (others : List ActorTree) (e : ℕ) (xs : List ExecutorTree) → length (executors_from p others e xs) ≡ length xs
+as_many_executors : (p : PlanView) (others : List ActorTree) (e : ℕ) (xs : List ExecutorTree) → length (executors_from p others e xs) ≡ length xs
 as_many_executors p others e [] = refl
 as_many_executors p others e (x ∷ xs) = ap suc (as_many_executors p others (suc e) xs)
 
-as_many_actors : (p : Plan) (k : ℕ) (others : List ActorTree) → length (actors_from p k others) ≡ length others
+as_many_actors : (p : PlanView) (k : ℕ) (others : List ActorTree) → length (actors_from p k others) ≡ length others
 as_many_actors p k [] = refl
 as_many_actors p k (a ∷ others) = ap suc (as_many_actors p (suc k) others)
 
@@ -87,11 +87,11 @@ params_kinds (Binds l ∷ ds) = params_kinds ds
 params_kinds (Acts a ∷ ds) = ap (λ (ns : List ℕ). map (λ m. length m.params) a.methods ++ ns) (params_kinds ds)
 params_kinds (Roots r ∷ ds) = params_kinds ds
 
-params_of_methods : (p : Plan) (k : ℕ) (ms : List MethodTree) → map (λ v. v.params) (map (method_of p k) ms) ≡ map (λ m. length m.params) ms
+params_of_methods : (p : PlanView) (k : ℕ) (ms : List MethodTree) → map (λ v. v.params) (map (method_of p k) ms) ≡ map (λ m. length m.params) ms
 params_of_methods p k [] = refl
 params_of_methods p k (m ∷ ms) = ap (λ (ns : List ℕ). length m.params ∷ ns) (params_of_methods p k ms)
 
-params_made : (p : Plan) (k : ℕ) (others : List ActorTree) → map (λ v. v.params) (methods_from p k others) ≡ params_by others
+params_made : (p : PlanView) (k : ℕ) (others : List ActorTree) → map (λ v. v.params) (methods_from p k others) ≡ params_by others
 params_made p k [] = refl
 params_made p k (a ∷ others) =
     map-append (λ v. v.params) (map (method_of p k) a.methods) (methods_from p (suc k) others)
@@ -128,7 +128,7 @@ record IsFine (vs : List MethodView) (v : RootView) : Type 0 where
   pub method : v.method < length vs
   pub args : length v.args ≡ (unwrap_or (slice_get vs v.method) no_method).params
 
-one_root : (p : Plan) (vs : List MethodView) (r : RootTree) → length p.directory.methods ≡ length vs → p.directory.params ≡ map (λ v. v.params) vs → target_error p.directory 0 r.actor r.method (length r.args) ≡ None → IsFine vs (root_of p r)
+one_root : (p : PlanView) (vs : List MethodView) (r : RootTree) → length p.directory.methods ≡ length vs → p.directory.params ≡ map (λ v. v.params) vs → target_error p.directory 0 r.actor r.method (length r.args) ≡ None → IsFine vs (root_of p r)
 one_root p vs r keys params e =
     let d = p.directory in
     let parts = target_parts (is_among d.actors r.actor) (has_method d r.actor r.method) (arity_of d r.actor r.method == length r.args) e in
@@ -140,23 +140,23 @@ one_root p vs r keys params e =
       args = sym arity ∙ ap (λ (ns : List ℕ). unwrap_or (slice_get ns (method_place d r.actor r.method)) 0) params ∙ params_at vs (method_place d r.actor r.method);
     }
 
-each_root : (p : Plan) (vs : List MethodView) (names : List (List ℕ)) (rs : List RootTree) (k : ℕ) → length p.directory.methods ≡ length vs → p.directory.params ≡ map (λ v. v.params) vs → RootsOk p.directory names rs → k < length (map (root_of p) rs)
+each_root : (p : PlanView) (vs : List MethodView) (names : List (List ℕ)) (rs : List RootTree) (k : ℕ) → length p.directory.methods ≡ length vs → p.directory.params ≡ map (λ v. v.params) vs → RootsOk p.directory names rs → k < length (map (root_of p) rs)
     → IsFine vs (unwrap_or (slice_get (map (root_of p) rs) k) no_root)
 each_root p vs names [] k keys params ok lt = absurd (omega arith)
 each_root p vs names (r ∷ rs) zero keys params ok lt = one_root p vs r keys params ok.2
 each_root p vs names (r ∷ rs) (suc k) keys params ok lt = each_root p vs (names ++ r.name ∷ []) rs k keys params ok.3 (omega arith)
 
 -- the rules on the declarations of a script, kind by kind
-abbrev AreOk : ScriptTree → Type 0
+abbrev AreOk : ScriptView → Type 0
 AreOk s = AllOk (plan_in s).directory (record { places = []; locals = []; roots = []; executors = 0; actors = 0 }) s
 
 are_ok : (ds : List DeclTree) → names_error ds ≡ None → AreOk (script_in ds)
 are_ok ds e =
-    let same : directory_of ds ≡ (plan_in (script_in ds)).directory = ap (λ (p : Plan). p.directory) (same_plan ds) in
-    subst (λ (d : Directory). AllOk d (record { places = []; locals = []; roots = []; executors = 0; actors = 0 }) (script_in ds)) same (by_kinds (directory_of ds) _ 0 ds e)
+    let same : directory_of ds ≡ (plan_in (script_in ds)).directory = ap (λ (p : PlanView). p.directory) (same_plan ds) in
+    subst (λ (d : DirectoryView). AllOk d (record { places = []; locals = []; roots = []; executors = 0; actors = 0 }) (script_in ds)) same (by_kinds (directory_of ds) _ 0 ds e)
 
 -- the directory of an accepted script has a key for each method, and its parameters
-record HasMethods (s : ScriptTree) : Type 0 where
+record HasMethods (s : ScriptView) : Type 0 where
   pub keys : length (plan_in s).directory.methods ≡ length (methods_from (plan_in s) 0 s.actors)
   pub params : (plan_in s).directory.params ≡ map (λ v. v.params) (methods_from (plan_in s) 0 s.actors)
 
@@ -165,31 +165,31 @@ has_methods ds e =
     let s = script_in ds in
     let p = plan_in s in
     let vs = methods_from p 0 s.actors in
-    let d : p.directory ≡ declared_in ds = ap (λ (q : Plan). q.directory) (sym (same_plan ds)) ∙ nothing_left_out ds e in
-    let params : p.directory.params ≡ map (λ v. v.params) vs = ap (λ (q : Directory). q.params) d ∙ params_kinds ds ∙ sym (params_made p 0 s.actors) in
-    let keys : length p.directory.methods ≡ length (params_in ds) = ap (λ (q : Directory). length q.methods) d ∙ keys_params 0 ds in
+    let d : p.directory ≡ declared_in ds = ap (λ (q : PlanView). q.directory) (sym (same_plan ds)) ∙ nothing_left_out ds e in
+    let params : p.directory.params ≡ map (λ v. v.params) vs = ap (λ (q : DirectoryView). q.params) d ∙ params_kinds ds ∙ sym (params_made p 0 s.actors) in
+    let keys : length p.directory.methods ≡ length (params_in ds) = ap (λ (q : DirectoryView). length q.methods) d ∙ keys_params 0 ds in
     let many : length (params_in ds) ≡ length vs = ap length (params_kinds ds ∙ sym (params_made p 0 s.actors)) ∙ length-map vs (λ v. v.params) in
     record { keys = keys ∙ many; params = params }
 
-ok_of : (s : ScriptTree) → WasAccepted s → AreOk s
+ok_of : (s : ScriptView) → WasAccepted s → AreOk s
 ok_of s a = subst AreOk (sym a.1.is) (are_ok a.1.decls a.1.names)
 
-methods_of : (s : ScriptTree) → WasAccepted s → HasMethods s
+methods_of : (s : ScriptView) → WasAccepted s → HasMethods s
 methods_of s a = subst HasMethods (sym a.1.is) (has_methods a.1.decls a.1.names)
 
-pub actors_are_few : (s : ScriptTree) → WasAccepted s → actor_count s ≤ ACTORS
+pub actors_are_few : (s : ScriptView) → WasAccepted s → actor_count s ≤ ACTORS
 unfolding parts_of
 actors_are_few s a =
     let few : 0 + length s.actors ≤ ACTORS = few_actors (plan_in s).directory [] 0 s.actors (omega arith) (ok_of s a).actors in
     omega (arith, few, as_many_actors (plan_in s) 0 s.actors)
 
-pub roots_are_few : (s : ScriptTree) → WasAccepted s → root_count s ≤ TASKS
+pub roots_are_few : (s : ScriptView) → WasAccepted s → root_count s ≤ TASKS
 unfolding parts_of
 roots_are_few s a =
     let few : 0 + length s.roots ≤ TASKS = few_roots (plan_in s).directory [] s.roots (omega arith) (ok_of s a).roots in
     omega (arith, few, length-map s.roots (root_of (plan_in s)))
 
-pub executors_are_few : (s : ScriptTree) → WasAccepted s → executor_count s ≤ EXECUTORS + ACTORS
+pub executors_are_few : (s : ScriptView) → WasAccepted s → executor_count s ≤ EXECUTORS + ACTORS
 unfolding parts_of
 executors_are_few s a =
     let declared : 0 + length s.executors ≤ EXECUTORS = few_executors [] 0 s.executors (omega arith) (ok_of s a).executors in
@@ -197,25 +197,25 @@ executors_are_few s a =
     let all = length-append s.executors (own_executors s.actors) in
     omega (arith, declared, actors, all, few_own s.actors, as_many_executors (plan_in s) s.actors 0 (s.executors ++ own_executors s.actors))
 
-root_is_fine : (s : ScriptTree) (k : ℕ) → WasAccepted s → k < root_count s → IsFine (parts_of s).methods (unwrap_or (slice_get (parts_of s).roots k) no_root)
+root_is_fine : (s : ScriptView) (k : ℕ) → WasAccepted s → k < root_count s → IsFine (parts_of s).methods (unwrap_or (slice_get (parts_of s).roots k) no_root)
 unfolding parts_of
 root_is_fine s k a lt = let h = methods_of s a in each_root (plan_in s) (methods_from (plan_in s) 0 s.actors) [] s.roots k h.keys h.params (ok_of s a).roots lt
 
-pub root_method_there : (s : ScriptTree) (k : ℕ) → WasAccepted s → k < root_count s → root_method s k < method_count s
+pub root_method_there : (s : ScriptView) (k : ℕ) → WasAccepted s → k < root_count s → root_method s k < method_count s
 root_method_there s k a lt = (root_is_fine s k a lt).method
 
-pub root_args_fit : (s : ScriptTree) (k : ℕ) → WasAccepted s → k < root_count s → length (root_args s k) ≡ method_params s (root_method s k)
+pub root_args_fit : (s : ScriptView) (k : ℕ) → WasAccepted s → k < root_count s → length (root_args s k) ≡ method_params s (root_method s k)
 root_args_fit s k a lt = (root_is_fine s k a lt).args
 
-pub declared_are_few : (s : ScriptTree) → WasAccepted s → length s.executors ≤ EXECUTORS
+pub declared_are_few : (s : ScriptView) → WasAccepted s → length s.executors ≤ EXECUTORS
 declared_are_few s a =
     let few : 0 + length s.executors ≤ EXECUTORS = few_executors [] 0 s.executors (omega arith) (ok_of s a).executors in
     omega (arith, few)
 
-pub calls_are_there : (s : ScriptTree) → WasAccepted s → CallsAreThere (parts_of s)
+pub calls_are_there : (s : ScriptView) → WasAccepted s → CallsAreThere (parts_of s)
 unfolding parts_of
-calls_are_there s a = subst (λ (t : ScriptTree). CallsAreThere (compiled_of t)) (sym a.1.is) (checked_calls a.1.decls a.1.names)
+calls_are_there s a = subst (λ (t : ScriptView). CallsAreThere (compiled_of t)) (sym a.1.is) (checked_calls a.1.decls a.1.names)
 
-pub methods_fit : (s : ScriptTree) → WasAccepted s → MethodsFit (parts_of s)
+pub methods_fit : (s : ScriptView) → WasAccepted s → MethodsFit (parts_of s)
 unfolding parts_of
-methods_fit s a = subst (λ (t : ScriptTree). MethodsFit (compiled_of t)) (sym a.1.is) (checked_methods a.1.decls a.1.names)
+methods_fit s a = subst (λ (t : ScriptView). MethodsFit (compiled_of t)) (sym a.1.is) (checked_methods a.1.decls a.1.names)

@@ -1,13 +1,13 @@
 -- What is known where a script is finished, or refused for a root that waits.
 use Rattle.std.proofs.Common.{◌≡◌, ℕ, Option, Some, None, List, map, sym, ap, subst, ◌∙◌}
 use Rattle.std.specs.Prelude.{IfSome, IfNone}
-use Rattle.script_tokens.specs.Pieces.{Piece, piece}
+use Rattle.script_tokens.specs.Pieces.{TokenView, piece}
 use Rattle.script_tokens.specs.declared.list.Tokens.{Tokens}
 use Rattle.script_tokens.specs.declared.token.Token.{Token}
 use Rattle.script_tokens.proofs.Unique.{unique}
 use Rattle.script_grammar.specs.Grammar.{IsScript}
 use Rattle.script_parser.specs.declared.limits.TheConstants.{NESTING}
-use Rattle.script_printing.specs.Script.{ScriptTree}
+use Rattle.script_printing.specs.Script.{ScriptView}
 use Rattle.script_waits.specs.Waits.{NoneBefore}
 use Rattle.script_compiler.specs.Waiting.{edges_of, waits_of, root_methods}
 use Rattle.swift_script.specs.Scripts.{parts_of}
@@ -16,18 +16,18 @@ use Rattle.swift_script.specs.FaultLines.{is_root, place_of, RootStandsOn}
 use Rattle.swift_script.specs.Spelled.{pieces_of, AreKept, IsNamed, HasNamesInOrder, line_in}
 use Rattle.swift_script.proofs.Refusing.{kept_line}
 
-pub none_waits : (s : ScriptTree) (o : Option ℕ) → o ≡ None → IfNone o (NoRootWaits s) → NoRootWaits s
+pub none_waits : (s : ScriptView) (o : Option ℕ) → o ≡ None → IfNone o (NoRootWaits s) → NoRootWaits s
 none_waits s None is h = h
 none_waits s (Some k) is h = absurd cc
 
 some_at : (P : ℕ → Type 0) (o : Option ℕ) (k : ℕ) → o ≡ Some k → IfSome o P → P k
 some_at P o k is h = subst (λ (x : Option ℕ). IfSome x P) is h
 
-abbrev pub NoneEarlier : ScriptTree → ℕ → Type 0
+abbrev pub NoneEarlier : ScriptView → ℕ → Type 0
 NoneEarlier s root = NoneBefore (edges_of (parts_of s)) (waits_of (parts_of s)) (root_methods (parts_of s)) root
 
 -- a root that waits stands at its keyword
-pub root_stands : (text : List ℕ) (s : ScriptTree) (kept : Tokens) (lent : List Token) (o : Option ℕ) (root place line : ℕ) → IsNamed text s kept → o ≡ Some root → IfSome o (RootWaits s) → IfSome o (NoneEarlier s)
+pub root_stands : (text : List ℕ) (s : ScriptView) (kept : Tokens) (lent : List Token) (o : Option ℕ) (root place line : ℕ) → IsNamed text s kept → o ≡ Some root → IfSome o (RootWaits s) → IfSome o (NoneEarlier s)
     → lent ≡ kept.tokens.items → place ≡ place_of is_root root (map piece lent) → line ≡ line_in kept place → RootStandsOn text line
 root_stands text s kept lent o root place line n is waits first same at on =
     let there : place ≡ place_of is_root root (pieces_of kept) = at ∙ ap (λ (ts : List Token). place_of is_root root (map piece ts)) same in
@@ -38,24 +38,24 @@ root_stands text s kept lent o root place line n is waits first same at on =
       decls = n.decls;
       spelled = n.spelled.spelled;
       root = root;
-      waits = subst (λ (t : ScriptTree). RootWaits t root) n.is (some_at (RootWaits s) o root is waits);
-      first = subst (λ (t : ScriptTree). NoneEarlier t root) n.is (some_at (NoneEarlier s) o root is first);
+      waits = subst (λ (t : ScriptView). RootWaits t root) n.is (some_at (RootWaits s) o root is waits);
+      first = subst (λ (t : ScriptView). NoneEarlier t root) n.is (some_at (NoneEarlier s) o root is first);
       on = on ∙ ap (line_in kept) there ∙ kept_line text kept (place_of is_root root (pieces_of kept)) n.spelled.are_kept;
     }
 
 -- the tokens of a text are the ones that spell it, whenever they are found
-pub named_again : (text : List ℕ) (s : ScriptTree) (kept : Tokens) → HasNamesInOrder text s → AreKept text kept → IsNamed text s kept
+pub named_again : (text : List ℕ) (s : ScriptView) (kept : Tokens) → HasNamesInOrder text s → AreKept text kept → IsNamed text s kept
 named_again text s kept n k =
     let same : n.spelled.pieces ≡ pieces_of kept = unique (pieces_of kept) n.spelled.lexed k.are.lexed in
     record {
       decls = n.decls;
-      spelled = record { plain = n.plain; are_kept = k; spelled = subst (λ (ps : List Piece). IsScript NESTING ps n.decls) same n.spelled.spelled };
+      spelled = record { plain = n.plain; are_kept = k; spelled = subst (λ (ps : List TokenView). IsScript NESTING ps n.decls) same n.spelled.spelled };
       names = n.names;
       is = n.is;
     }
 
 -- where nothing is refused, the text is accepted
-pub accepted : (text : List ℕ) (s t : ScriptTree) → t ≡ s → HasNamesInOrder text s → first_false s ≡ None → NoRootWaits s → IsAccepted text t
+pub accepted : (text : List ℕ) (s t : ScriptView) → t ≡ s → HasNamesInOrder text s → first_false s ≡ None → NoRootWaits s → IsAccepted text t
 accepted text s t same n starts waits = record {
   plain = n.plain;
   decls = n.decls;

@@ -10,10 +10,10 @@ use Rattle.script_grammar.specs.Tree.{ExecutorTree, LocalTree, ActorTree, RootTr
 use Rattle.script_names.specs.declared.error.NameErrorKind.{NameErrorKind}
 use Rattle.script_names.specs.declared.error.NameErrorKind.TheVariants.{Twice, TooMany}
 use Rattle.script_names.specs.Texts.{is_among}
-use Rattle.script_names.specs.Directory.{Directory, directory_of}
-use Rattle.script_names.specs.Rules.{Seen, at_name, where_so, kind_error, repeat_error, target_error, decl_error, declarations_error, names_error, past_decl, seen_after}
-use Rattle.script_printing.specs.Script.{ScriptTree, declarations_of, script_in}
-use Rattle.script_lowering.specs.Plan.{Plan}
+use Rattle.script_names.specs.Directory.{DirectoryView, directory_of}
+use Rattle.script_names.specs.Rules.{SeenView, at_name, where_so, kind_error, repeat_error, target_error, decl_error, declarations_error, names_error, past_decl, seen_after}
+use Rattle.script_printing.specs.Script.{ScriptView, declarations_of, script_in}
+use Rattle.script_lowering.specs.Plan.{PlanView}
 use Rattle.script_compiler.proofs.ByKinds.{same_plan}
 use Rattle.swift_script.proofs.NamesAnywhere.{earlier_parts, earlier_none, executor_kind, target, inside_error, inside}
 
@@ -47,11 +47,11 @@ abbrev pub LocalsOk : List (List ℕ) → List LocalTree → Type 0
 LocalsOk names [] = Unit {0}
 LocalsOk names (l ∷ ls) = Free names l.name × LocalsOk (names ++ l.name ∷ []) ls
 
-abbrev pub ActorsOk : Directory → List (List ℕ) → ℕ → List ActorTree → Type 0
+abbrev pub ActorsOk : DirectoryView → List (List ℕ) → ℕ → List ActorTree → Type 0
 ActorsOk d names count [] = Unit {0}
 ActorsOk d names count (a ∷ others) = Free names a.name × (nat_le ACTORS count ≡ false) × (inside_error d count 0 a ≡ None) × ActorsOk d (names ++ a.name ∷ []) (suc count) others
 
-abbrev pub RootsOk : Directory → List (List ℕ) → List RootTree → Type 0
+abbrev pub RootsOk : DirectoryView → List (List ℕ) → List RootTree → Type 0
 RootsOk d names [] = Unit {0}
 RootsOk d names (r ∷ rs) = Free names r.name × (nat_le TASKS (length names) ≡ false) × (target_error d 0 r.actor r.method (length r.args) ≡ None) × RootsOk d (names ++ r.name ∷ []) rs
 
@@ -62,7 +62,7 @@ Apart names (a ∷ others) = Free names a.name × Apart names others
 abbrev pub names_of : List ExecutorTree → List (List ℕ)
 names_of xs = map (λ x. x.name) xs
 
-pub record AllOk (d : Directory) (seen : Seen) (s : ScriptTree) : Type 0 where
+pub record AllOk (d : DirectoryView) (seen : SeenView) (s : ScriptView) : Type 0 where
   pub executors : ExecutorsOk seen.places seen.executors s.executors
   pub locals : LocalsOk seen.locals s.locals
   pub actors : ActorsOk d seen.places seen.actors s.actors
@@ -74,7 +74,7 @@ executors_among ps qs count [] h ok = tt
 executors_among ps qs count (x ∷ xs) h ok = (h x.name ok.0, ok.1, ok.2, executors_among (ps ++ x.name ∷ []) (qs ++ x.name ∷ []) (suc count) xs (within_more ps qs x.name h) ok.3)
 
 -- actors among other names, where they are apart from what is added
-actors_among : (d : Directory) (ps qs more : List (List ℕ)) (count : ℕ) (others : List ActorTree) → ((n : List ℕ) → Free qs n → Free more n → Free ps n) → ActorsOk d qs count others → Apart more others → ActorsOk d ps count others
+actors_among : (d : DirectoryView) (ps qs more : List (List ℕ)) (count : ℕ) (others : List ActorTree) → ((n : List ℕ) → Free qs n → Free more n → Free ps n) → ActorsOk d qs count others → Apart more others → ActorsOk d ps count others
 actors_among d ps qs more count [] h ok apart = tt
 actors_among d ps qs more count (a ∷ others) h ok apart = (
   h a.name ok.0 apart.0,
@@ -88,7 +88,7 @@ apart_from_none : (others : List ActorTree) → Apart [] others
 apart_from_none [] = tt
 apart_from_none (a ∷ others) = (refl, apart_from_none others)
 
-apart_from : (d : Directory) (names qs : List (List ℕ)) (count : ℕ) (others : List ActorTree) → Within names qs → ActorsOk d qs count others → Apart names others
+apart_from : (d : DirectoryView) (names qs : List (List ℕ)) (count : ℕ) (others : List ActorTree) → Within names qs → ActorsOk d qs count others → Apart names others
 apart_from d names qs count [] h ok = tt
 apart_from d names qs count (a ∷ others) h ok =
     (h a.name ok.0, apart_from d names (qs ++ a.name ∷ []) (suc count) others (λ n f. h n (free_parts qs (a.name ∷ []) n f).0) ok.3)
@@ -119,7 +119,7 @@ last_name : (ps : List (List ℕ)) (w : List ℕ) → Within (w ∷ []) (ps ++ w
 last_name ps w n f = (free_parts ps (w ∷ []) n f).1
 
 -- what the rules say of each kind
-pub by_kinds : (d : Directory) (seen : Seen) (at : ℕ) (ds : List DeclTree) → declarations_error d seen at ds ≡ None → AllOk d seen (script_in ds)
+pub by_kinds : (d : DirectoryView) (seen : SeenView) (at : ℕ) (ds : List DeclTree) → declarations_error d seen at ds ≡ None → AllOk d seen (script_in ds)
 by_kinds d seen at [] e = record { executors = tt; locals = tt; actors = tt; roots = tt; apart = tt }
 by_kinds d seen at (Executes x ∷ ds) e =
     let parts = earlier_parts (decl_error d seen at (Executes x)) _ e in
@@ -171,14 +171,14 @@ by_kinds d seen at (Roots r ∷ ds) e =
     }
 
 -- and what they say of declarations in the order of their kinds
-the_roots : (d : Directory) (seen : Seen) (at : ℕ) (rs : List RootTree) → RootsOk d seen.roots rs → declarations_error d seen at (map Roots rs) ≡ None
+the_roots : (d : DirectoryView) (seen : SeenView) (at : ℕ) (rs : List RootTree) → RootsOk d seen.roots rs → declarations_error d seen at (map Roots rs) ≡ None
 the_roots d seen at [] ok = refl
 the_roots d seen at (r ∷ rs) ok =
     earlier_none (decl_error d seen at (Roots r)) _
     (earlier_none (repeat_error seen.roots at r.name) _ (not_so at _ Twice ok.0) (earlier_none (at_name at (where_so (nat_le TASKS (length seen.roots)) TooMany)) _ (not_so at _ TooMany ok.1) ((target d 0 (suc at) r.actor r.method (length r.args)).none ok.2)))
     (the_roots d (seen_after seen (Roots r)) (past_decl (Roots r) at) rs ok.3)
 
-the_actors : (d : Directory) (seen : Seen) (at : ℕ) (others : List ActorTree) (after : List DeclTree) → ActorsOk d seen.places seen.actors others
+the_actors : (d : DirectoryView) (seen : SeenView) (at : ℕ) (others : List ActorTree) (after : List DeclTree) → ActorsOk d seen.places seen.actors others
     → ((places : List (List ℕ)) (count at' : ℕ) → declarations_error d (record seen { places = places; actors = count }) at' after ≡ None) → declarations_error d seen at (map Acts others ++ after) ≡ None
 the_actors d seen at [] after ok h = h seen.places seen.actors at
 the_actors d seen at (a ∷ others) after ok h =
@@ -186,13 +186,13 @@ the_actors d seen at (a ∷ others) after ok h =
     (earlier_none (repeat_error seen.places at a.name) _ (not_so at _ Twice ok.0) (earlier_none (at_name at (where_so (nat_le ACTORS seen.actors) TooMany)) _ (not_so at _ TooMany ok.1) ((inside d seen.actors 0 at a).none ok.2)))
     (the_actors d (seen_after seen (Acts a)) (past_decl (Acts a) at) others after ok.3 h)
 
-the_locals : (d : Directory) (seen : Seen) (at : ℕ) (ls : List LocalTree) (after : List DeclTree) → LocalsOk seen.locals ls
+the_locals : (d : DirectoryView) (seen : SeenView) (at : ℕ) (ls : List LocalTree) (after : List DeclTree) → LocalsOk seen.locals ls
     → ((locals : List (List ℕ)) (at' : ℕ) → declarations_error d (record seen { locals = locals }) at' after ≡ None) → declarations_error d seen at (map Binds ls ++ after) ≡ None
 the_locals d seen at [] after ok h = h seen.locals at
 the_locals d seen at (l ∷ ls) after ok h =
     earlier_none (decl_error d seen at (Binds l)) _ (not_so at _ Twice ok.0) (the_locals d (seen_after seen (Binds l)) (past_decl (Binds l) at) ls after ok.1 h)
 
-the_executors : (d : Directory) (seen : Seen) (at : ℕ) (xs : List ExecutorTree) (after : List DeclTree) → ExecutorsOk seen.places seen.executors xs
+the_executors : (d : DirectoryView) (seen : SeenView) (at : ℕ) (xs : List ExecutorTree) (after : List DeclTree) → ExecutorsOk seen.places seen.executors xs
     → ((places : List (List ℕ)) (count at' : ℕ) → places ≡ seen.places ++ names_of xs → declarations_error d (record seen { places = places; executors = count }) at' after ≡ None) → declarations_error d seen at (map Executes xs ++ after) ≡ None
 the_executors d seen at [] after ok h = h seen.places seen.executors at (sym (append-nil seen.places))
 the_executors d seen at (x ∷ xs) after ok h =
@@ -200,7 +200,7 @@ the_executors d seen at (x ∷ xs) after ok h =
     (earlier_none (repeat_error seen.places at x.name) _ (not_so at _ Twice ok.0) (earlier_none (at_name at (where_so (nat_le EXECUTORS seen.executors) TooMany)) _ (not_so at _ TooMany ok.1) ((executor_kind 0 at x.kind).none ok.2)))
     (the_executors d (seen_after seen (Executes x)) (past_decl (Executes x) at) xs after ok.3 (λ places count at' e. h places count at' (e ∙ append_assoc seen.places (x.name ∷ []) (names_of xs))))
 
-in_order : (d : Directory) (s : ScriptTree) → AllOk d (record { places = []; locals = []; roots = []; executors = 0; actors = 0 }) s → declarations_error d (record { places = []; locals = []; roots = []; executors = 0; actors = 0 }) 0 (declarations_of s) ≡ None
+in_order : (d : DirectoryView) (s : ScriptView) → AllOk d (record { places = []; locals = []; roots = []; executors = 0; actors = 0 }) s → declarations_error d (record { places = []; locals = []; roots = []; executors = 0; actors = 0 }) 0 (declarations_of s) ≡ None
 in_order d s ok =
     the_executors d _ 0 s.executors (map Binds s.locals ++ (map Acts s.actors ++ map Roots s.roots)) ok.executors (λ places count at e.
     the_locals d _ at s.locals (map Acts s.actors ++ map Roots s.roots) ok.locals (λ locals at'.
@@ -209,5 +209,5 @@ in_order d s ok =
 
 pub names_again : (ds : List DeclTree) → names_error ds ≡ None → names_error (declarations_of (script_in ds)) ≡ None
 names_again ds e =
-    let same : directory_of ds ≡ directory_of (declarations_of (script_in ds)) = ap (λ (p : Plan). p.directory) (same_plan ds) in
-    subst (λ (d : Directory). declarations_error d (record { places = []; locals = []; roots = []; executors = 0; actors = 0 }) 0 (declarations_of (script_in ds)) ≡ None) same (in_order (directory_of ds) (script_in ds) (by_kinds (directory_of ds) _ 0 ds e))
+    let same : directory_of ds ≡ directory_of (declarations_of (script_in ds)) = ap (λ (p : PlanView). p.directory) (same_plan ds) in
+    subst (λ (d : DirectoryView). declarations_error d (record { places = []; locals = []; roots = []; executors = 0; actors = 0 }) 0 (declarations_of (script_in ds)) ≡ None) same (in_order (directory_of ds) (script_in ds) (by_kinds (directory_of ds) _ 0 ds e))

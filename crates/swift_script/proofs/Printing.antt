@@ -11,7 +11,7 @@ use Rattle.script_parser.specs.declared.limits.TheConstants.{NESTING}
 use Rattle.script_grammar.specs.Tree.{DeclTree}
 use Rattle.script_printing.specs.Pieces.{pieces_of_script}
 use Rattle.script_printing.specs.Printed.{printed}
-use Rattle.script_printing.specs.Script.{ScriptTree, declarations_of, script_in}
+use Rattle.script_printing.specs.Script.{ScriptView, declarations_of, script_in}
 use Rattle.script_printing.proofs.ByKind.{script_again}
 use Rattle.script_printing.proofs.Lexed.{script_lexes}
 use Rattle.script_printing.proofs.Plain.{script_is_text, text_is_ascii}
@@ -29,37 +29,37 @@ again text ds s = record {
   spelled = spelled_again NESTING s.pieces ds s.spelled;
 }
 
-pub decls_again : (text : List ℕ) (t : ScriptTree) → IsAccepted text t → SpellsDecls NESTING (printed t) (declarations_of t)
-decls_again text t a = subst (λ (u : ScriptTree). SpellsDecls NESTING (printed u) (declarations_of u)) (sym a.is) (again text a.decls a.spelled)
+pub decls_again : (text : List ℕ) (t : ScriptView) → IsAccepted text t → SpellsDecls NESTING (printed t) (declarations_of t)
+decls_again text t a = subst (λ (u : ScriptView). SpellsDecls NESTING (printed u) (declarations_of u)) (sym a.is) (again text a.decls a.spelled)
 
-pub printed_spells : (text : List ℕ) (t : ScriptTree) → IsAccepted text t → Spells NESTING (printed t) t
+pub printed_spells : (text : List ℕ) (t : ScriptView) → IsAccepted text t → Spells NESTING (printed t) t
 printed_spells text t a = record { decls = declarations_of t; spelled = decls_again text t a; is = sym (script_again t) }
 
-pub printed_plain : (text : List ℕ) (t : ScriptTree) → IsAccepted text t → is_text (printed t) ≡ true
+pub printed_plain : (text : List ℕ) (t : ScriptView) → IsAccepted text t → is_text (printed t) ≡ true
 printed_plain text t a =
-    ap (λ (u : ScriptTree). is_text (printed u)) a.is ∙ script_is_text (script_in a.decls) (readable_again NESTING text a.spelled.pieces a.decls a.spelled.lexed a.spelled.spelled)
+    ap (λ (u : ScriptView). is_text (printed u)) a.is ∙ script_is_text (script_in a.decls) (readable_again NESTING text a.spelled.pieces a.decls a.spelled.lexed a.spelled.spelled)
 
-pub printed_utf8 : (text : List ℕ) (t : ScriptTree) → IsAccepted text t → IsUtf8 (printed t)
+pub printed_utf8 : (text : List ℕ) (t : ScriptView) → IsAccepted text t → IsUtf8 (printed t)
 printed_utf8 text t a = IsUtf8-from_ascii (printed t) (text_is_ascii (printed t) (printed_plain text t a))
 
-pub printed_accepted : (text : List ℕ) (t : ScriptTree) → IsAccepted text t → length (printed t) ≤ BYTES → IsAccepted (printed t) t
+pub printed_accepted : (text : List ℕ) (t : ScriptView) → IsAccepted text t → length (printed t) ≤ BYTES → IsAccepted (printed t) t
 printed_accepted text t a short = record {
   plain = record { short = short; bytes = printed_plain text t a };
   decls = declarations_of t;
   spelled = decls_again text t a;
   is = sym (script_again t);
-  names = subst (λ (u : ScriptTree). names_error (declarations_of u) ≡ None) (sym a.is) (names_again a.decls a.names);
+  names = subst (λ (u : ScriptView). names_error (declarations_of u) ≡ None) (sym a.is) (names_again a.decls a.names);
   starts = a.starts;
   waits = a.waits;
 }
 
 -- accepted scripts with one printed form are one
-pub one_form : (s t : ScriptTree) → WasAccepted s → WasAccepted t → printed s ≡ printed t → s ≡ t
+pub one_form : (s t : ScriptView) → WasAccepted s → WasAccepted t → printed s ≡ printed t → s ≡ t
 one_form s t a b e =
     same_spelled NESTING NESTING (printed t) s t (subst (λ (text : List ℕ). Spells NESTING text s) e (printed_spells a.0 s a.1)) (printed_spells b.0 t b.1)
 
 -- the comparison of the printed forms decides whether accepted scripts are equal
-pub says : (s t : ScriptTree) (a b : List ℕ) (r : Bool) → WasAccepted s → WasAccepted t → a ≡ printed s → b ≡ printed t → r ≡ bytes_eq a b → (IsTrue r → s ≡ t) × (s ≡ t → IsTrue r)
+pub says : (s t : ScriptView) (a b : List ℕ) (r : Bool) → WasAccepted s → WasAccepted t → a ≡ printed s → b ≡ printed t → r ≡ bytes_eq a b → (IsTrue r → s ≡ t) × (s ≡ t → IsTrue r)
 says s t a b r was_s was_t is_a is_b is =
     let decides = bytes_eq-Decides a b in
     (λ yes. one_form s t was_s was_t (sym is_a ∙ decides.0 (sym is ∙ yes) ∙ is_b), λ same. is ∙ decides.1 (is_a ∙ ap printed same ∙ sym is_b))

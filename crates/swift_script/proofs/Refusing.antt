@@ -3,7 +3,7 @@ use Rattle.std.proofs.Common.{◌≡◌, ℕ, ◌+◌, ◌≤◌, List, length, 
 use Rattle.std.specs.Prelude.{slice_index_or}
 use Rattle.swift_types.specs.declared.limits.TheConstants.{BYTES}
 use Rattle.script_tokens.specs.declared.list.Tokens.{Tokens}
-use Rattle.script_tokens.specs.Pieces.{Piece}
+use Rattle.script_tokens.specs.Pieces.{TokenView}
 use Rattle.script_tokens.proofs.Unique.{unique}
 use Rattle.script_grammar.specs.Tree.{DeclTree}
 use Rattle.script_grammar.specs.Grammar.{IsScript}
@@ -44,12 +44,12 @@ of_grammar text grammar.EndsEarly none = none
 of_grammar text grammar.TooDeep none = none
 
 -- what the tokens of a text do not spell, the text does not spell
-pub read_refused : (text : List ℕ) (pieces : List Piece) (kept : Tokens) (e : ReadError) → IsPlain text → AreKept text kept → pieces ≡ pieces_of kept → NoneSpelled pieces e → Refuses (read_kind e) text
+pub read_refused : (text : List ℕ) (pieces : List TokenView) (kept : Tokens) (e : ReadError) → IsPlain text → AreKept text kept → pieces ≡ pieces_of kept → NoneSpelled pieces e → Refuses (read_kind e) text
 read_refused text pieces kept reading.Memory plain k is none = tt
 read_refused text pieces kept (reading.Fault f) plain k is none =
     of_grammar text f.kind (record {
       plain = plain;
-      none = λ decls d. none decls (subst (λ (ps : List Piece). IsScript NESTING ps decls) (unique (pieces_of kept) d.lexed k.are.lexed ∙ sym is) d.spelled);
+      none = λ decls d. none decls (subst (λ (ps : List TokenView). IsScript NESTING ps decls) (unique (pieces_of kept) d.lexed k.are.lexed ∙ sym is) d.spelled);
     })
 
 of_names : (text : List ℕ) (k : NameErrorKind) → HasError text k → Refuses (names_kind k) text

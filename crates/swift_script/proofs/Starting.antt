@@ -2,7 +2,7 @@
 use Rattle.std.proofs.Common.{◌≡◌, ◌<◌, ℕ, zero, suc, Bool, true, false, Some, None, List, [], ◌∷◌, length, refl, arith}
 use Rattle.std.specs.Prelude.{IsTrue, slice_get, unwrap_or, if◌then◌else◌}
 use Rattle.script_code.specs.Value.{holds}
-use Rattle.script_printing.specs.Script.{ScriptTree}
+use Rattle.script_printing.specs.Script.{ScriptView}
 use Rattle.script_compiler.specs.Compiled.{ActorView, CompiledView}
 use Rattle.script_compiler.specs.Starts.{starts_well, first_false_from}
 use Rattle.swift_script.specs.Accepted.{WasAccepted}
@@ -19,5 +19,5 @@ each_well c k [] n e lt = absurd (omega arith)
 each_well c k (a ∷ others) zero e lt = (first_well c k (starts_well c a) others e).0
 each_well c k (a ∷ others) (suc n) e lt = each_well c (suc k) others n (first_well c k (starts_well c a) others e).1 (omega arith)
 
-pub start_well : (s : ScriptTree) (actor : ℕ) → WasAccepted s → actor < actor_count s → IsTrue (holds (actor_invariant s actor) (executor_start s (actor_executor s actor)))
+pub start_well : (s : ScriptView) (actor : ℕ) → WasAccepted s → actor < actor_count s → IsTrue (holds (actor_invariant s actor) (executor_start s (actor_executor s actor)))
 start_well s actor a lt = each_well (parts_of s) 0 (parts_of s).actors actor a.1.starts lt

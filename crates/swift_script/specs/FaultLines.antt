@@ -6,7 +6,7 @@ use Rattle.script_tokens.specs.declared.keyword.Keyword.TheVariants as key
 use Rattle.script_tokens.specs.Bytes.{is_text_byte}
 use Rattle.script_tokens.specs.Lexes.{Lexes}
 use Rattle.script_tokens.specs.Lines.{line_feeds, line_after, BeginOn}
-use Rattle.script_tokens.specs.Pieces.{Piece, Name, Key}
+use Rattle.script_tokens.specs.Pieces.{TokenView, Name, Key}
 use Rattle.script_grammar.specs.Tree.{ActorTree, DeclTree}
 use Rattle.script_grammar.specs.Grammar.{IsScript}
 use Rattle.script_parser.specs.declared.fault.Kind.{Kind}
@@ -27,7 +27,7 @@ abbrev pub last_line : List ℕ → ℕ
 last_line text = line_after (line_feeds text)
 
 -- A text consists of these tokens, which begin on these lines, in order.
-pub record AreTokens (text : List ℕ) (pieces : List Piece) (lines : List ℕ) : Type 0 where
+pub record AreTokens (text : List ℕ) (pieces : List TokenView) (lines : List ℕ) : Type 0 where
   pub lexed : Lexes text pieces
   pub begun : BeginOn text text lines
 
@@ -35,26 +35,26 @@ pub record AreTokens (text : List ℕ) (pieces : List Piece) (lines : List ℕ) 
 abbrev pub line_at : List ℕ → List ℕ → ℕ → ℕ
 line_at text lines place = slice_index_or lines place (last_line text)
 
-abbrev pub is_name : Piece → Bool
+abbrev pub is_name : TokenView → Bool
 is_name (Name n) = true
 is_name _ = false
 
-abbrev pub is_invariant : Piece → Bool
+abbrev pub is_invariant : TokenView → Bool
 is_invariant (Key key.Invariant) = true
 is_invariant _ = false
 
-abbrev pub is_root : Piece → Bool
+abbrev pub is_root : TokenView → Bool
 is_root (Key key.Root) = true
 is_root _ = false
 
 -- the place of the token that passes a test and before which so many others do
-abbrev pub place_of : (Piece → Bool) → ℕ → List Piece → ℕ
+abbrev pub place_of : (TokenView → Bool) → ℕ → List TokenView → ℕ
 place_of test before [] = 0
 place_of test before (p ∷ ps) = if test p then (if before == 0 then 0 else suc (place_of test (before - 1) ps)) else suc (place_of test before ps)
 
 -- A fault of the grammar stands on the line of the token at which reading from left to right meets it.
 pub record TokenStandsOn (text : List ℕ) (kind : Kind) (line : ℕ) : Type 0 where
-  pub pieces : List Piece
+  pub pieces : List TokenView
   pub lines : List ℕ
   pub are : AreTokens text pieces lines
   pub left : ℕ
@@ -68,7 +68,7 @@ past_name _ = 0
 
 -- An error of the names and counts stands on the line of the name that is concerned, or of the number of a worker.
 pub record NameStandsOn (text : List ℕ) (kind : NameErrorKind) (line : ℕ) : Type 0 where
-  pub pieces : List Piece
+  pub pieces : List TokenView
   pub lines : List ℕ
   pub are : AreTokens text pieces lines
   pub decls : List DeclTree
@@ -83,7 +83,7 @@ invariants_before actor actors = count_by (λ a. is_some a.invariant) (take acto
 
 -- An invariant that is false at the start stands on the line of its keyword: that of the first actor whose invariant is.
 pub record InvariantStandsOn (text : List ℕ) (line : ℕ) : Type 0 where
-  pub pieces : List Piece
+  pub pieces : List TokenView
   pub lines : List ℕ
   pub are : AreTokens text pieces lines
   pub decls : List DeclTree
@@ -94,7 +94,7 @@ pub record InvariantStandsOn (text : List ℕ) (line : ℕ) : Type 0 where
 
 -- A root that waits for itself or for a later one stands on the line of its keyword: the first such root.
 pub record RootStandsOn (text : List ℕ) (line : ℕ) : Type 0 where
-  pub pieces : List Piece
+  pub pieces : List TokenView
   pub lines : List ℕ
   pub are : AreTokens text pieces lines
   pub decls : List DeclTree

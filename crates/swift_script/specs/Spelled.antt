@@ -1,6 +1,6 @@
 -- What is kept of a text while it is checked. No public clause names these words.
 use Rattle.std.specs.Prelude.{◌≡◌, ◌+◌, ◌-◌, Bool, ℕ, None, List, map, length, slice_index_or}
-use Rattle.script_tokens.specs.Pieces.{Piece, piece}
+use Rattle.script_tokens.specs.Pieces.{TokenView, piece}
 use Rattle.script_tokens.specs.declared.list.Tokens.{Tokens}
 use Rattle.script_grammar.specs.Tree.{DeclTree}
 use Rattle.script_grammar.specs.Grammar.{IsScript}
@@ -14,7 +14,7 @@ use Rattle.script_names.specs.declared.error.CheckError.TheVariants as naming
 use Rattle.script_names.specs.declared.error.NameErrorKind.{NameErrorKind}
 use Rattle.script_names.specs.declared.error.NameErrorKind.TheVariants as names
 use Rattle.script_names.specs.Rules.{names_error}
-use Rattle.script_printing.specs.Script.{ScriptTree, script_in}
+use Rattle.script_printing.specs.Script.{ScriptView, script_in}
 use Rattle.swift_script.specs.declared.fault.ScriptFaultKind.{ScriptFaultKind}
 use Rattle.swift_script.specs.declared.fault.ScriptFaultKind.TheVariants as kind
 use Rattle.swift_script.specs.declared.place.Sought.{Sought}
@@ -22,7 +22,7 @@ use Rattle.swift_script.specs.declared.place.Sought.TheVariants as sought
 use Rattle.swift_script.specs.Accepted.{IsPlain, SpellsDecls}
 use Rattle.swift_script.specs.FaultLines.{AreTokens, last_line, is_name, is_invariant, is_root, place_of, past_name}
 
-abbrev pub pieces_of : Tokens → List Piece
+abbrev pub pieces_of : Tokens → List TokenView
 pieces_of kept = map piece kept.tokens.items
 
 -- The tokens of a text, its lines and its last line are kept.
@@ -42,7 +42,7 @@ abbrev pub line_in : Tokens → ℕ → ℕ
 line_in kept place = slice_index_or kept.lines.items place kept.last_line
 
 -- the test of what is looked for
-abbrev pub passes : Sought → Piece → Bool
+abbrev pub passes : Sought → TokenView → Bool
 passes sought.Name p = is_name p
 passes sought.Invariant p = is_invariant p
 passes sought.Root p = is_root p
@@ -81,14 +81,14 @@ check_line kept naming.Memory = 0
 check_line kept (naming.Name e) = line_in kept (place_of is_name e.names_before (pieces_of kept) + past_name e.kind)
 
 -- A plain text spells a script whose names and counts are in order, and its tokens are kept.
-pub record IsNamed (text : List ℕ) (tree : ScriptTree) (kept : Tokens) : Type 0 where
+pub record IsNamed (text : List ℕ) (tree : ScriptView) (kept : Tokens) : Type 0 where
   pub decls : List DeclTree
   pub spelled : IsSpelled text decls kept
   pub names : names_error decls ≡ None
   pub is : tree ≡ script_in decls
 
 -- A plain text spells a script whose names and counts are in order.
-pub record HasNamesInOrder (text : List ℕ) (tree : ScriptTree) : Type 0 where
+pub record HasNamesInOrder (text : List ℕ) (tree : ScriptView) : Type 0 where
   pub plain : IsPlain text
   pub decls : List DeclTree
   pub spelled : SpellsDecls NESTING text decls

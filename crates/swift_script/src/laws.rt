@@ -2,23 +2,23 @@
 
 ghost use Rattle.std.specs.Prelude.{◌≡◌, ◌<◌, ℕ, List, IsTrue, length};
 ghost use Rattle.script_code.specs.Value.{holds};
-ghost use Rattle.script_printing.specs.Script.{ScriptTree};
+ghost use Rattle.script_printing.specs.Script.{ScriptView};
 ghost use Rattle.script_printing.specs.Printed.{printed};
 ghost use Rattle.swift_script.specs.Accepted.{Spells, IsAccepted, WasAccepted};
 ghost use Rattle.swift_script.specs.Scripts.{actor_count, actor_invariant, actor_executor, executor_start};
 
 /// A law: a text spells at most one script, whatever the limits.
 pub fn one_tree()
-    ensures { (m n : ℕ) (text : List ℕ) (s t : ScriptTree) → Spells m text s → Spells n text t → s ≡ t }
+    ensures { (m n : ℕ) (text : List ℕ) (s t : ScriptView) → Spells m text s → Spells n text t → s ≡ t }
 {}
 
 /// A law: accepted scripts with one printed form are one script.
 pub fn one_printed_form()
-    ensures { (s t : ScriptTree) → WasAccepted s → WasAccepted t → printed s ≡ printed t → s ≡ t }
+    ensures { (s t : ScriptView) → WasAccepted s → WasAccepted t → printed s ≡ printed t → s ≡ t }
 {}
 
 /// A law: each actor's invariant, if it has one, holds of what the fields of its executor's actors start with, in a
 /// script that is accepted.
 pub fn invariants_hold_at_the_start()
-    ensures { (s : ScriptTree) (actor : ℕ) → WasAccepted s → actor < actor_count s → IsTrue (holds (actor_invariant s actor) (executor_start s (actor_executor s actor))) }
+    ensures { (s : ScriptView) (actor : ℕ) → WasAccepted s → actor < actor_count s → IsTrue (holds (actor_invariant s actor) (executor_start s (actor_executor s actor))) }
 {}

@@ -1,7 +1,7 @@
 //! What there is in a script, by numbers. Each call takes constant time and no memory.
 
 ghost use Rattle.std.specs.Prelude.{◌≡◌, ◌<◌, map, IfOk};
-ghost use Rattle.script_code.specs.Instructions.{Follows};
+ghost use Rattle.script_code.specs.Instructions.{FollowsCode};
 ghost use Rattle.script_code.specs.Layout.{code_at};
 ghost use Rattle.script_code.specs.Seen.{rows_of, term_if_lent};
 ghost use Rattle.script_code.specs.Tree.{terms_of};
@@ -12,9 +12,8 @@ ghost use Rattle.swift_script.specs.Scripts.{executor_name, executor_kind, execu
 use crate::script::Script;
 use script_code::{Formula, Instruction};
 use script_compiler::CompiledField;
-use script_grammar::ExecutorKind;
 use std::alloc::{AllocError, Global};
-use swift_types::{ActorId, ExecId, LocalId, MethodId, Priority, RootId};
+use swift_types::{ActorId, ExecId, ExecutorKind, LocalId, MethodId, Priority, RootId};
 
 impl Script {
     /// The name of an executor (SE-0392), which for an actor's own is that of the actor; empty for one that the script
@@ -168,7 +167,7 @@ impl Script {
     /// A method as numbered instructions. To follow them from number 0 on is to do the method's statements.
     pub fn instructions(&self, method: MethodId) -> &[Instruction]
         requires { method.0 < method_count self.now }
-        ensures { Follows result.now (method_code self.now method.0) (code_at (method_code self.now method.0)) }
+        ensures { FollowsCode result.now (method_code self.now method.0) (code_at (method_code self.now method.0)) }
     {
         &self.method(method).instructions
     }

@@ -5,7 +5,7 @@ ghost use Rattle.script_grammar.specs.Tree.{view_decl};
 ghost use Rattle.script_names.specs.Directory.{directory_of};
 ghost use Rattle.script_names.specs.Rules.{names_error};
 ghost use Rattle.script_parser.specs.declared.limits.TheConstants.{NESTING};
-ghost use Rattle.script_printing.specs.Script.{ScriptTree};
+ghost use Rattle.script_printing.specs.Script.{ScriptView};
 ghost use Rattle.script_compiler.specs.IsCompiled.{IsCompiled};
 ghost use Rattle.swift_script.specs.Accepted.{IsAccepted, IsPlain, NoRootWaits, SpellsDecls, first_false};
 ghost use Rattle.swift_script.specs.Answers.{IsReadAs};
@@ -36,7 +36,7 @@ pub fn read(alloc: Global, bytes: &[u8]) -> Result<Script, ScriptFault>
     // What is read is accepted, and its tree is what the text spells.
     ensures found { IfOk result (λ s. IsAccepted bytes.now s) }
     // What is accepted is read, unless memory runs out.
-    ensures accepted { (tree : ScriptTree) → IsAccepted bytes.now tree → IsReadAs tree result }
+    ensures accepted { (tree : ScriptView) → IsAccepted bytes.now tree → IsReadAs tree result }
     // Each refusal has its stated cause, and for none that is looked for before it.
     ensures refused { IfErr result (λ e. Refuses e.kind bytes.now) }
     // It stands on the line of the first byte outside text, of the token at which the grammar fails, of the name that

@@ -50,10 +50,10 @@ impl Drop for Script {
 
 impl Model for Script {
     ghost use Rattle.std.specs.Coded.{codes};
-    ghost use Rattle.script_printing.specs.Script.{ScriptTree};
+    ghost use Rattle.script_printing.specs.Script.{ScriptView};
     ghost use Rattle.swift_script.specs.Codes.{expression_code, statement_code, block_code};
 
-    ghost Value = { ScriptTree };
+    ghost Value = { ScriptView };
 
     ghost coded = { Prim.hlevel (codes, expression_code, statement_code (block_code (Prim.hlevel (codes, expression_code)) (Prim.hlevel (codes, expression_code)))) };
 

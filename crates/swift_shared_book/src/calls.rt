@@ -6,27 +6,27 @@ ghost use Rattle.swift_script.specs.Scripts.{root_count};
 ghost use Rattle.swift_interpreter.specs.Frames.{effect_views};
 ghost use Rattle.swift_interpreter.specs.TurnStates.{exit_view};
 ghost use Rattle.swift_turn.specs.Body.{BodyView, IsRunning};
-ghost use Rattle.swift_queue.specs.Job.{JobIs};
+ghost use Rattle.swift_job.specs.Job.{JobView};
 ghost use Rattle.swift_events.specs.Room.{IsEnv};
 ghost use Rattle.swift_journal.specs.Records.{RecordView};
 ghost use Rattle.swift_history.specs.TurnEnds.{root_job};
 ghost use Rattle.swift_known.specs.Views.{Maker};
-ghost use Rattle.swift_tasks.specs.Books.{BookView, IsEndOf, IsJobOf, job_view};
+ghost use Rattle.swift_tasks.specs.Books.{BookView, IsEndOf, IsJobOf};
+ghost use Rattle.swift_history.specs.Jobs.{job_facts};
 ghost use Rattle.swift_tasks.specs.Refusals.{IsRefusal, refusal_of_apply, refusal_of_begin, refusal_of_root};
 ghost use Rattle.swift_shared_book.specs.Shared.{BeginsTicket, HasPlayed, HasTicket, IsSeatOf, after_turn, knowing, newest};
 
 use crate::jobs::{TicketedJobs, turn};
 use crate::seat::BookSeat;
 use crate::shared::BookLock;
-use script_code::Env;
 use std::marker::Brand;
 use std::sync::Wait;
 use swift_interpreter::{Effect, Exit};
+use swift_job::Job;
 use swift_journal::Journal;
-use swift_queue::Job;
 use swift_tasks::BookFault;
 use swift_turn::Body;
-use swift_types::RootId;
+use swift_types::{Env, RootId};
 
 // The jobs past the first ones, so many.
 fn jobs_from(jobs: &Vec<Job<Body>>, from: usize) -> &[Job<Body>]
@@ -47,8 +47,8 @@ impl BookLock {
     ) -> Result<Env, BookFault>
         requires seat { IsSeatOf self.now seat.old }
         requires job { job.now.body.script ≡ self.now.script }
-        requires ticket { HasTicket (job_view job.now) seat.old.knows.tickets }
-        ensures ok { IfOk result (λ env. BeginsTicket (job_view job.now) env seat.old.knows seat.new.knows) }
+        requires ticket { HasTicket (job_facts job.now) seat.old.knows.tickets }
+        ensures ok { IfOk result (λ env. BeginsTicket (job_facts job.now) env seat.old.knows seat.new.knows) }
         ensures given { IfOk result (λ env. (b : BookView) × (b.script ≡ self.now.script) × IsEnv (root_count b.script) job.now.task b.log env) }
         ensures lock { (seat.new.lock ≡ seat.old.lock) × (seat.new.here ≡ true) }
         ensures err { OnErr result (seat.new ≡ seat.old) }
@@ -88,7 +88,7 @@ impl BookLock {
         requires job { IsSomeAnd place.old (λ j. IsRunning j.body × (j.body.script ≡ self.now.script)) }
         requires played { IsSomeAnd place.old (λ j. (r : RecordView) × (newest journal.now ≡ Some r) × (r.exit ≡ exit_view exit.now) × (r.effects ≡ effect_views effects.now) × HasPlayed self.now.script seat.old.knows j r) }
         ensures ok { OnOk result (IsSomeAnd place.old (λ j. (b : BookView) × (b' : BookView) × (b.script ≡ self.now.script) × (b'.script ≡ b.script)
-            × IsEndOf b (map job_view jobs.old.jobs) j (effect_views effects.now) (exit_view exit.now) b'.log b'.held (map job_view jobs.new.jobs))) }
+            × IsEndOf b (map job_facts jobs.old.jobs) j (effect_views effects.now) (exit_view exit.now) b'.log b'.held (map job_facts jobs.new.jobs))) }
         ensures seat { OnOk result (IfSome (newest journal.now) (λ r. seat.new ≡ knowing (after_turn r seat.old.knows) seat.old)) }
         ensures gone { OnOk result (place.new ≡ None) }
         ensures bodies { AllByRecursion (IsJobOf self.now.script) jobs.old.jobs → AllByRecursion (IsJobOf self.now.script) jobs.new.jobs }
@@ -128,7 +128,7 @@ impl BookLock {
         requires jobs { jobs.old.book ≡ self.now.id }
         requires next { (m : Maker) × (seat.old.knows.maker ≡ Some m) × (m.roots ≡ root.0) }
         ensures seat { OnOk result (IfSome seat.old.knows.maker (λ m. seat.new ≡ knowing (record seat.old.knows { maker = Some (record m { roots = m.roots + 1 }) }) seat.old)) }
-        ensures job { OnOk result ((j : JobIs BodyView) × (jobs.new ≡ record jobs.old { jobs = jobs.old.jobs ++ j ∷ [] }) × (job_view j ≡ root_job self.now.script root.0) × IsJobOf self.now.script j) }
+        ensures job { OnOk result ((j : JobView BodyView) × (jobs.new ≡ record jobs.old { jobs = jobs.old.jobs ++ j ∷ [] }) × (job_facts j ≡ root_job self.now.script root.0) × IsJobOf self.now.script j) }
         ensures err { OnErr result ((seat.new ≡ seat.old) × (jobs.new ≡ jobs.old)) }
         ensures refused { MatchResult result (λ _. (b : BookView) × (b.script ≡ self.now.script) × (refusal_of_root b.script b.log root.0 ≡ None))
             (λ fault. (fault ≡ BookFault.Memory) ⊎ ((b : BookView) × (b.script ≡ self.now.script) × (refusal_of_root b.script b.log root.0 ≡ Some fault))) }

@@ -1,38 +1,38 @@
 //! How what was done to the book is given back.
 
 ghost use Rattle.std.specs.Prelude.{◌≡◌, true, Some, IfSome, IsSome, map};
-ghost use Rattle.swift_tasks.specs.Books.{job_view};
+ghost use Rattle.swift_history.specs.Jobs.{job_facts};
 ghost use Rattle.swift_course.specs.Seats.{gathered};
 ghost use Rattle.swift_book_steps.specs.Calls.{facts_of};
 ghost use Rattle.swift_shared_book.specs.Shared.{BeginsTicket, after_turn, newest, seat_of, tickets_view};
 ghost use Rattle.swift_shared_book.specs.Steps.{KnowsRoot, MayGiveBack, knowing_record};
 
 use crate::opened::{OpenBook, OpenSeat};
-use crate::rule::{AddsRoot, Applies, Begins, Begun, Told};
+use crate::rule::{AddsRoot, BookApplies, BookBegins, NamesBegun, Told};
 use crate::seat::BookSeat;
 use crate::shared::BookLock;
 use crate::shelf::Shelf;
-use script_code::Env;
 use std::marker::Brand;
 use std::mem;
+use swift_job::Job;
 use swift_journal::Journal;
-use swift_queue::Job;
 use swift_turn::Body;
+use swift_types::Env;
 
 impl BookLock {
     // Gives the book back, in which the turn of this job has begun.
-    pub(crate) fn give_begun<K: Begun>(
+    pub(crate) fn give_begun<K: NamesBegun>(
         &self,
         seat: &mut BookSeat,
         given: OpenBook,
         job: &Job<Body>,
         env: Env,
     )
-        requires name { (K.job ≡ Some (job_view job.now)) × (K.env ≡ Some env) }
+        requires name { (K.job ≡ Some (job_facts job.now)) × (K.env ≡ Some env) }
         requires lock { given.seat.lock ≡ self.now.id }
-        requires gives { MayGiveBack given.seat.knows given.seat.taken (facts_of given.book.value) (λ _. BeginsTicket (job_view job.now) env given.seat.knows) }
+        requires gives { MayGiveBack given.seat.knows given.seat.taken (facts_of given.book.value) (λ _. BeginsTicket (job_facts job.now) env given.seat.knows) }
         ensures lock { (seat.new.lock ≡ self.now.id) × (seat.new.here ≡ true) }
-        ensures begun { BeginsTicket (job_view job.now) env given.seat.knows seat.new.knows }
+        ensures begun { BeginsTicket (job_facts job.now) env given.seat.knows seat.new.knows }
     {
         let _task = job.task();
         let _env = env;
@@ -40,7 +40,8 @@ impl BookLock {
             book,
             seat: OpenSeat { seat: mut giving },
         } = given;
-        self.lock.unlock::<Begins<K>>(&mut giving, Shelf { book });
+        self.lock
+            .unlock::<BookBegins<K>>(&mut giving, Shelf { book });
         seat.put(giving);
     }
 
@@ -67,10 +68,10 @@ impl BookLock {
         journal: &Journal,
         made: &[Job<Body>],
     )
-        requires name { K.view ≡ knowing_record (newest journal.now) (map job_view made.now) given.seat.knows }
+        requires name { K.view ≡ knowing_record (newest journal.now) (map job_facts made.now) given.seat.knows }
         requires lock { given.seat.lock ≡ self.now.id }
-        requires gives { MayGiveBack given.seat.knows given.seat.taken (facts_of given.book.value) (λ _ w. w ≡ knowing_record (newest journal.now) (map job_view made.now) given.seat.knows) }
-        ensures { seat.new ≡ seat_of self.now (knowing_record (newest journal.now) (map job_view made.now) given.seat.knows) }
+        requires gives { MayGiveBack given.seat.knows given.seat.taken (facts_of given.book.value) (λ _ w. w ≡ knowing_record (newest journal.now) (map job_facts made.now) given.seat.knows) }
+        ensures { seat.new ≡ seat_of self.now (knowing_record (newest journal.now) (map job_facts made.now) given.seat.knows) }
     {
         let _turns = journal.len();
         let _made = made.len();
@@ -78,7 +79,8 @@ impl BookLock {
             book,
             seat: OpenSeat { seat: mut giving },
         } = given;
-        self.lock.unlock::<Applies<K>>(&mut giving, Shelf { book });
+        self.lock
+            .unlock::<BookApplies<K>>(&mut giving, Shelf { book });
         seat.put(giving);
     }
 
@@ -92,7 +94,7 @@ impl BookLock {
         tickets: &mut BookSeat,
     )
         requires lock { given.seat.lock ≡ self.now.id }
-        requires gives { MayGiveBack given.seat.knows given.seat.taken (facts_of given.book.value) (λ _ w. w ≡ knowing_record (newest journal.now) (map job_view made.now) given.seat.knows) }
+        requires gives { MayGiveBack given.seat.knows given.seat.taken (facts_of given.book.value) (λ _ w. w ≡ knowing_record (newest journal.now) (map job_facts made.now) given.seat.knows) }
         requires newest { IsSome (newest journal.now) }
         requires tickets { (tickets.old.lock ≡ self.now.id) × (tickets.old.here ≡ true) }
         ensures seat { IfSome (newest journal.now) (λ r. seat.new ≡ seat_of self.now (after_turn r given.seat.knows)) }

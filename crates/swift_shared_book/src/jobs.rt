@@ -5,10 +5,9 @@ ghost use Rattle.swift_shared_book.specs.SharedInside.{HasTicketsOf, oldest_firs
 
 use crate::seat::BookSeat;
 use crate::shared::BookLock;
-use crate::shelf::spend_all;
 use std::alloc::Global;
 use std::marker::Model;
-use swift_queue::Job;
+use swift_job::{Job, spend_all};
 use swift_ticket::TicketedJob;
 use swift_turn::Body;
 
@@ -38,10 +37,10 @@ impl Drop for TicketedJobs {
 impl Model for TicketedJobs {
     ghost use Rattle.std.specs.Coded.{codes};
     ghost use Rattle.swift_script.specs.Codes.{expression_code, statement_code, block_code};
-    ghost use Rattle.swift_shared_book.specs.Shared.{TicketedJobsIs};
+    ghost use Rattle.swift_shared_book.specs.Shared.{TicketedJobsView};
     ghost use Rattle.swift_shared_book.specs.SharedInside.{HasTicketsOf, oldest_first};
 
-    ghost Value = { TicketedJobsIs };
+    ghost Value = { TicketedJobsView };
 
     ghost coded = { Prim.hlevel (codes, expression_code, statement_code (block_code (Prim.hlevel (codes, expression_code)) (Prim.hlevel (codes, expression_code)))) };
 

@@ -3,7 +3,7 @@
 use crate::shelf::Shelf;
 use std::marker::Model;
 use swift_known::known::Known;
-use swift_lock::Seat;
+use swift_lock::LockSeat;
 use swift_tasks::Book;
 
 /// A book that was taken from its lock. It can't be dropped: a call of the lock gives it back.
@@ -17,16 +17,16 @@ pub struct OpenBook {
 /// it was when it was taken.
 #[derive(Drop)]
 pub struct OpenSeat {
-    pub(crate) seat: Seat<Shelf, Known>,
+    pub(crate) seat: LockSeat<Shelf, Known>,
 }
 
 impl Model for OpenSeat {
     ghost use Rattle.std.specs.Prelude.{IsSome};
     ghost use Rattle.std.specs.Coded.{codes};
     ghost use Rattle.swift_script.specs.Codes.{expression_code, statement_code, block_code};
-    ghost use Rattle.swift_shared_book.specs.Shared.{OpenSeatIs, facts_in};
+    ghost use Rattle.swift_shared_book.specs.Shared.{OpenSeatView, facts_in};
 
-    ghost Value = { OpenSeatIs };
+    ghost Value = { OpenSeatView };
 
     ghost coded = { Prim.hlevel (codes, expression_code, statement_code (block_code (Prim.hlevel (codes, expression_code)) (Prim.hlevel (codes, expression_code)))) };
 

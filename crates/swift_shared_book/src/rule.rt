@@ -1,9 +1,9 @@
 //! What holds of the book and of what all seats know, and what the calls tell.
 
 ghost use Rattle.std.specs.Prelude.{◌≡◌, ℕ, Option, Some, None, IfSome};
-ghost use Rattle.script_code.specs.declared.env.Env.{Env};
-ghost use Rattle.swift_history.specs.TurnEnds.{JobView};
-ghost use Rattle.swift_known.specs.Views.{SeatView, no_view};
+ghost use Rattle.swift_types.specs.declared.env.Env.{Env};
+ghost use Rattle.swift_history.specs.TurnEnds.{JobFacts};
+ghost use Rattle.swift_known.specs.Views.{BookKnown, no_view};
 ghost use Rattle.swift_course.specs.Reports.{Knows};
 ghost use Rattle.swift_course.specs.Rule.{HoldsOf};
 ghost use Rattle.swift_course.specs.Seats.{account_parted, first_view, gathered, maker_left, some_left, some_parted};
@@ -12,7 +12,7 @@ ghost use Rattle.swift_shared_book.specs.Steps.{KnowsRoot};
 
 use std::marker::{Brand, PhantomData};
 use swift_known::known::{BookImage, Known};
-use swift_lock::{Join, Lesson, LockRule, Outcome, Split};
+use swift_lock::{Join, Lesson, LockRule, Split, UnlockOutcome};
 
 /// The rule: some history of the script led to the book, and what each seat knows of it is true.
 pub struct BookRule;
@@ -33,35 +33,35 @@ impl Lesson<BookImage, Known> for Finds {
 /// A book is given back as it was.
 pub struct Stays;
 
-impl Outcome<BookImage, Known> for Stays {
+impl UnlockOutcome<BookImage, Known> for Stays {
     ghost then = { λ known _ _ known'. known'.view ≡ known.view };
 }
 
 /// Names the job whose turn has begun, and the environment of the turn, in proofs alone.
-pub trait Begun {
-    ghost job: { Option JobView };
+pub trait NamesBegun {
+    ghost job: { Option JobFacts };
 
     ghost env: { Option Env };
 }
 
-impl Begun for Brand {
+impl NamesBegun for Brand {
     ghost job = { None };
 
     ghost env = { None };
 }
 
 /// The turn of a ticket has begun.
-pub struct Begins<K> {
+pub struct BookBegins<K> {
     of: PhantomData<K>,
 }
 
-impl<K: Begun> Outcome<BookImage, Known> for Begins<K> {
+impl<K: NamesBegun> UnlockOutcome<BookImage, Known> for BookBegins<K> {
     ghost then = { λ known _ _ known'. IfSome K.job (λ job. IfSome K.env (λ env. BeginsTicket job env known.view known'.view)) };
 }
 
 /// Names what a seat knows after a turn, in proofs alone: the record of the turn is in its view, and the book does not have it.
 pub trait Told {
-    ghost view: { SeatView };
+    ghost view: { BookKnown };
 }
 
 impl Told for Brand {
@@ -69,27 +69,27 @@ impl Told for Brand {
 }
 
 /// A turn was applied.
-pub struct Applies<K> {
+pub struct BookApplies<K> {
     of: PhantomData<K>,
 }
 
-impl<K: Told> Outcome<BookImage, Known> for Applies<K> {
+impl<K: Told> UnlockOutcome<BookImage, Known> for BookApplies<K> {
     ghost then = { λ _ _ _ known'. known'.view ≡ K.view };
 }
 
 /// A root was added.
 pub struct AddsRoot;
 
-impl Outcome<BookImage, Known> for AddsRoot {
+impl UnlockOutcome<BookImage, Known> for AddsRoot {
     ghost then = { λ known taken _ known'. KnowsRoot known.view taken.facts known'.view };
 }
 
 /// Names how many tickets are parted off, in proofs alone.
-pub trait Counted {
+pub trait NamesCount {
     ghost count: { ℕ };
 }
 
-impl Counted for Brand {
+impl NamesCount for Brand {
     ghost count = { 0 };
 }
 
@@ -98,7 +98,7 @@ pub struct PartsTickets<K> {
     of: PhantomData<K>,
 }
 
-impl<K: Counted> Split<Known> for PartsTickets<K> {
+impl<K: NamesCount> Split<Known> for PartsTickets<K> {
     ghost left = { λ known. record { view = some_left K.count known.view } };
 
     ghost right = { λ known. record { view = some_parted K.count known.view } };

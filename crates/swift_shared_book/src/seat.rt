@@ -2,12 +2,12 @@
 
 ghost use Rattle.std.specs.Prelude.{◌≡◌, true, false, None, Some, [], ◌∷◌};
 ghost use Rattle.swift_known.specs.declared.known.Known.{Known as KnownIs};
-ghost use Rattle.swift_shared_book.specs.Shared.{BookSeatIs};
+ghost use Rattle.swift_shared_book.specs.Shared.{BookSeatView};
 
 use crate::shelf::Shelf;
 use std::marker::Model;
 use swift_known::known::{BookImage, Known};
-use swift_lock::{Badge, Seat};
+use swift_lock::{Badge, LockSeat};
 use swift_ticket::BookName;
 
 /// A thread's right to take the book of one run, and what it knows of the run: the turns of its executors, the tickets of jobs that it
@@ -23,10 +23,10 @@ pub struct BookSeat {
 impl Model for BookSeat {
     ghost use Rattle.std.specs.Coded.{codes};
     ghost use Rattle.swift_script.specs.Codes.{expression_code, statement_code, block_code};
-    ghost use Rattle.swift_shared_book.specs.Shared.{BookSeatIs, is_there, view_in};
+    ghost use Rattle.swift_shared_book.specs.Shared.{BookSeatView, is_there, view_in};
     ghost use Rattle.swift_shared_book.specs.SharedInside.{IsOneAtMost};
 
-    ghost Value = { BookSeatIs };
+    ghost Value = { BookSeatView };
 
     ghost coded = { Prim.hlevel (codes, expression_code, statement_code (block_code (Prim.hlevel (codes, expression_code)) (Prim.hlevel (codes, expression_code)))) };
 
@@ -44,7 +44,7 @@ impl BookSeat {
     }
 
     // The seat of a lock that was just made, or one that was split off.
-    pub(crate) fn of(seat: Seat<Shelf, Known>) -> BookSeat
+    pub(crate) fn of(seat: LockSeat<Shelf, Known>) -> BookSeat
         requires { seat.held ≡ None }
         ensures { result ≡ record { lock = seat.lock; here = true; knows = seat.known.view } }
     {
@@ -73,7 +73,7 @@ impl BookSeat {
     }
 
     // What the lock takes for a seat.
-    pub(crate) fn into_seat(self) -> Seat<Shelf, Known>
+    pub(crate) fn into_seat(self) -> LockSeat<Shelf, Known>
         requires { self.here ≡ true }
         ensures { result ≡ record { lock = self.lock; known = record { view = self.knows }; held = None } }
     {
@@ -81,7 +81,7 @@ impl BookSeat {
     }
 
     // The same, out of its place, which it leaves empty.
-    pub(crate) fn take(&mut self) -> Seat<Shelf, Known>
+    pub(crate) fn take(&mut self) -> LockSeat<Shelf, Known>
         requires { self.old.here ≡ true }
         ensures seat { result ≡ record { lock = self.old.lock; known = record { view = self.old.knows }; held = None } }
         ensures out { self.new.here ≡ false }
@@ -90,7 +90,7 @@ impl BookSeat {
     }
 
     // Puts a seat into its place.
-    pub(crate) fn put(&mut self, seat: Seat<Shelf, Known>)
+    pub(crate) fn put(&mut self, seat: LockSeat<Shelf, Known>)
         requires { seat.held ≡ None }
         ensures { self.new ≡ record { lock = seat.lock; here = true; knows = seat.known.view } }
     {

@@ -2,7 +2,8 @@
 
 ghost use Rattle.std.specs.Prelude.{◌≡◌, ℕ, ◌<◌, true, Some, [], IfOk, IfErr, IfSome};
 ghost use Rattle.swift_script.specs.Scripts.{executor_count};
-ghost use Rattle.swift_tasks.specs.Books.{empty_book, job_view};
+ghost use Rattle.swift_tasks.specs.Books.{empty_book};
+ghost use Rattle.swift_history.specs.Jobs.{job_facts};
 ghost use Rattle.swift_known.specs.Views.{Maker};
 ghost use Rattle.swift_course.specs.Reports.{Knows};
 ghost use Rattle.swift_course.specs.Seats.{account_parted, first_view, gathered, maker_left, some_left, some_parted};
@@ -11,15 +12,15 @@ ghost use Rattle.swift_shared_book.specs.Shared.{IsSeatOf, knowing, seat_of, wit
 
 use crate::jobs::TicketedJobs;
 use crate::opened::{OpenBook, OpenSeat};
-use crate::rule::{BookRule, Counted, Finds, Gathers, OpensAccount, PartsTickets, Stays};
+use crate::rule::{BookRule, Finds, Gathers, NamesCount, OpensAccount, PartsTickets, Stays};
 use crate::seat::BookSeat;
 use crate::shelf::Shelf;
 use std::alloc::{AllocError, Global};
 use std::marker::{Brand, Model};
 use std::sync::Wait;
+use swift_job::Job;
 use swift_known::known::Known;
 use swift_lock::Lock;
-use swift_queue::Job;
 use swift_tasks::Book;
 use swift_ticket::TicketedJob;
 use swift_turn::Body;
@@ -43,9 +44,9 @@ impl Drop for BookLock {
 impl Model for BookLock {
     ghost use Rattle.std.specs.Coded.{codes};
     ghost use Rattle.swift_script.specs.Codes.{expression_code, statement_code, block_code};
-    ghost use Rattle.swift_shared_book.specs.Shared.{BookLockIs};
+    ghost use Rattle.swift_shared_book.specs.Shared.{BookLockView};
 
-    ghost Value = { BookLockIs };
+    ghost Value = { BookLockView };
 
     ghost coded = { Prim.hlevel (codes, expression_code, statement_code (block_code (Prim.hlevel (codes, expression_code)) (Prim.hlevel (codes, expression_code)))) };
 
@@ -114,7 +115,7 @@ impl BookLock {
     }
 
     // The first tickets of a seat, so many, in a seat of their own.
-    fn part_some<K: Counted>(&self, seat: &mut BookSeat, count: usize) -> BookSeat
+    fn part_some<K: NamesCount>(&self, seat: &mut BookSeat, count: usize) -> BookSeat
         requires name { K.count ≡ count }
         requires seat { (seat.old.lock ≡ self.now.id) × (seat.old.here ≡ true) }
         ensures left { seat.new ≡ knowing (some_left count seat.old.knows) seat.old }
@@ -150,7 +151,7 @@ impl BookLock {
         requires lock { (seat.old.lock ≡ self.now.id) × (seat.old.here ≡ true) }
         requires book { job.book ≡ Some self.now.id }
         ensures job { result ≡ job.job }
-        ensures seat { seat.new ≡ knowing (with_ticket (job_view job.job) seat.old.knows) seat.old }
+        ensures seat { seat.new ≡ knowing (with_ticket (job_facts job.job) seat.old.knows) seat.old }
     {
         let (job, ticket) = job.into_parts();
         self.gather(seat, BookSeat::of_ticket(ticket));

@@ -3,11 +3,10 @@
 ghost use Rattle.std.specs.Prelude.{◌≡◌};
 
 use std::marker::Model;
+use swift_job::spend_all;
 use swift_known::known::BookImage;
 use swift_lock::Locked;
-use swift_queue::Job;
 use swift_tasks::Book;
-use swift_turn::Body;
 
 /// A book that threads share, while none has taken it. It lies in a box, so that the lock moves one pointer. Where it is
 /// dropped, the book is closed, and the jobs of the tasks that wait are spent.
@@ -43,12 +42,4 @@ impl Shelf {
 fn spend(book: Book) {
     let (_log, waiting) = book.close();
     spend_all(waiting);
-}
-
-/// Spends these jobs.
-pub fn spend_all(mut jobs: Vec<Job<Body>>) {
-    while let Some(job) = jobs.pop() {
-        let (_task, _number, _resume, _body) = job.spend();
-    }
-    jobs.destroy_empty();
 }

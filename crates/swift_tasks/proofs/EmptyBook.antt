@@ -9,8 +9,8 @@ use Rattle.swift_ledger.specs.Ledgers.{LedgerView}
 use Rattle.swift_events.specs.declared.event.Event.{Event}
 use Rattle.swift_events.specs.Lives.{is_waiting}
 use Rattle.swift_events.proofs.LogLemmas.{unborn_without}
-use Rattle.swift_history.specs.TurnEnds.{HeldView}
-use Rattle.swift_tasks.specs.declared.held.Held.{Held}
+use Rattle.swift_history.specs.TurnEnds.{WaitingTaskView}
+use Rattle.swift_tasks.specs.declared.held.WaitingTask.{WaitingTask}
 use Rattle.swift_tasks.specs.Books.{HoldsWaiting, BookView, empty_book}
 use Rattle.swift_tasks.specs.Counted.{UnopenedAreNotClosed}
 use Rattle.swift_tasks.specs.BookInvariant.{BookInvariant, held_view, held_views, FitsScript}
@@ -35,16 +35,16 @@ pub empty_bodies : (script : ScriptView) (n : ℕ) → AllByRecursion (FitsScrip
 empty_bodies script zero = tt
 empty_bodies script (suc n) = (tt, empty_bodies script n)
 
-some_view : (h : Option Held) → is_some (held_view h) ≡ is_some h
+some_view : (h : Option WaitingTask) → is_some (held_view h) ≡ is_some h
 some_view None = refl
 some_view (Some h) = refl
 
-view_at : (held : List (Option Held)) (t : ℕ) → is_some (slice_index_or (held_views held) t None) ≡ is_some (slice_index_or held t None)
+view_at : (held : List (Option WaitingTask)) (t : ℕ) → is_some (slice_index_or (held_views held) t None) ≡ is_some (slice_index_or held t None)
 view_at [] t = refl
 view_at (h ∷ hs) zero = some_view h
 view_at (h ∷ hs) (suc t) = view_at hs t
 
-pub views_hold : {roots : ℕ} {log : List Event} (held : List (Option Held)) → HoldsWaiting roots log held → HoldsWaiting roots log (held_views held)
+pub views_hold : {roots : ℕ} {log : List Event} (held : List (Option WaitingTask)) → HoldsWaiting roots log held → HoldsWaiting roots log (held_views held)
 views_hold held holds = record {
   size = length-map held held_view ∙ holds.size;
   waits = λ t. view_at held t ∙ holds.waits t;
@@ -54,18 +54,18 @@ views_hold held holds = record {
 pub empty_closed : UnopenedAreNotClosed []
 empty_closed = record { at = λ o g le. refl }
 
-abbrev pub book_of : ScriptView → List Event → List (Option HeldView) → BookView
+abbrev pub book_of : ScriptView → List Event → List (Option WaitingTaskView) → BookView
 book_of script log held = record { script = script; log = log; held = held }
 
 -- a new book keeps what it has to
-pub empty_kept : (script : ScriptView) (ledger : LedgerView) (held : List (Option Held)) {roots : ℕ} → roots ≡ root_count script → ledger ≡ record { roots = roots; log = []; spare = 0 } → held ≡ replicate roots None → BookInvariant script ledger.roots ledger.log held
+pub empty_kept : (script : ScriptView) (ledger : LedgerView) (held : List (Option WaitingTask)) {roots : ℕ} → roots ≡ root_count script → ledger ≡ record { roots = roots; log = []; spare = 0 } → held ≡ replicate roots None → BookInvariant script ledger.roots ledger.log held
 empty_kept script ledger held {roots} count new none =
     subst (λ (l : LedgerView). BookInvariant script l.roots l.log held) (sym new)
-    (subst (λ (hs : List (Option Held)). BookInvariant script roots [] hs) (sym none)
+    (subst (λ (hs : List (Option WaitingTask)). BookInvariant script roots [] hs) (sym none)
     (record { roots_are = count; holds = empty_holds roots; bodies = empty_bodies script roots; closed = empty_closed }))
 
 -- a new book is empty
-pub new_is_empty : (script : ScriptView) (log : List Event) (held : List (Option Held)) (roots : ℕ) → roots ≡ root_count script → log ≡ [] → held ≡ replicate roots None → book_of script log (held_views held) ≡ empty_book script
+pub new_is_empty : (script : ScriptView) (log : List Event) (held : List (Option WaitingTask)) (roots : ℕ) → roots ≡ root_count script → log ≡ [] → held ≡ replicate roots None → book_of script log (held_views held) ≡ empty_book script
 new_is_empty script log held roots count none rest =
     ap (λ (l : List Event). book_of script l (held_views held)) none
-    ∙ ap (λ (hs : List (Option HeldView)). book_of script [] hs) (ap held_views rest ∙ empty_views roots ∙ ap (λ (n : ℕ). replicate n None) count)
+    ∙ ap (λ (hs : List (Option WaitingTaskView)). book_of script [] hs) (ap held_views rest ∙ empty_views roots ∙ ap (λ (n : ℕ). replicate n None) count)

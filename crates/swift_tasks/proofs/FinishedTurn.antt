@@ -5,26 +5,26 @@ use Rattle.std.specs.List.{AllByRecursion}
 use Rattle.std.proofs.lemmas.List.{map-append, length-map}
 use Rattle.swift_types.specs.declared.outcome.Resume.{Resume}
 use Rattle.swift_script.specs.Scripts.{ScriptView}
-use Rattle.swift_queue.specs.Job.{JobIs}
+use Rattle.swift_job.specs.Job.{JobView}
 use Rattle.swift_turn.specs.declared.step.Step.{Step}
 use Rattle.swift_turn.specs.Body.{BodyView, TaskView}
 use Rattle.swift_events.specs.declared.event.Event.{Event}
-use Rattle.swift_history.specs.TurnEnds.{JobView, HeldView, Follows, followed}
-use Rattle.swift_tasks.specs.declared.held.Held.{Held}
+use Rattle.swift_history.specs.TurnEnds.{JobFacts, WaitingTaskView, AfterTurn, followed}
+use Rattle.swift_tasks.specs.declared.held.WaitingTask.{WaitingTask}
 use Rattle.swift_tasks.specs.Applying.{follows_of, followed_from}
 use Rattle.swift_tasks.specs.BookInvariant.{FitsScript, held_view, held_views}
-use Rattle.swift_tasks.specs.Books.{job_view}
+use Rattle.swift_history.specs.Jobs.{job_facts}
 use Rattle.swift_tasks.proofs.WakesKept.{behind, followed_behind}
 
-abbrev pub both_of : List (Option HeldView) → List JobView → Follows
+abbrev pub both_of : List (Option WaitingTaskView) → List JobFacts → AfterTurn
 both_of held jobs = record { held = held; jobs = jobs }
 
 none_views : (k : ℕ) → held_views (replicate k None) ≡ replicate k None
 none_views zero = refl
-none_views (suc k) = ap (λ (hs : List (Option HeldView)). None ∷ hs) (none_views k)
+none_views (suc k) = ap (λ (hs : List (Option WaitingTaskView)). None ∷ hs) (none_views k)
 
-pub grown_views : (held held' : List (Option Held)) (k : ℕ) → held' ≡ held ++ replicate k None → held_views held' ≡ held_views held ++ replicate k None
-grown_views held held' k is = ap held_views is ∙ map-append held_view held (replicate k None) ∙ ap (λ (hs : List (Option HeldView)). held_views held ++ hs) (none_views k)
+pub grown_views : (held held' : List (Option WaitingTask)) (k : ℕ) → held' ≡ held ++ replicate k None → held_views held' ≡ held_views held ++ replicate k None
+grown_views held held' k is = ap held_views is ∙ map-append held_view held (replicate k None) ∙ ap (λ (hs : List (Option WaitingTaskView)). held_views held ++ hs) (none_views k)
 
 split_map : {A B : Type 0} (f : A → B) (n : ℕ) (xs : List A) → map f xs ≡ map f (take n xs) ++ map f (drop n xs)
 split_map f zero [] = refl
@@ -55,26 +55,26 @@ length_take (suc n) [] le = absurd (omega (arith, le))
 length_take (suc n) (x ∷ xs) le = (let is = length_take n xs (omega (arith, le)) in omega (arith, is))
 
 -- what follows, behind the jobs that stood before
-pub finished : (first : ℕ) (held grown held' : List (Option Held)) (jobs jobs' : List (JobIs BodyView)) (t n : ℕ) (frames : TaskView) (resume : Option Resume) (step : Step) (log : List Event)
+pub finished : (first : ℕ) (held grown held' : List (Option WaitingTask)) (jobs jobs' : List (JobView BodyView)) (t n : ℕ) (frames : TaskView) (resume : Option Resume) (step : Step) (log : List Event)
     → grown ≡ held ++ replicate (length jobs - first) None → follows_of held' jobs' ≡ followed t n frames resume step log (follows_of grown jobs)
-    → follows_of held' jobs' ≡ behind (map job_view (take first jobs)) (followed_from first held jobs t n frames resume step log)
+    → follows_of held' jobs' ≡ behind (map job_facts (take first jobs)) (followed_from first held jobs t n frames resume step log)
 finished first held grown held' jobs jobs' t n frames resume step log more is =
-    let before : List JobView = map job_view (take first jobs) in
-    let start : follows_of grown jobs ≡ behind before (both_of (held_views held ++ replicate (length jobs - first) None) (map job_view (drop first jobs))) =
-    ap (λ (hs : List (Option HeldView)). both_of hs (map job_view jobs)) (grown_views held grown (length jobs - first) more) ∙ ap (both_of (held_views held ++ replicate (length jobs - first) None)) (split_map job_view first jobs) in
-    is ∙ ap (followed t n frames resume step log) start ∙ followed_behind before t n frames resume step log (both_of (held_views held ++ replicate (length jobs - first) None) (map job_view (drop first jobs)))
+    let before : List JobFacts = map job_facts (take first jobs) in
+    let start : follows_of grown jobs ≡ behind before (both_of (held_views held ++ replicate (length jobs - first) None) (map job_facts (drop first jobs))) =
+    ap (λ (hs : List (Option WaitingTaskView)). both_of hs (map job_facts jobs)) (grown_views held grown (length jobs - first) more) ∙ ap (both_of (held_views held ++ replicate (length jobs - first) None)) (split_map job_facts first jobs) in
+    is ∙ ap (followed t n frames resume step log) start ∙ followed_behind before t n frames resume step log (both_of (held_views held ++ replicate (length jobs - first) None) (map job_facts (drop first jobs)))
 
 -- and those that were made since
-pub finished_jobs : (first : ℕ) (jobs jobs' : List (JobIs BodyView)) (made : List JobView) → first ≤ length jobs → map job_view jobs' ≡ map job_view (take first jobs) ++ made → map job_view (drop first jobs') ≡ made
+pub finished_jobs : (first : ℕ) (jobs jobs' : List (JobView BodyView)) (made : List JobFacts) → first ≤ length jobs → map job_facts jobs' ≡ map job_facts (take first jobs) ++ made → map job_facts (drop first jobs') ≡ made
 finished_jobs first jobs jobs' made le is =
-    drop_map job_view first jobs' ∙ ap (drop first) is ∙ drop_front first (map job_view (take first jobs)) made (length-map (take first jobs) job_view ∙ length_take first jobs le)
+    drop_map job_facts first jobs' ∙ ap (drop first) is ∙ drop_front first (map job_facts (take first jobs)) made (length-map (take first jobs) job_facts ∙ length_take first jobs le)
 
-pub finished_there : (first : ℕ) (jobs jobs' : List (JobIs BodyView)) (made : List JobView) → first ≤ length jobs → map job_view jobs' ≡ map job_view (take first jobs) ++ made → first ≤ length jobs'
+pub finished_there : (first : ℕ) (jobs jobs' : List (JobView BodyView)) (made : List JobFacts) → first ≤ length jobs → map job_facts jobs' ≡ map job_facts (take first jobs) ++ made → first ≤ length jobs'
 finished_there first jobs jobs' made le is =
     let long = ap length is in
-    let sum = length-append (map job_view (take first jobs)) made in
-    let a = length-map jobs' job_view in
-    let b = length-map (take first jobs) job_view in
+    let sum = length-append (map job_facts (take first jobs)) made in
+    let a = length-map jobs' job_facts in
+    let b = length-map (take first jobs) job_facts in
     let d = length_take first jobs le in
     omega (arith, long, sum, a, b, d)
 

@@ -4,14 +4,14 @@ use Rattle.std.specs.Prelude.{Option, Some, None, ◌&&◌, nat_lt}
 use Rattle.std.specs.List.{AllByRecursion}
 use Rattle.std.proofs.lemmas.Bool.{false≢true}
 use Rattle.std.proofs.lemmas.Bool.Decides.{nat_tests}
-use Rattle.script_code.specs.declared.env.Env.{Env}
+use Rattle.swift_types.specs.declared.env.Env.{Env}
 use Rattle.swift_script.specs.Scripts.{ScriptView, method_count}
 use Rattle.swift_script.specs.SameScripts.{same_scripts}
 use Rattle.swift_interpreter.specs.Turn.{InvocationView, EffectView, spawning, detaching, opening, adding, cancelling_task, cancelling_group, ExitView, calling, waiting, asking_next, closing, yielding, returning, failing}
 use Rattle.swift_turn.specs.Body.{CanAdvance}
 use Rattle.swift_events.specs.declared.event.Event.{Event}
-use Rattle.swift_events.specs.declared.life.Stage.{Stage}
-use Rattle.swift_events.specs.declared.life.Stage.TheVariants.{Given, Begun, Applied, Waits, Asks, Closes}
+use Rattle.swift_events.specs.declared.life.JobStage.{JobStage}
+use Rattle.swift_events.specs.declared.life.JobStage.TheVariants.{Given, Begun, Applied, Waits, Asks, Closes}
 use Rattle.swift_history.specs.Checks.{Counters, counters, can_run, can_use, fits_effect, fits_turn, counted}
 use Rattle.swift_tasks.specs.Bodies.{CanStart}
 use Rattle.swift_tasks.specs.Refusals.{fits_begun}
@@ -59,13 +59,13 @@ advances script t log c [] (returning v) h = tt
 advances script t log c [] (failing f) h = tt
 
 -- the turn has begun, it fits, and the scripts are equal
-pub record FitsTurn (script : ScriptView) (log : List Event) (t : ℕ) (other : ScriptView) (es : List EffectView) (exit : ExitView) (stage : Option Stage) : Type 0 where
+pub record FitsTurn (script : ScriptView) (log : List Event) (t : ℕ) (other : ScriptView) (es : List EffectView) (exit : ExitView) (stage : Option JobStage) : Type 0 where
   pub env : Env
   pub begun : stage ≡ Some (Begun env)
   pub fits : fits_turn script t log (counters t log env.room) es exit ≡ true
   pub same : same_scripts script other ≡ true
 
-pub begun_fits : (script : ScriptView) (log : List Event) (t : ℕ) (other : ScriptView) (es : List EffectView) (exit : ExitView) (stage : Option Stage) → fits_begun script log t other es exit stage ≡ true → FitsTurn script log t other es exit stage
+pub begun_fits : (script : ScriptView) (log : List Event) (t : ℕ) (other : ScriptView) (es : List EffectView) (exit : ExitView) (stage : Option JobStage) → fits_begun script log t other es exit stage ≡ true → FitsTurn script log t other es exit stage
 begun_fits script log t other es exit None h = absurd (false≢true h)
 begun_fits script log t other es exit (Some Given) h = absurd (false≢true h)
 begun_fits script log t other es exit (Some Applied) h = absurd (false≢true h)

@@ -13,7 +13,7 @@ use Rattle.swift_types.specs.declared.priority.Priority.{Priority}
 use Rattle.swift_script.specs.Scripts.{ScriptView, root_count, method_actor}
 use Rattle.swift_interpreter.specs.Frames.{FrameView}
 use Rattle.swift_interpreter.specs.Turn.{InvocationView, ExitView, calling, waiting, asking_next, closing, yielding, returning, failing}
-use Rattle.swift_queue.specs.Job.{JobIs}
+use Rattle.swift_job.specs.Job.{JobView}
 use Rattle.swift_turn.specs.declared.step.Step.{Step}
 use Rattle.swift_turn.specs.declared.step.Step.TheVariants.{Run, Ended, Await}
 use Rattle.swift_turn.specs.Body.{BodyView, TaskView, Advanced, HasFrames, IsRunning, AdvancesTo, CanAdvance, advanced, runs, opening}
@@ -22,11 +22,12 @@ use Rattle.swift_events.specs.declared.event.Event.TheVariants.{Apply, Give}
 use Rattle.swift_events.specs.Lives.{life_of}
 use Rattle.swift_history.specs.Checks.{counters}
 use Rattle.swift_history.specs.Histories.{begun_priority}
-use Rattle.swift_history.specs.TurnEnds.{JobView, HeldView, TurnEnd, turn_end, resume_at, task}
-use Rattle.swift_tasks.specs.declared.held.Held.{Held}
+use Rattle.swift_history.specs.TurnEnds.{JobFacts, WaitingTaskView, TurnEnd, turn_end, resume_at, task}
+use Rattle.swift_tasks.specs.declared.held.WaitingTask.{WaitingTask}
 use Rattle.swift_tasks.specs.Applying.{CanApply, CanLeave, StepFits, TurnLeaves, next_of, went_on}
 use Rattle.swift_tasks.specs.BookInvariant.{BookInvariant, held_views}
-use Rattle.swift_tasks.specs.Books.{BookView, HoldsWaiting, IsEndOf, end_of_turn, job_view}
+use Rattle.swift_tasks.specs.Books.{BookView, HoldsWaiting, IsEndOf, end_of_turn}
+use Rattle.swift_history.specs.Jobs.{job_facts}
 use Rattle.swift_tasks.specs.Counted.{UnopenedAreNotClosed}
 use Rattle.swift_tasks.proofs.TurnApplied.{holds_viewed, job_fits}
 use Rattle.swift_tasks.proofs.TurnEndKept.{end_kept}
@@ -41,21 +42,21 @@ awaits (Ended e) = false
 no_await : (actor : ActorId) (next : Resume) → Run actor next ≡ Await → ⊥
 no_await actor next is = false≢true (ap awaits is)
 
-abbrev pub next_view : ℕ → ℕ → Resume → TaskView → JobView
+abbrev pub next_view : ℕ → ℕ → Resume → TaskView → JobFacts
 next_view t n next frames = record { task = t; number = n + 1; resume = resume_at (n + 1) next; frames = frames }
 
-abbrev end_with : List Event → List (Option HeldView) → List JobView → TurnEnd
+abbrev end_with : List Event → List (Option WaitingTaskView) → List JobFacts → TurnEnd
 end_with log held jobs = record { log = log; held = held; jobs = jobs }
 
 -- nothing stands between the two events
-adds_none : (log : List Event) (held : List (Option HeldView)) (t n : ℕ) (next : Resume) (jobs : List JobView)
+adds_none : (log : List Event) (held : List (Option WaitingTaskView)) (t n : ℕ) (next : Resume) (jobs : List JobFacts)
     → end_with (((log ++ Apply (task t) n ∷ []) ++ []) ++ Give (task t) (n + 1) (resume_at (n + 1) next) ∷ []) (held ++ []) jobs ≡ end_with (went_on log (task t) n next) held jobs
 adds_none log held t n next jobs =
     ap (λ (l : List Event). end_with (l ++ Give (task t) (n + 1) (resume_at (n + 1) next) ∷ []) (held ++ []) jobs) (append-nil (log ++ Apply (task t) n ∷ []))
-    ∙ ap (λ (h : List (Option HeldView)). end_with (went_on log (task t) n next) h jobs) (append-nil held)
+    ∙ ap (λ (h : List (Option WaitingTaskView)). end_with (went_on log (task t) n next) h jobs) (append-nil held)
 
 -- what such a turn leaves
-plain_end : (script : ScriptView) (log : List Event) (held : List (Option HeldView)) (t n : ℕ) (own : Priority) (exit : ExitView) (frames : TaskView) (actor : ActorId) (next : Resume) → StepFits exit (Run actor next)
+plain_end : (script : ScriptView) (log : List Event) (held : List (Option WaitingTaskView)) (t n : ℕ) (own : Priority) (exit : ExitView) (frames : TaskView) (actor : ActorId) (next : Resume) → StepFits exit (Run actor next)
     → turn_end script log held t n own [] exit (record { task = frames; step = Run actor next }) ≡ end_with (went_on log (task t) n next) held (next_view t n next frames ∷ [])
 plain_end script log held t n own (calling i) frames actor next fits = adds_none log held t n next (next_view t n next frames ∷ [])
 plain_end script log held t n own (waiting name) frames actor next fits = absurd (no_await actor next fits)
@@ -75,7 +76,7 @@ names_none t log (returning v) actor next fits = tt
 names_none t log (failing f) actor next fits = tt
 
 -- it keeps what a book has to
-plain_kept : (script : ScriptView) (log : List Event) (held : List (Option HeldView)) (t n : ℕ) (exit : ExitView) (body : BodyView) (actor : ActorId) (next : Resume) → TurnLeaves script (root_count script) log held t [] [] exit body (Run actor next)
+plain_kept : (script : ScriptView) (log : List Event) (held : List (Option WaitingTaskView)) (t n : ℕ) (exit : ExitView) (body : BodyView) (actor : ActorId) (next : Resume) → TurnLeaves script (root_count script) log held t [] [] exit body (Run actor next)
     → HoldsWaiting (root_count script) (went_on log (task t) n next) held × UnopenedAreNotClosed (went_on log (task t) n next)
 plain_kept script log held t n exit body actor next turn =
     let kept = end_kept script log held t n [] [] exit body (Run actor next) turn (names_none t (log ++ Apply (task t) n ∷ []) exit actor next turn.fitting) in
@@ -83,7 +84,7 @@ plain_kept script log held t n exit body actor next turn =
     (subst (λ (e : TurnEnd). HoldsWaiting (root_count script) e.log e.held) is kept.holds, subst (λ (e : TurnEnd). UnopenedAreNotClosed e.log) is kept.closed)
 
 -- by which body, and with what, the task of a job goes on after an exit
-pub record Next (job : JobIs BodyView) (exit : ExitView) (body : BodyView) (next : Resume) : Type 0 where
+pub record Next (job : JobView BodyView) (exit : ExitView) (body : BodyView) (next : Resume) : Type 0 where
   pub actor : ActorId
   pub advances : AdvancesTo job.body.script job.body.task.frames job.body.task.outer exit (record { task = body.task; step = Run actor next })
   pub runs : IsRunning body
@@ -94,13 +95,13 @@ yields script [] outer there = absurd there
 yields script (p ∷ callers) outer there = (record { 0 = method_actor script p.method }, refl)
 
 -- a task that gives way goes on as it was
-pub goes_again : (job : JobIs BodyView) → IsRunning job.body → Next job yielding job.body Go
+pub goes_again : (job : JobView BodyView) → IsRunning job.body → Next job yielding job.body Go
 goes_again job runs =
     let way = yields job.body.script job.body.task.frames job.body.task.outer runs in
     record { actor = way.0; advances = way.1; runs = runs; same = refl }
 
 -- such a turn ends so
-pub plain_ends : (b : BookView) (jobs jobs' : List JobView) (job : JobIs BodyView) (exit : ExitView) (body : BodyView) (next : Resume) (log : List Event) (held : List (Option HeldView)) → CanApply b [] exit job → Next job exit body next
+pub plain_ends : (b : BookView) (jobs jobs' : List JobFacts) (job : JobView BodyView) (exit : ExitView) (body : BodyView) (next : Resume) (log : List Event) (held : List (Option WaitingTaskView)) → CanApply b [] exit job → Next job exit body next
     → log ≡ went_on b.log job.task job.number next → held ≡ b.held → jobs' ≡ jobs ++ next_view job.task.0 job.number next body.task ∷ [] → IsEndOf b jobs job [] exit log held jobs'
 plain_ends b jobs jobs' job exit body next log held can on ls hs js =
     let after : Advanced = record { task = body.task; step = Run on.actor next } in
@@ -115,7 +116,7 @@ plain_ends b jobs jobs' job exit body next log held can on ls hs js =
     }
 
 -- and the book keeps what it has to
-pub plain_book : (b : BookView) (script : ScriptView) (roots roots' : ℕ) (log log' : List Event) (held : List (Option Held)) (job : JobIs BodyView) (exit : ExitView) (body : BodyView) (next : Resume) → script ≡ b.script → log ≡ b.log → BookInvariant script roots log held
+pub plain_book : (b : BookView) (script : ScriptView) (roots roots' : ℕ) (log log' : List Event) (held : List (Option WaitingTask)) (job : JobView BodyView) (exit : ExitView) (body : BodyView) (next : Resume) → script ≡ b.script → log ≡ b.log → BookInvariant script roots log held
     → CanApply b [] exit job → Next job exit body next → roots' ≡ roots → log' ≡ went_on log job.task job.number next → BookInvariant script roots' log' held
 plain_book b script roots roots' log log' held job exit body next ss ls inv can on rs gs =
     let fits = job_fits b script roots roots log log held held job [] [] [] exit ss ls inv can.fits can.known can.running can.same tt refl refl refl refl in
@@ -146,12 +147,12 @@ abbrev pub Parts : Type 0
 Parts = TaskId × ℕ × Resume × BodyView
 
 -- the job of the next turn stands behind the others
-pub more_views : (jobs jobs' : List (JobIs BodyView)) (job : JobIs BodyView) (next : Resume) (body : BodyView) → jobs' ≡ jobs ++ next_of job.task job.number next body ∷ []
-    → map job_view jobs' ≡ map job_view jobs ++ next_view job.task.0 job.number next body.task ∷ []
-more_views jobs jobs' job next body is = ap (map job_view) is ∙ map-append job_view jobs (next_of job.task job.number next body ∷ [])
+pub more_views : (jobs jobs' : List (JobView BodyView)) (job : JobView BodyView) (next : Resume) (body : BodyView) → jobs' ≡ jobs ++ next_of job.task job.number next body ∷ []
+    → map job_facts jobs' ≡ map job_facts jobs ++ next_view job.task.0 job.number next body.task ∷ []
+more_views jobs jobs' job next body is = ap (map job_facts) is ∙ map-append job_facts jobs (next_of job.task job.number next body ∷ [])
 
 -- the exit of such a turn can be followed
-pub can_follow : (b : BookView) (job : JobIs BodyView) (exit : ExitView) → CanApply b [] exit job → CanAdvance job.body.script exit
+pub can_follow : (b : BookView) (job : JobView BodyView) (exit : ExitView) → CanApply b [] exit job → CanAdvance job.body.script exit
 can_follow b job exit can =
     let fits = taken_fits b.script b.log job [] exit can.fits in
     subst (λ (s : ScriptView). CanAdvance s exit) (sym can.same) (advances b.script job.task.0 b.log (counters job.task.0 b.log fits.env.room) [] exit fits.fits)

@@ -12,7 +12,7 @@ use Rattle.swift_interpreter.specs.Turn.{EffectView, spawning, detaching, openin
 use Rattle.swift_events.specs.declared.event.Event.{Event}
 use Rattle.swift_events.specs.declared.event.Event.TheVariants.{Free, Open, Child, Skip, CancelTask, CancelGroup}
 use Rattle.swift_events.specs.declared.life.Life.{Life}
-use Rattle.swift_events.specs.declared.life.Stage.{Stage}
+use Rattle.swift_events.specs.declared.life.JobStage.{JobStage}
 use Rattle.swift_events.specs.Events.{task_of, is_made, tasks_of, later}
 use Rattle.swift_events.specs.Lives.{life_of, stage_in, ending_in, origin_in}
 use Rattle.swift_events.specs.Relations.{waiter_in, waiters_of, opened_by, closes, is_closed, is_open_group}
@@ -47,7 +47,7 @@ later_some None b h = h
 
 pub stage-push : (t : ℕ) (log : List Event) (e : Event) → stage_in e ≡ None → (life_of t (log ++ e ∷ [])).stage ≡ (life_of t log).stage
 stage-push t log e none = elim (cases_eq t (task_of e)) [
-  | inl eq ↦ ap (λ (l : Life). l.stage) (life_of-push_same t log e (sym eq)) ∙ ap (λ (s : Option Stage). later s (life_of t log).stage) none
+  | inl eq ↦ ap (λ (l : Life). l.stage) (life_of-push_same t log e (sym eq)) ∙ ap (λ (s : Option JobStage). later s (life_of t log).stage) none
   | inr ne ↦ ap (λ (l : Life). l.stage) (life_of-push_other t log e (λ q. ne (sym q)))
 ]
 

@@ -1,17 +1,18 @@
 -- The jobs of the tasks that wait, taken from the last on.
 use Rattle.std.proofs.Common.{◌≡◌, ℕ, ◌+◌, List, [], ◌∷◌, ◌++◌, length, refl, sym, ◌∙◌, ap, arith, append_assoc, subst}
 use Rattle.std.proofs.lemmas.List.{append-nil, length-map, map-append, reverse-append}
-use Rattle.swift_queue.specs.Job.{JobIs}
+use Rattle.swift_job.specs.Job.{JobView}
 use Rattle.swift_turn.specs.Body.{BodyView}
-use Rattle.swift_tasks.specs.declared.held.Held.{Held}
+use Rattle.swift_tasks.specs.declared.held.WaitingTask.{WaitingTask}
 use Rattle.swift_tasks.specs.BookInvariant.{held_view, held_views}
 use Rattle.std.specs.Prelude.{Option, Some, None, map, reverse}
 use Rattle.std.specs.List.{AllByRecursion}
 use Rattle.swift_types.specs.declared.outcome.Resume.TheVariants.{Go}
-use Rattle.swift_history.specs.TurnEnds.{JobView, HeldView}
-use Rattle.swift_tasks.specs.Books.{jobs_held, job_view}
+use Rattle.swift_history.specs.TurnEnds.{JobFacts, WaitingTaskView}
+use Rattle.swift_tasks.specs.Books.{jobs_held}
+use Rattle.swift_history.specs.Jobs.{job_facts}
 
-pub jobs_held-append : (t : ℕ) (xs ys : List (Option HeldView)) → jobs_held t (xs ++ ys) ≡ jobs_held t xs ++ jobs_held (t + length xs) ys
+pub jobs_held-append : (t : ℕ) (xs ys : List (Option WaitingTaskView)) → jobs_held t (xs ++ ys) ≡ jobs_held t xs ++ jobs_held (t + length xs) ys
 jobs_held-append t [] ys = ap (λ k. jobs_held k ys) (omega arith)
 jobs_held-append t (None ∷ xs) ys = jobs_held-append (t + 1) xs ys ∙ ap (λ k. jobs_held (t + 1) xs ++ jobs_held k ys) (omega arith)
 jobs_held-append t (Some h ∷ xs) ys =
@@ -30,39 +31,39 @@ all-back P [] ys a = a
 all-back P (x ∷ xs) ys a = all-back P xs ys a.1
 
 -- the last of the tasks that are left waits
-pub job_step : (front held : List (Option Held)) (h : Held) (jobs jobs' : List (JobIs BodyView)) (j : JobIs BodyView) (total : List JobView)
-    → held ≡ front ++ Some h ∷ [] → jobs' ≡ jobs ++ j ∷ [] → job_view j ≡ record { task = length front; number = h.number; resume = Go; frames = h.body.task }
-    → jobs_held 0 (held_views held) ++ reverse (map job_view jobs) ≡ total → jobs_held 0 (held_views front) ++ reverse (map job_view jobs') ≡ total
+pub job_step : (front held : List (Option WaitingTask)) (h : WaitingTask) (jobs jobs' : List (JobView BodyView)) (j : JobView BodyView) (total : List JobFacts)
+    → held ≡ front ++ Some h ∷ [] → jobs' ≡ jobs ++ j ∷ [] → job_facts j ≡ record { task = length front; number = h.number; resume = Go; frames = h.body.task }
+    → jobs_held 0 (held_views held) ++ reverse (map job_facts jobs) ≡ total → jobs_held 0 (held_views front) ++ reverse (map job_facts jobs') ≡ total
 job_step front held h jobs jobs' j total is more view all =
-    let last : List (Option HeldView) = held_view (Some h) ∷ [] in
-    let one : JobView = record { task = length front; number = h.number; resume = Go; frames = h.body.task } in
-    let back : reverse (map job_view jobs') ≡ one ∷ reverse (map job_view jobs) =
-    ap (λ (js : List (JobIs BodyView)). reverse (map job_view js)) more ∙ ap reverse (map-append job_view jobs (j ∷ [])) ∙ reverse-append (map job_view jobs) (job_view j ∷ []) ∙ ap (λ (v : JobView). v ∷ reverse (map job_view jobs)) view in
+    let last : List (Option WaitingTaskView) = held_view (Some h) ∷ [] in
+    let one : JobFacts = record { task = length front; number = h.number; resume = Go; frames = h.body.task } in
+    let back : reverse (map job_facts jobs') ≡ one ∷ reverse (map job_facts jobs) =
+    ap (λ (js : List (JobView BodyView)). reverse (map job_facts js)) more ∙ ap reverse (map-append job_facts jobs (j ∷ [])) ∙ reverse-append (map job_facts jobs) (job_facts j ∷ []) ∙ ap (λ (v : JobFacts). v ∷ reverse (map job_facts jobs)) view in
     let long : 0 + length (held_views front) ≡ length front = omega (arith, length-map front held_view) in
     let whole : jobs_held 0 (held_views held) ≡ jobs_held 0 (held_views front) ++ one ∷ [] =
-    ap (λ (hs : List (Option Held)). jobs_held 0 (held_views hs)) is ∙ ap (jobs_held 0) (map-append held_view front (Some h ∷ [])) ∙ jobs_held-append 0 (held_views front) last ∙ ap (λ (k : ℕ). jobs_held 0 (held_views front) ++ jobs_held k last) long in
-    ap (λ (js : List JobView). jobs_held 0 (held_views front) ++ js) back
-    ∙ sym (append_assoc (jobs_held 0 (held_views front)) (one ∷ []) (reverse (map job_view jobs)))
-    ∙ ap (λ (js : List JobView). js ++ reverse (map job_view jobs)) (sym whole)
+    ap (λ (hs : List (Option WaitingTask)). jobs_held 0 (held_views hs)) is ∙ ap (jobs_held 0) (map-append held_view front (Some h ∷ [])) ∙ jobs_held-append 0 (held_views front) last ∙ ap (λ (k : ℕ). jobs_held 0 (held_views front) ++ jobs_held k last) long in
+    ap (λ (js : List JobFacts). jobs_held 0 (held_views front) ++ js) back
+    ∙ sym (append_assoc (jobs_held 0 (held_views front)) (one ∷ []) (reverse (map job_facts jobs)))
+    ∙ ap (λ (js : List JobFacts). js ++ reverse (map job_facts jobs)) (sym whole)
     ∙ all
 
 -- the last of the tasks that are left does not wait
-pub none_step : (front held : List (Option Held)) (back total : List JobView)
+pub none_step : (front held : List (Option WaitingTask)) (back total : List JobFacts)
     → held ≡ front ++ None ∷ [] → jobs_held 0 (held_views held) ++ back ≡ total → jobs_held 0 (held_views front) ++ back ≡ total
 none_step front held back total is all =
-    let last : List (Option HeldView) = None ∷ [] in
+    let last : List (Option WaitingTaskView) = None ∷ [] in
     let whole : jobs_held 0 (held_views held) ≡ jobs_held 0 (held_views front) =
-    ap (λ (hs : List (Option Held)). jobs_held 0 (held_views hs)) is ∙ ap (jobs_held 0) (map-append held_view front (None ∷ [])) ∙ jobs_held-append 0 (held_views front) last ∙ append-nil (jobs_held 0 (held_views front)) in
-    ap (λ (js : List JobView). js ++ back) (sym whole) ∙ all
+    ap (λ (hs : List (Option WaitingTask)). jobs_held 0 (held_views hs)) is ∙ ap (jobs_held 0) (map-append held_view front (None ∷ [])) ∙ jobs_held-append 0 (held_views front) last ∙ append-nil (jobs_held 0 (held_views front)) in
+    ap (λ (js : List JobFacts). js ++ back) (sym whole) ∙ all
 
 map_reverse : {X Y : Type 0} (f : X → Y) (xs : List X) → map f (reverse xs) ≡ reverse (map f xs)
 map_reverse f [] = refl
 map_reverse f (x ∷ xs) = ap (map f) (reverse-append (x ∷ []) xs) ∙ map-append f (reverse xs) (x ∷ []) ∙ ap (λ ys. ys ++ f x ∷ []) (map_reverse f xs) ∙ sym (reverse-append (f x ∷ []) (map f xs))
 
 -- no task is left
-pub job_end : (held : List (Option Held)) (jobs jobs' : List (JobIs BodyView)) (total : List JobView)
-    → length held ≡ 0 → jobs' ≡ reverse jobs → jobs_held 0 (held_views held) ++ reverse (map job_view jobs) ≡ total → map job_view jobs' ≡ total
-job_end [] jobs jobs' total none turned all = ap (map job_view) turned ∙ map_reverse job_view jobs ∙ all
+pub job_end : (held : List (Option WaitingTask)) (jobs jobs' : List (JobView BodyView)) (total : List JobFacts)
+    → length held ≡ 0 → jobs' ≡ reverse jobs → jobs_held 0 (held_views held) ++ reverse (map job_facts jobs) ≡ total → map job_facts jobs' ≡ total
+job_end [] jobs jobs' total none turned all = ap (map job_facts) turned ∙ map_reverse job_facts jobs ∙ all
 job_end (h ∷ hs) jobs jobs' total none turned all = absurd (omega (arith, none))
 
 pub all-reverse : {X : Type 0} (P : X → Type 0) (xs : List X) → AllByRecursion P xs → AllByRecursion P (reverse xs)

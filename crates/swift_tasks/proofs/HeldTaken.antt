@@ -6,54 +6,54 @@ use Rattle.std.proofs.lemmas.Bool.{false≢true}
 use Rattle.std.proofs.lemmas.List.{map-append}
 use Rattle.swift_types.specs.declared.id.TaskId.{TaskId}
 use Rattle.swift_types.specs.declared.outcome.Resume.{Resume}
-use Rattle.swift_queue.specs.Job.{JobIs}
+use Rattle.swift_job.specs.Job.{JobView}
 use Rattle.swift_turn.specs.Body.{BodyView}
-use Rattle.swift_history.specs.TurnEnds.{JobView, HeldView, Follows, resume_at, woken, wake, wake_each}
-use Rattle.swift_tasks.specs.declared.held.Held.{Held}
+use Rattle.swift_history.specs.TurnEnds.{JobFacts, WaitingTaskView, AfterTurn, resume_at, woken, wake, wake_each}
+use Rattle.swift_tasks.specs.declared.held.WaitingTask.{WaitingTask}
 use Rattle.swift_tasks.specs.Applying.{follows_of}
 use Rattle.swift_tasks.specs.BookInvariant.{held_view, held_views}
-use Rattle.swift_tasks.specs.Books.{job_view}
+use Rattle.swift_history.specs.Jobs.{job_facts}
 
-view_at : (held : List (Option Held)) (u : ℕ) → slice_index_or (held_views held) u None ≡ held_view (slice_index_or held u None)
+view_at : (held : List (Option WaitingTask)) (u : ℕ) → slice_index_or (held_views held) u None ≡ held_view (slice_index_or held u None)
 view_at [] u = refl
 view_at (h ∷ hs) zero = refl
 view_at (h ∷ hs) (suc u) = view_at hs u
 
-pub view_set : (held : List (Option Held)) (u : ℕ) (o : Option Held) → held_views (slice_set held u o) ≡ slice_set (held_views held) u (held_view o)
+pub view_set : (held : List (Option WaitingTask)) (u : ℕ) (o : Option WaitingTask) → held_views (slice_set held u o) ≡ slice_set (held_views held) u (held_view o)
 view_set [] u o = refl
 view_set (h ∷ hs) zero o = refl
-view_set (h ∷ hs) (suc u) o = ap (λ (vs : List (Option HeldView)). held_view h ∷ vs) (view_set hs u o)
+view_set (h ∷ hs) (suc u) o = ap (λ (vs : List (Option WaitingTaskView)). held_view h ∷ vs) (view_set hs u o)
 
 any_default : {A : Type 0} (xs : List A) (u : ℕ) (d e : A) → u < length xs → get_or xs u d ≡ get_or xs u e
 any_default [] u d e lt = absurd (omega (arith, lt))
 any_default (x ∷ xs) zero d e lt = refl
 any_default (x ∷ xs) (suc u) d e lt = any_default xs u d e (omega (arith, lt))
 
-abbrev pub made_follows : List (Option HeldView) → List JobView → Follows
+abbrev pub made_follows : List (Option WaitingTaskView) → List JobFacts → AfterTurn
 made_follows held jobs = record { held = held; jobs = jobs }
 
-abbrev pub job_at : ℕ → ℕ → Resume → BodyView → JobView
+abbrev pub job_at : ℕ → ℕ → Resume → BodyView → JobFacts
 job_at u n resume body = record { task = u; number = n; resume = resume; frames = body.task }
 
 -- it goes on
-pub wake_taken : (held held' : List (Option Held)) (u : ℕ) (h : Held) (resume : Resume) (jobs jobs' : List (JobIs BodyView)) (j : JobIs BodyView) (d : Option Held)
-    → u < length held → slice_index_or held u d ≡ Some h → held' ≡ slice_set held u None → jobs' ≡ jobs ++ j ∷ [] → job_view j ≡ job_at u h.number (resume_at h.number resume) h.body
+pub wake_taken : (held held' : List (Option WaitingTask)) (u : ℕ) (h : WaitingTask) (resume : Resume) (jobs jobs' : List (JobView BodyView)) (j : JobView BodyView) (d : Option WaitingTask)
+    → u < length held → slice_index_or held u d ≡ Some h → held' ≡ slice_set held u None → jobs' ≡ jobs ++ j ∷ [] → job_facts j ≡ job_at u h.number (resume_at h.number resume) h.body
     → follows_of held' jobs' ≡ wake u resume (follows_of held jobs)
 wake_taken held held' u h resume jobs jobs' j d lt is taken more view =
-    let other : wake u resume (follows_of held jobs) ≡ made_follows (slice_set (held_views held) u None) (map job_view jobs ++ job_at u h.number (resume_at h.number resume) h.body ∷ []) =
+    let other : wake u resume (follows_of held jobs) ≡ made_follows (slice_set (held_views held) u None) (map job_facts jobs ++ job_at u h.number (resume_at h.number resume) h.body ∷ []) =
     ap (woken u resume (follows_of held jobs)) (view_at held u ∙ ap held_view (any_default held u None d lt ∙ is)) in
     let left : held_views held' ≡ slice_set (held_views held) u None = ap held_views taken ∙ view_set held u None in
-    let right : map job_view jobs' ≡ map job_view jobs ++ job_at u h.number (resume_at h.number resume) h.body ∷ [] =
-    ap (map job_view) more ∙ map-append job_view jobs (j ∷ []) ∙ ap (λ (v : JobView). map job_view jobs ++ v ∷ []) view in
-    ap (λ (hs : List (Option HeldView)). made_follows hs (map job_view jobs')) left ∙ ap (made_follows (slice_set (held_views held) u None)) right ∙ sym other
+    let right : map job_facts jobs' ≡ map job_facts jobs ++ job_at u h.number (resume_at h.number resume) h.body ∷ [] =
+    ap (map job_facts) more ∙ map-append job_facts jobs (j ∷ []) ∙ ap (λ (v : JobFacts). map job_facts jobs ++ v ∷ []) view in
+    ap (λ (hs : List (Option WaitingTaskView)). made_follows hs (map job_facts jobs')) left ∙ ap (made_follows (slice_set (held_views held) u None)) right ∙ sym other
 
 -- a task that is not held does not
-pub wake_none : (held held' : List (Option Held)) (u : ℕ) (resume : Resume) (jobs : List (JobIs BodyView)) → slice_index_or held u None ≡ None → held' ≡ held → follows_of held' jobs ≡ wake u resume (follows_of held jobs)
+pub wake_none : (held held' : List (Option WaitingTask)) (u : ℕ) (resume : Resume) (jobs : List (JobView BodyView)) → slice_index_or held u None ≡ None → held' ≡ held → follows_of held' jobs ≡ wake u resume (follows_of held jobs)
 wake_none held held' u resume jobs is same =
-    ap (λ (hs : List (Option Held)). follows_of hs jobs) same ∙ sym (ap (woken u resume (follows_of held jobs)) (view_at held u ∙ ap held_view is))
+    ap (λ (hs : List (Option WaitingTask)). follows_of hs jobs) same ∙ sym (ap (woken u resume (follows_of held jobs)) (view_at held u ∙ ap held_view is))
 
 -- the waiters that are left
-pub wake_next : (us : List TaskId) (k : ℕ) (u : TaskId) (resume : Resume) (f : Follows) → slice_get us k ≡ Some u → wake_each (drop k us) resume f ≡ wake_each (drop (suc k) us) resume (wake u.0 resume f)
+pub wake_next : (us : List TaskId) (k : ℕ) (u : TaskId) (resume : Resume) (f : AfterTurn) → slice_get us k ≡ Some u → wake_each (drop k us) resume f ≡ wake_each (drop (suc k) us) resume (wake u.0 resume f)
 wake_next [] k u resume f is = absurd (no_none {o = slice_get [] k} refl is)
   where
     no_none : {A : Type 0} {x : A} {o : Option A} → o ≡ None → o ≡ Some x → ⊥
@@ -78,9 +78,9 @@ all-set P (x ∷ xs) zero y all this = (this, all.1)
 all-set P (x ∷ xs) (suc t) y all this = (all.0, all-set P xs t y all.1 this)
 
 -- a task waits
-pub held_follows : (held held' : List (Option Held)) (t : ℕ) (h : Held) (jobs : List (JobIs BodyView)) → held' ≡ slice_set held t (Some h)
-    → follows_of held' jobs ≡ made_follows (slice_set (held_views held) t (Some (record { number = h.number; frames = h.body.task }))) (map job_view jobs)
-held_follows held held' t h jobs is = ap (λ (hs : List (Option HeldView)). made_follows hs (map job_view jobs)) (ap held_views is ∙ view_set held t (Some h))
+pub held_follows : (held held' : List (Option WaitingTask)) (t : ℕ) (h : WaitingTask) (jobs : List (JobView BodyView)) → held' ≡ slice_set held t (Some h)
+    → follows_of held' jobs ≡ made_follows (slice_set (held_views held) t (Some (record { number = h.number; frames = h.body.task }))) (map job_facts jobs)
+held_follows held held' t h jobs is = ap (λ (hs : List (Option WaitingTaskView)). made_follows hs (map job_facts jobs)) (ap held_views is ∙ view_set held t (Some h))
 
 pub all-take : {A : Type 0} (P : A → Type 0) (n : ℕ) (xs : List A) → AllByRecursion P xs → AllByRecursion P (take n xs)
 all-take P zero [] all = tt

@@ -17,14 +17,14 @@ use Rattle.swift_events.specs.Events.{task_of, is_made, tasks_of}
 use Rattle.swift_events.specs.Lives.{life_of, lived, is_open, is_waiting}
 use Rattle.swift_events.specs.Relations.{opened_by}
 use Rattle.swift_events.proofs.LogLemmas.{life_of-push_same, life_of-push_other, tasks_of-push_made, tasks_of-push_other, origin-push}
-use Rattle.swift_history.specs.TurnEnds.{JobView, task, named_task, effect_events, effect_jobs, is_left_out, log_after, jobs_made, first_job, gives}
+use Rattle.swift_history.specs.TurnEnds.{JobFacts, task, named_task, effect_events, effect_jobs, is_left_out, log_after, jobs_made, first_job, gives}
 use Rattle.swift_tasks.specs.Applying.{AreMade}
 use Rattle.swift_tasks.specs.Counted.{UnopenedAreNotClosed}
 use Rattle.swift_tasks.proofs.Grows.{ending-push, effect_grows, effects_grow}
 use Rattle.swift_tasks.proofs.Pushes.{closed_push}
 
 -- whether one of some jobs is of a task
-abbrev pub among : ℕ → List JobView → Bool
+abbrev pub among : ℕ → List JobFacts → Bool
 among t [] = false
 among t (j ∷ js) = (t == j.task) || among t js
 
@@ -38,29 +38,29 @@ or_assoc : (a b c : Bool) → (a || (b || c)) ≡ ((a || b) || c)
 or_assoc true b c = refl
 or_assoc false b c = refl
 
-pub among-append : (t : ℕ) (js ks : List JobView) → among t (js ++ ks) ≡ (among t js || among t ks)
+pub among-append : (t : ℕ) (js ks : List JobFacts) → among t (js ++ ks) ≡ (among t js || among t ks)
 among-append t [] ks = refl
 among-append t (j ∷ js) ks = ap (λ (b : Bool). (t == j.task) || b) (among-append t js ks) ∙ or_assoc (t == j.task) (among t js) (among t ks)
 
-pub made-append : (log : List Event) (js ks : List JobView) → AreMade log js → AreMade log ks → AreMade log (js ++ ks)
+pub made-append : (log : List Event) (js ks : List JobFacts) → AreMade log js → AreMade log ks → AreMade log (js ++ ks)
 made-append log [] ks a b = b
 made-append log (j ∷ js) ks a b = (a.0, made-append log js ks a.1 b)
 
-pub made_on : (log log' : List Event) (js : List JobView) → ((t : ℕ) → is_some (life_of t log).origin ≡ true → is_some (life_of t log').origin ≡ true) → AreMade log js → AreMade log' js
+pub made_on : (log log' : List Event) (js : List JobFacts) → ((t : ℕ) → is_some (life_of t log).origin ≡ true → is_some (life_of t log').origin ≡ true) → AreMade log js → AreMade log' js
 made_on log log' [] stays a = tt
 made_on log log' (j ∷ js) stays a = (stays j.task a.0, made_on log log' js stays a.1)
 
 -- none of the jobs is of a task below this number
-abbrev pub AreFrom : ℕ → List JobView → Type 0
+abbrev pub AreFrom : ℕ → List JobFacts → Type 0
 AreFrom n js = (t : ℕ) → t < n → among t js ≡ false
 
 -- the jobs of the tasks that were made: as many as numbers were taken, from this log to that one
-pub record AreNew (roots : ℕ) (log log' : List Event) (js : List JobView) : Type 0 where
+pub record AreNew (roots : ℕ) (log log' : List Event) (js : List JobFacts) : Type 0 where
   pub count : tasks_of roots log' ≡ tasks_of roots log + length js
   pub made : AreMade log' js
   pub from : AreFrom (tasks_of roots log) js
 
-one_new : (roots : ℕ) (log : List Event) (e : Event) (j : JobView) → is_made e ≡ true → task_of e ≡ tasks_of roots log → j.task ≡ tasks_of roots log → is_some (lived (life_of (task_of e) log) e).origin ≡ true → AreNew roots log (log ++ e ∷ []) (j ∷ [])
+one_new : (roots : ℕ) (log : List Event) (e : Event) (j : JobFacts) → is_made e ≡ true → task_of e ≡ tasks_of roots log → j.task ≡ tasks_of roots log → is_some (lived (life_of (task_of e) log) e).origin ≡ true → AreNew roots log (log ++ e ∷ []) (j ∷ [])
 one_new roots log e j is at job born = record {
   count = tasks_of-push_made roots log e is;
   made = (subst (λ (k : ℕ). is_some (life_of k (log ++ e ∷ [])).origin ≡ true) (at ∙ sym job) (ap (λ (l : Life). is_some l.origin) (life_of-push_same (task_of e) log e refl) ∙ born), tt);
@@ -73,7 +73,7 @@ none_new roots log e is = record { count = (let same = tasks_of-push_other roots
 nothing_new : (roots : ℕ) (log : List Event) → AreNew roots log (log ++ []) []
 nothing_new roots log = subst (λ (l : List Event). AreNew roots log l []) (sym (append-nil log)) (record { count = omega arith; made = tt; from = λ t lt. refl })
 
-if_new : (roots : ℕ) (log es fs : List Event) (js ks : List JobView) (b : Bool) → AreNew roots log (log ++ es) js → AreNew roots log (log ++ fs) ks → AreNew roots log (log ++ (if b then es else fs)) (if b then js else ks)
+if_new : (roots : ℕ) (log es fs : List Event) (js ks : List JobFacts) (b : Bool) → AreNew roots log (log ++ es) js → AreNew roots log (log ++ fs) ks → AreNew roots log (log ++ (if b then es else fs)) (if b then js else ks)
 if_new roots log es fs js ks true p q = p
 if_new roots log es fs js ks false p q = q
 
@@ -113,7 +113,7 @@ pub and_false : (a : Bool) → (a && false) ≡ false
 and_false true = refl
 and_false false = refl
 
-give_waits : (t : ℕ) (j : JobView) (log : List Event) → is_waiting (life_of t (log ++ Give (task j.task) j.number j.resume ∷ [])) ≡ (not (t == j.task) && is_waiting (life_of t log))
+give_waits : (t : ℕ) (j : JobFacts) (log : List Event) → is_waiting (life_of t (log ++ Give (task j.task) j.number j.resume ∷ [])) ≡ (not (t == j.task) && is_waiting (life_of t log))
 give_waits t j log = elim (cases_eq t j.task) [
   | inl eq ↦ ap is_waiting (life_of-push_same t log (Give (task j.task) j.number j.resume) (sym eq)) ∙ sym (ap (λ (b : Bool). not b && is_waiting (life_of t log)) (equal t j.task eq))
   | inr ne ↦ ap is_waiting (life_of-push_other t log (Give (task j.task) j.number j.resume) (λ q. ne (sym q))) ∙ sym (ap (λ (b : Bool). not b && is_waiting (life_of t log)) (unequal t j.task ne))
@@ -124,7 +124,7 @@ not_or true b c = and_false (not b)
 not_or false b c = refl
 
 -- after jobs were made those tasks wait that have waited and of which no job was made
-pub gives_wait : (t : ℕ) (js : List JobView) (log : List Event) → is_waiting (life_of t (log ++ gives js)) ≡ (not (among t js) && is_waiting (life_of t log))
+pub gives_wait : (t : ℕ) (js : List JobFacts) (log : List Event) → is_waiting (life_of t (log ++ gives js)) ≡ (not (among t js) && is_waiting (life_of t log))
 gives_wait t [] log = ap (λ (l : List Event). is_waiting (life_of t l)) (append-nil log)
 gives_wait t (j ∷ js) log =
     let g : Event = Give (task j.task) j.number j.resume in
@@ -137,7 +137,7 @@ same_open : (l m : Life) → l.origin ≡ m.origin → l.ending ≡ m.ending →
 same_open l m p q = ap (λ (o : Option Origin). is_some o && is_none l.ending) p ∙ ap (λ (e : Option Ending). is_some m.origin && is_none e) q
 
 -- no task is made or ends by that
-pub gives_open : (t : ℕ) (js : List JobView) (log : List Event) → is_open (life_of t (log ++ gives js)) ≡ is_open (life_of t log)
+pub gives_open : (t : ℕ) (js : List JobFacts) (log : List Event) → is_open (life_of t (log ++ gives js)) ≡ is_open (life_of t log)
 gives_open t [] log = ap (λ (l : List Event). is_open (life_of t l)) (append-nil log)
 gives_open t (j ∷ js) log =
     let g : Event = Give (task j.task) j.number j.resume in
@@ -145,13 +145,13 @@ gives_open t (j ∷ js) log =
     ∙ gives_open t js (log ++ g ∷ [])
     ∙ same_open (life_of t (log ++ g ∷ [])) (life_of t log) (origin-push t log g refl) (ending-push t log g refl)
 
-pub gives_tasks : (roots : ℕ) (js : List JobView) (log : List Event) → tasks_of roots (log ++ gives js) ≡ tasks_of roots log
+pub gives_tasks : (roots : ℕ) (js : List JobFacts) (log : List Event) → tasks_of roots (log ++ gives js) ≡ tasks_of roots log
 gives_tasks roots [] log = ap (tasks_of roots) (append-nil log)
 gives_tasks roots (j ∷ js) log =
     let g : Event = Give (task j.task) j.number j.resume in
     ap (tasks_of roots) (sym (append_assoc log (g ∷ []) (gives js))) ∙ gives_tasks roots js (log ++ g ∷ []) ∙ tasks_of-push_other roots log g refl
 
-pub gives_closed : (js : List JobView) (log : List Event) → UnopenedAreNotClosed log → UnopenedAreNotClosed (log ++ gives js)
+pub gives_closed : (js : List JobFacts) (log : List Event) → UnopenedAreNotClosed log → UnopenedAreNotClosed (log ++ gives js)
 gives_closed [] log closed = subst UnopenedAreNotClosed (sym (append-nil log)) closed
 gives_closed (j ∷ js) log closed =
     let g : Event = Give (task j.task) j.number j.resume in

@@ -7,7 +7,7 @@ use Rattle.std.proofs.lemmas.Bool.{cases_eq, false≢true}
 use Rattle.swift_types.specs.declared.id.TaskId.{TaskId}
 use Rattle.swift_types.specs.declared.outcome.Resume.{Resume}
 use Rattle.swift_types.specs.declared.priority.Priority.{Priority}
-use Rattle.script_code.specs.declared.env.Env.{Env}
+use Rattle.swift_types.specs.declared.env.Env.{Env}
 use Rattle.swift_events.specs.declared.event.Event.{Event}
 use Rattle.swift_events.specs.declared.event.Event.TheVariants.{Root, Begin, CancelTask, Give}
 use Rattle.swift_events.specs.declared.life.Life.{Life}
@@ -20,7 +20,7 @@ use Rattle.swift_tasks.specs.Books.{HoldsWaiting}
 use Rattle.swift_types.specs.declared.outcome.Resume.TheVariants.{Start}
 use Rattle.swift_script.specs.Scripts.{ScriptView, root_priority}
 use Rattle.swift_history.specs.TurnEnds.{root_events}
-use Rattle.swift_tasks.specs.declared.held.Held.{Held}
+use Rattle.swift_tasks.specs.declared.held.WaitingTask.{WaitingTask}
 use Rattle.swift_tasks.specs.BookInvariant.{BookInvariant}
 use Rattle.swift_tasks.specs.Counted.{UnopenedAreNotClosed}
 
@@ -85,15 +85,15 @@ pub leaves_cancel : {A : Type 0} {roots : ℕ} {log : List Event} {held : List (
 leaves_cancel {A} {roots} {log} {held} t holds = record { unmade = refl; same = refl; alive = λ w. holds.alive t.0 w }
 
 -- such an event leaves what a book keeps
-kept_with : {script : ScriptView} {roots : ℕ} {log : List Event} {held : List (Option Held)} (e : Event) → LeavesWaits log e → ((o g : ℕ) → closes o g e ≡ false) → BookInvariant script roots log held → BookInvariant script roots (log ++ e ∷ []) held
+kept_with : {script : ScriptView} {roots : ℕ} {log : List Event} {held : List (Option WaitingTask)} (e : Event) → LeavesWaits log e → ((o g : ℕ) → closes o g e ≡ false) → BookInvariant script roots log held → BookInvariant script roots (log ++ e ∷ []) held
 kept_with e leaves none kept = record { roots_are = kept.roots_are; holds = holds_push e leaves kept.holds; bodies = kept.bodies; closed = closed_push e none kept.closed }
 
-pub kept_push : {script : ScriptView} {roots roots' : ℕ} {log log' : List Event} {held : List (Option Held)} (e : Event) → LeavesWaits log e → ((o g : ℕ) → closes o g e ≡ false) → BookInvariant script roots log held → roots' ≡ roots → log' ≡ log ++ e ∷ [] → BookInvariant script roots' log' held
+pub kept_push : {script : ScriptView} {roots roots' : ℕ} {log log' : List Event} {held : List (Option WaitingTask)} (e : Event) → LeavesWaits log e → ((o g : ℕ) → closes o g e ≡ false) → BookInvariant script roots log held → roots' ≡ roots → log' ≡ log ++ e ∷ [] → BookInvariant script roots' log' held
 kept_push {script} {roots} {roots'} {log} {log'} {held} e leaves none kept same more =
     subst (λ (r : ℕ). BookInvariant script r log' held) (sym same) (subst (λ (l : List Event). BookInvariant script roots l held) (sym more) (kept_with e leaves none kept))
 
 -- a root is added, and the job of its first turn is made
-pub kept_root : {script : ScriptView} {roots roots' : ℕ} {log log' : List Event} {held : List (Option Held)} (r : ℕ) → (life_of r log).origin ≡ None → BookInvariant script roots log held → roots' ≡ roots → log' ≡ log ++ root_events script r → BookInvariant script roots' log' held
+pub kept_root : {script : ScriptView} {roots roots' : ℕ} {log log' : List Event} {held : List (Option WaitingTask)} (r : ℕ) → (life_of r log).origin ≡ None → BookInvariant script roots log held → roots' ≡ roots → log' ≡ log ++ root_events script r → BookInvariant script roots' log' held
 kept_root {script} {roots} {roots'} {log} {log'} {held} r none kept same more =
     let t : TaskId = record { 0 = r } in
     let added : Event = Root t (root_priority script r) in

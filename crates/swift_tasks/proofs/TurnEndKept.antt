@@ -11,9 +11,9 @@ use Rattle.swift_types.specs.declared.outcome.Fault.{Fault}
 use Rattle.swift_types.specs.declared.outcome.Fault.TheVariants.{Empty}
 use Rattle.swift_types.specs.declared.outcome.Resume.TheVariants.{Fault as Raise}
 use Rattle.swift_types.specs.declared.priority.Priority.{Priority}
-use Rattle.script_code.specs.declared.env.Env.{Env}
-use Rattle.swift_groups.specs.declared.answer.Next.{Next as Answer}
-use Rattle.swift_groups.specs.declared.answer.Next.TheVariants as answer
+use Rattle.swift_types.specs.declared.env.Env.{Env}
+use Rattle.swift_groups.specs.declared.answer.NextResult.{NextResult as Answer}
+use Rattle.swift_groups.specs.declared.answer.NextResult.TheVariants as answer
 use Rattle.swift_groups.specs.declared.answer.Close.{Close as Closing}
 use Rattle.swift_groups.specs.declared.answer.Close.TheVariants as closing
 use Rattle.swift_groups.specs.Next.{next_of}
@@ -26,14 +26,14 @@ use Rattle.swift_turn.specs.Body.{BodyView, TaskView}
 use Rattle.swift_events.specs.declared.event.Event.{Event}
 use Rattle.swift_events.specs.declared.event.Event.TheVariants.{Apply, CancelGroup, Wait, Next, Close, End}
 use Rattle.swift_events.specs.declared.life.Life.{Life}
-use Rattle.swift_events.specs.declared.life.Stage.{Stage}
-use Rattle.swift_events.specs.declared.life.Stage.TheVariants.{Begun, Waits, Asks, Closes}
+use Rattle.swift_events.specs.declared.life.JobStage.{JobStage}
+use Rattle.swift_events.specs.declared.life.JobStage.TheVariants.{Begun, Waits, Asks, Closes}
 use Rattle.swift_events.specs.Events.{task_of, is_made, tasks_of, later}
 use Rattle.swift_events.specs.Lives.{life_of, lived, is_open, is_waiting, waits_at, stage_in}
 use Rattle.swift_events.specs.Relations.{opened_by, closes, is_closed, is_open_group, group_of, waiter_in, waiters_of}
 use Rattle.swift_events.proofs.LogLemmas.{life_of-push_same, life_of-push_other, tasks_of-push_other, is_closed-push, opened_by-push, waiters_of-push}
 use Rattle.swift_history.specs.Histories.{begun_priority}
-use Rattle.swift_history.specs.TurnEnds.{JobView, HeldView, Follows, task, named_task, wait_events, wait_resume, next_events, next_resume, close_events, close_resume, end_events, step_resume, exit_events, exit_resume, wake_all, followed, gives, jobs_made, log_after, resume_at, resume_of}
+use Rattle.swift_history.specs.TurnEnds.{JobFacts, WaitingTaskView, AfterTurn, task, named_task, wait_events, wait_resume, next_events, next_resume, close_events, close_resume, end_events, step_resume, exit_events, exit_resume, wake_all, followed, gives, jobs_made, log_after, resume_at, resume_of}
 use Rattle.swift_tasks.specs.Applying.{AreMade, CanLeave, StepFits, TurnLeaves, done_log}
 use Rattle.swift_tasks.specs.Books.{HoldsWaiting}
 use Rattle.swift_tasks.specs.Counted.{UnopenedAreNotClosed}
@@ -92,8 +92,8 @@ one_event roots t log e resume step at unmade closed leaves = record {
 }
 
 -- an event by which a task waits
-stage_at : (t : ℕ) (log : List Event) (e : Event) (s : Stage) → task_of e ≡ t → stage_in e ≡ Some s → (life_of t (log ++ e ∷ [])).stage ≡ Some s
-stage_at t log e s at is = ap (λ (l : Life). l.stage) (life_of-push_same t log e at) ∙ ap (λ (o : Option Stage). later o (life_of t log).stage) is
+stage_at : (t : ℕ) (log : List Event) (e : Event) (s : JobStage) → task_of e ≡ t → stage_in e ≡ Some s → (life_of t (log ++ e ∷ [])).stage ≡ Some s
+stage_at t log e s at is = ap (λ (l : Life). l.stage) (life_of-push_same t log e at) ∙ ap (λ (o : Option JobStage). later o (life_of t log).stage) is
 
 wait_left : (roots t : ℕ) (log : List Event) (awaited : TaskId) (o : Option Ending) → Left roots t log (log ++ wait_events t awaited o) (wait_resume o) Await
 wait_left roots t log awaited (Some e) = goes_on roots t log (resume_of e) Await
@@ -170,7 +170,7 @@ exit_left roots t log (returning v) step can fits = end_left roots t log step fi
 exit_left roots t log (failing f) step can fits = end_left roots t log step fits
 
 -- before an exit is followed: which tasks are held, and which jobs were made
-record Middle (roots t : ℕ) (log : List Event) (f : Follows) : Type 0 where
+record Middle (roots t : ℕ) (log : List Event) (f : AfterTurn) : Type 0 where
   kept : IsKept (tasks_of roots log) log f
   alive : (u : ℕ) → is_waiting (life_of u log) ≡ true → is_open (life_of u log) ≡ true
   rests : is_waiting (life_of t log) ≡ false
@@ -180,7 +180,7 @@ record Middle (roots t : ℕ) (log : List Event) (f : Follows) : Type 0 where
   closed : UnopenedAreNotClosed log
 
 -- after an exit was followed
-pub record Followed (roots : ℕ) (log : List Event) (f : Follows) : Type 0 where
+pub record Followed (roots : ℕ) (log : List Event) (f : AfterTurn) : Type 0 where
   pub holds : HoldsWaiting roots (log ++ gives f.jobs) f.held
   pub closed : UnopenedAreNotClosed (log ++ gives f.jobs)
   pub made : AreMade log f.jobs
@@ -189,7 +189,7 @@ open_made : (l : Life) → is_open l ≡ true → is_some l.origin ≡ true
 open_made l h = left (is_some l.origin) (is_none l.ending) h
 
 -- jobs are written, where each task that is held waits and has no job, and each that waits and has none is open
-given : (roots : ℕ) (log : List Event) (f : Follows) → UnopenedAreNotClosed log → IsKept (tasks_of roots log) log f → ((u : ℕ) → among u f.jobs ≡ false → is_waiting (life_of u log) ≡ true → is_open (life_of u log) ≡ true) → Followed roots log f
+given : (roots : ℕ) (log : List Event) (f : AfterTurn) → UnopenedAreNotClosed log → IsKept (tasks_of roots log) log f → ((u : ℕ) → among u f.jobs ≡ false → is_waiting (life_of u log) ≡ true → is_open (life_of u log) ≡ true) → Followed roots log f
 given roots log f closed kept alive = record {
   holds = record {
     size = kept.size ∙ sym (gives_tasks roots f.jobs log);
@@ -205,23 +205,23 @@ given roots log f closed kept alive = record {
     is_not true b h = absurd (false≢true h)
     is_not false b h = refl
 
-mid_alive : {roots t : ℕ} {log log' : List Event} {resume : Option Resume} {step : Step} {f : Follows} → Middle roots t log f → Left roots t log log' resume step → (u : ℕ) → u ≢ t → is_waiting (life_of u log') ≡ true → is_open (life_of u log') ≡ true
+mid_alive : {roots t : ℕ} {log log' : List Event} {resume : Option Resume} {step : Step} {f : AfterTurn} → Middle roots t log f → Left roots t log log' resume step → (u : ℕ) → u ≢ t → is_waiting (life_of u log') ≡ true → is_open (life_of u log') ≡ true
 mid_alive m l u ne w = ap is_open (l.others u ne) ∙ m.alive u (sym (ap is_waiting (l.others u ne)) ∙ w)
 
 -- a task that is not this one is held as before
-mid_waits : {roots t : ℕ} {log log' : List Event} {resume : Option Resume} {step : Step} {f : Follows} → Middle roots t log f → Left roots t log log' resume step → (u : ℕ) → u ≢ t → is_some (slice_index_or f.held u None) ≡ (not (among u f.jobs) && is_waiting (life_of u log'))
+mid_waits : {roots t : ℕ} {log log' : List Event} {resume : Option Resume} {step : Step} {f : AfterTurn} → Middle roots t log f → Left roots t log log' resume step → (u : ℕ) → u ≢ t → is_some (slice_index_or f.held u None) ≡ (not (among u f.jobs) && is_waiting (life_of u log'))
 mid_waits {f = f} m l u ne = m.kept.waits u ∙ ap (λ (life : Life). not (among u f.jobs) && is_waiting life) (sym (l.others u ne))
 
-mid_none : {roots t : ℕ} {log : List Event} {f : Follows} → Middle roots t log f → is_some (slice_index_or f.held t None) ≡ false
+mid_none : {roots t : ℕ} {log : List Event} {f : AfterTurn} → Middle roots t log f → is_some (slice_index_or f.held t None) ≡ false
 mid_none {t = t} {f = f} m = m.kept.waits t ∙ ap (λ (b : Bool). not (among t f.jobs) && b) m.rests ∙ and_false (not (among t f.jobs))
 
-mid_size : {roots t : ℕ} {log log' : List Event} {resume : Option Resume} {step : Step} {f : Follows} → Middle roots t log f → Left roots t log log' resume step → length f.held ≡ tasks_of roots log'
+mid_size : {roots t : ℕ} {log log' : List Event} {resume : Option Resume} {step : Step} {f : AfterTurn} → Middle roots t log f → Left roots t log log' resume step → length f.held ≡ tasks_of roots log'
 mid_size m l = m.kept.size ∙ sym l.tasks
 
-mid_made : {roots t : ℕ} {log log' : List Event} {resume : Option Resume} {step : Step} {f : Follows} → Middle roots t log f → Left roots t log log' resume step → AreMade log' f.jobs
+mid_made : {roots t : ℕ} {log log' : List Event} {resume : Option Resume} {step : Step} {f : AfterTurn} → Middle roots t log f → Left roots t log log' resume step → AreMade log' f.jobs
 mid_made {log = log} {log' = log'} {f = f} m l = made_on log log' f.jobs l.made m.kept.made
 
-abbrev own_job : ℕ → ℕ → TaskView → Resume → JobView
+abbrev own_job : ℕ → ℕ → TaskView → Resume → JobFacts
 own_job t n frames resume = record { task = t; number = n; resume = resume_at n resume; frames = frames }
 
 or_true : (b : Bool) → (b || true) ≡ true
@@ -232,10 +232,10 @@ or_false : (b : Bool) → (b || false) ≡ b
 or_false true = refl
 or_false false = refl
 
-among_own : (u t n : ℕ) (frames : TaskView) (resume : Resume) (js : List JobView) (b : Bool) → (u == t) ≡ b → among u (js ++ own_job t n frames resume ∷ []) ≡ (among u js || b)
+among_own : (u t n : ℕ) (frames : TaskView) (resume : Resume) (js : List JobFacts) (b : Bool) → (u == t) ≡ b → among u (js ++ own_job t n frames resume ∷ []) ≡ (among u js || b)
 among_own u t n frames resume js b is = among-append u js (own_job t n frames resume ∷ []) ∙ ap (λ (c : Bool). among u js || c) (or_false (u == t) ∙ is)
 
-goes_followed : (roots t n : ℕ) (frames : TaskView) (log log' : List Event) (resume : Resume) (step : Step) (f : Follows) → Middle roots t log f → Left roots t log log' (Some resume) step → Followed roots log' (record f { jobs = f.jobs ++ own_job t n frames resume ∷ [] })
+goes_followed : (roots t n : ℕ) (frames : TaskView) (log log' : List Event) (resume : Resume) (step : Step) (f : AfterTurn) → Middle roots t log f → Left roots t log log' (Some resume) step → Followed roots log' (record f { jobs = f.jobs ++ own_job t n frames resume ∷ [] })
 goes_followed roots t n frames log log' resume step f m l =
     given roots log' (record f { jobs = f.jobs ++ own_job t n frames resume ∷ [] }) (l.closed m.closed)
     (record {
@@ -255,7 +255,7 @@ goes_followed roots t n frames log log' resume step f m l =
 same_rests : (t : ℕ) (log log' : List Event) → (life_of t log').stage ≡ (life_of t log).stage → is_waiting (life_of t log) ≡ false → is_waiting (life_of t log') ≡ false
 same_rests t log log' same rests = ap waits_at same ∙ rests
 
-ended_followed : (roots t : ℕ) (log log' : List Event) (e : Ending) (f : Follows) → Middle roots t log f → Left roots t log log' None (Ended e) → Followed roots log' (wake_all t e log' f)
+ended_followed : (roots t : ℕ) (log log' : List Event) (e : Ending) (f : AfterTurn) → Middle roots t log f → Left roots t log log' None (Ended e) → Followed roots log' (wake_all t e log' f)
 ended_followed roots t log log' e f m l =
     let rests : is_waiting (life_of t log') ≡ false = same_rests t log log' l.leaves m.rests in
     let alive : (u : ℕ) → is_waiting (life_of u log') ≡ true → is_open (life_of u log') ≡ true =
@@ -275,10 +275,10 @@ ended_followed roots t log log' e f m l =
     let made : WaitersAreMade log' = record { at = λ u w. open_made (life_of u log') (alive u w) } in
     given roots log' (wake_all t e log' f) (l.closed m.closed) (wake_all_kept (tasks_of roots log') log' t e f made first) (λ u none w. alive u w)
 
-abbrev held_job : ℕ → TaskView → HeldView
+abbrev held_job : ℕ → TaskView → WaitingTaskView
 held_job n frames = record { number = n; frames = frames }
 
-waits_followed : (roots t n : ℕ) (frames : TaskView) (log log' : List Event) (step : Step) (f : Follows) → Middle roots t log f → Left roots t log log' None step → (is_waiting (life_of t log') ≡ true) × ((life_of t log').ending ≡ (life_of t log).ending)
+waits_followed : (roots t n : ℕ) (frames : TaskView) (log log' : List Event) (step : Step) (f : AfterTurn) → Middle roots t log f → Left roots t log log' None step → (is_waiting (life_of t log') ≡ true) × ((life_of t log').ending ≡ (life_of t log).ending)
     → Followed roots log' (record f { held = slice_set f.held t (Some (held_job n frames)) })
 waits_followed roots t n frames log log' step f m l waits =
     let alive : is_open (life_of t log') ≡ true = ap (λ (b : Bool). b && is_none (life_of t log').ending) (l.made t (open_made (life_of t log) m.mine)) ∙ ap is_none waits.1 ∙ right (is_some (life_of t log).origin) (is_none (life_of t log).ending) m.mine in
@@ -297,7 +297,7 @@ waits_followed roots t n frames log log' step f m l waits =
       | inr ne ↦ mid_alive m l u ne w
     ])
 
-followed_kept : (roots t n : ℕ) (frames : TaskView) (log log' : List Event) (resume : Option Resume) (step : Step) (f : Follows) → Middle roots t log f → Left roots t log log' resume step → Followed roots log' (followed t n frames resume step log' f)
+followed_kept : (roots t n : ℕ) (frames : TaskView) (log log' : List Event) (resume : Option Resume) (step : Step) (f : AfterTurn) → Middle roots t log f → Left roots t log log' resume step → Followed roots log' (followed t n frames resume step log' f)
 followed_kept roots t n frames log log' (Some resume) step f m l = goes_followed roots t n frames log log' resume step f m l
 followed_kept roots t n frames log log' None (Ended e) f m l = ended_followed roots t log log' e f m l
 followed_kept roots t n frames log log' None (Run actor resume) f m l = waits_followed roots t n frames log log' (Run actor resume) f m l l.leaves
@@ -307,26 +307,26 @@ followed_kept roots t n frames log log' None Await f m l = waits_followed roots 
 pub leaves_apply : (log : List Event) (t : TaskId) (n : ℕ) → is_waiting (life_of t.0 log) ≡ false → LeavesWaits log (Apply t n)
 leaves_apply log t n rest = record { unmade = refl; same = sym rest; alive = λ w. absurd (false≢true w) }
 
-none_more : (held : List (Option HeldView)) (k u : ℕ) → is_some (get_or (held ++ replicate k None) u None) ≡ is_some (get_or held u None)
+none_more : (held : List (Option WaitingTaskView)) (k u : ℕ) → is_some (get_or (held ++ replicate k None) u None) ≡ is_some (get_or held u None)
 none_more [] zero u = refl
 none_more [] (suc k) zero = refl
 none_more [] (suc k) (suc u) = none_more [] k u
 none_more (h ∷ hs) k zero = refl
 none_more (h ∷ hs) k (suc u) = none_more hs k u
 
-none_above : (held : List (Option HeldView)) (u : ℕ) → length held ≤ u → is_some (get_or held u None) ≡ false
+none_above : (held : List (Option WaitingTaskView)) (u : ℕ) → length held ≤ u → is_some (get_or held u None) ≡ false
 none_above [] u le = refl
 none_above (h ∷ hs) zero le = absurd (omega (arith, le))
 none_above (h ∷ hs) (suc u) le = none_above hs u (omega (arith, le))
 
 -- the turn was applied, and its effects were written
-middle : (script : ScriptView) (t n : ℕ) (own : Priority) (log : List Event) (held : List (Option HeldView)) (es : List EffectView) → HoldsWaiting (root_count script) log held → UnopenedAreNotClosed log → is_waiting (life_of t log) ≡ false → is_open (life_of t log) ≡ true → t < tasks_of (root_count script) log
+middle : (script : ScriptView) (t n : ℕ) (own : Priority) (log : List Event) (held : List (Option WaitingTaskView)) (es : List EffectView) → HoldsWaiting (root_count script) log held → UnopenedAreNotClosed log → is_waiting (life_of t log) ≡ false → is_open (life_of t log) ≡ true → t < tasks_of (root_count script) log
     → Middle (root_count script) t (log_after (root_count script) t own (log ++ Apply (task t) n ∷ []) es) (record { held = held ++ replicate (length (jobs_made script t own (log ++ Apply (task t) n ∷ []) es)) None; jobs = jobs_made script t own (log ++ Apply (task t) n ∷ []) es })
 middle script t n own log held es holds closed rest alive known =
     let roots : ℕ = root_count script in
     let begun : List Event = log ++ Apply (task t) n ∷ [] in
     let done : List Event = log_after roots t own begun es in
-    let made : List JobView = jobs_made script t own begun es in
+    let made : List JobFacts = jobs_made script t own begun es in
     let hb : HoldsWaiting roots begun held = holds_push (Apply (task t) n) (leaves_apply log (task t) n rest) holds in
     let grows : Grows roots begun done = effects_grow roots t own begun es in
     let new : AreNew roots begun done made = effects_new script t own begun es in
@@ -355,11 +355,11 @@ middle script t n own log held es holds closed rest alive known =
       closed = record { at = λ o g le. grows.stays.closed o g ∙ (closed_push (Apply (task t) n) (λ o g. refl) closed).at o g (let more = grows.opened o in omega (arith, le, more)) };
     }
 
-begun_rests : (s : Option Stage) (env : Env) → s ≡ Some (Begun env) → waits_at s ≡ false
+begun_rests : (s : Option JobStage) (env : Env) → s ≡ Some (Begun env) → waits_at s ≡ false
 begun_rests s env is = ap waits_at is
 
 -- what holds after the end of a turn that fits
-pub end_kept : (script : ScriptView) (log : List Event) (held : List (Option HeldView)) (t n : ℕ) (es : List EffectView) (bodies : List (Option BodyView)) (exit : ExitView) (body : BodyView) (step : Step)
+pub end_kept : (script : ScriptView) (log : List Event) (held : List (Option WaitingTaskView)) (t n : ℕ) (es : List EffectView) (bodies : List (Option BodyView)) (exit : ExitView) (body : BodyView) (step : Step)
     → TurnLeaves script (root_count script) log held t es bodies exit body step
     → CanLeave t (log_after (root_count script) t (begun_priority (life_of t log).stage) (log ++ Apply (task t) n ∷ []) es) exit
     → Followed (root_count script) (log_after (root_count script) t (begun_priority (life_of t log).stage) (log ++ Apply (task t) n ∷ []) es ++ exit_events t (log_after (root_count script) t (begun_priority (life_of t log).stage) (log ++ Apply (task t) n ∷ []) es) exit step)

@@ -5,7 +5,7 @@ use Rattle.std.proofs.lemmas.List.{length-map}
 use Rattle.swift_types.specs.declared.outcome.Resume.{Resume}
 use Rattle.swift_script.specs.Scripts.{ScriptView, root_count}
 use Rattle.swift_interpreter.specs.Turn.{EffectView, ExitView}
-use Rattle.swift_queue.specs.Job.{JobIs}
+use Rattle.swift_job.specs.Job.{JobView}
 use Rattle.swift_turn.specs.declared.step.Step.{Step}
 use Rattle.swift_turn.specs.Body.{BodyView, TaskView}
 use Rattle.swift_events.specs.declared.event.Event.{Event}
@@ -14,32 +14,32 @@ use Rattle.swift_events.specs.Lives.{life_of}
 use Rattle.swift_events.specs.Relations.{waiters_of}
 use Rattle.swift_events.proofs.LogLemmas.{waiters_of-push_none}
 use Rattle.swift_history.specs.Histories.{begun_priority}
-use Rattle.swift_history.specs.TurnEnds.{JobView, HeldView, Follows, followed, jobs_made, exit_resume, task}
-use Rattle.swift_tasks.specs.declared.held.Held.{Held}
+use Rattle.swift_history.specs.TurnEnds.{JobFacts, WaitingTaskView, AfterTurn, followed, jobs_made, exit_resume, task}
+use Rattle.swift_tasks.specs.declared.held.WaitingTask.{WaitingTask}
 use Rattle.swift_tasks.specs.Applying.{CanLeave, StepFits, done_log, written_log, followed_from}
 use Rattle.swift_tasks.specs.BookInvariant.{held_views}
-use Rattle.swift_tasks.specs.Books.{job_view}
+use Rattle.swift_history.specs.Jobs.{job_facts}
 use Rattle.swift_tasks.proofs.FinishedTurn.{both_of, drop_map, drop_front}
 use Rattle.swift_tasks.proofs.Grows.{effects_grow}
 use Rattle.swift_tasks.proofs.TurnEndKept.{exit_left}
 
 -- the jobs of the tasks that a turn makes
-abbrev pub made_by : ScriptView → ℕ → ℕ → List Event → List EffectView → List JobView
+abbrev pub made_by : ScriptView → ℕ → ℕ → List Event → List EffectView → List JobFacts
 made_by script t n log es = jobs_made script t (begun_priority (life_of t log).stage) (log ++ Apply (task t) n ∷ []) es
 
 -- what follows from it
-abbrev pub follows_turn : ScriptView → ℕ → ℕ → List Event → List (Option HeldView) → List EffectView → ExitView → TaskView → Step → Follows
+abbrev pub follows_turn : ScriptView → ℕ → ℕ → List Event → List (Option WaitingTaskView) → List EffectView → ExitView → TaskView → Step → AfterTurn
 follows_turn script t n log held es exit frames step =
     followed t (n + 1) frames (exit_resume t (done_log (root_count script) t n log es) exit step) step (written_log (root_count script) t n log es exit step) (both_of (held ++ replicate (length (made_by script t n log es)) None) (made_by script t n log es))
 
-pub made_since : (first : ℕ) (jobs : List (JobIs BodyView)) (old made : List JobView) → map job_view jobs ≡ old ++ made → length old ≡ first → map job_view (drop first jobs) ≡ made
-made_since first jobs old made is long = drop_map job_view first jobs ∙ ap (drop first) is ∙ drop_front first old made long
+pub made_since : (first : ℕ) (jobs : List (JobView BodyView)) (old made : List JobFacts) → map job_facts jobs ≡ old ++ made → length old ≡ first → map job_facts (drop first jobs) ≡ made
+made_since first jobs old made is long = drop_map job_facts first jobs ∙ ap (drop first) is ∙ drop_front first old made long
 
-pub few_since : (first : ℕ) (jobs : List (JobIs BodyView)) (old made : List JobView) → map job_view jobs ≡ old ++ made → length old ≡ first → length jobs ≡ first + length made
+pub few_since : (first : ℕ) (jobs : List (JobView BodyView)) (old made : List JobFacts) → map job_facts jobs ≡ old ++ made → length old ≡ first → length jobs ≡ first + length made
 few_since first jobs old made is long =
     let a = ap length is in
     let b = length-append old made in
-    let d = length-map jobs job_view in
+    let d = length-map jobs job_facts in
     omega (arith, a, b, d, long)
 
 take_map : {A B : Type 0} (f : A → B) (n : ℕ) (xs : List A) → map f (take n xs) ≡ take n (map f xs)
@@ -55,17 +55,17 @@ take_front zero (x ∷ xs) ys is = absurd (omega (arith, is))
 take_front (suc n) [] ys is = absurd (omega (arith, is))
 take_front (suc n) (x ∷ xs) ys is = ap (λ zs. x ∷ zs) (take_front n xs ys (omega (arith, is)))
 
-pub stood_before : (first : ℕ) (jobs : List (JobIs BodyView)) (old made : List JobView) → map job_view jobs ≡ old ++ made → length old ≡ first → map job_view (take first jobs) ≡ old
-stood_before first jobs old made is long = take_map job_view first jobs ∙ ap (take first) is ∙ take_front first old made long
+pub stood_before : (first : ℕ) (jobs : List (JobView BodyView)) (old made : List JobFacts) → map job_facts jobs ≡ old ++ made → length old ≡ first → map job_facts (take first jobs) ≡ old
+stood_before first jobs old made is long = take_map job_facts first jobs ∙ ap (take first) is ∙ take_front first old made long
 
-pub turn_is : (script : ScriptView) (roots t n : ℕ) (log log' : List Event) (held : List (Option Held)) (es : List EffectView) (exit : ExitView) (frames : TaskView) (step : Step) (first : ℕ) (jobs : List (JobIs BodyView)) (old : List JobView) (resume : Option Resume)
-    → roots ≡ root_count script → log' ≡ written_log roots t n log es exit step → resume ≡ exit_resume t (done_log roots t n log es) exit step → map job_view jobs ≡ old ++ made_by script t n log es → length old ≡ first
+pub turn_is : (script : ScriptView) (roots t n : ℕ) (log log' : List Event) (held : List (Option WaitingTask)) (es : List EffectView) (exit : ExitView) (frames : TaskView) (step : Step) (first : ℕ) (jobs : List (JobView BodyView)) (old : List JobFacts) (resume : Option Resume)
+    → roots ≡ root_count script → log' ≡ written_log roots t n log es exit step → resume ≡ exit_resume t (done_log roots t n log es) exit step → map job_facts jobs ≡ old ++ made_by script t n log es → length old ≡ first
     → followed_from first held jobs t (n + 1) frames resume step log' ≡ follows_turn script t n log (held_views held) es exit frames step
 turn_is script roots t n log log' held es exit frames step first jobs old resume rs ls next js long =
-    let made : List JobView = made_by script t n log es in
+    let made : List JobFacts = made_by script t n log es in
     let count : length jobs - first ≡ length made = (let few = few_since first jobs old made js long in omega (arith, few)) in
-    ap (λ (k : ℕ). followed t (n + 1) frames resume step log' (both_of (held_views held ++ replicate k None) (map job_view (drop first jobs)))) count
-    ∙ ap (λ (ms : List JobView). followed t (n + 1) frames resume step log' (both_of (held_views held ++ replicate (length made) None) ms)) (made_since first jobs old made js long)
+    ap (λ (k : ℕ). followed t (n + 1) frames resume step log' (both_of (held_views held ++ replicate k None) (map job_facts (drop first jobs)))) count
+    ∙ ap (λ (ms : List JobFacts). followed t (n + 1) frames resume step log' (both_of (held_views held ++ replicate (length made) None) ms)) (made_since first jobs old made js long)
     ∙ ap (λ (r : Option Resume). followed t (n + 1) frames r step log' (both_of (held_views held ++ replicate (length made) None) made)) (next ∙ ap (λ (r : ℕ). exit_resume t (done_log r t n log es) exit step) rs)
     ∙ ap (λ (l : List Event). followed t (n + 1) frames (exit_resume t (done_log (root_count script) t n log es) exit step) step l (both_of (held_views held ++ replicate (length made) None) made)) (ls ∙ ap (λ (r : ℕ). written_log r t n log es exit step) rs)
 

@@ -11,7 +11,7 @@ use Rattle.swift_types.specs.declared.outcome.Fault.TheVariants.{Depth}
 use Rattle.swift_script.specs.Scripts.{ScriptView}
 use Rattle.swift_interpreter.specs.Frames.{FrameView}
 use Rattle.swift_interpreter.specs.Turn.{InvocationView, EffectView, ExitView, calling, waiting, asking_next, closing, yielding, returning, failing}
-use Rattle.swift_queue.specs.Job.{JobIs}
+use Rattle.swift_job.specs.Job.{JobView}
 use Rattle.swift_turn.specs.declared.step.Step.{Step}
 use Rattle.swift_turn.specs.declared.step.Step.TheVariants.{Run, Ended, Await}
 use Rattle.swift_turn.specs.Body.{BodyView, TaskView, Advanced, HasFrames, IsRunning, GoesOn, AdvancesTo, advanced, called, resumed, runs, opening}
@@ -19,10 +19,10 @@ use Rattle.swift_events.specs.declared.event.Event.{Event}
 use Rattle.swift_events.specs.declared.life.Origin.{Origin}
 use Rattle.swift_events.specs.Lives.{life_of, is_open}
 use Rattle.swift_history.specs.Histories.{begun_priority}
-use Rattle.swift_history.specs.TurnEnds.{JobView, HeldView, TurnEnd, turn_end}
+use Rattle.swift_history.specs.TurnEnds.{JobFacts, WaitingTaskView, TurnEnd, turn_end}
 use Rattle.swift_tasks.specs.declared.fault.BookFault.{BookFault}
 use Rattle.swift_tasks.specs.declared.fault.BookFault.TheVariants.{Unknown, Completed}
-use Rattle.swift_tasks.specs.Applying.{StepFits, JobFits, TurnLeaves, Ends}
+use Rattle.swift_tasks.specs.Applying.{StepFits, JobFits, TurnLeaves, BookEnds}
 use Rattle.swift_tasks.specs.Books.{BookView, IsEndOf, end_of_frames}
 use Rattle.swift_tasks.specs.Refusals.{refused_unless, refusal_unless_open, refusal_of_job, refusal_of_apply}
 use Rattle.swift_tasks.proofs.Fitting.{FitsTurn, begun_fits}
@@ -45,14 +45,14 @@ open_by (Some o) None f is none = refl
 open_by (Some o) (Some e) f is none = some_none f (ap is_some is) none
 
 -- a turn that is not refused is one of a task that has not ended
-pub taken_open : (script : ScriptView) (log : List Event) (job : JobIs BodyView) (es : List EffectView) (exit : ExitView) → refusal_of_apply script log job es exit ≡ None → is_open (life_of job.task.0 log) ≡ true
+pub taken_open : (script : ScriptView) (log : List Event) (job : JobView BodyView) (es : List EffectView) (exit : ExitView) → refusal_of_apply script log job es exit ≡ None → is_open (life_of job.task.0 log) ≡ true
 taken_open script log job es exit none =
     let begin = first_none (refusal_of_job log job) _ none in
     let alive = first_none (refusal_unless_open (life_of job.task.0 log)) _ begin in
     open_by (life_of job.task.0 log).origin (life_of job.task.0 log).ending (refusal_unless_open (life_of job.task.0 log)) refl alive
 
 -- and fits it
-pub taken_fits : (script : ScriptView) (log : List Event) (job : JobIs BodyView) (es : List EffectView) (exit : ExitView) → refusal_of_apply script log job es exit ≡ None → FitsTurn script log job.task.0 job.body.script es exit (life_of job.task.0 log).stage
+pub taken_fits : (script : ScriptView) (log : List Event) (job : JobView BodyView) (es : List EffectView) (exit : ExitView) → refusal_of_apply script log job es exit ≡ None → FitsTurn script log job.task.0 job.body.script es exit (life_of job.task.0 log).stage
 taken_fits script log job es exit none = begun_fits script log job.task.0 job.body.script es exit (life_of job.task.0 log).stage (second_true (refusal_of_job log job) _ none)
 
 abbrev awaits : Step → Bool
@@ -86,7 +86,7 @@ step_fits script [] outer exit after there is = absurd there
 step_fits script (p ∷ callers) outer exit after there is = fits_by script p callers outer exit after.step (ap (λ (a : Advanced). a.step) is)
 
 -- the end of the turn, by the body that has followed its exit
-pub end_is : (b : BookView) (job : JobIs BodyView) (es : List EffectView) (exit : ExitView) (script : ScriptView) (frames : List FrameView) (after : Advanced) → HasFrames frames → script ≡ b.script → AdvancesTo script frames job.body.task.outer exit after
+pub end_is : (b : BookView) (job : JobView BodyView) (es : List EffectView) (exit : ExitView) (script : ScriptView) (frames : List FrameView) (after : Advanced) → HasFrames frames → script ≡ b.script → AdvancesTo script frames job.body.task.outer exit after
     → turn_end b.script b.log b.held job.task.0 job.number (begun_priority (life_of job.task.0 b.log).stage) es exit after ≡ end_of_frames b job es exit frames
 end_is b job es exit script [] after there same is = absurd there
 end_is b job es exit script (p ∷ callers) after there same is =
@@ -96,7 +96,7 @@ abbrev after_step : TaskView → Step → Advanced
 after_step task step = record { task = task; step = step }
 
 -- a job's turn that fits ends so once its body has followed the exit
-pub leaves_of : (script : ScriptView) (roots : ℕ) (log : List Event) (held : List (Option HeldView)) (job : JobIs BodyView) (es : List EffectView) (bodies : List (Option BodyView)) (exit : ExitView) (body : BodyView) (step : Step)
+pub leaves_of : (script : ScriptView) (roots : ℕ) (log : List Event) (held : List (Option WaitingTaskView)) (job : JobView BodyView) (es : List EffectView) (bodies : List (Option BodyView)) (exit : ExitView) (body : BodyView) (step : Step)
     → JobFits script roots log held job es bodies exit → AdvancesTo job.body.script job.body.task.frames job.body.task.outer exit (record { task = body.task; step = step }) → (GoesOn step → IsRunning body) → body.script ≡ job.body.script
     → TurnLeaves script roots log held job.task.0 es bodies exit body step
 leaves_of script roots log held job es bodies exit body step fits adv runs same = record {
@@ -110,9 +110,9 @@ leaves_of script roots log held job es bodies exit body step fits adv runs same 
 }
 
 -- and its end is that of the turn of the job
-pub ends_of : (script : ScriptView) (roots : ℕ) (log log' : List Event) (held held' : List (Option HeldView)) (jobs jobs' : List JobView) (job : JobIs BodyView) (es : List EffectView) (bodies : List (Option BodyView)) (exit : ExitView) (body : BodyView) (step : Step)
+pub ends_of : (script : ScriptView) (roots : ℕ) (log log' : List Event) (held held' : List (Option WaitingTaskView)) (jobs jobs' : List JobFacts) (job : JobView BodyView) (es : List EffectView) (bodies : List (Option BodyView)) (exit : ExitView) (body : BodyView) (step : Step)
     → JobFits script roots log held job es bodies exit → AdvancesTo job.body.script job.body.task.frames job.body.task.outer exit (record { task = body.task; step = step })
-    → Ends script log held jobs job.task.0 job.number es exit body step log' held' jobs' → IsEndOf (record { script = script; log = log; held = held }) jobs job es exit log' held' jobs'
+    → BookEnds script log held jobs job.task.0 job.number es exit body step log' held' jobs' → IsEndOf (record { script = script; log = log; held = held }) jobs job es exit log' held' jobs'
 ends_of script roots log log' held held' jobs jobs' job es bodies exit body step fits adv ends =
     let is = end_is (record { script = script; log = log; held = held }) job es exit job.body.script job.body.task.frames (after_step body.task step) fits.running fits.same adv in
     record {

@@ -3,20 +3,20 @@ use Rattle.std.specs.Prelude.{◌≡◌, ℕ, ◌+◌, ◌-◌, ◌<◌, ◌≤�
 use Rattle.swift_types.specs.declared.limits.TheConstants.{TASKS}
 use Rattle.swift_types.specs.declared.id.TaskId.{TaskId}
 use Rattle.swift_types.specs.declared.priority.Priority.{Priority}
-use Rattle.script_code.specs.declared.env.Env.{Env}
+use Rattle.swift_types.specs.declared.env.Env.{Env}
 use Rattle.swift_types.specs.declared.outcome.Resume.{Resume}
 use Rattle.swift_types.specs.declared.outcome.Resume.TheVariants.{Start}
 use Rattle.swift_script.specs.Scripts.{ScriptView, root_count}
 use Rattle.swift_interpreter.specs.declared.effect.TaskName.{TaskName}
 use Rattle.swift_interpreter.specs.declared.effect.TaskName.TheVariants.{Root, Own}
 use Rattle.swift_interpreter.specs.Turn.{EffectView, spawning, detaching, opening, adding, cancelling_task, cancelling_group, ExitView, waiting, asking_next, closing}
-use Rattle.swift_queue.specs.Job.{JobIs}
+use Rattle.swift_job.specs.Job.{JobView}
 use Rattle.swift_turn.specs.declared.step.Step.{Step}
 use Rattle.swift_turn.specs.declared.step.Step.TheVariants.{Await}
 use Rattle.swift_turn.specs.Body.{BodyView, TaskView, IsRunning, GoesOn}
 use Rattle.swift_events.specs.declared.event.Event.{Event}
 use Rattle.swift_events.specs.declared.event.Event.TheVariants.{Apply, Child, Skip, Give}
-use Rattle.swift_events.specs.declared.life.Stage.TheVariants.{Begun}
+use Rattle.swift_events.specs.declared.life.JobStage.TheVariants.{Begun}
 use Rattle.swift_events.specs.Events.{tasks_of}
 use Rattle.swift_events.specs.Lives.{life_of, is_open}
 use Rattle.swift_events.specs.Relations.{opened_by, own_tasks, is_open_group}
@@ -24,11 +24,12 @@ use Rattle.swift_events.specs.Room.{reserved_of}
 use Rattle.swift_ledger.specs.Ledgers.{IsMade, HasRoom}
 use Rattle.swift_history.specs.Checks.{counters, fits_turn}
 use Rattle.swift_history.specs.Histories.{begun_priority}
-use Rattle.swift_history.specs.TurnEnds.{JobView, HeldView, Follows, TurnEnd, turn_end, log_after, exit_events, followed, resume_at, task}
-use Rattle.swift_tasks.specs.declared.held.Held.{Held}
+use Rattle.swift_history.specs.TurnEnds.{JobFacts, WaitingTaskView, AfterTurn, TurnEnd, turn_end, log_after, exit_events, followed, resume_at, task}
+use Rattle.swift_tasks.specs.declared.held.WaitingTask.{WaitingTask}
 use Rattle.swift_tasks.specs.Bodies.{AreBodiesOf}
 use Rattle.swift_tasks.specs.BookInvariant.{held_views}
-use Rattle.swift_tasks.specs.Books.{BookView, job_view, HoldsWaiting}
+use Rattle.swift_tasks.specs.Books.{BookView, HoldsWaiting}
+use Rattle.swift_history.specs.Jobs.{job_facts}
 use Rattle.swift_tasks.specs.Counted.{UnopenedAreNotClosed}
 use Rattle.swift_tasks.specs.Refusals.{refusal_of_apply}
 
@@ -47,14 +48,14 @@ CanTake roots t log (cancelling_task name) = CanName t log name
 CanTake roots t log (cancelling_group g) = IsTrue (is_open_group t g log)
 
 -- the job of a task's first turn
-abbrev pub first_of : ℕ → BodyView → JobIs BodyView
+abbrev pub first_of : ℕ → BodyView → JobView BodyView
 first_of t body = record { task = task t; number = 0; resume = Start; body = body }
 
 -- what adding a child writes, and the job that it makes
 abbrev pub add_events : ℕ → ℕ → ℕ → Bool → List Event → Priority → List Event
 add_events roots t g left_out log p = if left_out then Skip (task t) g ∷ [] else Child (task (tasks_of roots log)) (task t) g p ∷ []
 
-abbrev pub add_jobs : Bool → ℕ → BodyView → List (JobIs BodyView)
+abbrev pub add_jobs : Bool → ℕ → BodyView → List (JobView BodyView)
 add_jobs left_out t body = if left_out then [] else first_of t body ∷ []
 
 -- an exit can be followed: what it names is there
@@ -74,11 +75,11 @@ pub record CanTakeAll (roots t : ℕ) (log : List Event) (es : List EffectView) 
   pub started : AreBodiesOf script es bodies
 
 -- the tasks that wait, and the jobs that are made, as the code keeps them
-abbrev pub follows_of : List (Option Held) → List (JobIs BodyView) → Follows
-follows_of held jobs = record { held = held_views held; jobs = map job_view jobs }
+abbrev pub follows_of : List (Option WaitingTask) → List (JobView BodyView) → AfterTurn
+follows_of held jobs = record { held = held_views held; jobs = map job_facts jobs }
 
 -- a job whose turn may be applied to a book, with these effects and this exit
-pub record CanApply (b : BookView) (es : List EffectView) (exit : ExitView) (j : JobIs BodyView) : Type 0 where
+pub record CanApply (b : BookView) (es : List EffectView) (exit : ExitView) (j : JobView BodyView) : Type 0 where
   pub fits : refusal_of_apply b.script b.log j es exit ≡ None
   pub running : IsRunning j.body
   pub same : j.body.script ≡ b.script
@@ -91,16 +92,16 @@ abbrev pub went_on : List Event → TaskId → ℕ → Resume → List Event
 went_on log t n next = (log ++ Apply t n ∷ []) ++ Give t (n + 1) (resume_at (n + 1) next) ∷ []
 
 -- and the job of its next turn
-abbrev pub next_of : TaskId → ℕ → Resume → BodyView → JobIs BodyView
+abbrev pub next_of : TaskId → ℕ → Resume → BodyView → JobView BodyView
 next_of t n next body = record { task = t; number = n + 1; resume = resume_at (n + 1) next; body = body }
 
 -- each of these jobs is of a task that was made
-abbrev pub AreMade : List Event → List JobView → Type 0
+abbrev pub AreMade : List Event → List JobFacts → Type 0
 AreMade log [] = Unit {0}
 AreMade log (j ∷ js) = IsMade log (task j.task) × AreMade log js
 
 -- the end of a turn that has begun, by the body that has followed its exit
-abbrev pub end_at : ScriptView → List Event → List (Option HeldView) → ℕ → ℕ → List EffectView → ExitView → BodyView → Step → TurnEnd
+abbrev pub end_at : ScriptView → List Event → List (Option WaitingTaskView) → ℕ → ℕ → List EffectView → ExitView → BodyView → Step → TurnEnd
 end_at script log held t n es exit body step = turn_end script log held t n (begun_priority (life_of t log).stage) es exit (record { task = body.task; step = step })
 
 -- what comes after an exit: a task awaits where it waits for a task, asks a group or closes one, and nowhere else
@@ -120,7 +121,7 @@ pub record TurnFits (script : ScriptView) (roots : ℕ) (log : List Event) (t : 
   pub roots_are : roots ≡ root_count script
 
 -- such a turn in a book that keeps what it has to, when the task's own body has followed the exit
-pub record TurnLeaves (script : ScriptView) (roots : ℕ) (log : List Event) (held : List (Option HeldView)) (t : ℕ) (es : List EffectView) (bodies : List (Option BodyView)) (exit : ExitView) (body : BodyView) (step : Step) : Type 0 where
+pub record TurnLeaves (script : ScriptView) (roots : ℕ) (log : List Event) (held : List (Option WaitingTaskView)) (t : ℕ) (es : List EffectView) (bodies : List (Option BodyView)) (exit : ExitView) (body : BodyView) (step : Step) : Type 0 where
   pub turn : TurnFits script roots log t es bodies exit
   pub known : t < tasks_of roots log
   pub holds : HoldsWaiting roots log held
@@ -130,7 +131,7 @@ pub record TurnLeaves (script : ScriptView) (roots : ℕ) (log : List Event) (he
   pub same : body.script ≡ script
 
 -- the turn of a job that may be applied, before its body follows the exit
-pub record JobFits (script : ScriptView) (roots : ℕ) (log : List Event) (held : List (Option HeldView)) (j : JobIs BodyView) (es : List EffectView) (bodies : List (Option BodyView)) (exit : ExitView) : Type 0 where
+pub record JobFits (script : ScriptView) (roots : ℕ) (log : List Event) (held : List (Option WaitingTaskView)) (j : JobView BodyView) (es : List EffectView) (bodies : List (Option BodyView)) (exit : ExitView) : Type 0 where
   pub turn : TurnFits script roots log j.task.0 es bodies exit
   pub known : j.task.0 < tasks_of roots log
   pub holds : HoldsWaiting roots log held
@@ -139,7 +140,7 @@ pub record JobFits (script : ScriptView) (roots : ℕ) (log : List Event) (held 
   pub same : j.body.script ≡ script
 
 -- the log, the tasks that wait and the jobs after the end of such a turn
-pub record Ends (script : ScriptView) (log : List Event) (held : List (Option HeldView)) (jobs : List JobView) (t n : ℕ) (es : List EffectView) (exit : ExitView) (body : BodyView) (step : Step) (log' : List Event) (held' : List (Option HeldView)) (jobs' : List JobView) : Type 0 where
+pub record BookEnds (script : ScriptView) (log : List Event) (held : List (Option WaitingTaskView)) (jobs : List JobFacts) (t n : ℕ) (es : List EffectView) (exit : ExitView) (body : BodyView) (step : Step) (log' : List Event) (held' : List (Option WaitingTaskView)) (jobs' : List JobFacts) : Type 0 where
   pub log_is : log' ≡ (end_at script log held t n es exit body step).log
   pub held_is : held' ≡ (end_at script log held t n es exit body step).held
   pub jobs_are : jobs' ≡ jobs ++ (end_at script log held t n es exit body step).jobs
@@ -152,6 +153,6 @@ abbrev pub written_log : ℕ → ℕ → ℕ → List Event → List EffectView 
 written_log roots t n log es exit step = done_log roots t n log es ++ exit_events t (done_log roots t n log es) exit step
 
 -- what follows from a turn, where the jobs from this one on are those that it has made
-abbrev pub followed_from : ℕ → List (Option Held) → List (JobIs BodyView) → ℕ → ℕ → TaskView → Option Resume → Step → List Event → Follows
+abbrev pub followed_from : ℕ → List (Option WaitingTask) → List (JobView BodyView) → ℕ → ℕ → TaskView → Option Resume → Step → List Event → AfterTurn
 followed_from first held jobs t n frames resume step log =
-    followed t n frames resume step log (record { held = held_views held ++ replicate (length jobs - first) None; jobs = map job_view (drop first jobs) })
+    followed t n frames resume step log (record { held = held_views held ++ replicate (length jobs - first) None; jobs = map job_facts (drop first jobs) })

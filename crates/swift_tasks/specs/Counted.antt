@@ -3,9 +3,9 @@ use Rattle.std.specs.Prelude.{◌≡◌, ℕ, ◌≤◌, false, List}
 use Rattle.swift_events.specs.declared.event.Event.{Event}
 use Rattle.swift_events.specs.Relations.{opened_by, is_closed}
 use Rattle.swift_history.specs.Checks.{Counters}
-use Rattle.swift_tasks.specs.declared.checks.Counts.{Counts}
+use Rattle.swift_tasks.specs.declared.checks.EffectCounts.{EffectCounts}
 
-abbrev pub counters_of : Counts → Counters
+abbrev pub counters_of : EffectCounts → Counters
 counters_of c = record { own = c.own; opened = c.opened; room = c.room }
 
 -- a group that was not opened is not closed

@@ -6,11 +6,11 @@ use Rattle.swift_types.specs.declared.outcome.Resume.{Resume}
 use Rattle.swift_script.specs.Scripts.{ScriptView, root_count}
 use Rattle.swift_script.specs.SameScripts.{same_scripts}
 use Rattle.swift_interpreter.specs.Turn.{EffectView, ExitView}
-use Rattle.swift_queue.specs.Job.{JobIs}
+use Rattle.swift_job.specs.Job.{JobView}
 use Rattle.swift_turn.specs.Body.{BodyView}
 use Rattle.swift_events.specs.declared.event.Event.{Event}
-use Rattle.swift_events.specs.declared.life.Stage.{Stage}
-use Rattle.swift_events.specs.declared.life.Stage.TheVariants.{Begun}
+use Rattle.swift_events.specs.declared.life.JobStage.{JobStage}
+use Rattle.swift_events.specs.declared.life.JobStage.TheVariants.{Begun}
 use Rattle.swift_events.specs.declared.life.Life.{Life}
 use Rattle.swift_events.specs.Lives.{life_of}
 use Rattle.swift_history.specs.Checks.{is_current, counters, fits_turn}
@@ -47,19 +47,19 @@ refused_unless None false = Some Refused
 abbrev pub refusal_of_turn : List Event → ℕ → ℕ → Resume → Option BookFault
 refusal_of_turn log t n resume = refused_unless (refusal_unless_open (life_of t log)) (is_current (life_of t log) n resume)
 
-abbrev pub refusal_of_job : List Event → JobIs BodyView → Option BookFault
+abbrev pub refusal_of_job : List Event → JobView BodyView → Option BookFault
 refusal_of_job log job = refusal_of_turn log job.task.0 job.number job.resume
 
 -- and its body is of the same script
-abbrev pub refusal_of_begin : ScriptView → List Event → JobIs BodyView → Option BookFault
+abbrev pub refusal_of_begin : ScriptView → List Event → JobView BodyView → Option BookFault
 refusal_of_begin script log job = refused_unless (refusal_of_job log job) (same_scripts script job.body.script)
 
 -- in a turn that has begun, effects and exit that fit it, and a body of the same script
-abbrev pub fits_begun : ScriptView → List Event → ℕ → ScriptView → List EffectView → ExitView → Option Stage → Bool
+abbrev pub fits_begun : ScriptView → List Event → ℕ → ScriptView → List EffectView → ExitView → Option JobStage → Bool
 fits_begun script log t other effects exit (Some (Begun env)) = fits_turn script t log (counters t log env.room) effects exit && same_scripts script other
 fits_begun script log t other effects exit _ = false
 
 -- a turn is applied if it might begin, has begun, and fits
-abbrev pub refusal_of_apply : ScriptView → List Event → JobIs BodyView → List EffectView → ExitView → Option BookFault
+abbrev pub refusal_of_apply : ScriptView → List Event → JobView BodyView → List EffectView → ExitView → Option BookFault
 refusal_of_apply script log job effects exit =
     refused_unless (refusal_of_job log job) (fits_begun script log job.task.0 job.body.script effects exit (life_of job.task.0 log).stage)

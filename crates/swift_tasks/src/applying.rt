@@ -8,7 +8,8 @@ ghost use Rattle.swift_interpreter.specs.TurnStates.{exit_view};
 ghost use Rattle.swift_turn.specs.Body.{IsRunning, at_rest};
 ghost use Rattle.swift_ledger.specs.Ledgers.{IsMade};
 ghost use Rattle.swift_tasks.specs.Applying.{CanApply, next_of, went_on};
-ghost use Rattle.swift_tasks.specs.Books.{job_view, IsJobOf, IsEndOf};
+ghost use Rattle.swift_tasks.specs.Books.{IsJobOf, IsEndOf};
+ghost use Rattle.swift_history.specs.Jobs.{job_facts};
 ghost use Rattle.swift_tasks.specs.Refusals.{IsRefusal, refusal_of_apply};
 
 use crate::bodies::bodies_of;
@@ -19,8 +20,8 @@ use crate::turns::{make_room, take_turn};
 use std::alloc::AllocError;
 use std::mem;
 use swift_interpreter::{Effect, Exit};
+use swift_job::Job;
 use swift_ledger::Ledger;
-use swift_queue::Job;
 use swift_turn::{Body, Step};
 use swift_types::{Resume, TaskId};
 
@@ -86,7 +87,7 @@ impl Book {
         jobs: &mut Vec<Job<Body>>,
     ) -> Result<(), AllocError>
         requires { IsSomeAnd place.old (CanApply self.old [] yielding) }
-        ensures ok { OnOk result (IsSomeAnd place.old (λ job. IsEndOf self.old (map job_view jobs.old.items) job [] yielding self.new.log self.new.held (map job_view jobs.new.items))) }
+        ensures ok { OnOk result (IsSomeAnd place.old (λ job. IsEndOf self.old (map job_facts jobs.old.items) job [] yielding self.new.log self.new.held (map job_facts jobs.new.items))) }
         ensures taken { OnOk result (place.new ≡ None) }
         ensures script { self.new.script ≡ self.old.script }
         ensures bodies { AllByRecursion (IsJobOf self.old.script) jobs.old.items → AllByRecursion (IsJobOf self.old.script) jobs.new.items }
@@ -112,7 +113,7 @@ impl Book {
     ) -> Result<(), AllocError>
         requires fits { IsSomeAnd place.old (CanApply self.old [] (exit_view exit.now)) }
         requires calls { (i : InvocationView) × (exit_view exit.now ≡ calling i) }
-        ensures ok { OnOk result (IsSomeAnd place.old (λ job. IsEndOf self.old (map job_view jobs.old.items) job [] (exit_view exit.now) self.new.log self.new.held (map job_view jobs.new.items))) }
+        ensures ok { OnOk result (IsSomeAnd place.old (λ job. IsEndOf self.old (map job_facts jobs.old.items) job [] (exit_view exit.now) self.new.log self.new.held (map job_facts jobs.new.items))) }
         ensures taken { OnOk result (place.new ≡ None) }
         ensures script { self.new.script ≡ self.old.script }
         ensures bodies { AllByRecursion (IsJobOf self.old.script) jobs.old.items → AllByRecursion (IsJobOf self.old.script) jobs.new.items }
@@ -148,7 +149,7 @@ impl Book {
         jobs: &mut Vec<Job<Body>>,
     ) -> Result<(), Job<Body>>
         requires { CanApply self.old (effect_views effects.now) (exit_view exit.now) job }
-        ensures ok { OnOk result (IsEndOf self.old (map job_view jobs.old.items) job (effect_views effects.now) (exit_view exit.now) self.new.log self.new.held (map job_view jobs.new.items)) }
+        ensures ok { OnOk result (IsEndOf self.old (map job_facts jobs.old.items) job (effect_views effects.now) (exit_view exit.now) self.new.log self.new.held (map job_facts jobs.new.items)) }
         ensures script { self.new.script ≡ self.old.script }
         ensures bodies { AllByRecursion (IsJobOf self.old.script) jobs.old.items → AllByRecursion (IsJobOf self.old.script) jobs.new.items }
         ensures err { IfErr result (λ back. (self.new ≡ self.old) × (jobs.new.items ≡ jobs.old.items) × (back ≡ job)) }
@@ -189,7 +190,7 @@ impl Book {
         jobs: &mut Vec<Job<Body>>,
     ) -> Result<(), BookFault>
         requires { IsSomeAnd place.old (CanApply self.old (effect_views effects.now) (exit_view exit.now)) }
-        ensures ok { OnOk result (IsSomeAnd place.old (λ job. IsEndOf self.old (map job_view jobs.old.items) job (effect_views effects.now) (exit_view exit.now) self.new.log self.new.held (map job_view jobs.new.items))) }
+        ensures ok { OnOk result (IsSomeAnd place.old (λ job. IsEndOf self.old (map job_facts jobs.old.items) job (effect_views effects.now) (exit_view exit.now) self.new.log self.new.held (map job_facts jobs.new.items))) }
         ensures taken { OnOk result (place.new ≡ None) }
         ensures script { self.new.script ≡ self.old.script }
         ensures bodies { AllByRecursion (IsJobOf self.old.script) jobs.old.items → AllByRecursion (IsJobOf self.old.script) jobs.new.items }
@@ -231,7 +232,7 @@ impl Book {
         jobs: &mut Vec<Job<Body>>,
     ) -> Result<(), (Job<Body>, Vec<Effect>, BookFault)>
         requires running { IsRunning job.body }
-        ensures ok { OnOk result (IsEndOf self.old (map job_view jobs.old.items) job (effect_views effects.items) (exit_view exit.now) self.new.log self.new.held (map job_view jobs.new.items)) }
+        ensures ok { OnOk result (IsEndOf self.old (map job_facts jobs.old.items) job (effect_views effects.items) (exit_view exit.now) self.new.log self.new.held (map job_facts jobs.new.items)) }
         ensures same { OnOk result (job.body.script ≡ self.old.script) }
         ensures script { self.new.script ≡ self.old.script }
         ensures bodies { AllByRecursion (IsJobOf self.old.script) jobs.old.items → AllByRecursion (IsJobOf self.old.script) jobs.new.items }
@@ -257,7 +258,7 @@ impl Book {
     ) -> Result<(), (Job<Body>, Vec<Effect>, BookFault)>
         requires running { IsRunning job.body }
         requires known { job.body.script ≡ self.old.script }
-        ensures ok { OnOk result (IsEndOf self.old (map job_view jobs.old.items) job (effect_views effects.items) (exit_view exit.now) self.new.log self.new.held (map job_view jobs.new.items)) }
+        ensures ok { OnOk result (IsEndOf self.old (map job_facts jobs.old.items) job (effect_views effects.items) (exit_view exit.now) self.new.log self.new.held (map job_facts jobs.new.items)) }
         ensures script { self.new.script ≡ self.old.script }
         ensures bodies { AllByRecursion (IsJobOf self.old.script) jobs.old.items → AllByRecursion (IsJobOf self.old.script) jobs.new.items }
         ensures err { IfErr result (λ e. (self.new ≡ self.old) × (jobs.new.items ≡ jobs.old.items) × (e.0 ≡ job) × (effect_views e.1.items ≡ effect_views effects.items)) }
@@ -281,7 +282,7 @@ impl Book {
     ) -> Result<(), BookFault>
         requires running { IsSomeAnd job.old (λ j. IsRunning j.body) }
         requires known { IsSomeAnd job.old (λ j. j.body.script ≡ self.old.script) }
-        ensures ok { OnOk result (IsSomeAnd job.old (λ j. IsEndOf self.old (map job_view jobs.old.items) j (effect_views effects.now) (exit_view exit.now) self.new.log self.new.held (map job_view jobs.new.items))) }
+        ensures ok { OnOk result (IsSomeAnd job.old (λ j. IsEndOf self.old (map job_facts jobs.old.items) j (effect_views effects.now) (exit_view exit.now) self.new.log self.new.held (map job_facts jobs.new.items))) }
         ensures taken { OnOk result (job.new ≡ None) }
         ensures script { self.new.script ≡ self.old.script }
         ensures bodies { AllByRecursion (IsJobOf self.old.script) jobs.old.items → AllByRecursion (IsJobOf self.old.script) jobs.new.items }

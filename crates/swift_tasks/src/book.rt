@@ -3,27 +3,26 @@
 ghost use Rattle.std.specs.Prelude.{◌≡◌, ◌≢◌, ℕ, ◌+◌, ◌<◌, ◌≤◌, ◌^◌, [], ◌∷◌, ◌++◌, None, Some, true, IfOk, IfErr, IfNone, IfSome, IsTrue, replicate};
 ghost use Rattle.std.specs.Arc.{arc_value};
 ghost use Rattle.swift_script.specs.Scripts.{root_count};
-ghost use Rattle.swift_events.specs.declared.life.Stage.TheVariants.{Begun};
+ghost use Rattle.swift_events.specs.declared.life.JobStage.TheVariants.{Begun};
 ghost use Rattle.swift_events.specs.Events.{tasks_of};
 ghost use Rattle.swift_events.specs.Lives.{life_of};
 ghost use Rattle.swift_events.specs.Relations.{is_closed, opened_by};
 ghost use Rattle.swift_events.specs.Room.{open_of};
-ghost use Rattle.script_code.specs.declared.env.Env.{Env};
+ghost use Rattle.swift_types.specs.declared.env.Env.{Env};
 ghost use Rattle.swift_tasks.specs.Books.{HoldsWaiting, empty_book};
 
 use crate::fault::BookFault;
-use crate::held::Held;
-use script_code::Env;
+use crate::held::WaitingTask;
 use std::alloc::Global;
 use std::marker::Model;
 use std::sync::Arc;
-use swift_events::{Origin, Stage};
+use swift_events::{JobStage, Origin};
+use swift_job::Job;
 use swift_ledger::Ledger;
 use swift_log::EventLog;
-use swift_queue::Job;
 use swift_script::Script;
 use swift_turn::Body;
-use swift_types::{Ending, TaskId};
+use swift_types::{Ending, Env, TaskId};
 
 /// The tasks of one run of a script (SE-0304; that they stand in one book, with a log, is our own). Executors ask it before
 /// each turn, tell it what the turn did, and get the jobs that follow. Each call takes constant time, besides what it writes
@@ -36,7 +35,7 @@ pub struct Book {
     pub(crate) script: Arc<Script>,
     pub(crate) ledger: Ledger,
     // By the number of the task.
-    pub(crate) held: Vec<Option<Held>>,
+    pub(crate) held: Vec<Option<WaitingTask>>,
     // It is empty, and has room for the jobs of all tasks.
     pub(crate) spare: Vec<Job<Body>>,
 }
@@ -121,7 +120,7 @@ impl Book {
         ensures none { IfNone result ((env : Env) → (life_of task.0 self.now.log).stage ≢ Some (Begun env)) }
     {
         match self.ledger.life(task).stage {
-            Some(Stage::Begun(env)) => Some(env),
+            Some(JobStage::Begun(env)) => Some(env),
             _ => None,
         }
     }
@@ -152,7 +151,7 @@ impl Book {
 }
 
 // So many tasks, of which none waits.
-fn none_held(alloc: Global, tasks: usize) -> Result<Vec<Option<Held>>, BookFault>
+fn none_held(alloc: Global, tasks: usize) -> Result<Vec<Option<WaitingTask>>, BookFault>
     ensures ok { IfOk result (λ held. held.items ≡ replicate tasks None) }
     ensures err { IfErr result (λ fault. fault ≡ BookFault.Memory) }
 {

@@ -9,7 +9,7 @@ ghost use Rattle.swift_history.specs.Checks.{can_run, can_name, can_use, fits_ef
 ghost use Rattle.swift_tasks.specs.Refusals.{fits_begun};
 ghost use Rattle.swift_tasks.specs.Counted.{counters_of, UnopenedAreNotClosed};
 
-use swift_events::Stage;
+use swift_events::JobStage;
 use swift_interpreter::{Effect, Exit, Invocation, TaskName};
 use swift_ledger::Ledger;
 use swift_script::Script;
@@ -17,7 +17,7 @@ use swift_types::TaskId;
 
 /// What a task has made by a place among the effects of its turn, and how many tasks the turn may still make.
 #[derive(Clone, Copy)]
-pub struct Counts {
+pub struct EffectCounts {
     pub own: usize,
     pub opened: usize,
     pub room: u32,
@@ -34,7 +34,7 @@ fn runs(script: &Script, invocation: &Invocation) -> bool
 }
 
 // Whether a task that a turn names is there by then.
-fn names(script: &Script, ledger: &Ledger, counts: Counts, name: TaskName) -> bool
+fn names(script: &Script, ledger: &Ledger, counts: EffectCounts, name: TaskName) -> bool
     ensures { result ≡ can_name script.now ledger.now.log (counters_of counts) name }
 {
     match name {
@@ -46,7 +46,7 @@ fn names(script: &Script, ledger: &Ledger, counts: Counts, name: TaskName) -> bo
 }
 
 // Whether a group that a turn names is open by then.
-fn uses(ledger: &Ledger, task: TaskId, counts: Counts, group: u32) -> bool
+fn uses(ledger: &Ledger, task: TaskId, counts: EffectCounts, group: u32) -> bool
     requires { UnopenedAreNotClosed ledger.now.log }
     ensures { result ≡ can_use task.0 ledger.now.log (counters_of counts) group }
 {
@@ -61,9 +61,9 @@ fn counted_on(
     script: &Script,
     ledger: &Ledger,
     task: TaskId,
-    counts: Counts,
+    counts: EffectCounts,
     effect: &Effect,
-) -> Option<Counts>
+) -> Option<EffectCounts>
     requires own { counts.own < 2 ^ 63 }
     requires closed { UnopenedAreNotClosed ledger.now.log }
     ensures none { IfNone result (fits_effect script.now task.0 ledger.now.log (counters_of counts) (effect_view effect.now) ≡ false) }
@@ -71,13 +71,13 @@ fn counted_on(
     ensures counted { IfSome result (λ after. counters_of after ≡ counted (counters_of counts) (effect_view effect.now)) }
     ensures few { IfSome result (λ after. after.own + after.room ≤ counts.own + counts.room) }
 {
-    let Counts { own, opened, room } = counts;
+    let EffectCounts { own, opened, room } = counts;
     match effect {
         Effect::Spawn(invocation, _, _) | Effect::Detach(invocation, _) => {
             if room == 0 || !runs(script, invocation) {
                 return None;
             }
-            Some(Counts {
+            Some(EffectCounts {
                 own: own + 1,
                 opened,
                 room: room - 1,
@@ -87,7 +87,7 @@ fn counted_on(
             if opened >= 1 << 32 {
                 return None;
             }
-            Some(Counts {
+            Some(EffectCounts {
                 own,
                 opened: opened + 1,
                 room,
@@ -97,7 +97,7 @@ fn counted_on(
             if room == 0 || !uses(ledger, task, counts, *group) || !runs(script, invocation) {
                 return None;
             }
-            Some(Counts {
+            Some(EffectCounts {
                 own,
                 opened,
                 room: room - 1,
@@ -109,7 +109,7 @@ fn counted_on(
 }
 
 // Whether the exit fits after the effects.
-fn leaves(script: &Script, ledger: &Ledger, task: TaskId, counts: Counts, exit: &Exit) -> bool
+fn leaves(script: &Script, ledger: &Ledger, task: TaskId, counts: EffectCounts, exit: &Exit) -> bool
     requires { UnopenedAreNotClosed ledger.now.log }
     ensures { result ≡ fits_exit script.now task.0 ledger.now.log (counters_of counts) (exit_view exit.now) }
 {
@@ -128,7 +128,7 @@ pub fn turn_fits(
     script: &Script,
     ledger: &Ledger,
     task: TaskId,
-    begun: Counts,
+    begun: EffectCounts,
     effects: &[Effect],
     exit: &Exit,
 ) -> bool
@@ -152,7 +152,7 @@ pub fn begun_fits(
     script: &Script,
     ledger: &Ledger,
     task: TaskId,
-    stage: Option<Stage>,
+    stage: Option<JobStage>,
     effects: &[Effect],
     exit: &Exit,
 ) -> bool
@@ -160,7 +160,7 @@ pub fn begun_fits(
     ensures { (other : ScriptView) → fits_begun script.now ledger.now.log task.0 other (effect_views effects.now) (exit_view exit.now) stage ≡ (result && same_scripts script.now other) }
 {
     match stage {
-        Some(Stage::Begun(env)) => fits_room(script, ledger, task, env.room, effects, exit),
+        Some(JobStage::Begun(env)) => fits_room(script, ledger, task, env.room, effects, exit),
         _ => false,
     }
 }
@@ -189,12 +189,12 @@ fn fits_room(
 }
 
 // What a task has made before its turn, which may make so many tasks.
-fn counts_of(ledger: &Ledger, task: TaskId, room: u32) -> Counts
+fn counts_of(ledger: &Ledger, task: TaskId, room: u32) -> EffectCounts
     ensures counts { counters_of result ≡ counters task.0 ledger.now.log room }
     ensures few { result.own ≤ 2 ^ 32 }
 {
     let _tasks = ledger.tasks();
-    Counts {
+    EffectCounts {
         own: ledger.own_count(task),
         opened: ledger.opened(task),
         room,

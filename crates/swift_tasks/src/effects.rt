@@ -13,17 +13,18 @@ ghost use Rattle.swift_events.specs.Room.{reserved_of};
 ghost use Rattle.swift_history.specs.TurnEnds.{named_task, cancel_events, effect_events, effect_jobs, is_left_out, task as numbered};
 ghost use Rattle.swift_tasks.specs.Applying.{CanName, CanTake, add_events, add_jobs, first_of};
 ghost use Rattle.swift_tasks.specs.Bodies.{IsBodyOf};
-ghost use Rattle.swift_tasks.specs.Books.{job_view, IsJobOf};
+ghost use Rattle.swift_tasks.specs.Books.{IsJobOf};
+ghost use Rattle.swift_history.specs.Jobs.{job_facts};
 
 use swift_events::Event;
 use swift_interpreter::{Effect, TaskName};
+use swift_job::Job;
 use swift_ledger::Ledger;
-use swift_queue::Job;
 use swift_turn::Body;
 use swift_types::{Priority, Resume, TaskId};
 
 // The task that a task names.
-pub fn named(ledger: &Ledger, task: TaskId, name: TaskName) -> TaskId
+pub fn task_of(ledger: &Ledger, task: TaskId, name: TaskName) -> TaskId
     ensures named { result ≡ named_task task.0 name ledger.now.log }
     ensures made { CanName task.0 ledger.now.log name → IsMade ledger.now.log result }
 {
@@ -182,7 +183,7 @@ pub fn note_effect(
     ensures spare { ledger.old.spare ≤ ledger.new.spare + 1 }
     ensures reserved { reserved_of ledger.new.roots ledger.new.log ≡ reserved_of ledger.old.roots ledger.old.log }
     ensures jobs { (script : ScriptView) → IsBodyOf script (effect_view effect.now) body → root_count script ≡ ledger.old.roots
-        → map job_view jobs.new.items ≡ map job_view jobs.old.items ++ effect_jobs script task.0 ledger.old.log (effect_view effect.now) }
+        → map job_facts jobs.new.items ≡ map job_facts jobs.old.items ++ effect_jobs script task.0 ledger.old.log (effect_view effect.now) }
     ensures bodies { (script : ScriptView) → IsBodyOf script (effect_view effect.now) body → AllByRecursion (IsJobOf script) jobs.old.items → AllByRecursion (IsJobOf script) jobs.new.items }
     ensures capacity { vec_capacity jobs.new ≡ vec_capacity jobs.old }
     ensures few { vec_len jobs.new ≤ vec_len jobs.old + 1 }
@@ -203,7 +204,7 @@ pub fn note_effect(
             note_add(ledger, jobs, task, *group, *unless, priority, body);
         }
         Effect::CancelTask(name) => {
-            let named = named(ledger, task, *name);
+            let named = task_of(ledger, task, *name);
             note_cancel(ledger, named);
         }
         Effect::CancelGroup(group) => note_aside(ledger, Event::CancelGroup(task, *group)),

@@ -11,9 +11,9 @@ ghost use Rattle.swift_events.specs.Relations.{group_of, is_open_group};
 ghost use Rattle.swift_history.specs.TurnEnds.{resume_at, resume_of, wait_events, wait_resume, next_events, next_resume, close_events, close_resume, end_events, step_resume, exit_events, exit_resume};
 ghost use Rattle.swift_tasks.specs.Applying.{CanLeave};
 
-use crate::effects::named;
+use crate::effects::task_of;
 use swift_events::Event;
-use swift_groups::{Close, Next};
+use swift_groups::{Close, NextResult};
 use swift_interpreter::Exit;
 use swift_ledger::Ledger;
 use swift_turn::Step;
@@ -71,12 +71,12 @@ fn note_next(ledger: &mut Ledger, task: TaskId, group: u32) -> Option<Resume>
     ensures resume { result ≡ next_resume (next_of (group_of task.0 group ledger.old.log)) }
 {
     match ledger.next_of(task, group) {
-        Next::Empty => Some(Resume::Fault(Fault::Empty)),
-        Next::Result(_, ending) => {
+        NextResult::Empty => Some(Resume::Fault(Fault::Empty)),
+        NextResult::Result(_, ending) => {
             ledger.note(Event::Next(task, group));
             Some(resume_of(ending))
         }
-        Next::Wait => {
+        NextResult::Wait => {
             ledger.note(Event::Next(task, group));
             None
         }
@@ -151,7 +151,7 @@ pub fn note_exit(ledger: &mut Ledger, task: TaskId, exit: &Exit, step: Step) -> 
 {
     match exit {
         Exit::Wait(name) => {
-            let awaited = named(ledger, task, *name);
+            let awaited = task_of(ledger, task, *name);
             note_wait(ledger, task, awaited)
         }
         Exit::Next(group) => note_next(ledger, task, *group),

@@ -4,7 +4,7 @@ use swift_turn::Body;
 
 /// A task that waits.
 #[derive(Drop)]
-pub struct Held {
+pub struct WaitingTask {
     /// The number of its next turn.
     pub number: u32,
     /// What runs it.

@@ -15,12 +15,11 @@ ghost use Rattle.swift_interpreter.specs.TurnStates.{exit_view};
 use crate::book::Book;
 use crate::checks::begun_fits;
 use crate::fault::BookFault;
-use script_code::Env;
-use swift_events::{Event, Given, Life, Stage};
+use swift_events::{Event, JobStage, LastJob, Life};
 use swift_interpreter::{Effect, Exit};
-use swift_queue::Job;
+use swift_job::Job;
 use swift_turn::Body;
-use swift_types::{Fault, Resume, TaskId};
+use swift_types::{Env, Fault, Resume, TaskId};
 
 fn faults_equal(a: Fault, b: Fault) -> bool
     ensures { result ≡ same_fault a b }
@@ -54,7 +53,7 @@ fn resumes_equal(a: Resume, b: Resume) -> bool
 
 // Whether this number and resume were given last.
 #[inline(always)]
-fn gave(given: Option<Given>, number: u32, resume: Resume) -> bool
+fn gave(given: Option<LastJob>, number: u32, resume: Resume) -> bool
     ensures { result ≡ was_given given number resume }
 {
     match given {
@@ -65,10 +64,10 @@ fn gave(given: Option<Given>, number: u32, resume: Resume) -> bool
 
 // Whether a turn was not applied yet.
 #[inline(always)]
-fn under_way(stage: Option<Stage>) -> bool
+fn under_way(stage: Option<JobStage>) -> bool
     ensures { result ≡ is_under_way stage }
 {
-    matches!(stage, Some(Stage::Given | Stage::Begun(_)))
+    matches!(stage, Some(JobStage::Given | JobStage::Begun(_)))
 }
 
 // Whether the turn is that of the task's last job, and was not applied.

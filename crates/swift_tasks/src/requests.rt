@@ -17,20 +17,21 @@ ghost use Rattle.swift_events.specs.Relations.{links_of};
 ghost use Rattle.swift_turn.specs.Body.{idle};
 ghost use Rattle.swift_history.specs.TurnEnds.{root_job, root_events};
 ghost use Rattle.swift_tasks.specs.BookInvariant.{FitsScript, held_views};
-ghost use Rattle.swift_tasks.specs.Books.{IsJobOf, job_view, jobs_held};
+ghost use Rattle.swift_tasks.specs.Books.{IsJobOf, jobs_held};
+ghost use Rattle.swift_history.specs.Jobs.{job_facts};
 ghost use Rattle.swift_tasks.specs.Refusals.{IsRefusal, refusal_of_root, refusal_of_cancel, refusal_of_priorities};
 
 use crate::book::Book;
 use crate::fault::BookFault;
-use crate::held::Held;
+use crate::held::WaitingTask;
 use crate::refusals::unless_open;
 use std::alloc::Global;
 use std::sync::Arc;
 use swift_events::Event;
+use swift_job::Job;
 use swift_ledger::Ledger;
 use swift_locals::Bindings;
 use swift_log::EventLog;
-use swift_queue::Job;
 use swift_script::Script;
 use swift_turn::Body;
 use swift_types::{Priority, Resume, RootId, TaskId};
@@ -41,7 +42,7 @@ impl Book {
     /// Adds a root: its task has the root's number, method, arguments and priority, and no bindings. The job of its first
     /// turn comes back. A refusal is `Unknown` for a root that the script lacks or that was added before, or else `Memory`.
     pub fn add_root(&mut self, root: RootId) -> Result<Job<Body>, BookFault>
-        ensures job { IfOk result (λ job. job_view job ≡ root_job self.old.script root.0) }
+        ensures job { IfOk result (λ job. job_facts job ≡ root_job self.old.script root.0) }
         ensures body { IfOk result (IsJobOf self.old.script) }
         ensures ok { OnOk result (self.new ≡ record self.old { log = self.old.log ++ root_events self.old.script root.0 }) }
         ensures err { OnErr result (self.new ≡ self.old) }
@@ -127,7 +128,7 @@ impl Book {
     /// task has waited, as if that were over; its turn is never begun by this book. It takes no memory.
     pub fn close(self) -> (EventLog, Vec<Job<Body>>)
         ensures log { result.0.events ≡ self.log }
-        ensures jobs { map job_view result.1.items ≡ jobs_held 0 self.held }
+        ensures jobs { map job_facts result.1.items ≡ jobs_held 0 self.held }
         ensures bodies { AllByRecursion (IsJobOf self.script) result.1.items }
     {
         let Book {
@@ -184,15 +185,15 @@ fn priority_of(ledger: &Ledger, task: TaskId) -> Priority
 }
 
 // The jobs of the tasks that wait, by the number of the task, in a list that has the room for them.
-fn jobs_of(mut held: Vec<Option<Held>>, mut jobs: Vec<Job<Body>>) -> Vec<Job<Body>>
+fn jobs_of(mut held: Vec<Option<WaitingTask>>, mut jobs: Vec<Job<Body>>) -> Vec<Job<Body>>
     requires empty { jobs.items ≡ [] }
     requires room { vec_len held ≤ vec_capacity jobs }
     requires few { vec_len held ≤ TASKS }
-    ensures jobs { map job_view result.items ≡ jobs_held 0 (held_views held.items) }
+    ensures jobs { map job_facts result.items ≡ jobs_held 0 (held_views held.items) }
     ensures bodies { (script : ScriptView) → AllByRecursion (FitsScript script) held.items → AllByRecursion (IsJobOf script) result.items }
 {
     while let Some(waiting) = held.pop() {
-        if let Some(Held { number, body }) = waiting {
+        if let Some(WaitingTask { number, body }) = waiting {
             jobs.push_reserved(Job::new(TaskId(held.len() as u32), number, Resume::Go, body));
         }
     }

@@ -12,30 +12,31 @@ ghost use Rattle.swift_events.specs.Lives.{life_of};
 ghost use Rattle.swift_events.specs.Relations.{waiters_of};
 ghost use Rattle.swift_history.specs.Histories.{begun_priority};
 ghost use Rattle.swift_history.specs.TurnEnds.{log_after, jobs_made, exit_resume, followed, gives};
-ghost use Rattle.swift_tasks.specs.Applying.{CanTakeAll, CanLeave, AreMade, TurnFits, TurnLeaves, JobFits, Ends, done_log, written_log, follows_of, followed_from};
+ghost use Rattle.swift_tasks.specs.Applying.{CanTakeAll, CanLeave, AreMade, TurnFits, TurnLeaves, JobFits, BookEnds, done_log, written_log, follows_of, followed_from};
 ghost use Rattle.swift_tasks.specs.Bodies.{AreBodiesOf};
 ghost use Rattle.swift_tasks.specs.BookInvariant.{FitsScript, held_views};
-ghost use Rattle.swift_tasks.specs.Books.{job_view, IsJobOf, HoldsWaiting, IsEndOf};
+ghost use Rattle.swift_tasks.specs.Books.{IsJobOf, HoldsWaiting, IsEndOf};
+ghost use Rattle.swift_history.specs.Jobs.{job_facts};
 ghost use Rattle.swift_tasks.specs.Counted.{UnopenedAreNotClosed};
 
 use crate::effects::note_effect;
 use crate::exits::note_exit;
-use crate::held::Held;
+use crate::held::WaitingTask;
 use crate::waking::follow;
 use std::alloc::AllocError;
-use swift_events::{Event, Stage};
+use swift_events::{Event, JobStage};
 use swift_interpreter::{Effect, Exit};
+use swift_job::Job;
 use swift_ledger::Ledger;
-use swift_queue::Job;
 use swift_turn::{Body, Step};
 use swift_types::{Priority, Resume, TaskId};
 
 // The priority of a task in the turn that it has begun.
-fn begun_priority(stage: Option<Stage>) -> Priority
+fn begun_priority(stage: Option<JobStage>) -> Priority
     ensures { result ≡ begun_priority stage }
 {
     match stage {
-        Some(Stage::Begun(env)) => env.priority,
+        Some(JobStage::Begun(env)) => env.priority,
         _ => Priority::Background,
     }
 }
@@ -73,7 +74,7 @@ fn note_effects(
     ensures leave { (exit : ExitView) → CanTakeAll ledger.old.roots task.0 ledger.old.log (effect_views effects.now) bodies.items exit → CanLeave task.0 ledger.new.log exit }
     ensures spare { ledger.old.spare ≤ ledger.new.spare + length effects.now }
     ensures jobs { (script : ScriptView) → AreBodiesOf script (effect_views effects.now) bodies.items → root_count script ≡ ledger.old.roots
-        → map job_view jobs.new.items ≡ map job_view jobs.old.items ++ jobs_made script task.0 own ledger.old.log (effect_views effects.now) }
+        → map job_facts jobs.new.items ≡ map job_facts jobs.old.items ++ jobs_made script task.0 own ledger.old.log (effect_views effects.now) }
     ensures bodies { (script : ScriptView) → AreBodiesOf script (effect_views effects.now) bodies.items → AllByRecursion (IsJobOf script) jobs.old.items → AllByRecursion (IsJobOf script) jobs.new.items }
     ensures few { vec_len jobs.new ≤ vec_len jobs.old + length effects.now }
     ensures capacity { vec_capacity jobs.new ≡ vec_capacity jobs.old }
@@ -93,10 +94,10 @@ fn note_effects(
 
 // The jobs that were made are written.
 fn note_gives(ledger: &mut Ledger, jobs: &[Job<Body>])
-    requires made { AreMade ledger.old.log (map job_view jobs.now) }
+    requires made { AreMade ledger.old.log (map job_facts jobs.now) }
     requires spare { length jobs.now ≤ ledger.old.spare }
     ensures roots { ledger.new.roots ≡ ledger.old.roots }
-    ensures log { ledger.new.log ≡ ledger.old.log ++ gives (map job_view jobs.now) }
+    ensures log { ledger.new.log ≡ ledger.old.log ++ gives (map job_facts jobs.now) }
 {
     for job in jobs {
         ledger.note_give(job.task(), job.number(), job.resume());
@@ -104,7 +105,7 @@ fn note_gives(ledger: &mut Ledger, jobs: &[Job<Body>])
 }
 
 // So many more tasks, of which none waits.
-fn grow_held(held: &mut Vec<Option<Held>>, tasks: usize)
+fn grow_held(held: &mut Vec<Option<WaitingTask>>, tasks: usize)
     requires room { vec_len held.old + tasks ≤ vec_capacity held.old }
     ensures held { held.new.items ≡ held.old.items ++ replicate tasks None }
     ensures capacity { vec_capacity held.new ≡ vec_capacity held.old }
@@ -120,7 +121,7 @@ fn grow_held(held: &mut Vec<Option<Held>>, tasks: usize)
 // memory nothing has changed.
 pub fn make_room(
     ledger: &mut Ledger,
-    held: &mut Vec<Option<Held>>,
+    held: &mut Vec<Option<WaitingTask>>,
     spare: &mut Vec<Job<Body>>,
     jobs: &mut Vec<Job<Body>>,
     task: TaskId,
@@ -149,10 +150,10 @@ pub fn make_room(
 // The jobs from this one on were made: they are written.
 fn note_gives_from(ledger: &mut Ledger, jobs: &Vec<Job<Body>>, first: usize)
     requires there { first ≤ vec_len jobs.now }
-    requires made { AreMade ledger.old.log (map job_view (drop first jobs.now.items)) }
+    requires made { AreMade ledger.old.log (map job_facts (drop first jobs.now.items)) }
     requires spare { vec_len jobs.now - first ≤ ledger.old.spare }
     ensures roots { ledger.new.roots ≡ ledger.old.roots }
-    ensures log { ledger.new.log ≡ ledger.old.log ++ gives (map job_view (drop first jobs.now.items)) }
+    ensures log { ledger.new.log ≡ ledger.old.log ++ gives (map job_facts (drop first jobs.now.items)) }
 {
     note_gives(ledger, &jobs[first..]);
 }
@@ -160,7 +161,7 @@ fn note_gives_from(ledger: &mut Ledger, jobs: &Vec<Job<Body>>, first: usize)
 // What follows from a turn, as `follow` has it.
 fn follow_in(
     ledger: &Ledger,
-    held: &mut Vec<Option<Held>>,
+    held: &mut Vec<Option<WaitingTask>>,
     jobs: &mut Vec<Job<Body>>,
     task: TaskId,
     number: u32,
@@ -185,7 +186,7 @@ fn follow_in(
 // jobs that were made are written.
 fn finish(
     ledger: &mut Ledger,
-    held: &mut Vec<Option<Held>>,
+    held: &mut Vec<Option<WaitingTask>>,
     jobs: &mut Vec<Job<Body>>,
     first: usize,
     task: TaskId,
@@ -205,7 +206,7 @@ fn finish(
     ensures roots { ledger.new.roots ≡ ledger.old.roots }
     ensures log { ledger.new.log ≡ ledger.old.log ++ gives (followed_from first held.old.items jobs.old.items task.0 number body.task resume step ledger.old.log).jobs }
     ensures held { held_views held.new.items ≡ (followed_from first held.old.items jobs.old.items task.0 number body.task resume step ledger.old.log).held }
-    ensures jobs { map job_view jobs.new.items ≡ map job_view (take first jobs.old.items) ++ (followed_from first held.old.items jobs.old.items task.0 number body.task resume step ledger.old.log).jobs }
+    ensures jobs { map job_facts jobs.new.items ≡ map job_facts (take first jobs.old.items) ++ (followed_from first held.old.items jobs.old.items task.0 number body.task resume step ledger.old.log).jobs }
     ensures bodies { (script : ScriptView) → body.script ≡ script → AllByRecursion (FitsScript script) held.old.items
         → AllByRecursion (FitsScript script) held.new.items × (AllByRecursion (IsJobOf script) jobs.old.items → AllByRecursion (IsJobOf script) jobs.new.items) }
     ensures long { vec_len held.new ≡ vec_len held.old + (vec_len jobs.old - first) }
@@ -235,7 +236,7 @@ fn note_turn(
     ensures leave { CanLeave task.0 (done_log ledger.old.roots task.0 number ledger.old.log (effect_views effects.now)) (exit_view exit.now) }
     ensures spare { ledger.old.spare ≤ ledger.new.spare + length effects.now + 3 }
     ensures jobs { (script : ScriptView) → AreBodiesOf script (effect_views effects.now) bodies.items → root_count script ≡ ledger.old.roots
-        → map job_view jobs.new.items ≡ map job_view jobs.old.items ++ jobs_made script task.0 (begun_priority (life_of task.0 ledger.old.log).stage) (ledger.old.log ++ Event.Apply task number ∷ []) (effect_views effects.now) }
+        → map job_facts jobs.new.items ≡ map job_facts jobs.old.items ++ jobs_made script task.0 (begun_priority (life_of task.0 ledger.old.log).stage) (ledger.old.log ++ Event.Apply task number ∷ []) (effect_views effects.now) }
     ensures bodies { (script : ScriptView) → AreBodiesOf script (effect_views effects.now) bodies.items → AllByRecursion (IsJobOf script) jobs.old.items → AllByRecursion (IsJobOf script) jobs.new.items }
     ensures few { vec_len jobs.new ≤ vec_len jobs.old + length effects.now }
     ensures capacity { vec_capacity jobs.new ≡ vec_capacity jobs.old }
@@ -249,7 +250,7 @@ fn note_turn(
 // What the end of a turn leaves, in memory that was made for it.
 fn end_turn(
     ledger: &mut Ledger,
-    held: &mut Vec<Option<Held>>,
+    held: &mut Vec<Option<WaitingTask>>,
     jobs: &mut Vec<Job<Body>>,
     task: TaskId,
     number: u32,
@@ -266,7 +267,7 @@ fn end_turn(
     requires jobs_room { vec_len jobs.old + length effects.now + length (waiters_of task.0 ledger.old.log) + 2 ≤ vec_capacity jobs.old }
     ensures roots { ledger.new.roots ≡ ledger.old.roots }
     ensures end { (script : ScriptView) → TurnLeaves script ledger.old.roots ledger.old.log (held_views held.old.items) task.0 (effect_views effects.now) bodies.items (exit_view exit.now) body step
-        → Ends script ledger.old.log (held_views held.old.items) (map job_view jobs.old.items) task.0 number (effect_views effects.now) (exit_view exit.now) body step ledger.new.log (held_views held.new.items) (map job_view jobs.new.items) }
+        → BookEnds script ledger.old.log (held_views held.old.items) (map job_facts jobs.old.items) task.0 number (effect_views effects.now) (exit_view exit.now) body step ledger.new.log (held_views held.new.items) (map job_facts jobs.new.items) }
     ensures bodies { (script : ScriptView) → TurnLeaves script ledger.old.roots ledger.old.log (held_views held.old.items) task.0 (effect_views effects.now) bodies.items (exit_view exit.now) body step
         → AllByRecursion (FitsScript script) held.old.items → AllByRecursion (FitsScript script) held.new.items × (AllByRecursion (IsJobOf script) jobs.old.items → AllByRecursion (IsJobOf script) jobs.new.items) }
     ensures kept { (script : ScriptView) → TurnLeaves script ledger.old.roots ledger.old.log (held_views held.old.items) task.0 (effect_views effects.now) bodies.items (exit_view exit.now) body step
@@ -292,7 +293,7 @@ fn end_turn(
 // job comes back.
 pub fn take_turn(
     ledger: &mut Ledger,
-    held: &mut Vec<Option<Held>>,
+    held: &mut Vec<Option<WaitingTask>>,
     jobs: &mut Vec<Job<Body>>,
     job: Job<Body>,
     effects: &[Effect],
@@ -306,7 +307,7 @@ pub fn take_turn(
     requires jobs_room { vec_len jobs.old + length effects.now + length (waiters_of job.task.0 ledger.old.log) + 2 ≤ vec_capacity jobs.old }
     ensures roots { ledger.new.roots ≡ ledger.old.roots }
     ensures end { OnOk result ((script : ScriptView) → JobFits script ledger.old.roots ledger.old.log (held_views held.old.items) job (effect_views effects.now) bodies.items (exit_view exit.now)
-        → IsEndOf (record { script = script; log = ledger.old.log; held = held_views held.old.items }) (map job_view jobs.old.items) job (effect_views effects.now) (exit_view exit.now) ledger.new.log (held_views held.new.items) (map job_view jobs.new.items)) }
+        → IsEndOf (record { script = script; log = ledger.old.log; held = held_views held.old.items }) (map job_facts jobs.old.items) job (effect_views effects.now) (exit_view exit.now) ledger.new.log (held_views held.new.items) (map job_facts jobs.new.items)) }
     ensures kept { OnOk result ((script : ScriptView) → JobFits script ledger.old.roots ledger.old.log (held_views held.old.items) job (effect_views effects.now) bodies.items (exit_view exit.now)
         → HoldsWaiting ledger.old.roots ledger.new.log (held_views held.new.items) × UnopenedAreNotClosed ledger.new.log) }
     ensures bodies { OnOk result ((script : ScriptView) → JobFits script ledger.old.roots ledger.old.log (held_views held.old.items) job (effect_views effects.now) bodies.items (exit_view exit.now)

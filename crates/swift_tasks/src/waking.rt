@@ -13,16 +13,16 @@ ghost use Rattle.swift_tasks.specs.BookInvariant.{FitsScript};
 ghost use Rattle.swift_tasks.specs.Books.{IsJobOf};
 
 use crate::exits::{resume_at, resume_of};
-use crate::held::Held;
-use swift_events::{Origin, Stage};
+use crate::held::WaitingTask;
+use swift_events::{JobStage, Origin};
 use swift_groups::Close;
+use swift_job::Job;
 use swift_ledger::Ledger;
-use swift_queue::Job;
 use swift_turn::{Body, Step};
 use swift_types::{Ending, Resume, TaskId};
 
 // A task that waits goes on with this, and waits no more.
-fn wake(held: &mut [Option<Held>], jobs: &mut Vec<Job<Body>>, task: TaskId, resume: Resume)
+fn wake(held: &mut [Option<WaitingTask>], jobs: &mut Vec<Job<Body>>, task: TaskId, resume: Resume)
     requires room { vec_len jobs.old < vec_capacity jobs.old }
     ensures follows { follows_of held.new jobs.new.items ≡ wake task.0 resume (follows_of held.old jobs.old.items) }
     ensures bodies { (script : ScriptView) → AllByRecursion (FitsScript script) held.old
@@ -32,7 +32,7 @@ fn wake(held: &mut [Option<Held>], jobs: &mut Vec<Job<Body>>, task: TaskId, resu
 {
     let place = task.0 as usize;
     if place < held.len() {
-        if let Some(Held { number, body }) = held[place].take() {
+        if let Some(WaitingTask { number, body }) = held[place].take() {
             let resume = resume_at(number, resume);
             jobs.push_reserved(Job::new(task, number, resume, body));
         }
@@ -42,7 +42,7 @@ fn wake(held: &mut [Option<Held>], jobs: &mut Vec<Job<Body>>, task: TaskId, resu
 // The waiters of a task go on with this, in order of waiting.
 fn wake_waiters(
     ledger: &Ledger,
-    held: &mut [Option<Held>],
+    held: &mut [Option<WaitingTask>],
     jobs: &mut Vec<Job<Body>>,
     task: TaskId,
     resume: Resume,
@@ -64,7 +64,7 @@ fn wake_waiters(
 // The owner that closes a group goes on, where each child has ended.
 fn wake_closing(
     ledger: &Ledger,
-    held: &mut [Option<Held>],
+    held: &mut [Option<WaitingTask>],
     jobs: &mut Vec<Job<Body>>,
     owner: TaskId,
     group: u32,
@@ -85,7 +85,7 @@ fn wake_closing(
 // The owner of a child that has ended goes on, where it has waited for this.
 fn wake_owner(
     ledger: &Ledger,
-    held: &mut [Option<Held>],
+    held: &mut [Option<WaitingTask>],
     jobs: &mut Vec<Job<Body>>,
     owner: TaskId,
     group: u32,
@@ -99,12 +99,12 @@ fn wake_owner(
     ensures capacity { vec_capacity jobs.new ≡ vec_capacity jobs.old }
 {
     match ledger.life(owner).stage {
-        Some(Stage::Asks(asked)) => {
+        Some(JobStage::Asks(asked)) => {
             if asked == group {
                 wake(held, jobs, owner, resume_of(ending));
             }
         }
-        Some(Stage::Closes(closed)) => {
+        Some(JobStage::Closes(closed)) => {
             if closed == group {
                 wake_closing(ledger, held, jobs, owner, group);
             }
@@ -116,7 +116,7 @@ fn wake_owner(
 // The same, where the task is a child.
 fn wake_parent(
     ledger: &Ledger,
-    held: &mut [Option<Held>],
+    held: &mut [Option<WaitingTask>],
     jobs: &mut Vec<Job<Body>>,
     task: TaskId,
     ending: Ending,
@@ -137,7 +137,7 @@ fn wake_parent(
 // All that have waited for the end of a task go on.
 fn wake_all(
     ledger: &Ledger,
-    held: &mut [Option<Held>],
+    held: &mut [Option<WaitingTask>],
     jobs: &mut Vec<Job<Body>>,
     task: TaskId,
     ending: Ending,
@@ -166,19 +166,19 @@ fn go_on(jobs: &mut Vec<Job<Body>>, task: TaskId, number: u32, resume: Resume, m
 }
 
 // A task waits, before its turn of this number.
-fn hold(held: &mut [Option<Held>], task: TaskId, number: u32, mut body: Body)
+fn hold(held: &mut [Option<WaitingTask>], task: TaskId, number: u32, mut body: Body)
     requires there { task.0 < length held.old }
     ensures held { held.new ≡ slice_set held.old task.0 (Some (record { number = number; body = at_rest body })) }
 {
     body.rest();
-    held[task.0 as usize] = Some(Held { number, body });
+    held[task.0 as usize] = Some(WaitingTask { number, body });
 }
 
 // What follows from a turn: the task goes on with this in its turn of this number; or it has ended, and those that have
 // waited for it go on; or it waits.
 pub fn follow(
     ledger: &Ledger,
-    held: &mut [Option<Held>],
+    held: &mut [Option<WaitingTask>],
     jobs: &mut Vec<Job<Body>>,
     task: TaskId,
     number: u32,

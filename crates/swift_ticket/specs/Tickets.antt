@@ -1,26 +1,23 @@
 -- A job with the right to run its turn (our own).
 use Rattle.std.specs.Prelude.{◌≡◌, Option, Some, None, List, [], ◌∷◌}
 use Rattle.atomic_table.specs.Seated.{TableId}
-use Rattle.swift_queue.specs.Job.{JobIs}
+use Rattle.swift_job.specs.Job.{JobView}
 use Rattle.swift_turn.specs.Body.{BodyView}
-use Rattle.swift_history.specs.TurnEnds.{JobView}
+use Rattle.swift_history.specs.TurnEnds.{JobFacts}
 use Rattle.swift_script.specs.Scripts.{ScriptView}
-use Rattle.swift_lock.specs.Seat.{BadgeIs}
-use Rattle.swift_known.specs.Views.{SeatView, fresh}
+use Rattle.swift_lock.specs.Seat.{BadgeView}
+use Rattle.swift_known.specs.Views.{BookKnown, fresh}
 use Rattle.swift_known.specs.declared.known.Known.{Known}
-
--- a job without the rest of its body
-abbrev pub job_view : JobIs BodyView → JobView
-job_view j = record { task = j.task.0; number = j.number; resume = j.resume; frames = j.body.task }
+use Rattle.swift_history.specs.Jobs.{job_facts}
 
 -- what a seat knows that has the ticket of this job alone
-abbrev pub ticket_view : Option ScriptView → JobView → SeatView
+abbrev pub ticket_view : Option ScriptView → JobFacts → BookKnown
 ticket_view script j = record { script = script; accounts = []; tickets = fresh j ∷ []; maker = None }
 
 -- A ticket is that of a job, or there is none.
-abbrev pub IsTicketOf : JobIs BodyView → List Known → Type 0
+abbrev pub IsTicketOf : JobView BodyView → List Known → Type 0
 IsTicketOf j [] = Unit {0}
-IsTicketOf j (known ∷ []) = (script : Option ScriptView) × (known.view ≡ ticket_view script (job_view j))
+IsTicketOf j (known ∷ []) = (script : Option ScriptView) × (known.view ≡ ticket_view script (job_facts j))
 IsTicketOf j (known ∷ l ∷ others) = ⊥
 
 -- of which book a badge is, by the book's lock; none where it is no seat
@@ -28,10 +25,10 @@ abbrev pub book_at : TableId → List Known → Option TableId
 book_at lock [] = None
 book_at lock (known ∷ others) = Some lock
 
-abbrev pub book_of : BadgeIs Known → Option TableId
+abbrev pub book_of : BadgeView Known → Option TableId
 book_of b = book_at b.lock b.knows
 
 -- a job, and the book that gave it, by its lock; none where no book did
-pub record TicketedIs : Type 0 where
-  pub job : JobIs BodyView
+pub record TicketedJobView : Type 0 where
+  pub job : JobView BodyView
   pub book : Option TableId

@@ -3,12 +3,13 @@
 ghost use Rattle.std.specs.Prelude.{◌≡◌, Option, Some, None, IsSome, [], ◌∷◌};
 ghost use Rattle.swift_known.specs.declared.known.Known.{Known as KnownIs};
 ghost use Rattle.swift_script.specs.Scripts.{ScriptView};
-ghost use Rattle.swift_ticket.specs.Tickets.{IsTicketOf, job_view, ticket_view};
+ghost use Rattle.swift_ticket.specs.Tickets.{IsTicketOf, ticket_view};
+ghost use Rattle.swift_history.specs.Jobs.{job_facts};
 
 use std::marker::Model;
+use swift_job::Job;
 use swift_known::known::{BookImage, Known};
 use swift_lock::Badge;
-use swift_queue::Job;
 use swift_turn::Body;
 
 /// A job on its way to an executor, with its ticket: the right to run its turn, once, which the lock of a book gives with the job
@@ -32,9 +33,9 @@ impl Drop for TicketedJob {
 impl Model for TicketedJob {
     ghost use Rattle.std.specs.Coded.{codes};
     ghost use Rattle.swift_script.specs.Codes.{expression_code, statement_code, block_code};
-    ghost use Rattle.swift_ticket.specs.Tickets.{IsTicketOf, TicketedIs, book_at};
+    ghost use Rattle.swift_ticket.specs.Tickets.{IsTicketOf, TicketedJobView, book_at};
 
-    ghost Value = { TicketedIs };
+    ghost Value = { TicketedJobView };
 
     ghost coded = { Prim.hlevel (codes, expression_code, statement_code (block_code (Prim.hlevel (codes, expression_code)) (Prim.hlevel (codes, expression_code)))) };
 
@@ -46,7 +47,7 @@ impl Model for TicketedJob {
 impl TicketedJob {
     /// A job with its ticket.
     pub fn new(job: Job<Body>, ticket: Badge<BookImage, Known>) -> TicketedJob
-        requires { (known : KnownIs) × (script : Option ScriptView) × (ticket.knows ≡ known ∷ []) × (known.view ≡ ticket_view script (job_view job)) }
+        requires { (known : KnownIs) × (script : Option ScriptView) × (ticket.knows ≡ known ∷ []) × (known.view ≡ ticket_view script (job_facts job)) }
         ensures { result ≡ record { job = job; book = Some ticket.lock } }
     {
         TicketedJob { job, ticket }
@@ -82,7 +83,7 @@ impl TicketedJob {
         requires { IsSome self.book }
         ensures job { result.0 ≡ self.job }
         ensures lock { self.book ≡ Some result.1.lock }
-        ensures ticket { (known : KnownIs) × (script : Option ScriptView) × (result.1.knows ≡ known ∷ []) × (known.view ≡ ticket_view script (job_view self.job)) }
+        ensures ticket { (known : KnownIs) × (script : Option ScriptView) × (result.1.knows ≡ known ∷ []) × (known.view ≡ ticket_view script (job_facts self.job)) }
     {
         let TicketedJob { job, ticket } = self;
         (job, ticket)

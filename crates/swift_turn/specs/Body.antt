@@ -11,12 +11,12 @@ use Rattle.swift_types.specs.declared.outcome.Ending.{Ending}
 use Rattle.swift_types.specs.declared.outcome.Ending.TheVariants.{Value, Fault}
 use Rattle.swift_types.specs.declared.outcome.Resume.{Resume}
 use Rattle.swift_types.specs.declared.outcome.Resume.TheVariants.{Start, Go, Value as GivenValue, Fault as Raise}
-use Rattle.script_code.specs.declared.env.Env.{Env}
+use Rattle.swift_types.specs.declared.env.Env.{Env}
 use Rattle.script_code.specs.Layout.{code_at}
 use Rattle.script_code.specs.Tree.{Term}
 use Rattle.swift_script.specs.Scripts.{ScriptView, method_actor, method_code, method_count, method_numbers, method_handles, actor_executor, executor_invariants}
 use Rattle.swift_interpreter.specs.Frames.{FrameView, state_in}
-use Rattle.swift_interpreter.specs.Turn.{InvocationView, EffectView, ExitView, calling, waiting, asking_next, closing, yielding, returning, failing, State, Played, kept}
+use Rattle.swift_interpreter.specs.Turn.{InvocationView, EffectView, ExitView, calling, waiting, asking_next, closing, yielding, returning, failing, TurnStateView, Played, kept}
 use Rattle.swift_turn.specs.declared.step.Step.{Step}
 use Rattle.swift_turn.specs.declared.step.Step.TheVariants.{Run, Ended, Await}
 
@@ -61,7 +61,7 @@ pub record BodyView : Type 0 where
   pub waker : Option PolledTask
 
 -- the continuation that a frame of a script stands for
-abbrev pub state_at : ScriptView → FrameView → List (List ℤ) → List EffectView → ℕ → State
+abbrev pub state_at : ScriptView → FrameView → List (List ℤ) → List EffectView → ℕ → TurnStateView
 state_at script p = state_in (code_at (method_code script p.method)) p
 
 -- the invariants of the actors that run on the executor of a frame's actor
@@ -188,7 +188,7 @@ padded args numbers = args ++ replicate (numbers - length args) (pos 0)
 abbrev pub opening : ScriptView → ℕ → List ℤ → ℕ → ℕ → FrameView
 opening script m args made opened = record {
   method = m;
-  line = 0;
+  instruction = 0;
   variables = padded args (method_numbers script m);
   handles = replicate (method_handles script m) 0;
   own = [];

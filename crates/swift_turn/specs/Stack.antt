@@ -3,10 +3,6 @@ use Rattle.std.specs.Prelude.{Option, Some, None, List, [], ◌∷◌}
 use Rattle.swift_interpreter.specs.declared.frame.Frame.{Frame}
 use Rattle.swift_interpreter.specs.Frames.{FrameView, frame_view}
 
-abbrev pub frame_if : Option Frame → Option FrameView
-frame_if None = None
-frame_if (Some f) = Some (frame_view f)
-
 abbrev pub first_of : List FrameView → Option FrameView
 first_of [] = None
 first_of (p ∷ ps) = Some p

@@ -20,16 +20,15 @@ use crate::stack::Stack;
 use crate::step::Step;
 use futures::Future;
 use futures::task::{Context, Poll, Source, Waker};
-use script_code::Env;
 use std::alloc::{AllocError, Global};
 use std::marker::Model;
 use std::mem;
 use std::sync::Arc;
-use swift_interpreter::{Effect, Exit, Frame, Given, Invocation, SavedRows, TurnState};
+use swift_interpreter::{Effect, Exit, Frame, Invocation, SavedRows, TurnInput, TurnState};
 use swift_locals::Bindings;
 use swift_script::Script;
 use swift_types::limits::{FRAMES, STEPS};
-use swift_types::{ActorId, Ending, Fault, MethodId, Resume};
+use swift_types::{ActorId, Ending, Env, Fault, MethodId, Resume};
 use swift_undo::{Undo, play_kept_from};
 
 /// A task: its script, its frames, the bindings that stand in it, and the turn that is under way (SE-0304). A turn is
@@ -232,7 +231,7 @@ fn play(
 {
     let method = turn.frame.method;
     let executor = script.actor_executor(script.method_actor(method));
-    let given = Given {
+    let given = TurnInput {
         instructions: script.instructions(method),
         invariants: script.executor_invariants(executor),
         outer,

@@ -28,7 +28,7 @@ pub fn opening_of(
     handles.resize(script.method_handles(method) as usize, 0)?;
     Ok(Frame {
         method,
-        line: 0,
+        instruction: 0,
         variables,
         handles,
         own: Vec::new(alloc),
@@ -57,7 +57,7 @@ pub fn copy_of(alloc: Global, frame: &Frame) -> Result<Frame, AllocError>
 {
     Ok(Frame {
         method: frame.method,
-        line: frame.line,
+        instruction: frame.instruction,
         variables: frame.variables.to_vec(alloc)?,
         handles: frame.handles.to_vec(alloc)?,
         own: frame.own.to_vec(alloc)?,

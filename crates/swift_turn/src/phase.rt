@@ -1,8 +1,7 @@
 //! Where a body is with its turn.
 
-use script_code::Env;
 use swift_interpreter::Exit;
-use swift_types::Resume;
+use swift_types::{Env, Resume};
 
 /// Where a body is with its turn. The fields of a turn that is under way, and its effects, lie beside it.
 #[derive(Drop)]

@@ -1,8 +1,8 @@
 //! The frames below the one that runs.
 
 ghost use Rattle.std.specs.Prelude.{◌≡◌, ◌↔◌, ◌∷◌, [], IsTrue, OnOk, IfErr, length};
-ghost use Rattle.swift_interpreter.specs.Frames.{frame_view};
-ghost use Rattle.swift_turn.specs.Stack.{frame_if, first_of, rest_of};
+ghost use Rattle.swift_interpreter.specs.Frames.{frame_view, frame_if};
+ghost use Rattle.swift_turn.specs.Stack.{first_of, rest_of};
 
 use std::alloc::{AllocFailed, Global};
 use std::marker::Model;

@@ -14,10 +14,9 @@ ghost use Rattle.swift_undo.specs.Rows.{HaveRows};
 use crate::body::Body;
 use futures::Future;
 use futures::task::Context;
-use script_code::Env;
 use std::alloc::AllocError;
 use swift_interpreter::{Effect, Exit, Frame, SavedRows};
-use swift_types::Resume;
+use swift_types::{Env, Resume};
 
 /// Enters a turn, polls it and leaves it, for a task that has not ended (`is_running`): the kept turn of the frame that runs. The
 /// body then stands for what that turn leaves. Out of memory, the fields come back, and the body is as it was, but that a turn

@@ -5,15 +5,15 @@ use Rattle.swift_types.specs.declared.outcome.Resume.{Resume}
 use Rattle.script_code.specs.Tree.{Term, Code}
 use Rattle.swift_interpreter.specs.Frames.{FrameView, state_in}
 use Rattle.swift_interpreter.specs.Saved.{restored}
-use Rattle.swift_interpreter.specs.Turn.{State, Given, ExitView, failing, Played, undoes, all_hold, exits, kept, whole_turn}
+use Rattle.swift_interpreter.specs.Turn.{TurnStateView, TurnInputView, ExitView, failing, Played, undoes, all_hold, exits, kept, whole_turn}
 
-pub kept_undone : (g : Given) (n : ℕ) (invariants : List Term) (s : State) (resume : Resume) (w : Played) → w ≡ whole_turn g n s resume → undoes w.exit ≡ true → exits s w.exit ≡ kept g n invariants s resume
+pub kept_undone : (g : TurnInputView) (n : ℕ) (invariants : List Term) (s : TurnStateView) (resume : Resume) (w : Played) → w ≡ whole_turn g n s resume → undoes w.exit ≡ true → exits s w.exit ≡ kept g n invariants s resume
 kept_undone g n invariants s resume w is undone = rw (sym is, undone) refl
 
-pub kept_false : (g : Given) (n : ℕ) (invariants : List Term) (s : State) (resume : Resume) (w : Played) → w ≡ whole_turn g n s resume → undoes w.exit ≡ false → all_hold invariants w.state.fields ≡ false → exits s (failing Invariant) ≡ kept g n invariants s resume
+pub kept_false : (g : TurnInputView) (n : ℕ) (invariants : List Term) (s : TurnStateView) (resume : Resume) (w : Played) → w ≡ whole_turn g n s resume → undoes w.exit ≡ false → all_hold invariants w.state.fields ≡ false → exits s (failing Invariant) ≡ kept g n invariants s resume
 kept_false g n invariants s resume w is not_undone not_held = rw (sym is, not_undone, not_held) refl
 
-pub kept_whole : (g : Given) (n : ℕ) (invariants : List Term) (s : State) (resume : Resume) (w : Played) → w ≡ whole_turn g n s resume → undoes w.exit ≡ false → all_hold invariants w.state.fields ≡ true → exits w.state w.exit ≡ kept g n invariants s resume
+pub kept_whole : (g : TurnInputView) (n : ℕ) (invariants : List Term) (s : TurnStateView) (resume : Resume) (w : Played) → w ≡ whole_turn g n s resume → undoes w.exit ≡ false → all_hold invariants w.state.fields ≡ true → exits w.state w.exit ≡ kept g n invariants s resume
 kept_whole g n invariants s resume w is not_undone held = rw (sym is, not_undone, held) refl
 
 -- the fields that are put back are those from the start of the turn
@@ -26,9 +26,9 @@ put_back_state at f f' rows rows' room same_frame same_rows =
     ap (λ (v : FrameView). state_in at v rows' [] room) same_frame ∙ ap (λ (r : List (List ℤ)). state_in at f r [] room) same_rows
 
 -- what is left of a turn that was undone
-pub left_undone : {A E : Type 0} (r : Result A E) (P : Code → (ℕ → Code) → Type 0) (after : (ℕ → Code) → A → Played) (back s : (ℕ → Code) → State) (exit : ExitView) (k : (ℕ → Code) → Played)
+pub left_undone : {A E : Type 0} (r : Result A E) (P : Code → (ℕ → Code) → Type 0) (after : (ℕ → Code) → A → Played) (back s : (ℕ → Code) → TurnStateView) (exit : ExitView) (k : (ℕ → Code) → Played)
     → IfOk r (λ last. (at : ℕ → Code) → after at last ≡ exits (back at) exit) → ((at : ℕ → Code) → back at ≡ s at)
     → ((code : Code) (at : ℕ → Code) → P code at → exits (s at) exit ≡ k at)
     → IfOk r (λ last. (code : Code) (at : ℕ → Code) → P code at → after at last ≡ k at)
-left_undone (Ok last) P after back s exit k left same is = λ code at follows. left at ∙ (ap (λ (x : State). exits x exit) (same at) ∙ is code at follows)
+left_undone (Ok last) P after back s exit k left same is = λ code at follows. left at ∙ (ap (λ (x : TurnStateView). exits x exit) (same at) ∙ is code at follows)
 left_undone (Err e) P after back s exit k left same is = tt

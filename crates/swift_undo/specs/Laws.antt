@@ -5,7 +5,7 @@ use Rattle.swift_types.specs.declared.outcome.Fault.TheVariants.{Invariant, Over
 use Rattle.swift_types.specs.declared.outcome.Resume.{Resume}
 use Rattle.script_code.specs.Tree.{Term}
 use Rattle.script_code.specs.Value.{holds}
-use Rattle.swift_interpreter.specs.Turn.{State, Given, ExitView, closing, failing, Played, whole_turn, tail, exits, kept}
+use Rattle.swift_interpreter.specs.Turn.{TurnStateView, TurnInputView, ExitView, closing, failing, Played, whole_turn, tail, exits, kept}
 
 -- the fault with which a turn ends, if it ends with one; where a group is closed first it is pending
 abbrev pub fault_of : ExitView → Option Fault
@@ -28,7 +28,7 @@ IsUndone p = SaysUndone (fault_of p.exit)
 
 -- All is as it was, but for how the frame is left: its bindings go, its innermost group, if one is open, is closed, and
 -- a fault may wait for that, of which this says nothing.
-pub record IsUntouched (before after : State) : Type 0 where
+pub record IsUntouched (before after : TurnStateView) : Type 0 where
   pub todo : after.todo ≡ before.todo
   pub variables : after.variables ≡ before.variables
   pub handles : after.handles ≡ before.handles
@@ -46,18 +46,18 @@ AllHold invariants fields = (t : Term) → Contains invariants t → IsTrue (hol
 
 -- Each invariant of the executor's actors that holds before a turn holds after it.
 abbrev pub InvariantsAreKept : Type 0
-InvariantsAreKept = (g : Given) (n : ℕ) (invariants : List Term) (s : State) (resume : Resume) (t : Term) →
+InvariantsAreKept = (g : TurnInputView) (n : ℕ) (invariants : List Term) (s : TurnStateView) (resume : Resume) (t : Term) →
     Contains invariants t → IsTrue (holds (Some t) s.fields) → IsTrue (holds (Some t) (kept g n invariants s resume).state.fields)
 
 -- A turn that ends with a false invariant, overflow, steps, tasks or isolation has changed nothing but how its frame is
 -- left.
 abbrev pub UndoneChangesNothing : Type 0
-UndoneChangesNothing = (g : Given) (n : ℕ) (invariants : List Term) (s : State) (resume : Resume) →
+UndoneChangesNothing = (g : TurnInputView) (n : ℕ) (invariants : List Term) (s : TurnStateView) (resume : Resume) →
     IsUndone (kept g n invariants s resume) → IsUntouched s (kept g n invariants s resume).state
 
 -- Every other turn, one that throws too, is kept whole, and leaves all invariants true, whatever they were before.
 abbrev pub OthersAreKept : Type 0
-OthersAreKept = (g : Given) (n : ℕ) (invariants : List Term) (s : State) (resume : Resume) →
+OthersAreKept = (g : TurnInputView) (n : ℕ) (invariants : List Term) (s : TurnStateView) (resume : Resume) →
     (IsUndone (kept g n invariants s resume) → ⊥)
     → (kept g n invariants s resume ≡ exits (whole_turn g n s resume).state (whole_turn g n s resume).exit)
     × AllHold invariants (kept g n invariants s resume).state.fields

@@ -5,7 +5,7 @@ ghost use Rattle.swift_interpreter.specs.Frames.{frame_view};
 ghost use Rattle.swift_interpreter.specs.Saved.{restored};
 ghost use Rattle.swift_interpreter.specs.Turn.{all_hold as all_hold_in, kept, undoes as undoes_turn};
 ghost use Rattle.swift_interpreter.specs.TurnStates.{beginning, exit_view, given_of, played_of, state_of};
-ghost use Rattle.script_code.specs.Instructions.{Follows};
+ghost use Rattle.script_code.specs.Instructions.{FollowsCode};
 ghost use Rattle.script_code.specs.Seen.{rows_of};
 ghost use Rattle.script_code.specs.Tree.{Code, term_of, terms_of};
 ghost use Rattle.script_code.specs.Value.{holds as it_holds};
@@ -15,7 +15,7 @@ ghost use Rattle.swift_undo.specs.RowsInside.{OthersHold, is_tested};
 use crate::undo::Undo;
 use script_code::{Formula, holds};
 use std::alloc::{AllocError, Global};
-use swift_interpreter::{Exit, Given, SavedRows, TurnState, leave_frame, play_whole};
+use swift_interpreter::{Exit, SavedRows, TurnInput, TurnState, leave_frame, play_whole};
 use swift_types::{Fault, Resume};
 
 /// Plays the turn of a frame that begins with a resume, of at most `limit` steps, and leaves in `turn` what is kept of
@@ -34,13 +34,13 @@ use swift_types::{Fault, Resume};
 /// and all invariants. It takes memory only where a list grows.
 pub fn play_kept(
     alloc: Global,
-    given: Given<'_>,
+    given: TurnInput<'_>,
     turn: &mut TurnState,
     undo: &mut Undo,
     resume: Resume,
     limit: u32,
 ) -> Result<Exit, AllocError>
-    ensures kept { IfOk result (λ exit. (code : Code) → (at : ℕ → Code) → Follows given.entry.instructions.now code at
+    ensures kept { IfOk result (λ exit. (code : Code) → (at : ℕ → Code) → FollowsCode given.entry.instructions.now code at
         → played_of (state_of at turn.new) exit
         ≡ kept (given_of given.entry) limit (terms_of given.entry.invariants.now) (beginning at given.entry.env.now turn.old) resume) }
     ensures frame { OnErr result (frame_view turn.new.frame ≡ frame_view turn.old.frame) }
@@ -58,7 +58,7 @@ pub fn play_kept(
 /// What undoes the turn then holds the rows that the turn has set, as they were before it (`Undo::swap_saved`).
 pub fn play_kept_from(
     alloc: Global,
-    given: Given<'_>,
+    given: TurnInput<'_>,
     rows: &[u32],
     turn: &mut TurnState,
     undo: &mut Undo,
@@ -66,7 +66,7 @@ pub fn play_kept_from(
     limit: u32,
 ) -> Result<Exit, AllocError>
     requires { AreSpared rows.now (terms_of given.invariants.now) (rows_of turn.old.fields.items) }
-    ensures kept { IfOk result (λ exit. (code : Code) → (at : ℕ → Code) → Follows given.entry.instructions.now code at
+    ensures kept { IfOk result (λ exit. (code : Code) → (at : ℕ → Code) → FollowsCode given.entry.instructions.now code at
         → played_of (state_of at turn.new) exit
         ≡ kept (given_of given.entry) limit (terms_of given.entry.invariants.now) (beginning at given.entry.env.now turn.old) resume) }
     ensures frame { OnErr result (frame_view turn.new.frame ≡ frame_view turn.old.frame) }

@@ -2,7 +2,7 @@
 use Rattle.std.proofs.Common.{◌≡◌, ℕ, ◌+◌, ℤ, Bool, true, false, if◌then◌else◌, Some, List, [], ◌∷◌, refl, sym, ap, ◌∙◌}
 use Rattle.script_code.specs.Tree.{Term}
 use Rattle.script_code.specs.Value.{holds}
-use Rattle.swift_interpreter.specs.Turn.{State, ExitView, failing, Played, undoes, all_hold, exits, left_by, kept_of}
+use Rattle.swift_interpreter.specs.Turn.{TurnStateView, ExitView, failing, Played, undoes, all_hold, exits, left_by, kept_of}
 use Rattle.swift_values.specs.declared.change.Outcome.{Outcome}
 use Rattle.swift_values.specs.declared.change.Outcome.TheVariants.{Undone}
 use Rattle.swift_script.specs.Scripts.{ScriptView}
@@ -14,12 +14,12 @@ use Rattle.swift_values.specs.Values.{broken, first_false, outcome_of, played_tu
 use Rattle.swift_types.specs.declared.outcome.Fault.{Fault}
 use Rattle.swift_types.specs.declared.outcome.Fault.TheVariants.{Invariant}
 
-left_by_fields : (f : Fault) (gs : List ℕ) (s : State) → (left_by f gs s).state.fields ≡ s.fields
+left_by_fields : (f : Fault) (gs : List ℕ) (s : TurnStateView) → (left_by f gs s).state.fields ≡ s.fields
 left_by_fields f [] s = refl
 left_by_fields f (g ∷ gs) s = refl
 
 -- how a frame is left changes no field
-exits_fields : (s : State) (e : ExitView) → (exits s e).state.fields ≡ s.fields
+exits_fields : (s : TurnStateView) (e : ExitView) → (exits s e).state.fields ≡ s.fields
 exits_fields s (failing f) = left_by_fields f s.groups s
 exits_fields s e = refl
 
@@ -35,12 +35,12 @@ by_first : (k : ℕ) (ts : List Term) (fields before : List (List ℤ)) (all non
 by_first k [] fields before all none after back = after
 by_first k (t ∷ ts) fields before all none after back = by_held k ts fields before all none (holds (Some t) fields) (by_first (k + 1) ts fields before all none after back) back
 
-by_undone : (invariants : List Term) (s : State) (w : Played) (b : Bool) → (if b then exits s w.exit else if all_hold invariants w.state.fields then exits w.state w.exit else exits s (failing Invariant)).state.fields
+by_undone : (invariants : List Term) (s : TurnStateView) (w : Played) (b : Bool) → (if b then exits s w.exit else if all_hold invariants w.state.fields then exits w.state w.exit else exits s (failing Invariant)).state.fields
     ≡ fields_of (if b then Undone else broken (first_false 0 invariants w.state.fields)) s.fields w.state.fields
 by_undone invariants s w true = exits_fields s w.exit
 by_undone invariants s w false = by_first 0 invariants w.state.fields s.fields (exits w.state w.exit) (exits s (failing Invariant)) (exits_fields w.state w.exit) (exits_fields s (failing Invariant))
 
-pub kept_fields : (invariants : List Term) (s : State) (w : Played) → (kept_of invariants s w).state.fields ≡ fields_of (outcome_of invariants w.exit w.state.fields) s.fields w.state.fields
+pub kept_fields : (invariants : List Term) (s : TurnStateView) (w : Played) → (kept_of invariants s w).state.fields ≡ fields_of (outcome_of invariants w.exit w.state.fields) s.fields w.state.fields
 kept_fields invariants s w = by_undone invariants s w (undoes w.exit)
 
 -- the fields after a record's turn

@@ -2,7 +2,7 @@
 use Rattle.std.proofs.Common.{◌≡◌, ℕ, ◌≤◌, zero, suc, Option, List, [], ◌∷◌, length, refl, sym, ap, subst}
 use Rattle.std.specs.Prelude.{slice_get, unwrap_or}
 use Rattle.std.proofs.lemmas.Option.{slice_get_past}
-use Rattle.script_code.specs.Instructions.{Follows, first}
+use Rattle.script_code.specs.Instructions.{FollowsCode, first}
 use Rattle.script_code.specs.Layout.{code_at}
 use Rattle.script_code.specs.Tree.{Code, end}
 use Rattle.script_compiler.specs.Compiled.{MethodView}
@@ -23,12 +23,12 @@ end_code : (k : ℕ) → code_at end k ≡ end
 unfolding code_at
 end_code k = one_code _
 
-empty_follows : Follows [] end (code_at end)
+empty_follows : FollowsCode [] end (code_at end)
 empty_follows = record {
   start = end_code 0;
   each = λ k. ap first (end_code k);
 }
 
-pub no_instructions : (p : ScriptView) (m : ℕ) → method_count p ≤ m → Follows [] (method_code p m) (code_at (method_code p m))
+pub no_instructions : (p : ScriptView) (m : ℕ) → method_count p ≤ m → FollowsCode [] (method_code p m) (code_at (method_code p m))
 no_instructions p m out =
-    subst (λ (c : Code). Follows [] c (code_at c)) (sym (ap (λ (x : MethodView). x.code) (past (parts_of p).methods no_method m out))) empty_follows
+    subst (λ (c : Code). FollowsCode [] c (code_at c)) (sym (ap (λ (x : MethodView). x.code) (past (parts_of p).methods no_method m out))) empty_follows

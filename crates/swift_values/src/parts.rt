@@ -1,7 +1,7 @@
 //! What a script has for any method. For one that it lacks it has an empty body.
 
 ghost use Rattle.std.specs.Prelude.{◌≡◌};
-ghost use Rattle.script_code.specs.Instructions.{Follows};
+ghost use Rattle.script_code.specs.Instructions.{FollowsCode};
 ghost use Rattle.script_code.specs.Layout.{code_at};
 ghost use Rattle.script_code.specs.Tree.{terms_of};
 ghost use Rattle.swift_script.specs.Scripts.{actor_executor, executor_invariants, method_actor, method_code};
@@ -12,7 +12,7 @@ use swift_types::{ActorId, MethodId};
 
 /// The instructions of a method.
 pub fn instructions_of(script: &Script, method: MethodId) -> &[Instruction]
-    ensures { Follows result.now (method_code script.now method.0) (code_at (method_code script.now method.0)) }
+    ensures { FollowsCode result.now (method_code script.now method.0) (code_at (method_code script.now method.0)) }
 {
     if (method.0 as usize) < script.method_count() {
         script.instructions(method)

@@ -19,7 +19,7 @@ use crate::parts::{instructions_of, invariants_of};
 use script_code::Formula;
 use std::alloc::{AllocError, Global};
 use std::mem;
-use swift_interpreter::{Exit, Frame, Given, SavedRows, TurnState, play_whole};
+use swift_interpreter::{Exit, Frame, SavedRows, TurnInput, TurnState, play_whole};
 use swift_journal::OwnedRecord;
 use swift_script::Script;
 use swift_types::Fault;
@@ -75,7 +75,7 @@ fn play(
     turn.effects.clear();
     turn.room = found.env.room;
     saved.clear();
-    let given = Given {
+    let given = TurnInput {
         instructions: instructions_of(script, method),
         invariants: &[],
         outer: &found.outer,

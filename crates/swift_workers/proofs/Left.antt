@@ -5,19 +5,19 @@ use Rattle.std.specs.declared.vec.Vec.{Vec}
 use Rattle.std.specs.declared.alloc.Global.{Global}
 use Rattle.script_code.specs.Seen.{rows_of}
 use Rattle.swift_script.specs.Scripts.{ScriptView}
-use Rattle.swift_journal.specs.Checkpoints.{CheckpointRoom, CheckpointView}
+use Rattle.swift_journal.specs.Checkpoints.{CheckpointRoomView, CheckpointView}
 use Rattle.swift_journal.specs.Records.{RecordView}
 use Rattle.swift_journal.specs.Replay.{replay}
-use Rattle.swift_inbox.specs.Site.{Site}
+use Rattle.swift_inbox.specs.Site.{SiteView}
 use Rattle.atomic_table.specs.Seated.{TableId}
-use Rattle.swift_known.specs.Views.{Account, SeatView}
+use Rattle.swift_known.specs.Views.{Account, BookKnown}
 use Rattle.swift_course.specs.Reports.{IsAccountedFor}
 use Rattle.swift_course.specs.Seats.{gathered}
 use Rattle.swift_executor.specs.Exec.{site_of}
 use Rattle.swift_executor.specs.Seats.{AccountsFor}
-use Rattle.swift_executor.specs.State.{ExecView, IsExecutor}
+use Rattle.swift_executor.specs.State.{ExecStateView, ExecInvariant}
 use Rattle.swift_workers.specs.declared.leave.Parts.{Parts}
-use Rattle.swift_workers.specs.Leaves.{AreReplayed, EachFrom, IsReplayed, KeepInvariants, Keeps}
+use Rattle.swift_workers.specs.Leaves.{AreReplayed, EachFrom, IsPartReplayed, KeepInvariants, Keeps}
 use Rattle.swift_workers.specs.PartsInside.{AreAccountedFor, AreParts}
 
 abbrev Rows : Type 0
@@ -26,17 +26,17 @@ Rows = Vec (Vec ℤ Global) Global
 next_place : (e n : ℕ) → e + suc n ≡ e + 1 + n
 next_place e n = omega arith
 
-replayed_push : (p : ScriptView) (e : ℕ) (cs : List CheckpointRoom) (js : List (List RecordView)) (fs : List Rows) (c : CheckpointRoom) (j : List RecordView) (f : Rows)
-    → AreReplayed p e cs js fs → IsReplayed p (e + length cs) c.view j (rows_of f.items) → AreReplayed p e (cs ++ c ∷ []) (js ++ j ∷ []) (fs ++ f ∷ [])
-replayed_push p e [] [] [] c j f are is = (subst (λ n. IsReplayed p n c.view j (rows_of f.items)) (add-zero e) is, tt)
+replayed_push : (p : ScriptView) (e : ℕ) (cs : List CheckpointRoomView) (js : List (List RecordView)) (fs : List Rows) (c : CheckpointRoomView) (j : List RecordView) (f : Rows)
+    → AreReplayed p e cs js fs → IsPartReplayed p (e + length cs) c.view j (rows_of f.items) → AreReplayed p e (cs ++ c ∷ []) (js ++ j ∷ []) (fs ++ f ∷ [])
+replayed_push p e [] [] [] c j f are is = (subst (λ n. IsPartReplayed p n c.view j (rows_of f.items)) (add-zero e) is, tt)
 replayed_push p e [] [] (g ∷ fs) c j f are is = absurd are
 replayed_push p e [] (k ∷ js) fs c j f are is = absurd are
 replayed_push p e (d ∷ cs) [] fs c j f are is = absurd are
 replayed_push p e (d ∷ cs) (k ∷ js) [] c j f are is = absurd are
 replayed_push p e (d ∷ cs) (k ∷ js) (g ∷ fs) c j f are is =
-    (are.0, replayed_push p (e + 1) cs js fs c j f are.1 (subst (λ n. IsReplayed p n c.view j (rows_of f.items)) (next_place e (length cs)) is))
+    (are.0, replayed_push p (e + 1) cs js fs c j f are.1 (subst (λ n. IsPartReplayed p n c.view j (rows_of f.items)) (next_place e (length cs)) is))
 
-accounted_push : (p : ScriptView) (v : SeatView) (e : ℕ) (cs : List CheckpointRoom) (js : List (List RecordView)) (fs : List Rows) (c : CheckpointRoom) (j : List RecordView) (f : Rows)
+accounted_push : (p : ScriptView) (v : BookKnown) (e : ℕ) (cs : List CheckpointRoomView) (js : List (List RecordView)) (fs : List Rows) (c : CheckpointRoomView) (j : List RecordView) (f : Rows)
     → AreAccountedFor p v e cs js fs → IsAccountedFor p v (e + length cs) j c.view (rows_of f.items) → AreAccountedFor p v e (cs ++ c ∷ []) (js ++ j ∷ []) (fs ++ f ∷ [])
 accounted_push p v e [] [] [] c j f are is = (subst (λ n. IsAccountedFor p v n j c.view (rows_of f.items)) (add-zero e) is, tt)
 accounted_push p v e [] [] (g ∷ fs) c j f are is = absurd are
@@ -46,7 +46,7 @@ accounted_push p v e (d ∷ cs) (k ∷ js) [] c j f are is = absurd are
 accounted_push p v e (d ∷ cs) (k ∷ js) (g ∷ fs) c j f are is =
     (are.0, accounted_push p v (e + 1) cs js fs c j f are.1 (subst (λ n. IsAccountedFor p v n j c.view (rows_of f.items)) (next_place e (length cs)) is))
 
-accounted_more : (p : ScriptView) (v w : SeatView) (e : ℕ) (journal : List RecordView) (c : CheckpointView) (fields : List (List ℤ)) → IsAccountedFor p v e journal c fields → IsAccountedFor p (gathered v w) e journal c fields
+accounted_more : (p : ScriptView) (v w : BookKnown) (e : ℕ) (journal : List RecordView) (c : CheckpointView) (fields : List (List ℤ)) → IsAccountedFor p v e journal c fields → IsAccountedFor p (gathered v w) e journal c fields
 accounted_more p v w e journal c fields is = record {
   past = is.past;
   account = Contains-append_left v.accounts w.accounts (record { executor = e; records = is.past ++ journal }) is.account;
@@ -56,7 +56,7 @@ accounted_more p v w e journal c fields is = record {
 }
 
 -- what the accounts of a seat say stays so where it takes in another
-all_more : (p : ScriptView) (v w : SeatView) (e : ℕ) (cs : List CheckpointRoom) (js : List (List RecordView)) (fs : List Rows) → AreAccountedFor p v e cs js fs → AreAccountedFor p (gathered v w) e cs js fs
+all_more : (p : ScriptView) (v w : BookKnown) (e : ℕ) (cs : List CheckpointRoomView) (js : List (List RecordView)) (fs : List Rows) → AreAccountedFor p v e cs js fs → AreAccountedFor p (gathered v w) e cs js fs
 all_more p v w e [] [] [] are = tt
 all_more p v w e [] [] (g ∷ fs) are = absurd are
 all_more p v w e [] (k ∷ js) fs are = absurd are
@@ -68,7 +68,7 @@ only_one : (a : Account) → Contains (a ∷ []) a
 only_one a = (0, omega arith, refl)
 
 -- The account of an executor's seat says what is left of the executor, once it is gathered.
-accounted_new : (v w : SeatView) (s : ExecView) → AccountsFor s w → s.fields ≡ replay s.script s.checkpoint.fields s.journal → IsAccountedFor s.script (gathered v w) s.executor s.journal s.checkpoint s.fields
+accounted_new : (v w : BookKnown) (s : ExecStateView) → AccountsFor s w → s.fields ≡ replay s.script s.checkpoint.fields s.journal → IsAccountedFor s.script (gathered v w) s.executor s.journal s.checkpoint s.fields
 accounted_new v w s are replayed =
     let a : Account = record { executor = s.executor; records = are.past ++ s.journal } in
     record {
@@ -91,19 +91,19 @@ pub one_longer : {X : Type 0} (xs : List X) (x : X) (n : ℕ) → length xs ≡ 
 one_longer xs x n is = omega (arith, is, length-append xs (x ∷ []))
 
 -- the parts of the executors of a prefix, and of the one after them, whose state this was, and whose seat was gathered
-parts_push : (p : ScriptView) (lock : TableId) (v w : SeatView) (many : ℕ) (old new : Parts) (s : ExecView) (c : CheckpointRoom) (f : Rows) → AreParts p v many old → site_of lock s ≡ record { script = p; executor = many; book = Some lock }
-    → IsExecutor s → Keeps s.script s.executor s.fields → AccountsFor s w → c.view ≡ s.checkpoint → rows_of f.items ≡ s.fields → new.checkpoints.items ≡ old.checkpoints.items ++ c ∷ []
+parts_push : (p : ScriptView) (lock : TableId) (v w : BookKnown) (many : ℕ) (old new : Parts) (s : ExecStateView) (c : CheckpointRoomView) (f : Rows) → AreParts p v many old → site_of lock s ≡ record { script = p; executor = many; book = Some lock }
+    → ExecInvariant s → Keeps s.script s.executor s.fields → AccountsFor s w → c.view ≡ s.checkpoint → rows_of f.items ≡ s.fields → new.checkpoints.items ≡ old.checkpoints.items ++ c ∷ []
     → new.journals.items ≡ old.journals.items ++ s.journal ∷ [] → new.fields.items ≡ old.fields.items ++ f ∷ [] → AreParts p (gathered v w) (many + 1) new
 parts_push p lock v w many old new s c f are site is keeps known checkpoint fields cs js fs =
-    let both : SeatView = gathered v w in
-    let script : s.script ≡ p = ap (λ (x : Site). x.script) site in
-    let executor : s.executor ≡ many = ap (λ (x : Site). x.executor) site in
+    let both : BookKnown = gathered v w in
+    let script : s.script ≡ p = ap (λ (x : SiteView). x.script) site in
+    let executor : s.executor ≡ many = ap (λ (x : SiteView). x.executor) site in
     let place : s.executor ≡ 0 + length old.checkpoints.items = executor ∙ sym are.checkpoints ∙ zero_more (length old.checkpoints.items) in
-    let own : IsReplayed s.script s.executor s.checkpoint s.journal s.fields = record { past = is.past; lawful = is.lawful; runs = is.runs; replayed = is.replayed } in
-    let of_script : IsReplayed p s.executor s.checkpoint s.journal s.fields = subst (λ (x : ScriptView). IsReplayed x s.executor s.checkpoint s.journal s.fields) script own in
-    let at_place : IsReplayed p (0 + length old.checkpoints.items) s.checkpoint s.journal s.fields = subst (λ n. IsReplayed p n s.checkpoint s.journal s.fields) place of_script in
-    let with_view : IsReplayed p (0 + length old.checkpoints.items) c.view s.journal s.fields = subst (λ (x : CheckpointView). IsReplayed p (0 + length old.checkpoints.items) x s.journal s.fields) (sym checkpoint) at_place in
-    let replayed : IsReplayed p (0 + length old.checkpoints.items) c.view s.journal (rows_of f.items) = subst (λ (x : List (List ℤ)). IsReplayed p (0 + length old.checkpoints.items) c.view s.journal x) (sym fields) with_view in
+    let own : IsPartReplayed s.script s.executor s.checkpoint s.journal s.fields = record { past = is.past; lawful = is.lawful; runs = is.runs; replayed = is.replayed } in
+    let of_script : IsPartReplayed p s.executor s.checkpoint s.journal s.fields = subst (λ (x : ScriptView). IsPartReplayed x s.executor s.checkpoint s.journal s.fields) script own in
+    let at_place : IsPartReplayed p (0 + length old.checkpoints.items) s.checkpoint s.journal s.fields = subst (λ n. IsPartReplayed p n s.checkpoint s.journal s.fields) place of_script in
+    let with_view : IsPartReplayed p (0 + length old.checkpoints.items) c.view s.journal s.fields = subst (λ (x : CheckpointView). IsPartReplayed p (0 + length old.checkpoints.items) x s.journal s.fields) (sym checkpoint) at_place in
+    let replayed : IsPartReplayed p (0 + length old.checkpoints.items) c.view s.journal (rows_of f.items) = subst (λ (x : List (List ℤ)). IsPartReplayed p (0 + length old.checkpoints.items) c.view s.journal x) (sym fields) with_view in
     let said : IsAccountedFor s.script both s.executor s.journal s.checkpoint s.fields = accounted_new v w s known is.replayed in
     let said_script : IsAccountedFor p both s.executor s.journal s.checkpoint s.fields = subst (λ (x : ScriptView). IsAccountedFor x both s.executor s.journal s.checkpoint s.fields) script said in
     let said_place : IsAccountedFor p both (0 + length old.checkpoints.items) s.journal s.checkpoint s.fields = subst (λ n. IsAccountedFor p both n s.journal s.checkpoint s.fields) place said_script in
@@ -113,10 +113,10 @@ parts_push p lock v w many old new s c f are site is keeps known checkpoint fiel
     let keeps_place : Keeps p (0 + length old.fields.items) s.fields = subst (λ n. Keeps p n s.fields) (executor ∙ sym are.fields ∙ zero_more (length old.fields.items)) keeps_script in
     let kept : Keeps p (0 + length old.fields.items) (rows_of f.items) = subst (λ (x : List (List ℤ)). Keeps p (0 + length old.fields.items) x) (sym fields) keeps_place in
     let all = replayed_push p 0 old.checkpoints.items old.journals.items old.fields.items c s.journal f are.lawful replayed in
-    let all_cs = subst (λ (x : List CheckpointRoom). AreReplayed p 0 x (old.journals.items ++ s.journal ∷ []) (old.fields.items ++ f ∷ [])) (sym cs) all in
+    let all_cs = subst (λ (x : List CheckpointRoomView). AreReplayed p 0 x (old.journals.items ++ s.journal ∷ []) (old.fields.items ++ f ∷ [])) (sym cs) all in
     let all_js = subst (λ (x : List (List RecordView)). AreReplayed p 0 new.checkpoints.items x (old.fields.items ++ f ∷ [])) (sym js) all_cs in
     let told = accounted_push p both 0 old.checkpoints.items old.journals.items old.fields.items c s.journal f (all_more p v w 0 old.checkpoints.items old.journals.items old.fields.items are.accounts) accounted in
-    let told_cs = subst (λ (x : List CheckpointRoom). AreAccountedFor p both 0 x (old.journals.items ++ s.journal ∷ []) (old.fields.items ++ f ∷ [])) (sym cs) told in
+    let told_cs = subst (λ (x : List CheckpointRoomView). AreAccountedFor p both 0 x (old.journals.items ++ s.journal ∷ []) (old.fields.items ++ f ∷ [])) (sym cs) told in
     let told_js = subst (λ (x : List (List RecordView)). AreAccountedFor p both 0 new.checkpoints.items x (old.fields.items ++ f ∷ [])) (sym js) told_cs in
     record {
       lawful = subst (λ (x : List Rows). AreReplayed p 0 new.checkpoints.items new.journals.items x) (sym fs) all_js;
@@ -128,8 +128,8 @@ parts_push p lock v w many old new s c f are site is keeps known checkpoint fiel
     }
 
 -- the same for a seat that knows what was gathered
-pub parts_gathered : (p : ScriptView) (lock : TableId) (v w u : SeatView) (many : ℕ) (old new : Parts) (s : ExecView) (c : CheckpointRoom) (f : Rows) → u ≡ gathered v w → AreParts p v many old → site_of lock s ≡ record { script = p; executor = many; book = Some lock }
-    → IsExecutor s → Keeps s.script s.executor s.fields → AccountsFor s w → c.view ≡ s.checkpoint → rows_of f.items ≡ s.fields → new.checkpoints.items ≡ old.checkpoints.items ++ c ∷ []
+pub parts_gathered : (p : ScriptView) (lock : TableId) (v w u : BookKnown) (many : ℕ) (old new : Parts) (s : ExecStateView) (c : CheckpointRoomView) (f : Rows) → u ≡ gathered v w → AreParts p v many old → site_of lock s ≡ record { script = p; executor = many; book = Some lock }
+    → ExecInvariant s → Keeps s.script s.executor s.fields → AccountsFor s w → c.view ≡ s.checkpoint → rows_of f.items ≡ s.fields → new.checkpoints.items ≡ old.checkpoints.items ++ c ∷ []
     → new.journals.items ≡ old.journals.items ++ s.journal ∷ [] → new.fields.items ≡ old.fields.items ++ f ∷ [] → AreParts p u (many + 1) new
 parts_gathered p lock v w u many old new s c f same are site is keeps known checkpoint fields cs js fs =
-    subst (λ (x : SeatView). AreParts p x (many + 1) new) (sym same) (parts_push p lock v w many old new s c f are site is keeps known checkpoint fields cs js fs)
+    subst (λ (x : BookKnown). AreParts p x (many + 1) new) (sym same) (parts_push p lock v w many old new s c f are site is keeps known checkpoint fields cs js fs)

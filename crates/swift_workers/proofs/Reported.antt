@@ -7,12 +7,12 @@ use Rattle.std.specs.declared.alloc.Global.{Global}
 use Rattle.script_code.specs.Seen.{rows_of}
 use Rattle.swift_types.specs.declared.outcome.Ending.{Ending}
 use Rattle.swift_script.specs.Scripts.{ScriptView, executor_count, root_count}
-use Rattle.swift_journal.specs.Checkpoints.{CheckpointRoom, CheckpointView}
+use Rattle.swift_journal.specs.Checkpoints.{CheckpointRoomView, CheckpointView}
 use Rattle.swift_journal.specs.Records.{RecordView}
 use Rattle.swift_events.specs.declared.event.Event.{Event}
 use Rattle.swift_events.specs.declared.life.Origin.{Origin}
 use Rattle.swift_history.specs.Histories.{IsLegal}
-use Rattle.swift_known.specs.Views.{BookFacts, SeatView}
+use Rattle.swift_known.specs.Views.{BookFacts, BookKnown}
 use Rattle.swift_course.specs.Reports.{IsAccountedFor, IsReportOf, Knows, RunsAreLegal}
 use Rattle.swift_report.specs.declared.report.Report.{Report}
 use Rattle.swift_certificate.specs.Reports.{report_view}
@@ -32,8 +32,8 @@ next_place e n = omega arith
 from_first : (n : ℕ) → 0 + n ≡ n
 from_first n = omega arith
 
-accounted_at : (p : ScriptView) (v : SeatView) (e n : ℕ) (cs : List CheckpointRoom) (js : List (List RecordView)) (fs : List Rows) (journal : List RecordView) (checkpoint : CheckpointView) (fields : List (List ℤ)) → AreAccountedFor p v e cs js fs
-    → slice_get js n ≡ Some journal → slice_get (map (λ (c : CheckpointRoom). c.view) cs) n ≡ Some checkpoint → slice_get (map (λ (rows : Rows). rows_of rows.items) fs) n ≡ Some fields → IsAccountedFor p v (e + n) journal checkpoint fields
+accounted_at : (p : ScriptView) (v : BookKnown) (e n : ℕ) (cs : List CheckpointRoomView) (js : List (List RecordView)) (fs : List Rows) (journal : List RecordView) (checkpoint : CheckpointView) (fields : List (List ℤ)) → AreAccountedFor p v e cs js fs
+    → slice_get js n ≡ Some journal → slice_get (map (λ (c : CheckpointRoomView). c.view) cs) n ≡ Some checkpoint → slice_get (map (λ (rows : Rows). rows_of rows.items) fs) n ≡ Some fields → IsAccountedFor p v (e + n) journal checkpoint fields
 accounted_at p v e n [] [] [] journal checkpoint fields are at_j at_c at_f = absurd (none-some journal at_j)
 accounted_at p v e n [] [] (f ∷ fs) journal checkpoint fields are at_j at_c at_f = absurd are
 accounted_at p v e n [] (j ∷ js) fs journal checkpoint fields are at_j at_c at_f = absurd are
@@ -65,7 +65,7 @@ as_many f [] = refl
 as_many f (x ∷ xs) = ap suc (as_many f xs)
 
 -- the parts of all executors, the log of the book and the endings are a report of it
-reported : (facts : BookFacts) (v : SeatView) (r : Report) (parts : Parts) → AreParts facts.script v (executor_count facts.script) parts → r.journals ≡ parts.journals → r.checkpoints ≡ parts.checkpoints → r.fields ≡ parts.fields
+reported : (facts : BookFacts) (v : BookKnown) (r : Report) (parts : Parts) → AreParts facts.script v (executor_count facts.script) parts → r.journals ≡ parts.journals → r.checkpoints ≡ parts.checkpoints → r.fields ≡ parts.fields
     → r.log.events ≡ facts.log → AreEndings (root_count facts.script) r.log.events r.endings.items → IsReportOf facts v (report_view r)
 reported facts v r parts are js cs fs log ends =
     let p = facts.script in
@@ -77,7 +77,7 @@ reported facts v r parts are js cs fs log ends =
       each = λ e journal checkpoint fields at_j at_c at_f.
           subst (λ (i : ℕ). IsAccountedFor p v i journal checkpoint fields) (from_first e)
           (accounted_at p v 0 e parts.checkpoints.items parts.journals.items parts.fields.items journal checkpoint fields are.accounts
-          (ap (λ x. slice_get x.items e) (sym js) ∙ at_j) (ap (λ x. slice_get (map (λ (c : CheckpointRoom). c.view) x.items) e) (sym cs) ∙ at_c) (ap (λ x. slice_get (map (λ (rows : Rows). rows_of rows.items) x.items) e) (sym fs) ∙ at_f));
+          (ap (λ x. slice_get x.items e) (sym js) ∙ at_j) (ap (λ x. slice_get (map (λ (c : CheckpointRoomView). c.view) x.items) e) (sym cs) ∙ at_c) (ap (λ x. slice_get (map (λ (rows : Rows). rows_of rows.items) x.items) e) (sym fs) ∙ at_f));
       tasks = ends.many;
       endings = λ t x at. ((ending_at roots r.log.events r.endings.items t x ends.each at).origin, (ending_at roots r.log.events r.endings.items t x ends.each at).ending);
       groups = λ t g lt opened.
@@ -86,7 +86,7 @@ reported facts v r parts are js cs fs log ends =
     }
 
 -- Where all accounts are in one seat, which has added all roots, that report is legal.
-pub is_legal : (laws : RunsAreLegal) (facts : BookFacts) (p : ScriptView) (v : SeatView) (r : Report) (parts : Parts) → Knows v facts → facts.script ≡ p → v.maker ≡ Some (record { executors = executor_count p; roots = root_count p })
+pub is_legal : (laws : RunsAreLegal) (facts : BookFacts) (p : ScriptView) (v : BookKnown) (r : Report) (parts : Parts) → Knows v facts → facts.script ≡ p → v.maker ≡ Some (record { executors = executor_count p; roots = root_count p })
     → AreParts p v (executor_count p) parts → r.journals ≡ parts.journals → r.checkpoints ≡ parts.checkpoints → r.fields ≡ parts.fields
     → r.log.events ≡ facts.log → AreEndings (root_count p) r.log.events r.endings.items → IsLegal p (report_view r)
 is_legal laws facts p v r parts knows script maker are js cs fs log ends =

@@ -8,7 +8,7 @@ use Rattle.script_code.specs.Tree.{Term}
 use Rattle.script_code.specs.Value.{holds}
 use Rattle.swift_types.specs.declared.outcome.Ending.{Ending}
 use Rattle.swift_script.specs.Scripts.{ScriptView, executor_invariants, executor_start}
-use Rattle.swift_journal.specs.Checkpoints.{CheckpointRoom, CheckpointView}
+use Rattle.swift_journal.specs.Checkpoints.{CheckpointRoomView, CheckpointView}
 use Rattle.swift_journal.specs.Records.{RecordView}
 use Rattle.swift_journal.specs.Replay.{AreLawful, RunOn, replay}
 use Rattle.swift_events.specs.declared.event.Event.{Event}
@@ -21,17 +21,17 @@ use Rattle.swift_executor.specs.State.{HasPast}
 
 -- The turns of an executor's checkpoint were lawful from the start values on (`HasPast`), its journal is lawful from the checkpoint
 -- on, its turns are of the executor's actors, and replaying them gives these fields.
-pub record IsReplayed (p : ScriptView) (e : ℕ) (c : CheckpointView) (journal : List RecordView) (fields : List (List ℤ)) : Type 0 where
+pub record IsPartReplayed (p : ScriptView) (e : ℕ) (c : CheckpointView) (journal : List RecordView) (fields : List (List ℤ)) : Type 0 where
   pub past : HasPast p e c
   pub lawful : AreLawful p c.fields journal
   pub runs : RunOn p e journal
   pub replayed : fields ≡ replay p c.fields journal
 
 -- The same of each executor from a number on.
-abbrev pub AreReplayed : ScriptView → ℕ → List CheckpointRoom → List (List RecordView) → List (Vec (Vec ℤ Global) Global) → Type 0
+abbrev pub AreReplayed : ScriptView → ℕ → List CheckpointRoomView → List (List RecordView) → List (Vec (Vec ℤ Global) Global) → Type 0
 AreReplayed p e [] [] [] = Unit {0}
 AreReplayed p e (c ∷ checkpoints) (journal ∷ journals) (fields ∷ others) =
-    IsReplayed p e c.view journal (rows_of fields.items) × AreReplayed p (e + 1) checkpoints journals others
+    IsPartReplayed p e c.view journal (rows_of fields.items) × AreReplayed p (e + 1) checkpoints journals others
 AreReplayed p e _ _ _ = ⊥
 
 -- Something holds of each thing in a list, with its number, the first of which is given.

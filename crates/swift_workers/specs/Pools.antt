@@ -3,14 +3,14 @@ use Rattle.std.specs.Prelude.{◌≡◌, ◌≢◌, ◌⊎◌, ◌+◌, ◌-◌,
 use Rattle.swift_types.specs.declared.id.ExecId.{ExecId}
 use Rattle.swift_script.specs.Scripts.{ScriptView, executor_kind}
 use Rattle.swift_executor.specs.Exec.{may_run}
-use Rattle.swift_executor.specs.declared.ran.Ran.{Ran}
-use Rattle.swift_executor.specs.declared.ran.Ran.TheVariants as ran
-use Rattle.swift_word.specs.declared.word.Left.{Left}
-use Rattle.swift_word.specs.declared.word.Left.TheVariants.{Idle}
+use Rattle.swift_executor.specs.declared.ran.VisitOutcome.{VisitOutcome}
+use Rattle.swift_executor.specs.declared.ran.VisitOutcome.TheVariants as ran
+use Rattle.swift_word.specs.declared.word.PendingLeft.{PendingLeft}
+use Rattle.swift_word.specs.declared.word.PendingLeft.TheVariants.{Idle}
 use Rattle.swift_workers.specs.declared.fault.Halt.{Halt}
 use Rattle.swift_workers.specs.declared.fault.Halt.TheVariants.{Memory}
-use Rattle.swift_workers.specs.declared.pool.Next.{Next}
-use Rattle.swift_workers.specs.declared.pool.Next.TheVariants.{Visit, Pause, Stop}
+use Rattle.swift_workers.specs.declared.pool.WorkerNext.{WorkerNext}
+use Rattle.swift_workers.specs.declared.pool.WorkerNext.TheVariants.{Visit, Pause, Stop}
 use Rattle.swift_workers.specs.declared.pool.Pool.{Pool}
 
 -- the first cause, once a worker has come to this
@@ -24,27 +24,27 @@ abbrev pub MayVisit : ScriptView → ℕ → ℕ → ExecId → Type 0
 MayVisit p workers worker on = (0 < workers) × IsTrue (may_run (executor_kind p on.0) workers worker)
 
 -- The token at this place was taken: the others stay in their order, and a worker more is under way.
-pub record IsTaken (old : Pool) (place : ℕ) (on : ExecId) (new : Pool) : Type 0 where
+pub record IsTakenFromPool (old : Pool) (place : ℕ) (on : ExecId) (new : Pool) : Type 0 where
   pub here : slice_get old.tokens.items place ≡ Some on
   pub others : new.tokens.items ≡ take place old.tokens.items ++ drop (place + 1) old.tokens.items
   pub under_way : new.under_way ≡ min (old.under_way + 1) 4294967295
   pub halt : new.halt ≡ old.halt
 
 -- Nothing was taken.
-pub record IsKept (old new : Pool) : Type 0 where
+pub record IsKeptInPool (old new : Pool) : Type 0 where
   pub tokens : new.tokens.items ≡ old.tokens.items
   pub under_way : new.under_way ≡ old.under_way
   pub halt : new.halt ≡ old.halt
 
 -- What a worker is told that may visit these executors, and what is left. It takes the oldest token of such a one. Where there is none, it
 -- stops if there is no token at all and no worker under way, and pauses if not. Where the run is given up, it stops.
-abbrev pub IsNext : (ExecId → Type 0) → Pool → Next → Pool → Type 0
-IsNext may old (Visit on) new = (old.halt ≡ None) × ((place : ℕ) × IsTaken old place on new × may on × All (λ t. may t → ⊥) (take place old.tokens.items))
-IsNext may old Pause new = (old.halt ≡ None) × All (λ t. may t → ⊥) old.tokens.items × ((length old.tokens.items ≢ 0) ⊎ (old.under_way ≢ 0)) × IsKept old new
-IsNext may old Stop new = ((old.halt ≢ None) ⊎ ((length old.tokens.items ≡ 0) × (old.under_way ≡ 0))) × IsKept old new
+abbrev pub IsNext : (ExecId → Type 0) → Pool → WorkerNext → Pool → Type 0
+IsNext may old (Visit on) new = (old.halt ≡ None) × ((place : ℕ) × IsTakenFromPool old place on new × may on × All (λ t. may t → ⊥) (take place old.tokens.items))
+IsNext may old Pause new = (old.halt ≡ None) × All (λ t. may t → ⊥) old.tokens.items × ((length old.tokens.items ≢ 0) ⊎ (old.under_way ≢ 0)) × IsKeptInPool old new
+IsNext may old Stop new = ((old.halt ≢ None) ⊎ ((length old.tokens.items ≡ 0) × (old.under_way ≡ 0))) × IsKeptInPool old new
 
 -- A worker has finished what followed from its token, and these tokens stand behind the others.
-pub record IsPut (old : Pool) (put : List ExecId) (done : Result (Unit {0}) Halt) (new : Pool) : Type 0 where
+pub record IsPutInPool (old : Pool) (put : List ExecId) (done : Result (Unit {0}) Halt) (new : Pool) : Type 0 where
   pub tokens : new.tokens.items ≡ old.tokens.items ++ put
   pub under_way : new.under_way ≡ old.under_way - 1
   pub halt : new.halt ≡ first_cause old.halt done
@@ -59,11 +59,11 @@ pub record IsCutShort (old : Pool) (put : List ExecId) (done : Result (Unit {0})
 
 -- The turn of a worker is over, and it had these tokens to put.
 abbrev pub IsOver : Pool → List ExecId → Result (Unit {0}) Halt → Pool → Type 0
-IsOver old put done new = IsPut old put done new ⊎ IsCutShort old put done new
+IsOver old put done new = IsPutInPool old put done new ⊎ IsCutShort old put done new
 
 -- Whether the token of an executor goes back after this visit: as the visit said. Where another worker holds the executor, that one
 -- says so when it ends.
-abbrev pub left_after : Ran → Left
+abbrev pub left_after : VisitOutcome → PendingLeft
 left_after (ran.Turn task left) = left
 left_after (ran.Nothing left) = left
 left_after ran.Busy = Idle

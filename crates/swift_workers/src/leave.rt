@@ -13,12 +13,12 @@ ghost use Rattle.swift_workers.specs.Leaves.{AreEndings, AreReplayed, IsEnding, 
 ghost use Rattle.swift_workers.specs.PartsInside.{AreParts};
 
 use crate::fault::Halt;
-use crate::sending::give_all_up;
 use std::alloc::Global;
 use std::sync::Wait;
 use swift_course::laws::runs_are_legal;
 use swift_events::Origin;
 use swift_executor::{Closed, Exec, ExecState};
+use swift_job::spend_all;
 use swift_journal::{Checkpoint, Journal};
 use swift_log::EventLog;
 use swift_report::Report;
@@ -95,7 +95,7 @@ fn ends_of(
 {
     let endings = endings_of(alloc, script, &book);
     let (log, waiting) = book.close();
-    give_all_up(waiting);
+    spend_all(waiting);
     let endings = endings?;
     Ok((log, endings))
 }
@@ -154,13 +154,13 @@ fn close<R: Wait>(rt: &R, exec: Exec) -> Result<(ExecState, BookSeat), Halt>
         inbox,
     } = exec.close(rt);
     let is_left = pending > 0 || !inbox.is_empty();
-    give_all_up(inbox);
+    spend_all(inbox);
     let Some((state, _taker, seat)) = state else {
         return Err(Halt::Unfinished);
     };
     if is_left {
         let (jobs, _journal, _fields, _checkpoint) = state.into_parts();
-        give_all_up(jobs);
+        spend_all(jobs);
         return Err(Halt::Unfinished);
     }
     Ok((state, seat))
@@ -185,7 +185,7 @@ fn note_state(
     state.facts();
     book.gather(seat, own);
     let (jobs, journal, fields, checkpoint) = state.into_parts();
-    give_all_up(jobs);
+    spend_all(jobs);
     parts.journals.push(journal)?;
     parts.checkpoints.push(checkpoint)?;
     parts.fields.push(fields)?;

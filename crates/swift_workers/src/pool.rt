@@ -2,7 +2,7 @@
 
 ghost use Rattle.std.specs.Prelude.{◌≡◌, ℕ, ◌-◌, ◌<◌, ◌++◌, ◌∷◌, ◌↔◌, [], All, Err, None, IfNone, IfSome, IsSomeAnd, IsTrue, OnOk, OnErr, length, slice_get, take};
 ghost use Rattle.swift_workers.specs.declared.pool.Pool.{Pool};
-ghost use Rattle.swift_workers.specs.Pools.{IsNext, IsOver, IsTaken, MayVisit, first_cause};
+ghost use Rattle.swift_workers.specs.Pools.{IsNext, IsOver, IsTakenFromPool, MayVisit, first_cause};
 
 use crate::fault::Halt;
 use std::alloc::{AllocError, Global};
@@ -24,7 +24,7 @@ pub struct Pool {
 
 /// What a worker does next.
 #[derive(Clone, Copy)]
-pub enum Next {
+pub enum WorkerNext {
     /// It visits this executor, whose token it has taken.
     Visit(ExecId),
     /// No token is one that it may run, but a token is left or a worker is under way.
@@ -81,7 +81,7 @@ impl Pool {
     // Takes the token at this place.
     fn take(&mut self, place: usize) -> ExecId
         requires { place < length self.old.tokens.items }
-        ensures { IsTaken self.old place result self.new }
+        ensures { IsTakenFromPool self.old place result self.new }
     {
         self.under_way = self.under_way.saturating_add(1);
         let taken = if place == 0 {
@@ -96,32 +96,32 @@ impl Pool {
     }
 
     /// Takes the oldest token that this worker may run.
-    pub fn next(&mut self, script: &Script, workers: u32, worker: u32) -> Next
+    pub fn next(&mut self, script: &Script, workers: u32, worker: u32) -> WorkerNext
         ensures { IsNext (MayVisit script.now workers worker) self.old result self.new }
     {
         if self.halt.is_some() {
-            return Next::Stop;
+            return WorkerNext::Stop;
         }
         // Nearly always so.
         if is_first_for(&self.tokens, script, workers, worker) {
-            return Next::Visit(self.take(0));
+            return WorkerNext::Visit(self.take(0));
         }
         self.next_by_place(script, workers, worker)
     }
 
     // The same where the run is not given up, by a look at each token.
     #[inline(never)]
-    fn next_by_place(&mut self, script: &Script, workers: u32, worker: u32) -> Next
+    fn next_by_place(&mut self, script: &Script, workers: u32, worker: u32) -> WorkerNext
         requires { self.old.halt ≡ None }
         ensures { IsNext (MayVisit script.now workers worker) self.old result self.new }
     {
         if let Some(place) = place_for(&self.tokens, script, workers, worker) {
-            return Next::Visit(self.take(place));
+            return WorkerNext::Visit(self.take(place));
         }
         if self.tokens.is_empty() && self.under_way == 0 {
-            Next::Stop
+            WorkerNext::Stop
         } else {
-            Next::Pause
+            WorkerNext::Pause
         }
     }
 
@@ -187,7 +187,7 @@ impl Pool {
         script: &Script,
         workers: u32,
         worker: u32,
-    ) -> Next
+    ) -> WorkerNext
         ensures { (mid : Pool) × IsOver self.old tokens.now done mid × IsNext (MayVisit script.now workers worker) mid result self.new }
     {
         self.end_turn(tokens, done);

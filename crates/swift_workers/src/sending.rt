@@ -11,25 +11,17 @@ use crate::crew::{Crew, Hand};
 use crate::fault::Halt;
 use std::sync::Wait;
 use swift_executor::{Desk, Gate};
-use swift_queue::Job;
+use swift_job::Job;
 use swift_script::Script;
 use swift_shared_book::{BookLock, BookSeat, TicketedJobs};
 use swift_ticket::TicketedJob;
 use swift_turn::Body;
 use swift_types::{ExecId, RootId};
-use swift_word::Was;
+use swift_word::BeforeCount;
 
 /// Gives a job up, with the task that it would go on with.
 pub fn give_up(job: Job<Body>) {
     let (_task, _number, _resume, _body) = job.spend();
-}
-
-/// Gives all of these jobs up.
-pub fn give_all_up(mut jobs: Vec<Job<Body>>) {
-    while let Some(job) = jobs.pop() {
-        give_up(job);
-    }
-    jobs.destroy_empty();
 }
 
 // Puts a job into the inbox of the executor of its actor. A job that is refused is given up, with its ticket.
@@ -39,7 +31,7 @@ fn put<R: Wait, G: Gate>(
     desks: &mut Vec<Desk>,
     job: TicketedJob,
     gate: &G,
-) -> Result<(ExecId, Was), Halt>
+) -> Result<(ExecId, BeforeCount), Halt>
     requires sites { AreAtSites crew.book.now crew.execs.now }
     requires script { crew.book.now.script ≡ crew.script.now }
     requires desks { AreDesksOf crew.execs.now desks.old.items }
@@ -82,7 +74,7 @@ fn send<R: Wait, G: Gate>(
     ensures jobs { hand.new.jobs ≡ hand.old.jobs }
 {
     let (on, was) = put(rt, crew, &mut hand.desks, job, gate)?;
-    if was == Was::Idle {
+    if was == BeforeCount::Idle {
         // Where there is no memory for it the token is lost, and the run is given up: no executor is visited any more.
         hand.tokens.push(on)?;
     }

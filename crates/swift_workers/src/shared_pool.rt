@@ -2,7 +2,7 @@
 
 use crate::bell::{Bell, Rest};
 use crate::fault::Halt;
-use crate::pool::{Next, Pool, is_for};
+use crate::pool::{Pool, WorkerNext, is_for};
 use crossbeam_utils::CachePadded;
 use std::alloc::{AllocError, Global};
 use std::sync::{Mutex, MutexGuard, Wait};
@@ -58,7 +58,7 @@ impl SharedPool {
     }
 
     /// What a worker does first, or after a pause (`Pool::next`).
-    pub fn next<R: Wait>(&self, rt: &R, script: &Script, workers: u32, worker: u32) -> Next {
+    pub fn next<R: Wait>(&self, rt: &R, script: &Script, workers: u32, worker: u32) -> WorkerNext {
         let mut pool = self.lock(rt);
         let next = pool.next(script, workers, worker);
         self.note(worker, next);
@@ -74,7 +74,7 @@ impl SharedPool {
         script: &Script,
         workers: u32,
         worker: u32,
-    ) -> Next {
+    ) -> WorkerNext {
         let mut pool = self.lock(rt);
         let next = pool.turn_over(tokens, done, script, workers, worker);
         self.note(worker, next);
@@ -93,15 +93,15 @@ impl SharedPool {
     }
 
     // What a worker was told, under the lock.
-    fn note(&self, worker: u32, next: Next) {
+    fn note(&self, worker: u32, next: WorkerNext) {
         let rest = match next {
-            Next::Pause => Rest::Waits,
-            Next::Visit(_) | Next::Stop => Rest::Awake,
+            WorkerNext::Pause => Rest::Waits,
+            WorkerNext::Visit(_) | WorkerNext::Stop => Rest::Awake,
         };
         if let Some(bell) = self.bells.get(worker as usize) {
             bell.set(rest);
         }
-        if matches!(next, Next::Stop) {
+        if matches!(next, WorkerNext::Stop) {
             self.ring_all();
         }
     }
@@ -155,9 +155,9 @@ impl SharedPool {
 }
 
 // Whether a worker is told to visit this executor.
-fn is_visit(next: Next, on: ExecId) -> bool {
+fn is_visit(next: WorkerNext, on: ExecId) -> bool {
     match next {
-        Next::Visit(visited) => visited == on,
-        Next::Pause | Next::Stop => false,
+        WorkerNext::Visit(visited) => visited == on,
+        WorkerNext::Pause | WorkerNext::Stop => false,
     }
 }

@@ -8,23 +8,23 @@ ghost use Rattle.swift_workers.specs.Pools.{left_after};
 
 use crate::crew::{Crew, Hand};
 use crate::fault::Halt;
-use crate::pool::Next;
+use crate::pool::WorkerNext;
 use crate::sending::send_all;
 use futures::task::{Context, Doorbell, Solo};
 use std::alloc::AllocGlobal;
 use std::random::RandomSource;
 use std::sync::Wait;
-use swift_executor::{Gate, Ran};
+use swift_executor::{Gate, VisitOutcome};
 use swift_types::ExecId;
-use swift_word::Left;
+use swift_word::PendingLeft;
 
 // How much is pending after a visit. Where another worker holds the executor, that one says so when it ends.
-fn left_of(ran: Ran) -> Left
+fn left_of(ran: VisitOutcome) -> PendingLeft
     ensures { result ≡ left_after ran }
 {
     match ran {
-        Ran::Turn(_, left) | Ran::Nothing(left) => left,
-        Ran::Busy => Left::Idle,
+        VisitOutcome::Turn(_, left) | VisitOutcome::Nothing(left) => left,
+        VisitOutcome::Busy => PendingLeft::Idle,
     }
 }
 
@@ -36,7 +36,7 @@ fn visit<R: Wait, G: Gate>(
     hand: &mut Hand,
     on: ExecId,
     gate: &G,
-) -> Result<Left, Halt>
+) -> Result<PendingLeft, Halt>
     requires sites { AreAtSites crew.book.now crew.execs.now }
     requires script { crew.book.now.script ≡ crew.script.now }
     requires hand { IsHandOf crew.book.now crew.execs.now hand.old }
@@ -75,7 +75,7 @@ fn turn_at<R: Wait, G: Gate>(
     // Those of the turn before have been put.
     hand.tokens.clear();
     let left = visit(rt, cx, crew, hand, on, gate)?;
-    if left == Left::More {
+    if left == PendingLeft::More {
         hand.tokens.push(on)?;
     }
     send_all(rt, crew, hand, gate)
@@ -101,12 +101,12 @@ fn drain<R: Wait, G: Gate>(rt: &R, cx: &mut Context<'_>, crew: Crew<'_>, hand: &
     let mut next = pool.next(rt, script, workers, worker);
     for _ in 0..u64::MAX {
         match next {
-            Next::Stop => return,
-            Next::Pause => {
+            WorkerNext::Stop => return,
+            WorkerNext::Pause => {
                 pool.wait(rt, worker);
                 next = pool.next(rt, script, workers, worker);
             }
-            Next::Visit(on) => {
+            WorkerNext::Visit(on) => {
                 let done = turn_at(rt, cx, crew, hand, on, gate);
                 next = pool.turn_over(rt, &hand.tokens, done, script, workers, worker);
                 if done.is_err() {

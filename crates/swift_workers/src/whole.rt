@@ -15,7 +15,7 @@ ghost use Rattle.swift_workers.specs.Leaves.{AreEndings, AreReplayed, KeepInvari
 use crate::crew::{Crew, Hand, open_all, others_of};
 use crate::fault::{Halt, RunFault};
 use crate::leave::report_of;
-use crate::sending::{add_roots, give_all_up, send_all};
+use crate::sending::{add_roots, send_all};
 use crate::shared_pool::SharedPool;
 use crate::turns::work;
 use std::alloc::{AllocGlobal, Global};
@@ -24,6 +24,7 @@ use std::sync::{Arc, Wait};
 use std::thread;
 use std::thread::Threads;
 use swift_executor::{Exec, Gate};
+use swift_job::spend_all;
 use swift_report::Report;
 use swift_script::Script;
 use swift_shared_book::{BookLock, BookSeat};
@@ -112,7 +113,7 @@ fn shared_book(alloc: Global, script: &Arc<Script>) -> Result<(BookLock, BookSea
         Ok(shared) => Ok(shared),
         Err((book, _)) => {
             let (_log, waiting) = book.close();
-            give_all_up(waiting);
+            spend_all(waiting);
             Err(Halt::Memory)
         }
     }

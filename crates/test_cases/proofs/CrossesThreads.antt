@@ -9,7 +9,7 @@ use Rattle.swift_executor.proofs.tasks.ReadyTasks.TheSendSync as ReadyTasks
 use Rattle.swift_executor.proofs.CrossesThreads.{book_lock_send, book_lock_sync, book_seat_send, desk_send, exec_sync, played_send}
 use Rattle.swift_executor.specs.contracts.chosen.Chosen as chosen
 use Rattle.swift_executor.specs.contracts.state.ExecState as state
-use Rattle.swift_executor.specs.contracts.resting.Held as held
+use Rattle.swift_executor.specs.contracts.resting.TakenState as held
 use Rattle.swift_executor.specs.contracts.resting.Resting as resting
 use Rattle.swift_executor.specs.contracts.exec.Spare as spare
 use Rattle.swift_executor.specs.contracts.exec.Exec as exec

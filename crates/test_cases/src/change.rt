@@ -1,14 +1,15 @@
 //! Changes of reports.
 
 use crate::fault::CaseFault;
-use crate::journals::{Change, changed_journal, start_at, with_made, without_frame, without_last};
-use script_code::Env;
+use crate::journals::{
+    JournalChange, changed_journal, start_at, with_made, without_frame, without_last,
+};
 use std::alloc::{AllocError, Global};
 use swift_events::{Event, Origin};
 use swift_journal::{Checkpoint, Journal};
 use swift_log::EventLog;
 use swift_report::Report;
-use swift_types::{Ending, TaskId};
+use swift_types::{Ending, Env, TaskId};
 
 /// Makes the change that these words tell.
 pub fn make(alloc: Global, report: &mut Report, words: &str) -> Result<(), CaseFault> {
@@ -24,7 +25,7 @@ pub fn make(alloc: Global, report: &mut Report, words: &str) -> Result<(), CaseF
         "ending" => set_ending(&mut report.endings, Ending::Value(value)),
         "origin" => set_origin(&mut report.endings, Origin::Detached(TaskId(0))),
         "cancel" => cancel(alloc, report)?,
-        "worker" => change_turns(alloc, &mut report.journals, Change::Worker(7))?,
+        "worker" => change_turns(alloc, &mut report.journals, JournalChange::Worker(7))?,
         "checkpoint" => change_start(alloc, &mut report.checkpoints, value)?,
         "folded" => leave_out_folded(alloc, &mut report.checkpoints)?,
         "frame" => leave_out_frame(alloc, &mut report.checkpoints)?,
@@ -82,7 +83,7 @@ fn set_origin(endings: &mut [(Origin, Ending)], origin: Origin) {
 fn cancel(alloc: Global, report: &mut Report) -> Result<(), AllocError> {
     let log = with_cancel(alloc, &report.log)?;
     report.log = log;
-    change_turns(alloc, &mut report.journals, Change::Flag)
+    change_turns(alloc, &mut report.journals, JournalChange::Flag)
 }
 
 // The same events, and before the first of them that begins a turn that task 0 is cancelled.
@@ -110,7 +111,11 @@ fn with_flag(env: Env) -> Env {
 }
 
 // Changes the turns of the first executor.
-fn change_turns(alloc: Global, journals: &mut [Journal], change: Change) -> Result<(), AllocError> {
+fn change_turns(
+    alloc: Global,
+    journals: &mut [Journal],
+    change: JournalChange,
+) -> Result<(), AllocError> {
     if !journals.is_empty() {
         let journal = changed_journal(alloc, &journals[0], change)?;
         journals[0] = journal;
@@ -154,5 +159,5 @@ fn change_made(alloc: Global, report: &mut Report, value: i64) -> Result<(), Cas
     }
     let (checkpoint, task) = with_made(alloc, &report.checkpoints[0], made)?;
     report.checkpoints[0] = checkpoint;
-    Ok(change_turns(alloc, &mut report.journals, Change::Made(task, made))?)
+    Ok(change_turns(alloc, &mut report.journals, JournalChange::Made(task, made))?)
 }

@@ -24,9 +24,9 @@ mod threads;
 ghost use Rattle.std.specs.Prelude.{◌≡◌, Some};
 
 use crate::desks::{Booked, Setting};
-use crate::executors::case::{Plan, plan_of, play_on};
+use crate::executors::case::{CasePlan, plan_of, play_on};
 use crate::executors::owned::BookOf;
-use crate::executors::stage::Stage;
+use crate::executors::stage::CaseStage;
 use crate::fault::CaseFault;
 use crate::states;
 use std::alloc::AllocGlobal;
@@ -61,7 +61,7 @@ where
 }
 
 // Makes the calls of a case on executors that threads share.
-fn play<R>(rt: &R, plan: Plan<'_>, out: &mut String) -> Result<(), CaseFault>
+fn play<R>(rt: &R, plan: CasePlan<'_>, out: &mut String) -> Result<(), CaseFault>
 where
     R: Wait + RandomSource + AllocGlobal,
 {
@@ -76,7 +76,7 @@ fn play_of<K, R>(
     rt: &R,
     setting: Setting,
     booked: Booked,
-    plan: Plan<'_>,
+    plan: CasePlan<'_>,
     out: &mut String,
 ) -> Result<(), CaseFault>
 where
@@ -85,7 +85,7 @@ where
     requires { Some booked ≡ K.lock }
 {
     let alloc = rt.alloc();
-    let mut stage: Stage<K> = Stage::new(alloc, setting, booked)?;
+    let mut stage: CaseStage<K> = CaseStage::new(alloc, setting, booked)?;
     stage.open_all(alloc, plan.workers, plan.room)?;
     play_on(rt, stage, plan.calls, out)
 }

@@ -1,16 +1,15 @@
 //! Changes of journals and of checkpoints.
 
 use crate::fault::CaseFault;
-use script_code::Env;
 use std::alloc::{AllocError, Global};
 use swift_interpreter::Frame;
 use swift_journal::{Checkpoint, Folded, Journal, OwnedRecord, Record};
 use swift_locals::Bindings;
-use swift_types::{Priority, Resume, TaskId};
+use swift_types::{Env, Priority, Resume, TaskId};
 
 /// What is changed of each turn of a journal.
 #[derive(Clone, Copy)]
-pub enum Change {
+pub enum JournalChange {
     /// The worker that ran it.
     Worker(u32),
     /// Its task was cancelled.
@@ -20,11 +19,11 @@ pub enum Change {
 }
 
 // Makes a change of a turn.
-fn change_turn(turn: &mut OwnedRecord, change: Change) {
+fn change_turn(turn: &mut OwnedRecord, change: JournalChange) {
     match change {
-        Change::Worker(worker) => turn.worker = worker,
-        Change::Flag => turn.env.cancelled = true,
-        Change::Made(task, made) => {
+        JournalChange::Worker(worker) => turn.worker = worker,
+        JournalChange::Flag => turn.env.cancelled = true,
+        JournalChange::Made(task, made) => {
             if turn.task == task {
                 turn.frame.made = made;
                 set_made(&mut turn.after, made);
@@ -60,7 +59,7 @@ fn push(journal: &mut Journal, turn: &OwnedRecord) -> Result<(), AllocError> {
 pub fn changed_journal(
     alloc: Global,
     journal: &Journal,
-    change: Change,
+    change: JournalChange,
 ) -> Result<Journal, AllocError> {
     let mut changed = Journal::new(alloc);
     for place in 0..journal.len() {

@@ -15,7 +15,7 @@ ghost use Rattle.std.specs.Prelude.{◌≡◌, Some};
 ghost use Rattle.std.specs.Arc.{arc_value};
 
 use crate::desks::Setting;
-use crate::executors::case::{Plan, play_on};
+use crate::executors::case::{CasePlan, play_on};
 use crate::fault::CaseFault;
 use crate::states::book::Scripted;
 use crate::states::stage::StateStage;
@@ -25,7 +25,7 @@ use std::random::RandomSource;
 use std::sync::Wait;
 
 /// Makes the calls of a case on the executors of its script, and writes what each answered.
-pub fn play<R>(rt: &R, plan: Plan<'_>, out: &mut String) -> Result<(), CaseFault>
+pub fn play<R>(rt: &R, plan: CasePlan<'_>, out: &mut String) -> Result<(), CaseFault>
 where
     R: Wait + RandomSource + AllocGlobal,
 {
@@ -37,7 +37,7 @@ where
 fn play_of<K, R>(
     rt: &R,
     setting: Setting,
-    plan: Plan<'_>,
+    plan: CasePlan<'_>,
     out: &mut String,
 ) -> Result<(), CaseFault>
 where

@@ -1,12 +1,12 @@
 -- Reading statements without a block: the parser's own way.
 use Rattle.std.specs.Prelude.{ℕ, ◌-◌, Bool, true, false, Option, Some, None, List, [], ◌∷◌, Result, Ok, Err}
 use Rattle.script_parser.specs.declared.fault.Kind.TheVariants.{Unexpected, EndsEarly}
-use Rattle.script_parser.specs.declared.fault.Fault.{Fault}
+use Rattle.script_parser.specs.declared.fault.ParseFault.{ParseFault}
 use Rattle.swift_types.specs.declared.priority.Priority.{Priority}
 use Rattle.script_tokens.specs.declared.keyword.Keyword.{Keyword}
 use Rattle.script_tokens.specs.declared.keyword.Keyword.TheVariants as key
 use Rattle.script_tokens.specs.declared.mark.Mark.TheVariants as mark
-use Rattle.script_tokens.specs.Pieces.{Piece, Name, Key}
+use Rattle.script_tokens.specs.Pieces.{TokenView, Name, Key}
 use Rattle.script_grammar.specs.declared.region.Atoms.TheVariants.{Every}
 use Rattle.script_grammar.specs.declared.region.Region.{Region}
 use Rattle.script_grammar.specs.Tree.{ExprTree, CallTree, AwaitedTree, Called, TaskOf, NextOf, WaitTree, ValueTree, Computed, Waited, MakeTree, Spawned, Detached, AddTree, ActionTree, Let, LetTask, Assign, Await, Makes, Adds, Cancel, Return, Throw, Check, Yield}
@@ -83,12 +83,12 @@ make_at limit (Key key.Detach ∷ ts) = do
 make_at limit (found ∷ ts) = Err (at Unexpected (found ∷ ts))
 
 -- whether an `unless` stands there, and what is after it
-unfoldable pub unless_at : List Piece → Bool × List Piece
+unfoldable pub unless_at : List TokenView → Bool × List TokenView
 unless_at (Key key.Unless ∷ ts) = (true, ts)
 unless_at ts = (false, ts)
 
 -- a child of the group, after its name and perhaps an `unless`
-unfoldable pub child_at : ℕ → List ℕ → Bool × List Piece → Result (AddTree × List Piece) Fault
+unfoldable pub child_at : ℕ → List ℕ → Bool × List TokenView → Result (AddTree × List TokenView) ParseFault
 child_at limit g u = do
   c ← call_at limit u.1
   p ← given_at c.1
@@ -101,7 +101,7 @@ add_at limit ts = do
   child_at limit g.0 (unless_at g.1)
 
 -- whether a statement or a value may begin so in a region
-unfoldable pub may_begin : Region → List Piece → Bool
+unfoldable pub may_begin : Region → List TokenView → Bool
 may_begin r (Key key.Add ∷ ts) = may_act r
 may_begin r (Key key.Await ∷ ts) = may_act r
 may_begin r (Key key.Bind ∷ ts) = may_act r
@@ -114,7 +114,7 @@ may_begin r (Key key.Yield ∷ ts) = may_act r
 may_begin r ts = true
 
 -- the tokens, where a statement or a value may begin so
-unfoldable pub begun_at : Region → List Piece → Result (List Piece) Fault
+unfoldable pub begun_at : Region → List TokenView → Result (List TokenView) ParseFault
 begun_at r ts = allowed_at (may_begin r ts) ts
 
 -- what a variable or a field is set to

@@ -4,9 +4,9 @@ use Rattle.std.specs.Ordering.{int_eq}
 use Rattle.script_parser.specs.declared.fault.Kind.TheVariants.{Unexpected, OutOfRange, EndsEarly}
 use Rattle.script_tokens.specs.declared.keyword.Keyword.TheVariants as key
 use Rattle.script_tokens.specs.declared.mark.Mark.TheVariants as mark
-use Rattle.script_tokens.specs.Pieces.{Piece, Num, Huge, Key, Sign}
-use Rattle.script_grammar.specs.declared.declaration.ExecutorKind.{ExecutorKind}
-use Rattle.script_grammar.specs.declared.declaration.ExecutorKind.TheVariants as kind
+use Rattle.script_tokens.specs.Pieces.{TokenView, Num, Huge, Key, Sign}
+use Rattle.swift_types.specs.declared.executor_kind.ExecutorKind.{ExecutorKind}
+use Rattle.swift_types.specs.declared.executor_kind.ExecutorKind.TheVariants as kind
 use Rattle.script_grammar.specs.declared.region.Atoms.TheVariants.{Plain}
 use Rattle.script_grammar.specs.declared.region.Region.TheVariants as region
 use Rattle.script_grammar.specs.Tree.{ExprTree, ExecutorTree, LocalTree, FieldTree, MethodTree, ActorTree, RootTree, DeclTree, Executes, Binds, Acts, Roots}
@@ -25,7 +25,7 @@ number_at (Huge ∷ ts) = Err (at OutOfRange (Huge ∷ ts))
 number_at (found ∷ ts) = Err (at Unexpected (found ∷ ts))
 
 -- the opposite of the number at the front of digits, if there is one
-unfoldable pub opposite_at : List Piece → ℤ → Reads ℤ
+unfoldable pub opposite_at : List TokenView → ℤ → Reads ℤ
 opposite_at digits v ts = if int_eq v least then Err (at OutOfRange digits) else Ok (neg_ℤ v, ts)
 
 -- a number, perhaps after a minus
@@ -69,7 +69,7 @@ local_at ts = do
   Ok (record { name = x.0.0; default = x.0.1 }, x.1)
 
 -- fields end where no `var` stands
-unfoldable pub fields_end : List Piece → Option (List Piece)
+unfoldable pub fields_end : List TokenView → Option (List TokenView)
 fields_end (Key key.Var ∷ ts) = None
 fields_end ts = Some ts
 
@@ -150,7 +150,7 @@ decl_at limit (Key key.Root ∷ ts) = do
 decl_at limit (found ∷ ts) = Err (at Unexpected (found ∷ ts))
 
 -- declarations end with the text
-unfoldable pub decls_end : List Piece → Option (List Piece)
+unfoldable pub decls_end : List TokenView → Option (List TokenView)
 decls_end [] = Some []
 decls_end (t ∷ ts) = None
 

@@ -1,16 +1,16 @@
 -- Reading expressions: the parser's own way.
 use Rattle.std.specs.Prelude.{◌-◌, ℕ, zero, suc, List, [], ◌∷◌, Option, Some, None, Result, Ok, Err, nat_lt, ◌==◌, if◌then◌else◌}
 use Rattle.script_parser.specs.declared.fault.Kind.TheVariants.{Unexpected, OutOfRange, EndsEarly, TooDeep}
-use Rattle.script_parser.specs.declared.fault.Fault.{Fault}
+use Rattle.script_parser.specs.declared.fault.ParseFault.{ParseFault}
 use Rattle.swift_types.specs.declared.operator.Operator.{Operator}
 use Rattle.swift_types.specs.declared.operator.Operator.TheVariants as op
 use Rattle.script_tokens.specs.declared.keyword.Keyword.TheVariants as key
 use Rattle.script_tokens.specs.declared.mark.Mark.{Mark}
 use Rattle.script_tokens.specs.declared.mark.Mark.TheVariants as mark
-use Rattle.script_tokens.specs.Pieces.{Piece, Num, Huge, Name, Key, Sign}
+use Rattle.script_tokens.specs.Pieces.{TokenView, Num, Huge, Name, Key, Sign}
 use Rattle.script_grammar.specs.declared.region.Atoms.{Atoms}
 use Rattle.script_grammar.specs.Tree.{ExprTree, Number, Named, Local, OwnPriority, IsCancelled, Negated, Inverted, Both, height_of}
-use Rattle.script_grammar.specs.Grammar.{tightness_of, has_every_atom}
+use Rattle.script_grammar.specs.Grammar.{precedence_of, has_every_atom}
 use Rattle.script_parser.specs.Model.Steps.{at, ◌>>=◌, Reads, allowed_at}
 use Rattle.script_parser.specs.Model.Parts.{name_at}
 
@@ -20,7 +20,7 @@ Read = Reads ExprTree
 
 -- reading what stands in a parenthesis, from the tokens with it and those after it
 abbrev pub ReadInside : Type 0
-ReadInside = List Piece → Read
+ReadInside = List TokenView → Read
 
 -- the operator that a mark stands for between two operands
 abbrev pub operator_in : Mark → Option Operator
@@ -37,32 +37,32 @@ operator_in mark.Minus = Some op.Minus
 operator_in mark.Times = Some op.Times
 operator_in _ = None
 
--- the operator, if it is of this tightness
-abbrev pub of_tightness : ℕ → Option Operator → Option Operator
-of_tightness k None = None
-of_tightness k (Some o) = if tightness_of o == k then Some o else None
+-- the operator, if it is of this precedence
+abbrev pub of_precedence : ℕ → Option Operator → Option Operator
+of_precedence k None = None
+of_precedence k (Some o) = if precedence_of o == k then Some o else None
 
--- the operator of just this tightness that a token is
-abbrev pub operator_of : ℕ → Piece → Option Operator
-operator_of k (Sign m) = of_tightness k (operator_in m)
+-- the operator of just this precedence that a token is
+abbrev pub operator_of : ℕ → TokenView → Option Operator
+operator_of k (Sign m) = of_precedence k (operator_in m)
 operator_of k _ = None
 
 -- the operator, if there is one, and what is after it
-abbrev pub with_rest : Option Operator → List Piece → Option (Operator × List Piece)
+abbrev pub with_rest : Option Operator → List TokenView → Option (Operator × List TokenView)
 with_rest None ts = None
 with_rest (Some o) ts = Some (o, ts)
 
--- an operator of just this tightness, and what is after it
-unfoldable pub operator_at : ℕ → List Piece → Option (Operator × List Piece)
+-- an operator of just this precedence, and what is after it
+unfoldable pub operator_at : ℕ → List TokenView → Option (Operator × List TokenView)
 operator_at k [] = None
 operator_at k (t ∷ ts) = with_rest (operator_of k t) ts
 
--- how many operators of one tightness may follow one another: a comparison has one, and the height bounds the others
+-- how many operators of one precedence may follow one another: a comparison has one, and the height bounds the others
 abbrev pub most_operators : ℕ → ℕ → ℕ
 most_operators limit k = if k == 3 then 1 else limit
 
 -- the tree of the operator at the front of the tokens, if it is no higher than the limit
-unfoldable pub checked : ℕ → List Piece → ExprTree → Result ExprTree Fault
+unfoldable pub checked : ℕ → List TokenView → ExprTree → Result ExprTree ParseFault
 checked limit ts t = if nat_lt limit (height_of t) then Err (at TooDeep ts) else Ok t
 
 -- the tree, and what is after the parenthesis that closes it
@@ -91,7 +91,7 @@ atom_at atoms (found ∷ rest) = Err (at Unexpected (found ∷ rest))
 
 -- an atom after at most n prefixes, the first of which is in front of first, where inside reads what stands in a
 -- parenthesis
-unfoldable pub unary_at : Atoms → ℕ → ReadInside → List Piece → ℕ → Read
+unfoldable pub unary_at : Atoms → ℕ → ReadInside → List TokenView → ℕ → Read
 unary_at atoms limit inside first n (Sign mark.Open ∷ rest) = do
   a ← inside (Sign mark.Open ∷ rest) rest
   closed_at a.0 a.1
@@ -108,11 +108,11 @@ unary_at atoms limit inside first (suc n) (Sign mark.Bang ∷ rest) = do
 unary_at atoms limit inside first n ts = atom_at atoms ts
 
 -- what to do at an operator, and where there is none
-abbrev pub on_operator : {A : Type 0} → Option (Operator × List Piece) → A → (Operator → List Piece → A) → A
+abbrev pub on_operator : {A : Type 0} → Option (Operator × List TokenView) → A → (Operator → List TokenView → A) → A
 on_operator None stop go = stop
 on_operator (Some x) stop go = go x.0 x.1
 
--- at most n further operands, each after an operator of tightness k
+-- at most n further operands, each after an operator of precedence k
 unfoldable pub operands_at : ℕ → Read → ℕ → ℕ → ExprTree → Read
 operands_at limit operand k zero left ts = Ok (left, ts)
 operands_at limit operand k (suc n) left ts = on_operator (operator_at k ts) (Ok (left, ts)) (λ o rest. operand rest >>= λ right. checked limit ts (Both o left right.0) >>= λ t. operands_at limit operand k n t right.1)

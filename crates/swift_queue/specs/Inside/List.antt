@@ -21,7 +21,7 @@ pub record StartsWith {X : Type 0} (xs : List X) (x : X) : Type 0 where
   pub is : xs ≡ x ∷ rest
 
 -- the task's job stands at this place
-pub record StandsAt {B : Type 0} (jobs : List (Waiting B)) (task : TaskId) (place : ℕ) : Type 0 where
+pub record IsAtPlace {B : Type 0} (jobs : List (Waiting B)) (task : TaskId) (place : ℕ) : Type 0 where
   pub within : place < length jobs
   pub task_is : (d : Waiting B) → (slice_index_or jobs place d).job.task ≡ task
 

@@ -7,7 +7,7 @@ use Rattle.swift_types.specs.declared.id.TaskId.{TaskId}
 use Rattle.swift_queue.specs.declared.waiting.Waiting.{Waiting}
 use Rattle.swift_queue.specs.Picks.{IsOlder}
 use Rattle.swift_queue.specs.Queue.{IsWithout}
-use Rattle.swift_queue.specs.Inside.List.{IsList, StandsAt, StartsWith}
+use Rattle.swift_queue.specs.Inside.List.{IsList, IsAtPlace, StartsWith}
 
 -- the jobs of all lists, one list after another
 abbrev pub jobs_of : {B Z : Type 0} → List (VecDeque (Waiting B) Z) → List (Waiting B)
@@ -64,4 +64,4 @@ AreWithout {B} {Z} level lists task = (k : ℕ) (d : VecDeque (Waiting B) Z) →
 -- the task's job stands at this place of this list, which is below the level
 pub record StandsBelow {B Z : Type 0} (level : ℕ) (lists : List (VecDeque (Waiting B) Z)) (task : TaskId) (list place : ℕ) : Type 0 where
   pub low : list < level
-  pub here : (d : VecDeque (Waiting B) Z) → StandsAt (slice_index_or lists list d).items task place
+  pub here : (d : VecDeque (Waiting B) Z) → IsAtPlace (slice_index_or lists list d).items task place

@@ -1,5 +1,5 @@
 -- What the fields of the lists keep.
-use Rattle.swift_queue.specs.declared.lists.Lists.TheInside.{Inside}
+use Rattle.swift_queue.specs.declared.lists.PriorityLists.TheInside.{Inside}
 use Rattle.swift_queue.specs.Inside.Lists.{AreLists}
 
 -- there is a list for each priority, each with this room

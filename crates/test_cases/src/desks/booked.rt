@@ -5,11 +5,11 @@ ghost use Rattle.std.specs.Arc.{arc_value};
 
 use crate::desks::door::Door;
 use crate::fault::CaseFault;
-use crate::jobs::spend_all;
 use std::alloc::Global;
 use std::marker::Model;
 use std::sync::{Arc, Wait};
 use swift_executor::Exec;
+use swift_job::spend_all;
 use swift_script::Script;
 use swift_shared_book::{BookLock, BookSeat, TicketedJobs};
 use swift_tasks::{Book, BookFault};

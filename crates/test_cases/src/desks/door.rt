@@ -9,10 +9,10 @@ use crate::desks::poller::Poller;
 use std::alloc::AllocError;
 use std::marker::Model;
 use std::sync::{Arc, Wait};
-use swift_executor::{Desk, Exec, ExecFault, Gate, Ran};
+use swift_executor::{Desk, Exec, ExecFault, Gate, VisitOutcome};
 use swift_shared_book::{BookLock, TicketedJobs};
 use swift_ticket::TicketedJob;
-use swift_word::Was;
+use swift_word::BeforeCount;
 
 /// An executor, with one of its desks and its book. In a clause it is the lock of its book.
 pub struct Door {
@@ -94,7 +94,7 @@ impl Door {
         rt: &R,
         job: TicketedJob,
         gate: &G,
-    ) -> Result<Was, (TicketedJob, Option<ExecFault>)>
+    ) -> Result<BeforeCount, (TicketedJob, Option<ExecFault>)>
         requires { job.book ≡ Some self.old }
         ensures back { IfErr result (λ e. e.0 ≡ job) }
         ensures same { self.new ≡ self.old }
@@ -116,7 +116,7 @@ impl Door {
         poller: &Poller,
         jobs: &mut TicketedJobs,
         gate: &G,
-    ) -> Result<Ran, ExecFault>
+    ) -> Result<VisitOutcome, ExecFault>
         requires { jobs.old.book ≡ self.old }
         ensures jobs { jobs.new.book ≡ jobs.old.book }
         ensures same { self.new ≡ self.old }

@@ -1,8 +1,8 @@
 //! Jobs that are kept.
 
-use crate::jobs::{spend, spend_all};
+use crate::jobs::spend;
 use std::alloc::{AllocError, AllocFailed, Global};
-use swift_queue::Job;
+use swift_job::{Job, spend_all};
 use swift_turn::Body;
 use swift_types::TaskId;
 

@@ -16,7 +16,7 @@ pub enum Verb {
 
 /// A call, with its one or two numbers.
 #[derive(Clone, Copy)]
-pub struct Call {
+pub struct CaseCall {
     pub verb: Verb,
     pub first: u32,
     pub second: u32,
@@ -47,7 +47,7 @@ pub fn number(word: &str, count: u32) -> Option<u32> {
 }
 
 /// `VERB NUMBER`, or `VERB NUMBER WORD NUMBER`.
-pub fn call_of(text: &str, count: u32) -> Option<Call> {
+pub fn call_of(text: &str, count: u32) -> Option<CaseCall> {
     let mut words = text.split(' ');
     let verb = verb_of(words.next()?)?;
     let first = number(words.next()?, count)?;
@@ -56,7 +56,7 @@ pub fn call_of(text: &str, count: u32) -> Option<Call> {
         Some(word) => number(word, count)?,
         None => 0,
     };
-    Some(Call {
+    Some(CaseCall {
         verb,
         first,
         second,

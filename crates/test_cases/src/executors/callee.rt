@@ -1,6 +1,6 @@
 //! Calls, one after another.
 
-use crate::executors::call::{Call, call_of};
+use crate::executors::call::{CaseCall, call_of};
 use crate::fault::CaseFault;
 use std::fmt::Write;
 use swift_executor::{Gate, Open};
@@ -11,7 +11,7 @@ pub trait Callee<R>: Drop {
     fn answer<G: Gate>(
         &self,
         rt: &R,
-        call: Call,
+        call: CaseCall,
         gate: &G,
         out: &mut String,
     ) -> Result<(), CaseFault>;

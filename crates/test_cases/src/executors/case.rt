@@ -11,7 +11,7 @@ use std::sync::{Mutex, Wait};
 
 /// The words of a case.
 #[derive(Clone, Copy)]
-pub struct Plan<'a> {
+pub struct CasePlan<'a> {
     pub script: &'a str,
     /// For how many workers its executors are made.
     pub workers: u32,
@@ -22,11 +22,11 @@ pub struct Plan<'a> {
 }
 
 /// `SCRIPT`, `--`, `WORKERS ROOM`, and the calls, each on a line of its own.
-pub fn plan_of(case: &str) -> Option<Plan<'_>> {
+pub fn plan_of(case: &str) -> Option<CasePlan<'_>> {
     let (script, lines) = case.split_once("\n--\n")?;
     let (head, calls) = lines.split_once('\n')?;
     let (workers, room) = pair_of(head, " ")?;
-    Some(Plan {
+    Some(CasePlan {
         script,
         workers,
         room,

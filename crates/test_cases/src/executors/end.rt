@@ -2,7 +2,7 @@
 
 use crate::desks::{Door, Leavings, Left};
 use crate::executors::owned::BookOf;
-use crate::executors::stage::Stage;
+use crate::executors::stage::CaseStage;
 use crate::executors::tell::tell_place;
 use crate::fault::CaseFault;
 use std::alloc::{AllocGlobal, Global};
@@ -10,12 +10,12 @@ use std::fmt::Write;
 use std::sync::Wait;
 
 /// Closes the executors of a case, each with the last of its desks: a line for each, and a report.
-pub fn close_all<K, R>(rt: &R, stage: Stage<K>, out: &mut String) -> Result<(), CaseFault>
+pub fn close_all<K, R>(rt: &R, stage: CaseStage<K>, out: &mut String) -> Result<(), CaseFault>
 where
     K: BookOf,
     R: Wait + AllocGlobal,
 {
-    let Stage { setting, doors, .. } = stage;
+    let CaseStage { setting, doors, .. } = stage;
     let mut leavings = Leavings::new(rt.alloc(), doors.len())?;
     let mut number = 0u32;
     for door in doors {

@@ -8,13 +8,13 @@ use crate::fault::CaseFault;
 use std::alloc::{AllocError, Global};
 use std::marker::{Brand, Model, PhantomData};
 use std::sync::Wait;
-use swift_executor::{ExecFault, Gate, Ran};
-use swift_queue::Job;
+use swift_executor::{ExecFault, Gate, VisitOutcome};
+use swift_job::Job;
 use swift_shared_book::TicketedJobs;
 use swift_ticket::TicketedJob;
 use swift_turn::Body;
 use swift_types::{Ending, TaskId};
-use swift_word::Was;
+use swift_word::BeforeCount;
 
 /// The book of a case, by a type. Proofs alone see it: of a value under a lock only its type is known, and so it is known that the
 /// executors and the jobs of a case are of one book.
@@ -216,7 +216,7 @@ impl<K: BookOf> OwnDoor<K> {
         rt: &R,
         job: OwnJob<K>,
         gate: &G,
-    ) -> Result<Was, (OwnJob<K>, Option<ExecFault>)> {
+    ) -> Result<BeforeCount, (OwnJob<K>, Option<ExecFault>)> {
         match self.door.enqueue(rt, job.into_job(), gate) {
             Ok(was) => Ok(was),
             Err((job, fault)) => Err((OwnJob::new(job), fault)),
@@ -231,7 +231,7 @@ impl<K: BookOf> OwnDoor<K> {
         poller: &Poller,
         jobs: &mut TicketedJobs,
         gate: &G,
-    ) -> Result<Ran, ExecFault>
+    ) -> Result<VisitOutcome, ExecFault>
         requires { Some jobs.old.book ≡ K.lock }
         ensures { jobs.new.book ≡ jobs.old.book }
     {

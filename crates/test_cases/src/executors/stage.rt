@@ -3,7 +3,7 @@
 ghost use Rattle.std.specs.Prelude.{◌≡◌, Some};
 
 use crate::desks::{Booked, Poller, Setting};
-use crate::executors::call::{Call, Verb};
+use crate::executors::call::{CaseCall, Verb};
 use crate::executors::callee::Callee;
 use crate::executors::end::close_all;
 use crate::executors::owned::{BookOf, OwnBooked, OwnDoor, OwnJob};
@@ -19,21 +19,21 @@ use swift_types::TaskId;
 
 /// The script of a case, its book, the jobs that are kept, the oldest first, and its desks.
 #[derive(Drop)]
-pub struct Stage<K: BookOf> {
+pub struct CaseStage<K: BookOf> {
     pub(crate) setting: Setting,
     booked: Mutex<OwnBooked<K>>,
     jobs: Mutex<Vec<OwnJob<K>>>,
     pub(crate) doors: Vec<Mutex<OwnDoor<K>>>,
 }
 
-impl<K: BookOf> Stage<K> {
+impl<K: BookOf> CaseStage<K> {
     /// A case of this script and this book, with no task and no desk.
-    pub fn new(alloc: Global, setting: Setting, booked: Booked) -> Result<Stage<K>, CaseFault>
+    pub fn new(alloc: Global, setting: Setting, booked: Booked) -> Result<CaseStage<K>, CaseFault>
         requires { Some booked ≡ K.lock }
     {
         let jobs = Vec::with_capacity(alloc, JOBS)?;
         let doors = Vec::with_capacity(alloc, DOORS)?;
-        Ok(Stage {
+        Ok(CaseStage {
             setting,
             booked: Mutex::new(OwnBooked::new(booked)),
             jobs: Mutex::new(jobs),
@@ -75,7 +75,7 @@ impl<K: BookOf> Stage<K> {
     fn enqueue<R: Wait, G: Gate>(
         &self,
         rt: &R,
-        call: Call,
+        call: CaseCall,
         gate: &G,
         out: &mut String,
     ) -> Result<(), CaseFault> {
@@ -99,7 +99,7 @@ impl<K: BookOf> Stage<K> {
     }
 
     // A visit of a worker. The jobs that it makes are kept.
-    fn run<R, G>(&self, rt: &R, call: Call, gate: &G, out: &mut String) -> Result<(), CaseFault>
+    fn run<R, G>(&self, rt: &R, call: CaseCall, gate: &G, out: &mut String) -> Result<(), CaseFault>
     where
         R: Wait + RandomSource + AllocGlobal,
         G: Gate,
@@ -129,11 +129,11 @@ impl<K: BookOf> Stage<K> {
     }
 }
 
-impl<K: BookOf, R: Wait + RandomSource + AllocGlobal> Callee<R> for Stage<K> {
+impl<K: BookOf, R: Wait + RandomSource + AllocGlobal> Callee<R> for CaseStage<K> {
     fn answer<G: Gate>(
         &self,
         rt: &R,
-        call: Call,
+        call: CaseCall,
         gate: &G,
         out: &mut String,
     ) -> Result<(), CaseFault> {

@@ -3,8 +3,8 @@
 use crate::fault::CaseFault;
 use std::alloc::{AllocError, Global};
 use std::fmt::Write;
-use swift_executor::{ExecFault, Ran};
-use swift_queue::Job;
+use swift_executor::{ExecFault, VisitOutcome};
+use swift_job::Job;
 use swift_tasks::BookFault;
 use swift_turn::Body;
 use swift_types::{Ending, TaskId};
@@ -55,7 +55,7 @@ impl HasJob for Job<Body> {
 
 /// What came of a visit, and the jobs that it made.
 pub fn tell_visit<J: HasJob>(
-    ran: Result<Ran, ExecFault>,
+    ran: Result<VisitOutcome, ExecFault>,
     jobs: &[J],
     out: &mut String,
 ) -> Result<(), CaseFault> {
@@ -65,11 +65,14 @@ pub fn tell_visit<J: HasJob>(
 }
 
 // What came of a visit.
-fn tell_ran(ran: Result<Ran, ExecFault>, out: &mut String) -> Result<(), CaseFault> {
+fn tell_ran(ran: Result<VisitOutcome, ExecFault>, out: &mut String) -> Result<(), CaseFault> {
     match ran {
-        Ok(Ran::Turn(TaskId(task), left)) => write!(out, "turn of t{task}, left {left:?}")?,
-        Ok(Ran::Busy) => out.push_str("busy")?,
-        Ok(Ran::Nothing(left)) => write!(out, "nothing, left {left:?}")?,
+        Ok(VisitOutcome::Turn(TaskId(task), left)) => write!(
+            out,
+            "turn of t{task}, left {left:?}"
+        )?,
+        Ok(VisitOutcome::Busy) => out.push_str("busy")?,
+        Ok(VisitOutcome::Nothing(left)) => write!(out, "nothing, left {left:?}")?,
         Err(ExecFault::Memory) => return Err(CaseFault::Memory),
         Err(fault) => write!(out, "{fault}")?,
     }

@@ -11,9 +11,9 @@ use std::random::RandomSource;
 use std::sync::Wait;
 use std::thread;
 use std::thread::Threads;
-use swift_executor::{Gate, Open, Ran};
+use swift_executor::{Gate, Open, VisitOutcome};
 use swift_shared_book::TicketedJobs;
-use swift_word::Was;
+use swift_word::BeforeCount;
 
 /// A script of two tasks, each of one turn.
 const TEXT: &str = "actor Acc { var bal = 10; invariant bal >= 0; func take() { return 1; } }
@@ -22,7 +22,12 @@ root b = Acc.take();
 ";
 
 // Sends the oldest of these jobs, which are of the executor's book. None where it came back, or there is none.
-fn send<R: Wait, G: Gate>(rt: &R, door: &mut Door, jobs: &mut TicketedJobs, gate: &G) -> Option<Was>
+fn send<R: Wait, G: Gate>(
+    rt: &R,
+    door: &mut Door,
+    jobs: &mut TicketedJobs,
+    gate: &G,
+) -> Option<BeforeCount>
     requires { jobs.old.book ≡ door.old }
     ensures jobs { jobs.new.book ≡ jobs.old.book }
     ensures door { door.new ≡ door.old }
@@ -38,7 +43,7 @@ fn visit<R, G>(
     mut jobs: TicketedJobs,
     worker: u32,
     gate: &G,
-) -> Option<Ran>
+) -> Option<VisitOutcome>
 where
     R: Wait + RandomSource + AllocGlobal,
     G: Gate,
@@ -61,7 +66,7 @@ fn in_sender<R: Wait>(
     mut jobs: TicketedJobs,
     hold: &Hold,
     moment: &str,
-) -> Option<Was>
+) -> Option<BeforeCount>
     requires { jobs.book ≡ door }
 {
     if !is_sender_held(moment) {
@@ -79,7 +84,7 @@ fn in_visitor<R: Wait + RandomSource + AllocGlobal>(
     made: TicketedJobs,
     hold: &Hold,
     moment: &str,
-) -> Option<Ran>
+) -> Option<VisitOutcome>
     requires { made.book ≡ door }
 {
     if is_sender_held(moment) {
@@ -99,7 +104,7 @@ fn by_two_threads<R>(
     made: TicketedJobs,
     hold: &Hold,
     moment: &str,
-) -> (Option<Was>, Option<Ran>)
+) -> (Option<BeforeCount>, Option<VisitOutcome>)
 where
     R: Threads + Wait + Sync + RandomSource + AllocGlobal,
     requires first { jobs.book ≡ first }
@@ -123,7 +128,7 @@ fn play_roots<R>(
     booked: &mut Booked,
     hold: &Hold,
     moment: &str,
-) -> Option<(Option<Was>, Option<Ran>)>
+) -> Option<(Option<BeforeCount>, Option<VisitOutcome>)>
 where
     R: Threads + Wait + Sync + RandomSource + AllocGlobal,
     requires { door.old ≡ booked.old }

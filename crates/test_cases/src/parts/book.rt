@@ -3,21 +3,20 @@
 ghost use Rattle.swift_turn.specs.Body.{IsRunning};
 
 use crate::fault::CaseFault;
-use crate::jobs::{spend, spend_all};
+use crate::jobs::spend;
 use crate::parts::answers::{refused, tell_jobs, told_events, told_levels, told_priorities};
 use crate::parts::calls::Part;
-use crate::parts::done::{Done, done_of};
+use crate::parts::done::{TurnDone, done_of};
 use crate::parts::jobs::{keep, made, place_of, take};
 use crate::parts::scripts::Scripts;
 use crate::parts::show;
 use crate::parts::words::{number, task};
-use script_code::Env;
 use std::alloc::Global;
 use std::fmt::Write;
-use swift_queue::Job;
+use swift_job::{Job, spend_all};
 use swift_tasks::{Book, BookFault};
 use swift_turn::Body;
-use swift_types::{Priority, RootId, TaskId};
+use swift_types::{Env, Priority, RootId, TaskId};
 
 /// A book, and the jobs that it gave and that were not applied. A call that is refused memory is made again.
 pub struct Tasks {
@@ -173,7 +172,7 @@ impl Tasks {
     fn apply_given(
         &mut self,
         named: TaskId,
-        done: Done,
+        done: TurnDone,
         out: &mut String,
     ) -> Result<(), CaseFault> {
         let Some(job) = take(&mut self.jobs, named) else {
@@ -190,7 +189,7 @@ impl Tasks {
         &mut self,
         named: TaskId,
         how: &[&str],
-        done: Done,
+        done: TurnDone,
         out: &mut String,
     ) -> Result<(), CaseFault> {
         let job = made(&self.scripts, named, how)?;
@@ -209,7 +208,7 @@ impl Tasks {
     fn applied(
         &mut self,
         job: Job<Body>,
-        done: Done,
+        done: TurnDone,
         out: &mut String,
     ) -> Result<Option<Job<Body>>, CaseFault> {
         if !job.body().is_running() {
@@ -301,12 +300,12 @@ fn begun(out: &mut String, answer: Result<Env, BookFault>) -> Result<bool, CaseF
 fn apply_again(
     book: &mut Book,
     job: Job<Body>,
-    done: Done,
+    done: TurnDone,
     given: &mut Vec<Job<Body>>,
 ) -> Result<(), (Job<Body>, BookFault)>
     requires { IsRunning job.body }
 {
-    let Done { effects, exit } = done;
+    let TurnDone { effects, exit } = done;
     let applied = match book.apply(job, &exit, effects, given) {
         Err((job, effects, BookFault::Memory)) => book.apply(job, &exit, effects, given),
         applied => applied,

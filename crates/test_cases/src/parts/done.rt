@@ -11,7 +11,7 @@ use swift_types::{ActorId, LocalId, MethodId, Priority, RootId};
 
 /// What a turn has done.
 #[derive(Drop)]
-pub struct Done {
+pub struct TurnDone {
     pub effects: Vec<Effect>,
     pub exit: Exit,
 }
@@ -213,12 +213,12 @@ fn effects_of(alloc: Global, script: &Script, texts: &[&str]) -> Result<Vec<Effe
 }
 
 /// What a turn has done, by the texts of its effects and of its exit.
-pub fn done_of(alloc: Global, script: &Script, texts: &[&str]) -> Result<Done, CaseFault> {
+pub fn done_of(alloc: Global, script: &Script, texts: &[&str]) -> Result<TurnDone, CaseFault> {
     let Some((exit, effects)) = texts.split_last() else {
         return Err(CaseFault::Form);
     };
     let exit = exit_of(alloc, script, exit)?;
-    Ok(Done {
+    Ok(TurnDone {
         effects: effects_of(alloc, script, effects)?,
         exit,
     })

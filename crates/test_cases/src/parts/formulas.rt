@@ -12,12 +12,12 @@ use crate::parts::calls::Part;
 use crate::parts::words::{number, value as value_of};
 use script_code::laws::{written_code_counts, written_code_implements, written_code_joins};
 use script_code::{
-    Act, Binding, Env, FieldPlace, Formula, Instruction, Sight, holds, link, push_instruction,
-    renumber, value,
+    Act, Binding, FieldPlace, Formula, Instruction, Sight, holds, link, push_instruction, renumber,
+    value,
 };
 use std::alloc::{AllocError, Global};
 use swift_locals::Bindings;
-use swift_types::{LocalId, Operator, Priority};
+use swift_types::{Env, LocalId, Operator, Priority};
 
 /// What knows nothing but the calls that are made of it.
 #[derive(Drop)]

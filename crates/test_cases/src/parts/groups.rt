@@ -5,7 +5,7 @@ use crate::fault::CaseFault;
 use crate::parts::calls::Part;
 use crate::parts::words::{size, task, value};
 use std::alloc::{AllocError, Global};
-use swift_groups::{Close, GroupFault, GroupId, Groups, Next};
+use swift_groups::{Close, GroupFault, GroupId, Groups, NextResult};
 use swift_types::{Ending, Fault, TaskId};
 
 fn group(word: &str) -> Result<GroupId, CaseFault> {
@@ -19,16 +19,16 @@ fn ending_of(word: &str) -> Result<Ending, CaseFault> {
     Ok(Ending::Value(value(word)?))
 }
 
-fn shown(alloc: Global, next: Next) -> Result<String, AllocError> {
+fn shown(alloc: Global, next: NextResult) -> Result<String, AllocError> {
     match next {
-        Next::Result(TaskId(task), Ending::Value(value)) => format!(in alloc;
+        NextResult::Result(TaskId(task), Ending::Value(value)) => format!(in alloc;
             "task {task} value {value}"
         ),
-        Next::Result(TaskId(task), Ending::Fault(fault)) => format!(in alloc;
+        NextResult::Result(TaskId(task), Ending::Fault(fault)) => format!(in alloc;
             "task {task} fault {fault:?}"
         ),
-        Next::Wait => String::from_str(alloc, "wait"),
-        Next::Empty => String::from_str(alloc, "empty"),
+        NextResult::Wait => String::from_str(alloc, "wait"),
+        NextResult::Empty => String::from_str(alloc, "empty"),
     }
 }
 
@@ -86,7 +86,7 @@ fn opened(alloc: Global, opened: Result<GroupId, GroupFault>) -> Result<String, 
     }
 }
 
-fn next(alloc: Global, next: Result<Next, GroupFault>) -> Result<String, AllocError> {
+fn next(alloc: Global, next: Result<NextResult, GroupFault>) -> Result<String, AllocError> {
     match next {
         Ok(next) => shown(alloc, next),
         Err(fault) => format!(in alloc; "{fault}"),

@@ -7,7 +7,7 @@ use crate::jobs::spend;
 use crate::parts::scripts::Scripts;
 use crate::parts::words::{number, resume_of};
 use std::alloc::AllocFailed;
-use swift_queue::Job;
+use swift_job::Job;
 use swift_turn::Body;
 use swift_types::TaskId;
 

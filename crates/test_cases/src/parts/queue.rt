@@ -7,7 +7,8 @@ use crate::parts::calls::{PLAIN, Part, play};
 use crate::parts::words::{priority_of, size, task};
 use std::alloc::{AllocError, Global};
 use std::io::Write;
-use swift_queue::{Job, Queue};
+use swift_job::Job;
+use swift_queue::Queue;
 use swift_types::{Priority, Resume, TaskId};
 
 // Puts a job of a task, where that may be done.

@@ -5,7 +5,7 @@
 use crate::fault::CaseFault;
 use crate::parts::calls::Part;
 use crate::parts::words::number;
-use script_waits::{Edge, Wait, first_waiting};
+use script_waits::{CallEdge, RootWait, first_waiting};
 use std::alloc::Global;
 
 /// How many methods there are.
@@ -18,8 +18,8 @@ pub struct RootsPart;
 // The first root that waits for itself or for a later one, where each number of a method is one.
 fn first_of(
     alloc: Global,
-    edges: &[Edge],
-    waits: &[Wait],
+    edges: &[CallEdge],
+    waits: &[RootWait],
     roots: &[u32],
 ) -> Result<Option<usize>, CaseFault> {
     let from = edges.iter().all(|e| (e.from as usize) < METHODS);
@@ -46,16 +46,16 @@ fn first_by_words(alloc: Global, words: &[&str]) -> Result<Option<usize>, CaseFa
 // Takes a word: an edge, a wait, or the method of a root.
 fn take(
     word: &str,
-    edges: &mut Vec<Edge>,
-    waits: &mut Vec<Wait>,
+    edges: &mut Vec<CallEdge>,
+    waits: &mut Vec<RootWait>,
     roots: &mut Vec<u32>,
 ) -> Result<(), CaseFault> {
     if let Some((from, to)) = word.split_once('>') {
         let (from, to) = (number(from)?, number(to)?);
-        edges.push(Edge { from, to })?;
+        edges.push(CallEdge { from, to })?;
     } else if let Some((method, root)) = word.split_once('@') {
         let (method, root) = (number(method)?, number(root)?);
-        waits.push(Wait { method, root })?;
+        waits.push(RootWait { method, root })?;
     } else {
         roots.push(number(word)?)?;
     }

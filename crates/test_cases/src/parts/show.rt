@@ -1,15 +1,14 @@
 //! Events and jobs as text.
 
-use script_code::Env;
 use std::alloc::AllocError;
 use std::fmt::Write;
 use swift_events::{Event, Origin};
 use swift_interpreter::Frame;
+use swift_job::Job;
 use swift_locals::Bindings;
-use swift_queue::Job;
 use swift_script::Script;
 use swift_turn::Body;
-use swift_types::{Ending, Fault, LocalId, Priority, Resume, TaskId};
+use swift_types::{Ending, Env, Fault, LocalId, Priority, Resume, TaskId};
 
 /// The name of a priority.
 pub fn priority(given: Priority) -> &'static str {

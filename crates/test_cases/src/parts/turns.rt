@@ -19,13 +19,13 @@ use swift_script::{Script, read};
 
 // A script, and the task that was started last.
 #[derive(Drop)]
-struct Turns<'a, R> {
+struct TurnCases<'a, R> {
     rt: &'a R,
     script: Arc<Script>,
     task: Option<Task>,
 }
 
-impl<R: RandomSource + AllocGlobal> Part for Turns<'_, R> {
+impl<R: RandomSource + AllocGlobal> Part for TurnCases<'_, R> {
     fn answer(&mut self, alloc: Global, words: &[&str]) -> Result<String, CaseFault> {
         let mut text = String::new(alloc);
         match *words {
@@ -52,7 +52,7 @@ pub fn play_turns<R: RandomSource + AllocGlobal>(
     };
     let alloc = rt.alloc();
     let script = Arc::new(alloc, read(alloc, text.as_bytes())?)?;
-    let mut turns = Turns {
+    let mut turns = TurnCases {
         rt,
         script,
         task: None,

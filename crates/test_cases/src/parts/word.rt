@@ -9,7 +9,7 @@ use std::alloc::{AllocError, Global};
 use std::sync::Wait;
 use std::thread;
 use std::thread::Threads;
-use swift_word::{Begun, Left, Named, Seat, Spent, Was, Word};
+use swift_word::{BeforeCount, Begun, Named, PendingLeft, Spent, Word, WordSeat};
 
 // Numbers, which all have one name.
 #[derive(PartialEq, Drop)]
@@ -22,7 +22,7 @@ impl Named for Number {
 }
 
 // A word with this state.
-fn opened(alloc: Global, state: Number) -> Result<(Word<Number>, Seat<Number>), CaseFault>
+fn opened(alloc: Global, state: Number) -> Result<(Word<Number>, WordSeat<Number>), CaseFault>
     ensures { IfOk result (λ r. r.1 ≡ first_seat r.0) }
 {
     match Word::open(alloc, state) {
@@ -36,14 +36,14 @@ fn opened(alloc: Global, state: Number) -> Result<(Word<Number>, Seat<Number>), 
 }
 
 // Whether one of two seats, of which neither holds, takes the state where both have counted a job.
-fn one_seat_holds(word: &Word<Number>, a: &mut Seat<Number>, b: &mut Seat<Number>) -> bool
+fn one_seat_holds(word: &Word<Number>, a: &mut WordSeat<Number>, b: &mut WordSeat<Number>) -> bool
     requires one { IsSeatOf word.now a.old × (a.old.holding ≡ None) }
     requires other { IsSeatOf word.now b.old × (b.old.holding ≡ None) }
     ensures one { IsTrue result → IsSeatOf word.now a.new × (a.new.holding ≡ None) }
     ensures other { IsTrue result → IsSeatOf word.now b.new × (b.new.holding ≡ None) }
 {
     let halves = a.allowance() == 1 << 59 && b.allowance() == 1 << 59;
-    let counted = word.count(a) == Ok(Was::Idle) && word.count(b) == Ok(Was::Busy);
+    let counted = word.count(a) == Ok(BeforeCount::Idle) && word.count(b) == Ok(BeforeCount::Busy);
     if !halves || !counted {
         return false;
     }
@@ -54,24 +54,24 @@ fn one_seat_holds(word: &Word<Number>, a: &mut Seat<Number>, b: &mut Seat<Number
         return false;
     };
     let one_holds = a.holds() && !b.holds();
-    word.end(a, Number(6)) == Left::More && one_holds
+    word.end(a, Number(6)) == PendingLeft::More && one_holds
 }
 
 // Whether the seats find the one job that is left, and then none.
-fn one_job_is_left(word: &Word<Number>, a: &mut Seat<Number>, b: &mut Seat<Number>) -> bool
+fn one_job_is_left(word: &Word<Number>, a: &mut WordSeat<Number>, b: &mut WordSeat<Number>) -> bool
     requires one { IsSeatOf word.now a.old × (a.old.holding ≡ None) }
     requires other { IsSeatOf word.now b.old × (b.old.holding ≡ None) }
 {
     let Begun::Run(1, Number(6)) = word.begin(b) else {
         return false;
     };
-    if word.end(b, Number(6)) != Left::Idle {
+    if word.end(b, Number(6)) != PendingLeft::Idle {
         return false;
     }
     let Begun::Run(0, Number(6)) = word.begin(a) else {
         return false;
     };
-    word.leave(a, Number(6)) == Left::Idle && word.count(b) == Ok(Was::Idle)
+    word.leave(a, Number(6)) == PendingLeft::Idle && word.count(b) == Ok(BeforeCount::Idle)
 }
 
 fn two_seats_take_turns(alloc: Global) -> Result<bool, CaseFault> {
@@ -82,29 +82,29 @@ fn two_seats_take_turns(alloc: Global) -> Result<bool, CaseFault> {
 }
 
 // Whether a job that one seat counts while the other holds is seen by the other's end.
-fn is_seen_by_end(word: &Word<Number>, a: &mut Seat<Number>, b: &mut Seat<Number>) -> bool
+fn is_seen_by_end(word: &Word<Number>, a: &mut WordSeat<Number>, b: &mut WordSeat<Number>) -> bool
     requires one { IsSeatOf word.now a.old × (a.old.holding ≡ None) }
     requires other { IsSeatOf word.now b.old × (b.old.holding ≡ None) }
     ensures one { IsTrue result → IsSeatOf word.now a.new × (a.new.holding ≡ None) }
     ensures other { IsTrue result → IsSeatOf word.now b.new × (b.new.holding ≡ None) }
 {
-    if word.count(a) != Ok(Was::Idle) {
+    if word.count(a) != Ok(BeforeCount::Idle) {
         return false;
     }
     let Begun::Run(1, state) = word.begin(a) else {
         return false;
     };
-    if word.count(b) != Ok(Was::Busy) || word.end(a, state) != Left::More {
+    if word.count(b) != Ok(BeforeCount::Busy) || word.end(a, state) != PendingLeft::More {
         return false;
     }
     let Begun::Run(1, state) = word.begin(b) else {
         return false;
     };
-    word.end(b, state) == Left::Idle
+    word.end(b, state) == PendingLeft::Idle
 }
 
 // The same of a leave. In the end the first seat holds.
-fn is_seen_by_leave(word: &Word<Number>, a: &mut Seat<Number>, b: &mut Seat<Number>) -> bool
+fn is_seen_by_leave(word: &Word<Number>, a: &mut WordSeat<Number>, b: &mut WordSeat<Number>) -> bool
     requires one { IsSeatOf word.now a.old × (a.old.holding ≡ None) }
     requires other { IsSeatOf word.now b.old × (b.old.holding ≡ None) }
     ensures one { IsTrue result → IsSeatOf word.now a.new }
@@ -113,7 +113,7 @@ fn is_seen_by_leave(word: &Word<Number>, a: &mut Seat<Number>, b: &mut Seat<Numb
     let Begun::Run(0, state) = word.begin(b) else {
         return false;
     };
-    if word.count(a) != Ok(Was::Busy) || word.leave(b, state) != Left::More {
+    if word.count(a) != Ok(BeforeCount::Busy) || word.leave(b, state) != PendingLeft::More {
         return false;
     }
     matches!(word.begin(a), Begun::Run(1, Number(5)))
@@ -143,14 +143,14 @@ fn an_allowance_is_spent(alloc: Global) -> Result<bool, CaseFault> {
     }
     let mut last = a.split(&word);
     let halved = a.allowance() == 1 && last.allowance() == 0;
-    let one = word.count(&mut last) == Err(Spent) && word.count(&mut a) == Ok(Was::Idle);
+    let one = word.count(&mut last) == Err(Spent) && word.count(&mut a) == Ok(BeforeCount::Idle);
     let spent = word.count(&mut a) == Err(Spent);
     Ok(halved && one && spent && word.close() == (1, Some(Number(5))))
 }
 
 // Counts a job, and runs one as soon as no other seat holds: the state becomes one more. Each thread ends no more jobs
 // than it counted before, so one is pending; where none were, nothing would be run.
-fn take_turn<R: Wait>(rt: &R, word: &Word<Number>, seat: &mut Seat<Number>)
+fn take_turn<R: Wait>(rt: &R, word: &Word<Number>, seat: &mut WordSeat<Number>)
     requires { IsSeatOf word.now seat.old × (seat.old.holding ≡ None) }
     ensures { IsSeatOf word.now seat.new × (seat.new.holding ≡ None) }
 {
@@ -170,7 +170,7 @@ fn take_turn<R: Wait>(rt: &R, word: &Word<Number>, seat: &mut Seat<Number>)
     }
 }
 
-fn take_turns<R: Wait>(rt: &R, word: &Word<Number>, mut seat: Seat<Number>, turns: u64) -> u64
+fn take_turns<R: Wait>(rt: &R, word: &Word<Number>, mut seat: WordSeat<Number>, turns: u64) -> u64
     requires { IsSeatOf word.now seat × (seat.holding ≡ None) }
 {
     for _ in 0..turns {
@@ -182,8 +182,8 @@ fn take_turns<R: Wait>(rt: &R, word: &Word<Number>, mut seat: Seat<Number>, turn
 fn by_two_threads<R: Threads + Wait + Sync>(
     rt: &R,
     word: &Word<Number>,
-    a: Seat<Number>,
-    b: Seat<Number>,
+    a: WordSeat<Number>,
+    b: WordSeat<Number>,
     turns: u64,
 ) -> (u64, u64)
     requires one { IsSeatOf word.now a × (a.holding ≡ None) }

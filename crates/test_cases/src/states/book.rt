@@ -4,12 +4,11 @@ ghost use Rattle.std.specs.Prelude.{◌≡◌, None, Some, IfOk, IfErr, IfSome, 
 ghost use Rattle.std.specs.Arc.{arc_value};
 ghost use Rattle.swift_executor.specs.State.{HasChosen, IsBegun, IsPicked, IsPlayed};
 
-use crate::jobs::spend_all;
 use std::alloc::Global;
 use std::marker::{Brand, Model, PhantomData};
 use std::sync::Arc;
 use swift_executor::{ExecFault, ExecState};
-use swift_queue::Job;
+use swift_job::{Job, spend_all};
 use swift_script::Script;
 use swift_tasks::{Book, BookFault};
 use swift_turn::Body;

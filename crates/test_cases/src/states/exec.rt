@@ -5,11 +5,11 @@ ghost use Rattle.std.specs.Arc.{arc_value};
 
 use crate::desks::{Jobs, Leavings, Left as JobsLeft, Poller};
 use crate::states::book::{OwnBook, Scripted};
-use crate::states::resting::{Resting, can_run};
+use crate::states::resting::{OwnResting, can_run};
 use std::alloc::{AllocError, Global};
 use std::sync::{Arc, Mutex, Wait};
-use swift_executor::{ExecFault, Gate, Left, Moment, Ran, Was, may_run};
-use swift_queue::Job;
+use swift_executor::{BeforeCount, ExecFault, Gate, Moment, PendingLeft, VisitOutcome, may_run};
+use swift_job::Job;
 use swift_script::Script;
 use swift_turn::Body;
 use swift_types::{ExecId, TaskId};
@@ -18,7 +18,7 @@ use swift_types::{ExecId, TaskId};
 #[derive(Drop)]
 struct Post<K: Scripted> {
     // None while a worker visits the executor.
-    resting: Option<Resting<K>>,
+    resting: Option<OwnResting<K>>,
     inbox: Jobs,
     // How many jobs were counted and are not run.
     pending: u64,
@@ -35,26 +35,30 @@ impl<K: Scripted> Post<K> {
     }
 
     // One job more is pending.
-    fn count(&mut self) -> Was {
+    fn count(&mut self) -> BeforeCount {
         let is_idle = self.pending == 0 && self.resting.is_some();
         self.pending = self.pending.saturating_add(1);
-        if is_idle { Was::Idle } else { Was::Busy }
+        if is_idle {
+            BeforeCount::Idle
+        } else {
+            BeforeCount::Busy
+        }
     }
 
     // Takes the state out for a worker, where none has it. It comes with how many jobs are pending.
-    fn begin(&mut self) -> Option<(u64, Resting<K>)> {
+    fn begin(&mut self) -> Option<(u64, OwnResting<K>)> {
         let resting = self.resting.take()?;
         Some((self.pending, resting))
     }
 
     // Gives the state back after so many turns.
-    fn end(&mut self, resting: Resting<K>, turns: u64) -> Left {
+    fn end(&mut self, resting: OwnResting<K>, turns: u64) -> PendingLeft {
         self.resting = Some(resting);
         self.pending = self.pending.saturating_sub(turns);
         if self.pending > 0 {
-            Left::More
+            PendingLeft::More
         } else {
-            Left::Idle
+            PendingLeft::Idle
         }
     }
 }
@@ -84,7 +88,7 @@ impl<K: Scripted> StateExec<K> {
     {
         let room = room.max(1) as usize;
         let inbox = Jobs::with_room(alloc, room)?;
-        let resting = Resting::new(alloc, Arc::clone(script)?, executor, room)?;
+        let resting = OwnResting::new(alloc, Arc::clone(script)?, executor, room)?;
         let post = Post {
             resting: Some(resting),
             inbox,
@@ -106,7 +110,7 @@ impl<K: Scripted> StateExec<K> {
         allowance: &Mutex<u64>,
         job: Job<Body>,
         gate: &G,
-    ) -> Result<Was, (Job<Body>, Option<ExecFault>)> {
+    ) -> Result<BeforeCount, (Job<Body>, Option<ExecFault>)> {
         if !can_run(&self.script, self.executor, &job) {
             return Err((job, None));
         }
@@ -134,7 +138,7 @@ impl<K: Scripted> StateExec<K> {
         poller: &Poller,
         jobs: &mut Jobs,
         gate: &G,
-    ) -> Result<Ran, ExecFault> {
+    ) -> Result<VisitOutcome, ExecFault> {
         let executor = self.executor;
         let kind = self.script.executor_kind(executor);
         if !may_run(kind, self.workers.max(1), worker) {
@@ -143,7 +147,7 @@ impl<K: Scripted> StateExec<K> {
         gate.at(Moment::Took(executor, worker));
         let begun = self.post.lock(rt).begin();
         let Some((found, mut resting)) = begun else {
-            return Ok(Ran::Busy);
+            return Ok(VisitOutcome::Busy);
         };
         gate.at(Moment::Began(executor, worker));
         resting.accept_all(&mut self.post.lock(rt).inbox);
@@ -158,13 +162,13 @@ impl<K: Scripted> StateExec<K> {
     fn end<R: Wait>(
         &self,
         rt: &R,
-        resting: Resting<K>,
+        resting: OwnResting<K>,
         ran: Result<Option<TaskId>, ExecFault>,
-    ) -> Result<Ran, ExecFault> {
+    ) -> Result<VisitOutcome, ExecFault> {
         let mut post = self.post.lock(rt);
         match ran {
-            Ok(Some(task)) => Ok(Ran::Turn(task, post.end(resting, 1))),
-            Ok(None) => Ok(Ran::Nothing(post.end(resting, 0))),
+            Ok(Some(task)) => Ok(VisitOutcome::Turn(task, post.end(resting, 1))),
+            Ok(None) => Ok(VisitOutcome::Nothing(post.end(resting, 0))),
             Err(fault) => {
                 post.end(resting, 0);
                 Err(fault)
@@ -198,13 +202,13 @@ fn spend_one<R: Wait>(rt: &R, allowance: &Mutex<u64>) {
 fn turn_where<K, R, G>(
     rt: &R,
     found: u64,
-    resting: Resting<K>,
+    resting: OwnResting<K>,
     worker: u32,
     book: &Mutex<OwnBook<K>>,
     poller: &Poller,
     jobs: &mut Jobs,
     gate: &G,
-) -> (Resting<K>, Result<Option<TaskId>, ExecFault>)
+) -> (OwnResting<K>, Result<Option<TaskId>, ExecFault>)
 where
     K: Scripted,
     R: Wait,

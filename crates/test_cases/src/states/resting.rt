@@ -5,35 +5,35 @@ ghost use Rattle.std.specs.Arc.{arc_value};
 ghost use Rattle.swift_executor.specs.State.{BelongsTo};
 
 use crate::desks::{Jobs, Poller};
-use crate::jobs::{spend, spend_all};
+use crate::jobs::spend;
 use crate::states::book::{OwnBook, Scripted};
 use crate::states::turn::turn_one;
 use std::alloc::{AllocError, Global};
 use std::marker::{Model, PhantomData};
 use std::sync::{Arc, Mutex, Wait};
 use swift_executor::{ExecFault, ExecState, Gate};
-use swift_queue::Job;
+use swift_job::{Job, spend_all};
 use swift_script::Script;
 use swift_turn::Body;
 use swift_types::{ExecId, TaskId};
 
 /// The state of an executor of this script in which no job is chosen, with what says of a job whether it is one of the executor.
 /// Where it is dropped, its jobs are spent.
-pub struct Resting<K: Scripted> {
+pub struct OwnResting<K: Scripted> {
     script: Arc<Script>,
     executor: ExecId,
     state: ExecState,
     of: PhantomData<K>,
 }
 
-impl<K: Scripted> Drop for Resting<K> {
+impl<K: Scripted> Drop for OwnResting<K> {
     fn drop(self) {
         let (jobs, _journal, _fields, _checkpoint) = self.into_state().into_parts();
         spend_all(jobs);
     }
 }
 
-impl<K: Scripted> Model for Resting<K> {
+impl<K: Scripted> Model for OwnResting<K> {
     ghost use Rattle.std.specs.Arc.{arc_value};
     ghost use Rattle.std.specs.Prelude.{◌≡◌, None, Some};
 
@@ -55,18 +55,18 @@ pub fn can_run(script: &Script, executor: ExecId, job: &Job<Body>) -> bool
         && script.actor_executor(body.actor()) == executor
 }
 
-impl<K: Scripted> Resting<K> {
+impl<K: Scripted> OwnResting<K> {
     /// An executor that has run no turn, with room for so many jobs.
     pub fn new(
         alloc: Global,
         script: Arc<Script>,
         executor: ExecId,
         room: usize,
-    ) -> Result<Resting<K>, AllocError>
+    ) -> Result<OwnResting<K>, AllocError>
         requires { Some (arc_value script) ≡ K.script }
     {
         let state = ExecState::new(alloc, Arc::clone(&script)?, executor, room)?;
-        Ok(Resting {
+        Ok(OwnResting {
             script,
             executor,
             state,
@@ -109,12 +109,12 @@ impl<K: Scripted> Resting<K> {
         poller: &Poller,
         jobs: &mut Jobs,
         gate: &G,
-    ) -> (Resting<K>, Result<Option<TaskId>, ExecFault>)
+    ) -> (OwnResting<K>, Result<Option<TaskId>, ExecFault>)
     where
         R: Wait,
         G: Gate,
     {
-        let Resting {
+        let OwnResting {
             script,
             executor,
             mut state,
@@ -124,7 +124,7 @@ impl<K: Scripted> Resting<K> {
         let list = &mut jobs.list;
         let ran = turn_one(rt, &mut state, executor, worker, book, &mut cx, list, gate);
         cx.cancel();
-        let resting = Resting {
+        let resting = OwnResting {
             script,
             executor,
             state,
@@ -137,7 +137,7 @@ impl<K: Scripted> Resting<K> {
     pub fn into_state(self) -> ExecState
         ensures { result.chosen ≡ None }
     {
-        let Resting {
+        let OwnResting {
             script: _,
             executor: _,
             state,

@@ -4,7 +4,7 @@ ghost use Rattle.std.specs.Prelude.{◌≡◌, Some};
 ghost use Rattle.std.specs.Arc.{arc_value};
 
 use crate::desks::{Jobs, Leavings, Poller, Setting};
-use crate::executors::call::{Call, Verb};
+use crate::executors::call::{CaseCall, Verb};
 use crate::executors::callee::Callee;
 use crate::executors::end::tell_left;
 use crate::executors::tell::{tell_back, tell_booked, tell_ending, tell_visit};
@@ -121,7 +121,7 @@ impl<K: Scripted> StateStage<K> {
     fn keep<R: Wait + AllocGlobal>(
         &self,
         rt: &R,
-        call: Call,
+        call: CaseCall,
         setting: &Setting,
         out: &mut String,
     ) -> Result<(), CaseFault> {
@@ -134,7 +134,7 @@ impl<K: Scripted> StateStage<K> {
     fn enqueue<R: Wait, G: Gate>(
         &self,
         rt: &R,
-        call: Call,
+        call: CaseCall,
         gate: &G,
         out: &mut String,
     ) -> Result<(), CaseFault> {
@@ -160,7 +160,7 @@ impl<K: Scripted> StateStage<K> {
     }
 
     // A visit of a worker. The jobs that it makes are kept.
-    fn run<R, G>(&self, rt: &R, call: Call, gate: &G, out: &mut String) -> Result<(), CaseFault>
+    fn run<R, G>(&self, rt: &R, call: CaseCall, gate: &G, out: &mut String) -> Result<(), CaseFault>
     where
         R: Wait + RandomSource + AllocGlobal,
         G: Gate,
@@ -183,7 +183,7 @@ impl<K: Scripted> StateStage<K> {
     fn run_unknown<R, G>(
         &self,
         rt: &R,
-        call: Call,
+        call: CaseCall,
         gate: &G,
         out: &mut String,
     ) -> Result<(), CaseFault>
@@ -221,7 +221,7 @@ impl<K: Scripted, R: Wait + RandomSource + AllocGlobal> Callee<R> for StateStage
     fn answer<G: Gate>(
         &self,
         rt: &R,
-        call: Call,
+        call: CaseCall,
         gate: &G,
         out: &mut String,
     ) -> Result<(), CaseFault> {

@@ -8,7 +8,7 @@ use crate::states::book::{OwnBook, Scripted};
 use futures::task::Context;
 use std::sync::{Mutex, Wait};
 use swift_executor::{ExecFault, ExecState, Gate, Moment};
-use swift_queue::Job;
+use swift_job::Job;
 use swift_turn::Body;
 use swift_types::{ExecId, TaskId};
 

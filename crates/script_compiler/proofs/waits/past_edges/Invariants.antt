@@ -1,10 +1,10 @@
 use Rattle.std.proofs.Common.{ℕ, ◌≤◌, ◌<◌, get_or}
-use Rattle.script_waits.specs.declared.first.Edge.{Edge}
+use Rattle.script_waits.specs.declared.first.CallEdge.{CallEdge}
 use Rattle.script_compiler.proofs.waits.past_edges.Given as goal
 
 abbrev pub invariant-loop-edge : goal.invariant-loop-edge
 invariant-loop-edge l = record {
   least : l.least ≤ l.count;
-  from : (k : ℕ) (d : Edge) → k < l.edge-index → (get_or l.edges k d).from < l.count;
-  to : (k : ℕ) (d : Edge) → k < l.edge-index → (get_or l.edges k d).to < l.count;
+  from : (k : ℕ) (d : CallEdge) → k < l.edge-index → (get_or l.edges k d).from < l.count;
+  to : (k : ℕ) (d : CallEdge) → k < l.edge-index → (get_or l.edges k d).to < l.count;
 }

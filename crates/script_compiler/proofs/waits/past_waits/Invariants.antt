@@ -1,9 +1,9 @@
 use Rattle.std.proofs.Common.{ℕ, ◌≤◌, ◌<◌, get_or}
-use Rattle.script_waits.specs.declared.first.Wait.{Wait}
+use Rattle.script_waits.specs.declared.first.RootWait.{RootWait}
 use Rattle.script_compiler.proofs.waits.past_waits.Given as goal
 
 abbrev pub invariant-loop-wait : goal.invariant-loop-wait
 invariant-loop-wait l = record {
   least : l.least ≤ l.count;
-  method : (k : ℕ) (d : Wait) → k < l.wait-index → (get_or l.waits k d).method < l.count;
+  method : (k : ℕ) (d : RootWait) → k < l.wait-index → (get_or l.waits k d).method < l.count;
 }

@@ -5,7 +5,7 @@ use Rattle.script_grammar.specs.Tree.{view, view_head, view_stmt, block_tree}
 use Rattle.script_code.specs.Tree.{term_of}
 use Rattle.script_code.specs.Instructions.{tests}
 use Rattle.script_code.specs.Layout.{meaning_of, written, entry}
-use Rattle.script_names.specs.Scope.{Scope}
+use Rattle.script_names.specs.Scope.{ScopeView}
 use Rattle.script_names.specs.Rules.{scope_after, scope_within}
 use Rattle.script_lowering.specs.Lowered.{lowered, stmt_code, block_code}
 use Rattle.script_lowering.specs.Standing.{scope_through}
@@ -18,7 +18,7 @@ use Rattle.script_lowering.proofs.block.+block.Goals as goal
 pub block-loop-stmt-preserved : goal.block-loop-stmt-preserved
 block-loop-stmt-preserved t c =
     c.in_ok-pass.ensures
-    ∙ ap (λ (s : Scope). scope_after s (view_stmt c.stmt-item.result)) c.loop-stmt.invariant
+    ∙ ap (λ (s : ScopeView). scope_after s (view_stmt c.stmt-item.result)) c.loop-stmt.invariant
     ∙ sym (through_more c.args.scope.now c.args.block.now c.loop-stmt.stmt-index c.stmt-item.result c.loop-stmt-test.true c.stmt-item.is)
 
 pub block-loop-left-preserved : goal.block-loop-left-preserved
@@ -49,9 +49,9 @@ statement-returns-in_ok-test-in-IfElse-clause-lines t c =
     let o = c.write_test-in-IfElse.new.instructions.items in
     let kept : c.block-in-IfElse.new.scope ≡ s = c.in_ok-other-in-IfElse.ensures.scope in
     let kept' : c.block-in-IfElse-2.new.scope ≡ s = c.in_ok-first-in-IfElse.ensures.scope ∙ kept in
-    let said : term ≡ lowered p s (view e) = c.in_ok-test-in-IfElse.ensures ∙ ap (λ (y : Scope). lowered p y (view e)) kept' in
+    let said : term ≡ lowered p s (view e) = c.in_ok-test-in-IfElse.ensures ∙ ap (λ (y : ScopeView). lowered p y (view e)) kept' in
     let below : IsWritten (code_in p s failed) l m c.args.next other = record { lines = c.in_ok-other-in-IfElse.ensures.lines; start = c.in_ok-other-in-IfElse.ensures.start } in
-    let above : IsWritten (code_in p s held) m n c.args.next first = subst (λ (y : Scope). IsWritten (code_in p y held) m n c.args.next first) kept (record { lines = c.in_ok-first-in-IfElse.ensures.lines; start = c.in_ok-first-in-IfElse.ensures.start }) in
+    let above : IsWritten (code_in p s held) m n c.args.next first = subst (λ (y : ScopeView). IsWritten (code_in p y held) m n c.args.next first) kept (record { lines = c.in_ok-first-in-IfElse.ensures.lines; start = c.in_ok-first-in-IfElse.ensures.start }) in
     (answered c.write_test-in-IfElse.result (λ at. tests term (at first) (at other)) (stmt_code p s (view_stmt c.args.stmt.now)) l n o c.args.next c.write_test-in-IfElse.ensures.lines c.write_test-in-IfElse.ensures.number
     (λ x line at. else_written p s c.args.stmt.now e c.in-IfElse.held c.in-IfElse.failed held failed term l m n o c.args.next first other x
     c.in-IfElse.is c.deref-in-IfElse-2.ensures.value c.deref-in-IfElse.ensures.value said below above line at)).0
@@ -72,9 +72,9 @@ statement-returns-in_ok-test-in-IfElse-clause-start t c =
     let o = c.write_test-in-IfElse.new.instructions.items in
     let kept : c.block-in-IfElse.new.scope ≡ s = c.in_ok-other-in-IfElse.ensures.scope in
     let kept' : c.block-in-IfElse-2.new.scope ≡ s = c.in_ok-first-in-IfElse.ensures.scope ∙ kept in
-    let said : term ≡ lowered p s (view e) = c.in_ok-test-in-IfElse.ensures ∙ ap (λ (y : Scope). lowered p y (view e)) kept' in
+    let said : term ≡ lowered p s (view e) = c.in_ok-test-in-IfElse.ensures ∙ ap (λ (y : ScopeView). lowered p y (view e)) kept' in
     let below : IsWritten (code_in p s failed) l m c.args.next other = record { lines = c.in_ok-other-in-IfElse.ensures.lines; start = c.in_ok-other-in-IfElse.ensures.start } in
-    let above : IsWritten (code_in p s held) m n c.args.next first = subst (λ (y : Scope). IsWritten (code_in p y held) m n c.args.next first) kept (record { lines = c.in_ok-first-in-IfElse.ensures.lines; start = c.in_ok-first-in-IfElse.ensures.start }) in
+    let above : IsWritten (code_in p s held) m n c.args.next first = subst (λ (y : ScopeView). IsWritten (code_in p y held) m n c.args.next first) kept (record { lines = c.in_ok-first-in-IfElse.ensures.lines; start = c.in_ok-first-in-IfElse.ensures.start }) in
     (answered c.write_test-in-IfElse.result (λ at. tests term (at first) (at other)) (stmt_code p s (view_stmt c.args.stmt.now)) l n o c.args.next c.write_test-in-IfElse.ensures.lines c.write_test-in-IfElse.ensures.number
     (λ x line at. else_written p s c.args.stmt.now e c.in-IfElse.held c.in-IfElse.failed held failed term l m n o c.args.next first other x
     c.in-IfElse.is c.deref-in-IfElse-2.ensures.value c.deref-in-IfElse.ensures.value said below above line at)).1
@@ -86,7 +86,7 @@ statement-returns-in_ok-test-in-While-clause-lines t c =
     let e = c.in-While.test in
     let body = c.deref.result.now in
     let term = term_of c.in_ok-test-in-While.test in
-    let said : term ≡ lowered p s (view e) = c.in_ok-test-in-While.ensures ∙ ap (λ (y : Scope). lowered p y (view e)) c.in_ok-first-in-While.ensures.scope in
+    let said : term ≡ lowered p s (view e) = c.in_ok-test-in-While.ensures ∙ ap (λ (y : ScopeView). lowered p y (view e)) c.in_ok-first-in-While.ensures.scope in
     (while_written p s c.args.stmt.now c.in-Block.head c.in-Block.body body e term _ c.args.instructions.now.items c.write.new.instructions.items c.block.new.instructions.items c.link.new.instructions.items
     c.args.next c.in_ok-first-in-While.first c.in_ok-here-in-While.here
     c.in-Block.is c.in-While.is c.deref.ensures.value said c.in_ok-here-in-While.ensures.lines c.in_ok-here-in-While.ensures.number
@@ -110,8 +110,8 @@ statement-returns-in_ok-act-in_default t c =
     let back : c.leave.new.self ≡ s =
     c.leave.ensures ∙ left_is s c.block-in_default.new.scope h c.outside-outside.result c.outside-outside.ensures.as_many c.outside-outside.ensures.value (c.in_ok-first-in_default.ensures.scope ∙ inside) in
     let run : is_isolated p s h ≡ false = sym c.in_ok-is_isolated-in_default.ensures ∙ c.if-branch.false in
-    let heads : HeadsAs act p s h = subst (λ (y : Scope). HeadsAs act p y h) back c.in_ok-act-in_default.ensures in
-    let inner : IsWritten (code_in p (scope_within s h) body) m n last first = subst (λ (y : Scope). IsWritten (code_in p y body) m n last first) inside (record { lines = c.in_ok-first-in_default.ensures.lines; start = c.in_ok-first-in_default.ensures.start }) in
+    let heads : HeadsAs act p s h = subst (λ (y : ScopeView). HeadsAs act p y h) back c.in_ok-act-in_default.ensures in
+    let inner : IsWritten (code_in p (scope_within s h) body) m n last first = subst (λ (y : ScopeView). IsWritten (code_in p y body) m n last first) inside (record { lines = c.in_ok-first-in_default.ensures.lines; start = c.in_ok-first-in_default.ensures.start }) in
     let w = answered c.write_test.result _ (stmt_code p s (view_stmt c.args.stmt.now)) l n o q c.write_test.ensures.lines c.write_test.ensures.number
     (λ x line at. block_written p s c.args.stmt.now c.in-Block.head c.in-Block.body body act l m n o q last first x
     c.in-Block.is c.deref-in_default.ensures.value (not_loop c.in-Block.head c.in_default.not-While) run

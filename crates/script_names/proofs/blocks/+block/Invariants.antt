@@ -2,11 +2,11 @@ use Rattle.std.proofs.Common.{◌≡◌, drop, take, length, map}
 use Rattle.script_grammar.specs.Tree.{view_stmt, block_tree}
 use Rattle.script_names.specs.Rules.{block_error, past_block}
 use Rattle.script_names.specs.declared.scope.Outside.{Outside}
-use Rattle.script_names.specs.Scope.{Scope}
+use Rattle.script_names.specs.Scope.{ScopeView}
 use Rattle.script_names.proofs.blocks.+block.Given as goal
 
 -- what stands after a block, where this stands outside
-abbrev left : Outside → Scope → Scope
+abbrev left : Outside → ScopeView → ScopeView
 left o s = record s { actor = o.actor; names = take o.names s.names; kinds = take o.names s.kinds; bound = o.bound }
 
 abbrev pub invariant-block-loop-stmt : goal.invariant-block-loop-stmt

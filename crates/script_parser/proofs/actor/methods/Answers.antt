@@ -27,4 +27,4 @@ loop-preserved c =
 
 pub returns : goal.returns
 returns c =
-    refused_fails c.refused.result (at EndsEarly (map piece c.loop.rest.now)) _ c.refused.ensures (runs_out brace_at (method_at NESTING) (map view_method c.loop.items.items) (length c.args.tokens.now + 1) c.loop.counter (map piece c.loop.rest.now) _ c.loop-test.false c.loop.invariant)
+    refused_fails c.refusal.result (at EndsEarly (map piece c.loop.rest.now)) _ c.refusal.ensures (runs_out brace_at (method_at NESTING) (map view_method c.loop.items.items) (length c.args.tokens.now + 1) c.loop.counter (map piece c.loop.rest.now) _ c.loop-test.false c.loop.invariant)

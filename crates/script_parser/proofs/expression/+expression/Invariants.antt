@@ -15,10 +15,10 @@ abbrev pub decreases-level : goal.decreases-level
 decreases-level l = l.opens * 4000 + (NESTING + 1) + l.loosest * 40
 
 abbrev pub decreases-operands : goal.decreases-operands
-decreases-operands l = l.opens * 4000 + (NESTING + 2) + (l.tightness - 1) * 40
+decreases-operands l = l.opens * 4000 + (NESTING + 2) + (l.precedence - 1) * 40
 
 abbrev pub invariant-operands-loop : goal.invariant-operands-loop
-invariant-operands-loop l = operands_at NESTING (level_at l.atoms NESTING (inside_at l.atoms NESTING l.opens) (l.tightness - 1)) l.tightness (l.most - l.counter) (view l.left.expr) (map piece l.rest) ≡ operands_at NESTING (level_at l.atoms NESTING (inside_at l.atoms NESTING l.opens) (l.tightness - 1)) l.tightness l.most (view l.fn.first.expr) (map piece l.tokens)
+invariant-operands-loop l = operands_at NESTING (level_at l.atoms NESTING (inside_at l.atoms NESTING l.opens) (l.precedence - 1)) l.precedence (l.most - l.counter) (view l.left.expr) (map piece l.rest) ≡ operands_at NESTING (level_at l.atoms NESTING (inside_at l.atoms NESTING l.opens) (l.precedence - 1)) l.precedence l.most (view l.fn.first.expr) (map piece l.tokens)
 
 abbrev pub invariant-level-loop-tighter : goal.invariant-level-loop-tighter
 invariant-level-loop-tighter l = level_at l.atoms NESTING (inside_at l.atoms NESTING l.opens) l.tighter (map piece l.tokens) ≡ Ok (view l.left.expr, map piece l.rest)

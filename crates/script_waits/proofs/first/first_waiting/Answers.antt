@@ -5,9 +5,9 @@ use Rattle.std.proofs.lemmas.List.Elements.{All-contains}
 use Rattle.script_waits.specs.Lists.{Has, AreListsOf}
 use Rattle.script_waits.specs.Marks.{count_of}
 use Rattle.script_waits.specs.First.{Calls, WaitsInPlace, AreMarks, IsFirstFrom}
-use Rattle.script_waits.specs.declared.first.Edge.{Edge}
-use Rattle.script_waits.specs.declared.first.Wait.{Wait}
-use Rattle.script_waits.specs.declared.lists.Lists.{Lists}
+use Rattle.script_waits.specs.declared.first.CallEdge.{CallEdge}
+use Rattle.script_waits.specs.declared.first.RootWait.{RootWait}
+use Rattle.script_waits.specs.declared.lists.MethodLists.{MethodLists}
 use Rattle.script_waits.specs.declared.marks.Marks.{Marks}
 use Rattle.script_waits.proofs.Search.{marks_begin, marks_go_on, marks_closed, first_begins, first_found}
 use Rattle.script_waits.proofs.Search.{first_stays, first_waits, first_is_first, none_is_none}
@@ -15,16 +15,16 @@ use Rattle.script_waits.proofs.first.first_waiting.Goals as goal
 use Rattle.script_waits.proofs.first.first_waiting.Goals.{In_ok-reach-2}
 
 -- only methods lead to a method, and only methods wait for a root
-callers_within : (edges : List Edge) (methods : ℕ) (callers : Lists) (s : Marks) → AreListsOf (Calls edges) methods callers
+callers_within : (edges : List CallEdge) (methods : ℕ) (callers : MethodLists) (s : Marks) → AreListsOf (Calls edges) methods callers
     → All (λ e. e.from < methods) edges → count_of s ≡ methods → (k m : ℕ) → Has callers k m → m < count_of s
 callers_within edges methods callers s are all same k m h =
-    let below : m < methods = All-contains (λ (e : Edge). e.from < methods) edges _ all (are.only k m h) in omega (arith, below, same)
+    let below : m < methods = All-contains (λ (e : CallEdge). e.from < methods) edges _ all (are.only k m h) in omega (arith, below, same)
 
-waiting_within : (waits : List Wait) (methods roots count : ℕ) (waiting : Lists) (s : Marks)
+waiting_within : (waits : List RootWait) (methods roots count : ℕ) (waiting : MethodLists) (s : Marks)
     → AreListsOf (WaitsInPlace waits roots) count waiting → All (λ w. w.method < methods) waits → count_of s ≡ methods
     → (k m : ℕ) → Has waiting k m → m < count_of s
 waiting_within waits methods roots count waiting s are all same k m h =
-    let below : m < methods = All-contains (λ (w : Wait). w.method < methods) waits _ all (are.only k m h).wait in
+    let below : m < methods = All-contains (λ (w : RootWait). w.method < methods) waits _ all (are.only k m h).wait in
     omega (arith, below, same)
 
 pub reach-requires-clause-orderly : goal.reach-requires-clause-orderly

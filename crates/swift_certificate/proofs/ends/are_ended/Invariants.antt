@@ -2,12 +2,12 @@ use Rattle.std.proofs.Common.{◌≡◌, ◌<◌, ℕ, ℤ, List, Some}
 use Rattle.std.specs.Prelude.{slice_get}
 use Rattle.swift_journal.specs.Records.{RecordView}
 use Rattle.swift_journal.specs.Checkpoints.{CheckpointView}
-use Rattle.swift_certificate.specs.declared.playing.Place.{Place}
+use Rattle.swift_certificate.specs.declared.playing.ExecutorProgress.{ExecutorProgress}
 use Rattle.swift_certificate.specs.Reports.{report_view}
 use Rattle.swift_certificate.specs.ReplayInside.{EndsAt}
 use Rattle.swift_certificate.proofs.ends.are_ended.Given as goal
 
 abbrev pub invariant-loop-place : goal.invariant-loop-place
-invariant-loop-place l = (e : ℕ) (row : Place) (journal : List RecordView) (checkpoint : CheckpointView) (fields : List (List ℤ)) → e < l.place
+invariant-loop-place l = (e : ℕ) (row : ExecutorProgress) (journal : List RecordView) (checkpoint : CheckpointView) (fields : List (List ℤ)) → e < l.place
     → slice_get l.rows e ≡ Some row → slice_get (report_view l.report).journals e ≡ Some journal → slice_get (report_view l.report).checkpoints e ≡ Some checkpoint → slice_get (report_view l.report).fields e ≡ Some fields
     → EndsAt l.turns l.script e row journal checkpoint fields

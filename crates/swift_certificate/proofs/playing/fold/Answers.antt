@@ -1,8 +1,7 @@
 use Rattle.std.proofs.Common.{rules, ◌≡◌, ◌∙◌, ◌<◌, Some, ap, length, refl, arith}
-use Rattle.swift_interpreter.specs.Frames.{effect_views, frame_view}
+use Rattle.swift_interpreter.specs.Frames.{effect_views, frame_view, frame_if}
 use Rattle.swift_interpreter.specs.TurnStates.{exit_view}
 use Rattle.swift_journal.specs.Checkpoints.{FoldedView, folded_view}
-use Rattle.swift_journal.specs.Records.{frame_if}
 use Rattle.swift_certificate.proofs.Played.{found_folded, folds, map_answer, same_turn}
 use Rattle.swift_certificate.proofs.playing.fold.Goals as goal
 
@@ -13,5 +12,5 @@ returns c =
     let task : turn.task.0 ≡ c.args.task.0 = search rules in
     let number : turn.number ≡ c.args.ready.number = omega (arith, c.if-number-ready.false) in
     let there = found_folded c.args.checkpoint.now.view.folded c.args.row.now.folded (folded_view turn) lt c.in_ok-of.ensures ∙ ap (λ (x : FoldedView). Some x) (same_turn (folded_view turn) c.args.task c.args.ready.number task number) in
-    map_answer c.taken.result _ _ (λ done taken. folds c.args.checkpoint.now.view c.args.row.now _ c.args.task c.args.ready (frame_view c.top.result.now) (effect_views turn.effects.items) (exit_view turn.exit) (frame_if turn.after) done
-    taken c.top.ensures (search rules) there refl refl refl) c.taken.ensures
+    map_answer c.go_on.result _ _ (λ done taken. folds c.args.checkpoint.now.view c.args.row.now _ c.args.task c.args.ready (frame_view c.top.result.now) (effect_views turn.effects.items) (exit_view turn.exit) (frame_if turn.after) done
+    taken c.top.ensures (search rules) there refl refl refl) c.go_on.ensures

@@ -1,17 +1,18 @@
 use Rattle.std.proofs.Common.{◌≡◌, ℕ, Option, map, reverse, vec_len}
 use Rattle.swift_history.specs.Histories.{with_jobs}
-use Rattle.swift_history.specs.TurnEnds.{JobView}
+use Rattle.swift_history.specs.TurnEnds.{JobFacts}
 use Rattle.std.specs.List.{AllByRecursion}
 use Rattle.swift_script.specs.Scripts.{ScriptView}
-use Rattle.swift_tasks.specs.Books.{IsJobOf, job_view}
+use Rattle.swift_tasks.specs.Books.{IsJobOf}
+use Rattle.swift_history.specs.Jobs.{job_facts}
 use Rattle.swift_certificate.specs.ReplayInside.{AreGiven, AreOf}
 use Rattle.swift_certificate.proofs.waiting.put_all.Given as goal
 
 -- what is there is what the jobs that were put lead to, and the others lead on to the end; all are of one script
 abbrev pub invariant-loop-job : goal.invariant-loop-job
 invariant-loop-job l = record {
-  given : (seen : ℕ → Option JobView) → AreGiven seen l.fn.tasks.items →
-      (now : ℕ → Option JobView) × AreGiven now l.tasks.items × (with_jobs (map job_view (reverse l.jobs.items)) now ≡ with_jobs (map job_view l.fn.jobs.items) seen);
+  given : (seen : ℕ → Option JobFacts) → AreGiven seen l.fn.tasks.items →
+      (now : ℕ → Option JobFacts) × AreGiven now l.tasks.items × (with_jobs (map job_facts (reverse l.jobs.items)) now ≡ with_jobs (map job_facts l.fn.jobs.items) seen);
   scripts : (script : ScriptView) → AllByRecursion (IsJobOf script) l.fn.jobs.items → AreOf script l.fn.tasks.items → AllByRecursion (IsJobOf script) l.jobs.items × AreOf script l.tasks.items;
 }
 

@@ -1,6 +1,6 @@
 use Rattle.std.proofs.Common.{◌≡◌, ◌∙◌, ◌<◌, Option, None, length, set, ap, arith}
 use Rattle.std.proofs.lemmas.List.{get_or_read_under}
-use Rattle.swift_certificate.specs.declared.waiting.Ready.{Ready}
+use Rattle.swift_certificate.specs.declared.waiting.NextTurn.{NextTurn}
 use Rattle.swift_certificate.specs.ReplayInside.{given_at}
 use Rattle.swift_certificate.proofs.Given.{given_set}
 use Rattle.swift_certificate.proofs.waiting.take.Goals as goal
@@ -9,7 +9,7 @@ pub returns-clause-rest : goal.returns-clause-rest
 returns-clause-rest c = λ u.
     (let tasks = c.args.tasks.now.items in
     let lt : c.args.task.0 < length tasks = omega (arith, c.if-place-len.false, c.len.ensures) in
-    ap (λ (g : Option Ready). given_at (set tasks c.args.task.0 g) u) c.replace.ensures.after ∙ given_set tasks c.args.task.0 None u lt)
+    ap (λ (g : Option NextTurn). given_at (set tasks c.args.task.0 g) u) c.replace.ensures.after ∙ given_set tasks c.args.task.0 None u lt)
 
 pub returns-clause-found : goal.returns-clause-found
 returns-clause-found c =

@@ -1,7 +1,7 @@
 use Rattle.std.proofs.Common.{◌≡◌, ◌<◌, true, false, true≢false, List, [], ◌∷◌, ◌++◌, append-nil, length, map, refl, sym, subst, arith}
 use Rattle.std.proofs.lemmas.List.Sorted.{IsPermutation-map, IsPermutation-pop_more, IsPermutation-refl}
 use Rattle.std.specs.List.Sorted.{IsPermutation}
-use Rattle.swift_queue.specs.Job.{JobIs}
+use Rattle.swift_job.specs.Job.{JobView}
 use Rattle.swift_queue.specs.Queue.{waiting}
 use Rattle.swift_queue.specs.declared.waiting.Waiting.{Waiting}
 use Rattle.swift_executor.proofs.ready.empty_into.Goals as goal
@@ -13,7 +13,7 @@ none_waits (x ∷ xs) never = absurd (true≢false (sym (never (omega arith))))
 
 pub empty-preserved : goal.empty-preserved
 empty-preserved g c =
-    let f : Waiting g.row.B.Denot → JobIs g.row.B.Denot = λ w. w.job in
+    let f : Waiting g.row.B.Denot → JobView g.row.B.Denot = λ w. w.job in
     let all = c.args.jobs.items ++ map f c.args.queue.jobs in
     let takes = c.in-Some.ensures.first in
     let w = waiting c.in-Some.job takes.priority c.in-Some.field-0-1 in
@@ -23,7 +23,7 @@ empty-preserved g c =
     let len = c.push_reserved.ensures.len in
     let cap = c.push_reserved.ensures.capacity in
     let few = c.empty.invariant.1 in (
-      subst (λ (js : List (JobIs g.row.B.Denot)). IsPermutation all (js ++ rest)) (sym c.push_reserved.ensures.items)
+      subst (λ (js : List (JobView g.row.B.Denot)). IsPermutation all (js ++ rest)) (sym c.push_reserved.ensures.items)
           (IsPermutation-pop_more all c.empty.jobs.items (map f c.empty.queue.jobs) rest c.in-Some.job c.empty.invariant.0 moved),
       omega (arith, more, len, cap, few),
     )
@@ -33,7 +33,7 @@ empty-init g c = (IsPermutation-refl _, c.requires)
 
 pub returns : goal.returns
 returns g c =
-    let f : Waiting g.row.B.Denot → JobIs g.row.B.Denot = λ w. w.job in
+    let f : Waiting g.row.B.Denot → JobView g.row.B.Denot = λ w. w.job in
     let all = c.args.jobs.items ++ map f c.args.queue.jobs in
     let none : c.empty.queue.jobs ≡ [] = none_waits c.empty.queue.jobs c.in_default.ensures.some.1 in
     let kept : IsPermutation all (c.empty.jobs.items ++ []) =

@@ -1,17 +1,17 @@
 use Rattle.std.proofs.Common.{◌≡◌, ℕ, Some, None, List, length, refl, sym, ap, ◌∙◌}
 use Rattle.std.proofs.lemmas.Option.{slice_get_past, slice_get_read}
 use Rattle.std.specs.Prelude.{slice_get}
-use Rattle.script_code.specs.Instructions.{NextAction, Follows, first, first_by, first_if}
+use Rattle.script_code.specs.Instructions.{NextAction, FollowsCode, first, first_by, first_if}
 use Rattle.script_code.specs.Tree.{Code}
 use Rattle.script_code.specs.declared.instruction.Act.{Act}
 use Rattle.script_code.specs.declared.instruction.Instruction.{Instruction}
-use Rattle.swift_interpreter.specs.Turn.{State, at_limit, end_of}
+use Rattle.swift_interpreter.specs.Turn.{TurnStateView, at_limit, end_of}
 use Rattle.swift_interpreter.specs.TurnStates.{state_of}
 use Rattle.swift_interpreter.proofs.play.end_of_steps.Goals as goal
 
 -- what stands there at the limit
-at_end : (ins : List Instruction) (body : Code) (at : ℕ → Code) → Follows ins body at
-    → (k : ℕ) (line : Instruction) (a : Act) (s : State) → slice_get ins k ≡ Some line → line.act ≡ a
+at_end : (ins : List Instruction) (body : Code) (at : ℕ → Code) → FollowsCode ins body at
+    → (k : ℕ) (line : Instruction) (a : Act) (s : TurnStateView) → slice_get ins k ≡ Some line → line.act ≡ a
     → end_of (at_limit (first_by at a line.next line.other) s) ≡ end_of (at_limit (first (at k)) s)
 at_end ins body at follows k line a s there is =
     ap (λ (n : NextAction). end_of (at_limit n s))
@@ -19,7 +19,7 @@ at_end ins body at follows k line a s there is =
 
 pub returns-in_default-clause-end : goal.returns-in_default-clause-end
 returns-in_default-clause-end c = λ code at follows.
-    let k = c.args.turn.now.frame.line in
+    let k = c.args.turn.now.frame.instruction in
     let none : slice_get c.args.instructions.now k ≡ None =
     slice_get_past c.args.instructions.now k c.in_default.ensures.lookup.3 in
     ap (λ (n : NextAction). end_of (at_limit n (state_of at c.args.turn.now)))
@@ -28,7 +28,7 @@ returns-in_default-clause-end c = λ code at follows.
 pub returns-in-End-clause-end : goal.returns-in-End-clause-end
 returns-in-End-clause-end c = λ code at follows.
     let ins = c.args.instructions.now in
-    let k = c.args.turn.now.frame.line in
+    let k = c.args.turn.now.frame.instruction in
     let line = c.in-Some.instruction.now in
     let there = slice_get_read ins (length ins) k line refl c.in-Some.ensures.lookup.3.0 c.in-Some.ensures.lookup.1 in
     at_end ins code at follows k line _ (state_of at c.args.turn.now) there c.in-End.is
@@ -36,7 +36,7 @@ returns-in-End-clause-end c = λ code at follows.
 pub returns-in-Some-close-clause-end : goal.returns-in-Some-close-clause-end
 returns-in-Some-close-clause-end c = λ code at follows.
     let ins = c.args.instructions.now in
-    let k = c.args.turn.now.frame.line in
+    let k = c.args.turn.now.frame.instruction in
     let line = c.in-Some.instruction.now in
     let there = slice_get_read ins (length ins) k line refl c.in-Some.ensures.lookup.3.0 c.in-Some.ensures.lookup.1 in
     ap end_of (c.in-Some-close.ensures.next at)
@@ -45,7 +45,7 @@ returns-in-Some-close-clause-end c = λ code at follows.
 pub returns-in-None-clause-end : goal.returns-in-None-clause-end
 returns-in-None-clause-end c = λ code at follows.
     let ins = c.args.instructions.now in
-    let k = c.args.turn.now.frame.line in
+    let k = c.args.turn.now.frame.instruction in
     let line = c.in-Some.instruction.now in
     let there = slice_get_read ins (length ins) k line refl c.in-Some.ensures.lookup.3.0 c.in-Some.ensures.lookup.1 in
     ap end_of (c.in-None.ensures.next at)

@@ -1,5 +1,5 @@
 use Rattle.std.proofs.Common.{◌≡◌, ℕ, ◌-◌}
-use Rattle.script_code.specs.Instructions.{Follows}
+use Rattle.script_code.specs.Instructions.{FollowsCode}
 use Rattle.script_code.specs.Tree.{Code}
 use Rattle.swift_interpreter.specs.TurnStates.{fields_before, lent, state_of}
 use Rattle.swift_interpreter.specs.Turn.{turn}
@@ -7,7 +7,7 @@ use Rattle.swift_interpreter.proofs.play.play.Given as goal
 
 abbrev pub invariant-loop-used : goal.invariant-loop-used
 invariant-loop-used l = record {
-  same : (code : Code) (at : ℕ → Code) → Follows l.instructions code at → turn (lent l.outer l.env) (l.limit - l.used) (state_of at l.turn) ≡ turn (lent l.outer l.env) l.limit (state_of at l.fn.turn);
+  same : (code : Code) (at : ℕ → Code) → FollowsCode l.instructions code at → turn (lent l.outer l.env) (l.limit - l.used) (state_of at l.turn) ≡ turn (lent l.outer l.env) l.limit (state_of at l.fn.turn);
   back : fields_before l.saved l.turn ≡ fields_before l.fn.saved l.fn.turn;
   method : l.turn.frame.method ≡ l.fn.turn.frame.method;
 }

@@ -5,18 +5,18 @@ use Rattle.swift_types.specs.declared.outcome.Fault.TheVariants.{Turns}
 use Rattle.script_code.specs.Tree.{Term, term_of, term_if}
 use Rattle.script_code.specs.Value.{ev}
 use Rattle.script_code.specs.declared.formula.Formula.{Formula}
-use Rattle.swift_interpreter.specs.Turn.{State, Given, Next, caught, failing, given, leaves, scene, with_value}
+use Rattle.swift_interpreter.specs.Turn.{TurnStateView, TurnInputView, AfterStatement, caught, failing, given, leaves, scene, with_value}
 use Rattle.swift_interpreter.specs.TurnStates.{lent, state_of}
 use Rattle.swift_interpreter.proofs.Arguments.{seen}
 use Rattle.swift_interpreter.proofs.resume.catch.Goals as goal
 
 -- without `else` each fault is a fault
-caught_none : (g : Given) (f : Fault) (s : State) (go : ℤ → Next) → leaves s (failing f) ≡ caught g f None s go
+caught_none : (g : TurnInputView) (f : Fault) (s : TurnStateView) (go : ℤ → AfterStatement) → leaves s (failing f) ≡ caught g f None s go
 caught_none g Turns s go = refl
 caught_none g f s go = refl
 
 -- `else` gives a value in the place of every fault but `turns`
-caught_some : (g : Given) (f : Fault) (t : Term) (s : State) (go : ℤ → Next) → (f ≡ Turns → ⊥)
+caught_some : (g : TurnInputView) (f : Fault) (t : Term) (s : TurnStateView) (go : ℤ → AfterStatement) → (f ≡ Turns → ⊥)
     → with_value (ev t (scene g s)) s go ≡ caught g f (Some t) s go
 caught_some g Turns t s go other = absurd (other refl)
 caught_some g f t s go other = refl

@@ -14,14 +14,14 @@ pub returns-in-Some-clause-next : goal.returns-in-Some-clause-next
 returns-in-Some-clause-next c = λ code at follows.
     let g = lent c.args.outer.now c.args.env.now in
     let turn = c.args.turn.now in
-    ap (λ (p : Option Fault). taken g p (first (at turn.frame.line)) c.args.resume (state_of at turn)) (sym c.in-Some.is)
+    ap (λ (p : Option Fault). taken g p (first (at turn.frame.instruction)) c.args.resume (state_of at turn)) (sym c.in-Some.is)
 
 pub returns-clause-next : goal.returns-clause-next
 returns-clause-next c =
     let g = lent c.args.outer.now c.args.env.now in
     let ins = c.args.instructions.now in
     let turn = c.args.turn.now in
-    let k = turn.frame.line in
+    let k = turn.frame.instruction in
     let resume = c.args.resume in
     let line = c.in-Some-Receive.field-0.now in
     let act : line.act ≡ Receive c.in-Some-Receive.place c.in-Some-Receive.other = search rules in

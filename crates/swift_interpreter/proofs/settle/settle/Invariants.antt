@@ -1,5 +1,5 @@
 use Rattle.std.proofs.Common.{◌≡◌, ℕ, ◌+◌}
-use Rattle.script_code.specs.Instructions.{Follows}
+use Rattle.script_code.specs.Instructions.{FollowsCode}
 use Rattle.script_code.specs.Tree.{Code}
 use Rattle.swift_interpreter.specs.Turn.{settled}
 use Rattle.swift_interpreter.specs.TurnStates.{state_of}
@@ -8,8 +8,8 @@ use Rattle.swift_interpreter.proofs.settle.settle.Given as goal
 
 abbrev pub invariant-loop-ended : goal.invariant-loop-ended
 invariant-loop-ended l = record {
-  same : (body : Code) (at : ℕ → Code) → Follows l.instructions body at → settled (at l.turn.frame.line) (state_of at l.turn) ≡ settled (at l.fn.turn.frame.line) (state_of at l.fn.turn);
-  ends : (body : Code) (at : ℕ → Code) → Follows l.instructions body at → ends_ahead (at l.turn.frame.line) + l.ended ≡ ends_ahead (at l.fn.turn.frame.line);
+  same : (body : Code) (at : ℕ → Code) → FollowsCode l.instructions body at → settled (at l.turn.frame.instruction) (state_of at l.turn) ≡ settled (at l.fn.turn.frame.instruction) (state_of at l.fn.turn);
+  ends : (body : Code) (at : ℕ → Code) → FollowsCode l.instructions body at → ends_ahead (at l.turn.frame.instruction) + l.ended ≡ ends_ahead (at l.fn.turn.frame.instruction);
   fields : l.turn.fields.items ≡ l.fn.turn.fields.items;
   method : l.turn.frame.method ≡ l.fn.turn.frame.method;
 }

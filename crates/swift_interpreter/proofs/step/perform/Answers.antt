@@ -8,17 +8,17 @@ use Rattle.script_code.specs.Tree.{Code, term_of}
 use Rattle.script_code.specs.Value.{is_zero}
 use Rattle.script_code.specs.declared.instruction.Act.{Act}
 use Rattle.script_code.specs.declared.instruction.Instruction.{Instruction}
-use Rattle.script_code.specs.declared.instruction.Place.TheVariants.{Variable, Field}
+use Rattle.script_code.specs.declared.instruction.NumberPlace.TheVariants.{Variable, Field}
 use Rattle.swift_types.specs.declared.outcome.Fault.TheVariants.{Thrown}
 use Rattle.swift_interpreter.specs.Saved.{restored}
-use Rattle.swift_interpreter.specs.Turn.{State, Given, act, failing, given, goes, leaves, returning, with_value}
+use Rattle.swift_interpreter.specs.Turn.{TurnStateView, TurnInputView, act, failing, given, goes, leaves, returning, with_value}
 use Rattle.swift_interpreter.specs.TurnStates.{fields_before, lent, state_of}
 use Rattle.swift_interpreter.specs.declared.turn_state.TurnState.{TurnState}
 use Rattle.swift_interpreter.proofs.Arguments.{seen}
 use Rattle.swift_interpreter.proofs.step.perform.Goals as goal
 
 -- what stands there is done
-done : (g : Given) (at : ℕ → Code) (line : Instruction) (a : Act) (s : State) → line.act ≡ a
+done : (g : TurnInputView) (at : ℕ → Code) (line : Instruction) (a : Act) (s : TurnStateView) → line.act ≡ a
     → act g (first_by at a line.next line.other) s ≡ act g (first_by at line.act line.next line.other) s
 done g at line a s is = ap (λ (b : Act). act g (first_by at b line.next line.other) s) (sym is)
 
@@ -68,7 +68,7 @@ returns-in-Return-clause-next c =
     let turn = c.args.turn.now in
     let value = seen (term_of c.in-Return.e) _ turn c.args.outer.now c.args.env.now _ _ _
     c.deref.ensures.value c.deref-2.ensures.value c.deref-3.ensures.value c.value-in-Return.ensures in
-    λ at. c.returned.ensures (state_of at turn)
+    λ at. c.return_value.ensures (state_of at turn)
     ∙ ap (λ (o : Option ℤ). with_value o (state_of at turn) (λ x. leaves (state_of at turn) (returning x))) (value at)
     ∙ done g at line _ (state_of at turn) c.in-Return.is
 

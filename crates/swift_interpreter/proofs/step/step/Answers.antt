@@ -12,7 +12,7 @@ returns-clause-next c =
     let g = lent c.args.outer.now c.args.env.now in
     let ins = c.args.instructions.now in
     let turn = c.args.turn.now in
-    let k = turn.frame.line in
+    let k = turn.frame.instruction in
     let line = c.in-Some.instruction.now in
     let there : slice_get ins k ≡ Some line =
     slice_get_read ins (length ins) k line refl c.in-Some.ensures.lookup.3.0 c.in-Some.ensures.lookup.1 in

@@ -1,16 +1,16 @@
 use Rattle.std.proofs.Common.{◌∙◌, ap}
 use Rattle.std.proofs.lemmas.Result.{IfOk-weaker}
-use Rattle.swift_interpreter.specs.Turn.{Next, on, turn}
+use Rattle.swift_interpreter.specs.Turn.{AfterStatement, on, turn}
 use Rattle.swift_interpreter.specs.TurnStates.{given_of}
 use Rattle.swift_interpreter.proofs.whole.play_whole.Goals as goal
 
 pub returns-in-Some-clause-played : goal.returns-in-Some-clause-played
 returns-in-Some-clause-played c =
     let out = rw c.in-Some.is at c.in_ok-exit.ensures.next in
-    λ code at follows. ap (λ (x : Next). on x (turn (given_of c.args.given) c.args.limit)) (out code at follows)
+    λ code at follows. ap (λ (x : AfterStatement). on x (turn (given_of c.args.given) c.args.limit)) (out code at follows)
 
 pub returns-clause-played : goal.returns-clause-played
 returns-clause-played c =
     let further = rw c.in_default.is at c.in_ok-exit.ensures.next in
     IfOk-weaker c.play.result _ _ (λ exit h. λ code at follows.
-    h code at follows ∙ ap (λ (x : Next). on x (turn (given_of c.args.given) c.args.limit)) (further code at follows)) c.play.ensures.played
+    h code at follows ∙ ap (λ (x : AfterStatement). on x (turn (given_of c.args.given) c.args.limit)) (further code at follows)) c.play.ensures.played

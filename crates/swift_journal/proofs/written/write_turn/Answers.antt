@@ -7,7 +7,7 @@ use Rattle.swift_journal.specs.JournalInside.{span_of}
 use Rattle.swift_journal.specs.Records.{frame_if_lent}
 use Rattle.swift_journal.specs.TailInside.{since}
 use Rattle.swift_journal.specs.Words.{pair_words}
-use Rattle.swift_journal.specs.declared.stored.Head.{Head}
+use Rattle.swift_journal.specs.declared.stored.TurnHead.{TurnHead}
 use Rattle.swift_journal.proofs.EndsReadBack.{resume_reads_back_by, exit_reads_back_by}
 use Rattle.swift_journal.proofs.EffectsReadBack.{bindings_read_back}
 use Rattle.swift_journal.proofs.Gained.{length-since}
@@ -17,7 +17,7 @@ use Rattle.swift_journal.proofs.written.write_turn.Goals as goal
 pub returns-clause-ok : goal.returns-clause-ok
 returns-clause-ok c =
     let t = c.args.turn.now in
-    let h : Head = record {
+    let h : TurnHead = record {
       start = c.start.result;
       first_effect = c.len-first_effect.result;
       frame = c.in_ok-frame.frame;

@@ -1,6 +1,6 @@
 use Rattle.std.proofs.Common.{◌≡◌, Bool, false, List, ◌++◌, sym, ap, ◌∙◌, rules}
 use Rattle.std.specs.Prelude.{codes}
-use Rattle.swift_journal.specs.Checkpoints.{CheckpointRoom}
+use Rattle.swift_journal.specs.Checkpoints.{CheckpointRoomView}
 use Rattle.swift_journal.specs.Records.{RecordView}
 use Rattle.swift_json.specs.Json.{executors_json, journals_json}
 use Rattle.swift_json.proofs.Joined.{if_ok, said, three_joined}
@@ -20,6 +20,6 @@ returns c =
     (codes "\"journals\":[") (executors_json p cs 0 js) (codes "],\n")
     c.in_ok-extend_from_slice.ensures.items
     (c.in_ok-executors.ensures
-    ∙ ap (λ (found : List CheckpointRoom). x1 ++ executors_json p found 0 c.deref-2.result.now) c.deref.ensures.value
+    ∙ ap (λ (found : List CheckpointRoomView). x1 ++ executors_json p found 0 c.deref-2.result.now) c.deref.ensures.value
     ∙ ap (λ (found : List (List RecordView)). x1 ++ executors_json p cs 0 found) c.deref-2.ensures.value)
     (if_ok r _ _ _ c.extend_from_slice-2.ensures.items))

@@ -1,6 +1,6 @@
 use Rattle.std.proofs.Common.{ℕ, ◌++◌, List, ap, ◌∙◌}
 use Rattle.std.specs.Prelude.{codes, decimal}
-use Rattle.script_grammar.specs.declared.declaration.ExecutorKind.{ExecutorKind}
+use Rattle.swift_types.specs.declared.executor_kind.ExecutorKind.{ExecutorKind}
 use Rattle.swift_script.specs.Scripts.{executor_kind, executor_name}
 use Rattle.swift_json.specs.Json.{kind_json}
 use Rattle.swift_json.proofs.Joined.{six_joined}

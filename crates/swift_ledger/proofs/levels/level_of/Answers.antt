@@ -1,6 +1,6 @@
 use Rattle.std.proofs.Common.{List, subst, sym}
 use Rattle.std.proofs.lemmas.Bool.{false≢true}
-use Rattle.swift_escalation.specs.declared.waits.Event.{Event as Link}
+use Rattle.swift_escalation.specs.declared.waits.PriorityEvent.{PriorityEvent as Link}
 use Rattle.swift_escalation.specs.Waits.{IsKnown}
 use Rattle.swift_ledger.proofs.LevelLemmas.{none_level}
 use Rattle.swift_ledger.proofs.levels.level_of.Goals as goal

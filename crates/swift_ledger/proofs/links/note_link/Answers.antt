@@ -1,5 +1,5 @@
 use Rattle.std.proofs.Common.{List, [], ◌∷◌, ◌++◌, ap, sym, subst, ◌∙◌}
-use Rattle.swift_escalation.specs.declared.waits.Event.{Event as Link}
+use Rattle.swift_escalation.specs.declared.waits.PriorityEvent.{PriorityEvent as Link}
 use Rattle.swift_events.proofs.LogLemmas.{links_of-push_some, links_of-push_none}
 use Rattle.swift_ledger.specs.Links.{CanLink}
 use Rattle.swift_ledger.proofs.LinkLemmas.{link_fits}

@@ -2,21 +2,22 @@ use Rattle.std.proofs.Common.{arith, ◌≡◌, ◌∙◌, ap, [], ◌∷◌, �
 use Rattle.std.specs.Prelude.{Option, Some, None, map, reverse}
 use Rattle.std.specs.List.{AllByRecursion}
 use Rattle.swift_types.specs.declared.outcome.Resume.TheVariants.{Go}
-use Rattle.swift_queue.specs.Job.{JobIs}
+use Rattle.swift_job.specs.Job.{JobView}
 use Rattle.swift_turn.specs.Body.{BodyView, IsRunning}
-use Rattle.swift_tasks.specs.declared.held.Held.{Held}
+use Rattle.swift_tasks.specs.declared.held.WaitingTask.{WaitingTask}
 use Rattle.swift_tasks.specs.BookInvariant.{FitsScript}
-use Rattle.swift_tasks.specs.Books.{IsJobOf, job_view}
+use Rattle.swift_tasks.specs.Books.{IsJobOf}
+use Rattle.swift_history.specs.Jobs.{job_facts}
 use Rattle.swift_tasks.proofs.HeldJobs.{job_step, none_step, job_end, all-front, all-back, all-append, all-reverse}
 use Rattle.swift_tasks.proofs.requests.jobs_of.Goals as goal
 
 pub loop-waiting-preserved-in-Some-waiting : goal.loop-waiting-preserved-in-Some-waiting
 loop-waiting-preserved-in-Some-waiting c =
-    let h : Held = c.in-Some-waiting.field-0 in
-    let is : c.loop-waiting.held.items ≡ c.pop.new.self.items ++ Some h ∷ [] = c.in-Some.ensures.items ∙ ap (λ (w : Option Held). c.pop.new.self.items ++ w ∷ []) c.in-Some-waiting.is in
+    let h : WaitingTask = c.in-Some-waiting.field-0 in
+    let is : c.loop-waiting.held.items ≡ c.pop.new.self.items ++ Some h ∷ [] = c.in-Some.ensures.items ∙ ap (λ (w : Option WaitingTask). c.pop.new.self.items ++ w ∷ []) c.in-Some-waiting.is in
     let at : c.len.result ≡ length c.pop.new.self.items = c.len.ensures ∙ c.pop.new.self.ok.0 in
-    let whole : job_view c.new.result ≡ record { task = length c.pop.new.self.items; number = h.number; resume = Go; frames = h.body.task } = (let p = ap job_view c.new.ensures in cc) in
-    let body : c.new.result.body ≡ h.body = (let p = ap (λ (j : JobIs BodyView). j.body) c.new.ensures in cc) in
+    let whole : job_facts c.new.result ≡ record { task = length c.pop.new.self.items; number = h.number; resume = Go; frames = h.body.task } = (let p = ap job_facts c.new.ensures in cc) in
+    let body : c.new.result.body ≡ h.body = (let p = ap (λ (j : JobView BodyView). j.body) c.new.ensures in cc) in
     let more : c.push_reserved.new.self.items ≡ c.loop-waiting.jobs.items ++ c.new.result ∷ [] = c.push_reserved.ensures.items in
     record {
       all = job_step c.pop.new.self.items c.loop-waiting.held.items h c.loop-waiting.jobs.items c.push_reserved.new.self.items c.new.result _ is more whole c.loop-waiting.invariant.all;
@@ -33,9 +34,9 @@ loop-waiting-preserved-in-Some-waiting c =
 
 pub loop-waiting-preserved : goal.loop-waiting-preserved
 loop-waiting-preserved c =
-    let is : c.loop-waiting.held.items ≡ c.pop.new.self.items ++ None ∷ [] = c.in-Some.ensures.items ∙ ap (λ (w : Option Held). c.pop.new.self.items ++ w ∷ []) c.in_default-waiting.is in
+    let is : c.loop-waiting.held.items ≡ c.pop.new.self.items ++ None ∷ [] = c.in-Some.ensures.items ∙ ap (λ (w : Option WaitingTask). c.pop.new.self.items ++ w ∷ []) c.in_default-waiting.is in
     record {
-      all = none_step c.pop.new.self.items c.loop-waiting.held.items (reverse (map job_view c.loop-waiting.jobs.items)) _ is c.loop-waiting.invariant.all;
+      all = none_step c.pop.new.self.items c.loop-waiting.held.items (reverse (map job_facts c.loop-waiting.jobs.items)) _ is c.loop-waiting.invariant.all;
       room = omega (arith, c.in-Some.ensures.cases, c.loop-waiting.invariant.room);
       few = omega (arith, c.in-Some.ensures.cases, c.loop-waiting.invariant.few);
       bodies = λ script a.

@@ -3,13 +3,14 @@ use Rattle.std.specs.Prelude.{map, reverse, vec_capacity}
 use Rattle.std.specs.List.{AllByRecursion}
 use Rattle.swift_types.specs.declared.limits.TheConstants.{TASKS}
 use Rattle.swift_script.specs.Scripts.{ScriptView}
-use Rattle.swift_tasks.specs.Books.{IsJobOf, job_view, jobs_held}
+use Rattle.swift_tasks.specs.Books.{IsJobOf, jobs_held}
+use Rattle.swift_history.specs.Jobs.{job_facts}
 use Rattle.swift_tasks.specs.BookInvariant.{FitsScript, held_views}
 use Rattle.swift_tasks.proofs.requests.jobs_of.Given as goal
 
 abbrev pub invariant-loop-waiting : goal.invariant-loop-waiting
 invariant-loop-waiting l = record {
-  all : jobs_held 0 (held_views l.held.items) ++ reverse (map job_view l.jobs.items) ≡ jobs_held 0 (held_views l.initial.held.items);
+  all : jobs_held 0 (held_views l.held.items) ++ reverse (map job_facts l.jobs.items) ≡ jobs_held 0 (held_views l.initial.held.items);
   room : vec_len l.jobs + vec_len l.held ≤ vec_capacity l.jobs;
   few : vec_len l.held ≤ TASKS;
   bodies : (script : ScriptView) → AllByRecursion (FitsScript script) l.initial.held.items → AllByRecursion (FitsScript script) l.held.items × AllByRecursion (IsJobOf script) l.jobs.items;

@@ -7,10 +7,11 @@ use Rattle.swift_interpreter.specs.Frames.{effect_views}
 use Rattle.swift_interpreter.specs.TurnStates.{exit_view}
 use Rattle.swift_events.specs.declared.event.Event.{Event}
 use Rattle.swift_events.specs.Relations.{waiters_of}
-use Rattle.swift_history.specs.TurnEnds.{JobView, HeldView, Follows, gives}
+use Rattle.swift_history.specs.TurnEnds.{JobFacts, WaitingTaskView, AfterTurn, gives}
 use Rattle.swift_tasks.specs.Applying.{AreMade, CanLeave, TurnLeaves, done_log, written_log}
 use Rattle.swift_tasks.specs.BookInvariant.{held_views}
-use Rattle.swift_tasks.specs.Books.{job_view, HoldsWaiting}
+use Rattle.swift_tasks.specs.Books.{HoldsWaiting}
+use Rattle.swift_history.specs.Jobs.{job_facts}
 use Rattle.swift_tasks.specs.Counted.{UnopenedAreNotClosed}
 use Rattle.swift_tasks.proofs.TurnIs.{made_by, follows_turn, few_since, stood_before, turn_is, written_waiters}
 use Rattle.swift_tasks.proofs.TurnEndKept.{end_kept}
@@ -21,9 +22,9 @@ finish-requires-clause-first c =
     let script : ScriptView = c.requires.turn.0 in
     let turn = c.requires.turn.1 in
     let es = effect_views c.args.effects.now in
-    let old : List JobView = map job_view c.args.jobs.now.items in
+    let old : List JobFacts = map job_facts c.args.jobs.now.items in
     let few = few_since (length old) c.note_turn-resume.new.jobs.items old (made_by script c.args.task.0 c.args.number c.args.ledger.now.log es) (c.note_turn-resume.ensures.jobs script turn.turn.started (sym turn.turn.roots_are)) refl in
-    omega (arith, few, c.len-first.ensures, length-map c.args.jobs.now.items job_view, c.args.jobs.now.ok.0, c.note_turn-resume.new.jobs.ok.0)
+    omega (arith, few, c.len-first.ensures, length-map c.args.jobs.now.items job_facts, c.args.jobs.now.ok.0, c.note_turn-resume.new.jobs.ok.0)
 
 pub finish-requires-clause-jobs_room : goal.finish-requires-clause-jobs_room
 finish-requires-clause-jobs_room c =
@@ -47,15 +48,15 @@ finish-requires-clause-made c =
     let exit : ExitView = exit_view c.args.exit.now in
     let t : ℕ = c.args.task.0 in
     let log : List Event = c.args.ledger.now.log in
-    let old : List JobView = map job_view c.args.jobs.now.items in
+    let old : List JobFacts = map job_facts c.args.jobs.now.items in
     let is = turn_is script c.args.ledger.now.roots t c.args.number log c.note_turn-resume.new.ledger.log c.args.held.now.items es exit c.args.body.task c.args.step c.len-first.result c.note_turn-resume.new.jobs.items old c.note_turn-resume.result
-    turn.turn.roots_are c.note_turn-resume.ensures.log c.note_turn-resume.ensures.resume (c.note_turn-resume.ensures.jobs script turn.turn.started (sym turn.turn.roots_are)) (omega (arith, length-map c.args.jobs.now.items job_view, c.len-first.ensures, c.args.jobs.now.ok.0)) in
-    let f : Follows = follows_turn script t c.args.number log (held_views c.args.held.now.items) es exit c.args.body.task c.args.step in
+    turn.turn.roots_are c.note_turn-resume.ensures.log c.note_turn-resume.ensures.resume (c.note_turn-resume.ensures.jobs script turn.turn.started (sym turn.turn.roots_are)) (omega (arith, length-map c.args.jobs.now.items job_facts, c.len-first.ensures, c.args.jobs.now.ok.0)) in
+    let f : AfterTurn = follows_turn script t c.args.number log (held_views c.args.held.now.items) es exit c.args.body.task c.args.step in
     let leaves = subst (λ (r : ℕ). TurnLeaves script r log (held_views c.args.held.now.items) t es c.args.bodies.items exit c.args.body c.args.step) turn.turn.roots_are turn in
     let can = subst (λ (r : ℕ). CanLeave t (done_log r t c.args.number log es) exit) turn.turn.roots_are c.note_turn-resume.ensures.leave in
     let kept = end_kept script log (held_views c.args.held.now.items) t c.args.number es c.args.bodies.items exit c.args.body c.args.step leaves can in
     let whole : c.note_turn-resume.new.ledger.log ≡ written_log (root_count script) t c.args.number log es exit c.args.step = c.note_turn-resume.ensures.log ∙ ap (λ (r : ℕ). written_log r t c.args.number log es exit c.args.step) turn.turn.roots_are in
-    subst (AreMade c.note_turn-resume.new.ledger.log) (sym (ap (λ (g : Follows). g.jobs) is)) (subst (λ (l : List Event). AreMade l f.jobs) (sym whole) kept.made)
+    subst (AreMade c.note_turn-resume.new.ledger.log) (sym (ap (λ (g : AfterTurn). g.jobs) is)) (subst (λ (l : List Event). AreMade l f.jobs) (sym whole) kept.made)
 
 pub returns-clause-end : goal.returns-clause-end
 returns-clause-end c = λ script turn.
@@ -63,18 +64,18 @@ returns-clause-end c = λ script turn.
     let exit : ExitView = exit_view c.args.exit.now in
     let t : ℕ = c.args.task.0 in
     let log : List Event = c.args.ledger.now.log in
-    let old : List JobView = map job_view c.args.jobs.now.items in
+    let old : List JobFacts = map job_facts c.args.jobs.now.items in
     let more = c.note_turn-resume.ensures.jobs script turn.turn.started (sym turn.turn.roots_are) in
-    let long : length old ≡ c.len-first.result = omega (arith, length-map c.args.jobs.now.items job_view, c.len-first.ensures, c.args.jobs.now.ok.0) in
+    let long : length old ≡ c.len-first.result = omega (arith, length-map c.args.jobs.now.items job_facts, c.len-first.ensures, c.args.jobs.now.ok.0) in
     let is = turn_is script c.args.ledger.now.roots t c.args.number log c.note_turn-resume.new.ledger.log c.args.held.now.items es exit c.args.body.task c.args.step c.len-first.result c.note_turn-resume.new.jobs.items old c.note_turn-resume.result
     turn.turn.roots_are c.note_turn-resume.ensures.log c.note_turn-resume.ensures.resume more long in
-    let f : Follows = follows_turn script t c.args.number log (held_views c.args.held.now.items) es exit c.args.body.task c.args.step in
+    let f : AfterTurn = follows_turn script t c.args.number log (held_views c.args.held.now.items) es exit c.args.body.task c.args.step in
     record {
-      log_is = c.finish.ensures.log ∙ ap (λ (g : Follows). c.note_turn-resume.new.ledger.log ++ gives g.jobs) is
+      log_is = c.finish.ensures.log ∙ ap (λ (g : AfterTurn). c.note_turn-resume.new.ledger.log ++ gives g.jobs) is
           ∙ ap (λ (l : List Event). l ++ gives f.jobs) (c.note_turn-resume.ensures.log ∙ ap (λ (r : ℕ). written_log r t c.args.number log es exit c.args.step) turn.turn.roots_are);
-      held_is = c.finish.ensures.held ∙ ap (λ (g : Follows). g.held) is;
-      jobs_are = c.finish.ensures.jobs ∙ ap (λ (g : Follows). map job_view (take c.len-first.result c.note_turn-resume.new.jobs.items) ++ g.jobs) is
-          ∙ ap (λ (js : List JobView). js ++ f.jobs) (stood_before c.len-first.result c.note_turn-resume.new.jobs.items old (made_by script t c.args.number log es) more long);
+      held_is = c.finish.ensures.held ∙ ap (λ (g : AfterTurn). g.held) is;
+      jobs_are = c.finish.ensures.jobs ∙ ap (λ (g : AfterTurn). map job_facts (take c.len-first.result c.note_turn-resume.new.jobs.items) ++ g.jobs) is
+          ∙ ap (λ (js : List JobFacts). js ++ f.jobs) (stood_before c.len-first.result c.note_turn-resume.new.jobs.items old (made_by script t c.args.number log es) more long);
     }
 
 pub returns-clause-bodies : goal.returns-clause-bodies
@@ -93,9 +94,9 @@ returns-clause-kept c = λ script turn.
     let leaves = subst (λ (r : ℕ). TurnLeaves script r log (held_views c.args.held.now.items) t es c.args.bodies.items exit c.args.body c.args.step) turn.turn.roots_are turn in
     let can = subst (λ (r : ℕ). CanLeave t (done_log r t c.args.number log es) exit) turn.turn.roots_are c.note_turn-resume.ensures.leave in
     let kept = end_kept script log (held_views c.args.held.now.items) t c.args.number es c.args.bodies.items exit c.args.body c.args.step leaves can in
-    let f : Follows = follows_turn script t c.args.number log (held_views c.args.held.now.items) es exit c.args.body.task c.args.step in
+    let f : AfterTurn = follows_turn script t c.args.number log (held_views c.args.held.now.items) es exit c.args.body.task c.args.step in
     let l : List Event = written_log (root_count script) t c.args.number log es exit c.args.step ++ gives f.jobs in (
       subst (λ (r : ℕ). HoldsWaiting r c.finish.new.ledger.log (held_views c.finish.new.held.items)) (sym turn.turn.roots_are)
-          (subst (λ (g : List Event). HoldsWaiting (root_count script) g (held_views c.finish.new.held.items)) (sym ends.log_is) (subst (λ (hs : List (Option HeldView)). HoldsWaiting (root_count script) l hs) (sym ends.held_is) kept.holds)),
+          (subst (λ (g : List Event). HoldsWaiting (root_count script) g (held_views c.finish.new.held.items)) (sym ends.log_is) (subst (λ (hs : List (Option WaitingTaskView)). HoldsWaiting (root_count script) l hs) (sym ends.held_is) kept.holds)),
       subst UnopenedAreNotClosed (sym ends.log_is) kept.closed,
     )

@@ -7,10 +7,10 @@ use Rattle.swift_turn.specs.Body.{BodyView}
 use Rattle.swift_events.specs.declared.event.Event.{Event}
 use Rattle.swift_events.specs.Room.{reserved_of}
 use Rattle.swift_ledger.specs.Ledgers.{IsMade}
-use Rattle.swift_history.specs.TurnEnds.{JobView, effect_events, effect_jobs, log_after, jobs_made}
+use Rattle.swift_history.specs.TurnEnds.{JobFacts, effect_events, effect_jobs, log_after, jobs_made}
 use Rattle.swift_tasks.specs.Applying.{CanTake, CanTakeAll}
 use Rattle.swift_tasks.specs.Bodies.{AreBodiesOf}
-use Rattle.swift_tasks.specs.Books.{job_view}
+use Rattle.swift_history.specs.Jobs.{job_facts}
 use Rattle.swift_tasks.proofs.Grows.{effect_grows}
 use Rattle.swift_tasks.proofs.EffectsTaken.{drop_at, none_left, take_first, take_rest, take_none, last_first, first_body, rest_bodies}
 use Rattle.swift_tasks.proofs.turns.note_effects.Goals as goal
@@ -65,15 +65,15 @@ loop-effect-preserved c =
           (let was = subst (λ (vs : List EffectView). AreBodiesOf script vs (reverse c.loop-effect.bodies.items)) at (c.loop-effect.invariant.started script are) in
           let this = first_body script e next b bs (subst (AreBodiesOf script (e ∷ next)) popped was) in
           let added = c.note_effect.ensures.jobs script this (count ∙ sym same) in
-          let before : List JobView = map job_view c.loop-effect.jobs.items in
+          let before : List JobFacts = map job_facts c.loop-effect.jobs.items in
           let log' : List Event = log ++ effect_events roots t c.args.own log e in
           let unrolled : jobs_made script t c.args.own log (effect_views (drop k es)) ≡ effect_jobs script t log e ++ jobs_made script t c.args.own log' next =
           ap (jobs_made script t c.args.own log) at ∙ ap (λ (r : ℕ). effect_jobs script t log e ++ jobs_made script t c.args.own (log ++ effect_events r t c.args.own log e) next) count in
-          ap (λ (js : List JobView). js ++ jobs_made script t c.args.own c.note_effect.new.ledger.log (effect_views (drop (k + 1) es))) added
+          ap (λ (js : List JobFacts). js ++ jobs_made script t c.args.own c.note_effect.new.ledger.log (effect_views (drop (k + 1) es))) added
           ∙ ap (λ (vs : List EffectView). (before ++ effect_jobs script t log e) ++ jobs_made script t c.args.own c.note_effect.new.ledger.log vs) one
           ∙ ap (λ (l : List Event). (before ++ effect_jobs script t log e) ++ jobs_made script t c.args.own l next) more
           ∙ append_assoc before (effect_jobs script t log e) (jobs_made script t c.args.own log' next)
-          ∙ sym (ap (λ (js : List JobView). before ++ js) unrolled)
+          ∙ sym (ap (λ (js : List JobFacts). before ++ js) unrolled)
           ∙ c.loop-effect.invariant.jobs script are count);
       bodies = λ script are all.
           (let was = subst (λ (vs : List EffectView). AreBodiesOf script vs (reverse c.loop-effect.bodies.items)) at (c.loop-effect.invariant.started script are) in
@@ -95,7 +95,7 @@ returns-clause-log c =
 pub returns-clause-jobs : goal.returns-clause-jobs
 returns-clause-jobs c = λ script are count.
     let none = none_left c.args.effects.now c.loop-effect.effect-index (omega (arith, c.loop-effect-test.false, c.loop-effect.auto.effect-index-end)) in
-    let js : List JobView = map job_view c.loop-effect.jobs.items in
+    let js : List JobFacts = map job_facts c.loop-effect.jobs.items in
     sym (append-nil js) ∙ (sym (ap (λ (vs : List EffectView). js ++ jobs_made script c.args.task.0 c.args.own c.loop-effect.ledger.log vs) none) ∙ c.loop-effect.invariant.jobs script are count)
 
 pub returns-clause-bodies : goal.returns-clause-bodies

@@ -8,7 +8,8 @@ use Rattle.swift_ledger.specs.Ledgers.{IsMade}
 use Rattle.swift_history.specs.TurnEnds.{log_after, jobs_made}
 use Rattle.swift_tasks.specs.Applying.{CanTakeAll}
 use Rattle.swift_tasks.specs.Bodies.{AreBodiesOf}
-use Rattle.swift_tasks.specs.Books.{job_view, IsJobOf}
+use Rattle.swift_tasks.specs.Books.{IsJobOf}
+use Rattle.swift_history.specs.Jobs.{job_facts}
 use Rattle.swift_tasks.proofs.turns.note_effects.Given as goal
 
 abbrev pub invariant-loop-effect : goal.invariant-loop-effect
@@ -21,7 +22,7 @@ invariant-loop-effect l = record {
   spare : l.initial.ledger.spare ≤ l.ledger.spare + l.effect-index;
   started : (script : ScriptView) → AreBodiesOf script (effect_views l.effects) l.fn.bodies.items → AreBodiesOf script (effect_views (drop l.effect-index l.effects)) (reverse l.bodies.items);
   jobs : (script : ScriptView) → AreBodiesOf script (effect_views l.effects) l.fn.bodies.items → root_count script ≡ l.initial.ledger.roots
-      → map job_view l.jobs.items ++ jobs_made script l.task.0 l.own l.ledger.log (effect_views (drop l.effect-index l.effects)) ≡ map job_view l.initial.jobs.items ++ jobs_made script l.task.0 l.own l.initial.ledger.log (effect_views l.effects);
+      → map job_facts l.jobs.items ++ jobs_made script l.task.0 l.own l.ledger.log (effect_views (drop l.effect-index l.effects)) ≡ map job_facts l.initial.jobs.items ++ jobs_made script l.task.0 l.own l.initial.ledger.log (effect_views l.effects);
   bodies : (script : ScriptView) → AreBodiesOf script (effect_views l.effects) l.fn.bodies.items → AllByRecursion (IsJobOf script) l.initial.jobs.items → AllByRecursion (IsJobOf script) l.jobs.items;
   few : vec_len l.jobs ≤ vec_len l.initial.jobs + l.effect-index;
   capacity : vec_capacity l.jobs ≡ vec_capacity l.initial.jobs;

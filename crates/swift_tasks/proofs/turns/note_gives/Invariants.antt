@@ -2,13 +2,13 @@ use Rattle.std.proofs.Common.{◌≡◌, ◌+◌, ◌≤◌, ◌++◌, drop}
 use Rattle.std.specs.Prelude.{map}
 use Rattle.swift_history.specs.TurnEnds.{gives}
 use Rattle.swift_tasks.specs.Applying.{AreMade}
-use Rattle.swift_tasks.specs.Books.{job_view}
+use Rattle.swift_history.specs.Jobs.{job_facts}
 use Rattle.swift_tasks.proofs.turns.note_gives.Given as goal
 
 abbrev pub invariant-loop-job : goal.invariant-loop-job
 invariant-loop-job l = record {
   roots : l.ledger.roots ≡ l.initial.ledger.roots;
-  made : AreMade l.ledger.log (map job_view (drop l.job-index l.jobs));
-  log : l.ledger.log ++ gives (map job_view (drop l.job-index l.jobs)) ≡ l.initial.ledger.log ++ gives (map job_view l.jobs);
+  made : AreMade l.ledger.log (map job_facts (drop l.job-index l.jobs));
+  log : l.ledger.log ++ gives (map job_facts (drop l.job-index l.jobs)) ≡ l.initial.ledger.log ++ gives (map job_facts l.jobs);
   spare : l.initial.ledger.spare ≤ l.ledger.spare + l.job-index;
 }

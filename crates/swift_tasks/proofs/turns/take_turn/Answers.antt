@@ -10,10 +10,10 @@ use Rattle.swift_turn.specs.Body.{BodyView, CanAdvance, AdvancesTo}
 use Rattle.swift_events.specs.declared.event.Event.{Event}
 use Rattle.swift_events.specs.Relations.{waiters_of}
 use Rattle.swift_history.specs.Checks.{counters}
-use Rattle.swift_history.specs.TurnEnds.{JobView, HeldView}
-use Rattle.swift_tasks.specs.Applying.{TurnLeaves, Ends}
+use Rattle.swift_history.specs.TurnEnds.{JobFacts, WaitingTaskView}
+use Rattle.swift_tasks.specs.Applying.{TurnLeaves, BookEnds}
 use Rattle.swift_tasks.specs.BookInvariant.{held_views}
-use Rattle.swift_tasks.specs.Books.{job_view}
+use Rattle.swift_history.specs.Jobs.{job_facts}
 use Rattle.swift_tasks.proofs.Fitting.{advances}
 use Rattle.swift_tasks.proofs.TurnTaken.{leaves_of, ends_of}
 use Rattle.swift_tasks.proofs.turns.take_turn.Goals as goal
@@ -45,17 +45,17 @@ returns-in-Ok-clause-end c = λ script fits.
     let exit : ExitView = exit_view c.args.exit.now in
     let log : List Event = c.args.ledger.now.log in
     let roots : ℕ = c.args.ledger.now.roots in
-    let held : List (Option HeldView) = held_views c.args.held.now.items in
-    let held' : List (Option HeldView) = held_views c.end_turn.new.held.items in
-    let jobs : List JobView = map job_view c.args.jobs.now.items in
-    let jobs' : List JobView = map job_view c.end_turn.new.jobs.items in
+    let held : List (Option WaitingTaskView) = held_views c.args.held.now.items in
+    let held' : List (Option WaitingTaskView) = held_views c.end_turn.new.held.items in
+    let jobs : List JobFacts = map job_facts c.args.jobs.now.items in
+    let jobs' : List JobFacts = map job_facts c.end_turn.new.jobs.items in
     let s = c.spend-number.ensures in
     let A : Parts → Type 0 = λ r. AdvancesTo r.3.script r.3.task.frames r.3.task.outer exit (record { task = c.advance.new.self.task; step = c.in-Ok.step }) in
     let adv = subst A s c.in-Ok.ensures.ok in
     let same = ap (λ (b : BodyView). b.script) c.advance.ensures.rest ∙ ap (λ (r : Parts). r.3.script) s in
     let leaves = leaves_of script roots log held c.args.job es c.args.bodies.items exit c.advance.new.self c.in-Ok.step fits adv c.in-Ok.ensures.running same in
     let L : Parts → Type 0 = λ r. TurnLeaves script roots log held r.0.0 es c.args.bodies.items exit c.advance.new.self c.in-Ok.step in
-    let E : Parts → Type 0 = λ r. Ends script log held jobs r.0.0 r.1 es exit c.advance.new.self c.in-Ok.step c.end_turn.new.ledger.log held' jobs' in
+    let E : Parts → Type 0 = λ r. BookEnds script log held jobs r.0.0 r.1 es exit c.advance.new.self c.in-Ok.step c.end_turn.new.ledger.log held' jobs' in
     ends_of script roots log c.end_turn.new.ledger.log held held' jobs jobs' c.args.job es c.args.bodies.items exit c.advance.new.self c.in-Ok.step fits adv (subst E s (c.end_turn.ensures.end script (subst L (sym s) leaves)))
 
 pub returns-in-Ok-clause-kept : goal.returns-in-Ok-clause-kept
@@ -64,7 +64,7 @@ returns-in-Ok-clause-kept c = λ script fits.
     let exit : ExitView = exit_view c.args.exit.now in
     let log : List Event = c.args.ledger.now.log in
     let roots : ℕ = c.args.ledger.now.roots in
-    let held : List (Option HeldView) = held_views c.args.held.now.items in
+    let held : List (Option WaitingTaskView) = held_views c.args.held.now.items in
     let s = c.spend-number.ensures in
     let A : Parts → Type 0 = λ r. AdvancesTo r.3.script r.3.task.frames r.3.task.outer exit (record { task = c.advance.new.self.task; step = c.in-Ok.step }) in
     let adv = subst A s c.in-Ok.ensures.ok in
@@ -79,7 +79,7 @@ returns-in-Ok-clause-bodies c = λ script fits.
     let exit : ExitView = exit_view c.args.exit.now in
     let log : List Event = c.args.ledger.now.log in
     let roots : ℕ = c.args.ledger.now.roots in
-    let held : List (Option HeldView) = held_views c.args.held.now.items in
+    let held : List (Option WaitingTaskView) = held_views c.args.held.now.items in
     let s = c.spend-number.ensures in
     let A : Parts → Type 0 = λ r. AdvancesTo r.3.script r.3.task.frames r.3.task.outer exit (record { task = c.advance.new.self.task; step = c.in-Ok.step }) in
     let adv = subst A s c.in-Ok.ensures.ok in

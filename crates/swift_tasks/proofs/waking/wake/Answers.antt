@@ -1,16 +1,16 @@
 use Rattle.std.proofs.Common.{◌∙◌, ap, sym}
 use Rattle.std.specs.Prelude.{slice_set}
 use Rattle.swift_types.specs.declared.outcome.Resume.{Resume}
-use Rattle.swift_tasks.specs.declared.held.Held.{Held}
-use Rattle.swift_tasks.specs.Books.{job_view}
+use Rattle.swift_tasks.specs.declared.held.WaitingTask.{WaitingTask}
+use Rattle.swift_history.specs.Jobs.{job_facts}
 use Rattle.swift_tasks.proofs.HeldTaken.{job_at, wake_taken}
 use Rattle.swift_tasks.proofs.waking.wake.Goals as goal
 
 pub returns-in-Some-clause-follows : goal.returns-in-Some-clause-follows
 returns-in-Some-clause-follows c =
-    let h : Held = c.in-Some.field-0 in
+    let h : WaitingTask = c.in-Some.field-0 in
     wake_taken c.args.held.now (slice_set c.args.held.now c.args.task.0 c.take.new.self) c.args.task.0 h c.args.resume c.args.jobs.now.items c.push_reserved.new.self.items c.new.result
     c.index-held-place.result c.if-place-held.true (sym c.in-Some.ensures.value)
     (ap (slice_set c.args.held.now c.args.task.0) c.take.ensures.after)
     c.push_reserved.ensures.items
-    (ap job_view c.new.ensures ∙ ap (λ (r : Resume). job_at c.args.task.0 h.number r h.body) c.resume_at-resume.ensures)
+    (ap job_facts c.new.ensures ∙ ap (λ (r : Resume). job_at c.args.task.0 h.number r h.body) c.resume_at-resume.ensures)

@@ -1,7 +1,7 @@
 use Rattle.std.proofs.Common.{ℕ, ◌+◌, ◌∙◌, ap, sym, add-one, drop, arith, List}
 use Rattle.swift_types.specs.declared.id.TaskId.{TaskId}
 use Rattle.swift_events.specs.Relations.{waiters_of}
-use Rattle.swift_history.specs.TurnEnds.{Follows, wake, wake_each}
+use Rattle.swift_history.specs.TurnEnds.{AfterTurn, wake, wake_each}
 use Rattle.swift_tasks.specs.Applying.{follows_of}
 use Rattle.swift_tasks.proofs.HeldTaken.{wake_next, got_in, got_none}
 use Rattle.swift_tasks.proofs.waking.wake_waiters.Goals as goal
@@ -10,7 +10,7 @@ pub wake-preserved : goal.wake-preserved
 wake-preserved c =
     let us : List TaskId = waiters_of c.args.task.0 c.args.ledger.now.log in
     let k : ℕ = c.wake.place in
-    let was : Follows = follows_of c.wake.held c.wake.jobs.items in
+    let was : AfterTurn = follows_of c.wake.held c.wake.jobs.items in
     let is = sym c.waiter.ensures.waiter ∙ c.in-Some.is in
     let lt = got_in us k c.in-Some.waiter is in
     record {
@@ -26,5 +26,5 @@ wake-preserved c =
 pub returns-clause-follows : goal.returns-clause-follows
 returns-clause-follows c =
     let us : List TaskId = waiters_of c.args.task.0 c.args.ledger.now.log in
-    let was : Follows = follows_of c.wake.held c.wake.jobs.items in
+    let was : AfterTurn = follows_of c.wake.held c.wake.jobs.items in
     sym (ap (λ (vs : List TaskId). wake_each vs c.args.resume was) (got_none us c.wake.place (sym c.waiter.ensures.waiter ∙ c.in_default.is))) ∙ c.wake.invariant.follows

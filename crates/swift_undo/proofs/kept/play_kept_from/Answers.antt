@@ -2,12 +2,12 @@ use Rattle.std.proofs.Common.{◌≡◌, ℕ, true, false, [], sym, ap, ◌∙�
 use Rattle.std.specs.declared.vec.Vec.{Vec}
 use Rattle.std.specs.declared.alloc.Global.{Global}
 use Rattle.swift_types.specs.declared.outcome.Fault.TheVariants.{Invariant}
-use Rattle.script_code.specs.Instructions.{Follows}
+use Rattle.script_code.specs.Instructions.{FollowsCode}
 use Rattle.script_code.specs.Seen.{rows_of}
 use Rattle.script_code.specs.Tree.{Code, terms_of}
 use Rattle.swift_interpreter.specs.Frames.{frame_view, state_in}
 use Rattle.swift_interpreter.specs.Saved.{restored}
-use Rattle.swift_interpreter.specs.Turn.{State, failing, all_hold, kept, whole_turn}
+use Rattle.swift_interpreter.specs.Turn.{TurnStateView, failing, all_hold, kept, whole_turn}
 use Rattle.swift_interpreter.specs.TurnStates.{beginning, exit_view, fields_before, given_of, played_of, state_of}
 use Rattle.swift_undo.proofs.Keeping.{kept_undone, kept_false, kept_whole, left_undone, put_back_fields, put_back_state}
 use Rattle.swift_undo.proofs.Spared.{others_hold}
@@ -31,11 +31,11 @@ returns-then-undoes-clause-kept c =
     let s = λ (at : ℕ → Code). beginning at c.args.given.env.now c.args.turn.now in
     let w = λ (at : ℕ → Code). played_of (state_of at c.play_whole.new.turn) c.in-Ok.exit in
     let rows = put_back_fields c.begin.new.self.saved _ _ _ c.begin.ensures.saved (ap rows_of c.begin.ensures.fields) c.play_whole.ensures.back in
-    left_undone c.leave.result (λ code at. Follows c.args.given.instructions.now code at) (λ at exit. played_of (state_of at c.leave.new.turn) exit)
+    left_undone c.leave.result (λ code at. FollowsCode c.args.given.instructions.now code at) (λ at exit. played_of (state_of at c.leave.new.turn) exit)
     (λ at. state_in at (frame_view c.begin.new.self.frame) (fields_before c.play_whole.new.saved c.play_whole.new.turn) [] c.args.given.env.now.room) s (exit_view c.in-Ok.exit)
     (λ at. kept g n invariants (s at) c.args.resume) c.leave.ensures.left
     (λ at. put_back_state at _ _ _ _ c.args.given.env.now.room c.in_ok-begin.ensures.copy rows)
-    (λ code at follows. kept_undone g n invariants (s at) c.args.resume (w at) (c.in-Ok.ensures.played code at follows ∙ ap (λ (x : State). whole_turn g n x c.args.resume) (c.begin.ensures.state at)) (sym c.if-undoes.ensures))
+    (λ code at follows. kept_undone g n invariants (s at) c.args.resume (w at) (c.in-Ok.ensures.played code at follows ∙ ap (λ (x : TurnStateView). whole_turn g n x c.args.resume) (c.begin.ensures.state at)) (sym c.if-undoes.ensures))
 
 pub returns-then-not-all_hold-clause-kept : goal.returns-then-not-all_hold-clause-kept
 returns-then-not-all_hold-clause-kept c =
@@ -47,11 +47,11 @@ returns-then-not-all_hold-clause-kept c =
     let rows = put_back_fields c.begin.new.self.saved _ _ _ c.begin.ensures.saved (ap rows_of c.begin.ensures.fields) c.play_whole.ensures.back in
     let fields = ap rows_of c.deref.ensures.value in
     let not_held : all_hold invariants (rows_of c.play_whole.new.turn.fields.items) ≡ false = ap (all_hold invariants) (sym fields) ∙ sym c.if-not-all_hold.ensures in
-    left_undone c.leave-then-not-all_hold.result (λ code at. Follows c.args.given.instructions.now code at) (λ at exit. played_of (state_of at c.leave-then-not-all_hold.new.turn) exit)
+    left_undone c.leave-then-not-all_hold.result (λ code at. FollowsCode c.args.given.instructions.now code at) (λ at exit. played_of (state_of at c.leave-then-not-all_hold.new.turn) exit)
     (λ at. state_in at (frame_view c.begin.new.self.frame) (fields_before c.play_whole.new.saved c.play_whole.new.turn) [] c.args.given.env.now.room) s (failing Invariant)
     (λ at. kept g n invariants (s at) c.args.resume) c.leave-then-not-all_hold.ensures.left
     (λ at. put_back_state at _ _ _ _ c.args.given.env.now.room c.in_ok-begin.ensures.copy rows)
-    (λ code at follows. kept_false g n invariants (s at) c.args.resume (w at) (c.in-Ok.ensures.played code at follows ∙ ap (λ (x : State). whole_turn g n x c.args.resume) (c.begin.ensures.state at)) (sym c.if-undoes.ensures) not_held)
+    (λ code at follows. kept_false g n invariants (s at) c.args.resume (w at) (c.in-Ok.ensures.played code at follows ∙ ap (λ (x : TurnStateView). whole_turn g n x c.args.resume) (c.begin.ensures.state at)) (sym c.if-undoes.ensures) not_held)
 
 pub returns-clause-kept : goal.returns-clause-kept
 returns-clause-kept c = λ code at follows.
@@ -60,7 +60,7 @@ returns-clause-kept c = λ code at follows.
     let invariants = terms_of c.args.given.invariants.now in
     let s = beginning at c.args.given.env.now c.args.turn.now in
     let w = played_of (state_of at c.play_whole.new.turn) c.in-Ok.exit in
-    let whole : w ≡ whole_turn g n s c.args.resume = c.in-Ok.ensures.played code at follows ∙ ap (λ (x : State). whole_turn g n x c.args.resume) (c.begin.ensures.state at) in
+    let whole : w ≡ whole_turn g n s c.args.resume = c.in-Ok.ensures.played code at follows ∙ ap (λ (x : TurnStateView). whole_turn g n x c.args.resume) (c.begin.ensures.state at) in
     let fields = ap rows_of c.deref.ensures.value in
     let held : all_hold invariants w.state.fields ≡ true = ap (all_hold invariants) (sym fields) ∙ sym c.if-not-all_hold.ensures in
     c.leave_frame.ensures.left at ∙ kept_whole g n invariants s c.args.resume w whole (sym c.if-undoes.ensures) held

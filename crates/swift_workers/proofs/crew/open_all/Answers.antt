@@ -2,8 +2,8 @@ use Rattle.std.proofs.Common.{rules, ◌≡◌, ◌<◌, ℕ, List, [], ◌∷�
 use Rattle.std.specs.Arc.{arc_value}
 use Rattle.atomic_table.specs.Seated.{TableId}
 use Rattle.swift_script.specs.Scripts.{ScriptView, executor_count}
-use Rattle.swift_inbox.specs.Site.{Site}
-use Rattle.swift_executor.specs.Exec.{ExecIs, DeskIs, IsDeskOf}
+use Rattle.swift_inbox.specs.Site.{SiteView}
+use Rattle.swift_executor.specs.Exec.{ExecView, DeskView, IsDeskOf}
 use Rattle.swift_workers.specs.Crew.{AreAtSites, AreDesksOf}
 use Rattle.swift_workers.proofs.Desks.{desk_push, place_of, site_push}
 use Rattle.swift_workers.proofs.Left.{one_longer}
@@ -40,16 +40,16 @@ loop-place-preserved c =
     let desks = c.loop-place.desks.items in
     let e = c.in_ok-exec.exec in
     let d = c.in_ok-exec.desk in
-    let at : ℕ → ScriptView → TableId → Site = λ n x l. record { script = x; executor = n; book = Some l } in
+    let at : ℕ → ScriptView → TableId → SiteView = λ n x l. record { script = x; executor = n; book = Some l } in
     let lock : c.open_account-own.result.lock ≡ b.id = ap (λ s. s.lock) c.open_account-own.ensures.new in
     let script : arc_value c.in_ok-script.script ≡ b.script = c.in_ok-script.ensures.cases ∙ sym c.requires.book in
     let site : e.inbox.site ≡ place_of b (length execs) = c.in_ok-exec.ensures.site ∙ ap (λ x. at c.loop-place.place x c.open_account-own.result.lock) script ∙ ap (at c.loop-place.place b.script) lock ∙ ap (λ n. at n b.script b.id) (sym c.loop-place.invariant.many) in
-    let desk : IsDeskOf e d = subst (λ (x : DeskIs). IsDeskOf e x) (sym c.in_ok-exec.ensures.desk) (refl, refl, refl) in
+    let desk : IsDeskOf e d = subst (λ (x : DeskView). IsDeskOf e x) (sym c.in_ok-exec.ensures.desk) (refl, refl, refl) in
     let both = desk_push execs desks e d c.loop-place.invariant.desks desk in
     record {
-      sites = subst (λ (xs : List ExecIs). AreAtSites b xs) (sym c.in_ok-push.ensures.items) (site_push b execs e c.loop-place.invariant.sites site);
+      sites = subst (λ (xs : List ExecView). AreAtSites b xs) (sym c.in_ok-push.ensures.items) (site_push b execs e c.loop-place.invariant.sites site);
       seat = opened_next c.args.seat.now c.loop-place.seat c.open_account-own.new.seat c.loop-place.place c.loop-place.invariant.seat c.open_account-own.ensures.maker;
-      desks = subst (λ (xs : List ExecIs). AreDesksOf xs c.push-in-loop-place.new.self.items) (sym c.in_ok-push.ensures.items) (subst (λ (xs : List DeskIs). AreDesksOf (execs ++ e ∷ []) xs) (sym c.in_ok-push-2.ensures.items) both);
+      desks = subst (λ (xs : List ExecView). AreDesksOf xs c.push-in-loop-place.new.self.items) (sym c.in_ok-push.ensures.items) (subst (λ (xs : List DeskView). AreDesksOf (execs ++ e ∷ []) xs) (sym c.in_ok-push-2.ensures.items) both);
       many = ap length c.in_ok-push.ensures.items ∙ one_longer execs e c.loop-place.place c.loop-place.invariant.many;
       end = c.loop-place.invariant.end;
     }

@@ -3,24 +3,24 @@ use Rattle.std.proofs.lemmas.Iterator.Adapters.{YieldsList-from_vec}
 use Rattle.std.proofs.lemmas.Iterator.Consumers.{YieldsList-end, YieldsList-turn}
 use Rattle.std.proofs.lemmas.Option.{same_Some}
 use Rattle.atomic_table.specs.Seated.{TableId}
-use Rattle.swift_inbox.specs.Site.{Site}
-use Rattle.swift_executor.specs.Exec.{ExecIs, site_of}
-use Rattle.swift_executor.specs.State.{ExecView}
-use Rattle.swift_shared_book.specs.Shared.{BookLockIs}
+use Rattle.swift_inbox.specs.Site.{SiteView}
+use Rattle.swift_executor.specs.Exec.{ExecView, site_of}
+use Rattle.swift_executor.specs.State.{ExecStateView}
+use Rattle.swift_shared_book.specs.Shared.{BookLockView}
 use Rattle.swift_workers.specs.PartsInside.{AreParts}
 use Rattle.swift_workers.proofs.Desks.{place_of, site_at}
 use Rattle.swift_workers.proofs.Left.{one_longer}
 use Rattle.swift_workers.proofs.leave.parts_of.Goals as goal
 
-map_same : (xs : List ExecIs) → map (λ x. x) xs ≡ xs
+map_same : (xs : List ExecView) → map (λ x. x) xs ≡ xs
 map_same [] = refl
 map_same (x ∷ xs) = ap (λ ys. x ∷ ys) (map_same xs)
 
 -- a state's seat is of the book of its executor's site
-same_lock : (lock : TableId) (s : ExecView) (b : BookLockIs) (k : ℕ) → site_of lock s ≡ place_of b k → lock ≡ b.id
-same_lock lock s b k is = same_Some lock b.id (ap (λ (x : Site). x.book) is)
+same_lock : (lock : TableId) (s : ExecStateView) (b : BookLockView) (k : ℕ) → site_of lock s ≡ place_of b k → lock ≡ b.id
+same_lock lock s b k is = same_Some lock b.id (ap (λ (x : SiteView). x.book) is)
 
-own_site : (lock : TableId) (s : ExecView) (b : BookLockIs) (k : ℕ) → site_of lock s ≡ place_of b k → site_of lock s ≡ record { script = b.script; executor = k; book = Some lock }
+own_site : (lock : TableId) (s : ExecStateView) (b : BookLockView) (k : ℕ) → site_of lock s ≡ place_of b k → site_of lock s ≡ record { script = b.script; executor = k; book = Some lock }
 own_site lock s b k is = is ∙ ap (λ (l : TableId). record { script = b.script; executor = k; book = Some l }) (sym (same_lock lock s b k is))
 
 pub note_state-requires-clause-lock : goal.note_state-requires-clause-lock
@@ -57,5 +57,5 @@ returns g c =
     record {
       seat = c.loop-exec.invariant.seat;
       maker = c.loop-exec.invariant.maker;
-      parts = subst (λ (xs : List ExecIs). AreParts c.args.book.now.script c.loop-exec.seat.knows (length xs) c.loop-exec.parts) whole c.loop-exec.invariant.parts;
+      parts = subst (λ (xs : List ExecView). AreParts c.args.book.now.script c.loop-exec.seat.knows (length xs) c.loop-exec.parts) whole c.loop-exec.invariant.parts;
     }

@@ -1,7 +1,7 @@
 use Rattle.std.proofs.Common.{rules, ◌≡◌, ◌∙◌, Some, subst, ap, length, ◌<◌, arith}
 use Rattle.swift_script.specs.Scripts.{ScriptView}
 use Rattle.swift_inbox.specs.Site.{CanRunAt}
-use Rattle.swift_executor.specs.Exec.{ExecIs, IsDeskOf}
+use Rattle.swift_executor.specs.Exec.{ExecView, IsDeskOf}
 use Rattle.swift_workers.proofs.Desks.{can_run, desk_at, desk_sent, desk_set, site_at}
 use Rattle.swift_workers.proofs.sending.put.Goals as goal
 
@@ -14,7 +14,7 @@ enqueue-requires-clause-job g c =
     let lt : k < length execs = omega (arith, c.if-place-crew.false) in
     let site : e.inbox.site ≡ record { script = c.args.crew.script.now; executor = k; book = Some b.id } =
     site_at b execs k e c.requires.sites lt c.index-crew-place.is ∙ ap (λ (p : ScriptView). record { script = p; executor = k; book = Some b.id }) c.requires.script in
-    subst (λ (x : ExecIs). CanRunAt x.inbox.site c.args.job) c.index-crew-place.is (can_run e (record { script = c.args.crew.script.now; executor = k; book = Some b.id }) c.args.job site (search rules))
+    subst (λ (x : ExecView). CanRunAt x.inbox.site c.args.job) c.index-crew-place.is (can_run e (record { script = c.args.crew.script.now; executor = k; book = Some b.id }) c.args.job site (search rules))
 
 pub returns-in-Ok : goal.returns-in-Ok
 returns-in-Ok g c =

@@ -1,18 +1,18 @@
 use Rattle.std.proofs.Common.{◌<◌, List, length, sym, subst, ap, ◌∙◌, arith}
 use Rattle.std.specs.List.{AllByRecursion}
-use Rattle.swift_queue.specs.Job.{JobIs}
+use Rattle.swift_job.specs.Job.{JobView}
 use Rattle.swift_script.specs.Scripts.{ScriptView}
 use Rattle.swift_turn.specs.Body.{BodyView}
 use Rattle.swift_tasks.specs.Books.{IsJobOf}
-use Rattle.swift_inbox.specs.Site.{Site}
-use Rattle.swift_executor.specs.Exec.{ExecIs, IsBookOf, IsDeskOf}
+use Rattle.swift_inbox.specs.Site.{SiteView}
+use Rattle.swift_executor.specs.Exec.{ExecView, IsBookOf, IsDeskOf}
 use Rattle.swift_workers.proofs.Desks.{book_at, desk_at, desk_ran, desk_set, site_at}
 use Rattle.swift_workers.proofs.turns.visit.Goals as goal
 
 pub run_one-requires-clause-book : goal.run_one-requires-clause-book
 run_one-requires-clause-book g c =
     let lt : c.args.on.0 < length c.args.crew.execs.now = omega (arith, c.if-place-crew.false) in
-    subst (λ (x : ExecIs). IsBookOf x c.args.crew.book.now) c.index-crew-place.is
+    subst (λ (x : ExecView). IsBookOf x c.args.crew.book.now) c.index-crew-place.is
     (book_at c.args.crew.book.now c.args.crew.execs.now c.args.on.0 c.index-crew-place.result c.requires.sites lt c.index-crew-place.is)
 
 pub returns-clause-desks : goal.returns-clause-desks
@@ -32,6 +32,6 @@ returns-clause-jobs g c =
     let e = c.index-crew-place.result in
     let lt : c.args.on.0 < length execs = omega (arith, c.if-place-crew.false) in
     let script =
-    ap (λ (x : ExecIs). x.inbox.site.script) (sym c.index-crew-place.is) ∙ ap (λ (s : Site). s.script) (site_at b execs c.args.on.0 e c.requires.sites lt c.index-crew-place.is) ∙ c.requires.script in
-    let none : (p : ScriptView) → AllByRecursion (IsJobOf p) c.args.hand.now.jobs.jobs = λ p. subst (λ (xs : List (JobIs BodyView)). AllByRecursion (IsJobOf p) xs) (sym c.requires.hand.none) tt in
+    ap (λ (x : ExecView). x.inbox.site.script) (sym c.index-crew-place.is) ∙ ap (λ (s : SiteView). s.script) (site_at b execs c.args.on.0 e c.requires.sites lt c.index-crew-place.is) ∙ c.requires.script in
+    let none : (p : ScriptView) → AllByRecursion (IsJobOf p) c.args.hand.now.jobs.jobs = λ p. subst (λ (xs : List (JobView BodyView)). AllByRecursion (IsJobOf p) xs) (sym c.requires.hand.none) tt in
     subst (λ (p : ScriptView). AllByRecursion (IsJobOf p) c.run_one.new.jobs.jobs) script (c.in_ok-ran.ensures.bodies (none _))

@@ -4,15 +4,14 @@ ghost use Rattle.std.specs.Prelude.{◌≤◌, IfOk, length};
 
 use crate::fault::CaseFault;
 use crate::parts::words::{number, priority_of, resume_of, size, value, values};
-use script_code::Env;
 use std::alloc::Global;
 use swift_interpreter::Frame;
 use swift_locals::Bindings;
-use swift_types::{LocalId, Resume};
+use swift_types::{Env, LocalId, Resume};
 
 /// What a turn begins with.
 #[derive(Drop)]
-pub struct Turn {
+pub struct TurnStart {
     pub fields: Vec<Vec<i64>>,
     pub resume: Resume,
     pub env: Env,
@@ -26,10 +25,10 @@ pub struct Opening {
 }
 
 /// A turn.
-pub fn turn_of(alloc: Global, words: &[&str]) -> Result<Turn, CaseFault> {
+pub fn turn_of(alloc: Global, words: &[&str]) -> Result<TurnStart, CaseFault> {
     let first = resume_place(words)?;
     let (resume, env) = begin_of(&words[first..])?;
-    Ok(Turn {
+    Ok(TurnStart {
         fields: rows(alloc, &words[..first])?,
         resume,
         env,
@@ -124,7 +123,7 @@ fn set(frame: &mut Frame, part: &str, count: &str) -> Result<(), CaseFault> {
     match part {
         "made" => frame.made = size(count)? as u64,
         "opened" => frame.opened = size(count)? as u64,
-        "line" => frame.line = number(count)?,
+        "line" => frame.instruction = number(count)?,
         _ => return Err(CaseFault::Form),
     }
     Ok(())

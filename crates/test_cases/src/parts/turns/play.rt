@@ -1,18 +1,17 @@
 //! Whole turns.
 
 use crate::fault::CaseFault;
-use crate::parts::turns::begin::Turn;
+use crate::parts::turns::begin::TurnStart;
 use crate::parts::turns::tell;
 use futures::Future;
 use futures::task::{Context, Doorbell, Solo};
-use script_code::Env;
 use std::alloc::{AllocError, AllocGlobal};
 use std::random::RandomSource;
 use swift_interpreter::{Effect, Exit};
 use swift_script::Script;
 use swift_turn::{Body, Step, run_turn};
-use swift_types::Resume;
 use swift_types::limits::TURNS;
+use swift_types::{Env, Resume};
 
 /// By which calls a turn is run.
 #[derive(Clone, Copy)]
@@ -32,7 +31,7 @@ pub fn run<R: RandomSource + AllocGlobal>(
     script: &Script,
     body: &mut Body,
     how: How,
-    begin: Turn,
+    begin: TurnStart,
     out: &mut String,
 ) -> Result<Option<Exit>, CaseFault> {
     let solo = Solo::new(rt, Doorbell::spinning())?;
@@ -52,7 +51,7 @@ fn one(
     cx: &mut Context<'_>,
     body: &mut Body,
     how: How,
-    begin: Turn,
+    begin: TurnStart,
     out: &mut String,
 ) -> Result<Option<(Vec<Vec<i64>>, Exit)>, AllocError> {
     let (resume, env) = (begin.resume, begin.env);
@@ -112,7 +111,7 @@ pub fn play<R: RandomSource + AllocGlobal>(
     rt: &R,
     script: &Script,
     body: &mut Body,
-    begin: Turn,
+    begin: TurnStart,
     out: &mut String,
 ) -> Result<(), CaseFault> {
     let solo = Solo::new(rt, Doorbell::spinning())?;
@@ -126,7 +125,7 @@ fn turns(
     script: &Script,
     cx: &mut Context<'_>,
     body: &mut Body,
-    mut begin: Turn,
+    mut begin: TurnStart,
     out: &mut String,
 ) -> Result<(), AllocError> {
     let env = begin.env;
@@ -137,7 +136,7 @@ fn turns(
         let Some(resume) = after(body, &exit, out)? else {
             return Ok(());
         };
-        begin = Turn {
+        begin = TurnStart {
             fields,
             resume,
             env,

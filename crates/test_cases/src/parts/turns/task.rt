@@ -3,7 +3,7 @@
 use crate::fault::CaseFault;
 use crate::parts::scripts::method_named;
 use crate::parts::show;
-use crate::parts::turns::begin::{Turn, change, opening_of, turn_of};
+use crate::parts::turns::begin::{TurnStart, change, opening_of, turn_of};
 use crate::parts::turns::play::{How, play, run};
 use crate::parts::turns::tell;
 use futures::Future;
@@ -98,7 +98,7 @@ fn begin_turn<R: RandomSource + AllocGlobal>(
     script: &Script,
     task: &mut Task,
     name: &str,
-    begin: Turn,
+    begin: TurnStart,
     out: &mut String,
 ) -> Result<(), CaseFault> {
     match name {
@@ -111,7 +111,7 @@ fn begin_turn<R: RandomSource + AllocGlobal>(
     Ok(())
 }
 
-fn enter(body: &mut Body, begin: Turn, out: &mut String) -> Result<(), AllocError> {
+fn enter(body: &mut Body, begin: TurnStart, out: &mut String) -> Result<(), AllocError> {
     if !body.is_running() {
         return out.push_str("not possible");
     }

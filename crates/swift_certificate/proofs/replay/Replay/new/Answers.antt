@@ -3,7 +3,7 @@ use Rattle.std.specs.Prelude.{Option}
 use Rattle.std.proofs.lemmas.Option.{none-some}
 use Rattle.std.specs.Arc.{arc_value}
 use Rattle.swift_tasks.specs.Books.{BookView, empty_book}
-use Rattle.swift_certificate.specs.declared.waiting.Ready.{Ready}
+use Rattle.swift_certificate.specs.declared.waiting.NextTurn.{NextTurn}
 use Rattle.swift_certificate.specs.ReplayInside.{given_at}
 use Rattle.swift_certificate.specs.Reports.{report_view}
 use Rattle.swift_certificate.proofs.First.{first_followed}
@@ -18,6 +18,6 @@ returns c =
       book_is = ap (λ (b : BookView). b.script) empty;
       none = search rules;
       known = c.requires;
-      scripts = λ t g is. absurd (none-some g (ap (λ (gs : List (Option Ready)). given_at gs t) (sym c.new-2.ensures.items) ∙ is));
+      scripts = λ t g is. absurd (none-some g (ap (λ (gs : List (Option NextTurn)). given_at gs t) (sym c.new-2.ensures.items) ∙ is));
       followed = first_followed c.args.turns script (report_view c.args.report.now) c.args.report.now.checkpoints.items c.in_ok-rows.rows.items c.in-Ok.book c.new-2.result.items c.new-2.ensures.items refl (search rules) empty;
     }

@@ -1,6 +1,6 @@
 use Rattle.std.proofs.Common.{ℕ, List, Option, ap, subst, sym, arith}
 use Rattle.swift_types.specs.declared.priority.Priority.{Priority}
-use Rattle.swift_escalation.specs.Levels.{AreChained, IsSettled, GraphIs}
+use Rattle.swift_escalation.specs.Levels.{AreChained, IsSettled, GraphView}
 use Rattle.swift_escalation.proofs.Push.{chained_push, settled_push}
 use Rattle.swift_escalation.proofs.graph.Graph.add.Goals as goal
 
@@ -9,7 +9,7 @@ invariant_of-self c =
     let g = c.self.inside in
     let inv = c.self.invariant in
     let same = inv.same in
-    let room = ap (λ (w : GraphIs). w.room) c.self.view_is in
+    let room = ap (λ (w : GraphView). w.room) c.self.view_is in
     record {
       chained = subst (λ (s : List (Option ℕ)). AreChained g.edges.items g.before.items s) (sym c.in-Ok-push.ensures.items) (chained_push g.edges.items g.before.items g.newest.items inv.chained);
       same = omega (arith, c.in-Ok.ensures.len, c.in-Ok-push.ensures.len, same);

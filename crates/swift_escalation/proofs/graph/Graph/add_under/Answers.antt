@@ -1,11 +1,11 @@
 use Rattle.swift_types.specs.declared.priority.Priority.TheVariants.{Background}
 use Rattle.std.proofs.lemmas.List.{get_or_read}
 use Rattle.std.proofs.Common.{◌<◌, get_or, ◌≡◌, ℕ, List, Option, length, arith, subst, sym, ap, ◌∙◌, [], ◌∷◌, ◌++◌}
-use Rattle.swift_escalation.specs.declared.graph.Edge.{Edge}
+use Rattle.swift_escalation.specs.declared.graph.TaskEdge.{TaskEdge}
 use Rattle.swift_escalation.proofs.Push.{settled_under, higher_first, chained_push}
 use Rattle.std.proofs.lemmas.List.{with_items_is}
 use Rattle.std.specs.Vec.{with_items}
-use Rattle.swift_escalation.specs.Levels.{AreChained, IsSettled, GraphIs, higher}
+use Rattle.swift_escalation.specs.Levels.{AreChained, IsSettled, GraphView, higher}
 use Rattle.swift_types.specs.declared.priority.Priority.{Priority}
 use Rattle.swift_escalation.proofs.graph.Graph.add_under.Goals as goal
 
@@ -17,8 +17,8 @@ link-requires-clause-chained c =
 pub invariant_of-self : goal.invariant_of-self
 invariant_of-self c =
     let n : (with_items c.push-2.new.self c.link.new.newest).items ≡ c.link.new.newest = with_items_is c.push-2.new.self c.link.new.newest (omega arith) in
-    let room = ap (λ (g : GraphIs). g.room) c.self.view_is in
-    let levels = ap (λ (g : GraphIs). g.levels) c.self.view_is in
+    let room = ap (λ (g : GraphView). g.room) c.self.view_is in
+    let levels = ap (λ (g : GraphView). g.levels) c.self.view_is in
     let parent : c.args.parent < length c.self.inside.levels.items = subst (λ (s : List Priority). c.args.parent < length s) (sym levels) c.requires.parent in
     let above : Priority = get_or c.self.inside.levels.items c.args.parent Background in
     let read : c.index.result.now ≡ above = get_or_read c.self.inside.levels.items c.args.parent c.index.result.now parent c.index.ensures Background in
@@ -28,7 +28,7 @@ invariant_of-self c =
     record {
       chained = subst (λ (s : List (Option ℕ)). AreChained c.link.new.edges.items c.link.new.before.items s) (sym n) c.link.ensures.chained;
       same = ap length n ∙ omega (arith, c.in-Ok.ensures.len, c.in-Ok-push.ensures.len);
-      settled = subst (λ (s : List Edge). IsSettled s c.push.new.self.items) (sym c.link.ensures.edges)
+      settled = subst (λ (s : List TaskEdge). IsSettled s c.push.new.self.items) (sym c.link.ensures.edges)
           (subst (λ (s : List Priority). IsSettled (c.self.inside.edges.items ++ (record { from = c.args.parent; to = c.len-place.result }) ∷ []) s) (sym c.in-Ok.ensures.items)
           (subst (λ (q : Priority). IsSettled (c.self.inside.edges.items ++ (record { from = c.args.parent; to = c.len-place.result }) ∷ []) (c.self.inside.levels.items ++ q ∷ [])) (sym level)
           (subst (λ (n : ℕ). IsSettled (c.self.inside.edges.items ++ (record { from = c.args.parent; to = n }) ∷ []) (c.self.inside.levels.items ++ higher above c.args.own ∷ [])) (sym place)

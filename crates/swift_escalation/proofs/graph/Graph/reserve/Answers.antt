@@ -1,6 +1,6 @@
 use Rattle.std.proofs.Common.{ℕ, List, Option, length, arith, subst, sym, ap, ◌∙◌}
 use Rattle.swift_types.specs.declared.priority.Priority.{Priority}
-use Rattle.swift_escalation.specs.declared.graph.Edge.{Edge}
+use Rattle.swift_escalation.specs.declared.graph.TaskEdge.{TaskEdge}
 use Rattle.swift_escalation.specs.Levels.{AreChained, IsSettled}
 use Rattle.swift_escalation.proofs.graph.Graph.reserve.Goals as goal
 
@@ -44,9 +44,9 @@ invariant_of-self-in_err-reserve-3 c =
     let newest = c.reserve-2.ensures in
     let edges = c.reserve-3.ensures in
     record {
-      chained = subst (λ (s : List (Option ℕ)). AreChained c.reserve-3.new.self.items c.self.inside.before.items s) (sym newest.items) (subst (λ (s : List Edge). AreChained s c.self.inside.before.items c.self.inside.newest.items) (sym edges.items) k.chained);
+      chained = subst (λ (s : List (Option ℕ)). AreChained c.reserve-3.new.self.items c.self.inside.before.items s) (sym newest.items) (subst (λ (s : List TaskEdge). AreChained s c.self.inside.before.items c.self.inside.newest.items) (sym edges.items) k.chained);
       same = ap length newest.items ∙ k.same ∙ sym (ap length levels.items);
-      settled = subst (λ (s : List Priority). IsSettled c.reserve-3.new.self.items s) (sym levels.items) (subst (λ (s : List Edge). IsSettled s c.self.inside.levels.items) (sym edges.items) k.settled);
+      settled = subst (λ (s : List Priority). IsSettled c.reserve-3.new.self.items s) (sym levels.items) (subst (λ (s : List TaskEdge). IsSettled s c.self.inside.levels.items) (sym edges.items) k.settled);
       empty = k.empty;
       levels_room = let r = k.levels_room in omega (arith, r, levels.len, levels.capacity);
       newest_room = let r = k.newest_room in omega (arith, r, newest.len, newest.capacity);
@@ -63,9 +63,9 @@ invariant_of-self-in_err-reserve-4 c =
     let edges = c.reserve-3.ensures in
     let before = c.reserve-4.ensures in
     record {
-      chained = subst (λ (s : List (Option ℕ)). AreChained c.reserve-3.new.self.items c.reserve-4.new.self.items s) (sym newest.items) (subst (λ (s : List (Option ℕ)). AreChained c.reserve-3.new.self.items s c.self.inside.newest.items) (sym before.items) (subst (λ (s : List Edge). AreChained s c.self.inside.before.items c.self.inside.newest.items) (sym edges.items) k.chained));
+      chained = subst (λ (s : List (Option ℕ)). AreChained c.reserve-3.new.self.items c.reserve-4.new.self.items s) (sym newest.items) (subst (λ (s : List (Option ℕ)). AreChained c.reserve-3.new.self.items s c.self.inside.newest.items) (sym before.items) (subst (λ (s : List TaskEdge). AreChained s c.self.inside.before.items c.self.inside.newest.items) (sym edges.items) k.chained));
       same = ap length newest.items ∙ k.same ∙ sym (ap length levels.items);
-      settled = subst (λ (s : List Priority). IsSettled c.reserve-3.new.self.items s) (sym levels.items) (subst (λ (s : List Edge). IsSettled s c.self.inside.levels.items) (sym edges.items) k.settled);
+      settled = subst (λ (s : List Priority). IsSettled c.reserve-3.new.self.items s) (sym levels.items) (subst (λ (s : List TaskEdge). IsSettled s c.self.inside.levels.items) (sym edges.items) k.settled);
       empty = k.empty;
       levels_room = let r = k.levels_room in omega (arith, r, levels.len, levels.capacity);
       newest_room = let r = k.newest_room in omega (arith, r, newest.len, newest.capacity);
@@ -83,9 +83,9 @@ invariant_of-self-in_err-reserve-5 c =
     let before = c.reserve-4.ensures in
     let raised = c.reserve-5.ensures in
     record {
-      chained = subst (λ (s : List (Option ℕ)). AreChained c.reserve-3.new.self.items c.reserve-4.new.self.items s) (sym newest.items) (subst (λ (s : List (Option ℕ)). AreChained c.reserve-3.new.self.items s c.self.inside.newest.items) (sym before.items) (subst (λ (s : List Edge). AreChained s c.self.inside.before.items c.self.inside.newest.items) (sym edges.items) k.chained));
+      chained = subst (λ (s : List (Option ℕ)). AreChained c.reserve-3.new.self.items c.reserve-4.new.self.items s) (sym newest.items) (subst (λ (s : List (Option ℕ)). AreChained c.reserve-3.new.self.items s c.self.inside.newest.items) (sym before.items) (subst (λ (s : List TaskEdge). AreChained s c.self.inside.before.items c.self.inside.newest.items) (sym edges.items) k.chained));
       same = ap length newest.items ∙ k.same ∙ sym (ap length levels.items);
-      settled = subst (λ (s : List Priority). IsSettled c.reserve-3.new.self.items s) (sym levels.items) (subst (λ (s : List Edge). IsSettled s c.self.inside.levels.items) (sym edges.items) k.settled);
+      settled = subst (λ (s : List Priority). IsSettled c.reserve-3.new.self.items s) (sym levels.items) (subst (λ (s : List TaskEdge). IsSettled s c.self.inside.levels.items) (sym edges.items) k.settled);
       empty = raised.len ∙ k.empty;
       levels_room = let r = k.levels_room in omega (arith, r, levels.len, levels.capacity);
       newest_room = let r = k.newest_room in omega (arith, r, newest.len, newest.capacity);
@@ -103,9 +103,9 @@ invariant_of-self-2 c =
     let before = c.in_ok-reserve-4.ensures in
     let raised = c.in_ok-reserve-5.ensures in
     record {
-      chained = subst (λ (s : List (Option ℕ)). AreChained c.reserve-3.new.self.items c.reserve-4.new.self.items s) (sym newest.items) (subst (λ (s : List (Option ℕ)). AreChained c.reserve-3.new.self.items s c.self.inside.newest.items) (sym before.items) (subst (λ (s : List Edge). AreChained s c.self.inside.before.items c.self.inside.newest.items) (sym edges.items) k.chained));
+      chained = subst (λ (s : List (Option ℕ)). AreChained c.reserve-3.new.self.items c.reserve-4.new.self.items s) (sym newest.items) (subst (λ (s : List (Option ℕ)). AreChained c.reserve-3.new.self.items s c.self.inside.newest.items) (sym before.items) (subst (λ (s : List TaskEdge). AreChained s c.self.inside.before.items c.self.inside.newest.items) (sym edges.items) k.chained));
       same = ap length newest.items ∙ k.same ∙ sym (ap length levels.items);
-      settled = subst (λ (s : List Priority). IsSettled c.reserve-3.new.self.items s) (sym levels.items) (subst (λ (s : List Edge). IsSettled s c.self.inside.levels.items) (sym edges.items) k.settled);
+      settled = subst (λ (s : List Priority). IsSettled c.reserve-3.new.self.items s) (sym levels.items) (subst (λ (s : List TaskEdge). IsSettled s c.self.inside.levels.items) (sym edges.items) k.settled);
       empty = raised.len ∙ k.empty;
       levels_room = levels.ok;
       newest_room = newest.ok;

@@ -1,11 +1,11 @@
 use Rattle.std.proofs.Common.{◌≡◌, ℕ, IsSome, Some, None, Option, IfSome, lit<, refl, ap, sym, subst, ◌∙◌}
-use Rattle.swift_queue.specs.Job.{JobIs}
+use Rattle.swift_job.specs.Job.{JobView}
 use Rattle.swift_turn.specs.Body.{BodyView}
-use Rattle.swift_history.specs.TurnEnds.{JobView}
+use Rattle.swift_history.specs.TurnEnds.{JobFacts}
 use Rattle.swift_types.specs.declared.id.TaskId.{TaskId}
 use Rattle.swift_executor.specs.Ready.{CanRestore}
 use Rattle.swift_executor.specs.FieldsInside.{FieldsAre}
-use Rattle.swift_executor.specs.State.{ChosenView, ExecView, HasChosen, IsChosen, IsExecutor, PutsBack}
+use Rattle.swift_executor.specs.State.{ChosenView, ExecStateView, HasChosen, IsChosen, ExecInvariant, PutsBack}
 use Rattle.swift_executor.specs.StateInside.{chosen_at, chosen_of, chosen_view}
 use Rattle.swift_executor.proofs.ChosenJob.{can_go, runs, seen}
 use Rattle.swift_executor.proofs.StateKept.{back_keeps, belongs_back, same_task}
@@ -14,14 +14,14 @@ use Rattle.swift_executor.proofs.state.ExecState.put_back.Goals as goal
 pub take_out-job-requires : goal.take_out-job-requires
 take_out-job-requires c =
     let x = c.self.inside in
-    let s : ExecView = record { script = x.home.script; executor = x.home.executor; ready = x.ready; chosen = chosen_of x.played x.chosen; journal = x.journal; checkpoint = x.checkpoint.view; fields = x.played.fields.before } in
-    let has : HasChosen s (λ _. Unit {0}) = subst (λ (v : ExecView). HasChosen v (λ _. Unit {0})) (sym c.self.view_is) c.requires in
-    subst (λ (o : Option (JobIs BodyView)). IsSome o) (sym (seen x.played x.chosen.arrival x.chosen.stage x.chosen.job has.0 has.1).job) refl
+    let s : ExecStateView = record { script = x.home.script; executor = x.home.executor; ready = x.ready; chosen = chosen_of x.played x.chosen; journal = x.journal; checkpoint = x.checkpoint.view; fields = x.played.fields.before } in
+    let has : HasChosen s (λ _. Unit {0}) = subst (λ (v : ExecStateView). HasChosen v (λ _. Unit {0})) (sym c.self.view_is) c.requires in
+    subst (λ (o : Option (JobView BodyView)). IsSome o) (sym (seen x.played x.chosen.arrival x.chosen.stage x.chosen.job has.0 has.1).job) refl
 
 pub as_chosen-job-requires : goal.as_chosen-job-requires
 as_chosen-job-requires c =
     let x = c.self.inside in
-    let s : ExecView = record { script = x.home.script; executor = x.home.executor; ready = x.ready; chosen = chosen_of x.played x.chosen; journal = x.journal; checkpoint = x.checkpoint.view; fields = x.played.fields.before } in
+    let s : ExecStateView = record { script = x.home.script; executor = x.home.executor; ready = x.ready; chosen = chosen_of x.played x.chosen; journal = x.journal; checkpoint = x.checkpoint.view; fields = x.played.fields.before } in
     let chosen = chosen_view x.played x.chosen.arrival x.chosen.stage c.take_out-job.result in
     let at : s.chosen ≡ Some chosen = ap (chosen_at x.played x.chosen.arrival x.chosen.stage) c.take_out-job.ensures.was in
     let was : IsChosen s chosen = subst (λ (o : Option ChosenView). IfSome o (IsChosen s)) at c.self.invariant.chosen in
@@ -33,37 +33,37 @@ as_chosen-job-requires c =
 pub restore-requires : goal.restore-requires
 restore-requires c =
     let x = c.self.inside in
-    let s : ExecView = record { script = x.home.script; executor = x.home.executor; ready = x.ready; chosen = chosen_of x.played x.chosen; journal = x.journal; checkpoint = x.checkpoint.view; fields = x.played.fields.before } in
+    let s : ExecStateView = record { script = x.home.script; executor = x.home.executor; ready = x.ready; chosen = chosen_of x.played x.chosen; journal = x.journal; checkpoint = x.checkpoint.view; fields = x.played.fields.before } in
     let chosen = chosen_view x.played x.chosen.arrival x.chosen.stage c.take_out-job.result in
     let at : s.chosen ≡ Some chosen = ap (chosen_at x.played x.chosen.arrival x.chosen.stage) c.take_out-job.ensures.was in
     let was : IsChosen s chosen = subst (λ (o : Option ChosenView). IfSome o (IsChosen s)) at c.self.invariant.chosen in
-    let task : c.as_chosen-job.result.task ≡ chosen.job.task = ap (λ (n : ℕ). record { 0 = n }) (ap (λ (v : JobView). v.task) c.as_chosen-job.ensures.job ∙ same_task chosen.stage chosen.job) in
+    let task : c.as_chosen-job.result.task ≡ chosen.job.task = ap (λ (n : ℕ). record { 0 = n }) (ap (λ (v : JobFacts). v.task) c.as_chosen-job.ensures.job ∙ same_task chosen.stage chosen.job) in
     (lit< tt, subst (λ (t : TaskId). CanRestore s.ready t x.chosen.arrival) (sym task) was.restorable)
 
 pub invariant_of-self : goal.invariant_of-self
 invariant_of-self c =
     let x = c.self.inside in
-    let s : ExecView = record { script = x.home.script; executor = x.home.executor; ready = x.ready; chosen = chosen_of x.played x.chosen; journal = x.journal; checkpoint = x.checkpoint.view; fields = x.played.fields.before } in
+    let s : ExecStateView = record { script = x.home.script; executor = x.home.executor; ready = x.ready; chosen = chosen_of x.played x.chosen; journal = x.journal; checkpoint = x.checkpoint.view; fields = x.played.fields.before } in
     let chosen = chosen_view x.played x.chosen.arrival x.chosen.stage c.take_out-job.result in
     let at : s.chosen ≡ Some chosen = ap (chosen_at x.played x.chosen.arrival x.chosen.stage) c.take_out-job.ensures.was in
     let was : IsChosen s chosen = subst (λ (o : Option ChosenView). IfSome o (IsChosen s)) at c.self.invariant.chosen in
     let view = c.as_chosen-job.ensures.job in
     let belongs = belongs_back s.script s.executor s.fields chosen.stage chosen.job c.as_chosen-job.result was.belongs was.plays view c.as_chosen-job.ensures.script in
-    let task : c.as_chosen-job.result.task ≡ chosen.job.task = ap (λ (n : ℕ). record { 0 = n }) (ap (λ (v : JobView). v.task) view ∙ same_task chosen.stage chosen.job) in
+    let task : c.as_chosen-job.result.task ≡ chosen.job.task = ap (λ (n : ℕ). record { 0 = n }) (ap (λ (v : JobFacts). v.task) view ∙ same_task chosen.stage chosen.job) in
     let p = c.as_chosen-job.new.played in
-    subst (λ (f : FieldsAre). IsExecutor (record s { ready = c.restore.new.self; chosen = chosen_at p x.chosen.arrival x.chosen.stage c.take_out-job.new.place; fields = f.before })) (sym c.as_chosen-job.ensures.same)
-    (subst (λ (o : Option (JobIs BodyView)). IsExecutor (record s { ready = c.restore.new.self; chosen = chosen_at p x.chosen.arrival x.chosen.stage o })) (sym c.take_out-job.ensures.gone)
+    subst (λ (f : FieldsAre). ExecInvariant (record s { ready = c.restore.new.self; chosen = chosen_at p x.chosen.arrival x.chosen.stage c.take_out-job.new.place; fields = f.before })) (sym c.as_chosen-job.ensures.same)
+    (subst (λ (o : Option (JobView BodyView)). ExecInvariant (record s { ready = c.restore.new.self; chosen = chosen_at p x.chosen.arrival x.chosen.stage o })) (sym c.take_out-job.ensures.gone)
     (back_keeps s chosen c.as_chosen-job.result c.restore.new.self c.self.invariant at belongs task c.restore.ensures.front c.restore.ensures.rest))
 
 pub returns : goal.returns
 returns c =
     let x = c.self.inside in
-    let s : ExecView = record { script = x.home.script; executor = x.home.executor; ready = x.ready; chosen = chosen_of x.played x.chosen; journal = x.journal; checkpoint = x.checkpoint.view; fields = x.played.fields.before } in
+    let s : ExecStateView = record { script = x.home.script; executor = x.home.executor; ready = x.ready; chosen = chosen_of x.played x.chosen; journal = x.journal; checkpoint = x.checkpoint.view; fields = x.played.fields.before } in
     let chosen = chosen_view x.played x.chosen.arrival x.chosen.stage c.take_out-job.result in
     let at : s.chosen ≡ Some chosen = ap (chosen_at x.played x.chosen.arrival x.chosen.stage) c.take_out-job.ensures.was in
     let p = c.as_chosen-job.new.played in
-    let new : ExecView = record s { ready = c.restore.new.self; chosen = chosen_at p x.chosen.arrival x.chosen.stage c.take_out-job.new.place; fields = p.fields.before } in
-    subst (λ (v : ExecView). HasChosen v (PutsBack v new)) c.self.view_is (
+    let new : ExecStateView = record s { ready = c.restore.new.self; chosen = chosen_at p x.chosen.arrival x.chosen.stage c.take_out-job.new.place; fields = p.fields.before } in
+    subst (λ (v : ExecStateView). HasChosen v (PutsBack v new)) c.self.view_is (
       chosen,
       at,
       record {
@@ -71,7 +71,7 @@ returns c =
         same_job = c.as_chosen-job.ensures.job;
         front = c.restore.ensures.front;
         same = ap (λ (f : FieldsAre). record s { ready = c.restore.new.self; chosen = chosen_at p x.chosen.arrival x.chosen.stage c.take_out-job.new.place; fields = f.before }) c.as_chosen-job.ensures.same
-            ∙ ap (λ (o : Option (JobIs BodyView)). record s { ready = c.restore.new.self; chosen = chosen_at p x.chosen.arrival x.chosen.stage o }) c.take_out-job.ensures.gone
+            ∙ ap (λ (o : Option (JobView BodyView)). record s { ready = c.restore.new.self; chosen = chosen_at p x.chosen.arrival x.chosen.stage o }) c.take_out-job.ensures.gone
             ∙ ap (λ (r : _). record s { ready = r; chosen = None }) c.restore.ensures.rest;
       },
     )

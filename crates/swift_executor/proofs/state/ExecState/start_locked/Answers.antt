@@ -3,10 +3,10 @@ use Rattle.std.proofs.lemmas.Option.{same_Some}
 use Rattle.swift_events.specs.declared.event.Event.TheVariants.{Begin as Begins_event}
 use Rattle.swift_tasks.specs.Books.{BookView}
 use Rattle.swift_executor.specs.Seats.{IsSeatFor}
-use Rattle.swift_executor.specs.State.{BeginsTurn, ChosenView, ExecView, HasChosen, IsChosen, IsExecutor, IsPicked, PutsBack, begun}
+use Rattle.swift_executor.specs.State.{BeginsTurn, ChosenView, ExecStateView, HasChosen, IsChosen, ExecInvariant, IsPicked, PutsBack, begun}
 use Rattle.swift_executor.specs.StateInside.{chosen_at, chosen_of, chosen_view}
 use Rattle.swift_executor.specs.declared.chosen.Chosen.{Chosen}
-use Rattle.swift_executor.specs.declared.chosen.Stage.TheVariants.{Begun}
+use Rattle.swift_executor.specs.declared.chosen.ChosenStage.TheVariants.{Begun}
 use Rattle.swift_executor.proofs.ChosenJob.{seen}
 use Rattle.swift_executor.proofs.SeatKept.{back_knows, began_knows, picked_has_ticket}
 use Rattle.swift_executor.proofs.StateKept.{stage_keeps, stage_picked}
@@ -15,43 +15,43 @@ use Rattle.swift_executor.proofs.state.ExecState.start_locked.Goals as goal
 pub begin_locked-requires : goal.begin_locked-requires
 begin_locked-requires g c =
     let x = c.self.inside in
-    let s : ExecView = record { script = x.home.script; executor = x.home.executor; ready = x.ready; chosen = chosen_of x.played x.chosen; journal = x.journal; checkpoint = x.checkpoint.view; fields = x.played.fields.before } in
-    let has : HasChosen s (λ c. IsPicked c.stage) = subst (λ (v : ExecView). HasChosen v (λ c. IsPicked c.stage)) (sym c.self.view_is) c.requires.picked in
+    let s : ExecStateView = record { script = x.home.script; executor = x.home.executor; ready = x.ready; chosen = chosen_of x.played x.chosen; journal = x.journal; checkpoint = x.checkpoint.view; fields = x.played.fields.before } in
+    let has : HasChosen s (λ c. IsPicked c.stage) = subst (λ (v : ExecStateView). HasChosen v (λ c. IsPicked c.stage)) (sym c.self.view_is) c.requires.picked in
     let was : IsChosen s has.0 = subst (λ (o : Option ChosenView). IfSome o (IsChosen s)) has.1 c.self.invariant.chosen in
-    let known : IsSeatFor s c.args.seat.now = subst (λ (v : ExecView). IsSeatFor v c.args.seat.now) (sym c.self.view_is) c.requires.known in
+    let known : IsSeatFor s c.args.seat.now = subst (λ (v : ExecStateView). IsSeatFor v c.args.seat.now) (sym c.self.view_is) c.requires.known in
     record {
       seat = c.requires.seat;
       job = (
         has.0.job,
         (seen x.played x.chosen.arrival x.chosen.stage x.chosen.job has.0 has.1).job,
-        (was.belongs.script_is ∙ ap (λ (v : ExecView). v.script) c.self.view_is ∙ sym c.requires.script, picked_has_ticket s c.args.seat.now has.0 known has.1 (stage_picked has.0.stage has.2)),
+        (was.belongs.script_is ∙ ap (λ (v : ExecStateView). v.script) c.self.view_is ∙ sym c.requires.script, picked_has_ticket s c.args.seat.now has.0 known has.1 (stage_picked has.0.stage has.2)),
       );
     }
 
 pub invariant_of-self : goal.invariant_of-self
 invariant_of-self g c =
     let x = c.self.inside in
-    let s : ExecView = record { script = x.home.script; executor = x.home.executor; ready = x.ready; chosen = chosen_of x.played x.chosen; journal = x.journal; checkpoint = x.checkpoint.view; fields = x.played.fields.before } in
+    let s : ExecStateView = record { script = x.home.script; executor = x.home.executor; ready = x.ready; chosen = chosen_of x.played x.chosen; journal = x.journal; checkpoint = x.checkpoint.view; fields = x.played.fields.before } in
     let h = c.in-Ok.ensures.ok in
     let chosen = chosen_view x.played x.chosen.arrival x.chosen.stage h.0 in
     let at : s.chosen ≡ Some chosen = ap (chosen_at x.played x.chosen.arrival x.chosen.stage) h.1 in
     let was : IsChosen s chosen = subst (λ (o : Option ChosenView). IfSome o (IsChosen s)) at c.self.invariant.chosen in
     let new : chosen_of x.played c.begin_locked.new.chosen ≡ Some (record chosen { stage = begun c.args.worker h.2.env }) =
     ap (chosen_of x.played) h.2.new_is ∙ ap (chosen_at x.played x.chosen.arrival (Begun c.args.worker h.2.env)) h.1 in
-    subst (λ (o : Option ChosenView). IsExecutor (record s { chosen = o })) (sym new)
+    subst (λ (o : Option ChosenView). ExecInvariant (record s { chosen = o })) (sym new)
     (stage_keeps s chosen (record chosen { stage = begun c.args.worker h.2.env }) c.self.invariant at was.belongs refl refl tt)
 
 pub invariant_of-self-in-Err : goal.invariant_of-self-in-Err
 invariant_of-self-in-Err g c =
     let x = c.self.inside in
-    let s : ExecView = record { script = x.home.script; executor = x.home.executor; ready = x.ready; chosen = chosen_of x.played x.chosen; journal = x.journal; checkpoint = x.checkpoint.view; fields = x.played.fields.before } in
-    subst (λ (o : Chosen). IsExecutor (record s { chosen = chosen_of x.played o })) (sym c.in-Err.ensures.err.0) c.self.invariant
+    let s : ExecStateView = record { script = x.home.script; executor = x.home.executor; ready = x.ready; chosen = chosen_of x.played x.chosen; journal = x.journal; checkpoint = x.checkpoint.view; fields = x.played.fields.before } in
+    subst (λ (o : Chosen). ExecInvariant (record s { chosen = chosen_of x.played o })) (sym c.in-Err.ensures.err.0) c.self.invariant
 
 pub put_back-requires : goal.put_back-requires
 put_back-requires g c =
     let x = c.self.inside in
-    let s : ExecView = record { script = x.home.script; executor = x.home.executor; ready = x.ready; chosen = chosen_of x.played x.chosen; journal = x.journal; checkpoint = x.checkpoint.view; fields = x.played.fields.before } in
-    let has : HasChosen s (λ c. IsPicked c.stage) = subst (λ (v : ExecView). HasChosen v (λ c. IsPicked c.stage)) (sym c.self.view_is) c.requires.picked in
+    let s : ExecStateView = record { script = x.home.script; executor = x.home.executor; ready = x.ready; chosen = chosen_of x.played x.chosen; journal = x.journal; checkpoint = x.checkpoint.view; fields = x.played.fields.before } in
+    let has : HasChosen s (λ c. IsPicked c.stage) = subst (λ (v : ExecStateView). HasChosen v (λ c. IsPicked c.stage)) (sym c.self.view_is) c.requires.picked in
     (has.0, ap (chosen_of x.played) c.in-Err.ensures.err.0 ∙ has.1, tt)
 
 pub returns-in-Ok-clause-seat : goal.returns-in-Ok-clause-seat
@@ -63,13 +63,13 @@ returns-in-Ok-clause-seat g c =
 pub returns-in-Ok-clause-known : goal.returns-in-Ok-clause-known
 returns-in-Ok-clause-known g c =
     let x = c.self.inside in
-    let s : ExecView = record { script = x.home.script; executor = x.home.executor; ready = x.ready; chosen = chosen_of x.played x.chosen; journal = x.journal; checkpoint = x.checkpoint.view; fields = x.played.fields.before } in
+    let s : ExecStateView = record { script = x.home.script; executor = x.home.executor; ready = x.ready; chosen = chosen_of x.played x.chosen; journal = x.journal; checkpoint = x.checkpoint.view; fields = x.played.fields.before } in
     let h = c.in-Ok.ensures.ok in
     let chosen = chosen_view x.played x.chosen.arrival x.chosen.stage h.0 in
     let at : s.chosen ≡ Some chosen = ap (chosen_at x.played x.chosen.arrival x.chosen.stage) h.1 in
-    let has : HasChosen s (λ c. IsPicked c.stage) = subst (λ (v : ExecView). HasChosen v (λ c. IsPicked c.stage)) (sym c.self.view_is) c.requires.picked in
+    let has : HasChosen s (λ c. IsPicked c.stage) = subst (λ (v : ExecStateView). HasChosen v (λ c. IsPicked c.stage)) (sym c.self.view_is) c.requires.picked in
     let was : IsPicked chosen.stage = subst (λ (v : ChosenView). IsPicked v.stage) (same_Some has.0 chosen (sym has.1 ∙ at)) has.2 in
-    let known : IsSeatFor s c.args.seat.now = subst (λ (v : ExecView). IsSeatFor v c.args.seat.now) (sym c.self.view_is) c.requires.known in
+    let known : IsSeatFor s c.args.seat.now = subst (λ (v : ExecStateView). IsSeatFor v c.args.seat.now) (sym c.self.view_is) c.requires.known in
     let new : chosen_of x.played c.begin_locked.new.chosen ≡ Some (record chosen { stage = begun c.args.worker h.2.env }) =
     ap (chosen_of x.played) h.2.new_is ∙ ap (chosen_at x.played x.chosen.arrival (Begun c.args.worker h.2.env)) h.1 in
     subst (λ (o : Option ChosenView). IsSeatFor (record s { chosen = o }) c.begin_locked.new.seat) (sym new)
@@ -78,17 +78,17 @@ returns-in-Ok-clause-known g c =
 pub returns-in-Ok-clause-ok : goal.returns-in-Ok-clause-ok
 returns-in-Ok-clause-ok g c =
     let x = c.self.inside in
-    let s : ExecView = record { script = x.home.script; executor = x.home.executor; ready = x.ready; chosen = chosen_of x.played x.chosen; journal = x.journal; checkpoint = x.checkpoint.view; fields = x.played.fields.before } in
+    let s : ExecStateView = record { script = x.home.script; executor = x.home.executor; ready = x.ready; chosen = chosen_of x.played x.chosen; journal = x.journal; checkpoint = x.checkpoint.view; fields = x.played.fields.before } in
     let h = c.in-Ok.ensures.ok in
     let chosen = chosen_view x.played x.chosen.arrival x.chosen.stage h.0 in
     let at : s.chosen ≡ Some chosen = ap (chosen_at x.played x.chosen.arrival x.chosen.stage) h.1 in
-    let has : HasChosen s (λ c. IsPicked c.stage) = subst (λ (v : ExecView). HasChosen v (λ c. IsPicked c.stage)) (sym c.self.view_is) c.requires.picked in
+    let has : HasChosen s (λ c. IsPicked c.stage) = subst (λ (v : ExecStateView). HasChosen v (λ c. IsPicked c.stage)) (sym c.self.view_is) c.requires.picked in
     let was : IsPicked chosen.stage = subst (λ (v : ChosenView). IsPicked v.stage) (same_Some has.0 chosen (sym has.1 ∙ at)) has.2 in
-    let of_script = h.2.book_of ∙ c.requires.script ∙ sym (ap (λ (v : ExecView). v.script) c.self.view_is) in
-    let new : ExecView = record s { chosen = chosen_of x.played c.begin_locked.new.chosen } in
+    let of_script = h.2.book_of ∙ c.requires.script ∙ sym (ap (λ (v : ExecStateView). v.script) c.self.view_is) in
+    let new : ExecStateView = record s { chosen = chosen_of x.played c.begin_locked.new.chosen } in
     let book = h.2.book in
     let book' : BookView = record book { log = book.log ++ Begins_event h.0.task h.0.number h.2.env ∷ [] } in
-    subst (λ (v : ExecView). BeginsTurn c.args.worker v new) c.self.view_is
+    subst (λ (v : ExecStateView). BeginsTurn c.args.worker v new) c.self.view_is
     (record {
       book = book;
       book_after = book';
@@ -109,14 +109,14 @@ returns-in-Ok-clause-ok g c =
 pub returns-in-Err-clause-known : goal.returns-in-Err-clause-known
 returns-in-Err-clause-known g c =
     let x = c.self.inside in
-    let s : ExecView = record { script = x.home.script; executor = x.home.executor; ready = x.ready; chosen = chosen_of x.played x.chosen; journal = x.journal; checkpoint = x.checkpoint.view; fields = x.played.fields.before } in
+    let s : ExecStateView = record { script = x.home.script; executor = x.home.executor; ready = x.ready; chosen = chosen_of x.played x.chosen; journal = x.journal; checkpoint = x.checkpoint.view; fields = x.played.fields.before } in
     let same : record s { chosen = chosen_of x.played c.begin_locked.new.chosen } ≡ c.args.self.now = ap (λ (o : Chosen). record s { chosen = chosen_of x.played o }) c.in-Err.ensures.err.0 ∙ c.self.view_is in
-    let back = subst (λ (v : ExecView). HasChosen v (PutsBack v c.put_back.new.self)) same c.put_back.ensures in
+    let back = subst (λ (v : ExecStateView). HasChosen v (PutsBack v c.put_back.new.self)) same c.put_back.ensures in
     subst (λ seat. IsSeatFor c.put_back.new.self seat) (sym c.in-Err.ensures.err.1) (back_knows c.args.self.now c.put_back.new.self c.args.seat.now c.requires.known back)
 
 pub returns-in-Err-clause-back : goal.returns-in-Err-clause-back
 returns-in-Err-clause-back g c =
     let x = c.self.inside in
-    let s : ExecView = record { script = x.home.script; executor = x.home.executor; ready = x.ready; chosen = chosen_of x.played x.chosen; journal = x.journal; checkpoint = x.checkpoint.view; fields = x.played.fields.before } in
+    let s : ExecStateView = record { script = x.home.script; executor = x.home.executor; ready = x.ready; chosen = chosen_of x.played x.chosen; journal = x.journal; checkpoint = x.checkpoint.view; fields = x.played.fields.before } in
     let same : record s { chosen = chosen_of x.played c.begin_locked.new.chosen } ≡ c.args.self.now = ap (λ (o : Chosen). record s { chosen = chosen_of x.played o }) c.in-Err.ensures.err.0 ∙ c.self.view_is in
-    subst (λ (v : ExecView). HasChosen v (PutsBack v c.put_back.new.self)) same c.put_back.ensures
+    subst (λ (v : ExecStateView). HasChosen v (PutsBack v c.put_back.new.self)) same c.put_back.ensures

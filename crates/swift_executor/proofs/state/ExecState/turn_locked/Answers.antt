@@ -2,17 +2,18 @@ use Rattle.std.proofs.Common.{◌≡◌, Some, Option, IfSome, map, refl, ap, sy
 use Rattle.std.proofs.lemmas.Option.{same_Some}
 use Rattle.swift_interpreter.specs.Frames.{effect_views}
 use Rattle.swift_interpreter.specs.TurnStates.{exit_view}
-use Rattle.swift_queue.specs.Job.{JobIs}
+use Rattle.swift_job.specs.Job.{JobView}
 use Rattle.swift_turn.specs.Body.{BodyView}
 use Rattle.std.specs.List.{AllByRecursion}
 use Rattle.swift_script.specs.Scripts.{ScriptView}
-use Rattle.swift_tasks.specs.Books.{IsJobOf, job_view}
+use Rattle.swift_tasks.specs.Books.{IsJobOf}
+use Rattle.swift_history.specs.Jobs.{job_facts}
 use Rattle.swift_executor.specs.Playing.{Applied}
 use Rattle.swift_executor.specs.FieldsInside.{FieldsAre}
-use Rattle.swift_executor.specs.State.{ChosenView, EndsTurn, ExecView, HasChosen, IsChosen, IsExecutor, IsPlayed, PutsBack}
+use Rattle.swift_executor.specs.State.{ChosenView, EndsTurn, ExecStateView, HasChosen, IsChosen, ExecInvariant, IsPlayed, PutsBack}
 use Rattle.swift_executor.specs.Seats.{IsSeatFor}
 use Rattle.swift_executor.specs.StateInside.{chosen_at, chosen_of, chosen_view, stage_of}
-use Rattle.swift_executor.specs.declared.chosen.Played.{Played}
+use Rattle.swift_executor.specs.declared.chosen.PlayedTurn.{PlayedTurn}
 use Rattle.swift_executor.proofs.ChosenJob.{played_stage, runs, seen}
 use Rattle.swift_executor.proofs.Ended.{ended, unchanged}
 use Rattle.swift_executor.proofs.SeatKept.{back_knows}
@@ -22,8 +23,8 @@ use Rattle.swift_executor.proofs.state.ExecState.turn_locked.Goals as goal
 pub prepare-requires : goal.prepare-requires
 prepare-requires g c =
     let x = c.self.inside in
-    let s : ExecView = record { script = x.home.script; executor = x.home.executor; ready = x.ready; chosen = chosen_of x.played x.chosen; journal = x.journal; checkpoint = x.checkpoint.view; fields = x.played.fields.before } in
-    let has : HasChosen s (λ c. IsPlayed c.stage) = subst (λ (v : ExecView). HasChosen v (λ c. IsPlayed c.stage)) (sym c.self.view_is) c.requires.played in
+    let s : ExecStateView = record { script = x.home.script; executor = x.home.executor; ready = x.ready; chosen = chosen_of x.played x.chosen; journal = x.journal; checkpoint = x.checkpoint.view; fields = x.played.fields.before } in
+    let has : HasChosen s (λ c. IsPlayed c.stage) = subst (λ (v : ExecStateView). HasChosen v (λ c. IsPlayed c.stage)) (sym c.self.view_is) c.requires.played in
     let was : IsChosen s has.0 = subst (λ (o : Option ChosenView). IfSome o (IsChosen s)) has.1 c.self.invariant.chosen in
     let k = seen x.played x.chosen.arrival x.chosen.stage x.chosen.job has.0 has.1 in
     record {
@@ -34,16 +35,16 @@ prepare-requires g c =
 pub apply_locked-requires : goal.apply_locked-requires
 apply_locked-requires g c =
     let x = c.self.inside in
-    let s : ExecView = record { script = x.home.script; executor = x.home.executor; ready = x.ready; chosen = chosen_of x.played x.chosen; journal = x.journal; checkpoint = x.checkpoint.view; fields = x.played.fields.before } in
+    let s : ExecStateView = record { script = x.home.script; executor = x.home.executor; ready = x.ready; chosen = chosen_of x.played x.chosen; journal = x.journal; checkpoint = x.checkpoint.view; fields = x.played.fields.before } in
     let w = c.in-Ok.ensures.written in
     let was : IsChosen s (chosen_view x.played x.chosen.arrival x.chosen.stage w.0) = subst (λ (o : Option ChosenView). IfSome o (IsChosen s)) (ap (chosen_at x.played x.chosen.arrival x.chosen.stage) w.1) c.self.invariant.chosen in
-    let has : HasChosen s (λ c. IsPlayed c.stage) = subst (λ (v : ExecView). HasChosen v (λ c. IsPlayed c.stage)) (sym c.self.view_is) c.requires.played in
-    let known : IsSeatFor s c.args.seat.now = subst (λ (v : ExecView). IsSeatFor v c.args.seat.now) (sym c.self.view_is) c.requires.known in
+    let has : HasChosen s (λ c. IsPlayed c.stage) = subst (λ (v : ExecStateView). HasChosen v (λ c. IsPlayed c.stage)) (sym c.self.view_is) c.requires.played in
+    let known : IsSeatFor s c.args.seat.now = subst (λ (v : ExecStateView). IsSeatFor v c.args.seat.now) (sym c.self.view_is) c.requires.known in
     let seen_is : s.chosen ≡ Some (chosen_view x.played x.chosen.arrival x.chosen.stage w.0) = ap (chosen_at x.played x.chosen.arrival x.chosen.stage) w.1 in
     let played_is : IsPlayed (stage_of x.played x.chosen.stage) = subst (λ (v : ChosenView). IsPlayed v.stage) (same_Some has.0 (chosen_view x.played x.chosen.arrival x.chosen.stage w.0) (sym has.1 ∙ seen_is)) has.2 in
-    let r = written s x.played x.chosen.arrival x.chosen.stage w.0 c.prepare.new.journal c.args.seat.now c.args.book.now.script c.self.invariant seen_is played_is w.2 known (c.requires.script ∙ sym (ap (λ (v : ExecView). v.script) c.self.view_is)) in
+    let r = written s x.played x.chosen.arrival x.chosen.stage w.0 c.prepare.new.journal c.args.seat.now c.args.book.now.script c.self.invariant seen_is played_is w.2 known (c.requires.script ∙ sym (ap (λ (v : ExecStateView). v.script) c.self.view_is)) in
     record {
-      job = (w.0, w.1, (runs s.script s.executor w.0 was.belongs, was.belongs.script_is ∙ ap (λ (v : ExecView). v.script) c.self.view_is ∙ sym c.requires.script));
+      job = (w.0, w.1, (runs s.script s.executor w.0 was.belongs, was.belongs.script_is ∙ ap (λ (v : ExecStateView). v.script) c.self.view_is ∙ sym c.requires.script));
       seat = c.requires.seat;
       jobs = c.requires.jobs;
       plays = (w.0, w.1, (r.r, r.newest_is, r.exit, r.effects, r.plays));
@@ -52,77 +53,77 @@ apply_locked-requires g c =
 pub invariant_of-self-in-Ok-apply_locked : goal.invariant_of-self-in-Ok-apply_locked
 invariant_of-self-in-Ok-apply_locked g c =
     let x = c.self.inside in
-    let s : ExecView = record { script = x.home.script; executor = x.home.executor; ready = x.ready; chosen = chosen_of x.played x.chosen; journal = x.journal; checkpoint = x.checkpoint.view; fields = x.played.fields.before } in
+    let s : ExecStateView = record { script = x.home.script; executor = x.home.executor; ready = x.ready; chosen = chosen_of x.played x.chosen; journal = x.journal; checkpoint = x.checkpoint.view; fields = x.played.fields.before } in
     let h = c.in-Ok-apply_locked.ensures.ok in
     let w = c.in-Ok.ensures.written in
-    let has : HasChosen s (λ c. IsPlayed c.stage) = subst (λ (v : ExecView). HasChosen v (λ c. IsPlayed c.stage)) (sym c.self.view_is) c.requires.played in
+    let has : HasChosen s (λ c. IsPlayed c.stage) = subst (λ (v : ExecStateView). HasChosen v (λ c. IsPlayed c.stage)) (sym c.self.view_is) c.requires.played in
     let same : h.0 ≡ w.0 = same_Some h.0 w.0 (sym h.1 ∙ w.1) in
     let book = h.2.book in
     let book' = h.2.book_after in
-    let jobs = map job_view c.args.jobs.now.jobs in
-    let jobs' = map job_view c.apply_locked.new.jobs.jobs in
+    let jobs = map job_facts c.args.jobs.now.jobs in
+    let jobs' = map job_facts c.apply_locked.new.jobs.jobs in
     let applied : Applied book book' w.0 (effect_views x.played.effects.items) (exit_view x.played.exit) jobs jobs' =
-    subst (λ (j : JobIs BodyView). Applied book book' j (effect_views x.played.effects.items) (exit_view x.played.exit) jobs jobs') same h.2.takes.applied in
-    let p' : Played = record x.played { fields = c.keep.new.self } in
+    subst (λ (j : JobView BodyView). Applied book book' j (effect_views x.played.effects.items) (exit_view x.played.exit) jobs jobs') same h.2.takes.applied in
+    let p' : PlayedTurn = record x.played { fields = c.keep.new.self } in
     let d = ended s x.played p' x.chosen.arrival x.chosen.stage x.chosen.job c.apply_locked.new.place w.0 c.prepare.new.journal refl w.1 has w.2
     book book' jobs jobs' c.in-Ok-apply_locked.task c.settle.new.journal c.in-Ok.copy c.prepare.new.checkpoint c.settle.new.checkpoint c.forward.new.self c.keep.new.self.before
-    c.lawful_grows.ensures c.invariants_stay.ensures c.self.invariant c.in-Ok.ensures.same c.in-Ok.ensures.room c.settle.ensures c.forward.ensures (h.2.takes.task_is ∙ ap (λ (j : JobIs BodyView). j.task) same)
+    c.lawful_grows.ensures c.invariants_stay.ensures c.self.invariant c.in-Ok.ensures.same c.in-Ok.ensures.room c.settle.ensures c.forward.ensures (h.2.takes.task_is ∙ ap (λ (j : JobView BodyView). j.task) same)
     applied c.in-Ok-apply_locked.ensures.gone (ap (λ (f : FieldsAre). f.before) c.keep.ensures) in
     d.keeps
 
 pub returns-in-Ok-apply_locked-clause-ok : goal.returns-in-Ok-apply_locked-clause-ok
 returns-in-Ok-apply_locked-clause-ok g c =
     let x = c.self.inside in
-    let s : ExecView = record { script = x.home.script; executor = x.home.executor; ready = x.ready; chosen = chosen_of x.played x.chosen; journal = x.journal; checkpoint = x.checkpoint.view; fields = x.played.fields.before } in
+    let s : ExecStateView = record { script = x.home.script; executor = x.home.executor; ready = x.ready; chosen = chosen_of x.played x.chosen; journal = x.journal; checkpoint = x.checkpoint.view; fields = x.played.fields.before } in
     let h = c.in-Ok-apply_locked.ensures.ok in
     let w = c.in-Ok.ensures.written in
-    let has : HasChosen s (λ c. IsPlayed c.stage) = subst (λ (v : ExecView). HasChosen v (λ c. IsPlayed c.stage)) (sym c.self.view_is) c.requires.played in
+    let has : HasChosen s (λ c. IsPlayed c.stage) = subst (λ (v : ExecStateView). HasChosen v (λ c. IsPlayed c.stage)) (sym c.self.view_is) c.requires.played in
     let same : h.0 ≡ w.0 = same_Some h.0 w.0 (sym h.1 ∙ w.1) in
     let book = h.2.book in
     let book' = h.2.book_after in
-    let jobs = map job_view c.args.jobs.now.jobs in
-    let jobs' = map job_view c.apply_locked.new.jobs.jobs in
+    let jobs = map job_facts c.args.jobs.now.jobs in
+    let jobs' = map job_facts c.apply_locked.new.jobs.jobs in
     let applied : Applied book book' w.0 (effect_views x.played.effects.items) (exit_view x.played.exit) jobs jobs' =
-    subst (λ (j : JobIs BodyView). Applied book book' j (effect_views x.played.effects.items) (exit_view x.played.exit) jobs jobs') same h.2.takes.applied in
-    let p' : Played = record x.played { fields = c.keep.new.self } in
+    subst (λ (j : JobView BodyView). Applied book book' j (effect_views x.played.effects.items) (exit_view x.played.exit) jobs jobs') same h.2.takes.applied in
+    let p' : PlayedTurn = record x.played { fields = c.keep.new.self } in
     let d = ended s x.played p' x.chosen.arrival x.chosen.stage x.chosen.job c.apply_locked.new.place w.0 c.prepare.new.journal refl w.1 has w.2
     book book' jobs jobs' c.in-Ok-apply_locked.task c.settle.new.journal c.in-Ok.copy c.prepare.new.checkpoint c.settle.new.checkpoint c.forward.new.self c.keep.new.self.before
-    c.lawful_grows.ensures c.invariants_stay.ensures c.self.invariant c.in-Ok.ensures.same c.in-Ok.ensures.room c.settle.ensures c.forward.ensures (h.2.takes.task_is ∙ ap (λ (j : JobIs BodyView). j.task) same)
+    c.lawful_grows.ensures c.invariants_stay.ensures c.self.invariant c.in-Ok.ensures.same c.in-Ok.ensures.room c.settle.ensures c.forward.ensures (h.2.takes.task_is ∙ ap (λ (j : JobView BodyView). j.task) same)
     applied c.in-Ok-apply_locked.ensures.gone (ap (λ (f : FieldsAre). f.before) c.keep.ensures) in
     let was : IsChosen s (chosen_view x.played x.chosen.arrival x.chosen.stage w.0) = subst (λ (o : Option ChosenView). IfSome o (IsChosen s)) (ap (chosen_at x.played x.chosen.arrival x.chosen.stage) w.1) c.self.invariant.chosen in
-    let new : ExecView = record s { ready = c.forward.new.self; chosen = chosen_at p' x.chosen.arrival x.chosen.stage c.apply_locked.new.place; journal = c.settle.new.journal; checkpoint = c.settle.new.checkpoint.view; fields = c.keep.new.self.before } in
-    subst (λ (v : ExecView). EndsTurn jobs jobs' v new) c.self.view_is
+    let new : ExecStateView = record s { ready = c.forward.new.self; chosen = chosen_at p' x.chosen.arrival x.chosen.stage c.apply_locked.new.place; journal = c.settle.new.journal; checkpoint = c.settle.new.checkpoint.view; fields = c.keep.new.self.before } in
+    subst (λ (v : ExecStateView). EndsTurn jobs jobs' v new) c.self.view_is
     (record {
       book = book;
       book_after = book';
-      book_of = h.2.book_of ∙ ap (λ (j : JobIs BodyView). j.body.script) same ∙ was.belongs.script_is;
+      book_of = h.2.book_of ∙ ap (λ (j : JobView BodyView). j.body.script) same ∙ was.belongs.script_is;
       turn = (chosen_view x.played x.chosen.arrival x.chosen.stage w.0, ap (chosen_at x.played x.chosen.arrival x.chosen.stage) w.1, d.journals);
     })
 
 pub returns-in-Ok-apply_locked-clause-known : goal.returns-in-Ok-apply_locked-clause-known
 returns-in-Ok-apply_locked-clause-known g c =
     let x = c.self.inside in
-    let s : ExecView = record { script = x.home.script; executor = x.home.executor; ready = x.ready; chosen = chosen_of x.played x.chosen; journal = x.journal; checkpoint = x.checkpoint.view; fields = x.played.fields.before } in
+    let s : ExecStateView = record { script = x.home.script; executor = x.home.executor; ready = x.ready; chosen = chosen_of x.played x.chosen; journal = x.journal; checkpoint = x.checkpoint.view; fields = x.played.fields.before } in
     let h = c.in-Ok-apply_locked.ensures.ok in
     let w = c.in-Ok.ensures.written in
-    let has : HasChosen s (λ c. IsPlayed c.stage) = subst (λ (v : ExecView). HasChosen v (λ c. IsPlayed c.stage)) (sym c.self.view_is) c.requires.played in
+    let has : HasChosen s (λ c. IsPlayed c.stage) = subst (λ (v : ExecStateView). HasChosen v (λ c. IsPlayed c.stage)) (sym c.self.view_is) c.requires.played in
     let same : h.0 ≡ w.0 = same_Some h.0 w.0 (sym h.1 ∙ w.1) in
     let book = h.2.book in
     let book' = h.2.book_after in
-    let jobs = map job_view c.args.jobs.now.jobs in
-    let jobs' = map job_view c.apply_locked.new.jobs.jobs in
+    let jobs = map job_facts c.args.jobs.now.jobs in
+    let jobs' = map job_facts c.apply_locked.new.jobs.jobs in
     let applied : Applied book book' w.0 (effect_views x.played.effects.items) (exit_view x.played.exit) jobs jobs' =
-    subst (λ (j : JobIs BodyView). Applied book book' j (effect_views x.played.effects.items) (exit_view x.played.exit) jobs jobs') same h.2.takes.applied in
-    let p' : Played = record x.played { fields = c.keep.new.self } in
+    subst (λ (j : JobView BodyView). Applied book book' j (effect_views x.played.effects.items) (exit_view x.played.exit) jobs jobs') same h.2.takes.applied in
+    let p' : PlayedTurn = record x.played { fields = c.keep.new.self } in
     let d = ended s x.played p' x.chosen.arrival x.chosen.stage x.chosen.job c.apply_locked.new.place w.0 c.prepare.new.journal refl w.1 has w.2
     book book' jobs jobs' c.in-Ok-apply_locked.task c.settle.new.journal c.in-Ok.copy c.prepare.new.checkpoint c.settle.new.checkpoint c.forward.new.self c.keep.new.self.before
-    c.lawful_grows.ensures c.invariants_stay.ensures c.self.invariant c.in-Ok.ensures.same c.in-Ok.ensures.room c.settle.ensures c.forward.ensures (h.2.takes.task_is ∙ ap (λ (j : JobIs BodyView). j.task) same)
+    c.lawful_grows.ensures c.invariants_stay.ensures c.self.invariant c.in-Ok.ensures.same c.in-Ok.ensures.room c.settle.ensures c.forward.ensures (h.2.takes.task_is ∙ ap (λ (j : JobView BodyView). j.task) same)
     applied c.in-Ok-apply_locked.ensures.gone (ap (λ (f : FieldsAre). f.before) c.keep.ensures) in
     let was : IsChosen s (chosen_view x.played x.chosen.arrival x.chosen.stage w.0) = subst (λ (o : Option ChosenView). IfSome o (IsChosen s)) (ap (chosen_at x.played x.chosen.arrival x.chosen.stage) w.1) c.self.invariant.chosen in
-    let new : ExecView = record s { ready = c.forward.new.self; chosen = chosen_at p' x.chosen.arrival x.chosen.stage c.apply_locked.new.place; journal = c.settle.new.journal; checkpoint = c.settle.new.checkpoint.view; fields = c.keep.new.self.before } in
+    let new : ExecStateView = record s { ready = c.forward.new.self; chosen = chosen_at p' x.chosen.arrival x.chosen.stage c.apply_locked.new.place; journal = c.settle.new.journal; checkpoint = c.settle.new.checkpoint.view; fields = c.keep.new.self.before } in
     let at : s.chosen ≡ Some (chosen_view x.played x.chosen.arrival x.chosen.stage w.0) = ap (chosen_at x.played x.chosen.arrival x.chosen.stage) w.1 in
     let played_is : IsPlayed (stage_of x.played x.chosen.stage) = subst (λ (v : ChosenView). IsPlayed v.stage) (same_Some has.0 (chosen_view x.played x.chosen.arrival x.chosen.stage w.0) (sym has.1 ∙ at)) has.2 in
-    let known : IsSeatFor s c.args.seat.now = subst (λ (v : ExecView). IsSeatFor v c.args.seat.now) (sym c.self.view_is) c.requires.known in
+    let known : IsSeatFor s c.args.seat.now = subst (λ (v : ExecStateView). IsSeatFor v c.args.seat.now) (sym c.self.view_is) c.requires.known in
     let r = c.in-Ok-apply_locked.ensures.seat in
     seat_applied s new x.played x.chosen.arrival x.chosen.stage w.0 c.prepare.new.journal c.args.seat.now c.apply_locked.new.seat r.0 book book' jobs jobs'
     c.lawful_grows.ensures c.self.invariant at played_is w.2 known d.journals r.1 r.2
@@ -139,39 +140,39 @@ returns-in-Ok-apply_locked-clause-bodies g c =
 pub invariant_of-self-in-Err : goal.invariant_of-self-in-Err
 invariant_of-self-in-Err g c =
     let x = c.self.inside in
-    let s : ExecView = record { script = x.home.script; executor = x.home.executor; ready = x.ready; chosen = chosen_of x.played x.chosen; journal = x.journal; checkpoint = x.checkpoint.view; fields = x.played.fields.before } in
+    let s : ExecStateView = record { script = x.home.script; executor = x.home.executor; ready = x.ready; chosen = chosen_of x.played x.chosen; journal = x.journal; checkpoint = x.checkpoint.view; fields = x.played.fields.before } in
     let w = c.in-Ok.ensures.written in
-    let has : HasChosen s (λ c. IsPlayed c.stage) = subst (λ (v : ExecView). HasChosen v (λ c. IsPlayed c.stage)) (sym c.self.view_is) c.requires.played in
+    let has : HasChosen s (λ c. IsPlayed c.stage) = subst (λ (v : ExecStateView). HasChosen v (λ c. IsPlayed c.stage)) (sym c.self.view_is) c.requires.played in
     let same = unchanged s x.played x.played x.chosen.arrival x.chosen.stage x.chosen.job c.apply_locked.new.place w.0 c.prepare.new.journal refl w.1 has w.2
     c.retract.new.self c.prepare.new.checkpoint.view c.in-Err.ensures.same.0 c.retract.ensures c.in-Ok.ensures.same in
-    subst (λ (v : ExecView). IsExecutor v) (sym same) c.self.invariant
+    subst (λ (v : ExecStateView). ExecInvariant v) (sym same) c.self.invariant
 
 pub returns-in-Err-clause-back : goal.returns-in-Err-clause-back
 returns-in-Err-clause-back g c =
     let x = c.self.inside in
-    let s : ExecView = record { script = x.home.script; executor = x.home.executor; ready = x.ready; chosen = chosen_of x.played x.chosen; journal = x.journal; checkpoint = x.checkpoint.view; fields = x.played.fields.before } in
+    let s : ExecStateView = record { script = x.home.script; executor = x.home.executor; ready = x.ready; chosen = chosen_of x.played x.chosen; journal = x.journal; checkpoint = x.checkpoint.view; fields = x.played.fields.before } in
     let w = c.in-Ok.ensures.written in
-    let has : HasChosen s (λ c. IsPlayed c.stage) = subst (λ (v : ExecView). HasChosen v (λ c. IsPlayed c.stage)) (sym c.self.view_is) c.requires.played in
+    let has : HasChosen s (λ c. IsPlayed c.stage) = subst (λ (v : ExecStateView). HasChosen v (λ c. IsPlayed c.stage)) (sym c.self.view_is) c.requires.played in
     let same = unchanged s x.played x.played x.chosen.arrival x.chosen.stage x.chosen.job c.apply_locked.new.place w.0 c.prepare.new.journal refl w.1 has w.2
     c.retract.new.self c.prepare.new.checkpoint.view c.in-Err.ensures.same.0 c.retract.ensures c.in-Ok.ensures.same in
-    subst (λ (v : ExecView). HasChosen v (PutsBack v c.put_back-in-Err.new.self)) (same ∙ c.self.view_is) c.put_back-in-Err.ensures
+    subst (λ (v : ExecStateView). HasChosen v (PutsBack v c.put_back-in-Err.new.self)) (same ∙ c.self.view_is) c.put_back-in-Err.ensures
 
 pub returns-in-Err-clause-known : goal.returns-in-Err-clause-known
 returns-in-Err-clause-known g c =
     let x = c.self.inside in
-    let s : ExecView = record { script = x.home.script; executor = x.home.executor; ready = x.ready; chosen = chosen_of x.played x.chosen; journal = x.journal; checkpoint = x.checkpoint.view; fields = x.played.fields.before } in
+    let s : ExecStateView = record { script = x.home.script; executor = x.home.executor; ready = x.ready; chosen = chosen_of x.played x.chosen; journal = x.journal; checkpoint = x.checkpoint.view; fields = x.played.fields.before } in
     let w = c.in-Ok.ensures.written in
-    let has : HasChosen s (λ c. IsPlayed c.stage) = subst (λ (v : ExecView). HasChosen v (λ c. IsPlayed c.stage)) (sym c.self.view_is) c.requires.played in
+    let has : HasChosen s (λ c. IsPlayed c.stage) = subst (λ (v : ExecStateView). HasChosen v (λ c. IsPlayed c.stage)) (sym c.self.view_is) c.requires.played in
     let same = unchanged s x.played x.played x.chosen.arrival x.chosen.stage x.chosen.job c.apply_locked.new.place w.0 c.prepare.new.journal refl w.1 has w.2
     c.retract.new.self c.prepare.new.checkpoint.view c.in-Err.ensures.same.0 c.retract.ensures c.in-Ok.ensures.same in
-    let back = subst (λ (v : ExecView). HasChosen v (PutsBack v c.put_back-in-Err.new.self)) (same ∙ c.self.view_is) c.put_back-in-Err.ensures in
+    let back = subst (λ (v : ExecStateView). HasChosen v (PutsBack v c.put_back-in-Err.new.self)) (same ∙ c.self.view_is) c.put_back-in-Err.ensures in
     subst (λ seat. IsSeatFor c.put_back-in-Err.new.self seat) (sym c.in-Err.ensures.same.1) (back_knows c.args.self.now c.put_back-in-Err.new.self c.args.seat.now c.requires.known back)
 
 pub returns-in_default-clause-known : goal.returns-in_default-clause-known
 returns-in_default-clause-known g c =
     let x = c.self.inside in
-    let s : ExecView = record { script = x.home.script; executor = x.home.executor; ready = x.ready; chosen = chosen_of x.played x.chosen; journal = x.journal; checkpoint = x.checkpoint.view; fields = x.played.fields.before } in
+    let s : ExecStateView = record { script = x.home.script; executor = x.home.executor; ready = x.ready; chosen = chosen_of x.played x.chosen; journal = x.journal; checkpoint = x.checkpoint.view; fields = x.played.fields.before } in
     let same : record s { journal = c.prepare.new.journal; checkpoint = c.prepare.new.checkpoint.view } ≡ c.args.self.now =
     ap (λ j. record s { journal = j; checkpoint = c.prepare.new.checkpoint.view }) c.in_default.ensures.err ∙ ap (λ v. record s { checkpoint = v }) c.in_default.ensures.same ∙ c.self.view_is in
-    let back = subst (λ (v : ExecView). HasChosen v (PutsBack v c.put_back.new.self)) same c.put_back.ensures in
+    let back = subst (λ (v : ExecStateView). HasChosen v (PutsBack v c.put_back.new.self)) same c.put_back.ensures in
     back_knows c.args.self.now c.put_back.new.self c.args.seat.now c.requires.known back

@@ -2,12 +2,12 @@ use Rattle.std.proofs.Common.{List, [], ◌∷◌, ◌++◌, ap, sym, subst, ◌
 use Rattle.std.specs.List.Sorted.{IsPermutation}
 use Rattle.std.proofs.lemmas.List.Sorted.{IsPermutation-sym, IsPermutation-to_front}
 use Rattle.swift_types.specs.declared.id.TaskId.{TaskId}
-use Rattle.swift_executor.specs.Tasks.{TasksAre}
+use Rattle.swift_executor.specs.Tasks.{ReadyTasksView}
 use Rattle.swift_executor.proofs.tasks.ReadyTasks.add.Goals as goal
 
 pub returns-clause-tasks : goal.returns-clause-tasks
 returns-clause-tasks c =
     let old = c.args.self.now.tasks in
     let task = c.args.task in
-    let same = c.push_reserved.ensures.items ∙ ap (λ (t : TasksAre). t.tasks ++ task ∷ []) c.self.view_is in
+    let same = c.push_reserved.ensures.items ∙ ap (λ (t : ReadyTasksView). t.tasks ++ task ∷ []) c.self.view_is in
     subst (λ (xs : List TaskId). IsPermutation (task ∷ old) xs) (sym same) (IsPermutation-sym (old ++ task ∷ []) (task ∷ old) (IsPermutation-to_front old task))

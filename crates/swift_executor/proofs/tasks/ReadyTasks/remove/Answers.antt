@@ -1,7 +1,7 @@
 use Rattle.std.proofs.Common.{◌≡◌, ◌<◌, ◌≤◌, List, [], ◌∷◌, ◌++◌, get_or, set, length, ap, sym, subst, ◌∙◌, arith}
 use Rattle.std.specs.List.Sorted.{IsPermutation}
 use Rattle.swift_types.specs.declared.id.TaskId.{TaskId}
-use Rattle.swift_executor.specs.Tasks.{TasksAre}
+use Rattle.swift_executor.specs.Tasks.{ReadyTasksView}
 use Rattle.swift_executor.proofs.Removed.{removed, removed_last}
 use Rattle.swift_executor.proofs.tasks.ReadyTasks.remove.Goals as goal
 
@@ -11,7 +11,7 @@ returns-then-place-len-clause-tasks c =
     let place = c.place_of-place.result in
     let last = c.in-Some.last in
     let front = c.pop.new.self.items in
-    let old : c.args.self.now.tasks ≡ front ++ last ∷ [] = ap (λ (t : TasksAre). t.tasks) (sym c.self.view_is) ∙ c.in-Some.ensures.items in
+    let old : c.args.self.now.tasks ≡ front ++ last ∷ [] = ap (λ (t : ReadyTasksView). t.tasks) (sym c.self.view_is) ∙ c.in-Some.ensures.items in
     let listed : c.deref.result.now ≡ front ++ last ∷ [] = c.deref.ensures.value ∙ c.in-Some.ensures.items in
     let is = subst (λ (xs : List TaskId). get_or xs place task ≡ task) listed (c.place_of-place.ensures.task task) in
     let ok = c.pop.new.self.ok in
@@ -24,7 +24,7 @@ returns-else-place-len-clause-tasks c =
     let place = c.place_of-place.result in
     let last = c.in-Some.last in
     let front = c.pop.new.self.items in
-    let old : c.args.self.now.tasks ≡ front ++ last ∷ [] = ap (λ (t : TasksAre). t.tasks) (sym c.self.view_is) ∙ c.in-Some.ensures.items in
+    let old : c.args.self.now.tasks ≡ front ++ last ∷ [] = ap (λ (t : ReadyTasksView). t.tasks) (sym c.self.view_is) ∙ c.in-Some.ensures.items in
     let listed : c.deref.result.now ≡ front ++ last ∷ [] = c.deref.ensures.value ∙ c.in-Some.ensures.items in
     let is = subst (λ (xs : List TaskId). get_or xs place task ≡ task) listed (c.place_of-place.ensures.task task) in
     let ok = c.pop.new.self.ok in

@@ -1,5 +1,5 @@
 use Rattle.std.proofs.Common.{arith, refl, sym, ap, ◌∙◌}
-use Rattle.swift_groups.specs.Groups.{GroupsIs, as_cancelled}
+use Rattle.swift_groups.specs.Groups.{GroupsView, as_cancelled}
 use Rattle.swift_groups.specs.Answers.{accepted}
 use Rattle.swift_groups.proofs.FieldsKept.{are_groups_changed}
 use Rattle.swift_groups.proofs.Calls.{found_live, refused_live, kept_by_refusal, changed, groups_are, err_from}
@@ -46,4 +46,4 @@ returns-clause-after c =
     let k = found_live c.self.inside c.args.self.now c.args.group _ _ c.self.view_is c.deref.ensures.value c.in_ok-found.ensures in
     groups_are _ _ _ _
     (changed c.self.inside c.args.self.now c.args.group c.in_ok-found.found _ _ as_cancelled c.self.inside.children.items c.self.inside.endings.items c.self.view_is k (λ j o. refl) (λ j o. refl) refl)
-    (ap (λ (v : GroupsIs). v.reserved) c.self.view_is)
+    (ap (λ (v : GroupsView). v.reserved) c.self.view_is)

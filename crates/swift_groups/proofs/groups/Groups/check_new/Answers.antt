@@ -1,6 +1,6 @@
 use Rattle.std.proofs.Common.{Result, sym, ap, ◌∙◌}
 use Rattle.swift_groups.specs.declared.fault.GroupFault.{GroupFault}
-use Rattle.swift_groups.specs.Groups.{GroupIs}
+use Rattle.swift_groups.specs.Groups.{GroupView}
 use Rattle.swift_groups.specs.Answers.{if_new, accepted}
 use Rattle.swift_groups.proofs.Children.{mark_none, mark_some}
 use Rattle.swift_groups.proofs.Calls.{found_open, refused_open, err_from, without, not_without}
@@ -9,7 +9,7 @@ use Rattle.swift_groups.proofs.groups.Groups.check_new.Goals as goal
 pub returns-in_err-open_group : goal.returns-in_err-open_group
 returns-in_err-open_group c =
     let refused = refused_open c.self.inside c.args.self.now c.args.group _ _ c.self.view_is c.deref.ensures.value c.in_err-open_group.ensures in
-    err_from c.from_residual.result c.in_err-open_group.field-0.0 c.from_residual.ensures.1 ∙ sym (ap (λ (r : Result GroupIs GroupFault). accepted (if_new c.args.child r)) refused)
+    err_from c.from_residual.result c.in_err-open_group.field-0.0 c.from_residual.ensures.1 ∙ sym (ap (λ (r : Result GroupView GroupFault). accepted (if_new c.args.child r)) refused)
 
 pub returns-in-None : goal.returns-in-None
 returns-in-None c =

@@ -1,5 +1,5 @@
 use Rattle.std.proofs.Common.{Ok, arith, refl, sym, ap, ◌∙◌}
-use Rattle.swift_groups.specs.Groups.{GroupsIs}
+use Rattle.swift_groups.specs.Groups.{GroupsView}
 use Rattle.swift_groups.specs.Close.{close_of, closed_on}
 use Rattle.swift_groups.specs.Answers.{answer}
 use Rattle.swift_groups.proofs.Results.{close_done, closed_done, close_wait, closed_wait}
@@ -51,7 +51,7 @@ returns-then-found-eq0-clause-after c =
     groups_are _ _ _ _
     (changed c.self.inside c.args.self.now c.args.group c.in_ok-found.found _ _ closed_on c.self.inside.children.items c.self.inside.endings.items c.self.view_is k (λ j o. refl) (λ j o. refl)
     (closed_done _ _ _ _ is c.if-found-eq0.true))
-    (ap (λ (v : GroupsIs). v.reserved) c.self.view_is)
+    (ap (λ (v : GroupsView). v.reserved) c.self.view_is)
 
 pub index_mut-requires-2 : goal.index_mut-requires-2
 index_mut-requires-2 c =
@@ -87,4 +87,4 @@ returns-clause-after c =
     groups_are _ _ _ _
     (changed c.self.inside c.args.self.now c.args.group c.in_ok-found.found _ _ closed_on c.self.inside.children.items c.self.inside.endings.items c.self.view_is k (λ j o. refl) (λ j o. refl)
     (closed_wait _ _ _ _ is c.if-found-eq0.false))
-    (ap (λ (v : GroupsIs). v.reserved) c.self.view_is)
+    (ap (λ (v : GroupsView). v.reserved) c.self.view_is)

@@ -4,8 +4,8 @@ use Rattle.std.specs.Option.{is_some}
 use Rattle.swift_types.specs.declared.id.TaskId.{TaskId}
 use Rattle.swift_types.specs.declared.outcome.Ending.{Ending}
 use Rattle.swift_groups.specs.declared.fault.GroupFault.{GroupFault}
-use Rattle.swift_groups.specs.declared.group.Ended.{Ended}
-use Rattle.swift_groups.specs.Groups.{GroupIs, GroupsIs, with_ending}
+use Rattle.swift_groups.specs.declared.group.ChildEnding.{ChildEnding}
+use Rattle.swift_groups.specs.Groups.{GroupView, GroupsView, with_ending}
 use Rattle.swift_groups.specs.Answers.{if_unfinished, accepted}
 use Rattle.swift_groups.specs.Inside.{ended_of}
 use Rattle.swift_groups.specs.Keys.{same_key, unended}
@@ -18,7 +18,7 @@ use Rattle.swift_groups.proofs.groups.Groups.finished.Goals as goal
 pub returns-in_err-found-clause-refusals : goal.returns-in_err-found-clause-refusals
 returns-in_err-found-clause-refusals c =
     let refused = refused_live c.self.inside c.args.self.now c.args.group _ _ c.self.view_is c.deref.ensures.value c.in_err-found.ensures in
-    err_from c.from_residual.result c.in_err-found.field-0.0 c.from_residual.ensures.1 ∙ sym (ap (λ (r : Result GroupIs GroupFault). accepted (if_unfinished c.args.child r)) refused)
+    err_from c.from_residual.result c.in_err-found.field-0.0 c.from_residual.ensures.1 ∙ sym (ap (λ (r : Result GroupView GroupFault). accepted (if_unfinished c.args.child r)) refused)
 
 pub returns-in_err-found-clause-after : goal.returns-in_err-found-clause-after
 returns-in_err-found-clause-after c =
@@ -102,6 +102,6 @@ returns-clause-after c =
     (changed c.self.inside c.args.self.now c.args.group c.in_ok-found.found _ _ (with_ending c.args.child c.args.ending) c.self.inside.children.items c.enqueue.new.endings.items c.self.view_is
     (record { at = k.at; within = k.within; shown = yes })
     (λ j o. refl)
-    (λ j o. ap (λ (s : List Ended). ended_of s j) items ∙ ended_push_other _ _ j (λ (q : c.args.group.0 ≡ j). o (sym q)))
-    (ap (λ (e : List (TaskId × Ending)). record (seen c.self.inside c.args.group.0 c.in_ok-found.found) { ended = e }) (ap (λ (s : List Ended). ended_of s c.args.group.0) items ∙ ended_push_same _ _ c.args.group.0 refl)))
-    (ap (λ (v : GroupsIs). v.reserved) c.self.view_is)
+    (λ j o. ap (λ (s : List ChildEnding). ended_of s j) items ∙ ended_push_other _ _ j (λ (q : c.args.group.0 ≡ j). o (sym q)))
+    (ap (λ (e : List (TaskId × Ending)). record (seen c.self.inside c.args.group.0 c.in_ok-found.found) { ended = e }) (ap (λ (s : List ChildEnding). ended_of s c.args.group.0) items ∙ ended_push_same _ _ c.args.group.0 refl)))
+    (ap (λ (v : GroupsView). v.reserved) c.self.view_is)

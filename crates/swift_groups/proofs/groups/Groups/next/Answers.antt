@@ -1,5 +1,5 @@
 use Rattle.std.proofs.Common.{Ok, arith, refl, sym, ap, ◌∙◌}
-use Rattle.swift_groups.specs.Groups.{GroupsIs}
+use Rattle.swift_groups.specs.Groups.{GroupsView}
 use Rattle.swift_groups.specs.Next.{next_of, handed_on}
 use Rattle.swift_groups.specs.Answers.{answer}
 use Rattle.swift_groups.proofs.Results.{next_empty, next_wait, handed_none, first_within, handed_within, next_result, handed_one, group_handed}
@@ -97,4 +97,4 @@ returns-clause-after c =
     groups_are _ _ _ _
     (changed c.self.inside c.args.self.now c.args.group c.in_ok-found.found _ _ handed_on c.self.inside.children.items c.self.inside.endings.items c.self.view_is k (λ j o. refl) (λ j o. refl)
     (handed_one _ _ c.self.inside.endings.items c.args.group.0 c.in-Some.first c.index-ended.result.now is c.in-Some.is c.index-ended.ensures))
-    (ap (λ (v : GroupsIs). v.reserved) c.self.view_is)
+    (ap (λ (v : GroupsView). v.reserved) c.self.view_is)

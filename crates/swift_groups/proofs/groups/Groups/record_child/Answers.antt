@@ -2,7 +2,7 @@ use Rattle.std.proofs.Common.{◌≡◌, false, eqb, ◌-◌, List, Some, arith,
 use Rattle.std.specs.HashMap.{get}
 use Rattle.swift_types.specs.declared.id.TaskId.{TaskId}
 use Rattle.swift_groups.specs.declared.group.Child.{Child}
-use Rattle.swift_groups.specs.Groups.{GroupsIs, with_child}
+use Rattle.swift_groups.specs.Groups.{GroupsView, with_child}
 use Rattle.swift_groups.specs.Inside.{added_of}
 use Rattle.swift_groups.specs.Keys.{same_key}
 use Rattle.swift_groups.proofs.Children.{added_push_same, added_push_other, mark_fresh, mark_written}
@@ -32,7 +32,7 @@ invariant_of-self c =
     let is = i.are_groups.each c.args.group.0 c.in-Ok.found k.at in
     let new = new_from c.args.child _ _ c.requires.new k.shown in
     let fresh = i.are_groups.marks c.args.group.0 c.args.child ∙ mark_fresh _ _ c.args.child is.known new in
-    let room = ap (λ (v : GroupsIs). v.reserved) c.self.view_is in let reserved = c.requires.room in
+    let room = ap (λ (v : GroupsView). v.reserved) c.self.view_is in let reserved = c.requires.room in
     let len = c.in-Ok-push.ensures.len in let cap = c.in-Ok-push.ensures.capacity in let spare' = c.in-Ok-insert.ensures.spare in
     record {
       are_groups = are_groups_added c.self.inside.groups.items _ _ _ _ _ c.args.group.0 c.in-Ok.found _ _ c.in-Ok-push.ensures.items i.are_groups k.at refl fresh
@@ -57,4 +57,4 @@ returns c =
     (λ j o. ap (λ (s : List Child). added_of s j) items ∙ added_push_other _ _ j (λ (q : c.args.group.0 ≡ j). o (sym q)))
     (λ j o. refl)
     (ap (λ (a : List TaskId). record (with_child c.args.child (seen c.self.inside c.args.group.0 c.in-Ok.found)) { added = a }) (ap (λ (s : List Child). added_of s c.args.group.0) items ∙ added_push_same _ _ c.args.group.0 refl)))
-    (ap (λ (v : GroupsIs). v.reserved - 1) c.self.view_is)
+    (ap (λ (v : GroupsView). v.reserved - 1) c.self.view_is)

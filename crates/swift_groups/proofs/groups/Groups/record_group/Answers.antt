@@ -1,7 +1,7 @@
 use Rattle.std.proofs.Common.{◌-◌, List, length, arith, refl, sym, ap, subst}
 use Rattle.std.specs.HashMap.{get}
 use Rattle.swift_groups.specs.declared.group.Group.{Group}
-use Rattle.swift_groups.specs.Groups.{GroupsIs}
+use Rattle.swift_groups.specs.Groups.{GroupsView}
 use Rattle.swift_groups.specs.Inside.{added_of, ended_of}
 use Rattle.swift_groups.specs.GroupsInside.{AreGroups}
 use Rattle.swift_groups.specs.Keys.{same_key}
@@ -13,7 +13,7 @@ use Rattle.swift_groups.proofs.groups.Groups.record_group.Goals as goal
 pub invariant_of-self : goal.invariant_of-self
 invariant_of-self c =
     let i = c.self.invariant in
-    let room = ap (λ (v : GroupsIs). v.reserved) c.self.view_is in
+    let room = ap (λ (v : GroupsView). v.reserved) c.self.view_is in
     let reserved = c.requires in
     let len = c.in-Ok.ensures.len in let cap = c.in-Ok.ensures.capacity in
     record {
@@ -30,7 +30,7 @@ invariant_of-self c =
 pub returns-clause-number : goal.returns-clause-number
 returns-clause-number c =
     let len = length_view c.self.inside.groups.items (added_of c.self.inside.children.items) (ended_of c.self.inside.endings.items) in
-    let seen = ap (λ (v : GroupsIs). length v.groups) c.self.view_is in
+    let seen = ap (λ (v : GroupsView). length v.groups) c.self.view_is in
     let number = c.len-number.ensures in
     omega (arith, len, seen, number)
 
@@ -39,4 +39,4 @@ returns-clause-opened c =
     let k = c.self.invariant.are_groups in
     groups_are _ _ _ _
     (opened c.self.inside c.args.self.now _ _ c.self.view_is c.in-Ok.ensures.items (k.none_added (length c.self.inside.groups.items) (omega arith)) (k.none_ended (length c.self.inside.groups.items) (omega arith)))
-    (ap (λ (v : GroupsIs). v.reserved - 1) c.self.view_is)
+    (ap (λ (v : GroupsView). v.reserved - 1) c.self.view_is)

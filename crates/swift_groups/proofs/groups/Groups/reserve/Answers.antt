@@ -1,5 +1,5 @@
 use Rattle.std.proofs.Common.{ℕ, List, Option, arith, refl, sym, subst}
-use Rattle.swift_groups.specs.declared.group.Ended.{Ended}
+use Rattle.swift_groups.specs.declared.group.ChildEnding.{ChildEnding}
 use Rattle.swift_groups.specs.Inside.{AreLinked}
 use Rattle.swift_groups.proofs.FieldsKept.{are_groups_same}
 use Rattle.swift_groups.proofs.groups.Groups.reserve.Goals as goal
@@ -35,7 +35,7 @@ invariant_of-self-in_err-make_room_for_endings c =
     let g = c.in_ok-reserve.ensures in let m = c.in_ok-make_room_for_children.ensures in let e = c.make_room_for_endings.ensures in let k = c.self.invariant in
     record {
       are_groups = are_groups_same _ _ _ _ _ _ _ _ k.are_groups g.items m.children e.endings m.marks;
-      linked = subst (λ (s : List Ended). AreLinked s c.make_room_for_endings.new.after.items) (sym e.endings) (subst (λ (s : List (Option ℕ)). AreLinked c.self.inside.endings.items s) (sym e.after) k.linked);
+      linked = subst (λ (s : List ChildEnding). AreLinked s c.make_room_for_endings.new.after.items) (sym e.endings) (subst (λ (s : List (Option ℕ)). AreLinked c.self.inside.endings.items s) (sym e.after) k.linked);
       groups_room = let r = k.groups_room in omega (arith, r, g.len, g.capacity);
       children_room = let r = k.children_room in omega (arith, r, m.children_len, m.children_room);
       marks_room = let r = k.marks_room in omega (arith, r, m.marks_room);
@@ -49,7 +49,7 @@ invariant_of-self-2 c =
     let len = c.len.ensures in
     record {
       are_groups = are_groups_same _ _ _ _ _ _ _ _ k.are_groups g.items m.children e.endings m.marks;
-      linked = subst (λ (s : List Ended). AreLinked s c.make_room_for_endings.new.after.items) (sym e.endings) (subst (λ (s : List (Option ℕ)). AreLinked c.self.inside.endings.items s) (sym e.after) k.linked);
+      linked = subst (λ (s : List ChildEnding). AreLinked s c.make_room_for_endings.new.after.items) (sym e.endings) (subst (λ (s : List (Option ℕ)). AreLinked c.self.inside.endings.items s) (sym e.after) k.linked);
       groups_room = g.ok;
       children_room = m.children_ok;
       marks_room = m.marks_ok;

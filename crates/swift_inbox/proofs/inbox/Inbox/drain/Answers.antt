@@ -1,8 +1,8 @@
 use Rattle.std.proofs.Common.{rules, arith, ◌≡◌, length, ◌++◌, ◌∷◌, [], ◌+◌, refl, sym, ap, ◌∙◌, append-nil, length-append}
 use Rattle.std.proofs.lemmas.List.{map-append}
-use Rattle.swift_ticket.specs.Tickets.{job_view}
-use Rattle.swift_inbox.specs.declared.view.PassView.{PassView}
-use Rattle.swift_inbox.specs.Inbox.{InboxIs}
+use Rattle.swift_history.specs.Jobs.{job_facts}
+use Rattle.swift_inbox.specs.declared.view.PassKnown.{PassKnown}
+use Rattle.swift_inbox.specs.Inbox.{InboxView}
 use Rattle.swift_inbox.proofs.AccountIsKept.{takes, goes_on}
 use Rattle.swift_inbox.proofs.inbox.Inbox.drain.Goals as goal
 
@@ -19,23 +19,23 @@ drain-preserved g c =
     let took = c.in-Some.ensures.rule.0 in (
       search rules,
       search rules,
-      ap (λ (v : PassView). v.takes) took ∙ i.2,
-      ap (λ (v : PassView). v.site) took ∙ i.3,
+      ap (λ (v : PassKnown). v.takes) took ∙ i.2,
+      ap (λ (v : PassKnown). v.site) took ∙ i.3,
       i.4 ++ x ∷ [],
       goes_on _ _ c.args.list.items i.4 x c.push_reserved.ensures.items i.5,
-      rw (map-append job_view i.4 (x ∷ []), c.into_job.ensures) (goes_on _ _ _ _ _ (ap (λ (v : PassView). v.taken) took) i.6),
+      rw (map-append job_facts i.4 (x ∷ []), c.into_job.ensures) (goes_on _ _ _ _ _ (ap (λ (v : PassKnown). v.taken) took) i.6),
       length-append i.4 (x ∷ []) ∙ ap (λ n. n + 1) i.7,
     )
 
 pub returns : goal.returns
 returns g c =
     let i = c.drain.invariant in
-    let room = ap (λ (b : InboxIs). b.room) c.self.view_is in
+    let room = ap (λ (b : InboxView). b.room) c.self.view_is in
     (i.4, i.5, omega (arith, i.7, c.drain.auto.counter-end, c.capacity-end.ensures, room), search rules)
 
 pub push_reserved-requires : goal.push_reserved-requires
 push_reserved-requires g c =
     let i = c.drain.invariant in
-    let room = ap (λ (b : InboxIs). b.room) c.self.view_is in
+    let room = ap (λ (b : InboxView). b.room) c.self.view_is in
     let len : length c.drain.list.items ≡ length c.args.list.items + length i.4 = ap length i.5 ∙ length-append c.args.list.items i.4 in
     omega (arith, len, c.drain.list.ok.0, c.args.list.ok.0, i.1, i.7, c.drain-test.true, c.capacity-end.ensures, room, c.requires.room)

@@ -1,7 +1,7 @@
 use Rattle.std.proofs.Common.{◌≡◌, ℕ, List, None, ◌∷◌, reverse, get_or, arith, subst, sym, ap, ◌∙◌, rules, ℤ, w64, to_z, of_z}
 use Rattle.std.proofs.lemmas.List.{get_or_read}
 use Rattle.swift_locals.specs.BindingsInside.{pairs_of, AreChained, IsTable}
-use Rattle.swift_locals.specs.declared.bindings.Entry.{Entry}
+use Rattle.swift_locals.specs.declared.bindings.BindingEntry.{BindingEntry}
 use Rattle.swift_locals.proofs.Chain.{chained_push, pairs_push, table_pushed, table_same}
 use Rattle.swift_locals.proofs.bindings.Bindings.bind.Goals as goal
 
@@ -10,8 +10,8 @@ invariant_of-self-in_err-push c =
     let items = c.in_err-push.ensures.items in
     let table = table_same _ _ c.reach.new.table.items c.self.invariant.newest c.reach.ensures.same in
     record {
-      chained = subst (λ (s : List Entry). AreChained (reverse s)) (sym items) c.self.invariant.chained;
-      newest = subst (λ (s : List Entry). IsTable (reverse s) c.reach.new.table.items) (sym items) table;
+      chained = subst (λ (s : List BindingEntry). AreChained (reverse s)) (sym items) c.self.invariant.chained;
+      newest = subst (λ (s : List BindingEntry). IsTable (reverse s) c.reach.new.table.items) (sym items) table;
     }
 
 pub invariant_of-self-2 : goal.invariant_of-self-2

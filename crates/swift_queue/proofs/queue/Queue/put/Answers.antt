@@ -2,7 +2,7 @@ use Rattle.std.proofs.Common.{ℕ, ◌+◌, ◌<◌, List, ◌∷◌, length, se
 use Rattle.std.proofs.lemmas.List.Sorted.{length_permutation}
 use Rattle.swift_types.specs.declared.id.TaskId.{TaskId}
 use Rattle.swift_queue.specs.Inside.ArrivalOf.{AreArrivals}
-use Rattle.swift_queue.specs.Queue.{IsOrderly, IsWithout, QueueIs, waiting}
+use Rattle.swift_queue.specs.Queue.{IsOrderly, IsWithout, QueueView, waiting}
 use Rattle.swift_queue.specs.declared.waiting.Waiting.{Waiting}
 use Rattle.swift_queue.proofs.ArrivalsStayRight.{arrivals_add}
 use Rattle.swift_queue.proofs.QueueStaysOrderly.{orderly_add}
@@ -11,11 +11,11 @@ use Rattle.swift_queue.proofs.queue.Queue.put.Goals as goal
 pub invariant_of-self : goal.invariant_of-self
 invariant_of-self g c =
     let x = c.self.inside in
-    let old : QueueIs g.row.B.Denot = record { jobs = x.lists.jobs; room = x.lists.room; arrived = x.arrived } in
+    let old : QueueView g.row.B.Denot = record { jobs = x.lists.jobs; room = x.lists.room; arrived = x.arrived } in
     let job : Waiting g.row.B.Denot = waiting c.args.job c.args.priority x.arrived in
     let new = c.push.new.self.jobs in
-    let room : length old.jobs < old.room = subst (λ (q : QueueIs g.row.B.Denot). length q.jobs < q.room) (sym c.self.view_is) c.requires.room in
-    let without : IsWithout old.jobs c.args.job.task = subst (λ (q : QueueIs g.row.B.Denot). IsWithout q.jobs c.args.job.task) (sym c.self.view_is) c.requires.without in
+    let room : length old.jobs < old.room = subst (λ (q : QueueView g.row.B.Denot). length q.jobs < q.room) (sym c.self.view_is) c.requires.room in
+    let without : IsWithout old.jobs c.args.job.task = subst (λ (q : QueueView g.row.B.Denot). IsWithout q.jobs c.args.job.task) (sym c.self.view_is) c.requires.without in
     let orderly = orderly_add old job new (x.arrived + 1) c.self.invariant.orderly c.push.ensures.jobs room (omega arith) (omega arith)
     (λ k d l. let b = c.self.invariant.orderly.below k d l in omega (arith, b)) without in
     record {
@@ -26,7 +26,7 @@ invariant_of-self g c =
 pub returns-clause-len : goal.returns-clause-len
 returns-clause-len g c =
     let x = c.self.inside in
-    let view = ap (λ (q : QueueIs g.row.B.Denot). length q.jobs) c.self.view_is in
+    let view = ap (λ (q : QueueView g.row.B.Denot). length q.jobs) c.self.view_is in
     let job : Waiting g.row.B.Denot = waiting c.args.job c.args.priority x.arrived in
     let len = length_permutation (job ∷ x.lists.jobs) c.push.new.self.jobs c.push.ensures.jobs in
     omega (arith, view, len)

@@ -4,7 +4,7 @@ use Rattle.std.proofs.lemmas.List.Sorted.{IsPermutation-refl, length_permutation
 use Rattle.std.specs.List.Sorted.{IsPermutation}
 use Rattle.swift_queue.specs.Inside.List.{HasArrival}
 use Rattle.swift_queue.specs.Picks.{raised}
-use Rattle.swift_queue.specs.Queue.{IsOrderly, IsWithout, QueueIs}
+use Rattle.swift_queue.specs.Queue.{IsOrderly, IsWithout, QueueView}
 use Rattle.swift_queue.specs.declared.waiting.Waiting.{Waiting}
 use Rattle.swift_queue.proofs.ArrivalsStayRight.{arrivals_raise, no_arrival}
 use Rattle.swift_queue.proofs.QueueStaysOrderly.{orderly_raise}
@@ -15,7 +15,7 @@ use Rattle.swift_queue.proofs.queue.Queue.raise.Goals.{then-at-len+else-is_none,
 pub invariant_of-self : goal.invariant_of-self
 invariant_of-self g c =
     let x = c.self.inside in
-    let old : QueueIs g.row.B.Denot = record { jobs = x.lists.jobs; room = x.lists.room; arrived = x.arrived } in
+    let old : QueueView g.row.B.Denot = record { jobs = x.lists.jobs; room = x.lists.room; arrived = x.arrived } in
     let new = c.raise.new.self.jobs in
     record {
       orderly = subst (λ (n : ℕ). IsOrderly (record { jobs = new; room = n; arrived = x.arrived })) (sym c.raise.ensures.room) (orderly_raise old c.args.task c.args.priority new c.self.invariant.orderly c.raise.ensures.jobs);
@@ -26,7 +26,7 @@ pub returns-clause-len : goal.returns-clause-len
 returns-clause-len g c =
     let jobs = c.self.inside.lists.jobs in
     let r : Waiting g.row.B.Denot → Waiting g.row.B.Denot = raised {B = g.row.B.Denot} c.args.task c.args.priority in
-    let view = ap (λ (q : QueueIs g.row.B.Denot). length q.jobs) c.self.view_is in
+    let view = ap (λ (q : QueueView g.row.B.Denot). length q.jobs) c.self.view_is in
     let len = length_permutation (map r jobs) c.raise.new.self.jobs c.raise.ensures.jobs in
     let size = length-map jobs r in
     omega (arith, view, len, size)
@@ -55,5 +55,5 @@ returns-then-is_none-clause-jobs g c =
     let empty : is_some (get_or x.arrival_of.items c.args.task.0 None) ≡ false = ap is_some (sym read) ∙ c.if-is_none.ensures in
     let without = no_arrival (get_or x.arrival_of.items c.args.task.0 None) x.lists.jobs c.args.task (c.self.invariant.arrivals c.args.task.0 lt) empty in
     let jobs = c.args.self.now.jobs in
-    let here : IsWithout jobs c.args.task = subst (λ (q : QueueIs g.row.B.Denot). IsWithout q.jobs c.args.task) c.self.view_is without in
+    let here : IsWithout jobs c.args.task = subst (λ (q : QueueView g.row.B.Denot). IsWithout q.jobs c.args.task) c.self.view_is without in
     subst (λ (s : List (Waiting g.row.B.Denot)). IsPermutation s jobs) (sym (raise_without c.args.task c.args.priority jobs here)) (IsPermutation-refl jobs)

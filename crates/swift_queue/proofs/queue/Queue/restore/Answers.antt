@@ -2,7 +2,7 @@ use Rattle.std.proofs.Common.{ℕ, List, ◌∷◌, length, set, Some, ap, sym, 
 use Rattle.std.proofs.lemmas.List.Sorted.{length_permutation}
 use Rattle.swift_types.specs.declared.id.TaskId.{TaskId}
 use Rattle.swift_queue.specs.Inside.ArrivalOf.{AreArrivals}
-use Rattle.swift_queue.specs.Queue.{IsOrderly, IsRestorable, QueueIs, waiting}
+use Rattle.swift_queue.specs.Queue.{IsOrderly, IsRestorable, QueueView, waiting}
 use Rattle.swift_queue.specs.declared.waiting.Waiting.{Waiting}
 use Rattle.swift_queue.proofs.ArrivalsStayRight.{arrivals_add}
 use Rattle.swift_queue.proofs.QueueStaysOrderly.{orderly_add}
@@ -11,10 +11,10 @@ use Rattle.swift_queue.proofs.queue.Queue.restore.Goals as goal
 pub invariant_of-self : goal.invariant_of-self
 invariant_of-self g c =
     let x = c.self.inside in
-    let old : QueueIs g.row.B.Denot = record { jobs = x.lists.jobs; room = x.lists.room; arrived = x.arrived } in
+    let old : QueueView g.row.B.Denot = record { jobs = x.lists.jobs; room = x.lists.room; arrived = x.arrived } in
     let job : Waiting g.row.B.Denot = waiting c.args.job c.args.priority c.args.arrival in
     let new = c.insert.new.self.jobs in
-    let can : IsRestorable old c.args.job.task c.args.arrival = subst (λ (q : QueueIs g.row.B.Denot). IsRestorable q c.args.job.task c.args.arrival) (sym c.self.view_is) c.requires in
+    let can : IsRestorable old c.args.job.task c.args.arrival = subst (λ (q : QueueView g.row.B.Denot). IsRestorable q c.args.job.task c.args.arrival) (sym c.self.view_is) c.requires in
     let orderly = orderly_add old job new x.arrived c.self.invariant.orderly c.insert.ensures.jobs can.room (omega arith) can.below can.apart can.without in
     record {
       orderly = subst (λ (n : ℕ). IsOrderly (record { jobs = new; room = n; arrived = x.arrived })) (sym c.insert.ensures.room) orderly;
@@ -24,7 +24,7 @@ invariant_of-self g c =
 pub returns-clause-len : goal.returns-clause-len
 returns-clause-len g c =
     let x = c.self.inside in
-    let view = ap (λ (q : QueueIs g.row.B.Denot). length q.jobs) c.self.view_is in
+    let view = ap (λ (q : QueueView g.row.B.Denot). length q.jobs) c.self.view_is in
     let job : Waiting g.row.B.Denot = waiting c.args.job c.args.priority c.args.arrival in
     let len = length_permutation (job ∷ x.lists.jobs) c.insert.new.self.jobs c.insert.ensures.jobs in
     omega (arith, view, len)

@@ -1,6 +1,6 @@
 use Rattle.std.proofs.Common.{rules, ℕ, List, Option, None, replicate, sym, subst}
 use Rattle.swift_queue.specs.Inside.ArrivalOf.{AreArrivals}
-use Rattle.swift_queue.specs.Inside.ListsAre.{ListsAre}
+use Rattle.swift_queue.specs.Inside.PriorityLists.{PriorityListsView}
 use Rattle.swift_queue.specs.Queue.{IsOrderly}
 use Rattle.swift_queue.proofs.ArrivalsStayRight.{arrivals_new}
 use Rattle.swift_queue.proofs.QueueStaysOrderly.{orderly_new}
@@ -11,7 +11,7 @@ invariant_of-result g c =
     let lists = c.in_ok-lists.ensures in
     let none = c.in_ok-arrival_of.ensures.items_if_clones_equal (λ y h. search rules) in
     record {
-      orderly = subst (λ (l : ListsAre g.row.B.Denot). IsOrderly (record { jobs = l.jobs; room = l.room; arrived = 0 })) (sym lists) (orderly_new c.args.room);
+      orderly = subst (λ (l : PriorityListsView g.row.B.Denot). IsOrderly (record { jobs = l.jobs; room = l.room; arrived = 0 })) (sym lists) (orderly_new c.args.room);
       arrivals = subst (λ (noted : List (Option ℕ)). AreArrivals noted c.in_ok-lists.lists.jobs) (sym none)
-          (subst (λ (l : ListsAre g.row.B.Denot). AreArrivals (replicate 1024 None) l.jobs) (sym lists) (arrivals_new 1024));
+          (subst (λ (l : PriorityListsView g.row.B.Denot). AreArrivals (replicate 1024 None) l.jobs) (sym lists) (arrivals_new 1024));
     }

@@ -1,9 +1,9 @@
 use Rattle.std.proofs.Common.{◌≡◌, subst}
 use Rattle.script_code.specs.Tree.{terms_of}
-use Rattle.script_printing.specs.Script.{ScriptTree}
+use Rattle.script_printing.specs.Script.{ScriptView}
 use Rattle.swift_script.specs.Scripts.{executor_invariants}
 use Rattle.swift_script.proofs.script.Script.executor_invariants.Goals as goal
 
 pub returns : goal.returns
 returns c =
-    subst (λ (s : ScriptTree). terms_of c.invariants.result.now ≡ executor_invariants s c.args.executor.0) c.self.view_is (c.invariants.ensures _ c.self.invariant.has_parts)
+    subst (λ (s : ScriptView). terms_of c.invariants.result.now ≡ executor_invariants s c.args.executor.0) c.self.view_is (c.invariants.ensures _ c.self.invariant.has_parts)

@@ -1,6 +1,6 @@
 use Rattle.std.proofs.Common.{◌≡◌, length, subst, arith}
 use Rattle.std.proofs.lemmas.Slice.Zip.{AllZip-long}
-use Rattle.script_printing.specs.Script.{ScriptTree}
+use Rattle.script_printing.specs.Script.{ScriptView}
 use Rattle.script_compiler.specs.IsCompiled.{IsMethod}
 use Rattle.swift_script.specs.Scripts.{parts_of, method_count}
 use Rattle.swift_script.specs.ScriptInvariant.{tree_of}
@@ -11,4 +11,4 @@ returns c =
     let ms = c.self.inside.compiled.methods in
     let long = AllZip-long IsMethod ms.items _ c.self.invariant.has_parts.methods in
     let same : c.len.result ≡ length (parts_of (tree_of c.self.inside.tree.value)).methods = omega (arith, c.len.ensures, long, ms.ok.0) in
-    subst (λ (s : ScriptTree). c.len.result ≡ method_count s) c.self.view_is same
+    subst (λ (s : ScriptView). c.len.result ≡ method_count s) c.self.view_is same

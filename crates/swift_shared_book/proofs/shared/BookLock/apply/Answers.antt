@@ -3,12 +3,13 @@ use Rattle.std.specs.Prelude.{IsSomeAnd, vec_len}
 use Rattle.swift_interpreter.specs.Frames.{effect_views}
 use Rattle.swift_interpreter.specs.TurnStates.{exit_view}
 use Rattle.swift_turn.specs.Body.{BodyView}
-use Rattle.swift_queue.specs.Job.{JobIs}
-use Rattle.swift_known.specs.Views.{SeatView}
+use Rattle.swift_job.specs.Job.{JobView}
+use Rattle.swift_known.specs.Views.{BookKnown}
 use Rattle.swift_course.specs.Seats.{gathered}
-use Rattle.swift_tasks.specs.Books.{BookView, job_view}
+use Rattle.swift_tasks.specs.Books.{BookView}
+use Rattle.swift_history.specs.Jobs.{job_facts}
 use Rattle.swift_book_steps.specs.Calls.{facts_of}
-use Rattle.swift_shared_book.specs.Shared.{OpenSeatIs, newest, tickets_view}
+use Rattle.swift_shared_book.specs.Shared.{OpenSeatView, newest, tickets_view}
 use Rattle.swift_shared_book.specs.Steps.{MayGiveBack, knowing_record}
 use Rattle.swift_shared_book.proofs.RuleKept.{IsPlayedIn, applies, jobs_made, no_fewer, tickets_after}
 use Rattle.swift_shared_book.proofs.Shapes.{has_tickets}
@@ -39,10 +40,10 @@ give_turn-requires-clause-gives g c =
     let same : c.lock-taken.result.book.value ≡ b = sym c.deref_mut.ensures.value in
     let count : c.len-before.result ≡ length before = search rules in
     let made : drop (length before) after ≡ c.jobs_from-made.result.now = sym (c.jobs_from-made.ensures ∙ ap (λ (n : ℕ). drop n after) count) in
-    subst (λ (l : List (JobIs BodyView)). MayGiveBack s.knows s.taken (facts_of b') (λ _ w. w ≡ knowing_record newest_one (map job_view l) s.knows)) made
-    (applies c.args.place.now s.taken s.knows script b b' newest_one effects exit before after (ap (λ (x : OpenSeatIs). x.taken) is ∙ ap (λ (x : BookView). Some (facts_of x)) same)
+    subst (λ (l : List (JobView BodyView)). MayGiveBack s.knows s.taken (facts_of b') (λ _ w. w ≡ knowing_record newest_one (map job_facts l) s.knows)) made
+    (applies c.args.place.now s.taken s.knows script b b' newest_one effects exit before after (ap (λ (x : OpenSeatView). x.taken) is ∙ ap (λ (x : BookView). Some (facts_of x)) same)
     (ap (λ (x : BookView). x.script) (sym same) ∙ c.lock-taken.ensures.script)
-    (subst (λ (x : SeatView). IsSomeAnd c.args.place.now (IsPlayedIn script x newest_one effects exit)) (sym (ap (λ (x : OpenSeatIs). x.knows) is)) c.requires.played) c.in-Ok.ensures.refused c.in-Ok.ensures.ok
+    (subst (λ (x : BookKnown). IsSomeAnd c.args.place.now (IsPlayedIn script x newest_one effects exit)) (sym (ap (λ (x : OpenSeatView). x.knows) is)) c.requires.played) c.in-Ok.ensures.refused c.in-Ok.ensures.ok
     c.in-Ok.ensures.script)
 
 pub invariant_of-jobs : goal.invariant_of-jobs
@@ -57,4 +58,4 @@ invariant_of-jobs g c =
     let old = c.jobs.invariant.1 in
     has_tickets c.give_turn.new.tickets c.args.self.now (tickets_view script c.jobs_from-made.result.now) c.jobs.inside.seat.knows script old c.jobs_from-made.result.now before after c.turn.new.is_reversed c.give_turn.ensures.tickets refl
     (c.jobs.invariant.2 ∙ ap (tickets_view old) (sym c.turn.ensures.jobs))
-    (ap (λ (l : List (JobIs BodyView)). gathered (tickets_view script l) (tickets_view old before)) made ∙ tickets_after script old before after m.0 m.1) c.turn.ensures.way
+    (ap (λ (l : List (JobView BodyView)). gathered (tickets_view script l) (tickets_view old before)) made ∙ tickets_after script old before after m.0 m.1) c.turn.ensures.way

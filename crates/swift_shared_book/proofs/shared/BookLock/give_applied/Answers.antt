@@ -1,5 +1,5 @@
 use Rattle.std.proofs.Common.{◌≡◌, sym, subst}
-use Rattle.swift_known.specs.Views.{SeatView}
+use Rattle.swift_known.specs.Views.{BookKnown}
 use Rattle.swift_book_steps.specs.Calls.{facts_of}
 use Rattle.swift_shared_book.specs.Steps.{MayGiveBack}
 use Rattle.swift_shared_book.specs.declared.opened.OpenBook.{OpenBook}
@@ -11,5 +11,5 @@ unlock-requires-clause-rule g c =
     let s = c.given.inside.0.1.0.seat in
     let b = c.args.given in
     let known = g.K.Told.view in
-    let may = subst (λ (x : SeatView). MayGiveBack b.seat.knows b.seat.taken (facts_of b.book.value) (λ _ w. w ≡ x)) (sym c.requires.name) c.requires.gives in
+    let may = subst (λ (x : BookKnown). MayGiveBack b.seat.knows b.seat.taken (facts_of b.book.value) (λ _ w. w ≡ x)) (sym c.requires.name) c.requires.gives in
     unlocks s.held s.known _ (λ _ w. w ≡ known) (subst (λ (o : OpenBook). MayGiveBack o.seat.knows o.seat.taken (facts_of o.book.value) (λ _ w. w ≡ known)) (sym c.given.view_is) may)

@@ -1,5 +1,5 @@
 use Rattle.std.proofs.Common.{sym, subst, IfSome}
-use Rattle.swift_tasks.specs.Books.{job_view}
+use Rattle.swift_history.specs.Jobs.{job_facts}
 use Rattle.swift_book_steps.specs.Calls.{facts_of}
 use Rattle.swift_shared_book.specs.Shared.{BeginsTicket, facts_in}
 use Rattle.swift_shared_book.specs.Steps.{MayGiveBack}
@@ -10,7 +10,7 @@ use Rattle.swift_shared_book.proofs.shared.BookLock.give_begun.Goals as goal
 pub unlock-requires-clause-rule : goal.unlock-requires-clause-rule
 unlock-requires-clause-rule g c =
     let s = c.given.inside.0.1.0.seat in
-    let j = job_view c.args.job.now in
+    let j = job_facts c.args.job.now in
     let env = c.args.env in
     let named = g.K.Begun in
     let may =

@@ -1,7 +1,7 @@
 use Rattle.std.proofs.Common.{◌≡◌, length, ap, ◌∙◌}
-use Rattle.swift_known.specs.Views.{SeatView}
+use Rattle.swift_known.specs.Views.{BookKnown}
 use Rattle.swift_course.specs.Seats.{gathered, some_parted}
-use Rattle.swift_shared_book.specs.Shared.{BookSeatIs, newest, seat_of, tickets_view}
+use Rattle.swift_shared_book.specs.Shared.{BookSeatView, newest, seat_of, tickets_view}
 use Rattle.swift_shared_book.proofs.Shapes.{parted_is}
 use Rattle.swift_shared_book.proofs.shared.BookLock.give_turn.Goals as goal
 
@@ -10,8 +10,8 @@ returns-clause-tickets c =
     let v = c.args.given.seat.knows in
     let made = c.args.made.now in
     let parted : c.part-parted.result.knows ≡ tickets_view v.script made =
-    ap (λ (s : BookSeatIs). s.knows) c.part-parted.ensures.new
-    ∙ ap (λ (s : BookSeatIs). some_parted (length made) s.knows) c.give_applied.ensures
+    ap (λ (s : BookSeatView). s.knows) c.part-parted.ensures.new
+    ∙ ap (λ (s : BookSeatView). some_parted (length made) s.knows) c.give_applied.ensures
     ∙ parted_is (newest c.args.journal.now) made v c.requires.newest
     in
-    c.append.ensures ∙ ap (λ (x : SeatView). seat_of c.args.self.now (gathered x c.args.tickets.now.knows)) parted
+    c.append.ensures ∙ ap (λ (x : BookKnown). seat_of c.args.self.now (gathered x c.args.tickets.now.knows)) parted

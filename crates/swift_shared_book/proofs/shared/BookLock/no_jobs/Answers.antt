@@ -1,6 +1,6 @@
 use Rattle.std.proofs.Common.{ap}
-use Rattle.swift_shared_book.specs.Shared.{BookSeatIs}
+use Rattle.swift_shared_book.specs.Shared.{BookSeatView}
 use Rattle.swift_shared_book.proofs.shared.BookLock.no_jobs.Goals as goal
 
 pub none-requires : goal.none-requires
-none-requires c = (ap (λ (s : BookSeatIs). s.here) c.part.ensures.new, c.args.seat.now.knows.script, ap (λ (s : BookSeatIs). s.knows) c.part.ensures.new)
+none-requires c = (ap (λ (s : BookSeatView). s.here) c.part.ensures.new, c.args.seat.now.knows.script, ap (λ (s : BookSeatView). s.knows) c.part.ensures.new)

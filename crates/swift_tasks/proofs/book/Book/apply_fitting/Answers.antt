@@ -12,7 +12,8 @@ use Rattle.swift_events.specs.Relations.{waiters_of}
 use Rattle.swift_history.specs.Checks.{counters}
 use Rattle.swift_ledger.specs.Ledgers.{LedgerView}
 use Rattle.swift_tasks.specs.BookInvariant.{FitsScript, held_views}
-use Rattle.swift_tasks.specs.Books.{BookView, IsJobOf, job_view}
+use Rattle.swift_tasks.specs.Books.{BookView, IsJobOf}
+use Rattle.swift_history.specs.Jobs.{job_facts}
 use Rattle.swift_tasks.specs.Refusals.{refusal_of_apply}
 use Rattle.swift_tasks.proofs.Fitting.{starts}
 use Rattle.swift_tasks.proofs.TurnTaken.{taken_fits}
@@ -76,9 +77,9 @@ returns-clause-ok c =
     (effect_views c.args.effects.now) (effect_views c.args.effects.now) c.in-Ok.bodies.items (exit_view c.args.exit.now)
     (ap (λ (b : BookView). b.script) c.self.view_is) (ap (λ (b : BookView). b.log) c.self.view_is) c.self.invariant.0 c.requires.fits c.requires.known c.requires.running c.requires.same
     c.in-Ok.ensures (ap (λ (l : LedgerView). l.roots) led) (ap (λ (l : LedgerView). l.log) led) c.make_room.ensures.held refl in
-    end_of_book c.args.self.now script c.self.inside.ledger.log c.make_room.new.ledger.log (held_views c.self.inside.held.items) (held_views c.make_room.new.held.items) (map job_view c.args.jobs.now.items) (map job_view c.make_room.new.jobs.items) c.args.job
-    (effect_views c.args.effects.now) (effect_views c.args.effects.now) (exit_view c.args.exit.now) c.take_turn.new.ledger.log (held_views c.take_turn.new.held.items) (map job_view c.take_turn.new.jobs.items)
-    c.self.view_is (ap (λ (l : LedgerView). l.log) led) (ap held_views c.make_room.ensures.held) (ap (map job_view) c.make_room.ensures.jobs) refl (c.in_default-take_turn.ensures.end script fits)
+    end_of_book c.args.self.now script c.self.inside.ledger.log c.make_room.new.ledger.log (held_views c.self.inside.held.items) (held_views c.make_room.new.held.items) (map job_facts c.args.jobs.now.items) (map job_facts c.make_room.new.jobs.items) c.args.job
+    (effect_views c.args.effects.now) (effect_views c.args.effects.now) (exit_view c.args.exit.now) c.take_turn.new.ledger.log (held_views c.take_turn.new.held.items) (map job_facts c.take_turn.new.jobs.items)
+    c.self.view_is (ap (λ (l : LedgerView). l.log) led) (ap held_views c.make_room.ensures.held) (ap (map job_facts) c.make_room.ensures.jobs) refl (c.in_default-take_turn.ensures.end script fits)
 
 pub returns-clause-bodies : goal.returns-clause-bodies
 returns-clause-bodies c = λ all.

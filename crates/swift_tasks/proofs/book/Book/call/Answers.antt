@@ -3,28 +3,29 @@ use Rattle.std.specs.Prelude.{Option, IsSomeAnd, map}
 use Rattle.std.specs.Arc.{arc_value}
 use Rattle.swift_types.specs.declared.outcome.Resume.{Resume}
 use Rattle.swift_interpreter.specs.TurnStates.{exit_view}
-use Rattle.swift_queue.specs.Job.{JobIs}
+use Rattle.swift_job.specs.Job.{JobView}
 use Rattle.swift_turn.specs.declared.step.Step.{Step}
 use Rattle.swift_turn.specs.declared.step.Step.TheVariants.{Run}
 use Rattle.swift_turn.specs.Body.{BodyView, at_rest, GoesOn, AdvancesTo, CanAdvance}
 use Rattle.swift_ledger.specs.Ledgers.{LedgerView}
 use Rattle.swift_tasks.specs.Applying.{CanApply, went_on, next_of}
 use Rattle.swift_tasks.specs.BookInvariant.{held_views}
-use Rattle.swift_tasks.specs.Books.{BookView, IsEndOf, job_view}
+use Rattle.swift_tasks.specs.Books.{BookView, IsEndOf}
+use Rattle.swift_history.specs.Jobs.{job_facts}
 use Rattle.swift_tasks.proofs.GoesOn.{Next, Parts, can_follow, plain_ends, plain_book, more_views}
 use Rattle.swift_tasks.proofs.book.Book.call.Goals as goal
 
 pub advance-requires-clause-call : goal.advance-requires-clause-call
 advance-requires-clause-call c =
-    let can = subst (λ (o : Option (JobIs BodyView)). IsSomeAnd o (CanApply c.args.self.now [] (exit_view c.args.exit.now))) (sym c.in-Some.ensures.value) c.requires.fits in
+    let can = subst (λ (o : Option (JobView BodyView)). IsSomeAnd o (CanApply c.args.self.now [] (exit_view c.args.exit.now))) (sym c.in-Some.ensures.value) c.requires.fits in
     subst (λ (r : Parts). CanAdvance r.3.script (exit_view c.args.exit.now)) (sym c.spend-number.ensures) (can_follow c.args.self.now c.in-Some.job (exit_view c.args.exit.now) can)
 
 can_of : (c : goal.After-go_on) → CanApply c.args.self.now [] (exit_view c.args.exit.now) c.in-Some.job
-can_of c = subst (λ (o : Option (JobIs BodyView)). IsSomeAnd o (CanApply c.args.self.now [] (exit_view c.args.exit.now))) (sym c.in-Some.ensures.value) c.requires.fits
+can_of c = subst (λ (o : Option (JobView BodyView)). IsSomeAnd o (CanApply c.args.self.now [] (exit_view c.args.exit.now))) (sym c.in-Some.ensures.value) c.requires.fits
 
 next_by : (c : goal.After-go_on) → Next c.in-Some.job (exit_view c.args.exit.now) c.advance.new.self c.in-Ok-Run.next
 next_by c =
-    let job : JobIs BodyView = c.in-Some.job in
+    let job : JobView BodyView = c.in-Some.job in
     let step : c.in-Ok-Run.field-0 ≡ Run c.in-Ok-Run.field-0-0 c.in-Ok-Run.next = c.in-Ok-Run.field-0-is in
     let A : Parts → Type 0 = λ r. AdvancesTo r.3.script r.3.task.frames r.3.task.outer (exit_view c.args.exit.now) (record { task = c.advance.new.self.task; step = c.in-Ok-Run.field-0 }) in
     let adv = subst A c.spend-number.ensures c.in-Ok-Run.ensures.ok in
@@ -38,7 +39,7 @@ next_by c =
 
 pub invariant_of-self-in-Ok-Run : goal.invariant_of-self-in-Ok-Run
 invariant_of-self-in-Ok-Run c =
-    let job : JobIs BodyView = c.in-Some.job in
+    let job : JobView BodyView = c.in-Some.job in
     let next : Resume = c.in-Ok-Run.next in
     let same = c.reserve-2.ensures.same in
     let log = c.go_on.ensures.log ∙ ap (λ (n : Resume). went_on c.reserve-2.new.self.log c.spend-number.result.0 c.spend-number.result.1 n) c.in-Ok-Run.next-is
@@ -52,14 +53,14 @@ invariant_of-self-in-Ok-Run c =
 
 pub returns-in-Ok-Run-clause-ok : goal.returns-in-Ok-Run-clause-ok
 returns-in-Ok-Run-clause-ok c =
-    let job : JobIs BodyView = c.in-Some.job in
+    let job : JobView BodyView = c.in-Some.job in
     let next : Resume = c.in-Ok-Run.next in
     let body : BodyView = c.advance.new.self in
     let log = c.go_on.ensures.log ∙ ap (λ (n : Resume). went_on c.reserve-2.new.self.log c.spend-number.result.0 c.spend-number.result.1 n) c.in-Ok-Run.next-is
     ∙ ap (λ (r : Parts). went_on c.reserve-2.new.self.log r.0 r.1 next) c.spend-number.ensures ∙ ap (λ (l : LedgerView). went_on l.log job.task job.number next) c.reserve-2.ensures.same
     ∙ ap (λ (b : BookView). went_on b.log job.task job.number next) c.self.view_is in
     let jobs = c.go_on.ensures.jobs ∙ ap (λ (n : Resume). c.reserve.new.self.items ++ next_of c.spend-number.result.0 c.spend-number.result.1 n (at_rest body) ∷ []) c.in-Ok-Run.next-is
-    ∙ ap (λ (r : Parts). c.reserve.new.self.items ++ next_of r.0 r.1 next (at_rest body) ∷ []) c.spend-number.ensures ∙ ap (λ (js : List (JobIs BodyView)). js ++ next_of job.task job.number next (at_rest body) ∷ []) c.reserve.ensures.items in
-    let end = plain_ends c.args.self.now (map job_view c.args.jobs.now.items) (map job_view c.go_on.new.jobs.items) job (exit_view c.args.exit.now) body next c.go_on.new.ledger.log (held_views c.self.inside.held.items) (can_of c) (next_by c)
+    ∙ ap (λ (r : Parts). c.reserve.new.self.items ++ next_of r.0 r.1 next (at_rest body) ∷ []) c.spend-number.ensures ∙ ap (λ (js : List (JobView BodyView)). js ++ next_of job.task job.number next (at_rest body) ∷ []) c.reserve.ensures.items in
+    let end = plain_ends c.args.self.now (map job_facts c.args.jobs.now.items) (map job_facts c.go_on.new.jobs.items) job (exit_view c.args.exit.now) body next c.go_on.new.ledger.log (held_views c.self.inside.held.items) (can_of c) (next_by c)
     log (ap (λ (b : BookView). b.held) c.self.view_is) (more_views c.args.jobs.now.items c.go_on.new.jobs.items job next (at_rest body) jobs) in
-    subst (λ (o : Option (JobIs BodyView)). IsSomeAnd o (λ j. IsEndOf c.args.self.now (map job_view c.args.jobs.now.items) j [] (exit_view c.args.exit.now) c.go_on.new.ledger.log (held_views c.self.inside.held.items) (map job_view c.go_on.new.jobs.items))) c.in-Some.ensures.value end
+    subst (λ (o : Option (JobView BodyView)). IsSomeAnd o (λ j. IsEndOf c.args.self.now (map job_facts c.args.jobs.now.items) j [] (exit_view c.args.exit.now) c.go_on.new.ledger.log (held_views c.self.inside.held.items) (map job_facts c.go_on.new.jobs.items))) c.in-Some.ensures.value end

@@ -4,7 +4,7 @@ use Rattle.std.specs.Arc.{arc_value}
 use Rattle.std.proofs.lemmas.List.{length-replicate}
 use Rattle.swift_script.specs.Scripts.{root_count}
 use Rattle.swift_ledger.specs.Ledgers.{LedgerView}
-use Rattle.swift_tasks.specs.declared.held.Held.{Held}
+use Rattle.swift_tasks.specs.declared.held.WaitingTask.{WaitingTask}
 use Rattle.swift_tasks.proofs.EmptyBook.{empty_kept, new_is_empty}
 use Rattle.swift_tasks.proofs.book.Book.new.Goals as goal
 
@@ -15,7 +15,7 @@ invariant_of-result c =
     let rest : c.in_ok-held.held.items ≡ replicate roots None = c.in_ok-held.ensures.ok in (
       empty_kept (arc_value c.args.script) c.in_ok-ledger.ledger c.in_ok-held.held.items count c.in_ok-ledger.ensures rest,
       c.in_ok-spare.ensures.items,
-      omega (arith, c.in_ok-spare.ensures.capacity, c.in_ok-held.held.ok.0, ap length rest, length-replicate {A = Option Held} roots None),
+      omega (arith, c.in_ok-spare.ensures.capacity, c.in_ok-held.held.ok.0, ap length rest, length-replicate {A = Option WaitingTask} roots None),
     )
 
 pub returns-clause-ok : goal.returns-clause-ok

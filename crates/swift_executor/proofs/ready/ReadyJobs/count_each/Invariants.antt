@@ -1,0 +1,10 @@
+use Rattle.std.proofs.Common.{◌≡◌, ◌≤◌, length}
+use Rattle.std.specs.List.Sorted.{IsPermutation}
+use Rattle.swift_types.specs.declared.limits.TheConstants.{TASKS}
+use Rattle.swift_executor.proofs.Counting.{AreCountedBelow}
+use Rattle.swift_executor.proofs.ready.ReadyJobs.count_each.Given as goal
+
+abbrev pub invariant-loop-place : goal.invariant-loop-place
+invariant-loop-place g l =
+    IsPermutation l.initial.self.front l.self.front × AreCountedBelow l.place l.initial.self.levels l.given l.self.levels × (l.self ≡ record l.initial.self { front = l.self.front; levels = l.self.levels })
+    × (length l.given ≤ TASKS)

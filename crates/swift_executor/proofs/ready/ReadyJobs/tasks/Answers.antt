@@ -1,0 +1,14 @@
+use Rattle.std.proofs.Common.{List, ◌++◌, map, ap, ◌∙◌}
+use Rattle.swift_types.specs.declared.id.TaskId.{TaskId}
+use Rattle.swift_executor.specs.Ready.{ReadyJobsView, tasks_in, times}
+use Rattle.swift_executor.specs.ReadyInside.{task_in}
+use Rattle.swift_executor.proofs.ReadyKept.{tasks_seen}
+use Rattle.swift_executor.proofs.ready.ReadyJobs.tasks.Goals as goal
+
+pub returns : goal.returns
+returns g c = λ t.
+    let x = c.self.inside in
+    ap (times t) c.as_slice.ensures
+    ∙ c.self.invariant.tasks t
+    ∙ ap (λ (ts : List TaskId). times t (ts ++ map task_in x.behind.items)) (tasks_seen x.queue.jobs)
+    ∙ ap (λ (r : ReadyJobsView g.row.B.Denot). times t (tasks_in r)) c.self.view_is
