@@ -1,6 +1,6 @@
 pub mod Checks
 pub mod Colours
-pub mod Input
+pub mod InputInside
 pub mod Marks
 pub mod Pages
 pub mod Prints

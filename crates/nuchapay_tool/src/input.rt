@@ -2,7 +2,7 @@
 
 ghost use Rattle.std.specs.Prelude.{◌≡◌, ◌<◌, ◌≤◌, ◌+◌, IfOk, length, vec_len};
 ghost use Rattle.std.specs.Io.KnownBytes.{Consumes, IsAtEnd};
-ghost use Rattle.nuchapay_tool.specs.Input.{TakesMore};
+ghost use Rattle.nuchapay_tool.specs.InputInside.{TakesMore};
 
 use std::alloc::Global;
 use std::io;

@@ -12,7 +12,7 @@ use Rattle.script_compiler.specs.declared.compiled.CompiledActor.{CompiledActor}
 use Rattle.script_compiler.specs.declared.compiled.CompiledExecutor.{CompiledExecutor}
 use Rattle.script_compiler.specs.Compiled.{ActorView, ExecutorView, members_from, executors_from, actors_from, term_list}
 use Rattle.script_compiler.specs.IsCompiled.{actor_view, executor_view, HasInvariants}
-use Rattle.script_compiler.specs.Members.{members_below, executors_by}
+use Rattle.script_compiler.specs.MembersInside.{members_below, executors_by}
 
 same_members : (p : PlanView) (e k : ℕ) (ts : List ActorTree) → members_below p e k (length ts) ≡ members_from p e k ts
 same_members p e k [] = refl

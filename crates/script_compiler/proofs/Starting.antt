@@ -6,7 +6,7 @@ use Rattle.script_compiler.specs.declared.compiled.Compiled.{Compiled}
 use Rattle.script_compiler.specs.Compiled.{ExecutorView, ActorView, CompiledView, members_if}
 use Rattle.script_compiler.specs.IsCompiled.{IsCompiled, executor_view, actor_view}
 use Rattle.script_compiler.specs.Starts.{starts_at, first_false_from}
-use Rattle.script_compiler.specs.Rows.{rows_among, rows_in, rows_at, first_false_in}
+use Rattle.script_compiler.specs.RowsInside.{rows_among, rows_in, rows_at, first_false_in}
 
 rows_found : (xs : List ExecutorView) (actors : List ActorView) (e : ℕ) → rows_at (rows_in xs actors) e ≡ rows_among actors (members_if (slice_get xs e))
 rows_found [] actors e = refl

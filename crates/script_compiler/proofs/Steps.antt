@@ -13,7 +13,7 @@ use Rattle.script_printing.specs.Script.{script_in}
 use Rattle.script_compiler.specs.declared.compiled.CompiledMethod.{CompiledMethod}
 use Rattle.script_compiler.specs.Compiled.{MethodView, method_of, methods_from}
 use Rattle.script_compiler.specs.IsCompiled.{actor_number, IsMethod}
-use Rattle.script_compiler.specs.Members.{members_below, methods_here, number_after}
+use Rattle.script_compiler.specs.MembersInside.{members_below, methods_here, number_after}
 
 -- the first of what is left
 pub front : {A : Type 0} (xs : List A) (i : ℕ) (x : A) → i < length xs → x ≡ get_or xs i x → drop i xs ≡ x ∷ drop (i + 1) xs

@@ -1,9 +1,9 @@
 pub mod Compiled
 pub mod Starts
 pub mod IsCompiled
-pub mod Members
-pub mod Rows
+pub mod MembersInside
+pub mod RowsInside
 pub mod Waiting
 pub mod Calls
 pub mod Fits
-pub mod Acts
+pub mod ActsInside

@@ -7,7 +7,7 @@ ghost use Rattle.script_code.specs.Tree.{terms_of};
 ghost use Rattle.script_printing.specs.Script.{script_in};
 ghost use Rattle.script_compiler.specs.Compiled.{own_executors, invariant_if, term_list, invariants_among};
 ghost use Rattle.script_compiler.specs.IsCompiled.{actor_number, actor_view, executor_view, HasInvariants};
-ghost use Rattle.script_compiler.specs.Members.{members_below, executors_by};
+ghost use Rattle.script_compiler.specs.MembersInside.{members_below, executors_by};
 
 use crate::compiled::{CompiledActor, CompiledExecutor};
 use crate::copy::copy_formula;

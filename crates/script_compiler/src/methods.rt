@@ -6,7 +6,7 @@ ghost use Rattle.script_grammar.specs.Tree.{view_method, view_decl};
 ghost use Rattle.script_printing.specs.Script.{script_in};
 ghost use Rattle.script_compiler.specs.Compiled.{MethodView, method_of, methods_from};
 ghost use Rattle.script_compiler.specs.IsCompiled.{IsMethod};
-ghost use Rattle.script_compiler.specs.Members.{methods_here, number_after};
+ghost use Rattle.script_compiler.specs.MembersInside.{methods_here, number_after};
 
 use crate::compiled::CompiledMethod;
 use crate::number::{next, to_u32};

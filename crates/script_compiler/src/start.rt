@@ -7,7 +7,7 @@ ghost use Rattle.script_code.specs.Value.{holds as it_holds};
 ghost use Rattle.script_compiler.specs.Compiled.{CompiledView, executor_invariants};
 ghost use Rattle.script_compiler.specs.IsCompiled.{actor_number, actor_view, executor_view, field_view, IsCompiled};
 ghost use Rattle.script_compiler.specs.Starts.{start_if, starts_at, first_false_from};
-ghost use Rattle.script_compiler.specs.Rows.{rows_among, rows_in, rows_at, all_rows_of, first_false_in};
+ghost use Rattle.script_compiler.specs.RowsInside.{rows_among, rows_in, rows_at, all_rows_of, first_false_in};
 
 use crate::compiled::{Compiled, CompiledActor, CompiledExecutor, CompiledField};
 use script_code::{Formula, holds};

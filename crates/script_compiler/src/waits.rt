@@ -6,7 +6,7 @@ ghost use Rattle.script_code.specs.Tree.{wanted_of};
 ghost use Rattle.script_compiler.specs.Compiled.{CompiledView};
 ghost use Rattle.script_compiler.specs.IsCompiled.{root_view, IsCompiled};
 ghost use Rattle.script_compiler.specs.Waiting.{method_wanted, root_wanted, edge_to, wait_for, edges_made, waits_made, edges_of, waits_of, root_methods};
-ghost use Rattle.script_compiler.specs.Acts.{operation_of, made_if, made_along, made_through};
+ghost use Rattle.script_compiler.specs.ActsInside.{operation_of, made_if, made_along, made_through};
 
 use crate::compiled::{Compiled, CompiledMethod, CompiledRoot};
 use crate::number::to_u32;

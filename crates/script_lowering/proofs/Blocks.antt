@@ -9,7 +9,7 @@ use Rattle.script_names.specs.Rules.{scope_after}
 use Rattle.script_code.specs.declared.instruction.Instruction.{Instruction}
 use Rattle.script_lowering.specs.Plan.{PlanView}
 use Rattle.script_lowering.specs.Lowered.{stmt_code, block_code}
-use Rattle.script_lowering.specs.Standing.{scope_through}
+use Rattle.script_lowering.specs.StandingInside.{scope_through}
 use Rattle.script_lowering.proofs.Lines.{IsWritten, both_written}
 
 -- the statements that are left, at one of them

@@ -14,7 +14,7 @@ use Rattle.script_names.specs.Scope.{ScopeView}
 use Rattle.script_grammar.specs.Tree.{ExprTree, HeadTree, If, While, Bind, Group, Assume}
 use Rattle.script_lowering.specs.Plan.{PlanView, executor_at}
 use Rattle.script_lowering.specs.Lowered.{lowered, headed_code}
-use Rattle.script_lowering.specs.Heads.{foot, HeadsAs, is_isolated, is_loop}
+use Rattle.script_lowering.specs.HeadsInside.{foot, HeadsAs, is_isolated, is_loop}
 use Rattle.script_lowering.proofs.Lines.{IsWritten, lines_then, start_then, operation_lines, operation_start, choice_lines, choice_start}
 
 -- What a block with its head becomes, where it is no loop and is run: its foot, its block, and an instruction of its head.

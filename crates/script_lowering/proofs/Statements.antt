@@ -20,8 +20,8 @@ use Rattle.script_names.specs.Scope.{ScopeView}
 use Rattle.script_names.specs.Rules.{scope_within}
 use Rattle.script_lowering.specs.Plan.{PlanView}
 use Rattle.script_lowering.specs.Lowered.{lowered, headed_code, stmt_code, block_code}
-use Rattle.script_lowering.specs.Standing.{outside_of, left}
-use Rattle.script_lowering.specs.Heads.{is_isolated, is_loop}
+use Rattle.script_lowering.specs.StandingInside.{outside_of, left}
+use Rattle.script_lowering.specs.HeadsInside.{is_isolated, is_loop}
 use Rattle.script_lowering.proofs.Lines.{IsWritten, choice_lines, choice_start, loop_lines, loop_start}
 use Rattle.script_lowering.proofs.Heads.{HasParts, head_written}
 

@@ -1,8 +1,8 @@
 pub mod Plan
 pub mod Lowered
 pub mod Counts
-pub mod Standing
-pub mod Heads
+pub mod StandingInside
+pub mod HeadsInside
 pub mod Parts
 pub mod Places
 pub mod Calls

@@ -7,8 +7,8 @@ ghost use Rattle.script_names.specs.Scope.{ScopeView};
 ghost use Rattle.script_names.specs.Rules.{scope_after, scope_within};
 ghost use Rattle.script_code.specs.Layout.{meaning_of, entry, written};
 ghost use Rattle.script_lowering.specs.Lowered.{stmt_code, block_code};
-ghost use Rattle.script_lowering.specs.Standing.{scope_through};
-ghost use Rattle.script_lowering.specs.Heads.{foot, HeadsAs, is_isolated};
+ghost use Rattle.script_lowering.specs.StandingInside.{scope_through};
+ghost use Rattle.script_lowering.specs.HeadsInside.{foot, HeadsAs, is_isolated};
 
 use crate::action::action;
 use crate::expression::expression;

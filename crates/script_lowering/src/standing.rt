@@ -6,7 +6,7 @@ ghost use Rattle.script_names.specs.Directory.{fields_at};
 ghost use Rattle.script_names.specs.Scope.{fields_alone, with_standing, meaning_of, ScopeView};
 ghost use Rattle.script_lowering.specs.Counts.{counts_of};
 ghost use Rattle.script_lowering.specs.Lowered.{numbers_in, handles_in, number_place, handle_place};
-ghost use Rattle.script_lowering.specs.Standing.{outside_of, left};
+ghost use Rattle.script_lowering.specs.StandingInside.{outside_of, left};
 
 use crate::counts::{PlaceCounts, count_name};
 use script_names::{Declared, NameKind, Outside, Scope};

@@ -15,7 +15,7 @@ use Rattle.script_names.specs.declared.error.NameErrorKind.TheVariants as names
 use Rattle.script_names.specs.Rules.{names_error}
 use Rattle.swift_script.specs.declared.fault.ScriptFaultKind.{ScriptFaultKind}
 use Rattle.swift_script.specs.FaultLines.{is_name, place_of, past_name}
-use Rattle.swift_script.specs.Spelled.{grammar_kind, names_kind}
+use Rattle.swift_script.specs.SpelledInside.{grammar_kind, names_kind}
 use Rattle.script_marks.specs.Places.{GrammarFailsAt, NameFailsAt, FailsAt}
 
 of_grammar : (text : List ℕ) (k : Kind) (place : ℕ) → GrammarFailsAt text k place → FailsAt (grammar_kind k) text place

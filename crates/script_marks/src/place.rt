@@ -8,7 +8,7 @@ ghost use Rattle.script_parser.specs.declared.limits.TheConstants.{NESTING};
 ghost use Rattle.script_printing.specs.Script.{script_in};
 ghost use Rattle.script_tokens.specs.Lexes.{Lexes};
 ghost use Rattle.script_tokens.specs.Pieces.{piece};
-ghost use Rattle.swift_script.specs.Spelled.{grammar_kind, names_kind};
+ghost use Rattle.swift_script.specs.SpelledInside.{grammar_kind, names_kind};
 ghost use Rattle.script_compiler.specs.IsCompiled.{IsCompiled};
 ghost use Rattle.swift_script.specs.Scripts.{parts_of};
 ghost use Rattle.swift_script.specs.FaultLines.{is_name, past_name, place_of};

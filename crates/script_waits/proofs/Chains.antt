@@ -4,8 +4,8 @@ use Rattle.std.proofs.lemmas.List.{get_or-set_same, get_or-set_other, length_pus
 use Rattle.std.proofs.lemmas.Option.{none-some, same_Some, slice_get_within}
 use Rattle.std.proofs.lemmas.Bool.{cases_eq, cases_lt}
 use Rattle.std.specs.List.{slice_get}
-use Rattle.script_waits.specs.Lists.{InChain, last_of, end_of, AreOrderly, Pushes, AreEmpty}
-use Rattle.script_waits.specs.Lists.InChain.{at, after}
+use Rattle.script_waits.specs.ListsInside.{InChain, last_of, end_of, AreOrderly, Pushes, AreEmpty}
+use Rattle.script_waits.specs.ListsInside.InChain.{at, after}
 use Rattle.script_waits.specs.declared.lists.ListEntry.{ListEntry}
 use Rattle.script_waits.specs.declared.lists.MethodLists.{MethodLists}
 

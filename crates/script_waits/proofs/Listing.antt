@@ -2,8 +2,8 @@
 use Rattle.std.proofs.Common.{◌≡◌, ℕ, ◌+◌, ◌<◌, ◌⊎◌, List, [], ◌∷◌, ◌++◌, length, get_or, take, min, ap, sym, subst, ◌∙◌, inl, inr}
 use Rattle.std.proofs.lemmas.List.{take_more}
 use Rattle.std.proofs.lemmas.List.Elements.{Contains-push, Contains-push_cases, Contains-append_left}
-use Rattle.script_waits.specs.Lists.{Has, Pushes, AreListsOf}
-use Rattle.script_waits.specs.First.{Calls, WaitsInPlace}
+use Rattle.script_waits.specs.ListsInside.{Has, Pushes, AreListsOf}
+use Rattle.script_waits.specs.FirstInside.{Calls, WaitsInPlace}
 use Rattle.script_waits.specs.declared.first.CallEdge.{CallEdge}
 use Rattle.script_waits.specs.declared.first.RootWait.{RootWait}
 use Rattle.script_waits.specs.declared.lists.MethodLists.{MethodLists}

@@ -5,7 +5,7 @@ use Rattle.std.proofs.lemmas.List.Sums.{sum_by-set}
 use Rattle.std.proofs.lemmas.List.Elements.{Contains-push, Contains-push_cases, Contains-append_left}
 use Rattle.std.proofs.lemmas.Bool.{cases_eq}
 use Rattle.std.specs.List.{Contains, count_by}
-use Rattle.script_waits.specs.Marks.{count_of, Marking, MarkingAll}
+use Rattle.script_waits.specs.MarksInside.{count_of, Marking, MarkingAll}
 use Rattle.script_waits.specs.declared.marks.Marks.{Marks}
 
 pub marking_none : (is_in : ℕ → Type 0) (s : Marks) → Marking is_in s s

@@ -6,10 +6,10 @@ use Rattle.std.specs.List.{Contains, slice_get}
 use Rattle.std.specs.Option.{IfSome, IfNone}
 use Rattle.script_waits.specs.Waits.{Leads, WaitsForLater, NoneBefore, NoneWaits}
 use Rattle.script_waits.specs.Waits.Leads.{here, on}
-use Rattle.script_waits.specs.Lists.{Has, AreListsOf}
-use Rattle.script_waits.specs.Marks.{IsMarked, count_of, CallsTo, IsClosed, Reaching, AreNone}
-use Rattle.script_waits.specs.Marks.CallsTo.{itself, by}
-use Rattle.script_waits.specs.First.{Calls, WaitsInPlace, LeadsToWait, AreMarks, IsFirstFrom}
+use Rattle.script_waits.specs.ListsInside.{Has, AreListsOf}
+use Rattle.script_waits.specs.MarksInside.{IsMarked, count_of, CallsTo, IsClosed, Reaching, AreNone}
+use Rattle.script_waits.specs.MarksInside.CallsTo.{itself, by}
+use Rattle.script_waits.specs.FirstInside.{Calls, WaitsInPlace, LeadsToWait, AreMarks, IsFirstFrom}
 use Rattle.script_waits.specs.declared.first.CallEdge.{CallEdge}
 use Rattle.script_waits.specs.declared.first.RootWait.{RootWait}
 use Rattle.script_waits.specs.declared.lists.MethodLists.{MethodLists}

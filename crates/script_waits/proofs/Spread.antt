@@ -4,9 +4,9 @@ use Rattle.std.proofs.lemmas.List.Elements.{Contains-push, Contains-push_cases, 
 use Rattle.std.proofs.lemmas.List.{get_or_past}
 use Rattle.std.proofs.lemmas.Bool.{cases_lt, both_ways}
 use Rattle.std.specs.List.{Contains}
-use Rattle.script_waits.specs.Lists.{Has}
-use Rattle.script_waits.specs.Marks.{IsMarked, IsPending, count_of, MarkingAll, CallsTo, IsClosed, IsClosedButPending, ArePendingMarked, Spreading, Reaching}
-use Rattle.script_waits.specs.Marks.CallsTo.{itself, by}
+use Rattle.script_waits.specs.ListsInside.{Has}
+use Rattle.script_waits.specs.MarksInside.{IsMarked, IsPending, count_of, MarkingAll, CallsTo, IsClosed, IsClosedButPending, ArePendingMarked, Spreading, Reaching}
+use Rattle.script_waits.specs.MarksInside.CallsTo.{itself, by}
 use Rattle.script_waits.specs.declared.lists.MethodLists.{MethodLists}
 use Rattle.script_waits.specs.declared.marks.Marks.{Marks}
 

@@ -2,9 +2,9 @@
 use Rattle.std.proofs.Common.{◌≡◌, ℕ, suc, ◌≤◌, ◌⊎◌, List, Option, Some, length, refl, sym, subst, inl, inr, arith}
 use Rattle.std.proofs.lemmas.Option.{same_Some}
 use Rattle.std.specs.List.{slice_get}
-use Rattle.script_waits.specs.Lists.{InChain, Has, end_of, AreOrderly}
-use Rattle.script_waits.specs.Lists.InChain.{at, after}
-use Rattle.script_waits.specs.Marks.{IsMarked, Marking, MarkingAll}
+use Rattle.script_waits.specs.ListsInside.{InChain, Has, end_of, AreOrderly}
+use Rattle.script_waits.specs.ListsInside.InChain.{at, after}
+use Rattle.script_waits.specs.MarksInside.{IsMarked, Marking, MarkingAll}
 use Rattle.script_waits.proofs.MarkOne.{marking_more}
 use Rattle.script_waits.specs.declared.lists.ListEntry.{ListEntry}
 use Rattle.script_waits.specs.declared.lists.MethodLists.{MethodLists}

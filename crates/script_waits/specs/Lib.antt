@@ -1,4 +1,4 @@
 pub mod Waits
-pub mod Lists
-pub mod Marks
-pub mod First
+pub mod ListsInside
+pub mod MarksInside
+pub mod FirstInside

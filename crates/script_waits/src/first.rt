@@ -2,8 +2,8 @@
 
 ghost use Rattle.std.specs.Prelude.{◌≡◌, ℕ, ◌+◌, ◌<◌, IfOk, IfSome, IfNone, All, length};
 ghost use Rattle.script_waits.specs.Waits.{WaitsForLater, NoneBefore, NoneWaits};
-ghost use Rattle.script_waits.specs.Lists.{AreListsOf};
-ghost use Rattle.script_waits.specs.First.{Calls, WaitsInPlace};
+ghost use Rattle.script_waits.specs.ListsInside.{AreListsOf};
+ghost use Rattle.script_waits.specs.FirstInside.{Calls, WaitsInPlace};
 
 use crate::lists::MethodLists;
 use crate::marks::Marks;

@@ -1,7 +1,7 @@
 //! Lists of methods, by number.
 
 ghost use Rattle.std.specs.Prelude.{◌≡◌, ◌<◌, length, OnOk, IfOk};
-ghost use Rattle.script_waits.specs.Lists.{Has, AreOrderly, Pushes, AreEmpty};
+ghost use Rattle.script_waits.specs.ListsInside.{Has, AreOrderly, Pushes, AreEmpty};
 
 use std::alloc::{AllocError, Global};
 

@@ -1,8 +1,8 @@
 //! The methods that lead to a wait.
 
 ghost use Rattle.std.specs.Prelude.{◌≡◌, ℕ, ◌<◌, ◌↔◌, length, vec_len, OnOk, IfOk, IsTrue};
-ghost use Rattle.script_waits.specs.Lists.{Has, AreOrderly};
-ghost use Rattle.script_waits.specs.Marks.{IsMarked, count_of, MarkingAll, IsClosed, IsClosedButPending, ArePendingMarked, Spreading, Reaching, AreNone};
+ghost use Rattle.script_waits.specs.ListsInside.{Has, AreOrderly};
+ghost use Rattle.script_waits.specs.MarksInside.{IsMarked, count_of, MarkingAll, IsClosed, IsClosedButPending, ArePendingMarked, Spreading, Reaching, AreNone};
 
 use crate::lists::MethodLists;
 use std::alloc::{AllocError, Global};

@@ -3,7 +3,7 @@ use Rattle.std.proofs.Common.{◌≡◌, ℕ, zero, suc, ◌≤◌, ◌<◌, ◌
 use Rattle.std.proofs.lemmas.List.{get_or_append_left, get_or_push, length_push}
 use Rattle.std.proofs.lemmas.Bool.{cases_lt, cond_below, cond_above}
 use Rattle.swift_types.specs.Priority.{rank}
-use Rattle.swift_escalation.specs.Levels.{level_of, higher, edge_at, end_of, AreChained, IsSettled, IsSettledBut}
+use Rattle.swift_escalation.specs.LevelsInside.{level_of, higher, edge_at, end_of, AreChained, IsSettled, IsSettledBut}
 use Rattle.swift_types.specs.declared.priority.Priority.{Priority}
 use Rattle.swift_types.specs.declared.priority.Priority.TheVariants.{Background}
 use Rattle.swift_escalation.specs.declared.graph.TaskEdge.{TaskEdge}

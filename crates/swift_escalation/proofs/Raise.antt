@@ -7,7 +7,7 @@ use Rattle.std.proofs.lemmas.Grind.{elements, common_steps}
 use Rattle.std.proofs.lemmas.Bool.{cases_eq, cases_lt}
 use Rattle.std.specs.List.{Contains, All}
 use Rattle.swift_types.specs.Priority.{rank}
-use Rattle.swift_escalation.specs.Levels.{level_of, below, edge_at, end_of, HasEdge, AreChained, Raising}
+use Rattle.swift_escalation.specs.LevelsInside.{level_of, below, edge_at, end_of, HasEdge, AreChained, Raising}
 use Rattle.swift_types.specs.declared.priority.Priority.{Priority}
 use Rattle.swift_types.specs.declared.priority.Priority.TheVariants.{Background}
 use Rattle.swift_escalation.specs.declared.graph.TaskEdge.{TaskEdge}

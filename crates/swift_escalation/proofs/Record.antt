@@ -8,7 +8,7 @@ use Rattle.std.specs.List.{slice_get, Contains}
 use Rattle.std.specs.Option.{IsSome}
 use Rattle.swift_types.specs.Priority.{rank}
 use Rattle.swift_types.specs.declared.id.TaskId.{TaskId}
-use Rattle.swift_escalation.specs.Levels.{level_of, higher, edge_at, HasEdge, IsSettled, Walk, Settling}
+use Rattle.swift_escalation.specs.LevelsInside.{level_of, higher, edge_at, HasEdge, IsSettled, Walk, Settling}
 use Rattle.swift_escalation.specs.Waits.{tasks_of, IsKnown, IsGiven, Leads, Reaches, IsPriority}
 use Rattle.swift_escalation.specs.WaitsInside.{IsOwn, StandsAt, HasReason, EdgeStands, LeadStands, AreOf}
 use Rattle.swift_escalation.proofs.Push.{level_of-push_old, level_of-push_new, edge_at-push_old, edge_at-push_new, higher_cases, higher_second}

@@ -6,7 +6,7 @@ use Rattle.std.proofs.lemmas.Grind.{elements}
 use Rattle.std.proofs.lemmas.Bool.{cases_eq, cases_lt}
 use Rattle.std.specs.List.{Contains, All}
 use Rattle.swift_types.specs.Priority.{rank}
-use Rattle.swift_escalation.specs.Levels.{level_of, edge_at, HasEdge, Walk, HasWalk, Raising, Settling, IsOpen}
+use Rattle.swift_escalation.specs.LevelsInside.{level_of, edge_at, HasEdge, Walk, HasWalk, Raising, Settling, IsOpen}
 use Rattle.swift_escalation.proofs.Raise.{level_of-set_same, level_of-set_other, up_by_set}
 use Rattle.swift_types.specs.declared.priority.Priority.{Priority}
 use Rattle.swift_escalation.specs.declared.graph.TaskEdge.{TaskEdge}

@@ -1,6 +1,6 @@
 -- What a graph's fields keep.
 use Rattle.std.specs.Prelude.{◌≡◌, ◌+◌, ◌≤◌, length, vec_len, vec_capacity}
-use Rattle.swift_escalation.specs.Levels.{AreChained, IsSettled}
+use Rattle.swift_escalation.specs.LevelsInside.{AreChained, IsSettled}
 use Rattle.swift_escalation.specs.declared.graph.Graph.TheInside.{Inside}
 
 pub record IsGraph (g : Inside) : Type 0 where

@@ -1,4 +1,4 @@
-pub mod Levels
+pub mod LevelsInside
 pub mod GraphInside
 pub mod PlacesInside
 pub mod Waits

@@ -3,7 +3,7 @@ use Rattle.std.specs.Prelude.{◌≡◌, ℕ, ◌+◌, ◌≤◌, ◌<◌, List,
 use Rattle.swift_types.specs.Priority.{rank}
 use Rattle.swift_types.specs.declared.id.TaskId.{TaskId}
 use Rattle.swift_escalation.specs.PlacesInside.{place_in, HasRoom}
-use Rattle.swift_escalation.specs.Levels.{level_of, edge_at, HasEdge}
+use Rattle.swift_escalation.specs.LevelsInside.{level_of, edge_at, HasEdge}
 use Rattle.swift_escalation.specs.Waits.{tasks_of, IsGiven, Leads, Reaches}
 use Rattle.swift_types.specs.declared.priority.Priority.{Priority}
 use Rattle.swift_escalation.specs.declared.graph.TaskEdge.{TaskEdge}

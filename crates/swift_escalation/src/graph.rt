@@ -2,7 +2,7 @@
 
 ghost use Rattle.std.specs.Prelude.{◌≡◌, ℕ, ◌+◌, ◌-◌, ◌≤◌, ◌<◌, ◌⊎◌, ◌↔◌, [], ◌∷◌, ◌++◌, max, OnOk, OnErr, IsTrue, All, length, vec_len, vec_capacity, slice_index_or};
 ghost use Rattle.swift_types.specs.Priority.{rank};
-ghost use Rattle.swift_escalation.specs.Levels.{level_of, higher, below, edge_at, AreChained, Raising, IsSettled, IsSettledBut, Settling};
+ghost use Rattle.swift_escalation.specs.LevelsInside.{level_of, higher, below, edge_at, AreChained, Raising, IsSettled, IsSettledBut, Settling};
 
 use std::alloc::{AllocError, Global};
 use std::marker::Model;
@@ -140,7 +140,7 @@ pub(crate) struct Graph {
 }
 
 impl Model for Graph {
-    ghost use Rattle.swift_escalation.specs.Levels.{GraphView};
+    ghost use Rattle.swift_escalation.specs.LevelsInside.{GraphView};
 
     ghost Value = { GraphView };
 

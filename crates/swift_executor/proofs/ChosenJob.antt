@@ -5,7 +5,7 @@ use Rattle.swift_interpreter.specs.Frames.{FrameView}
 use Rattle.swift_job.specs.Job.{JobView}
 use Rattle.swift_turn.specs.Body.{BodyView, HasFirst, HasFrames, IsRunning}
 use Rattle.swift_script.specs.Scripts.{ScriptView, actor_executor, method_actor, method_count}
-use Rattle.swift_executor.specs.Playing.{CanGoBack, StageIsBegun, StageIsPlayed}
+use Rattle.swift_executor.specs.PlayingInside.{CanGoBack, StageIsBegun, StageIsPlayed}
 use Rattle.swift_executor.specs.State.{BelongsTo, ChosenView, HasPlayed, IsBegun, IsPlayed}
 use Rattle.swift_executor.specs.StateInside.{chosen_at, chosen_view, stage_of}
 use Rattle.swift_executor.specs.declared.chosen.PlayedTurn.{PlayedTurn}

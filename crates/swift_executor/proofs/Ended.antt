@@ -14,7 +14,7 @@ use Rattle.swift_script.specs.Scripts.{ScriptView}
 use Rattle.swift_tasks.specs.Books.{BookView}
 use Rattle.swift_turn.specs.Body.{BodyView}
 use Rattle.swift_types.specs.declared.id.TaskId.{TaskId}
-use Rattle.swift_executor.specs.Playing.{Applied, HasFoldRoom, Settles, WritesRecord}
+use Rattle.swift_executor.specs.PlayingInside.{Applied, HasFoldRoom, Settles, WritesRecord}
 use Rattle.swift_executor.specs.Ready.{Forwards, ReadyJobsView}
 use Rattle.swift_executor.specs.State.{ChosenView, ExecStateView, HasChosen, ExecInvariant, IsPlayed, Journals}
 use Rattle.swift_executor.specs.StateInside.{chosen_at, chosen_view, stage_of}

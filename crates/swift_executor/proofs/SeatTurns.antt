@@ -12,7 +12,7 @@ use Rattle.swift_script.specs.Scripts.{ScriptView}
 use Rattle.swift_tasks.specs.Books.{BookView}
 use Rattle.swift_turn.specs.Body.{BodyView}
 use Rattle.swift_shared_book.specs.Shared.{BookSeatView, HasPlayed, after_turn, knowing, newest}
-use Rattle.swift_executor.specs.Playing.{WritesRecord}
+use Rattle.swift_executor.specs.PlayingInside.{WritesRecord}
 use Rattle.swift_executor.specs.Seats.{IsSeatFor}
 use Rattle.swift_executor.specs.State.{ExecStateView, ExecInvariant, IsPlayed, Journals, ChosenStageView, played, record_by}
 use Rattle.swift_executor.specs.StateInside.{chosen_view, stage_of}

@@ -9,7 +9,7 @@ use Rattle.swift_undo.specs.Rows.{HaveRows}
 use Rattle.swift_turn.specs.Body.{BodyView, HasFirst, IfRunning, invariants_at}
 use Rattle.swift_journal.specs.Replay.{InvariantsStay}
 use Rattle.swift_job.specs.Job.{JobView}
-use Rattle.swift_executor.specs.Playing.{MaySpare}
+use Rattle.swift_executor.specs.PlayingInside.{MaySpare}
 use Rattle.swift_executor.specs.State.{BelongsTo, ExecStateView, ExecInvariant}
 use Rattle.swift_executor.proofs.StartInvariants.{StartWell, start_each}
 

@@ -22,7 +22,7 @@ use Rattle.swift_journal.specs.Records.{RecordView}
 use Rattle.swift_journal.proofs.Replayed.{lawful-append, replay-append}
 use Rattle.swift_journal.specs.Replay.{AreLawful, IsAfter, IsLawfulRecord, InvariantsStay, LawfulGrows, RunOn, StandsFor, fields_after, replay}
 use Rattle.swift_executor.specs.Ready.{Forwards, ReadyJobsView, ReadyJob, ready_job}
-use Rattle.swift_executor.specs.Playing.{Applied, HasFoldRoom, Settles, WritesRecord}
+use Rattle.swift_executor.specs.PlayingInside.{Applied, HasFoldRoom, Settles, WritesRecord}
 use Rattle.swift_executor.specs.StateInside.{chosen_view, stage_of}
 use Rattle.swift_executor.specs.declared.chosen.PlayedTurn.{PlayedTurn as Kept}
 use Rattle.swift_executor.specs.declared.chosen.ChosenStage.{ChosenStage}

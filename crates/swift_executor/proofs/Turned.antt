@@ -10,7 +10,7 @@ use Rattle.swift_interpreter.specs.TurnStates.{exit_view}
 use Rattle.swift_turn.specs.Body.{BodyView, HasFirst, IsTurnOf, Polls, TaskView, callers_of, entered, left}
 use Rattle.swift_job.specs.Job.{JobView}
 use Rattle.swift_history.specs.Jobs.{job_facts}
-use Rattle.swift_executor.specs.Playing.{JobTurned, JobUnturned}
+use Rattle.swift_executor.specs.PlayingInside.{JobTurned, JobUnturned}
 use Rattle.std.proofs.lemmas.Option.{same_Some}
 use Rattle.swift_executor.specs.StateInside.{chosen_view, stage_of}
 use Rattle.swift_executor.specs.declared.chosen.ChosenStage.{ChosenStage}

@@ -2,11 +2,11 @@ pub mod Account
 pub mod Exec
 pub mod FieldsInside
 pub mod HomeInside
-pub mod Playing
+pub mod PlayingInside
 pub mod Ready
 pub mod ReadyInside
 pub mod Refusals
 pub mod Seats
 pub mod State
 pub mod StateInside
-pub mod Tasks
+pub mod TasksInside

@@ -10,7 +10,7 @@ ghost use Rattle.swift_history.specs.Jobs.{job_facts};
 ghost use Rattle.swift_turn.specs.Body.{IsRunning};
 ghost use Rattle.swift_journal.specs.Records.{RecordView};
 ghost use Rattle.swift_executor.specs.Exec.{IsRunFault};
-ghost use Rattle.swift_executor.specs.Playing.{BeginsShared, HasJob, IsTaken};
+ghost use Rattle.swift_executor.specs.PlayingInside.{BeginsShared, HasJob, IsTaken};
 ghost use Rattle.swift_executor.specs.Seats.{IsSeatFor};
 ghost use Rattle.swift_executor.specs.State.{BeginsTurn, EndsTurn, HasChosen, IsPicked, IsPlayed, PutsBack};
 

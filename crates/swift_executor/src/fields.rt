@@ -7,7 +7,7 @@ ghost use Rattle.swift_interpreter.specs.Frames.{effect_views, frame_view};
 ghost use Rattle.swift_interpreter.specs.TurnStates.{exit_view};
 ghost use Rattle.swift_script.specs.Scripts.{method_count};
 ghost use Rattle.swift_turn.specs.Body.{IfRunning, IsRunning, Polls, at_rest, entered, idle, left};
-ghost use Rattle.swift_executor.specs.Playing.{MaySpare};
+ghost use Rattle.swift_executor.specs.PlayingInside.{MaySpare};
 
 use futures::task::Context;
 use std::alloc::{AllocError, Global};

@@ -10,7 +10,7 @@ ghost use Rattle.swift_history.specs.Jobs.{job_facts};
 ghost use Rattle.swift_interpreter.specs.Frames.{frame_view};
 ghost use Rattle.swift_script.specs.Scripts.{method_count};
 ghost use Rattle.swift_turn.specs.Body.{IsRunning, callers_of};
-ghost use Rattle.swift_executor.specs.Playing.{CanGoBack, HasFoldRoom, HasJob, HasTurned, IsUnturned, JobTurned, JobUnturned, MaySpare, Settles, WritesRecord};
+ghost use Rattle.swift_executor.specs.PlayingInside.{CanGoBack, HasFoldRoom, HasJob, HasTurned, IsUnturned, JobTurned, JobUnturned, MaySpare, Settles, WritesRecord};
 ghost use Rattle.swift_executor.specs.State.{before_turn, frame_after};
 ghost use Rattle.swift_executor.specs.StateInside.{stage_of};
 

@@ -20,7 +20,7 @@ pub struct ReadyTasks {
 
 impl Model for ReadyTasks {
     ghost use Rattle.std.specs.Prelude.{vec_capacity};
-    ghost use Rattle.swift_executor.specs.Tasks.{ReadyTasksView};
+    ghost use Rattle.swift_executor.specs.TasksInside.{ReadyTasksView};
 
     ghost Value = { ReadyTasksView };
 

@@ -7,7 +7,7 @@ ghost use Rattle.swift_tasks.specs.Books.{IsJobOf};
 ghost use Rattle.swift_history.specs.Jobs.{job_facts};
 ghost use Rattle.swift_tasks.specs.Refusals.{IsRefusal as BookRefusal, refusal_of_begin};
 ghost use Rattle.swift_turn.specs.Body.{IsRunning};
-ghost use Rattle.swift_executor.specs.Playing.{AppliesJob, BeginsJob, HasFoldRoom, HasJob, KeepsJob, MaySpare, PlaysJob, StageIsBegun, StageIsPlayed, WritesRecord, refusal_of_left};
+ghost use Rattle.swift_executor.specs.PlayingInside.{AppliesJob, BeginsJob, HasFoldRoom, HasJob, KeepsJob, MaySpare, PlaysJob, StageIsBegun, StageIsPlayed, WritesRecord, refusal_of_left};
 ghost use Rattle.swift_executor.specs.Refusals.{IsRefusal};
 ghost use Rattle.swift_executor.specs.State.{BeginsChosen, HasChosen, IsBegun, IsPicked, IsPlayed, Journals, Plays, PutsBack, refusal_to_begin, refusal_to_apply};
 

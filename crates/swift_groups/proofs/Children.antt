@@ -12,7 +12,7 @@ use Rattle.swift_groups.specs.declared.group.Child.{Child}
 use Rattle.swift_groups.specs.Groups.{is_among, has_ended, unfinished_of}
 use Rattle.swift_groups.specs.Inside.{added_of}
 use Rattle.swift_groups.specs.GroupsInside.{mark_of}
-use Rattle.swift_groups.specs.Keys.{unended}
+use Rattle.swift_groups.specs.KeysInside.{unended}
 
 added_same : (c : Child) (cs : List Child) (i : ℕ) → c.group ≡ i → added_of (c ∷ cs) i ≡ c.task ∷ added_of cs i
 added_same c cs i h = cond-true (eqb c.group i) (c.task ∷ added_of cs i) (added_of cs i) (eq-eqb c.group i h)

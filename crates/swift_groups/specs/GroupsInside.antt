@@ -9,7 +9,7 @@ use Rattle.swift_groups.specs.declared.group.Child.{Child}
 use Rattle.swift_groups.specs.declared.group.ChildEnding.{ChildEnding}
 use Rattle.swift_groups.specs.Groups.{GroupView, GroupsView, is_among, has_ended, unfinished_of}
 use Rattle.swift_groups.specs.Inside.{added_of, ended_of, places_of, last_of, AreLinked}
-use Rattle.swift_groups.specs.Keys.{same_key}
+use Rattle.swift_groups.specs.KeysInside.{same_key}
 use Rattle.swift_groups.specs.declared.groups.Groups.TheInside.{Inside}
 
 -- A group with its children and endings.

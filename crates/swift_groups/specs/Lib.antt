@@ -3,5 +3,5 @@ pub mod Next
 pub mod Close
 pub mod Answers
 pub mod Inside
-pub mod Keys
+pub mod KeysInside
 pub mod GroupsInside

@@ -2,7 +2,7 @@
 
 ghost use Rattle.std.specs.Prelude.{◌≡◌, ℕ, true, if◌then◌else◌, Some, IsSome};
 ghost use Rattle.std.specs.HashMap.{get, spare};
-ghost use Rattle.swift_groups.specs.Keys.{same_key, unended};
+ghost use Rattle.swift_groups.specs.KeysInside.{same_key, unended};
 ghost use Rattle.swift_groups.specs.Inside.{open_in, live_in, known_in};
 
 use crate::answer::GroupId;

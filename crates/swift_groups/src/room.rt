@@ -2,7 +2,7 @@
 
 ghost use Rattle.std.specs.Prelude.{◌≡◌, ℕ, ◌+◌, ◌-◌, ◌≤◌, vec_len, vec_capacity, OnOk, ◌&&◌, nat_eq, ◌==◌};
 ghost use Rattle.std.specs.HashMap.{get, spare};
-ghost use Rattle.swift_groups.specs.Keys.{same_key};
+ghost use Rattle.swift_groups.specs.KeysInside.{same_key};
 
 use crate::group::{Child, ChildEnding};
 use std::alloc::AllocError;

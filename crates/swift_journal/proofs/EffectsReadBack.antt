@@ -7,7 +7,7 @@ use Rattle.swift_interpreter.specs.Frames.{invocation_view, effect_view, effect_
 use Rattle.swift_interpreter.specs.Turn.{InvocationView, EffectView}
 use Rattle.swift_interpreter.specs.declared.effect.Invocation.{Invocation}
 use Rattle.swift_interpreter.specs.declared.effect.Effect.{Effect}
-use Rattle.swift_journal.specs.EffectWords.{invocation_of, skip_args, stored_invocation, bound_of, skip_bound, bound_words, effect_of, skip_effect, effect_words, effects_words, effects_of, skip_effects}
+use Rattle.swift_journal.specs.EffectWordsInside.{invocation_of, skip_args, stored_invocation, bound_of, skip_bound, bound_words, effect_of, skip_effect, effect_words, effects_words, effects_of, skip_effects}
 use Rattle.swift_journal.specs.TailInside.{since}
 use Rattle.swift_journal.specs.Words.{ReadsBack, AreNarrow, pair_words, bindings_of, skip_bindings}
 use Rattle.swift_journal.specs.declared.stored.StoredInvocation.{StoredInvocation}

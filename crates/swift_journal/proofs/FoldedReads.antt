@@ -6,9 +6,9 @@ use Rattle.swift_interpreter.specs.Frames.{FrameView}
 use Rattle.swift_interpreter.specs.Turn.{EffectView}
 use Rattle.swift_journal.specs.CheckpointInside.{after_kind, folded_from, has_counts, is_there}
 use Rattle.swift_journal.specs.Checkpoints.{FoldedView}
-use Rattle.swift_journal.specs.EffectWords.{effects_of}
+use Rattle.swift_journal.specs.EffectWordsInside.{effects_of}
 use Rattle.swift_journal.specs.Ends.{exit_of, skip_exit}
-use Rattle.swift_journal.specs.FrameWords.{frame_if_of, skip_frame_if}
+use Rattle.swift_journal.specs.FrameWordsInside.{frame_if_of, skip_frame_if}
 use Rattle.swift_journal.specs.JournalInside.{effect_part}
 use Rattle.swift_journal.specs.declared.stored.FoldedHead.{FoldedHead}
 use Rattle.swift_journal.specs.declared.stored.FrameHead.{FrameHead}

@@ -3,7 +3,7 @@ use Rattle.std.proofs.Common.{◌≡◌, ℕ, ℤ, ◌+◌, ◌-◌, ◌<◌, Li
 use Rattle.std.proofs.lemmas.List.{get_or-map, length-map, length-take-le}
 use Rattle.swift_journal.specs.CheckpointInside.{PlacedFold, folded_at, folded_from, next_effect, next_start, placed, placed_from, placed_span}
 use Rattle.swift_journal.specs.Checkpoints.{FoldedView}
-use Rattle.swift_journal.specs.Laid.{AreLaid}
+use Rattle.swift_journal.specs.LaidInside.{AreLaid}
 use Rattle.swift_journal.specs.declared.stored.FoldedHead.{FoldedHead}
 use Rattle.swift_journal.specs.declared.stored.StoredEffect.{StoredEffect}
 use Rattle.swift_journal.proofs.TurnsStay.{cut_before, dropped_from, laid_before, pushed, pushed_laid, split_at}

@@ -7,7 +7,7 @@ use Rattle.script_code.specs.declared.sight.Binding.{Binding}
 use Rattle.swift_interpreter.specs.Frames.{FrameView, frame_view}
 use Rattle.swift_interpreter.specs.declared.frame.Frame.{Frame}
 use Rattle.swift_journal.specs.Ends.{pending_of, pending_kind, pending_words, skip_pending}
-use Rattle.swift_journal.specs.FrameWords.{skip_handles, skip_own, skip_groups, skip_frame, skip_counts, counts_of, counts_words, frame_counts, frame_from, frame_of, frame_words, list_words}
+use Rattle.swift_journal.specs.FrameWordsInside.{skip_handles, skip_own, skip_groups, skip_frame, skip_counts, counts_of, counts_words, frame_counts, frame_from, frame_of, frame_words, list_words}
 use Rattle.swift_journal.specs.Words.{ReadsBack, numbers_of, pair_words, pairs_from, AreNarrow}
 use Rattle.swift_journal.specs.declared.stored.StoredFault.{StoredFault}
 use Rattle.swift_journal.specs.declared.stored.FrameCounts.{FrameCounts}

@@ -4,11 +4,11 @@ use Rattle.std.proofs.lemmas.List.{append-nil, drop_at}
 use Rattle.swift_types.specs.declared.outcome.Resume.{Resume}
 use Rattle.swift_interpreter.specs.Frames.{FrameView}
 use Rattle.swift_interpreter.specs.Turn.{EffectView, ExitView}
-use Rattle.swift_journal.specs.EffectWords.{effects_of, skip_effects}
+use Rattle.swift_journal.specs.EffectWordsInside.{effects_of, skip_effects}
 use Rattle.swift_journal.specs.Ends.{resume_of, skip_resume, exit_of, skip_exit}
-use Rattle.swift_journal.specs.FrameWords.{frame_of, skip_frame, frame_if_of, skip_frame_if}
+use Rattle.swift_journal.specs.FrameWordsInside.{frame_of, skip_frame, frame_if_of, skip_frame_if}
 use Rattle.swift_journal.specs.JournalInside.{exit_part, frame_part, outer_part, effect_part, record_of}
-use Rattle.swift_journal.specs.Laid.{TurnSpan}
+use Rattle.swift_journal.specs.LaidInside.{TurnSpan}
 use Rattle.swift_journal.specs.Records.{RecordView}
 use Rattle.swift_journal.specs.Words.{ReadsBack, bindings_of, skip_bindings}
 use Rattle.swift_journal.specs.declared.stored.StoredEffect.{StoredEffect}

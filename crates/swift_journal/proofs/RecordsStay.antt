@@ -2,7 +2,7 @@
 use Rattle.std.proofs.Common.{◌≡◌, ℕ, ℤ, ◌-◌, ◌<◌, List, [], ◌∷◌, ◌++◌, length, map, reverse, get_or, refl, sym, ap, ◌∙◌, arith}
 use Rattle.std.proofs.lemmas.List.{get_or-map, get_or_push, length_push}
 use Rattle.swift_journal.specs.JournalInside.{IsPut, record_at, record_of, span_of}
-use Rattle.swift_journal.specs.Laid.{AreLaid, TurnSpan}
+use Rattle.swift_journal.specs.LaidInside.{AreLaid, TurnSpan}
 use Rattle.swift_journal.specs.Records.{RecordView}
 use Rattle.swift_journal.specs.TailInside.{TailView, since, whole}
 use Rattle.swift_journal.specs.declared.stored.TurnHead.{TurnHead}

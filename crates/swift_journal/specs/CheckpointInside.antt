@@ -1,11 +1,11 @@
 -- What the fields of a checkpoint say. No public clause names these.
 use Rattle.std.specs.Prelude.{ℕ, ℤ, ◌-◌, Bool, true, false, List, [], ◌∷◌}
 use Rattle.swift_journal.specs.Checkpoints.{FoldedView}
-use Rattle.swift_journal.specs.EffectWords.{effects_of}
+use Rattle.swift_journal.specs.EffectWordsInside.{effects_of}
 use Rattle.swift_journal.specs.Ends.{exit_of, skip_exit}
-use Rattle.swift_journal.specs.FrameWords.{frame_if_of}
+use Rattle.swift_journal.specs.FrameWordsInside.{frame_if_of}
 use Rattle.swift_journal.specs.JournalInside.{effect_part}
-use Rattle.swift_journal.specs.Laid.{TurnSpan, read_at}
+use Rattle.swift_journal.specs.LaidInside.{TurnSpan, read_at}
 use Rattle.swift_journal.specs.declared.stored.StoredEffect.{StoredEffect}
 use Rattle.swift_journal.specs.declared.stored.StoredAfter.{StoredAfter}
 use Rattle.swift_journal.specs.declared.stored.StoredAfter.TheVariants.{Absent, Plain, Counted}

@@ -1,9 +1,9 @@
 -- What the fields of a journal say, and what they keep. No public clause names these.
 use Rattle.std.specs.Prelude.{◌≡◌, ℕ, ℤ, List, [], ◌∷◌, ◌++◌, length, take, drop}
-use Rattle.swift_journal.specs.EffectWords.{effects_of}
+use Rattle.swift_journal.specs.EffectWordsInside.{effects_of}
 use Rattle.swift_journal.specs.Ends.{resume_of, skip_resume, exit_of, skip_exit}
-use Rattle.swift_journal.specs.FrameWords.{frame_of, skip_frame, frame_if_of, skip_frame_if}
-use Rattle.swift_journal.specs.Laid.{TurnSpan, read_at}
+use Rattle.swift_journal.specs.FrameWordsInside.{frame_of, skip_frame, frame_if_of, skip_frame_if}
+use Rattle.swift_journal.specs.LaidInside.{TurnSpan, read_at}
 use Rattle.swift_journal.specs.Records.{RecordView}
 use Rattle.swift_journal.specs.Words.{bindings_of}
 use Rattle.swift_journal.specs.declared.stored.FrameHead.{FrameHead}

@@ -1,10 +1,10 @@
 pub mod CheckpointInside
 pub mod Checkpoints
-pub mod EffectWords
+pub mod EffectWordsInside
 pub mod Ends
-pub mod FrameWords
+pub mod FrameWordsInside
 pub mod JournalInside
-pub mod Laid
+pub mod LaidInside
 pub mod Records
 pub mod Replay
 pub mod TailInside

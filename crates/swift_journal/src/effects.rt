@@ -2,7 +2,7 @@
 
 ghost use Rattle.std.specs.Prelude.{◌≡◌, ◌++◌, IfOk, OnOk};
 ghost use Rattle.swift_interpreter.specs.Frames.{effect_view, effect_views, invocation_view};
-ghost use Rattle.swift_journal.specs.EffectWords.{skip_args as after_args, skip_bound as after_bound, skip_effect as after_effect, skip_effects as after_effects, bound_of, bound_words, effect_of, effect_words, effects_of, effects_words, invocation_of, stored_invocation};
+ghost use Rattle.swift_journal.specs.EffectWordsInside.{skip_args as after_args, skip_bound as after_bound, skip_effect as after_effect, skip_effects as after_effects, bound_of, bound_words, effect_of, effect_words, effects_of, effects_words, invocation_of, stored_invocation};
 ghost use Rattle.swift_journal.specs.TailInside.{since};
 ghost use Rattle.swift_journal.specs.Words.{ReadsBack};
 

@@ -2,7 +2,7 @@
 
 ghost use Rattle.std.specs.Prelude.{◌≡◌, ◌≢◌, ℕ, pos, [], true, false, ◌++◌, map, IfOk, OnOk};
 ghost use Rattle.swift_interpreter.specs.Frames.{frame_view};
-ghost use Rattle.swift_journal.specs.FrameWords.{skip_counts as after_counts, skip_frame as after_frame, skip_groups as after_groups, skip_handles as after_handles, skip_own as after_own, count_at, counts_of, counts_words, frame_counts, frame_from, frame_of, frame_words, head_counts, list_part as list_part_of, list_words};
+ghost use Rattle.swift_journal.specs.FrameWordsInside.{skip_counts as after_counts, skip_frame as after_frame, skip_groups as after_groups, skip_handles as after_handles, skip_own as after_own, count_at, counts_of, counts_words, frame_counts, frame_from, frame_of, frame_words, head_counts, list_part as list_part_of, list_words};
 ghost use Rattle.swift_journal.specs.Words.{AreNarrow, ReadsBack, numbers_of};
 ghost use Rattle.script_code.specs.Seen.{pair_of};
 

@@ -45,7 +45,7 @@ impl Drop for Journal {
 impl Model for Journal {
     ghost use Rattle.std.specs.Prelude.{List, length, map, reverse};
     ghost use Rattle.swift_journal.specs.JournalInside.{record_at, span_of};
-    ghost use Rattle.swift_journal.specs.Laid.{AreLaid};
+    ghost use Rattle.swift_journal.specs.LaidInside.{AreLaid};
     ghost use Rattle.swift_journal.specs.Records.{RecordView};
     ghost use Rattle.swift_journal.specs.TailInside.{whole};
 

@@ -1,7 +1,7 @@
 //! The words of a turn, part by part.
 
 ghost use Rattle.std.specs.Prelude.{◌≡◌, drop, take, IfOk};
-ghost use Rattle.swift_journal.specs.FrameWords.{frame_if_of};
+ghost use Rattle.swift_journal.specs.FrameWordsInside.{frame_if_of};
 ghost use Rattle.swift_journal.specs.JournalInside.{effect_part as effect_of, effects_at, exit_part as exit_of, frame_part as frame_of, outer_part as outer_of, record_of, words_at};
 ghost use Rattle.swift_journal.specs.CheckpointInside.{ended_view};
 ghost use Rattle.swift_journal.specs.Checkpoints.{folded_view};

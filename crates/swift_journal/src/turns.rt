@@ -28,7 +28,7 @@ impl Model for FoldedTurns {
     ghost use Rattle.std.specs.Prelude.{List, length, map, reverse};
     ghost use Rattle.swift_journal.specs.CheckpointInside.{folded_at, placed, placed_span};
     ghost use Rattle.swift_journal.specs.Checkpoints.{FoldedView};
-    ghost use Rattle.swift_journal.specs.Laid.{AreLaid};
+    ghost use Rattle.swift_journal.specs.LaidInside.{AreLaid};
 
     ghost Value = { List FoldedView };
 

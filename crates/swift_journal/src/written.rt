@@ -1,7 +1,7 @@
 //! A turn, written as words.
 
 ghost use Rattle.std.specs.Prelude.{◌≡◌, [], ◌∷◌, ◌++◌, length, IfOk, OnOk, OnErr};
-ghost use Rattle.swift_journal.specs.FrameWords.{skip_frame_if, frame_if_of, frame_if_words};
+ghost use Rattle.swift_journal.specs.FrameWordsInside.{skip_frame_if, frame_if_of, frame_if_words};
 ghost use Rattle.swift_journal.specs.JournalInside.{IsPut};
 ghost use Rattle.swift_journal.specs.Records.{frame_if_lent, record_view};
 ghost use Rattle.swift_journal.specs.TailInside.{since};

@@ -18,8 +18,8 @@ use Rattle.swift_events.specs.Room.{lives_of}
 use Rattle.swift_events.proofs.LogLemmas.{unborn_without, get_or-lives_of, origin_of, tasks_of-push_made, tasks_of-push_other}
 use Rattle.swift_events.proofs.Cancels.{of_parent_same, unnamed_without, cancelled_no_child, NamesNothingNew, cancelled_push, cancelled_same, cancelled_before_child, cancelled_child}
 use Rattle.swift_ledger.specs.Ledgers.{CanNote}
-use Rattle.swift_ledger.specs.WellFormed.{IsWellFormed}
-use Rattle.swift_ledger.specs.Flags.{flags_of, is_named_in, HasNoChildren, is_new_cancel, is_born_cancelled, is_reached, AreMarked}
+use Rattle.swift_ledger.specs.WellFormedInside.{IsWellFormed}
+use Rattle.swift_ledger.specs.FlagsInside.{flags_of, is_named_in, HasNoChildren, is_new_cancel, is_born_cancelled, is_reached, AreMarked}
 use Rattle.swift_ledger.proofs.FormLemmas.{unmade_beyond, is_child, same_parents, makes_new, owner_older}
 
 -- the marks of a log, by place

@@ -18,7 +18,7 @@ use Rattle.swift_events.specs.Laws.{OwnersAreOlder, MakesNew}
 use Rattle.swift_events.proofs.LogLemmas.{sum_of_none, life_of-push_same, life_of-push_other, unborn_without, tasks_of-push_made, tasks_of-push_other, none_beyond, reserved_of-push, reserved_of-push_made, life_le_sum, own_tasks-push, waiters_of-push, parent_of-push, parent_of-push_other, parent_of-push_child}
 use Rattle.swift_events.proofs.Cancels.{SameParents, older_same, older_child}
 use Rattle.swift_ledger.specs.Ledgers.{IsMade, HasRoom, CanNote}
-use Rattle.swift_ledger.specs.WellFormed.{IsWellFormed}
+use Rattle.swift_ledger.specs.WellFormedInside.{IsWellFormed}
 
 -- tasks that were made
 

@@ -18,7 +18,7 @@ use Rattle.swift_groups.specs.Answers.{if_unfinished, if_open, if_live, accepted
 use Rattle.swift_groups.proofs.Lists.{slice_get_set}
 use Rattle.swift_events.specs.Relations.{stage_of}
 use Rattle.swift_ledger.specs.declared.group_index.GroupNotes.{GroupNotes}
-use Rattle.swift_ledger.specs.GroupIndexes.{CanEnd, ended_with}
+use Rattle.swift_ledger.specs.GroupIndexesInside.{CanEnd, ended_with}
 use Rattle.swift_ledger.proofs.KeptGroups.{stage_open}
 
 -- one place written twice

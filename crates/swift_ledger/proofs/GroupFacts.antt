@@ -16,8 +16,8 @@ use Rattle.swift_events.specs.Lives.{life_of, lived, origin_in}
 use Rattle.swift_events.specs.Relations.{opened_by, child_in, children_of, ending_among, endings_of, asks, asked_of, closes, is_closed, names_group, is_named_group, parent_of, parent_by}
 use Rattle.swift_events.proofs.LogLemmas.{opened_by-push_yes, opened_by-push_no, asked_of-push, asked_of-push_no, is_closed-push, is_closed-push_no, is_named_group-push, is_named_group-push_no, children_of-push, children_of-push_none, parent_of-push, parent_of-push_other, parent_of-push_child, life_of-push_same, unborn_without}
 use Rattle.swift_events.proofs.GroupLemmas.{endings_of-push_kept, endings_of-push_child, is_among-push, is_among-by}
-use Rattle.swift_ledger.specs.GroupIndexes.{facts_of, FitsGroups, is_child_of}
-use Rattle.swift_ledger.specs.WellFormed.{IsWellFormed}
+use Rattle.swift_ledger.specs.GroupIndexesInside.{facts_of, FitsGroups, is_child_of}
+use Rattle.swift_ledger.specs.WellFormedInside.{IsWellFormed}
 use Rattle.swift_ledger.proofs.FormLemmas.{made_few}
 use Rattle.swift_ledger.specs.Ledgers.{CanNote}
 

@@ -18,8 +18,8 @@ use Rattle.swift_events.specs.Relations.{parent_by, opened_by}
 use Rattle.swift_events.proofs.LogLemmas.{opened_by-push, origin_of}
 use Rattle.swift_ledger.specs.declared.group_index.GroupNotes.{GroupNotes}
 use Rattle.swift_ledger.specs.declared.group_index.GroupIndex.{GroupIndex}
-use Rattle.swift_ledger.specs.Counts.{count_at, HasPlaces}
-use Rattle.swift_ledger.specs.GroupIndexes.{GroupFacts, facts_of, AreNotesOf, AreGroupsOf, is_child_of, place_in, same_number}
+use Rattle.swift_ledger.specs.CountsInside.{count_at, HasPlaces}
+use Rattle.swift_ledger.specs.GroupIndexesInside.{GroupFacts, facts_of, AreNotesOf, AreGroupsOf, is_child_of, place_in, same_number}
 use Rattle.swift_ledger.proofs.GroupFacts.{parents-push, facts-quiet, opened-own, opened-other}
 use Rattle.swift_ledger.proofs.KeptGroups.{kept_new}
 use Rattle.swift_ledger.proofs.GroupSteps.{both, kept_at}

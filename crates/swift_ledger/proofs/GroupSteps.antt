@@ -26,8 +26,8 @@ use Rattle.swift_events.proofs.LogLemmas.{opened_by-push_no, unborn_without}
 use Rattle.swift_events.proofs.GroupLemmas.{has_ended-unended}
 use Rattle.swift_ledger.specs.declared.group_index.GroupNotes.{GroupNotes}
 use Rattle.swift_ledger.specs.declared.group_index.GroupIndex.{GroupIndex}
-use Rattle.swift_ledger.specs.Counts.{count_at, HasPlaces}
-use Rattle.swift_ledger.specs.GroupIndexes.{GroupFacts, no_facts, facts_of, FitsGroups, AreNotesOf, IsKeptAt, AreGroupsOf, CanEnd, ended_with, is_child_of, place_in, same_number}
+use Rattle.swift_ledger.specs.CountsInside.{count_at, HasPlaces}
+use Rattle.swift_ledger.specs.GroupIndexesInside.{GroupFacts, no_facts, facts_of, FitsGroups, AreNotesOf, IsKeptAt, AreGroupsOf, CanEnd, ended_with, is_child_of, place_in, same_number}
 use Rattle.swift_ledger.proofs.GroupFacts.{parents-push, facts-quiet, facts-next, facts-close, facts-cancel, facts-child, facts-end}
 use Rattle.swift_ledger.proofs.KeptGroups.{kept_next, stage_kept, kept_child, kept_cancel, kept_close, kept_end}
 use Rattle.swift_ledger.proofs.GroupCalls.{open_at, live_open}

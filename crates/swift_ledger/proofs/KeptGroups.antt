@@ -12,7 +12,7 @@ use Rattle.swift_groups.specs.Next.{handed_on, handed_after}
 use Rattle.swift_groups.specs.Close.{closed_on}
 use Rattle.swift_events.specs.Relations.{stage_of}
 use Rattle.swift_ledger.specs.declared.group_index.GroupNotes.{GroupNotes}
-use Rattle.swift_ledger.specs.GroupIndexes.{GroupFacts, no_facts, group_with, AreNotesOf, ended_with, has_any}
+use Rattle.swift_ledger.specs.GroupIndexesInside.{GroupFacts, no_facts, group_with, AreNotesOf, ended_with, has_any}
 
 after_more : (es : List (TaskId × Ending)) (a m : ℕ) → a < length es → handed_after (drop a es) m ≡ m + 1
 after_more [] a m h = absurd (omega (arith, h))

@@ -18,8 +18,8 @@ use Rattle.swift_events.specs.Lives.{life_of, origin_in}
 use Rattle.swift_events.specs.Relations.{link_in, links_of}
 use Rattle.swift_events.proofs.LogLemmas.{origin_of}
 use Rattle.swift_ledger.specs.Ledgers.{IsMade, CanNote}
-use Rattle.swift_ledger.specs.WellFormed.{IsWellFormed}
-use Rattle.swift_ledger.specs.Links.{CanLink}
+use Rattle.swift_ledger.specs.WellFormedInside.{IsWellFormed}
+use Rattle.swift_ledger.specs.LinksInside.{CanLink}
 use Rattle.swift_ledger.proofs.FormLemmas.{unmade_beyond}
 
 some_first : {A : Type 0} (x y : Option A) → IsSome x → IsSome (later x y)

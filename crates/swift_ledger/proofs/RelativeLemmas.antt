@@ -11,10 +11,10 @@ use Rattle.swift_events.specs.declared.event.Event.TheVariants.{Free, Wait}
 use Rattle.swift_events.specs.Relations.{own_in, own_tasks, waiter_in, waiters_of}
 use Rattle.swift_events.proofs.LogLemmas.{own_tasks-push_none, own_tasks-push_same, own_tasks-push_other, waiters_of-push_none, waiters_of-push_same, waiters_of-push_other}
 use Rattle.swift_ledger.specs.Ledgers.{CanNote}
-use Rattle.swift_ledger.specs.WellFormed.{IsWellFormed}
-use Rattle.swift_ledger.specs.Lists.{pushed}
-use Rattle.swift_ledger.specs.Relatives.{own_pair, waiter_pair}
-use Rattle.swift_ledger.specs.GroupIndexes.{has_any}
+use Rattle.swift_ledger.specs.WellFormedInside.{IsWellFormed}
+use Rattle.swift_ledger.specs.ListsInside.{pushed}
+use Rattle.swift_ledger.specs.RelativesInside.{own_pair, waiter_pair}
+use Rattle.swift_ledger.specs.GroupIndexesInside.{has_any}
 use Rattle.swift_ledger.proofs.FormLemmas.{made_few}
 use Rattle.swift_ledger.proofs.ListLemmas.{pushed_same, pushed_other}
 

@@ -13,15 +13,15 @@ use Rattle.swift_events.proofs.LogLemmas.{length-lives_of, links_of-push_none}
 use Rattle.swift_events.proofs.Cancels.{NamesNothingNew}
 use Rattle.swift_log.specs.Logs.{LogView}
 use Rattle.swift_ledger.specs.Ledgers.{CanNote}
-use Rattle.swift_ledger.specs.WellFormed.{IsWellFormed}
-use Rattle.swift_ledger.specs.Lives.{AreLives}
-use Rattle.swift_ledger.specs.Lives as lives
-use Rattle.swift_ledger.specs.Flags.{flags_of}
-use Rattle.swift_ledger.specs.Counts.{count_at}
-use Rattle.swift_ledger.specs.Lists.{AreLists, same_place}
-use Rattle.swift_ledger.specs.Relatives.{own_pair, waiter_pair}
-use Rattle.swift_ledger.specs.GroupIndexes.{AreGroupsOf}
-use Rattle.swift_ledger.specs.Indexes.{AreIndexes, HasSpare}
+use Rattle.swift_ledger.specs.WellFormedInside.{IsWellFormed}
+use Rattle.swift_ledger.specs.LivesInside.{AreLives}
+use Rattle.swift_ledger.specs.LivesInside as lives
+use Rattle.swift_ledger.specs.FlagsInside.{flags_of}
+use Rattle.swift_ledger.specs.CountsInside.{count_at}
+use Rattle.swift_ledger.specs.ListsInside.{AreLists, same_place}
+use Rattle.swift_ledger.specs.RelativesInside.{own_pair, waiter_pair}
+use Rattle.swift_ledger.specs.GroupIndexesInside.{AreGroupsOf}
+use Rattle.swift_ledger.specs.IndexesInside.{AreIndexes, HasSpare}
 use Rattle.swift_ledger.specs.LevelsInside.{KeepsLevels}
 use Rattle.swift_ledger.specs.LedgerInside.{IsLedger}
 use Rattle.swift_ledger.specs.declared.ledger.Ledger.TheInside.{Inside}

@@ -1,6 +1,6 @@
 -- What the fields of a ledger keep. No public clause names these.
-use Rattle.swift_ledger.specs.WellFormed.{IsWellFormed}
-use Rattle.swift_ledger.specs.Indexes.{AreIndexes, HasSpare}
+use Rattle.swift_ledger.specs.WellFormedInside.{IsWellFormed}
+use Rattle.swift_ledger.specs.IndexesInside.{AreIndexes, HasSpare}
 use Rattle.swift_ledger.specs.LevelsInside.{KeepsLevels}
 use Rattle.swift_ledger.specs.declared.ledger.Ledger.TheInside.{Inside}
 

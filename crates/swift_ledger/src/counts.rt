@@ -2,7 +2,7 @@
 
 ghost use Rattle.std.specs.Prelude.{◌≡◌, ℕ, ◌<◌, ◌==◌, OnOk, if◌then◌else◌};
 ghost use Rattle.swift_types.specs.declared.limits.TheConstants.{TASKS};
-ghost use Rattle.swift_ledger.specs.Counts.{count_at, HasPlaces};
+ghost use Rattle.swift_ledger.specs.CountsInside.{count_at, HasPlaces};
 
 use std::alloc::{AllocError, Global};
 use swift_types::TaskId;

@@ -7,8 +7,8 @@ ghost use Rattle.swift_events.specs.Events.{is_made, tasks_of};
 ghost use Rattle.swift_events.specs.Relations.{is_cancelled, names_group, names_task};
 ghost use Rattle.swift_events.specs.Room.{lives_of};
 ghost use Rattle.swift_ledger.specs.Ledgers.{CanNote};
-ghost use Rattle.swift_ledger.specs.WellFormed.{IsWellFormed};
-ghost use Rattle.swift_ledger.specs.Flags.{AreFlags, HasSpare, HasNoChildren, is_named_in, is_new_cancel, is_born_cancelled, is_reached};
+ghost use Rattle.swift_ledger.specs.WellFormedInside.{IsWellFormed};
+ghost use Rattle.swift_ledger.specs.FlagsInside.{AreFlags, HasSpare, HasNoChildren, is_named_in, is_new_cancel, is_born_cancelled, is_reached};
 
 use std::alloc::{AllocError, Global};
 use swift_events::{Event, Life, Origin};

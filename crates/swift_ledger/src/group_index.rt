@@ -10,7 +10,7 @@ ghost use Rattle.swift_events.specs.declared.event.Event.{Event as Noted};
 ghost use Rattle.swift_events.specs.Events.{events_of};
 ghost use Rattle.swift_events.specs.Lives.{life_of};
 ghost use Rattle.swift_events.specs.Relations.{opened_by, is_open_group, is_named_group, children_of, group_of, parent_of};
-ghost use Rattle.swift_ledger.specs.GroupIndexes.{AreGroupsOf, FitsGroups, IsParentIn, CanEnd, has_any, place_in, ended_with};
+ghost use Rattle.swift_ledger.specs.GroupIndexesInside.{AreGroupsOf, FitsGroups, IsParentIn, CanEnd, has_any, place_in, ended_with};
 
 use crate::counts::TaskCounts;
 use std::alloc::{AllocError, Global};

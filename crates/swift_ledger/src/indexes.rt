@@ -6,11 +6,11 @@ ghost use Rattle.swift_events.specs.declared.event.Event.{Event};
 ghost use Rattle.swift_events.specs.Lives.{life_of};
 ghost use Rattle.swift_events.specs.Relations.{parent_by};
 ghost use Rattle.swift_ledger.specs.Ledgers.{CanNote};
-ghost use Rattle.swift_ledger.specs.WellFormed.{IsWellFormed};
-ghost use Rattle.swift_ledger.specs.Flags.{HasNoChildren, is_named_in};
-ghost use Rattle.swift_ledger.specs.GroupIndexes.{AreGroupsOf, IsParentIn, plain_parent};
-ghost use Rattle.swift_ledger.specs.Lives.{AreLives};
-ghost use Rattle.swift_ledger.specs.Indexes.{AreIndexes, HasSpare};
+ghost use Rattle.swift_ledger.specs.WellFormedInside.{IsWellFormed};
+ghost use Rattle.swift_ledger.specs.FlagsInside.{HasNoChildren, is_named_in};
+ghost use Rattle.swift_ledger.specs.GroupIndexesInside.{AreGroupsOf, IsParentIn, plain_parent};
+ghost use Rattle.swift_ledger.specs.LivesInside.{AreLives};
+ghost use Rattle.swift_ledger.specs.IndexesInside.{AreIndexes, HasSpare};
 
 use crate::flags::Flags;
 use crate::group_index::GroupIndex;

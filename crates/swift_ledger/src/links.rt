@@ -4,8 +4,8 @@ ghost use Rattle.std.specs.Prelude.{◌≡◌, ◌+◌, ◌<◌, ◌≤◌, ◌�
 ghost use Rattle.swift_escalation.specs.Waits.{WaitsView};
 ghost use Rattle.swift_events.specs.Relations.{link_in, links_of};
 ghost use Rattle.swift_ledger.specs.Ledgers.{CanNote};
-ghost use Rattle.swift_ledger.specs.WellFormed.{IsWellFormed};
-ghost use Rattle.swift_ledger.specs.Links.{CanLink};
+ghost use Rattle.swift_ledger.specs.WellFormedInside.{IsWellFormed};
+ghost use Rattle.swift_ledger.specs.LinksInside.{CanLink};
 
 use std::alloc::AllocError;
 use swift_escalation::{PriorityEvent as Link, Waits};

@@ -3,8 +3,8 @@
 ghost use Rattle.std.specs.Prelude.{◌≡◌, ℕ, ◌+◌, ◌^◌, ◌<◌, List, [], length, slice_get, OnOk};
 ghost use Rattle.swift_types.specs.declared.id.TaskId.{TaskId};
 ghost use Rattle.swift_types.specs.declared.limits.TheConstants.{TASKS};
-ghost use Rattle.swift_ledger.specs.Counts.{count_at};
-ghost use Rattle.swift_ledger.specs.Lists.{AreLists, HasSpare, pushed};
+ghost use Rattle.swift_ledger.specs.CountsInside.{count_at};
+ghost use Rattle.swift_ledger.specs.ListsInside.{AreLists, HasSpare, pushed};
 
 use crate::counts::TaskCounts;
 use std::alloc::{AllocError, Global};

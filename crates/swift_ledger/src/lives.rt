@@ -7,8 +7,8 @@ ghost use Rattle.swift_events.specs.Events.{is_made, tasks_of};
 ghost use Rattle.swift_events.specs.Lives.{life_of, is_open, unborn};
 ghost use Rattle.swift_events.specs.Room.{open_of, reserved_of, lives_of};
 ghost use Rattle.swift_ledger.specs.Ledgers.{CanNote};
-ghost use Rattle.swift_ledger.specs.WellFormed.{IsWellFormed};
-ghost use Rattle.swift_ledger.specs.Lives.{AreLives, HasSpare};
+ghost use Rattle.swift_ledger.specs.WellFormedInside.{IsWellFormed};
+ghost use Rattle.swift_ledger.specs.LivesInside.{AreLives, HasSpare};
 
 use std::alloc::{AllocError, Global};
 use swift_events::{Event, JobStage, LastJob, Life};

@@ -4,9 +4,9 @@
 ghost use Rattle.std.specs.Prelude.{◌≡◌, ℕ, ◌+◌, ◌^◌, ◌<◌, ◌∷◌, [], ◌++◌, length};
 ghost use Rattle.swift_events.specs.Relations.{own_tasks, waiters_of};
 ghost use Rattle.swift_ledger.specs.Ledgers.{CanNote};
-ghost use Rattle.swift_ledger.specs.WellFormed.{IsWellFormed};
-ghost use Rattle.swift_ledger.specs.Lists.{AreLists, HasSpare};
-ghost use Rattle.swift_ledger.specs.Relatives.{own_pair, waiter_pair};
+ghost use Rattle.swift_ledger.specs.WellFormedInside.{IsWellFormed};
+ghost use Rattle.swift_ledger.specs.ListsInside.{AreLists, HasSpare};
+ghost use Rattle.swift_ledger.specs.RelativesInside.{own_pair, waiter_pair};
 
 use crate::lists::TaskLists;
 use swift_events::Event;

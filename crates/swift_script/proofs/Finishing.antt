@@ -13,7 +13,7 @@ use Rattle.script_compiler.specs.Waiting.{edges_of, waits_of, root_methods}
 use Rattle.swift_script.specs.Scripts.{parts_of}
 use Rattle.swift_script.specs.Accepted.{IsAccepted, first_false, RootWaits, NoRootWaits}
 use Rattle.swift_script.specs.FaultLines.{is_root, place_of, RootStandsOn}
-use Rattle.swift_script.specs.Spelled.{pieces_of, AreKept, IsNamed, HasNamesInOrder, line_in}
+use Rattle.swift_script.specs.SpelledInside.{pieces_of, AreKept, IsNamed, HasNamesInOrder, line_in}
 use Rattle.swift_script.proofs.Refusing.{kept_line}
 
 pub none_waits : (s : ScriptView) (o : Option ℕ) → o ≡ None → IfNone o (NoRootWaits s) → NoRootWaits s

@@ -23,7 +23,7 @@ use Rattle.swift_script.specs.declared.fault.ScriptFaultKind.{ScriptFaultKind}
 use Rattle.swift_script.specs.Accepted.{SpellsDecls, IsPlain}
 use Rattle.swift_script.specs.Refuses.{SpellsNothing, HasError, Refuses}
 use Rattle.swift_script.specs.FaultLines.{is_name, place_of, past_name, line_at, NameStandsOn, StandsOn}
-use Rattle.swift_script.specs.Spelled.{pieces_of, AreKept, IsSpelled, line_in, grammar_kind, read_kind, names_kind, check_kind, check_line}
+use Rattle.swift_script.specs.SpelledInside.{pieces_of, AreKept, IsSpelled, line_in, grammar_kind, read_kind, names_kind, check_kind, check_line}
 
 -- what is kept tells the line
 pub kept_line : (text : List ℕ) (kept : Tokens) (place : ℕ) → AreKept text kept → line_in kept place ≡ line_at text kept.lines.items place

@@ -4,7 +4,7 @@ pub mod Accepted
 pub mod Refuses
 pub mod FaultLines
 pub mod Answers
-pub mod Spelled
+pub mod SpelledInside
 pub mod ScriptInvariant
-pub mod Lent
+pub mod LentInside
 pub mod SameScripts

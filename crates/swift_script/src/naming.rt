@@ -6,7 +6,7 @@ ghost use Rattle.script_names.specs.Directory.{directory_of};
 ghost use Rattle.script_names.specs.Rules.{names_error};
 ghost use Rattle.swift_script.specs.FaultLines.{IsAtItsLine, past_name};
 ghost use Rattle.swift_script.specs.Refuses.{Refuses};
-ghost use Rattle.swift_script.specs.Spelled.{IsSpelled, names_kind, check_kind, check_line};
+ghost use Rattle.swift_script.specs.SpelledInside.{IsSpelled, names_kind, check_kind, check_line};
 
 use crate::fault::{ScriptFault, ScriptFaultKind};
 use crate::place::{Sought, line_at, place_of};

@@ -3,7 +3,7 @@
 ghost use Rattle.std.specs.Prelude.{◌≡◌, map};
 ghost use Rattle.script_tokens.specs.Pieces.{piece};
 ghost use Rattle.swift_script.specs.FaultLines.{place_of};
-ghost use Rattle.swift_script.specs.Spelled.{line_in, passes};
+ghost use Rattle.swift_script.specs.SpelledInside.{line_in, passes};
 
 use script_tokens::{Keyword, Token, Tokens};
 

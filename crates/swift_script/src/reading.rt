@@ -13,7 +13,7 @@ ghost use Rattle.swift_script.specs.FaultLines.{IsAtItsLine};
 ghost use Rattle.swift_script.specs.Refuses.{Refuses};
 ghost use Rattle.swift_script.specs.ScriptInvariant.{tree_of};
 ghost use Rattle.swift_script.specs.Scripts.{parts_of};
-ghost use Rattle.swift_script.specs.Spelled.{HasNamesInOrder};
+ghost use Rattle.swift_script.specs.SpelledInside.{HasNamesInOrder};
 
 use crate::fault::ScriptFault;
 use crate::naming::check_names;

@@ -8,7 +8,7 @@ ghost use Rattle.script_code.specs.Value.{holds};
 ghost use Rattle.script_compiler.specs.Calls.{CallsAreThere};
 ghost use Rattle.script_compiler.specs.Fits.{MethodsFit};
 ghost use Rattle.script_compiler.specs.IsCompiled.{IsMethod};
-ghost use Rattle.swift_script.specs.Lent.{executor_lent, local_lent, actor_lent, root_lent};
+ghost use Rattle.swift_script.specs.LentInside.{executor_lent, local_lent, actor_lent, root_lent};
 ghost use Rattle.swift_script.specs.ScriptInvariant.{ScriptInvariant, tree_of};
 ghost use Rattle.swift_script.specs.Accepted.{WasAccepted, NoRootWaits};
 ghost use Rattle.swift_script.specs.SameScripts.{same_scripts};

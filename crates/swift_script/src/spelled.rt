@@ -6,7 +6,7 @@ ghost use Rattle.script_grammar.specs.Tree.{view_decl};
 ghost use Rattle.swift_script.specs.Accepted.{IsPlain};
 ghost use Rattle.swift_script.specs.FaultLines.{IsAtItsLine};
 ghost use Rattle.swift_script.specs.Refuses.{Refuses};
-ghost use Rattle.swift_script.specs.Spelled.{AreKept, IsSpelled, grammar_kind, read_kind, read_line};
+ghost use Rattle.swift_script.specs.SpelledInside.{AreKept, IsSpelled, grammar_kind, read_kind, read_line};
 
 use crate::fault::{ScriptFault, ScriptFaultKind};
 use crate::place::line_at;

@@ -8,7 +8,7 @@ ghost use Rattle.swift_script.specs.FaultLines.{IsAtItsLine, invariants_before};
 ghost use Rattle.swift_script.specs.Refuses.{Refuses};
 ghost use Rattle.swift_script.specs.ScriptInvariant.{tree_of};
 ghost use Rattle.swift_script.specs.Scripts.{parts_of};
-ghost use Rattle.swift_script.specs.Spelled.{IsNamed};
+ghost use Rattle.swift_script.specs.SpelledInside.{IsNamed};
 
 use crate::fault::{ScriptFault, ScriptFaultKind};
 use crate::place::{Sought, line_at, place_of};

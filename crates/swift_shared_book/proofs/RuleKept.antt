@@ -30,7 +30,7 @@ use Rattle.swift_course.proofs.Rule.{gives}
 use Rattle.swift_book_steps.specs.Calls.{facts_of}
 use Rattle.swift_book_steps.proofs.Calls.{apply_keeps, begin_keeps, root_keeps}
 use Rattle.swift_shared_book.specs.Shared.{BeginsTicket, HasPlayed, HasTicket, facts_in, tickets_view}
-use Rattle.swift_shared_book.specs.Steps.{KnowsRoot, MayGiveBack, knowing_record}
+use Rattle.swift_shared_book.specs.StepsInside.{KnowsRoot, MayGiveBack, knowing_record}
 
 -- a lock is made
 pub starts : (b : BookView) → b ≡ empty_book b.script → IsCourse (facts_of b) (first_view b.script ∷ [])

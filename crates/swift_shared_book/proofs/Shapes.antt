@@ -13,7 +13,7 @@ use Rattle.swift_known.specs.declared.known.Known.{Known}
 use Rattle.swift_course.specs.Seats.{gathered, some_left, some_parted}
 use Rattle.swift_shared_book.specs.Shared.{BookLockView, BookSeatView, after_turn, is_there, seat_of, tickets_view, view_in, with_ticket}
 use Rattle.swift_shared_book.specs.SharedInside.{HasTicketsOf, IsOneAtMost, oldest_first}
-use Rattle.swift_shared_book.specs.Steps.{knowing_record}
+use Rattle.swift_shared_book.specs.StepsInside.{knowing_record}
 
 -- a badge that is there has one seat
 pub one_there : (l : List Known) → IsOneAtMost l → is_there l ≡ true → l ≡ record { view = view_in l } ∷ []

@@ -1,3 +1,3 @@
 pub mod Shared
-pub mod Steps
+pub mod StepsInside
 pub mod SharedInside

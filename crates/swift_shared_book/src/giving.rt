@@ -5,7 +5,7 @@ ghost use Rattle.swift_history.specs.Jobs.{job_facts};
 ghost use Rattle.swift_course.specs.Seats.{gathered};
 ghost use Rattle.swift_book_steps.specs.Calls.{facts_of};
 ghost use Rattle.swift_shared_book.specs.Shared.{BeginsTicket, after_turn, newest, seat_of, tickets_view};
-ghost use Rattle.swift_shared_book.specs.Steps.{KnowsRoot, MayGiveBack, knowing_record};
+ghost use Rattle.swift_shared_book.specs.StepsInside.{KnowsRoot, MayGiveBack, knowing_record};
 
 use crate::opened::{OpenBook, OpenSeat};
 use crate::rule::{AddsRoot, BookApplies, BookBegins, NamesBegun, Told};

@@ -8,7 +8,7 @@ ghost use Rattle.swift_course.specs.Reports.{Knows};
 ghost use Rattle.swift_course.specs.Rule.{HoldsOf};
 ghost use Rattle.swift_course.specs.Seats.{account_parted, first_view, gathered, maker_left, some_left, some_parted};
 ghost use Rattle.swift_shared_book.specs.Shared.{BeginsTicket};
-ghost use Rattle.swift_shared_book.specs.Steps.{KnowsRoot};
+ghost use Rattle.swift_shared_book.specs.StepsInside.{KnowsRoot};
 
 use std::marker::{Brand, PhantomData};
 use swift_known::known::{BookImage, Known};

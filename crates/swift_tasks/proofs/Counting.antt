@@ -20,7 +20,7 @@ use Rattle.swift_events.specs.Room.{reserved_of}
 use Rattle.swift_events.proofs.LogLemmas.{tasks_of-push_made, tasks_of-push_other, own_tasks-push_none, own_tasks-push_same, opened_by-push_yes, opened_by-push_no}
 use Rattle.swift_history.specs.Checks.{Counters, counters, can_run, can_name, can_use, fits_effect, fits_exit, fits_turn, counted}
 use Rattle.swift_history.specs.TurnEnds.{task, named_task, effect_events, is_left_out}
-use Rattle.swift_tasks.specs.Applying.{CanName, CanTake, CanLeave}
+use Rattle.swift_tasks.specs.ApplyingInside.{CanName, CanTake, CanLeave}
 use Rattle.swift_tasks.proofs.Fitting.{left, right, less}
 use Rattle.swift_tasks.proofs.Grows.{Stays, stays_push}
 

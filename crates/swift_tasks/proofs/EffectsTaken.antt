@@ -12,8 +12,8 @@ use Rattle.swift_events.specs.declared.event.Event.{Event}
 use Rattle.swift_events.specs.Room.{reserved_of}
 use Rattle.swift_history.specs.Checks.{Counters, counters, fits_effect, fits_turn, counted}
 use Rattle.swift_history.specs.TurnEnds.{effect_events}
-use Rattle.swift_tasks.specs.Applying.{CanTake, CanTakeAll, CanLeave}
-use Rattle.swift_tasks.specs.Bodies.{AreBodiesOf, IsBodyOf}
+use Rattle.swift_tasks.specs.ApplyingInside.{CanTake, CanTakeAll, CanLeave}
+use Rattle.swift_tasks.specs.BodiesInside.{AreBodiesOf, IsBodyOf}
 use Rattle.swift_tasks.proofs.Fitting.{left, right}
 use Rattle.swift_tasks.proofs.Grows.{effect_grows}
 use Rattle.swift_tasks.proofs.Counting.{counters_step, room_step, can_take, can_leave, fits_on}

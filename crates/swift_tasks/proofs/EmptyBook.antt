@@ -12,7 +12,7 @@ use Rattle.swift_events.proofs.LogLemmas.{unborn_without}
 use Rattle.swift_history.specs.TurnEnds.{WaitingTaskView}
 use Rattle.swift_tasks.specs.declared.held.WaitingTask.{WaitingTask}
 use Rattle.swift_tasks.specs.Books.{HoldsWaiting, BookView, empty_book}
-use Rattle.swift_tasks.specs.Counted.{UnopenedAreNotClosed}
+use Rattle.swift_tasks.specs.CountedInside.{UnopenedAreNotClosed}
 use Rattle.swift_tasks.specs.BookInvariant.{BookInvariant, held_view, held_views, FitsScript}
 
 none_at : (A : Type 0) (n t : ℕ) → is_some (get_or {A = Option A} (replicate n None) t None) ≡ false

@@ -11,7 +11,7 @@ use Rattle.swift_turn.specs.Body.{BodyView, TaskView}
 use Rattle.swift_events.specs.declared.event.Event.{Event}
 use Rattle.swift_history.specs.TurnEnds.{JobFacts, WaitingTaskView, AfterTurn, followed}
 use Rattle.swift_tasks.specs.declared.held.WaitingTask.{WaitingTask}
-use Rattle.swift_tasks.specs.Applying.{follows_of, followed_from}
+use Rattle.swift_tasks.specs.ApplyingInside.{follows_of, followed_from}
 use Rattle.swift_tasks.specs.BookInvariant.{FitsScript, held_view, held_views}
 use Rattle.swift_history.specs.Jobs.{job_facts}
 use Rattle.swift_tasks.proofs.WakesKept.{behind, followed_behind}

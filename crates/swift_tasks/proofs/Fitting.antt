@@ -13,7 +13,7 @@ use Rattle.swift_events.specs.declared.event.Event.{Event}
 use Rattle.swift_events.specs.declared.life.JobStage.{JobStage}
 use Rattle.swift_events.specs.declared.life.JobStage.TheVariants.{Given, Begun, Applied, Waits, Asks, Closes}
 use Rattle.swift_history.specs.Checks.{Counters, counters, can_run, can_use, fits_effect, fits_turn, counted}
-use Rattle.swift_tasks.specs.Bodies.{CanStart}
+use Rattle.swift_tasks.specs.BodiesInside.{CanStart}
 use Rattle.swift_tasks.specs.Refusals.{fits_begun}
 
 pub left : (a b : Bool) → (a && b) ≡ true → a ≡ true

@@ -24,11 +24,11 @@ use Rattle.swift_history.specs.Checks.{counters}
 use Rattle.swift_history.specs.Histories.{begun_priority}
 use Rattle.swift_history.specs.TurnEnds.{JobFacts, WaitingTaskView, TurnEnd, turn_end, resume_at, task}
 use Rattle.swift_tasks.specs.declared.held.WaitingTask.{WaitingTask}
-use Rattle.swift_tasks.specs.Applying.{CanApply, CanLeave, StepFits, TurnLeaves, next_of, went_on}
+use Rattle.swift_tasks.specs.ApplyingInside.{CanApply, CanLeave, StepFits, TurnLeaves, next_of, went_on}
 use Rattle.swift_tasks.specs.BookInvariant.{BookInvariant, held_views}
 use Rattle.swift_tasks.specs.Books.{BookView, HoldsWaiting, IsEndOf, end_of_turn}
 use Rattle.swift_history.specs.Jobs.{job_facts}
-use Rattle.swift_tasks.specs.Counted.{UnopenedAreNotClosed}
+use Rattle.swift_tasks.specs.CountedInside.{UnopenedAreNotClosed}
 use Rattle.swift_tasks.proofs.TurnApplied.{holds_viewed, job_fits}
 use Rattle.swift_tasks.proofs.TurnEndKept.{end_kept}
 use Rattle.swift_tasks.proofs.Fitting.{advances}

@@ -10,7 +10,7 @@ use Rattle.swift_job.specs.Job.{JobView}
 use Rattle.swift_turn.specs.Body.{BodyView}
 use Rattle.swift_history.specs.TurnEnds.{JobFacts, WaitingTaskView, AfterTurn, resume_at, woken, wake, wake_each}
 use Rattle.swift_tasks.specs.declared.held.WaitingTask.{WaitingTask}
-use Rattle.swift_tasks.specs.Applying.{follows_of}
+use Rattle.swift_tasks.specs.ApplyingInside.{follows_of}
 use Rattle.swift_tasks.specs.BookInvariant.{held_view, held_views}
 use Rattle.swift_history.specs.Jobs.{job_facts}
 

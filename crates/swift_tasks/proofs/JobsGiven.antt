@@ -18,8 +18,8 @@ use Rattle.swift_events.specs.Lives.{life_of, lived, is_open, is_waiting}
 use Rattle.swift_events.specs.Relations.{opened_by}
 use Rattle.swift_events.proofs.LogLemmas.{life_of-push_same, life_of-push_other, tasks_of-push_made, tasks_of-push_other, origin-push}
 use Rattle.swift_history.specs.TurnEnds.{JobFacts, task, named_task, effect_events, effect_jobs, is_left_out, log_after, jobs_made, first_job, gives}
-use Rattle.swift_tasks.specs.Applying.{AreMade}
-use Rattle.swift_tasks.specs.Counted.{UnopenedAreNotClosed}
+use Rattle.swift_tasks.specs.ApplyingInside.{AreMade}
+use Rattle.swift_tasks.specs.CountedInside.{UnopenedAreNotClosed}
 use Rattle.swift_tasks.proofs.Grows.{ending-push, effect_grows, effects_grow}
 use Rattle.swift_tasks.proofs.Pushes.{closed_push}
 

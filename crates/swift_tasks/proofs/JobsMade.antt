@@ -12,8 +12,8 @@ use Rattle.swift_turn.specs.Body.{BodyView, TaskView, HasFrames}
 use Rattle.swift_events.specs.declared.event.Event.{Event}
 use Rattle.swift_events.specs.Events.{tasks_of}
 use Rattle.swift_history.specs.TurnEnds.{JobFacts, beginning, first_job, effect_jobs, is_left_out}
-use Rattle.swift_tasks.specs.Applying.{add_jobs, first_of}
-use Rattle.swift_tasks.specs.Bodies.{IsStarted}
+use Rattle.swift_tasks.specs.ApplyingInside.{add_jobs, first_of}
+use Rattle.swift_tasks.specs.BodiesInside.{IsStarted}
 use Rattle.swift_tasks.specs.Books.{IsJobOf}
 use Rattle.swift_history.specs.Jobs.{job_facts}
 use Rattle.swift_tasks.proofs.HeldJobs.{all-append}

@@ -22,7 +22,7 @@ use Rattle.swift_script.specs.Scripts.{ScriptView, root_priority}
 use Rattle.swift_history.specs.TurnEnds.{root_events}
 use Rattle.swift_tasks.specs.declared.held.WaitingTask.{WaitingTask}
 use Rattle.swift_tasks.specs.BookInvariant.{BookInvariant}
-use Rattle.swift_tasks.specs.Counted.{UnopenedAreNotClosed}
+use Rattle.swift_tasks.specs.CountedInside.{UnopenedAreNotClosed}
 
 -- An event of a task that makes none. The task waits after it exactly where it has waited before, and is open if it waits.
 pub record LeavesWaits (log : List Event) (e : Event) : Type 0 where

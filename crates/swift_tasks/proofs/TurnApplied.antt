@@ -11,11 +11,11 @@ use Rattle.swift_events.specs.declared.event.Event.{Event}
 use Rattle.swift_events.specs.Events.{tasks_of}
 use Rattle.swift_history.specs.TurnEnds.{JobFacts, WaitingTaskView}
 use Rattle.swift_tasks.specs.declared.held.WaitingTask.{WaitingTask}
-use Rattle.swift_tasks.specs.Applying.{JobFits}
-use Rattle.swift_tasks.specs.Bodies.{AreBodiesOf}
+use Rattle.swift_tasks.specs.ApplyingInside.{JobFits}
+use Rattle.swift_tasks.specs.BodiesInside.{AreBodiesOf}
 use Rattle.swift_tasks.specs.BookInvariant.{BookInvariant, FitsScript, held_view, held_views}
 use Rattle.swift_tasks.specs.Books.{BookView, HoldsWaiting, IsEndOf}
-use Rattle.swift_tasks.specs.Counted.{UnopenedAreNotClosed}
+use Rattle.swift_tasks.specs.CountedInside.{UnopenedAreNotClosed}
 use Rattle.swift_tasks.specs.Refusals.{refusal_of_apply}
 use Rattle.swift_tasks.proofs.EmptyBook.{views_hold}
 use Rattle.swift_tasks.proofs.TurnTaken.{taken_open, taken_fits}

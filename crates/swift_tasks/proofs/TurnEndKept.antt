@@ -34,9 +34,9 @@ use Rattle.swift_events.specs.Relations.{opened_by, closes, is_closed, is_open_g
 use Rattle.swift_events.proofs.LogLemmas.{life_of-push_same, life_of-push_other, tasks_of-push_other, is_closed-push, opened_by-push, waiters_of-push}
 use Rattle.swift_history.specs.Histories.{begun_priority}
 use Rattle.swift_history.specs.TurnEnds.{JobFacts, WaitingTaskView, AfterTurn, task, named_task, wait_events, wait_resume, next_events, next_resume, close_events, close_resume, end_events, step_resume, exit_events, exit_resume, wake_all, followed, gives, jobs_made, log_after, resume_at, resume_of}
-use Rattle.swift_tasks.specs.Applying.{AreMade, CanLeave, StepFits, TurnLeaves, done_log}
+use Rattle.swift_tasks.specs.ApplyingInside.{AreMade, CanLeave, StepFits, TurnLeaves, done_log}
 use Rattle.swift_tasks.specs.Books.{HoldsWaiting}
-use Rattle.swift_tasks.specs.Counted.{UnopenedAreNotClosed}
+use Rattle.swift_tasks.specs.CountedInside.{UnopenedAreNotClosed}
 use Rattle.swift_tasks.proofs.Fitting.{left, right, less}
 use Rattle.swift_tasks.proofs.Grows.{Grows, open_stays, stage-push, ending-push, made-push, grows_cancel_group, effects_grow}
 use Rattle.swift_tasks.proofs.Pushes.{LeavesWaits, holds_push, closed_push}

@@ -16,7 +16,7 @@ use Rattle.swift_events.proofs.LogLemmas.{waiters_of-push_none}
 use Rattle.swift_history.specs.Histories.{begun_priority}
 use Rattle.swift_history.specs.TurnEnds.{JobFacts, WaitingTaskView, AfterTurn, followed, jobs_made, exit_resume, task}
 use Rattle.swift_tasks.specs.declared.held.WaitingTask.{WaitingTask}
-use Rattle.swift_tasks.specs.Applying.{CanLeave, StepFits, done_log, written_log, followed_from}
+use Rattle.swift_tasks.specs.ApplyingInside.{CanLeave, StepFits, done_log, written_log, followed_from}
 use Rattle.swift_tasks.specs.BookInvariant.{held_views}
 use Rattle.swift_history.specs.Jobs.{job_facts}
 use Rattle.swift_tasks.proofs.FinishedTurn.{both_of, drop_map, drop_front}

@@ -22,7 +22,7 @@ use Rattle.swift_history.specs.Histories.{begun_priority}
 use Rattle.swift_history.specs.TurnEnds.{JobFacts, WaitingTaskView, TurnEnd, turn_end}
 use Rattle.swift_tasks.specs.declared.fault.BookFault.{BookFault}
 use Rattle.swift_tasks.specs.declared.fault.BookFault.TheVariants.{Unknown, Completed}
-use Rattle.swift_tasks.specs.Applying.{StepFits, JobFits, TurnLeaves, BookEnds}
+use Rattle.swift_tasks.specs.ApplyingInside.{StepFits, JobFits, TurnLeaves, BookEnds}
 use Rattle.swift_tasks.specs.Books.{BookView, IsEndOf, end_of_frames}
 use Rattle.swift_tasks.specs.Refusals.{refused_unless, refusal_unless_open, refusal_of_job, refusal_of_apply}
 use Rattle.swift_tasks.proofs.Fitting.{FitsTurn, begun_fits}

@@ -18,7 +18,7 @@ use Rattle.swift_events.specs.declared.life.JobStage.TheVariants as stage
 use Rattle.swift_events.specs.Lives.{life_of, is_waiting}
 use Rattle.swift_events.specs.Relations.{waiters_of, group_of, parent_of}
 use Rattle.swift_history.specs.TurnEnds.{JobFacts, WaitingTaskView, AfterTurn, resume_at, resume_of, woken, wake, wake_each, wake_closing, wake_owner, wake_parent, wake_all, followed}
-use Rattle.swift_tasks.specs.Applying.{AreMade}
+use Rattle.swift_tasks.specs.ApplyingInside.{AreMade}
 use Rattle.swift_tasks.proofs.JobsGiven.{among, among-append, equal, unequal, made-append}
 
 -- which tasks are held, of so many, by this log; each of them was made, as each of those of which a job was made

@@ -7,7 +7,7 @@ use Rattle.swift_events.specs.declared.event.Event.{Event}
 use Rattle.swift_history.specs.TurnEnds.{WaitingTaskView}
 use Rattle.swift_tasks.specs.declared.held.WaitingTask.{WaitingTask}
 use Rattle.swift_tasks.specs.Books.{HoldsWaiting}
-use Rattle.swift_tasks.specs.Counted.{UnopenedAreNotClosed}
+use Rattle.swift_tasks.specs.CountedInside.{UnopenedAreNotClosed}
 
 abbrev pub held_view : Option WaitingTask → Option WaitingTaskView
 held_view None = None

@@ -1,7 +1,7 @@
-pub mod Applying
-pub mod Bodies
+pub mod ApplyingInside
+pub mod BodiesInside
 pub mod BookInvariant
 pub mod Books
-pub mod Counted
+pub mod CountedInside
 pub mod Laws
 pub mod Refusals

@@ -7,7 +7,7 @@ ghost use Rattle.swift_interpreter.specs.Frames.{effect_views};
 ghost use Rattle.swift_interpreter.specs.TurnStates.{exit_view};
 ghost use Rattle.swift_turn.specs.Body.{IsRunning, at_rest};
 ghost use Rattle.swift_ledger.specs.Ledgers.{IsMade};
-ghost use Rattle.swift_tasks.specs.Applying.{CanApply, next_of, went_on};
+ghost use Rattle.swift_tasks.specs.ApplyingInside.{CanApply, next_of, went_on};
 ghost use Rattle.swift_tasks.specs.Books.{IsJobOf, IsEndOf};
 ghost use Rattle.swift_history.specs.Jobs.{job_facts};
 ghost use Rattle.swift_tasks.specs.Refusals.{IsRefusal, refusal_of_apply};

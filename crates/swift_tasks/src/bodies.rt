@@ -7,7 +7,7 @@ ghost use Rattle.swift_script.specs.Scripts.{method_count};
 ghost use Rattle.swift_interpreter.specs.Frames.{invocation_view, effect_view, effect_views};
 ghost use Rattle.swift_turn.specs.Body.{idle};
 ghost use Rattle.swift_history.specs.TurnEnds.{beginning};
-ghost use Rattle.swift_tasks.specs.Bodies.{CanStart, IsBodyOf, AreBodiesOf};
+ghost use Rattle.swift_tasks.specs.BodiesInside.{CanStart, IsBodyOf, AreBodiesOf};
 
 use std::alloc::{AllocError, Global};
 use std::sync::Arc;

@@ -7,7 +7,7 @@ ghost use Rattle.swift_interpreter.specs.Frames.{invocation_view, effect_view, e
 ghost use Rattle.swift_interpreter.specs.TurnStates.{exit_view};
 ghost use Rattle.swift_history.specs.Checks.{can_run, can_name, can_use, fits_effect, counted, fits_exit, fits_turn, counters};
 ghost use Rattle.swift_tasks.specs.Refusals.{fits_begun};
-ghost use Rattle.swift_tasks.specs.Counted.{counters_of, UnopenedAreNotClosed};
+ghost use Rattle.swift_tasks.specs.CountedInside.{counters_of, UnopenedAreNotClosed};
 
 use swift_events::JobStage;
 use swift_interpreter::{Effect, Exit, Invocation, TaskName};

@@ -11,8 +11,8 @@ ghost use Rattle.swift_events.specs.Events.{tasks_of};
 ghost use Rattle.swift_events.specs.Relations.{opened_by, is_open_group};
 ghost use Rattle.swift_events.specs.Room.{reserved_of};
 ghost use Rattle.swift_history.specs.TurnEnds.{named_task, cancel_events, effect_events, effect_jobs, is_left_out, task as numbered};
-ghost use Rattle.swift_tasks.specs.Applying.{CanName, CanTake, add_events, add_jobs, first_of};
-ghost use Rattle.swift_tasks.specs.Bodies.{IsBodyOf};
+ghost use Rattle.swift_tasks.specs.ApplyingInside.{CanName, CanTake, add_events, add_jobs, first_of};
+ghost use Rattle.swift_tasks.specs.BodiesInside.{IsBodyOf};
 ghost use Rattle.swift_tasks.specs.Books.{IsJobOf};
 ghost use Rattle.swift_history.specs.Jobs.{job_facts};
 

@@ -9,7 +9,7 @@ ghost use Rattle.swift_ledger.specs.Ledgers.{IsMade};
 ghost use Rattle.swift_events.specs.Lives.{life_of};
 ghost use Rattle.swift_events.specs.Relations.{group_of, is_open_group};
 ghost use Rattle.swift_history.specs.TurnEnds.{resume_at, resume_of, wait_events, wait_resume, next_events, next_resume, close_events, close_resume, end_events, step_resume, exit_events, exit_resume};
-ghost use Rattle.swift_tasks.specs.Applying.{CanLeave};
+ghost use Rattle.swift_tasks.specs.ApplyingInside.{CanLeave};
 
 use crate::effects::task_of;
 use swift_events::Event;

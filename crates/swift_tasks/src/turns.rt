@@ -12,12 +12,12 @@ ghost use Rattle.swift_events.specs.Lives.{life_of};
 ghost use Rattle.swift_events.specs.Relations.{waiters_of};
 ghost use Rattle.swift_history.specs.Histories.{begun_priority};
 ghost use Rattle.swift_history.specs.TurnEnds.{log_after, jobs_made, exit_resume, followed, gives};
-ghost use Rattle.swift_tasks.specs.Applying.{CanTakeAll, CanLeave, AreMade, TurnFits, TurnLeaves, JobFits, BookEnds, done_log, written_log, follows_of, followed_from};
-ghost use Rattle.swift_tasks.specs.Bodies.{AreBodiesOf};
+ghost use Rattle.swift_tasks.specs.ApplyingInside.{CanTakeAll, CanLeave, AreMade, TurnFits, TurnLeaves, JobFits, BookEnds, done_log, written_log, follows_of, followed_from};
+ghost use Rattle.swift_tasks.specs.BodiesInside.{AreBodiesOf};
 ghost use Rattle.swift_tasks.specs.BookInvariant.{FitsScript, held_views};
 ghost use Rattle.swift_tasks.specs.Books.{IsJobOf, HoldsWaiting, IsEndOf};
 ghost use Rattle.swift_history.specs.Jobs.{job_facts};
-ghost use Rattle.swift_tasks.specs.Counted.{UnopenedAreNotClosed};
+ghost use Rattle.swift_tasks.specs.CountedInside.{UnopenedAreNotClosed};
 
 use crate::effects::note_effect;
 use crate::exits::note_exit;

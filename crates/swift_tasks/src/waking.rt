@@ -8,7 +8,7 @@ ghost use Rattle.swift_turn.specs.Body.{IsRunning, GoesOn, at_rest};
 ghost use Rattle.swift_events.specs.Lives.{life_of};
 ghost use Rattle.swift_events.specs.Relations.{waiters_of, group_of, parent_of};
 ghost use Rattle.swift_history.specs.TurnEnds.{wake, wake_each, wake_closing, wake_owner, wake_parent, wake_all, resume_at, followed};
-ghost use Rattle.swift_tasks.specs.Applying.{follows_of};
+ghost use Rattle.swift_tasks.specs.ApplyingInside.{follows_of};
 ghost use Rattle.swift_tasks.specs.BookInvariant.{FitsScript};
 ghost use Rattle.swift_tasks.specs.Books.{IsJobOf};
 

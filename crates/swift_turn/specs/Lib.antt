@@ -1,4 +1,4 @@
 pub mod Body
 pub mod BodyInvariant
 pub mod Laws
-pub mod Stack
+pub mod StackInside

@@ -2,7 +2,7 @@
 
 ghost use Rattle.std.specs.Prelude.{◌≡◌, ◌↔◌, ◌∷◌, [], IsTrue, OnOk, IfErr, length};
 ghost use Rattle.swift_interpreter.specs.Frames.{frame_view, frame_if};
-ghost use Rattle.swift_turn.specs.Stack.{first_of, rest_of};
+ghost use Rattle.swift_turn.specs.StackInside.{first_of, rest_of};
 
 use std::alloc::{AllocFailed, Global};
 use std::marker::Model;

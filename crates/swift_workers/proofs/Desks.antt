@@ -11,7 +11,7 @@ use Rattle.swift_executor.specs.declared.ran.VisitOutcome.{VisitOutcome}
 use Rattle.swift_executor.specs.declared.ran.VisitOutcome.TheVariants.{Turn, Busy, Nothing}
 use Rattle.swift_workers.specs.declared.crew.Hand.{Hand}
 use Rattle.swift_shared_book.specs.Shared.{BookLockView}
-use Rattle.swift_workers.specs.Crew.{AreAtSites, AreDesksOf, AreHandsOf, IsHandOf}
+use Rattle.swift_workers.specs.CrewInside.{AreAtSites, AreDesksOf, AreHandsOf, IsHandOf}
 
 abbrev Each : List ExecView → List DeskView → Type 0
 Each execs desks = (k : ℕ) (e : ExecView) (d : DeskView) → slice_get execs k ≡ Some e → slice_get desks k ≡ Some d → IsDeskOf e d

@@ -6,7 +6,7 @@ use Rattle.swift_known.specs.Views.{Maker, BookKnown}
 use Rattle.swift_course.specs.Seats.{account_parted, maker_left}
 use Rattle.swift_shared_book.specs.Shared.{BookLockView, BookSeatView, IsSeatOf, knowing, seat_of}
 use Rattle.swift_executor.specs.Seats.{IsOpened}
-use Rattle.swift_workers.specs.Crew.{has_opened}
+use Rattle.swift_workers.specs.CrewInside.{has_opened}
 
 -- what the maker's seat is after so many accounts
 abbrev pub OpenedFrom : BookSeatView → ℕ → BookSeatView → Type 0

@@ -1,5 +1,5 @@
 pub mod BellInside
-pub mod Crew
+pub mod CrewInside
 pub mod Leaves
 pub mod PartsInside
-pub mod Pools
+pub mod PoolsInside

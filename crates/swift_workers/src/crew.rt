@@ -4,7 +4,7 @@ ghost use Rattle.std.specs.Prelude.{◌≡◌, ◌<◌, Some, IfOk, OnOk, length
 ghost use Rattle.std.specs.Arc.{arc_value};
 ghost use Rattle.swift_script.specs.Scripts.{executor_count};
 ghost use Rattle.swift_shared_book.specs.Shared.{IsSeatOf, knowing};
-ghost use Rattle.swift_workers.specs.Crew.{AreAtSites, AreDesksOf, AreHandsOf, AreOthers, has_opened};
+ghost use Rattle.swift_workers.specs.CrewInside.{AreAtSites, AreDesksOf, AreHandsOf, AreOthers, has_opened};
 
 use crate::fault::Halt;
 use crate::shared_pool::SharedPool;

@@ -8,7 +8,7 @@ ghost use Rattle.swift_certificate.specs.Reports.{report_view};
 ghost use Rattle.swift_executor.specs.Exec.{site_of};
 ghost use Rattle.swift_executor.specs.Seats.{IsSeatFor};
 ghost use Rattle.swift_shared_book.specs.Shared.{IsSeatOf};
-ghost use Rattle.swift_workers.specs.Crew.{AreAtSites};
+ghost use Rattle.swift_workers.specs.CrewInside.{AreAtSites};
 ghost use Rattle.swift_workers.specs.Leaves.{AreEndings, AreReplayed, IsEnding, KeepInvariants};
 ghost use Rattle.swift_workers.specs.PartsInside.{AreParts};
 

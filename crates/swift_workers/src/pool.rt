@@ -2,7 +2,7 @@
 
 ghost use Rattle.std.specs.Prelude.{◌≡◌, ℕ, ◌-◌, ◌<◌, ◌++◌, ◌∷◌, ◌↔◌, [], All, Err, None, IfNone, IfSome, IsSomeAnd, IsTrue, OnOk, OnErr, length, slice_get, take};
 ghost use Rattle.swift_workers.specs.declared.pool.Pool.{Pool};
-ghost use Rattle.swift_workers.specs.Pools.{IsNext, IsOver, IsTakenFromPool, MayVisit, first_cause};
+ghost use Rattle.swift_workers.specs.PoolsInside.{IsNext, IsOver, IsTakenFromPool, MayVisit, first_cause};
 
 use crate::fault::Halt;
 use std::alloc::{AllocError, Global};

@@ -5,7 +5,7 @@ ghost use Rattle.std.specs.List.{AllByRecursion};
 ghost use Rattle.swift_script.specs.Scripts.{executor_count, root_count};
 ghost use Rattle.swift_shared_book.specs.Shared.{IsSeatOf};
 ghost use Rattle.swift_tasks.specs.Books.{IsJobOf};
-ghost use Rattle.swift_workers.specs.Crew.{AreAtSites, AreDesksOf};
+ghost use Rattle.swift_workers.specs.CrewInside.{AreAtSites, AreDesksOf};
 
 use crate::crew::{Crew, Hand};
 use crate::fault::Halt;

@@ -3,8 +3,8 @@
 ghost use Rattle.std.specs.Prelude.{◌≡◌, [], OnOk};
 ghost use Rattle.std.specs.List.{AllByRecursion};
 ghost use Rattle.swift_tasks.specs.Books.{IsJobOf};
-ghost use Rattle.swift_workers.specs.Crew.{AreAtSites, AreDesksOf, IsHandOf};
-ghost use Rattle.swift_workers.specs.Pools.{left_after};
+ghost use Rattle.swift_workers.specs.CrewInside.{AreAtSites, AreDesksOf, IsHandOf};
+ghost use Rattle.swift_workers.specs.PoolsInside.{left_after};
 
 use crate::crew::{Crew, Hand};
 use crate::fault::Halt;

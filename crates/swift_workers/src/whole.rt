@@ -9,7 +9,7 @@ ghost use Rattle.swift_course.specs.Seats.{first_view};
 ghost use Rattle.swift_certificate.specs.Reports.{report_view};
 ghost use Rattle.swift_shared_book.specs.Shared.{IsSeatOf, seat_of};
 ghost use Rattle.swift_workers.specs.declared.fault.RunFault.TheVariants.{Illegal, Workers};
-ghost use Rattle.swift_workers.specs.Crew.{AreAtSites, AreHandsOf, AreOthers, IsHandOf};
+ghost use Rattle.swift_workers.specs.CrewInside.{AreAtSites, AreHandsOf, AreOthers, IsHandOf};
 ghost use Rattle.swift_workers.specs.Leaves.{AreEndings, AreReplayed, KeepInvariants};
 
 use crate::crew::{Crew, Hand, open_all, others_of};

@@ -5,7 +5,7 @@ use Rattle.script_grammar.specs.Tree.{view_decl}
 use Rattle.script_printing.specs.Script.{script_in}
 use Rattle.script_compiler.specs.Compiled.{own_executors}
 use Rattle.script_compiler.specs.IsCompiled.{executor_view}
-use Rattle.script_compiler.specs.Members.{executors_by}
+use Rattle.script_compiler.specs.MembersInside.{executors_by}
 use Rattle.script_compiler.proofs.executors.add_own.Goals as goal
 
 pub returns-clause-view : goal.returns-clause-view

@@ -4,7 +4,7 @@ use Rattle.script_grammar.specs.declared.declaration.Decl.{Decl}
 use Rattle.script_grammar.specs.Tree.{view_decl}
 use Rattle.script_printing.specs.Script.{script_in}
 use Rattle.script_compiler.specs.IsCompiled.{executor_view}
-use Rattle.script_compiler.specs.Members.{executors_by}
+use Rattle.script_compiler.specs.MembersInside.{executors_by}
 use Rattle.script_compiler.proofs.executors.compile_declared.Goals as goal
 
 pub returns-clause-view : goal.returns-clause-view

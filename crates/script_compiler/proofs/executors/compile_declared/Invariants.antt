@@ -3,7 +3,7 @@ use Rattle.std.specs.Prelude.{All}
 use Rattle.script_grammar.specs.Tree.{view_decl}
 use Rattle.script_printing.specs.Script.{script_in}
 use Rattle.script_compiler.specs.IsCompiled.{actor_view, executor_view, HasInvariants}
-use Rattle.script_compiler.specs.Members.{executors_by}
+use Rattle.script_compiler.specs.MembersInside.{executors_by}
 use Rattle.script_compiler.proofs.executors.compile_declared.Given as goal
 
 abbrev pub invariant-loop-decl : goal.invariant-loop-decl

@@ -3,7 +3,7 @@ use Rattle.std.proofs.lemmas.List.{append-nil, at_drop_all}
 use Rattle.swift_types.specs.declared.id.ActorId.{ActorId}
 use Rattle.script_code.specs.Seen.{rows_of}
 use Rattle.script_compiler.specs.IsCompiled.{actor_number, actor_view}
-use Rattle.script_compiler.specs.Rows.{rows_among}
+use Rattle.script_compiler.specs.RowsInside.{rows_among}
 use Rattle.script_compiler.proofs.start.rows.Goals as goal
 
 pub returns : goal.returns

@@ -8,8 +8,8 @@ use Rattle.script_code.specs.Layout.{meaning_of, written, entry}
 use Rattle.script_names.specs.Scope.{ScopeView}
 use Rattle.script_names.specs.Rules.{scope_after, scope_within}
 use Rattle.script_lowering.specs.Lowered.{lowered, stmt_code, block_code}
-use Rattle.script_lowering.specs.Standing.{scope_through}
-use Rattle.script_lowering.specs.Heads.{HeadsAs, is_isolated}
+use Rattle.script_lowering.specs.StandingInside.{scope_through}
+use Rattle.script_lowering.specs.HeadsInside.{HeadsAs, is_isolated}
 use Rattle.script_lowering.proofs.Lines.{IsWritten}
 use Rattle.script_lowering.proofs.Blocks.{through_more, step_back}
 use Rattle.script_lowering.proofs.Statements.{code_in, while_written, block_written, else_written, answered, ok_of, not_loop, left_is}

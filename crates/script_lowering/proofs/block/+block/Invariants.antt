@@ -2,7 +2,7 @@ use Rattle.std.proofs.Common.{◌≡◌, ◌≤◌, ◌++◌, length, take, drop
 use Rattle.script_grammar.specs.Tree.{view_stmt, block_tree}
 use Rattle.script_code.specs.Layout.{meaning_of, entry, written}
 use Rattle.script_lowering.specs.Lowered.{block_code}
-use Rattle.script_lowering.specs.Standing.{scope_through}
+use Rattle.script_lowering.specs.StandingInside.{scope_through}
 use Rattle.script_lowering.proofs.block.+block.Given as goal
 
 abbrev pub invariant-block-loop-stmt : goal.invariant-block-loop-stmt

@@ -1,6 +1,6 @@
 use Rattle.std.proofs.Common.{take}
-use Rattle.script_waits.specs.First.{Calls}
-use Rattle.script_waits.specs.Lists.{AreListsOf}
+use Rattle.script_waits.specs.FirstInside.{Calls}
+use Rattle.script_waits.specs.ListsInside.{AreListsOf}
 use Rattle.script_waits.proofs.first.callers.Given as goal
 
 abbrev pub invariant-loop-edge : goal.invariant-loop-edge

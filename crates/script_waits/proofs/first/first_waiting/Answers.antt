@@ -2,9 +2,9 @@ use Rattle.std.proofs.Common.{◌≡◌, ℕ, ◌+◌, ◌-◌, ◌<◌, All, Li
 use Rattle.std.proofs.lemmas.Option.{slice_get-get_or}
 use Rattle.std.proofs.lemmas.Bool.{both_ways}
 use Rattle.std.proofs.lemmas.List.Elements.{All-contains}
-use Rattle.script_waits.specs.Lists.{Has, AreListsOf}
-use Rattle.script_waits.specs.Marks.{count_of}
-use Rattle.script_waits.specs.First.{Calls, WaitsInPlace, AreMarks, IsFirstFrom}
+use Rattle.script_waits.specs.ListsInside.{Has, AreListsOf}
+use Rattle.script_waits.specs.MarksInside.{count_of}
+use Rattle.script_waits.specs.FirstInside.{Calls, WaitsInPlace, AreMarks, IsFirstFrom}
 use Rattle.script_waits.specs.declared.first.CallEdge.{CallEdge}
 use Rattle.script_waits.specs.declared.first.RootWait.{RootWait}
 use Rattle.script_waits.specs.declared.lists.MethodLists.{MethodLists}

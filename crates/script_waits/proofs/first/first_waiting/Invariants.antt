@@ -1,4 +1,4 @@
-use Rattle.script_waits.specs.First.{AreMarks, IsFirstFrom}
+use Rattle.script_waits.specs.FirstInside.{AreMarks, IsFirstFrom}
 use Rattle.script_waits.proofs.first.first_waiting.Given as goal
 
 abbrev pub invariant-loop-place : goal.invariant-loop-place

@@ -1,6 +1,6 @@
 use Rattle.std.proofs.Common.{◌+◌, length, take}
-use Rattle.script_waits.specs.First.{WaitsInPlace}
-use Rattle.script_waits.specs.Lists.{AreListsOf}
+use Rattle.script_waits.specs.FirstInside.{WaitsInPlace}
+use Rattle.script_waits.specs.ListsInside.{AreListsOf}
 use Rattle.script_waits.proofs.first.waiting.Given as goal
 
 abbrev pub invariant-loop-wait : goal.invariant-loop-wait

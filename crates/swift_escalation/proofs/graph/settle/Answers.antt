@@ -4,7 +4,7 @@ use Rattle.swift_types.specs.declared.priority.Priority.{Priority}
 use Rattle.std.proofs.Common.{List, nat_lt, ◌≡◌, ℕ, ◌<◌, ◌++◌, ◌∷◌, [], arith, ap, ◌∙◌}
 use Rattle.std.proofs.lemmas.List.{nil_from_length}
 use Rattle.swift_types.specs.Priority.{rank}
-use Rattle.swift_escalation.specs.Levels.{level_of}
+use Rattle.swift_escalation.specs.LevelsInside.{level_of}
 use Rattle.swift_escalation.proofs.Raise.{below-set}
 use Rattle.swift_escalation.proofs.Settle.{settling_start, todo_start, settling_more, todo_more}
 use Rattle.swift_escalation.proofs.graph.settle.Goals as goal

@@ -1,7 +1,7 @@
 use Rattle.std.proofs.Common.{◌≡◌, List, ◌++◌, take}
 use Rattle.swift_interpreter.specs.Frames.{effect_views}
 use Rattle.swift_interpreter.specs.Turn.{EffectView}
-use Rattle.swift_journal.specs.EffectWords.{effects_of, skip_effects, effects_words}
+use Rattle.swift_journal.specs.EffectWordsInside.{effects_of, skip_effects, effects_words}
 use Rattle.swift_journal.specs.TailInside.{since}
 use Rattle.swift_journal.specs.Words.{ReadsBack}
 use Rattle.swift_journal.proofs.effects.write_effects.Given as goal

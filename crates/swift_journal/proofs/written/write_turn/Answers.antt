@@ -2,7 +2,7 @@ use Rattle.std.proofs.Common.{◌≡◌, length, reverse, ap, ◌∙◌, arith, 
 use Rattle.swift_interpreter.specs.Frames.{frame_view, effect_views}
 use Rattle.swift_interpreter.specs.TurnStates.{exit_view}
 use Rattle.swift_journal.specs.Ends.{resume_words}
-use Rattle.swift_journal.specs.FrameWords.{frame_words}
+use Rattle.swift_journal.specs.FrameWordsInside.{frame_words}
 use Rattle.swift_journal.specs.JournalInside.{span_of}
 use Rattle.swift_journal.specs.Records.{frame_if_lent}
 use Rattle.swift_journal.specs.TailInside.{since}

@@ -5,7 +5,7 @@ use Rattle.swift_events.specs.declared.event.Event.TheVariants.{Free}
 use Rattle.swift_events.specs.Events.{tasks_of}
 use Rattle.swift_interpreter.specs.Frames.{invocation_view}
 use Rattle.swift_history.specs.TurnEnds.{task, cancel_events, is_left_out}
-use Rattle.swift_tasks.specs.Applying.{add_events}
+use Rattle.swift_tasks.specs.ApplyingInside.{add_events}
 use Rattle.swift_tasks.proofs.JobsMade.{added_jobs, free_jobs, started_fits, added_fit}
 use Rattle.swift_tasks.proofs.effects.note_effect.Goals as goal
 

@@ -8,11 +8,11 @@ use Rattle.swift_interpreter.specs.TurnStates.{exit_view}
 use Rattle.swift_events.specs.declared.event.Event.{Event}
 use Rattle.swift_events.specs.Relations.{waiters_of}
 use Rattle.swift_history.specs.TurnEnds.{JobFacts, WaitingTaskView, AfterTurn, gives}
-use Rattle.swift_tasks.specs.Applying.{AreMade, CanLeave, TurnLeaves, done_log, written_log}
+use Rattle.swift_tasks.specs.ApplyingInside.{AreMade, CanLeave, TurnLeaves, done_log, written_log}
 use Rattle.swift_tasks.specs.BookInvariant.{held_views}
 use Rattle.swift_tasks.specs.Books.{HoldsWaiting}
 use Rattle.swift_history.specs.Jobs.{job_facts}
-use Rattle.swift_tasks.specs.Counted.{UnopenedAreNotClosed}
+use Rattle.swift_tasks.specs.CountedInside.{UnopenedAreNotClosed}
 use Rattle.swift_tasks.proofs.TurnIs.{made_by, follows_turn, few_since, stood_before, turn_is, written_waiters}
 use Rattle.swift_tasks.proofs.TurnEndKept.{end_kept}
 use Rattle.swift_tasks.proofs.turns.end_turn.Goals as goal

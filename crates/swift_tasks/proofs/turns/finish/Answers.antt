@@ -2,7 +2,7 @@ use Rattle.std.proofs.Common.{◌≡◌, ℕ, ◌-◌, ◌≤◌, ◌∙◌, ap,
 use Rattle.std.specs.Prelude.{None, map}
 use Rattle.std.specs.List.{AllByRecursion}
 use Rattle.swift_history.specs.TurnEnds.{JobFacts, AfterTurn, gives}
-use Rattle.swift_tasks.specs.Applying.{AreMade, follows_of, followed_from}
+use Rattle.swift_tasks.specs.ApplyingInside.{AreMade, follows_of, followed_from}
 use Rattle.swift_tasks.specs.BookInvariant.{FitsScript}
 use Rattle.swift_history.specs.Jobs.{job_facts}
 use Rattle.swift_tasks.proofs.HeldJobs.{all-append}

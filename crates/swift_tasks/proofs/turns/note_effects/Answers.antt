@@ -8,8 +8,8 @@ use Rattle.swift_events.specs.declared.event.Event.{Event}
 use Rattle.swift_events.specs.Room.{reserved_of}
 use Rattle.swift_ledger.specs.Ledgers.{IsMade}
 use Rattle.swift_history.specs.TurnEnds.{JobFacts, effect_events, effect_jobs, log_after, jobs_made}
-use Rattle.swift_tasks.specs.Applying.{CanTake, CanTakeAll}
-use Rattle.swift_tasks.specs.Bodies.{AreBodiesOf}
+use Rattle.swift_tasks.specs.ApplyingInside.{CanTake, CanTakeAll}
+use Rattle.swift_tasks.specs.BodiesInside.{AreBodiesOf}
 use Rattle.swift_history.specs.Jobs.{job_facts}
 use Rattle.swift_tasks.proofs.Grows.{effect_grows}
 use Rattle.swift_tasks.proofs.EffectsTaken.{drop_at, none_left, take_first, take_rest, take_none, last_first, first_body, rest_bodies}

@@ -6,8 +6,8 @@ use Rattle.swift_interpreter.specs.Turn.{ExitView}
 use Rattle.swift_interpreter.specs.Frames.{effect_views}
 use Rattle.swift_ledger.specs.Ledgers.{IsMade}
 use Rattle.swift_history.specs.TurnEnds.{log_after, jobs_made}
-use Rattle.swift_tasks.specs.Applying.{CanTakeAll}
-use Rattle.swift_tasks.specs.Bodies.{AreBodiesOf}
+use Rattle.swift_tasks.specs.ApplyingInside.{CanTakeAll}
+use Rattle.swift_tasks.specs.BodiesInside.{AreBodiesOf}
 use Rattle.swift_tasks.specs.Books.{IsJobOf}
 use Rattle.swift_history.specs.Jobs.{job_facts}
 use Rattle.swift_tasks.proofs.turns.note_effects.Given as goal

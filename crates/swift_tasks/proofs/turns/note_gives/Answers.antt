@@ -6,7 +6,7 @@ use Rattle.swift_events.specs.declared.event.Event.{Event}
 use Rattle.swift_events.specs.declared.event.Event.TheVariants.{Give}
 use Rattle.swift_ledger.specs.Ledgers.{LedgerView}
 use Rattle.swift_history.specs.TurnEnds.{JobFacts, gives, task}
-use Rattle.swift_tasks.specs.Applying.{AreMade}
+use Rattle.swift_tasks.specs.ApplyingInside.{AreMade}
 use Rattle.swift_history.specs.Jobs.{job_facts}
 use Rattle.swift_tasks.proofs.EffectsTaken.{drop_at}
 use Rattle.swift_tasks.proofs.Grows.{made-push}

@@ -1,7 +1,7 @@
 use Rattle.std.proofs.Common.{◌≡◌, ◌+◌, ◌≤◌, ◌++◌, drop}
 use Rattle.std.specs.Prelude.{map}
 use Rattle.swift_history.specs.TurnEnds.{gives}
-use Rattle.swift_tasks.specs.Applying.{AreMade}
+use Rattle.swift_tasks.specs.ApplyingInside.{AreMade}
 use Rattle.swift_history.specs.Jobs.{job_facts}
 use Rattle.swift_tasks.proofs.turns.note_gives.Given as goal
 

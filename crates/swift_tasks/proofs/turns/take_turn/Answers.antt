@@ -11,7 +11,7 @@ use Rattle.swift_events.specs.declared.event.Event.{Event}
 use Rattle.swift_events.specs.Relations.{waiters_of}
 use Rattle.swift_history.specs.Checks.{counters}
 use Rattle.swift_history.specs.TurnEnds.{JobFacts, WaitingTaskView}
-use Rattle.swift_tasks.specs.Applying.{TurnLeaves, BookEnds}
+use Rattle.swift_tasks.specs.ApplyingInside.{TurnLeaves, BookEnds}
 use Rattle.swift_tasks.specs.BookInvariant.{held_views}
 use Rattle.swift_history.specs.Jobs.{job_facts}
 use Rattle.swift_tasks.proofs.Fitting.{advances}

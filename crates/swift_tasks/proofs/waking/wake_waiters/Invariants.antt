@@ -4,7 +4,7 @@ use Rattle.std.specs.List.{AllByRecursion}
 use Rattle.swift_script.specs.Scripts.{ScriptView}
 use Rattle.swift_events.specs.Relations.{waiters_of}
 use Rattle.swift_history.specs.TurnEnds.{wake_each}
-use Rattle.swift_tasks.specs.Applying.{follows_of}
+use Rattle.swift_tasks.specs.ApplyingInside.{follows_of}
 use Rattle.swift_tasks.specs.BookInvariant.{FitsScript}
 use Rattle.swift_tasks.specs.Books.{IsJobOf}
 use Rattle.swift_tasks.proofs.waking.wake_waiters.Given as goal

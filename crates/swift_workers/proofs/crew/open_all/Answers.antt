@@ -4,7 +4,7 @@ use Rattle.atomic_table.specs.Seated.{TableId}
 use Rattle.swift_script.specs.Scripts.{ScriptView, executor_count}
 use Rattle.swift_inbox.specs.Site.{SiteView}
 use Rattle.swift_executor.specs.Exec.{ExecView, DeskView, IsDeskOf}
-use Rattle.swift_workers.specs.Crew.{AreAtSites, AreDesksOf}
+use Rattle.swift_workers.specs.CrewInside.{AreAtSites, AreDesksOf}
 use Rattle.swift_workers.proofs.Desks.{desk_push, place_of, site_push}
 use Rattle.swift_workers.proofs.Left.{one_longer}
 use Rattle.swift_workers.proofs.Opening.{opened_account, opened_first, opened_maker, opened_next, opened_seat}

@@ -1,7 +1,7 @@
 use Rattle.std.proofs.Common.{◌≡◌, length}
 use Rattle.std.specs.Arc.{arc_value}
 use Rattle.swift_script.specs.Scripts.{executor_count}
-use Rattle.swift_workers.specs.Crew.{AreAtSites, AreDesksOf}
+use Rattle.swift_workers.specs.CrewInside.{AreAtSites, AreDesksOf}
 use Rattle.swift_workers.proofs.Opening.{OpenedFrom}
 use Rattle.swift_workers.proofs.crew.open_all.Given as goal
 

@@ -1,6 +1,6 @@
 use Rattle.std.proofs.Common.{rules, ◌≡◌, ◌∙◌, List, length, refl, sym, subst, ap, arith}
 use Rattle.swift_workers.specs.declared.crew.Hand.{Hand}
-use Rattle.swift_workers.specs.Crew.{AreHandsOf, IsHandOf}
+use Rattle.swift_workers.specs.CrewInside.{AreHandsOf, IsHandOf}
 use Rattle.swift_workers.specs.Leaves.{EachFrom}
 use Rattle.swift_workers.proofs.Desks.{hand_push}
 use Rattle.swift_workers.proofs.Left.{each_push, one_longer}

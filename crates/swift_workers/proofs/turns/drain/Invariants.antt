@@ -1,4 +1,4 @@
-use Rattle.swift_workers.specs.Crew.{IsHandOf}
+use Rattle.swift_workers.specs.CrewInside.{IsHandOf}
 use Rattle.swift_workers.proofs.turns.drain.Given as goal
 
 abbrev pub invariant-loop : goal.invariant-loop

@@ -1,6 +1,6 @@
 use Rattle.std.proofs.Common.{◌≡◌, ℕ, None, Some, ◌++◌, ◌∷◌, [], Option, ap, ◌∙◌, arith, length, set}
 use Rattle.std.proofs.lemmas.List.{get_or_read}
-use Rattle.script_waits.specs.Lists.{last_of}
+use Rattle.script_waits.specs.ListsInside.{last_of}
 use Rattle.script_waits.proofs.Chains.{pushes}
 use Rattle.script_waits.proofs.lists.MethodLists.push.Goals as goal
 

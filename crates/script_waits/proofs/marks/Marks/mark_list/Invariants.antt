@@ -1,4 +1,4 @@
-use Rattle.script_waits.specs.Lists.{end_of}
+use Rattle.script_waits.specs.ListsInside.{end_of}
 use Rattle.script_waits.proofs.Walk.{IsWalk}
 use Rattle.script_waits.proofs.marks.Marks.mark_list.Given as goal
 

@@ -1,5 +1,5 @@
 use Rattle.std.proofs.lemmas.Result.{on_ok_weaker}
-use Rattle.script_waits.specs.Lists.{Has}
+use Rattle.script_waits.specs.ListsInside.{Has}
 use Rattle.script_waits.proofs.Spread.{reaching}
 use Rattle.script_waits.proofs.marks.Marks.reach.Goals as goal
 

@@ -1,4 +1,4 @@
-use Rattle.script_waits.specs.Marks.{left_of}
+use Rattle.script_waits.specs.MarksInside.{left_of}
 use Rattle.script_waits.proofs.Spread.{IsSpreading}
 use Rattle.script_waits.proofs.marks.Marks.spread.Given as goal
 

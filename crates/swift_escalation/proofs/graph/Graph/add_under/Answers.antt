@@ -5,7 +5,7 @@ use Rattle.swift_escalation.specs.declared.graph.TaskEdge.{TaskEdge}
 use Rattle.swift_escalation.proofs.Push.{settled_under, higher_first, chained_push}
 use Rattle.std.proofs.lemmas.List.{with_items_is}
 use Rattle.std.specs.Vec.{with_items}
-use Rattle.swift_escalation.specs.Levels.{AreChained, IsSettled, GraphView, higher}
+use Rattle.swift_escalation.specs.LevelsInside.{AreChained, IsSettled, GraphView, higher}
 use Rattle.swift_types.specs.declared.priority.Priority.{Priority}
 use Rattle.swift_escalation.proofs.graph.Graph.add_under.Goals as goal
 

@@ -2,7 +2,7 @@ use Rattle.std.proofs.Common.{◌≡◌, ℕ, ◌-◌, ◌<◌, [], ◌∷◌, �
 use Rattle.swift_escalation.specs.declared.graph.TaskEdge.{TaskEdge}
 use Rattle.std.proofs.lemmas.List.{with_items_is}
 use Rattle.std.specs.Vec.{with_items}
-use Rattle.swift_escalation.specs.Levels.{AreChained, IsSettled, IsSettledBut, Settling, GraphView, level_of}
+use Rattle.swift_escalation.specs.LevelsInside.{AreChained, IsSettled, IsSettledBut, Settling, GraphView, level_of}
 use Rattle.swift_types.specs.declared.priority.Priority.{Priority}
 use Rattle.std.proofs.lemmas.List.{get_or_read}
 use Rattle.swift_types.specs.declared.priority.Priority.TheVariants.{Background}

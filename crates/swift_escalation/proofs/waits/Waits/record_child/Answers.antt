@@ -2,7 +2,7 @@ use Rattle.swift_types.specs.declared.id.TaskId.{TaskId}
 use Rattle.std.proofs.Common.{ℕ, ◌+◌, ◌<◌, List, Some, [], ◌∷◌, ◌++◌, length, get_or, arith, subst, sym, ap, ◌∙◌, nat_eq, cond, Option}
 use Rattle.std.proofs.lemmas.Option.{slice_get_within}
 use Rattle.swift_escalation.specs.PlacesInside.{place_in}
-use Rattle.swift_escalation.specs.Levels.{GraphView, higher}
+use Rattle.swift_escalation.specs.LevelsInside.{GraphView, higher}
 use Rattle.swift_escalation.specs.Waits.{IsKnown, WaitsView, tasks_of, with_event}
 use Rattle.swift_escalation.specs.WaitsInside.{StandsAt, AreOf}
 use Rattle.swift_types.specs.declared.priority.Priority.TheVariants.{Background}

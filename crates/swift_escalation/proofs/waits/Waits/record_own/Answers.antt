@@ -1,7 +1,7 @@
 use Rattle.swift_types.specs.declared.id.TaskId.{TaskId}
 use Rattle.std.proofs.Common.{ℕ, ◌+◌, List, Some, [], ◌∷◌, ◌++◌, arith, subst, sym, ap, ◌∙◌, nat_eq, cond, Option}
 use Rattle.swift_escalation.specs.PlacesInside.{place_in}
-use Rattle.swift_escalation.specs.Levels.{GraphView}
+use Rattle.swift_escalation.specs.LevelsInside.{GraphView}
 use Rattle.swift_escalation.specs.Waits.{IsKnown, WaitsView}
 use Rattle.swift_escalation.specs.WaitsInside.{AreOf}
 use Rattle.swift_escalation.specs.declared.waits.PriorityEvent.{PriorityEvent}

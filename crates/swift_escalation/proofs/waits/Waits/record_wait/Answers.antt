@@ -2,7 +2,7 @@ use Rattle.swift_types.specs.declared.id.TaskId.{TaskId}
 use Rattle.std.proofs.Common.{ℕ, ◌<◌, List, [], ◌∷◌, ◌++◌, arith, subst, sym, ap, Option, ◌∙◌}
 use Rattle.std.proofs.lemmas.Option.{slice_get_within}
 use Rattle.swift_escalation.specs.PlacesInside.{place_in}
-use Rattle.swift_escalation.specs.Levels.{GraphView, Settling, level_of}
+use Rattle.swift_escalation.specs.LevelsInside.{GraphView, Settling, level_of}
 use Rattle.swift_escalation.specs.Waits.{WaitsView, tasks_of, with_event}
 use Rattle.swift_escalation.specs.WaitsInside.{StandsAt, AreOf}
 use Rattle.swift_escalation.specs.declared.graph.TaskEdge.{TaskEdge}

@@ -1,6 +1,6 @@
 use Rattle.std.proofs.Common.{List, arith, subst, sym, ap}
 use Rattle.swift_escalation.specs.PlacesInside.{place_in}
-use Rattle.swift_escalation.specs.Levels.{GraphView}
+use Rattle.swift_escalation.specs.LevelsInside.{GraphView}
 use Rattle.swift_escalation.specs.WaitsInside.{AreOf}
 use Rattle.swift_escalation.specs.declared.waits.PriorityEvent.{PriorityEvent}
 use Rattle.swift_escalation.proofs.PlaceLemmas.{room_for_fewer}

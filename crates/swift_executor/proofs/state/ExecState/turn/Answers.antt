@@ -5,7 +5,7 @@ use Rattle.swift_interpreter.specs.TurnStates.{exit_view}
 use Rattle.swift_job.specs.Job.{JobView}
 use Rattle.swift_turn.specs.Body.{BodyView}
 use Rattle.swift_history.specs.Jobs.{job_facts}
-use Rattle.swift_executor.specs.Playing.{Applied}
+use Rattle.swift_executor.specs.PlayingInside.{Applied}
 use Rattle.swift_executor.specs.FieldsInside.{FieldsAre}
 use Rattle.swift_executor.specs.State.{ChosenView, ExecStateView, HasChosen, IsChosen, ExecInvariant, IsPlayed, Journals, PutsBack}
 use Rattle.swift_executor.specs.StateInside.{chosen_at, chosen_of, chosen_view}

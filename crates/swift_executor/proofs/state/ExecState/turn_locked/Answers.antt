@@ -8,7 +8,7 @@ use Rattle.std.specs.List.{AllByRecursion}
 use Rattle.swift_script.specs.Scripts.{ScriptView}
 use Rattle.swift_tasks.specs.Books.{IsJobOf}
 use Rattle.swift_history.specs.Jobs.{job_facts}
-use Rattle.swift_executor.specs.Playing.{Applied}
+use Rattle.swift_executor.specs.PlayingInside.{Applied}
 use Rattle.swift_executor.specs.FieldsInside.{FieldsAre}
 use Rattle.swift_executor.specs.State.{ChosenView, EndsTurn, ExecStateView, HasChosen, IsChosen, ExecInvariant, IsPlayed, PutsBack}
 use Rattle.swift_executor.specs.Seats.{IsSeatFor}

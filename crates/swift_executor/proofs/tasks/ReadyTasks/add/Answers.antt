@@ -2,7 +2,7 @@ use Rattle.std.proofs.Common.{List, [], ◌∷◌, ◌++◌, ap, sym, subst, ◌
 use Rattle.std.specs.List.Sorted.{IsPermutation}
 use Rattle.std.proofs.lemmas.List.Sorted.{IsPermutation-sym, IsPermutation-to_front}
 use Rattle.swift_types.specs.declared.id.TaskId.{TaskId}
-use Rattle.swift_executor.specs.Tasks.{ReadyTasksView}
+use Rattle.swift_executor.specs.TasksInside.{ReadyTasksView}
 use Rattle.swift_executor.proofs.tasks.ReadyTasks.add.Goals as goal
 
 pub returns-clause-tasks : goal.returns-clause-tasks

@@ -8,7 +8,7 @@ use Rattle.swift_groups.specs.declared.group.ChildEnding.{ChildEnding}
 use Rattle.swift_groups.specs.Groups.{GroupView, GroupsView, with_ending}
 use Rattle.swift_groups.specs.Answers.{if_unfinished, accepted}
 use Rattle.swift_groups.specs.Inside.{ended_of}
-use Rattle.swift_groups.specs.Keys.{same_key, unended}
+use Rattle.swift_groups.specs.KeysInside.{same_key, unended}
 use Rattle.swift_groups.proofs.Links.{ended_push_same, ended_push_other}
 use Rattle.swift_groups.proofs.Children.{mark_unended, unended_mark, mark_written}
 use Rattle.swift_groups.proofs.FieldsKept.{are_groups_ended, ending_fits}

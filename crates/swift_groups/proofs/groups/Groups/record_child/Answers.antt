@@ -4,7 +4,7 @@ use Rattle.swift_types.specs.declared.id.TaskId.{TaskId}
 use Rattle.swift_groups.specs.declared.group.Child.{Child}
 use Rattle.swift_groups.specs.Groups.{GroupsView, with_child}
 use Rattle.swift_groups.specs.Inside.{added_of}
-use Rattle.swift_groups.specs.Keys.{same_key}
+use Rattle.swift_groups.specs.KeysInside.{same_key}
 use Rattle.swift_groups.proofs.Children.{added_push_same, added_push_other, mark_fresh, mark_written}
 use Rattle.swift_groups.proofs.FieldsKept.{are_groups_added, unfinished_le}
 use Rattle.swift_groups.proofs.Calls.{seen, found_open, refused_open, changed, groups_are, without, new_from, not_refused}

@@ -4,7 +4,7 @@ use Rattle.swift_groups.specs.declared.group.Group.{Group}
 use Rattle.swift_groups.specs.Groups.{GroupsView}
 use Rattle.swift_groups.specs.Inside.{added_of, ended_of}
 use Rattle.swift_groups.specs.GroupsInside.{AreGroups}
-use Rattle.swift_groups.specs.Keys.{same_key}
+use Rattle.swift_groups.specs.KeysInside.{same_key}
 use Rattle.swift_groups.proofs.Views.{length_view}
 use Rattle.swift_groups.proofs.FieldsKept.{are_groups_opened}
 use Rattle.swift_groups.proofs.Calls.{opened, groups_are}

@@ -1,7 +1,7 @@
 use Rattle.std.proofs.Common.{◌<◌, subst, sym, arith}
 use Rattle.swift_log.specs.Logs.{LogView}
-use Rattle.swift_ledger.specs.WellFormed.{IsWellFormed}
-use Rattle.swift_ledger.specs.Indexes.{AreIndexes, HasSpare}
+use Rattle.swift_ledger.specs.WellFormedInside.{IsWellFormed}
+use Rattle.swift_ledger.specs.IndexesInside.{AreIndexes, HasSpare}
 use Rattle.swift_ledger.specs.declared.indexes.Indexes.{Indexes}
 use Rattle.swift_ledger.proofs.FormLemmas.{form_none}
 use Rattle.swift_ledger.proofs.ledger.Ledger.new.Goals as goal

@@ -4,8 +4,8 @@ use Rattle.swift_events.specs.Events.{task_of}
 use Rattle.swift_events.specs.Lives.{life_of, room_held}
 use Rattle.swift_events.specs.Room.{reserved_of}
 use Rattle.swift_ledger.specs.Ledgers.{LedgerView, CanNote}
-use Rattle.swift_ledger.specs.WellFormed.{IsWellFormed}
-use Rattle.swift_ledger.specs.Indexes.{AreIndexes, HasSpare}
+use Rattle.swift_ledger.specs.WellFormedInside.{IsWellFormed}
+use Rattle.swift_ledger.specs.IndexesInside.{AreIndexes, HasSpare}
 use Rattle.swift_ledger.specs.LevelsInside.{KeepsLevels}
 use Rattle.swift_ledger.proofs.FormLemmas.{form_push, reserved_push}
 use Rattle.swift_ledger.proofs.ledger.Ledger.note_other.Goals as goal

@@ -1,6 +1,6 @@
 use Rattle.std.specs.HashMap.{get}
-use Rattle.swift_ledger.specs.Counts.{count_at}
-use Rattle.swift_ledger.specs.Lists.{same_place}
+use Rattle.swift_ledger.specs.CountsInside.{count_at}
+use Rattle.swift_ledger.specs.ListsInside.{same_place}
 use Rattle.swift_ledger.proofs.ListLemmas.{kept_pushed}
 use Rattle.swift_ledger.proofs.lists.TaskLists.push.Goals as goal
 

@@ -10,7 +10,7 @@ use Rattle.swift_tasks.specs.Books.{BookView}
 use Rattle.swift_history.specs.Jobs.{job_facts}
 use Rattle.swift_book_steps.specs.Calls.{facts_of}
 use Rattle.swift_shared_book.specs.Shared.{OpenSeatView, newest, tickets_view}
-use Rattle.swift_shared_book.specs.Steps.{MayGiveBack, knowing_record}
+use Rattle.swift_shared_book.specs.StepsInside.{MayGiveBack, knowing_record}
 use Rattle.swift_shared_book.proofs.RuleKept.{IsPlayedIn, applies, jobs_made, no_fewer, tickets_after}
 use Rattle.swift_shared_book.proofs.Shapes.{has_tickets}
 use Rattle.swift_shared_book.proofs.shared.BookLock.apply.Goals as goal

@@ -1,6 +1,6 @@
 use Rattle.std.proofs.Common.{sym, subst}
 use Rattle.swift_book_steps.specs.Calls.{facts_of}
-use Rattle.swift_shared_book.specs.Steps.{KnowsRoot, MayGiveBack}
+use Rattle.swift_shared_book.specs.StepsInside.{KnowsRoot, MayGiveBack}
 use Rattle.swift_shared_book.specs.declared.opened.OpenBook.{OpenBook}
 use Rattle.swift_shared_book.proofs.RuleKept.{unlocks}
 use Rattle.swift_shared_book.proofs.shared.BookLock.give_root.Goals as goal

@@ -8,7 +8,7 @@ use Rattle.swift_turn.specs.declared.step.Step.{Step}
 use Rattle.swift_turn.specs.declared.step.Step.TheVariants.{Run}
 use Rattle.swift_turn.specs.Body.{BodyView, at_rest, GoesOn, AdvancesTo, CanAdvance}
 use Rattle.swift_ledger.specs.Ledgers.{LedgerView}
-use Rattle.swift_tasks.specs.Applying.{CanApply, went_on, next_of}
+use Rattle.swift_tasks.specs.ApplyingInside.{CanApply, went_on, next_of}
 use Rattle.swift_tasks.specs.BookInvariant.{held_views}
 use Rattle.swift_tasks.specs.Books.{BookView, IsEndOf}
 use Rattle.swift_history.specs.Jobs.{job_facts}

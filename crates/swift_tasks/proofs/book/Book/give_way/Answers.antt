@@ -6,7 +6,7 @@ use Rattle.swift_interpreter.specs.Turn.{yielding}
 use Rattle.swift_job.specs.Job.{JobView}
 use Rattle.swift_turn.specs.Body.{BodyView, at_rest}
 use Rattle.swift_ledger.specs.Ledgers.{LedgerView}
-use Rattle.swift_tasks.specs.Applying.{CanApply, went_on, next_of}
+use Rattle.swift_tasks.specs.ApplyingInside.{CanApply, went_on, next_of}
 use Rattle.swift_tasks.specs.BookInvariant.{held_views}
 use Rattle.swift_tasks.specs.Books.{BookView, IsEndOf}
 use Rattle.swift_history.specs.Jobs.{job_facts}

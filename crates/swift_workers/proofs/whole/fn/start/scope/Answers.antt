@@ -1,7 +1,7 @@
 use Rattle.std.proofs.Common.{subst, List}
 use denote.Param.Send.{sendable}
 use Rattle.swift_workers.specs.declared.crew.Hand.{Hand}
-use Rattle.swift_workers.specs.Crew.{AreHandsOf}
+use Rattle.swift_workers.specs.CrewInside.{AreHandsOf}
 use Rattle.swift_workers.proofs.CrossesThreads.{crew_send, hand_send}
 use Rattle.swift_workers.proofs.Desks.{last_hand}
 use Rattle.swift_workers.proofs.whole.fn.start.scope.Goals as goal

@@ -1,5 +1,5 @@
 use Rattle.std.proofs.Common.{vec_len}
-use Rattle.swift_workers.specs.Crew.{AreHandsOf}
+use Rattle.swift_workers.specs.CrewInside.{AreHandsOf}
 use Rattle.swift_workers.proofs.whole.fn.start.scope.Given as goal
 
 abbrev pub invariant-loop-hand : goal.invariant-loop-hand

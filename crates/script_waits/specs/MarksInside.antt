@@ -1,6 +1,6 @@
 -- What is marked, and what is still pending. No public clause names these.
 use Rattle.std.specs.Prelude.{◌≡◌, ℕ, ◌+◌, ◌≤◌, ◌⊎◌, true, false, not, length, slice_index_or, count_by, vec_len, Contains}
-use Rattle.script_waits.specs.Lists.{Has}
+use Rattle.script_waits.specs.ListsInside.{Has}
 use Rattle.script_waits.specs.declared.lists.MethodLists.{MethodLists}
 use Rattle.script_waits.specs.declared.marks.Marks.{Marks}
 

@@ -12,7 +12,7 @@ use Rattle.swift_events.specs.declared.event.Event.TheVariants.{Root, Free, Open
 use Rattle.swift_events.specs.Events.{events_of}
 use Rattle.swift_events.specs.Lives.{life_of}
 use Rattle.swift_events.specs.Relations.{opened_by, is_open_group, children_of, endings_of, asked_of, is_closed, is_named_group, stage_of, parent_of, of_parent}
-use Rattle.swift_ledger.specs.Counts.{count_at, HasPlaces}
+use Rattle.swift_ledger.specs.CountsInside.{count_at, HasPlaces}
 use Rattle.swift_ledger.specs.declared.group_index.GroupNotes.{GroupNotes}
 use Rattle.swift_ledger.specs.declared.group_index.GroupIndex.{GroupIndex}
 

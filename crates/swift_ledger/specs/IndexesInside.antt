@@ -2,13 +2,13 @@
 use Rattle.std.specs.Prelude.{◌≡◌, ℕ, ◌≤◌, List}
 use Rattle.swift_events.specs.declared.event.Event.{Event}
 use Rattle.swift_events.specs.Relations.{own_tasks, waiters_of, links_of}
-use Rattle.swift_ledger.specs.Lives.{AreLives}
-use Rattle.swift_ledger.specs.Lives as lives
-use Rattle.swift_ledger.specs.Flags.{AreFlags}
-use Rattle.swift_ledger.specs.Flags as flags
-use Rattle.swift_ledger.specs.Lists.{AreLists}
-use Rattle.swift_ledger.specs.Lists as lists
-use Rattle.swift_ledger.specs.GroupIndexes.{AreGroupsOf}
+use Rattle.swift_ledger.specs.LivesInside.{AreLives}
+use Rattle.swift_ledger.specs.LivesInside as lives
+use Rattle.swift_ledger.specs.FlagsInside.{AreFlags}
+use Rattle.swift_ledger.specs.FlagsInside as flags
+use Rattle.swift_ledger.specs.ListsInside.{AreLists}
+use Rattle.swift_ledger.specs.ListsInside as lists
+use Rattle.swift_ledger.specs.GroupIndexesInside.{AreGroupsOf}
 use Rattle.swift_ledger.specs.declared.indexes.Indexes.{Indexes}
 
 -- each index is what the log gives

@@ -26,11 +26,11 @@ use Rattle.swift_history.specs.Checks.{counters, fits_turn}
 use Rattle.swift_history.specs.Histories.{begun_priority}
 use Rattle.swift_history.specs.TurnEnds.{JobFacts, WaitingTaskView, AfterTurn, TurnEnd, turn_end, log_after, exit_events, followed, resume_at, task}
 use Rattle.swift_tasks.specs.declared.held.WaitingTask.{WaitingTask}
-use Rattle.swift_tasks.specs.Bodies.{AreBodiesOf}
+use Rattle.swift_tasks.specs.BodiesInside.{AreBodiesOf}
 use Rattle.swift_tasks.specs.BookInvariant.{held_views}
 use Rattle.swift_tasks.specs.Books.{BookView, HoldsWaiting}
 use Rattle.swift_history.specs.Jobs.{job_facts}
-use Rattle.swift_tasks.specs.Counted.{UnopenedAreNotClosed}
+use Rattle.swift_tasks.specs.CountedInside.{UnopenedAreNotClosed}
 use Rattle.swift_tasks.specs.Refusals.{refusal_of_apply}
 
 -- a task that is named is there

@@ -1,7 +1,7 @@
 -- What the lists and the marks of a search stand for. No public clause names these.
 use Rattle.std.specs.Prelude.{◌≡◌, ℕ, ◌≤◌, ◌<◌, List, Option, None, Some, min, vec_len, Contains}
 use Rattle.script_waits.specs.Waits.{Leads, WaitsForLater}
-use Rattle.script_waits.specs.Marks.{IsMarked, count_of}
+use Rattle.script_waits.specs.MarksInside.{IsMarked, count_of}
 use Rattle.script_waits.specs.declared.first.CallEdge.{CallEdge}
 use Rattle.script_waits.specs.declared.first.RootWait.{RootWait}
 use Rattle.script_waits.specs.declared.marks.Marks.{Marks}

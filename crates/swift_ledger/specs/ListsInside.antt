@@ -2,7 +2,7 @@
 use Rattle.std.specs.Prelude.{◌≡◌, ℕ, ◌<◌, ◌≤◌, Bool, if◌then◌else◌, ◌==◌, ◌&&◌, nat_eq, Option, List, [], ◌∷◌, ◌++◌, length, slice_get}
 use Rattle.std.specs.HashMap.{get, spare}
 use Rattle.swift_types.specs.declared.id.TaskId.{TaskId}
-use Rattle.swift_ledger.specs.Counts.{count_at, HasPlaces}
+use Rattle.swift_ledger.specs.CountsInside.{count_at, HasPlaces}
 use Rattle.swift_ledger.specs.declared.lists.TaskLists.{TaskLists}
 
 abbrev pub same_place : TaskId × ℕ → TaskId × ℕ → Bool
