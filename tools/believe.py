@@ -3,7 +3,9 @@
 
     tools/believe.py                    those of IsRunOf of swift_tool, which says what a text of a run is
     tools/believe.py CRATE NAME         those of another definition
-    tools/believe.py --check            whether the README gives the numbers of the first form
+    tools/believe.py --check            whether the README gives the numbers of the first form, and whether each file of specs/ that no
+                                        public clause names, nor a definition that one names, has Inside or Invariant in its name,
+                                        and no other
 
 A reader who believes these definitions, and the toolchain, knows what the theorem says. A definition is one of specs/, or a type of
 src/ that contracts see: its declaration or, where contracts see it as another value, the type of that value, whose making from the
@@ -178,7 +180,90 @@ def numbers(parts):
     return len(parts), len(files), sum(len(part.lines) for part in parts)
 
 
+# A clause of a function, and where its braces begin.
+CLAUSE = re.compile(r"\b(?:requires|ensures)\*?(?:\s+\*?\w+)?\s*\{|\bghost\s+\w+\s*:\s*\{")
+
+
+def closed(text, at):
+    """The place after the brace that closes the one at a place."""
+    depth = 0
+    for place in range(at, len(text)):
+        depth += {"{": 1, "}": -1}.get(text[place], 0)
+        if depth == 0:
+            return place + 1
+    return len(text)
+
+
+def clauses(text, at):
+    """The texts of the clauses of a function whose head begins at a place."""
+    while True:
+        found, body = CLAUSE.search(text, at), text.find("{", at)
+        if found is None or found.end() - 1 != body:
+            return
+        at = closed(text, body)
+        yield text[body:at]
+
+
+def sources_of(crate):
+    """The files of a crate's code, and their texts without comments."""
+    for at, _, files in os.walk(os.path.join(CRATES, crate, "src")):
+        for file in sorted(files):
+            if file.endswith(".rt"):
+                path = os.path.join(at, file)
+                yield path, re.sub(r"//[^\n]*", "", "\n".join(lines_of(path)))
+
+
+def exported_by(crate):
+    """The names that a `pub use` of a crate has."""
+    lists = (use for _, text in sources_of(crate) for use in re.findall(r"(?m)^\s*pub use ([^;]+);", text))
+    return {name for use in lists for name in re.findall(r"\w+", use)}
+
+
+def public_clauses(crate):
+    """The clauses of a library's public functions, each with its file. Public is what a `pub use` names, and what is in a public module."""
+    texts = dict(sources_of(crate))
+    root = os.path.join(CRATES, crate, "src", "lib.rt")
+    if root not in texts:
+        return
+    exported = exported_by(crate)
+    modules = {name for text in texts.values() for name in re.findall(r"(?m)^\s*pub mod (\w+);", text)}
+    for path, text in texts.items():
+        is_open = path == root or os.path.basename(path)[: -len(".rt")] in modules
+        impls = re.finditer(r"(?m)^(?:unsafe )?impl(?:<[^{]*?>)? (?:[\w:<>', ]+ for )?&?(?:'\w+ )?(\w+)[^{]*\{", text)
+        impls = [(it.start(), closed(text, it.end() - 1), it[1], " for " in it[0]) for it in impls]
+        for found in re.finditer(r"(?m)^ *(pub )?(?:const )?(?:unsafe )?fn (\w+)", text):
+            inside = [it for it in impls if it[0] <= found.start() < it[1]]
+            of, is_trait = (inside[-1][2], inside[-1][3]) if inside else (found[2], False)
+            if (found[1] or is_trait) and (of in exported or is_open):
+                for clause in clauses(text, found.end()):
+                    yield path, clause
+
+
+def misnamed():
+    """The files of specs/ whose names say the opposite of what public clauses do."""
+    closure = Closure()
+    for crate in sorted(os.listdir(CRATES)):
+        for path, clause in public_clauses(crate):
+            part = Part(path, 0, "")
+            part.lines.append(clause)
+            work = closure.named_in(Source(path), part)
+            for file, named in filter(None, work):
+                closure.follow(file, named)
+        for source in closure.sources.get(crate, []):
+            for part in source.parts.values():
+                if part.name in exported_by(crate):
+                    closure.follow(source, part)
+    for file in closure.specs.values():
+        for path in {part.path for part in file.parts.values()}:
+            named = any((part.path, part.name) in closure.found for part in file.parts.values())
+            if named == bool(re.search(r"/specs/.*(?:Inside|Invariant)", path)):
+                yield f"{os.path.relpath(path, TOP)}: {'a' if named else 'no'} public clause rests on it"
+
+
 def check():
+    wrong = sorted(misnamed())
+    if wrong:
+        sys.exit("\n".join(wrong))
     definitions, files, lines = numbers(rests_on(*FIRST))
     said = f"{definitions} definitions in {files} files, {lines:,} lines"
     with open(os.path.join(TOP, "README.md"), encoding="utf8") as readme:
