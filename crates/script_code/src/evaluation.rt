@@ -21,7 +21,7 @@ pub fn value(formula: &Formula, sight: Sight<'_>) -> Option<i64>
     evaluate(formula, &sight)
 }
 
-// The same, over one reference, which is cheaper to hand on to each operand.
+// The value of a formula, with what it reads by reference, which is cheaper to hand on to each operand.
 fn evaluate(formula: &Formula, sight: &Sight<'_>) -> Option<i64>
     ensures { result ≡ ev (term_of formula.now) (scene_of sight.now) }
 {

@@ -64,6 +64,7 @@ abbrev pub members_from : PlanView → ℕ → ℕ → List ActorTree → List �
 members_from p e k [] = []
 members_from p e k (a ∷ others) = if executor_at p k == e then k ∷ members_from p e (suc k) others else members_from p e (suc k) others
 
+-- the numbers of the actors that run on executor e, in text order
 abbrev pub members_of : PlanView → ℕ → List ActorTree → List ℕ
 members_of p e actors = members_from p e 0 actors
 
@@ -91,6 +92,7 @@ abbrev pub actors_from : PlanView → ℕ → List ActorTree → List ActorView
 actors_from p k [] = []
 actors_from p k (a ∷ others) = actor_of p k a ∷ actors_from p (suc k) others
 
+-- what a method of the actor at place k is compiled to
 abbrev pub method_of : PlanView → ℕ → MethodTree → MethodView
 method_of p k m = record {
   name = m.name;
@@ -106,9 +108,11 @@ abbrev pub methods_from : PlanView → ℕ → List ActorTree → List MethodVie
 methods_from p k [] = []
 methods_from p k (a ∷ others) = map (method_of p k) a.methods ++ methods_from p (suc k) others
 
+-- what a root is compiled to: its method has a number in place of its name
 abbrev pub root_of : PlanView → RootTree → RootView
 root_of p r = record { name = r.name; method = method_place p.directory r.actor r.method; args = r.args; priority = r.priority }
 
+-- what a script is compiled to, by a plan
 abbrev pub compiled_by : PlanView → ScriptView → CompiledView
 compiled_by p tree = record {
   executors = executors_from p tree.actors 0 (tree.executors ++ own_executors tree.actors);

@@ -16,6 +16,7 @@ use Rattle.script_compiler.specs.declared.compiled.CompiledRoot.{CompiledRoot}
 use Rattle.script_compiler.specs.declared.compiled.Compiled.{Compiled}
 use Rattle.script_compiler.specs.Compiled.{ExecutorView, ActorView, MethodView, RootView, CompiledView, invariants_among}
 
+-- an actor's number, as a number
 abbrev pub actor_number : ActorId → ℕ
 actor_number a = a.0
 
@@ -23,15 +24,19 @@ actor_number a = a.0
 abbrev pub executor_view : CompiledExecutor → ExecutorView
 executor_view x = record { name = x.name.items; kind = x.kind; actors = map actor_number x.actors.items }
 
+-- the view of a task local of the code
 abbrev pub local_view : CompiledLocal → LocalTree
 local_view l = record { name = l.name.items; default = l.default }
 
+-- the view of a field of the code
 abbrev pub field_view : CompiledField → FieldTree
 field_view f = record { name = f.name.items; start = f.start }
 
+-- the view of an actor of the code
 abbrev pub actor_view : CompiledActor → ActorView
 actor_view a = record { name = a.name.items; executor = a.executor.0; fields = map field_view a.fields.items; invariant = term_if a.invariant }
 
+-- the view of a root of the code
 abbrev pub root_view : CompiledRoot → RootView
 root_view r = record { name = r.name.items; method = r.method.0; args = r.args.items; priority = r.priority }
 

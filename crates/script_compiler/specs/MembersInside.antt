@@ -5,12 +5,12 @@ use Rattle.script_grammar.specs.Tree.{ExecutorTree, DeclTree, Acts}
 use Rattle.script_lowering.specs.Plan.{PlanView, executor_at}
 use Rattle.script_compiler.specs.Compiled.{ExecutorView, MethodView, method_of}
 
--- of so many actors from number k on, the numbers of those that run on an executor
+-- of as many actors as the last number says, from number k on, the numbers of those that run on executor e
 abbrev pub members_below : PlanView → ℕ → ℕ → ℕ → List ℕ
 members_below p e k zero = []
 members_below p e k (suc n) = if executor_at p k == e then k ∷ members_below p e (suc k) n else members_below p e (suc k) n
 
--- executors from number e on, where there are so many actors
+-- executors from number e on, where there are n actors
 abbrev pub executors_by : PlanView → ℕ → ℕ → List ExecutorTree → List ExecutorView
 executors_by p n e [] = []
 executors_by p n e (x ∷ xs) = record { name = x.name; kind = x.kind; actors = members_below p e 0 n } ∷ executors_by p n (suc e) xs

@@ -7,6 +7,7 @@ use Rattle.script_compiler.specs.Compiled.{ActorView, CompiledView, members_if}
 abbrev pub start_of : ActorView → List ℤ
 start_of a = map (λ f. f.start) a.fields
 
+-- what an actor's fields start with, where there is one, and else nothing
 abbrev pub start_if : Option ActorView → List ℤ
 start_if None = []
 start_if (Some a) = start_of a

@@ -52,6 +52,7 @@ wait_for m (Some r) = record { method = m; root = r } ∷ []
 abbrev pub edges_made : ℕ → Operation → List CallEdge
 edges_made m d = edge_to m (method_called d)
 
+-- the waits for roots that an operation of method m makes: one at most
 abbrev pub waits_made : ℕ → Operation → List RootWait
 waits_made m d = wait_for m (root_awaited d)
 
@@ -60,9 +61,11 @@ abbrev pub made_by : {A : Type 0} → (ℕ → Operation → List A) → ℕ →
 made_by made m [] = []
 made_by made m (x ∷ others) = flat_map (made m) (operations_in x.code) ++ made_by made (suc m) others
 
+-- the edges of a script: from each method to those that it calls, spawns, detaches or adds
 abbrev pub edges_of : CompiledView → List CallEdge
 edges_of c = made_by edges_made 0 c.methods
 
+-- the waits of a script: of each method for the roots that it waits for
 abbrev pub waits_of : CompiledView → List RootWait
 waits_of c = made_by waits_made 0 c.methods
 

@@ -18,7 +18,7 @@ use script_lowering::Plan;
 use std::alloc::{AllocError, Global};
 use swift_types::{ActorId, ExecutorKind};
 
-// The actors of an executor, of so many actors.
+// The actors of an executor, among the first `actors` of the script.
 fn members(
     alloc: Global,
     plan: &Plan,

@@ -74,7 +74,7 @@ fn rows(
     Ok(rows)
 }
 
-// The same for each executor.
+// What the fields of each executor's actors start with.
 fn all_rows(
     alloc: Global,
     executors: &[CompiledExecutor],

@@ -120,7 +120,7 @@ fn methods_of(alloc: Global, roots: &[CompiledRoot]) -> Result<Vec<u32>, AllocEr
     Ok(methods)
 }
 
-// A count that is past each method of some edges.
+// A count that is past each method of some edges, and at least `least`.
 fn past_edges(edges: &[CallEdge], least: usize) -> usize
     ensures least { least ≤ result }
     ensures from { All (λ e. e.from < result) edges.now }
@@ -134,7 +134,7 @@ fn past_edges(edges: &[CallEdge], least: usize) -> usize
     count
 }
 
-// The same for waits.
+// A count that is past each method of some waits, and at least `least`.
 fn past_waits(waits: &[RootWait], least: usize) -> usize
     ensures least { least ≤ result }
     ensures method { All (λ w. w.method < result) waits.now }

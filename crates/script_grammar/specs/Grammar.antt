@@ -51,7 +51,7 @@ abbrev pub has_every_atom : Atoms → Bool
 has_every_atom Every = true
 has_every_atom Plain = false
 
--- Spells atoms opens level tokens tree: the tokens spell the tree, with at most so many parentheses open at once.
+-- Spells atoms opens level tokens tree: the tokens spell the tree, with at most `opens` parentheses open at once.
 -- Level 0 is an atom after prefixes; level n + 1 is operands of level n between operators of precedence n + 1.
 pub data SpellsExpr (atoms : Atoms) : ℕ → ℕ → List TokenView → ExprTree → Type 0 where
   number : {o : ℕ} (n : _) → SpellsExpr atoms o zero (Num n ∷ []) (Number n)
@@ -69,7 +69,7 @@ pub data SpellsExpr (atoms : Atoms) : ℕ → ℕ → List TokenView → ExprTre
   -- A comparison has two operands, neither of which is a comparison outside a parenthesis.
   compared : {o k : ℕ} {ls rs : List TokenView} {a b : ExprTree} (op : Operator) → suc k ≡ precedence_of op → suc k ≡ 3 → SpellsExpr atoms o k ls a → SpellsExpr atoms o k rs b → SpellsExpr atoms o (suc k) (ls ++ Sign (mark_of op) ∷ rs) (Both op a b)
 
--- Tokens are an expression: they spell a tree no higher than the limit, with at most so many parentheses open at once.
+-- Tokens are an expression: they spell a tree no higher than `limit`, with at most `opens` parentheses open at once.
 pub record IsExpression (atoms : Atoms) (limit opens : ℕ) (tokens : List TokenView) (tree : ExprTree) : Type 0 where
   pub spelled : SpellsExpr atoms opens 5 tokens tree
   pub low : height_of tree ≤ limit
@@ -192,7 +192,7 @@ pub data SpellsHead (limit : ℕ) (r : Region) : List TokenView → HeadTree →
   groups : (n : List ℕ) → may_act r ≡ true → SpellsHead limit r (Key key.Group ∷ Name n ∷ []) (Group n) region.Group
   assumes : (n : List ℕ) → SpellsHead limit r (Key key.Assume ∷ Name n ∷ []) (Assume n) region.Assume
 
--- Statements, with at most so many further blocks open at once.
+-- Statements of a region, with at most as many further blocks open at once as the number after the region says.
 mutual
   pub data SpellsStmt (limit : ℕ) : Region → ℕ → List TokenView → StmtTree → Type 0 where
     does : {r : Region} {o : ℕ} {ts : List TokenView} {a : ActionTree} → SpellsAction limit r ts a → SpellsStmt limit r o ts (Do a)

@@ -7,7 +7,7 @@ use Rattle.script_names.specs.Directory.{DirectoryView, method_place}
 use Rattle.script_code.specs.Tree.{CallTarget, Wanted, call, Operation, wait, spawn, detach, add, Code}
 use Rattle.script_lowering.specs.Parts.{EachPart}
 
--- A call of a method of an actor, both by their numbers, with so many arguments: the actor is there, the method is one of
+-- A call of a method of an actor, both by their numbers, with `count` arguments: the actor is there, the method is one of
 -- that actor's, and it has as many parameters.
 pub record IsDeclaredCall (d : DirectoryView) (actor method count : ℕ) : Type 0 where
   pub actor_there : actor < length d.actors

@@ -33,7 +33,7 @@ counts_within c (Group n) = counted c kind.Group
 counts_within c _ = c
 
 abbrev mutual
-  -- how many stand at most in a statement, where so many stand before it
+  -- how many there are at most in a statement, where there are `c` before it
   pub most_in : PlaceCounts → StmtTree → PlaceCounts
   most_in c (Do a) = counts_after c (Do a)
   most_in c (Headed h b) = most_of (counts_within c h) b

@@ -56,7 +56,7 @@ NextMatches Rest held ends = Unit {0}
 NextMatches Rest held (does d rest) = OperationMatches held d × Rest (held_after d held) rest
 NextMatches Rest held (tests t a b) = Rest held a × Rest held b
 
--- So it is of the next so many statements and tests of the code.
+-- So it is of the next `n` statements and tests of the code, where n is the number that comes first.
 abbrev pub HandlesMatch : ℕ → Held → Code → Type 0
 HandlesMatch zero held body = Unit {0}
 HandlesMatch (suc n) held body = NextMatches (HandlesMatch n) held (first body)

@@ -34,6 +34,7 @@ is_handle kind.Group = true
 abbrev pub numbers_in : ScopeView → ℕ
 numbers_in s = count_by is_number s.kinds
 
+-- how many handles stand there: the place of the next one
 abbrev pub handles_in : ScopeView → ℕ
 handles_in s = count_by is_handle s.kinds
 
@@ -41,6 +42,7 @@ handles_in s = count_by is_handle s.kinds
 abbrev pub number_place : ScopeView → List ℕ → ℕ
 number_place s name = count_by is_number (take (place_of s.names name) s.kinds)
 
+-- the place of a handle among the handles that stand there, the oldest first
 abbrev pub handle_place : ScopeView → List ℕ → ℕ
 handle_place s name = count_by is_handle (take (place_of s.names name) s.kinds)
 
@@ -72,6 +74,7 @@ lowered p s (Negated a) = code.opposite (lowered p s a)
 lowered p s (Inverted a) = code.denial (lowered p s a)
 lowered p s (Both o a b) = code.binary o (lowered p s a) (lowered p s b)
 
+-- an expression with places for names, where there is one
 abbrev pub lowered_if : PlanView → ScopeView → Option ExprTree → Option Term
 lowered_if p s None = None
 lowered_if p s (Some t) = Some (lowered p s t)
@@ -85,6 +88,7 @@ abbrev pub task_named : ScopeView → List ℕ → Option NameKind → Wanted
 task_named s name (Some kind.Task) = code.task (handle_place s name)
 task_named s name _ = code.root (place_of s.directory.roots name)
 
+-- what is waited for, with numbers for names
 abbrev pub wanted_of : PlanView → ScopeView → AwaitedTree → Wanted
 wanted_of p s (Called c) = code.call (target_of p s c)
 wanted_of p s (TaskOf name) = task_named s name (meaning_of s name)
@@ -99,6 +103,7 @@ abbrev pub set_at : NumberPlace → Term → Operation
 set_at (Variable k) t = code.set_variable k t
 set_at (Field f) t = code.set_field f t
 
+-- a value is set to a place: that of an expression at once, or what a wait gives
 abbrev pub value_to : PlanView → ScopeView → NumberPlace → ValueTree → Code
 value_to p s place (Computed t) = act (set_at place (lowered p s t)) end
 value_to p s place (Waited w) = wait_to p s (Some place) w

@@ -29,6 +29,7 @@ executors_from declared own [] = []
 executors_from declared own (Acts a ∷ xs) = on_executor declared own a.executor (λ next. executors_from declared next xs)
 executors_from declared own (_ ∷ xs) = executors_from declared own xs
 
+-- the plan of these declarations
 abbrev pub plan_of : List DeclTree → PlanView
 plan_of decls = record { directory = directory_of decls; defaults = defaults_in decls; executors = executors_from (executors_in decls) (length (executors_in decls)) decls }
 
@@ -41,6 +42,7 @@ executor_at p actor = unwrap_or (slice_get p.executors actor) 0
 abbrev pub actor_place_in : List ℕ → ℕ → ℕ
 actor_place_in executors actor = count_by (λ e. e == unwrap_or (slice_get executors actor) 0) (take actor executors)
 
+-- the place of an actor among the actors of its executor, by a plan
 abbrev pub actor_place_of : PlanView → ℕ → ℕ
 actor_place_of p actor = actor_place_in p.executors actor
 

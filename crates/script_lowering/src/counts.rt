@@ -78,8 +78,8 @@ fn most_in(counts: PlaceCounts, stmt: &Stmt) -> Result<PlaceCounts, AllocError>
     }
 }
 
-/// How many numbers and handles stand at most in the statements of a block, where so many stand before it, in time linear
-/// in these and in all within them.
+/// How many numbers and handles there are at most in the statements of a block, where there are `counts` before it, in time
+/// linear in the statements and in all within them.
 #[cycle(most)]
 pub(crate) fn most_of(counts: PlaceCounts, block: &[Stmt]) -> Result<PlaceCounts, AllocError>
     ensures { IfOk result (λ c. c ≡ most_of counts (block_tree (map view_stmt block.now))) }

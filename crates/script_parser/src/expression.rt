@@ -181,7 +181,7 @@ fn atom(
     }
 }
 
-// An atom after at most so many further prefixes, the first of which stands at `first`.
+// An atom after at most `prefixes` further prefixes, the first of which stands at `first`.
 #[cycle(expression)]
 #[tactic(auto, unfolding(crate::specs::Model::Expressions::unary_at))]
 fn unary<'a>(
@@ -248,7 +248,7 @@ fn level(
     Ok((left, rest))
 }
 
-// At most so many further operands, each after an operator of one precedence.
+// At most `most` further operands, each after an operator of this precedence.
 #[cycle(expression)]
 #[tactic(auto, unfolding(crate::specs::Model::Expressions::operands_at))]
 fn operands(
@@ -276,7 +276,7 @@ fn operands(
     Ok((left, rest))
 }
 
-// What stands in the parenthesis at `paren`, where so many may be opened.
+// What stands in the parenthesis at `paren`, where `opens` parentheses may still be opened, this one among them.
 #[cycle(expression)]
 #[tactic(auto, unfolding(crate::specs::Model::Expressions::inside_at))]
 fn inside<'a>(
@@ -294,7 +294,7 @@ fn inside<'a>(
     level(alloc, atoms, opens - 1, 5, tokens)
 }
 
-// An expression at the front, within so many further parentheses.
+// An expression at the front, in which at most `opens` parentheses are open at once.
 pub(crate) fn expr(
     alloc: Global,
     atoms: Atoms,

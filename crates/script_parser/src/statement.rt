@@ -55,7 +55,7 @@ fn head_part(alloc: Global, tokens: TokenSlice<'_>) -> Result<(Head, TokenSlice<
     }
 }
 
-// The same, where it may stand.
+// What stands in front of a block, in a region in which it may stand.
 #[tactic(auto, unfolding(crate::specs::Model::Statements::head_at))]
 fn head(
     alloc: Global,
@@ -106,7 +106,7 @@ fn head_and_block(
     Ok((Stmt::Block(head, body), rest))
 }
 
-// One statement, where so many blocks may still be opened.
+// One statement, where `blocks` blocks may still be opened.
 #[cycle(statement)]
 #[tactic(auto, unfolding(crate::specs::Model::Statements::stmt_at))]
 fn stmt(
@@ -176,7 +176,7 @@ fn statements(
     Err(refusal(Kind::EndsEarly, rest))
 }
 
-// A block, where so many may still be opened.
+// A block, where `blocks` blocks may still be opened, itself among them.
 #[cycle(statement)]
 #[tactic(auto, unfolding(crate::specs::Model::Statements::block_at))]
 pub(crate) fn block(

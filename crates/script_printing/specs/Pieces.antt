@@ -29,6 +29,7 @@ abbrev pub pieces_of_int : ℤ → List TokenView
 pieces_of_int (pos n) = Num (pos n) ∷ []
 pieces_of_int (negsuc n) = Sign mark.Minus ∷ Num (pos (suc n)) ∷ []
 
+-- a name is one token
 abbrev pub pieces_of_name : List ℕ → List TokenView
 pieces_of_name w = Name w ∷ []
 
@@ -53,9 +54,11 @@ ended ps = ps ++ Sign mark.Semicolon ∷ []
 abbrev pub assigned : List ℕ → List TokenView → List TokenView
 assigned w ps = Name w ∷ Sign mark.Assign ∷ ps
 
+-- the tokens of a call
 abbrev pub pieces_of_call : CallTree → List TokenView
 pieces_of_call c = Name c.actor ∷ Sign mark.Dot ∷ Name c.method ∷ Sign mark.Open ∷ (listed pieces_of c.args ++ Sign mark.Close ∷ [])
 
+-- the tokens of what is waited for
 abbrev pub pieces_of_awaited : AwaitedTree → List TokenView
 pieces_of_awaited (Called c) = pieces_of_call c
 pieces_of_awaited (TaskOf w) = Key key.Task ∷ Name w ∷ []
@@ -66,13 +69,16 @@ abbrev pub pieces_of_else : Option ExprTree → List TokenView
 pieces_of_else None = []
 pieces_of_else (Some t) = Key key.Else ∷ pieces_of t
 
+-- the tokens of a wait
 abbrev pub pieces_of_wait : WaitTree → List TokenView
 pieces_of_wait w = pieces_of_awaited w.for ++ pieces_of_else w.other
 
+-- the tokens of a value
 abbrev pub pieces_of_value : ValueTree → List TokenView
 pieces_of_value (Computed t) = pieces_of t
 pieces_of_value (Waited w) = Key key.Await ∷ pieces_of_wait w
 
+-- the keyword of a priority
 abbrev pub keyword_of_priority : Priority → Keyword
 keyword_of_priority Background = key.Background
 keyword_of_priority Low = key.Low
@@ -92,6 +98,7 @@ abbrev pub pieces_of_make : MakeTree → List TokenView
 pieces_of_make (Spawned c p) = Key key.Spawn ∷ (pieces_of_call c ++ pieces_of_given p)
 pieces_of_make (Detached c p) = Key key.Detach ∷ (pieces_of_call c ++ pieces_of_priority p)
 
+-- the keyword of a child that is left out where its group is cancelled
 abbrev pub pieces_of_unless : Bool → List TokenView
 pieces_of_unless false = []
 pieces_of_unless true = Key key.Unless ∷ []
@@ -133,6 +140,7 @@ abbrev mutual
   pieces_of_block nothing = []
   pieces_of_block (first_then s ss) = pieces_of_stmt s ++ pieces_of_block ss
 
+-- the tokens of an executor's kind
 abbrev pub pieces_of_kind : ExecutorKind → List TokenView
 pieces_of_kind kind.Priority = Key key.Priority ∷ []
 pieces_of_kind kind.Fifo = Key key.Fifo ∷ []
@@ -146,6 +154,7 @@ after_executor_keyword x = Name x.name ∷ ended (pieces_of_kind x.kind)
 abbrev pub after_local_keyword : LocalTree → List TokenView
 after_local_keyword l = assigned l.name (ended (pieces_of_int l.default))
 
+-- the tokens of a field
 abbrev pub pieces_of_field : FieldTree → List TokenView
 pieces_of_field f = Key key.Var ∷ assigned f.name (ended (pieces_of_int f.start))
 
@@ -159,6 +168,7 @@ abbrev pub pieces_of_invariant : Option ExprTree → List TokenView
 pieces_of_invariant None = []
 pieces_of_invariant (Some t) = Key key.Invariant ∷ ended (pieces_of t)
 
+-- the tokens of a method
 abbrev pub pieces_of_method : MethodTree → List TokenView
 pieces_of_method m = Key key.Func ∷ Name m.name ∷ Sign mark.Open ∷ (listed pieces_of_name m.params ++ Sign mark.Close ∷ braced (pieces_of_block (block_tree m.body)))
 
@@ -174,6 +184,7 @@ pieces_of_start r = Name r.actor ∷ Sign mark.Dot ∷ Name r.method ∷ Sign ma
 abbrev pub after_root_keyword : RootTree → List TokenView
 after_root_keyword r = assigned r.name (pieces_of_start r ++ ended (pieces_of_priority r.priority))
 
+-- the tokens of a declaration
 abbrev pub pieces_of_decl : DeclTree → List TokenView
 pieces_of_decl (Executes x) = Key key.Executor ∷ after_executor_keyword x
 pieces_of_decl (Binds l) = Key key.Local ∷ after_local_keyword l

@@ -5,6 +5,7 @@ use Rattle.script_tokens.specs.Bytes.{is_letter, is_name_byte}
 use Rattle.script_tokens.specs.Keywords.{keyword_of}
 use Rattle.script_tokens.specs.Pieces.{TokenView, Num, Huge, Name, Key, Sign, Stray}
 
+-- a text begins with a byte that may begin a name
 abbrev pub begins_with_letter : List ℕ → Bool
 begins_with_letter [] = false
 begins_with_letter (b ∷ bs) = is_letter b

@@ -18,6 +18,7 @@ is_letter b = (nat_le 65 b && nat_le b 90) || (nat_le 97 b && nat_le b 122) || b
 abbrev pub is_name_byte : ℕ → Bool
 is_name_byte b = is_letter b || is_digit b
 
+-- a byte other than an LF
 abbrev pub is_no_line_feed : ℕ → Bool
 is_no_line_feed b = not (b == 10)
 

@@ -26,6 +26,7 @@ abbrev pub word_as : Option Keyword → List ℕ → TokenView
 word_as (Some k) w = Key k
 word_as None w = Name w
 
+-- what a word is: a keyword where it is one, and else a name
 unfoldable pub word_of : List ℕ → TokenView
 word_of w = word_as (keyword_of w) w
 
@@ -70,6 +71,7 @@ abbrev pub paired : Option Mark → ℕ → ℕ → List ℕ → Option TokenVie
 paired (Some m) a b bs = (Some (Sign m), bs)
 paired None a b bs = if a == 47 && b == 47 then (None, drop (prefix_len is_no_line_feed bs) bs) else (Some (lone (single_of a)), b ∷ bs)
 
+-- a byte that is no letter, digit or space: a mark, with the next byte where both are one, or the begin of a comment; and what is after it
 unfoldable pub mark_at : ℕ → List ℕ → Option TokenView × List ℕ
 mark_at a [] = (Some (lone (single_of a)), [])
 mark_at a (b ∷ bs) = paired (pair_of a b) a b bs

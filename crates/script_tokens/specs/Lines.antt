@@ -4,6 +4,7 @@ use Rattle.std.specs.List.{count_by}
 use Rattle.script_tokens.specs.Lexes.{front_at}
 use Rattle.script_tokens.specs.Pieces.{TokenView}
 
+-- a byte is an LF
 abbrev pub is_line_feed : ℕ → Bool
 is_line_feed b = b == 10
 
@@ -16,7 +17,7 @@ abbrev pub feeds_at : List ℕ → ℕ
 feeds_at [] = 0
 feeds_at (b ∷ bs) = if is_line_feed b then 1 else 0
 
--- the line that is open after so many line feeds: lines count from 1, and no further than a `u32` does
+-- the line that is open after `feeds` line feeds: lines count from 1, and no further than a `u32` does
 abbrev pub line_after : ℕ → ℕ
 line_after feeds = min 4294967295 (1 + feeds)
 

@@ -17,6 +17,7 @@ higher p q = if nat_lt (rank p) (rank q) then q else p
 abbrev pub below : ℕ → List Priority → ℕ
 below top levels = count_by (λ p. nat_lt (rank p) top) levels
 
+-- the edge at place k
 abbrev pub edge_at : List TaskEdge → ℕ → TaskEdge
 edge_at edges k = slice_index_or edges k (record { from = 0; to = 0 })
 
@@ -34,6 +35,7 @@ abbrev pub Walk : List TaskEdge → ℕ → ℕ → ℕ → Type 0
 Walk edges zero a b = a ≡ b
 Walk edges (suc n) a b = (c : ℕ) × Walk edges n a c × HasEdge edges c b
 
+-- one place is reached from the other, by a walk of whatever length; a place is reached from itself
 abbrev pub HasWalk : List TaskEdge → ℕ → ℕ → Type 0
 HasWalk edges a b = (n : ℕ) × Walk edges n a b
 

@@ -8,6 +8,6 @@ use Rattle.swift_escalation.specs.declared.places.TaskPlaces.{TaskPlaces}
 abbrev pub place_in : TaskPlaces → ℕ → Option ℕ
 place_in p n = if nat_lt n TASKS then slice_index_or p.listed.items n None else get nat_eq p.mapped n
 
--- so many more tasks find memory
+-- there is memory for n more tasks
 abbrev pub HasRoom : TaskPlaces → ℕ → Type 0
 HasRoom p n = (n ≤ spare p.mapped) × (0 < n → TASKS ≤ vec_len p.listed)

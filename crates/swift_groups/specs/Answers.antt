@@ -20,10 +20,12 @@ if_live Open g = Ok g
 if_live Closing g = Ok g
 if_live Done g = Err Closed
 
+-- The group, where there is one and it is open: else G1, then G2.
 abbrev pub open_if_opened : Option GroupView → Result GroupView GroupFault
 open_if_opened None = Err Unknown
 open_if_opened (Some g) = if_open g.stage g
 
+-- The group, where there is one and it is not done: else G1, then G2.
 abbrev pub live_if_opened : Option GroupView → Result GroupView GroupFault
 live_if_opened None = Err Unknown
 live_if_opened (Some g) = if_live g.stage g
@@ -36,6 +38,7 @@ open_group groups id = open_if_opened (slice_get groups id.0)
 abbrev pub live_group : List GroupView → GroupId → Result GroupView GroupFault
 live_group groups id = live_if_opened (slice_get groups id.0)
 
+-- The group, where there is one, however far it is: else G1.
 abbrev pub any_if_opened : Option GroupView → Result GroupView GroupFault
 any_if_opened None = Err Unknown
 any_if_opened (Some g) = Ok g
@@ -44,10 +47,12 @@ any_if_opened (Some g) = Ok g
 abbrev pub any_group : List GroupView → GroupId → Result GroupView GroupFault
 any_group groups id = any_if_opened (slice_get groups id.0)
 
+-- The group, where the task is no child of it: else G3.
 abbrev pub if_new : TaskId → Result GroupView GroupFault → Result GroupView GroupFault
 if_new t (Ok g) = if is_among g.added t then Err Child else Ok g
 if_new t (Err fault) = Err fault
 
+-- The group, where the task is a child of it that has not ended: else G3.
 abbrev pub if_unfinished : TaskId → Result GroupView GroupFault → Result GroupView GroupFault
 if_unfinished t (Ok g) = if is_among (unfinished g) t then Ok g else Err Child
 if_unfinished t (Err fault) = Err fault

@@ -148,7 +148,7 @@ impl Bindings {
         }
     }
 
-    /// The same bindings again, for a child task. Takes time by the depth and by the length of the table. An `Err`
+    /// A second list of these bindings, for a child task. Takes time by the depth and by the length of the table. An `Err`
     /// says that a growth was refused.
     pub fn copy(&self) -> Result<Bindings, AllocError>
         ensures { IfOk result (λ copy. copy ≡ self.now) }

@@ -126,7 +126,7 @@ impl<T: Locked, V, P: LockRule<T::Image, V>> Lock<T, V, P> {
         Some(self.empty(&mut seat.token))
     }
 
-    // The same, and says that a thread may sleep.
+    // Takes what the lock keeps, where no seat holds, and leaves the word so that who unlocks wakes a thread that sleeps.
     fn lock_awaited<L: Lesson<T::Image, V>>(&self, seat: &mut LockSeat<T, V>) -> Option<T>
         requires same_lock { IsSeatOf self.now seat.old }
         requires free { seat.old.held ≡ None }

@@ -35,19 +35,22 @@ pub record AreTokens (text : List ℕ) (pieces : List TokenView) (lines : List �
 abbrev pub line_at : List ℕ → List ℕ → ℕ → ℕ
 line_at text lines place = slice_index_or lines place (last_line text)
 
+-- a token is a name
 abbrev pub is_name : TokenView → Bool
 is_name (Name n) = true
 is_name _ = false
 
+-- a token is the keyword `invariant`
 abbrev pub is_invariant : TokenView → Bool
 is_invariant (Key key.Invariant) = true
 is_invariant _ = false
 
+-- a token is the keyword `root`
 abbrev pub is_root : TokenView → Bool
 is_root (Key key.Root) = true
 is_root _ = false
 
--- the place of the token that passes a test and before which so many others do
+-- the place of the token that passes a test and has `before` others before it that do
 abbrev pub place_of : (TokenView → Bool) → ℕ → List TokenView → ℕ
 place_of test before [] = 0
 place_of test before (p ∷ ps) = if test p then (if before == 0 then 0 else suc (place_of test (before - 1) ps)) else suc (place_of test before ps)

@@ -17,7 +17,8 @@ pub record SpellsNothing (text : List ℕ) : Type 0 where
   pub plain : IsPlain text
   pub none : (decls : List DeclTree) → SpellsDecls NESTING text decls → ⊥
 
--- What a plain text spells has this as the first error of its names and counts, at the name before which so many stand.
+-- What a plain text spells has an error of this kind as the first one of its names and counts, at the name that has `before`
+-- names before it.
 pub record HasError (text : List ℕ) (kind : NameErrorKind) : Type 0 where
   pub plain : IsPlain text
   pub decls : List DeclTree

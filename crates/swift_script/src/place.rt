@@ -25,7 +25,7 @@ fn passes(sought: Sought, token: &Token) -> bool
     }
 }
 
-/// The place of the token that is of a kind and before which so many others are of it; the number of tokens where there
+/// The place of the token that is sought and has `before` others of its kind before it; the number of tokens where there
 /// is none. Linear in the tokens.
 pub(crate) fn place_of(tokens: &[Token], sought: Sought, before: usize) -> usize
     ensures { result ≡ place_of (passes sought) before (map piece tokens.now) }

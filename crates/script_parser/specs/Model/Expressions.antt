@@ -129,6 +129,6 @@ unfoldable pub inside_at : Atoms → ℕ → ℕ → ReadInside
 inside_at atoms limit zero paren ts = Err (at TooDeep paren)
 inside_at atoms limit (suc n) paren ts = level_at atoms limit (inside_at atoms limit n) 5 ts
 
--- an expression, within so many further parentheses
+-- an expression, in which at most `opens` parentheses are open at once
 abbrev pub expr_in : Atoms → ℕ → ℕ → Read
 expr_in atoms limit opens ts = level_at atoms limit (inside_at atoms limit opens) 5 ts

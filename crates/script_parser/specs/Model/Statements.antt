@@ -42,7 +42,7 @@ head_part_at limit (Key key.Assume ∷ ts) = do
   Ok (Assume n.0, n.1)
 head_part_at limit (found ∷ ts) = Err (at Unexpected (found ∷ ts))
 
--- the same, where it may stand
+-- what stands in front of a block, in a region in which it may stand
 unfoldable pub head_at : ℕ → Region → Reads HeadTree
 head_at limit r ts = do
   b ← begun_at r ts
