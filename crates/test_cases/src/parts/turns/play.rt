@@ -23,7 +23,7 @@ pub enum How {
 }
 
 // What a turn leaves: the fields, its effects, and its exit.
-type Left = (Vec<Vec<i64>>, Vec<Effect>, Exit);
+type TurnLeft = (Vec<Vec<i64>>, Vec<Effect>, Exit);
 
 /// One turn. None where it can't be run.
 pub fn run<R: RandomSource + AllocGlobal>(
@@ -78,7 +78,7 @@ fn ran(
     fields: Vec<Vec<i64>>,
     resume: Resume,
     env: Env,
-) -> Result<Option<Left>, Vec<Vec<i64>>> {
+) -> Result<Option<TurnLeft>, Vec<Vec<i64>>> {
     if !body.is_running() {
         return Ok(None);
     }
@@ -95,7 +95,7 @@ fn ran(
 }
 
 // The same of a turn that is entered.
-fn polled(cx: &mut Context<'_>, body: &mut Body) -> Result<Option<Left>, Vec<Vec<i64>>> {
+fn polled(cx: &mut Context<'_>, body: &mut Body) -> Result<Option<TurnLeft>, Vec<Vec<i64>>> {
     let _ = body.poll(cx);
     if !body.is_polled() {
         return Ok(None);
