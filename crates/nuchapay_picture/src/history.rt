@@ -99,7 +99,11 @@ fn read_event(
     doer: Option<usize>,
 ) -> Option<usize> {
     match event {
-        Event::Begin(task, number, _) => {
+        Event::Begin {
+            task,
+            turn: number,
+            ..
+        } => {
             let slot = history.slot(task, number);
             let column = history.columns;
             history.columns = column.saturating_add(1);
@@ -119,7 +123,11 @@ fn read_event(
             Some(slot)
         }
         Event::Root(_, _) => None,
-        Event::Give(task, number, _) => {
+        Event::Give {
+            task,
+            turn: number,
+            ..
+        } => {
             let slot = history.slot(task, number);
             if let Some(moment) = history.change(slot) {
                 moment.maker = doer;

@@ -9,7 +9,7 @@ use swift_log::EventLog;
 fn begins_block(event: &Event) -> bool {
     matches!(
         event,
-        Event::Root(_, _) | Event::Begin(_, _, _) | Event::Apply(_, _)
+        Event::Root(_, _) | Event::Begin { .. } | Event::Apply(_, _)
     )
 }
 

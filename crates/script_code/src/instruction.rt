@@ -70,11 +70,34 @@ pub enum Act {
     Receive(Option<NumberPlace>, Option<Formula>),
     /// An unstructured task is made, with its maker's priority where none is given. The handle gets its number, if
     /// there is one.
-    Spawn(CompiledCall, Option<Priority>, Option<u32>),
+    Spawn {
+        /// What it runs.
+        call: CompiledCall,
+        /// The priority that is given.
+        priority: Option<Priority>,
+        /// Where its number is kept.
+        handle: Option<u32>,
+    },
     /// A detached task is made. The handle gets its number, if there is one.
-    Detach(CompiledCall, Priority, Option<u32>),
+    Detach {
+        /// What it runs.
+        call: CompiledCall,
+        /// Its priority.
+        priority: Priority,
+        /// Where its number is kept.
+        handle: Option<u32>,
+    },
     /// A child is added to the group of a handle; where the flag is set, only if the group is not cancelled by then.
-    Add(u32, bool, CompiledCall, Option<Priority>),
+    Add {
+        /// The handle of the group.
+        group: u32,
+        /// Whether a cancelled group gets no child.
+        unless_cancelled: bool,
+        /// What it runs.
+        call: CompiledCall,
+        /// The priority that is given.
+        priority: Option<Priority>,
+    },
     /// A task or a group is cancelled.
     Cancel(Cancelled),
     /// A group is opened, and the handle gets its number.
@@ -102,9 +125,22 @@ impl Drop for Act {
             | Act::Bind(_, formula) => drop(formula),
             Act::Wait(awaited) => drop(awaited),
             Act::Receive(_, other) => drop(other),
-            Act::Spawn(call, _, _) | Act::Detach(call, _, _) | Act::Add(_, _, call, _) => drop(
+            Act::Spawn {
                 call,
-            ),
+                priority: _,
+                handle: _,
+            }
+            | Act::Detach {
+                call,
+                priority: _,
+                handle: _,
+            }
+            | Act::Add {
+                group: _,
+                unless_cancelled: _,
+                call,
+                priority: _,
+            } => drop(call),
             Act::Cancel(_)
             | Act::Open(_)
             | Act::End

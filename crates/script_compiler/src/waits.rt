@@ -45,7 +45,7 @@ fn method_called(act: &Act) -> Option<u32>
 {
     match act {
         Act::Wait(awaited) => method_wanted(awaited),
-        Act::Spawn(call, _, _) | Act::Detach(call, _, _) | Act::Add(_, _, call, _) => {
+        Act::Spawn { call, .. } | Act::Detach { call, .. } | Act::Add { call, .. } => {
             Some(call.method.0)
         }
         _ => None,

@@ -88,10 +88,18 @@ fn make(
 {
     let act = match make {
         Make::Spawn(spawned, priority) => {
-            Act::Spawn(call(alloc, plan, scope, spawned)?, *priority, handle)
+            Act::Spawn {
+                call: call(alloc, plan, scope, spawned)?,
+                priority: *priority,
+                handle,
+            }
         }
         Make::Detach(detached, priority) => {
-            Act::Detach(call(alloc, plan, scope, detached)?, *priority, handle)
+            Act::Detach {
+                call: call(alloc, plan, scope, detached)?,
+                priority: *priority,
+                handle,
+            }
         }
     };
     write(instructions, act, next)
@@ -127,7 +135,12 @@ pub(crate) fn action(
         Action::Add(child) => {
             let group = scope.handle_place(&child.group.text);
             let call = call(alloc, plan, scope, &child.call)?;
-            let act = Act::Add(group, child.unless, call, child.priority);
+            let act = Act::Add {
+                group,
+                unless_cancelled: child.unless,
+                call,
+                priority: child.priority,
+            };
             write(instructions, act, next)
         }
         Action::Cancel(name) => {

@@ -48,7 +48,7 @@ pub struct FollowedTurn {
 fn makes_own(effect: &Effect) -> bool
     ensures { result ≡ makes_own (effect_view effect.now) }
 {
-    matches!(effect, Effect::Spawn(_, _, _) | Effect::Detach(_, _))
+    matches!(effect, Effect::Spawn { .. } | Effect::Detach(_, _))
 }
 
 fn opens_group(effect: &Effect) -> bool

@@ -315,7 +315,7 @@ impl Replay {
     {
         match event {
             Event::Root(_, _) => self.root(report),
-            Event::Begin(task, _, _) => self.begin(report, task),
+            Event::Begin { task, .. } => self.begin(report, task),
             Event::Apply(task, _) => self.turn(report, task),
             _ => Ok(false),
         }

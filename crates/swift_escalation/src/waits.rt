@@ -15,7 +15,14 @@ pub enum PriorityEvent {
     /// A root task was added, with its priority.
     Root(TaskId, Priority),
     /// A child was added to a task: the child, its parent, and the priority that it was given of its own.
-    Child(TaskId, TaskId, Priority),
+    Child {
+        /// The child.
+        task: TaskId,
+        /// Its parent.
+        parent: TaskId,
+        /// The priority that it was given of its own.
+        own: Priority,
+    },
     /// A task that is no child was added, with its priority (an unstructured task).
     Free(TaskId, Priority),
     /// The first task waits for the second.
@@ -191,7 +198,7 @@ impl Waits {
         ensures { self.new ≡ with_event self.old (PriorityEvent.Child task parent own) }
     {
         let place = self.graph.len();
-        let Ok(()) = self.events.push(PriorityEvent::Child(task, parent, own)) else {
+        let Ok(()) = self.events.push(PriorityEvent::Child { task, parent, own }) else {
             unreachable!()
         };
         self.places.insert(task.0, place);

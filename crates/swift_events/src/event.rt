@@ -10,15 +10,40 @@ pub enum Event {
     Root(TaskId, Priority),
     /// The turn of this number begins, in this environment, whose room is reserved from here on. A turn may begin
     /// again: the last time counts.
-    Begin(TaskId, u32, Env),
+    Begin {
+        /// Whose turn.
+        task: TaskId,
+        /// Its number among the turns of the task.
+        turn: u32,
+        /// What it reads of its task.
+        env: Env,
+    },
     /// The turn of this number has ended, and its effects follow.
     Apply(TaskId, u32),
     /// A task that is no child is made by another, with its priority; the flag says whether it is detached.
-    Free(TaskId, TaskId, Priority, bool),
+    Free {
+        /// The new task.
+        task: TaskId,
+        /// The task that makes it.
+        maker: TaskId,
+        /// Its priority.
+        priority: Priority,
+        /// Whether it is detached.
+        detached: bool,
+    },
     /// The owner opens its group of this number.
     Open(TaskId, u32),
     /// A child is added to the owner's group of this number, with a priority that it has beside its owner's.
-    Child(TaskId, TaskId, u32, Priority),
+    Child {
+        /// The new task.
+        task: TaskId,
+        /// The task whose group it is.
+        owner: TaskId,
+        /// The number of the group within its owner.
+        group: u32,
+        /// The priority that it has beside its owner's.
+        priority: Priority,
+    },
     /// A child of the owner's group of this number is left out, since the group is cancelled.
     Skip(TaskId, u32),
     /// A task that has not ended is cancelled.
@@ -34,7 +59,14 @@ pub enum Event {
     /// The task has ended.
     End(TaskId, Ending),
     /// A job is made for the task's turn of this number, which begins with this.
-    Give(TaskId, u32, Resume),
+    Give {
+        /// Whose turn.
+        task: TaskId,
+        /// Its number among the turns of the task.
+        turn: u32,
+        /// What it begins with.
+        resume: Resume,
+    },
 }
 
 ghost use Rattle.std.specs.Prelude.{◌≡◌};
@@ -47,11 +79,11 @@ impl Event {
     {
         match *self {
             Event::Root(task, _)
-            | Event::Begin(task, _, _)
+            | Event::Begin { task, .. }
             | Event::Apply(task, _)
-            | Event::Free(task, _, _, _)
+            | Event::Free { task, .. }
             | Event::Open(task, _)
-            | Event::Child(task, _, _, _)
+            | Event::Child { task, .. }
             | Event::Skip(task, _)
             | Event::CancelTask(task)
             | Event::CancelGroup(task, _)
@@ -59,7 +91,7 @@ impl Event {
             | Event::Next(task, _)
             | Event::Close(task, _)
             | Event::End(task, _)
-            | Event::Give(task, _, _) => task,
+            | Event::Give { task, .. } => task,
         }
     }
 
@@ -67,6 +99,6 @@ impl Event {
     pub fn makes_task(&self) -> bool
         ensures { result ≡ is_made self.now }
     {
-        matches!(*self, Event::Free(_, _, _, _) | Event::Child(_, _, _, _))
+        matches!(*self, Event::Free { .. } | Event::Child { .. })
     }
 }

@@ -78,16 +78,28 @@ impl Life {
         let mut life = self;
         match event {
             Event::Root(_, _) => life.origin = Some(Origin::Root),
-            Event::Free(_, by, _, false) => life.origin = Some(Origin::Spawned(by)),
-            Event::Free(_, by, _, true) => life.origin = Some(Origin::Detached(by)),
-            Event::Child(_, owner, group, _) => life.origin = Some(Origin::Child(owner, group)),
-            Event::Begin(_, _, env) => life.stage = Some(JobStage::Begun(env)),
+            Event::Free {
+                maker: by,
+                detached: false,
+                ..
+            } => life.origin = Some(Origin::Spawned(by)),
+            Event::Free {
+                maker: by,
+                detached: true,
+                ..
+            } => life.origin = Some(Origin::Detached(by)),
+            Event::Child { owner, group, .. } => life.origin = Some(Origin::Child(owner, group)),
+            Event::Begin { env, .. } => life.stage = Some(JobStage::Begun(env)),
             Event::Apply(_, _) => life.stage = Some(JobStage::Applied),
             Event::Wait(_, awaited) => life.stage = Some(JobStage::Waits(awaited)),
             Event::Next(_, group) => life.stage = Some(JobStage::Asks(group)),
             Event::Close(_, group) => life.stage = Some(JobStage::Closes(group)),
             Event::End(_, ending) => life.ending = Some(ending),
-            Event::Give(_, number, resume) => {
+            Event::Give {
+                turn: number,
+                resume,
+                ..
+            } => {
                 life.given = Some(LastJob { number, resume });
                 life.stage = Some(JobStage::Given);
             }

@@ -14,9 +14,23 @@ pub enum Moment {
     /// The jobs that were in the inbox are ready.
     Accepted(ExecId, u32),
     /// The job of this task was chosen.
-    Chose(ExecId, u32, TaskId),
+    Chose {
+        /// The executor.
+        executor: ExecId,
+        /// The worker that visits it.
+        worker: u32,
+        /// Whose job.
+        task: TaskId,
+    },
     /// The turn of this task was journalled. What follows from it is not enqueued yet.
-    Turned(ExecId, u32, TaskId),
+    Turned {
+        /// The executor.
+        executor: ExecId,
+        /// The worker that visits it.
+        worker: u32,
+        /// Whose turn.
+        task: TaskId,
+    },
     /// The worker has given the state back.
     Ended(ExecId, u32),
     /// A job of this task lies in the executor's inbox, and is not counted yet.

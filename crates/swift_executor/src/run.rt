@@ -212,11 +212,19 @@ where
     let Some(task) = choose_one(rt, held, book)? else {
         return Ok(None);
     };
-    gate.at(Moment::Chose(executor, worker, task));
+    gate.at(Moment::Chose {
+        executor,
+        worker,
+        task,
+    });
     start_one(rt, held, worker, book)?;
     play_one(held, cx)?;
     end_one(rt, held, book, jobs)?;
-    gate.at(Moment::Turned(executor, worker, task));
+    gate.at(Moment::Turned {
+        executor,
+        worker,
+        task,
+    });
     Ok(Some(task))
 }
 

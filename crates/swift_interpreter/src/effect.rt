@@ -26,14 +26,32 @@ pub enum TaskName {
 /// What is done when a turn has ended, in order (SE-0304 for tasks and groups, SE-0311 for bindings).
 pub enum Effect {
     /// An unstructured task is made, with its maker's priority where none is given, and with the bindings that stand.
-    Spawn(Invocation, Option<Priority>, Bindings),
+    Spawn {
+        /// What it runs.
+        invocation: Invocation,
+        /// The priority that is given.
+        priority: Option<Priority>,
+        /// The bindings that it inherits.
+        bindings: Bindings,
+    },
     /// A detached task is made. It has no bindings.
     Detach(Invocation, Priority),
     /// A group is opened: its number is how many the task has opened before.
     Open,
     /// A child is added to a group, by the group's number within its task, with the bindings that stand; where the flag
     /// is set, only if the group is not cancelled by then.
-    Add(u32, bool, Invocation, Option<Priority>, Bindings),
+    Add {
+        /// The number of the group within the task.
+        group: u32,
+        /// Whether a cancelled group gets no child.
+        unless_cancelled: bool,
+        /// What it runs.
+        invocation: Invocation,
+        /// The priority that is given.
+        priority: Option<Priority>,
+        /// The bindings that it inherits.
+        bindings: Bindings,
+    },
     /// A task is cancelled.
     CancelTask(TaskName),
     /// A group is cancelled, by its number within its task.
@@ -43,11 +61,22 @@ pub enum Effect {
 impl Drop for Effect {
     fn drop(self) {
         match self {
-            Effect::Spawn(run, _, bindings) | Effect::Add(_, _, run, _, bindings) => {
-                drop(run);
+            Effect::Spawn {
+                invocation,
+                priority: _,
+                bindings,
+            }
+            | Effect::Add {
+                group: _,
+                unless_cancelled: _,
+                invocation,
+                priority: _,
+                bindings,
+            } => {
+                drop(invocation);
                 drop(bindings);
             }
-            Effect::Detach(run, _) => drop(run),
+            Effect::Detach(invocation, _) => drop(invocation),
             Effect::Open | Effect::CancelTask(_) | Effect::CancelGroup(_) => {}
         }
     }

@@ -47,7 +47,11 @@ pub fn spawn<'a>(
     let bindings = standing(outer, &turn.frame.own)?;
     make(
         turn,
-        Effect::Spawn(invocation, priority, bindings),
+        Effect::Spawn {
+            invocation,
+            priority,
+            bindings,
+        },
         handle,
         next,
     )
@@ -111,11 +115,17 @@ pub fn add<'a>(
     let Some(invocation) = invoke(alloc, call, sight)? else {
         return Ok(Some(Exit::Fault(Fault::Overflow)));
     };
-    let bindings = standing(outer, &turn.frame.own)?;
+    let inherited = standing(outer, &turn.frame.own)?;
     let group = handle_at(&turn.frame.handles, handle);
     add_to(
         turn,
-        Effect::Add(group, unless, invocation, priority, bindings),
+        Effect::Add {
+            group,
+            unless_cancelled: unless,
+            invocation,
+            priority,
+            bindings: inherited,
+        },
         next,
     )
 }

@@ -83,11 +83,22 @@ fn perform<'a>(
         }
         Act::Wait(awaited) => wait(alloc, outer, env, turn, awaited, next),
         Act::Receive(place, _) => give(alloc, turn, saved, *place, next, 0),
-        Act::Spawn(call, p, h) => spawn(alloc, call, outer, env, turn, *p, *h, next),
-        Act::Detach(call, p, h) => detach(alloc, call, outer, env, turn, *p, *h, next),
-        Act::Add(group, unless, call, p) => {
-            add(alloc, call, outer, env, turn, *group, *unless, *p, next)
-        }
+        Act::Spawn {
+            call,
+            priority: p,
+            handle: h,
+        } => spawn(alloc, call, outer, env, turn, *p, *h, next),
+        Act::Detach {
+            call,
+            priority: p,
+            handle: h,
+        } => detach(alloc, call, outer, env, turn, *p, *h, next),
+        Act::Add {
+            group,
+            unless_cancelled: unless,
+            call,
+            priority: p,
+        } => { add(alloc, call, outer, env, turn, *group, *unless, *p, next) }
         Act::Cancel(cancelled) => cancel(turn, *cancelled, next),
         Act::Open(handle) => open(turn, *handle, next),
         Act::Close => Ok(close(turn, next)),

@@ -52,7 +52,11 @@ fn write_effect(words: &mut Tail, effect: &Effect) -> Result<StoredEffect, Alloc
     ensures reads_back { IfOk result (λ s. ReadsBack _ (effect_of s) (after_effect s) (effect_words effect.now) (effect_view effect.now)) }
 {
     match effect {
-        Effect::Spawn(invocation, priority, bindings) => {
+        Effect::Spawn {
+            invocation,
+            priority,
+            bindings,
+        } => {
             let (stored, depth) = write_bound(words, invocation, bindings)?;
             Ok(StoredEffect::Spawn(stored, *priority, depth))
         }
@@ -61,7 +65,13 @@ fn write_effect(words: &mut Tail, effect: &Effect) -> Result<StoredEffect, Alloc
             Ok(StoredEffect::Detach(stored, *priority))
         }
         Effect::Open => Ok(StoredEffect::Open),
-        Effect::Add(group, unless, invocation, priority, bindings) => {
+        Effect::Add {
+            group,
+            unless_cancelled: unless,
+            invocation,
+            priority,
+            bindings,
+        } => {
             let (stored, depth) = write_bound(words, invocation, bindings)?;
             Ok(StoredEffect::Add(*group, *unless, stored, *priority, depth))
         }
@@ -123,7 +133,11 @@ fn read_effect(alloc: Global, stored: StoredEffect, words: &[i64]) -> Result<Eff
     match stored {
         StoredEffect::Spawn(invocation, priority, depth) => {
             let (invocation, bindings) = read_bound(alloc, invocation, depth, words)?;
-            Ok(Effect::Spawn(invocation, priority, bindings))
+            Ok(Effect::Spawn {
+                invocation,
+                priority,
+                bindings,
+            })
         }
         StoredEffect::Detach(invocation, priority) => Ok(Effect::Detach(
             read_invocation(alloc, invocation, words)?,
@@ -132,7 +146,13 @@ fn read_effect(alloc: Global, stored: StoredEffect, words: &[i64]) -> Result<Eff
         StoredEffect::Open => Ok(Effect::Open),
         StoredEffect::Add(group, unless, invocation, priority, depth) => {
             let (invocation, bindings) = read_bound(alloc, invocation, depth, words)?;
-            Ok(Effect::Add(group, unless, invocation, priority, bindings))
+            Ok(Effect::Add {
+                group,
+                unless_cancelled: unless,
+                invocation,
+                priority,
+                bindings,
+            })
         }
         StoredEffect::CancelTask(task) => Ok(Effect::CancelTask(task)),
         StoredEffect::CancelGroup(group) => Ok(Effect::CancelGroup(group)),

@@ -33,18 +33,18 @@ fn names_task(event: Event, task: usize) -> bool
     match event {
         Event::CancelTask(named) => named.0 as usize == task,
         Event::Root(_, _)
-        | Event::Begin(_, _, _)
+        | Event::Begin { .. }
         | Event::Apply(_, _)
-        | Event::Free(_, _, _, _)
+        | Event::Free { .. }
         | Event::Open(_, _)
-        | Event::Child(_, _, _, _)
+        | Event::Child { .. }
         | Event::Skip(_, _)
         | Event::CancelGroup(_, _)
         | Event::Wait(_, _)
         | Event::Next(_, _)
         | Event::Close(_, _)
         | Event::End(_, _)
-        | Event::Give(_, _, _) => false,
+        | Event::Give { .. } => false,
     }
 }
 
@@ -55,18 +55,18 @@ fn names_group(event: Event, owner: TaskId, group: u32) -> bool
     match event {
         Event::CancelGroup(named, number) => named.0 == owner.0 && number == group,
         Event::Root(_, _)
-        | Event::Begin(_, _, _)
+        | Event::Begin { .. }
         | Event::Apply(_, _)
-        | Event::Free(_, _, _, _)
+        | Event::Free { .. }
         | Event::Open(_, _)
-        | Event::Child(_, _, _, _)
+        | Event::Child { .. }
         | Event::Skip(_, _)
         | Event::CancelTask(_)
         | Event::Wait(_, _)
         | Event::Next(_, _)
         | Event::Close(_, _)
         | Event::End(_, _)
-        | Event::Give(_, _, _) => false,
+        | Event::Give { .. } => false,
     }
 }
 
@@ -143,17 +143,17 @@ impl Flags {
             Event::CancelTask(task) => !self.is_marked(task),
             Event::CancelGroup(owner, _) => has_children && !is_named && !self.is_marked(owner),
             Event::Root(_, _)
-            | Event::Begin(_, _, _)
+            | Event::Begin { .. }
             | Event::Apply(_, _)
-            | Event::Free(_, _, _, _)
+            | Event::Free { .. }
             | Event::Open(_, _)
-            | Event::Child(_, _, _, _)
+            | Event::Child { .. }
             | Event::Skip(_, _)
             | Event::Wait(_, _)
             | Event::Next(_, _)
             | Event::Close(_, _)
             | Event::End(_, _)
-            | Event::Give(_, _, _) => false,
+            | Event::Give { .. } => false,
         }
     }
 
@@ -162,11 +162,11 @@ impl Flags {
         ensures { result ≡ is_born_cancelled event is_named self.now.flags.items }
     {
         match event {
-            Event::Child(_, owner, _, _) => is_named || self.is_marked(owner),
+            Event::Child { owner, .. } => is_named || self.is_marked(owner),
             Event::Root(_, _)
-            | Event::Begin(_, _, _)
+            | Event::Begin { .. }
             | Event::Apply(_, _)
-            | Event::Free(_, _, _, _)
+            | Event::Free { .. }
             | Event::Open(_, _)
             | Event::Skip(_, _)
             | Event::CancelTask(_)
@@ -175,7 +175,7 @@ impl Flags {
             | Event::Next(_, _)
             | Event::Close(_, _)
             | Event::End(_, _)
-            | Event::Give(_, _, _) => false,
+            | Event::Give { .. } => false,
         }
     }
 

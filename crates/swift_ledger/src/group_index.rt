@@ -188,7 +188,12 @@ impl GroupIndex {
     {
         match event {
             Event::Open(owner, group) => self.open_group(log, owner, group),
-            Event::Child(task, owner, group, _) => self.add_child(log, task, owner, group),
+            Event::Child {
+                task,
+                owner,
+                group,
+                ..
+            } => self.add_child(log, task, owner, group),
             Event::CancelGroup(owner, group) => self.cancel_group(log, owner, group),
             Event::Next(owner, group) => self.ask(log, owner, group),
             Event::Close(owner, group) => self.close_group(log, owner, group),

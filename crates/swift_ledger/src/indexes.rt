@@ -87,12 +87,12 @@ impl Indexes {
         ensures { result ≡ is_named_in log.now.events event }
     {
         match event {
-            Event::Child(_, owner, group, _) => self.groups.is_named(log, owner, group),
+            Event::Child { owner, group, .. } => self.groups.is_named(log, owner, group),
             Event::CancelGroup(owner, group) => self.groups.is_named(log, owner, group),
             Event::Root(_, _)
-            | Event::Begin(_, _, _)
+            | Event::Begin { .. }
             | Event::Apply(_, _)
-            | Event::Free(_, _, _, _)
+            | Event::Free { .. }
             | Event::Open(_, _)
             | Event::Skip(_, _)
             | Event::CancelTask(_)
@@ -100,7 +100,7 @@ impl Indexes {
             | Event::Next(_, _)
             | Event::Close(_, _)
             | Event::End(_, _)
-            | Event::Give(_, _, _) => false,
+            | Event::Give { .. } => false,
         }
     }
 
@@ -112,18 +112,18 @@ impl Indexes {
         match event {
             Event::CancelGroup(owner, group) => self.groups.has_children(log, owner, group),
             Event::Root(_, _)
-            | Event::Begin(_, _, _)
+            | Event::Begin { .. }
             | Event::Apply(_, _)
-            | Event::Free(_, _, _, _)
+            | Event::Free { .. }
             | Event::Open(_, _)
-            | Event::Child(_, _, _, _)
+            | Event::Child { .. }
             | Event::Skip(_, _)
             | Event::CancelTask(_)
             | Event::Wait(_, _)
             | Event::Next(_, _)
             | Event::Close(_, _)
             | Event::End(_, _)
-            | Event::Give(_, _, _) => false,
+            | Event::Give { .. } => false,
         }
     }
 
@@ -139,18 +139,18 @@ impl Indexes {
                 parent_of(&life)
             }
             Event::Root(_, _)
-            | Event::Begin(_, _, _)
+            | Event::Begin { .. }
             | Event::Apply(_, _)
-            | Event::Free(_, _, _, _)
+            | Event::Free { .. }
             | Event::Open(_, _)
-            | Event::Child(_, _, _, _)
+            | Event::Child { .. }
             | Event::Skip(_, _)
             | Event::CancelTask(_)
             | Event::CancelGroup(_, _)
             | Event::Wait(_, _)
             | Event::Next(_, _)
             | Event::Close(_, _)
-            | Event::Give(_, _, _) => None,
+            | Event::Give { .. } => None,
         }
     }
 

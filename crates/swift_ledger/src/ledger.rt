@@ -270,9 +270,17 @@ impl Ledger {
         ensures reserved { reserved_of self.new.roots self.new.log + room_held (life_of (task_of event) self.old.log) ≡ reserved_of self.old.roots self.old.log + room_held (life_of (task_of event) self.new.log) }
     {
         match event {
-            Event::Begin(task, number, env) => self.note_begin(task, number, env),
+            Event::Begin {
+                task,
+                turn: number,
+                env,
+            } => self.note_begin(task, number, env),
             Event::Apply(task, number) => self.note_apply(task, number),
-            Event::Give(task, number, resume) => self.note_give(task, number, resume),
+            Event::Give {
+                task,
+                turn: number,
+                resume,
+            } => self.note_give(task, number, resume),
             _ => self.note_other(event),
         }
     }
@@ -290,7 +298,11 @@ impl Ledger {
         self.indexes
             .lives
             .begin(self.roots, &self.log, task, number, env);
-        self.log.push(Event::Begin(task, number, env));
+        self.log.push(Event::Begin {
+            task,
+            turn: number,
+            env,
+        });
     }
 
     /// Writes that a turn of a task has ended, whose room is free from here on (our own). Takes no memory, and constant time.
@@ -321,7 +333,11 @@ impl Ledger {
         self.indexes
             .lives
             .give(self.roots, &self.log, task, number, resume);
-        self.log.push(Event::Give(task, number, resume));
+        self.log.push(Event::Give {
+            task,
+            turn: number,
+            resume,
+        });
     }
 
     /// Writes an event that each index is asked about.

@@ -18,10 +18,15 @@ pub(crate) fn link_of(event: Event) -> Option<Link>
 {
     match event {
         Event::Root(task, priority) => Some(Link::Root(task, priority)),
-        Event::Free(task, _, priority, _) => Some(Link::Free(task, priority)),
-        Event::Child(task, owner, _, priority) => Some(Link::Child(task, owner, priority)),
+        Event::Free { task, priority, .. } => Some(Link::Free(task, priority)),
+        Event::Child {
+            task,
+            owner,
+            priority,
+            ..
+        } => Some(Link::Child(task, owner, priority)),
         Event::Wait(task, awaited) => Some(Link::Wait(task, awaited)),
-        Event::Begin(_, _, _)
+        Event::Begin { .. }
         | Event::Apply(_, _)
         | Event::Open(_, _)
         | Event::Skip(_, _)
@@ -30,7 +35,7 @@ pub(crate) fn link_of(event: Event) -> Option<Link>
         | Event::Next(_, _)
         | Event::Close(_, _)
         | Event::End(_, _)
-        | Event::Give(_, _, _) => None,
+        | Event::Give { .. } => None,
     }
 }
 

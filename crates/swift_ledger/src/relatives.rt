@@ -18,12 +18,16 @@ fn own_pair(event: Event) -> Option<(TaskId, TaskId)>
     ensures { result ≡ own_pair event }
 {
     match event {
-        Event::Free(made, by, _, _) => Some((by, made)),
+        Event::Free {
+            task: made,
+            maker: by,
+            ..
+        } => Some((by, made)),
         Event::Root(_, _)
-        | Event::Begin(_, _, _)
+        | Event::Begin { .. }
         | Event::Apply(_, _)
         | Event::Open(_, _)
-        | Event::Child(_, _, _, _)
+        | Event::Child { .. }
         | Event::Skip(_, _)
         | Event::CancelTask(_)
         | Event::CancelGroup(_, _)
@@ -31,7 +35,7 @@ fn own_pair(event: Event) -> Option<(TaskId, TaskId)>
         | Event::Next(_, _)
         | Event::Close(_, _)
         | Event::End(_, _)
-        | Event::Give(_, _, _) => None,
+        | Event::Give { .. } => None,
     }
 }
 
@@ -42,18 +46,18 @@ fn waiter_pair(event: Event) -> Option<(TaskId, TaskId)>
     match event {
         Event::Wait(waiter, awaited) => Some((awaited, waiter)),
         Event::Root(_, _)
-        | Event::Begin(_, _, _)
+        | Event::Begin { .. }
         | Event::Apply(_, _)
-        | Event::Free(_, _, _, _)
+        | Event::Free { .. }
         | Event::Open(_, _)
-        | Event::Child(_, _, _, _)
+        | Event::Child { .. }
         | Event::Skip(_, _)
         | Event::CancelTask(_)
         | Event::CancelGroup(_, _)
         | Event::Next(_, _)
         | Event::Close(_, _)
         | Event::End(_, _)
-        | Event::Give(_, _, _) => None,
+        | Event::Give { .. } => None,
     }
 }
 

@@ -132,8 +132,14 @@ pub(crate) fn number_of(event: Event) -> Option<i64>
 {
     match event {
         Event::End(_, ending) => number_in(ending),
-        Event::Give(_, _, Resume::Value(value)) => Some(value),
-        Event::Give(_, _, Resume::Fault(fault)) => number_in(Ending::Fault(fault)),
+        Event::Give {
+            resume: Resume::Value(value),
+            ..
+        } => Some(value),
+        Event::Give {
+            resume: Resume::Fault(fault),
+            ..
+        } => number_in(Ending::Fault(fault)),
         _ => None,
     }
 }
@@ -146,17 +152,25 @@ impl LogEntry {
     {
         match event {
             Event::Root(task, priority) => LogEntry::Root(priority, task),
-            Event::Begin(task, number, env) => {
-                LogEntry::Begin(env.priority, env.cancelled, task, number, env.room)
-            }
+            Event::Begin {
+                task,
+                turn: number,
+                env,
+            } => { LogEntry::Begin(env.priority, env.cancelled, task, number, env.room) }
             Event::Apply(task, number) => LogEntry::Apply(task, number),
-            Event::Free(task, by, priority, detached) => LogEntry::Free(
-                priority, detached, task, by,
-            ),
+            Event::Free {
+                task,
+                maker: by,
+                priority,
+                detached,
+            } => LogEntry::Free(priority, detached, task, by),
             Event::Open(owner, group) => LogEntry::Open(owner, group),
-            Event::Child(task, owner, group, priority) => {
-                LogEntry::Child(priority, task, owner, group)
-            }
+            Event::Child {
+                task,
+                owner,
+                group,
+                priority,
+            } => { LogEntry::Child(priority, task, owner, group) }
             Event::Skip(owner, group) => LogEntry::Skip(owner, group),
             Event::CancelTask(task) => LogEntry::CancelTask(task),
             Event::CancelGroup(owner, group) => LogEntry::CancelGroup(owner, group),
@@ -164,14 +178,26 @@ impl LogEntry {
             Event::Next(owner, group) => LogEntry::Next(owner, group),
             Event::Close(owner, group) => LogEntry::Close(owner, group),
             Event::End(task, ending) => LogEntry::End(EndingKind::of(ending), task, place),
-            Event::Give(task, number, Resume::Start) => LogEntry::GiveStart(task, number),
-            Event::Give(task, number, Resume::Go) => LogEntry::GiveGo(task, number),
-            Event::Give(task, number, Resume::Value(_)) => {
-                LogEntry::GiveAfter(EndingKind::Value, task, number, place)
-            }
-            Event::Give(task, number, Resume::Fault(fault)) => {
-                LogEntry::GiveAfter(EndingKind::of(Ending::Fault(fault)), task, number, place)
-            }
+            Event::Give {
+                task,
+                turn: number,
+                resume: Resume::Start,
+            } => LogEntry::GiveStart(task, number),
+            Event::Give {
+                task,
+                turn: number,
+                resume: Resume::Go,
+            } => LogEntry::GiveGo(task, number),
+            Event::Give {
+                task,
+                turn: number,
+                resume: Resume::Value(_),
+            } => { LogEntry::GiveAfter(EndingKind::Value, task, number, place) }
+            Event::Give {
+                task,
+                turn: number,
+                resume: Resume::Fault(fault),
+            } => { LogEntry::GiveAfter(EndingKind::of(Ending::Fault(fault)), task, number, place) }
         }
     }
 
@@ -187,15 +213,29 @@ impl LogEntry {
                     cancelled,
                     room,
                 };
-                Event::Begin(task, number, env)
+                Event::Begin {
+                    task,
+                    turn: number,
+                    env,
+                }
             }
             LogEntry::Apply(task, number) => Event::Apply(task, number),
-            LogEntry::Free(priority, detached, task, by) => Event::Free(
-                task, by, priority, detached,
-            ),
+            LogEntry::Free(priority, detached, task, by) => {
+                Event::Free {
+                    task,
+                    maker: by,
+                    priority,
+                    detached,
+                }
+            }
             LogEntry::Open(owner, group) => Event::Open(owner, group),
             LogEntry::Child(priority, task, owner, group) => {
-                Event::Child(task, owner, group, priority)
+                Event::Child {
+                    task,
+                    owner,
+                    group,
+                    priority,
+                }
             }
             LogEntry::Skip(owner, group) => Event::Skip(owner, group),
             LogEntry::CancelTask(task) => Event::CancelTask(task),
@@ -206,11 +246,23 @@ impl LogEntry {
             LogEntry::End(outcome, task, place) => {
                 Event::End(task, outcome.ending(number_at(numbers, place)))
             }
-            LogEntry::GiveStart(task, number) => Event::Give(task, number, Resume::Start),
-            LogEntry::GiveGo(task, number) => Event::Give(task, number, Resume::Go),
+            LogEntry::GiveStart(task, number) => Event::Give {
+                task,
+                turn: number,
+                resume: Resume::Start,
+            },
+            LogEntry::GiveGo(task, number) => Event::Give {
+                task,
+                turn: number,
+                resume: Resume::Go,
+            },
             LogEntry::GiveAfter(outcome, task, number, place) => {
                 let ending = outcome.ending(number_at(numbers, place));
-                Event::Give(task, number, resume_of(ending))
+                Event::Give {
+                    task,
+                    turn: number,
+                    resume: resume_of(ending),
+                }
             }
         }
     }

@@ -38,7 +38,16 @@ fn body_of(alloc: Global, script: &Arc<Script>, effect: &Effect) -> Result<Optio
     ensures { IfOk result (λ body. IsBodyOf (arc_value script.now) (effect_view effect.now) body) }
 {
     match effect {
-        Effect::Spawn(invocation, _, bindings) | Effect::Add(_, _, invocation, _, bindings) => {
+        Effect::Spawn {
+            invocation,
+            bindings,
+            ..
+        }
+        | Effect::Add {
+            invocation,
+            bindings,
+            ..
+        } => {
             let bindings = bindings.copy()?;
             Ok(Some(start(alloc, script, invocation, bindings)?))
         }

@@ -73,7 +73,7 @@ fn counted_on(
 {
     let EffectCounts { own, opened, room } = counts;
     match effect {
-        Effect::Spawn(invocation, _, _) | Effect::Detach(invocation, _) => {
+        Effect::Spawn { invocation, .. } | Effect::Detach(invocation, _) => {
             if room == 0 || !runs(script, invocation) {
                 return None;
             }
@@ -93,7 +93,11 @@ fn counted_on(
                 room,
             })
         }
-        Effect::Add(group, _, invocation, _, _) => {
+        Effect::Add {
+            group,
+            invocation,
+            ..
+        } => {
             if room == 0 || !uses(ledger, task, counts, *group) || !runs(script, invocation) {
                 return None;
             }

@@ -68,7 +68,15 @@ fn note_free(
     ensures capacity { vec_capacity jobs.new ≡ vec_capacity jobs.old }
 {
     let made = TaskId(ledger.tasks() as u32);
-    note_aside(ledger, Event::Free(made, task, priority, detached));
+    note_aside(
+        ledger,
+        Event::Free {
+            task: made,
+            maker: task,
+            priority,
+            detached,
+        },
+    );
     jobs.push_reserved(Job::new(made, 0, Resume::Start, body));
 }
 
@@ -94,7 +102,15 @@ fn note_child(
     ensures capacity { vec_capacity jobs.new ≡ vec_capacity jobs.old }
 {
     let made = TaskId(ledger.tasks() as u32);
-    note_aside(ledger, Event::Child(made, task, group, priority));
+    note_aside(
+        ledger,
+        Event::Child {
+            task: made,
+            owner: task,
+            group,
+            priority,
+        },
+    );
     jobs.push_reserved(Job::new(made, 0, Resume::Start, body));
 }
 
@@ -189,7 +205,7 @@ pub fn note_effect(
     ensures few { vec_len jobs.new ≤ vec_len jobs.old + 1 }
 {
     match effect {
-        Effect::Spawn(_, priority, _) => {
+        Effect::Spawn { priority, .. } => {
             let Some(body) = body else { unreachable!() };
             note_free(ledger, jobs, task, priority.unwrap_or(own), false, body);
         }
@@ -198,7 +214,12 @@ pub fn note_effect(
             note_free(ledger, jobs, task, *priority, true, body);
         }
         Effect::Open => note_open(ledger, task),
-        Effect::Add(group, unless, _, priority, _) => {
+        Effect::Add {
+            group,
+            unless_cancelled: unless,
+            priority,
+            ..
+        } => {
             let Some(body) = body else { unreachable!() };
             let priority = priority.unwrap_or(Priority::Background);
             note_add(ledger, jobs, task, *group, *unless, priority, body);

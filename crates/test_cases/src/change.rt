@@ -91,9 +91,17 @@ fn with_cancel(alloc: Global, log: &EventLog) -> Result<EventLog, AllocError> {
     let mut changed = Vec::new(alloc);
     for place in 0..log.len() {
         match log.event(place) {
-            Event::Begin(task, number, env) if place < 4 => {
+            Event::Begin {
+                task,
+                turn: number,
+                env,
+            } if place < 4 => {
                 changed.push(Event::CancelTask(TaskId(0)))?;
-                changed.push(Event::Begin(task, number, with_flag(env)))?;
+                changed.push(Event::Begin {
+                    task,
+                    turn: number,
+                    env: with_flag(env),
+                })?;
             }
             other => changed.push(other)?,
         }

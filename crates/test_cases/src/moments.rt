@@ -22,7 +22,11 @@ impl Gate for Counting {
     fn at(&self, moment: Moment) {
         let _ = match moment {
             Moment::Took(_, _) => self.taken.fetch_add(1, Ordering::SeqCst),
-            Moment::Turned(ExecId(0), _, TaskId(1)) => self.turns.fetch_add(1, Ordering::SeqCst),
+            Moment::Turned {
+                executor: ExecId(0),
+                task: TaskId(1),
+                ..
+            } => self.turns.fetch_add(1, Ordering::SeqCst),
             _ => 0,
         };
     }

@@ -109,7 +109,13 @@ fn add(
 ) -> Result<Effect, CaseFault> {
     let group = number(group)?;
     let (child, priority, bound) = made(alloc, script, words)?;
-    Ok(Effect::Add(group, unless, child, priority, bound))
+    Ok(Effect::Add {
+        group,
+        unless_cancelled: unless,
+        invocation: child,
+        priority,
+        bindings: bound,
+    })
 }
 
 // A task that is detached.
@@ -125,7 +131,11 @@ fn detach(alloc: Global, script: &Script, words: &[&str]) -> Result<Effect, Case
 // A task that is spawned.
 fn spawn(alloc: Global, script: &Script, words: &[&str]) -> Result<Effect, CaseFault> {
     let (made, priority, bound) = made(alloc, script, words)?;
-    Ok(Effect::Spawn(made, priority, bound))
+    Ok(Effect::Spawn {
+        invocation: made,
+        priority,
+        bindings: bound,
+    })
 }
 
 // A child that is added.

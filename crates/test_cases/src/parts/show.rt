@@ -88,8 +88,8 @@ pub fn env(out: &mut String, given: Env) -> Result<(), AllocError> {
 /// An event.
 pub fn event(out: &mut String, happened: Event) -> Result<(), AllocError> {
     match happened {
-        Event::Root(..) | Event::Free(..) | Event::Child(..) => made(out, happened),
-        Event::Begin(..) | Event::Apply(..) | Event::End(..) | Event::Give(..) => {
+        Event::Root(..) | Event::Free { .. } | Event::Child { .. } => made(out, happened),
+        Event::Begin { .. } | Event::Apply(..) | Event::End(..) | Event::Give { .. } => {
             turn_event(out, happened)
         }
         Event::CancelTask(TaskId(task)) => write!(out, "cancel t{task}"),
@@ -105,12 +105,22 @@ fn made(out: &mut String, happened: Event) -> Result<(), AllocError> {
             let own = priority(own);
             write!(out, "root t{task} {own}")
         }
-        Event::Free(TaskId(task), TaskId(by), own, detached) => {
+        Event::Free {
+            task: TaskId(task),
+            maker: TaskId(by),
+            priority: own,
+            detached,
+        } => {
             let own = priority(own);
             let word = if detached { "detach" } else { "spawn" };
             write!(out, "{word} t{task} by t{by} {own}")
         }
-        Event::Child(TaskId(task), TaskId(owner), group, own) => {
+        Event::Child {
+            task: TaskId(task),
+            owner: TaskId(owner),
+            group,
+            priority: own,
+        } => {
             let own = priority(own);
             write!(out, "child t{task} of t{owner} group {group} {own}")
         }
@@ -121,7 +131,11 @@ fn made(out: &mut String, happened: Event) -> Result<(), AllocError> {
 // A task's turns, and its end.
 fn turn_event(out: &mut String, happened: Event) -> Result<(), AllocError> {
     match happened {
-        Event::Begin(TaskId(task), number, given) => {
+        Event::Begin {
+            task: TaskId(task),
+            turn: number,
+            env: given,
+        } => {
             write!(out, "begin t{task}.{number} ")?;
             env(out, given)
         }
@@ -130,7 +144,11 @@ fn turn_event(out: &mut String, happened: Event) -> Result<(), AllocError> {
             write!(out, "end t{task} ")?;
             ending(out, Some(ended))
         }
-        Event::Give(TaskId(task), number, begun) => {
+        Event::Give {
+            task: TaskId(task),
+            turn: number,
+            resume: begun,
+        } => {
             write!(out, "give t{task}.{number} ")?;
             resume(out, begun)
         }

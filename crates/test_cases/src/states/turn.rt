@@ -47,10 +47,18 @@ where
     let Some(task) = book.lock(rt).choose(state)? else {
         return Ok(None);
     };
-    gate.at(Moment::Chose(executor, worker, task));
+    gate.at(Moment::Chose {
+        executor,
+        worker,
+        task,
+    });
     book.lock(rt).start(state, worker)?;
     play(state, cx)?;
     book.lock(rt).turn(state, jobs)?;
-    gate.at(Moment::Turned(executor, worker, task));
+    gate.at(Moment::Turned {
+        executor,
+        worker,
+        task,
+    });
     Ok(Some(task))
 }

@@ -31,7 +31,11 @@ pub fn left(
 
 fn effect(out: &mut String, script: &Script, done: &Effect) -> Result<(), AllocError> {
     match done {
-        Effect::Spawn(spawned, given, standing) => {
+        Effect::Spawn {
+            invocation: spawned,
+            priority: given,
+            bindings: standing,
+        } => {
             out.push_str("spawn ")?;
             made(out, script, spawned, *given)?;
             with(out, script, standing)
@@ -41,7 +45,13 @@ fn effect(out: &mut String, script: &Script, done: &Effect) -> Result<(), AllocE
             made(out, script, detached, Some(*given))
         }
         Effect::Open => out.push_str("open"),
-        Effect::Add(group, unless, child, given, standing) => {
+        Effect::Add {
+            group,
+            unless_cancelled: unless,
+            invocation: child,
+            priority: given,
+            bindings: standing,
+        } => {
             write!(out, "add {group} ")?;
             out.push_str(if *unless { "unless " } else { "" })?;
             made(out, script, child, *given)?;
