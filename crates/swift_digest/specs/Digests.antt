@@ -39,12 +39,15 @@ pub record Digest : Type 0 where
   pub cards : ℕ → Card
   pub groups : ℕ → ℕ → GroupCard
 
+-- the card of a task in an empty log
 abbrev pub no_card : Card
 no_card = record { life = unborn; links = []; own = []; waiters = []; named = false; opened = 0 }
 
+-- the card of a group in an empty log
 abbrev pub no_group : GroupCard
 no_group = record { children = []; ended = []; asked = 0; closed = false; named = false }
 
+-- the digest of an empty log
 abbrev pub no_digest : Digest
 no_digest = record { made = 0; cards = λ t. no_card; groups = λ o g. no_group }
 
@@ -52,6 +55,7 @@ no_digest = record { made = 0; cards = λ t. no_card; groups = λ o g. no_group 
 abbrev pub said : {A : Type 0} → (Event → Option A) → Event → List A
 said says e = filter_map says (e ∷ [])
 
+-- 1 for what is so, and else 0
 abbrev pub one_if : Bool → ℕ
 one_if b = if b then 1 else 0
 
@@ -59,7 +63,7 @@ one_if b = if b then 1 else 0
 abbrev pub own_link : ℕ → Event → Option Link
 own_link t e = if task_of e == t then link_in e else None
 
--- One more event is written: each card, and then the digest.
+-- the card of task `t` after one more event
 abbrev pub card_noted : ℕ → Card → Event → Card
 card_noted t c e = record {
   life = if task_of e == t then lived c.life e else c.life;
@@ -70,6 +74,7 @@ card_noted t c e = record {
   opened = c.opened + one_if (opens t e);
 }
 
+-- the card of group `g` of task `o` after one more event
 abbrev pub group_noted : ℕ → ℕ → GroupCard → Event → GroupCard
 group_noted o g c e = record {
   children = c.children ++ said (child_in o g) e;
@@ -79,6 +84,7 @@ group_noted o g c e = record {
   named = c.named || names_group o g e;
 }
 
+-- a digest after one more event: each card is that after it, and a task that it makes beside the roots is counted
 abbrev pub noted : Digest → Event → Digest
 noted d e = record {
   made = d.made + one_if (is_made e);
@@ -86,10 +92,12 @@ noted d e = record {
   groups = λ o g. group_noted o g (d.groups o g) e;
 }
 
+-- a digest after more events, in order
 abbrev pub all_noted : Digest → List Event → Digest
 all_noted d [] = d
 all_noted d (e ∷ es) = all_noted (noted d e) es
 
+-- the digest of a log: that of the empty log, after each of its events
 unfoldable pub digest_of : List Event → Digest
 digest_of log = all_noted no_digest log
 
@@ -98,7 +106,7 @@ abbrev pub IsNewChild : List Event → Event → Type 0
 IsNewChild log (Child t o g p) = (life_of t.0 log).ending ≡ None
 IsNewChild log _ = Unit {0}
 
--- each event of a log does so where it stands
+-- each event of a log does so at its place in the log
 abbrev pub ChildrenAreNew : List Event → Type 0
 ChildrenAreNew log = (before after : List Event) (e : Event) → log ≡ before ++ e ∷ after → IsNewChild before e
 
@@ -156,6 +164,6 @@ reserved_in roots d = sum_by room_held (map (λ t. (d.cards t).life) (range_with
 abbrev pub room_in : ℕ → Digest → ℕ → ℕ
 room_in roots d t = min MADE (TASKS - (roots + d.made) - (reserved_in roots d - room_held (d.cards t).life))
 
--- a link that stands on some card
+-- a link that is on some card
 abbrev pub HasLink : Digest → Link → Type 0
 HasLink d x = (t : ℕ) × Contains (d.cards t).links x
