@@ -70,7 +70,7 @@ with_turn facts j r = record facts { log = (end_of facts j r).log; held = (end_o
 abbrev pub with_record : RecordView → Account → Account
 with_record r a = record a { records = a.records ++ r ∷ [] }
 
--- what a seat knows that has applied the turn of its first ticket `k`: account `a` with the record, and new tickets in its place
+-- what a seat knows that has applied the turn of its ticket `k`: `a` has the record, and for `k` come the tickets of the jobs made
 abbrev pub knowing_turn : BookFacts → Account → Ticket → List Ticket → RecordView → BookKnown → BookKnown
 knowing_turn taken a k rest r v = record v { accounts = with_record r a ∷ []; tickets = map fresh (end_of taken k.job r).jobs ++ rest }
 

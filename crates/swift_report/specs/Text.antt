@@ -173,7 +173,7 @@ row_among [] rows k = []
 row_among (a ∷ actors) [] k = []
 row_among (a ∷ actors) (row ∷ rows) k = if a == k then row.items else row_among actors rows k
 
--- the fields of actor `k`, where those of the actors of its executor are given
+-- the fields of actor `k`, where those of the actors of its executor are given; else none
 abbrev pub row_in : Option (Vec (Vec ℤ Global) Global) → List ℕ → ℕ → List ℤ
 row_in None actors k = []
 row_in (Some rows) actors k = row_among actors rows.items k
