@@ -21,7 +21,7 @@ use swift_types::Ending;
 use swift_types::limits::WORKERS;
 use swift_workers::{Gate, RunFault, run};
 
-/// Runs the script that a text spells, on so many threads, and writes its report as JSON (the format is our own), in one piece as far as
+/// Runs the script that a text spells, on `workers` threads, and writes its report as JSON (the format is our own), in one piece as far as
 /// the device takes it; with `quiet` without the journals. True where no task ended with a fault. It is the report whose text `run_text`
 /// of swift_tool writes, and all else is as there.
 ///

@@ -91,7 +91,7 @@ pub(crate) fn sum_up(counts: &mut [usize]) -> usize {
     sum
 }
 
-// Reads one event. The slot of the turn whose block it stands in.
+// Reads one event. The slot of the turn whose block it is in.
 fn read_event(
     history: &mut History,
     event: Event,
@@ -138,7 +138,7 @@ fn read_event(
     }
 }
 
-/// What a log of so many tasks says of each turn, in time and memory linear in the log. An `Err` says that a growth was refused.
+/// What a log of `tasks` tasks says of each turn, in time and memory linear in the log. An `Err` says that a growth was refused.
 pub(crate) fn history_of(
     alloc: Global,
     tasks: usize,

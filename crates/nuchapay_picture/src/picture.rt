@@ -41,7 +41,7 @@ fn folded_turns(alloc: Global, checkpoints: &[Checkpoint]) -> Result<Vec<usize>,
     Ok(folded)
 }
 
-// When the turn of each box ran, and what made it, by the log of a run of so many tasks.
+// When the turn of each box ran, and what made it, by the log of a run of `tasks` tasks.
 fn placed_by_log(
     alloc: Global,
     tasks: usize,

@@ -36,7 +36,7 @@ pub(crate) fn put(out: &mut Vec<u8>, pieces: &[TextPiece<'_>]) -> Result<(), All
     Ok(())
 }
 
-/// Appends at most so many bytes of a text, the last two of which are dots where some are left out.
+/// Appends at most `most` bytes of a text, the last two of which are dots where some are left out.
 pub(crate) fn put_fitting(out: &mut Vec<u8>, text: &[u8], most: usize) -> Result<(), AllocError> {
     if text.len() <= most {
         return out.extend_from_slice(text);

@@ -29,7 +29,7 @@ pub(crate) fn end_text(out: &mut Vec<u8>) -> Result<(), AllocError> {
     out.extend_from_slice(b"</text>\n")
 }
 
-/// Writes at most so many characters of a line of text.
+/// Writes at most `most` characters of a line of text.
 pub(crate) fn write_text(
     out: &mut Vec<u8>,
     class: &str,

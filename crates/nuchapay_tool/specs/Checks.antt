@@ -16,7 +16,7 @@ use Rattle.nuchapay_tool.specs.Marks.{mark_of}
 use Rattle.nuchapay_tool.specs.Refusals.{refusal_text}
 use Rattle.nuchapay_tool.specs.Topics.{refusal_name}
 
--- so many of a thing
+-- a number of things: `n`, and the word for one, with an `s` where it is not 1
 abbrev pub counted : ℕ → List ℕ → List ℕ
 counted n one = concat (decimal n ∷ codes " " ∷ one ∷ (if n == 1 then [] else codes "s") ∷ [])
 

@@ -35,7 +35,7 @@ source_text colour number text line = concat (blue colour ∷ number ∷ codes "
 abbrev pub advice_text : Bool → List ℕ → List ℕ → List ℕ
 advice_text colour gutter help = concat (gutter ∷ blue colour ∷ codes " =" ∷ plain colour ∷ codes " " ∷ bold colour ∷ codes "help" ∷ plain colour ∷ codes ": " ∷ help ∷ codes "\n" ∷ [])
 
--- where a refusal stands, with that line of the text and the mark under it, and what to do; with this number beside the line, and the
+-- where a refusal is, with that line of the text and the mark under it, and what to do; with this number beside the line, and the
 -- gutter beside all else
 abbrev pub text_beside : Bool → List ℕ → List ℕ → List ℕ → List ℕ → ℕ → Option LineMark → List ℕ → List ℕ
 text_beside colour gutter number file text line mark help = concat (
@@ -47,7 +47,7 @@ text_beside colour gutter number file text line mark help = concat (
     ∷ advice_text colour gutter help ∷ []
     )
 
--- the same, with the number of the line
+-- what follows the first line of a refusal on line `line` of the text, with the number of that line beside it
 abbrev pub located_text : Bool → List ℕ → List ℕ → ℕ → Option LineMark → List ℕ → List ℕ
 located_text colour file text line mark help = text_beside colour (gutter line) (decimal line) file text line mark help
 

@@ -2,12 +2,12 @@
 use Rattle.std.specs.Prelude.{ℕ, zero, suc, ◌-◌, ◌==◌, ◌||◌, ◌&&◌, Option, Some, None, List, [], ◌∷◌, codes, length, map, min, position, take, drop, nat_le, nat_lt, if◌then◌else◌}
 use Rattle.std.specs.List.{concat}
 
--- what stands before a line feed at this place; the whole text where there is none
+-- what comes before a line feed at this place; the whole text where there is none
 abbrev pub before_feed : Option ℕ → List ℕ → List ℕ
 before_feed None text = text
 before_feed (Some place) text = take place text
 
--- what stands after a line feed at this place; nothing where there is none
+-- what comes after a line feed at this place; nothing where there is none
 abbrev pub after_feed : Option ℕ → List ℕ → List ℕ
 after_feed None text = []
 after_feed (Some place) text = drop (suc place) text
@@ -37,9 +37,10 @@ shown_byte b = if nat_le 32 b && nat_le b 126 then b else (if b == 9 || b == 13 
 abbrev pub dots : ℕ → List ℕ
 dots n = if nat_lt 1000 n then codes " .." else []
 
--- a line as it is shown
+-- a line as it is shown: its first 1,000 bytes, each as it is shown, and dots where it has more
 abbrev pub shown_of : List ℕ → List ℕ
 shown_of line = concat (map shown_byte (take (min (length line) 1000) line) ∷ dots (length line) ∷ [])
 
+-- the line of `text` with the number `line`, counted from 1, as it is shown
 abbrev pub shown_line : List ℕ → ℕ → List ℕ
 shown_line text line = shown_of (source_line text line)

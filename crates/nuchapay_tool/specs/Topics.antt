@@ -47,6 +47,7 @@ turn_fault_name turn.Empty = codes "empty"
 turn_fault_name turn.Depth = codes "depth"
 turn_fault_name turn.Turns = codes "turns"
 
+-- the word by which a topic is asked for: the number of a refusal of a script or of a run, or the word of a fault of a turn
 abbrev pub name_of : Topic → List ℕ
 name_of (Script k) = refusal_name k
 name_of (Run r) = run_refusal_name r

@@ -75,7 +75,7 @@ fn accepted(alloc: Global, file: &str, script: &Script) -> Result<String, AllocE
     parts.as_slice().concat(alloc)
 }
 
-// So many of a thing.
+// A number of things: `count`, and the word for one, with an `s` where it is not 1.
 fn counted(alloc: Global, count: usize, one: &str) -> Result<String, AllocError>
     ensures { IfOk result (λ said. string_bytes said ≡ counted count one.now) }
 {

@@ -11,7 +11,7 @@ use crate::page::Page;
 use crate::source::shown_line;
 use std::alloc::{AllocError, Global};
 
-/// What is said of a refusal: its page's number and text, where it stands, that line of the text with a mark under it, and what to do.
+/// What is said of a refusal: its page's number and text, where it is, that line of the text with a mark under it, and what to do.
 /// Linear in the text.
 ///
 /// # Errors
@@ -90,7 +90,7 @@ fn located(
     )
 }
 
-// The same with this number beside the line of the text, and the gutter beside all else.
+// The refusal at a line of a text, with `number` beside that line, and the gutter beside all else.
 fn beside(
     alloc: Global,
     colour: bool,

@@ -26,11 +26,11 @@ pub enum PictureFormat {
 pub enum Request<'a> {
     /// To run a script, on how many threads (1 to 8 where `request` made it), and whether without its journals.
     Run(Source<'a>, u32, bool),
-    /// The same, with the report as JSON.
+    /// To run a script, as `Run` does, with the report as JSON.
     RunJson(Source<'a>, u32, bool),
-    /// To run a script on so many threads, and to say of each turn what it did to the fields.
+    /// To run a script on this number of threads, and to say of each turn what it did to the fields.
     Values(Source<'a>, u32),
-    /// To run a script on so many threads, and to explain one of its turns.
+    /// To run a script on this number of threads, and to explain one of its turns.
     Why(Source<'a>, TurnName, u32),
     /// To say whether a text is a script, and why not; with colours where the last word says so.
     Check(Source<'a>, bool),
@@ -38,7 +38,7 @@ pub enum Request<'a> {
     Explain(Topic),
     /// To print the printed form of a script; laid out for people where the last word says so.
     Print(Source<'a>, bool),
-    /// To run a script on so many threads, and to show the run as a picture in this format.
+    /// To run a script on this number of threads, and to show the run as a picture in this format.
     Show(Source<'a>, u32, PictureFormat),
     /// To print the Swift program of a script.
     Swift(Source<'a>),

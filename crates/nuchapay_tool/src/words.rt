@@ -371,7 +371,7 @@ pub fn request<'a>(alloc: Global, words: &'a [String]) -> Result<Request<'a>, Er
     request_of(&mut command, words)
 }
 
-// The same by the words that the program takes.
+// What a command line asks for, by the words that the program takes.
 fn request_of<'a>(command: &mut Command<'a>, words: &'a [String]) -> Result<Request<'a>, Error>
     ensures { IfOk result HasCrew }
 {

@@ -20,6 +20,7 @@ change_text p e c = place_text p e c.actor c.field ++ codes " " ++ signed_decima
 abbrev pub note_line : List ℕ → List ℕ
 note_line words = codes "    " ++ words ++ codes "\n"
 
+-- the lines of notes, one after the other, each as `note_line` writes it
 abbrev pub note_lines : List (List ℕ) → List ℕ
 note_lines = flat_map note_line
 
@@ -32,10 +33,12 @@ pub record NotedPart : Type 0 where
   pub part : List ℕ
   pub notes : List (List ℕ)
 
+-- the parts of a text, one after the other, each with the lines of its notes after it
 abbrev pub with_notes : List NotedPart → List ℕ
 with_notes [] = []
 with_notes (p ∷ ps) = (p.part ++ note_lines p.notes) ++ with_notes ps
 
+-- the parts of a text, one after the other, without their notes
 abbrev pub without_notes : List NotedPart → List ℕ
 without_notes [] = []
 without_notes (p ∷ ps) = p.part ++ without_notes ps

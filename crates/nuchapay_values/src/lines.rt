@@ -30,7 +30,7 @@ pub fn copy_line(out: &mut Vec<u8>, text: &[u8], from: usize) -> Result<usize, A
     Ok(end)
 }
 
-/// Appends so many lines of a text, of which the first begins here. Where the next one begins.
+/// Appends `count` lines of a text, of which the first begins at byte `from`. Where the next one begins.
 pub fn copy_lines(
     out: &mut Vec<u8>,
     text: &[u8],
@@ -50,7 +50,7 @@ pub fn copy_lines(
     Ok(at)
 }
 
-/// The line of a text after so many others, without its line feed; empty where there is none.
+/// The line of a text after the first `number` lines, without its line feed; empty where there is none.
 pub fn line_at(text: &[u8], number: usize) -> &[u8] {
     let mut from = 0;
     for _ in 0..number {

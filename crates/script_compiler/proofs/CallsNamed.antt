@@ -23,7 +23,7 @@ use Rattle.script_compiler.specs.Waiting.{operations_in}
 use Rattle.script_compiler.specs.Calls.{target_wanted, target_in}
 use Rattle.script_compiler.proofs.Membership.{Has, has_left, has_right, has_cases}
 
--- These are the numbers of a method that is declared, and of its actor, and it has so many parameters.
+-- These are the numbers of a method that is declared, and of its actor, and it has `count` parameters.
 pub record IsNamed (d : DirectoryView) (actor method count : ℕ) : Type 0 where
   pub actor_name : List ℕ
   pub method_name : List ℕ

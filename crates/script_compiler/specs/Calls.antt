@@ -42,9 +42,10 @@ CallsAreThere c = (m : MethodView) → Contains c.methods m → (d : Operation) 
 abbrev pub RootsAreThere : CompiledView → Type 0
 RootsAreThere c = (r : RootView) → Contains c.roots r → IsStartable c r
 
--- the laws of checked scripts
+-- a law of checked scripts: where no name is wrong, each call, spawn, detach and add names a method that is there
 abbrev pub CheckedCalls : Type 0
 CheckedCalls = (decls : List DeclTree) → names_error decls ≡ None → CallsAreThere (compiled_of (script_in decls))
 
+-- a law of checked scripts: where no name is wrong, each root names a method that is there
 abbrev pub CheckedRoots : Type 0
 CheckedRoots = (decls : List DeclTree) → names_error decls ≡ None → RootsAreThere (compiled_of (script_in decls))

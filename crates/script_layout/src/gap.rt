@@ -1,8 +1,8 @@
-//! What stands between two tokens.
+//! What comes between two tokens.
 
 use crate::part::LayoutPart;
 
-/// What stands between two tokens.
+/// What comes between two tokens.
 #[derive(Clone, Copy)]
 pub(crate) enum Gap {
     Nothing,
@@ -13,7 +13,7 @@ pub(crate) enum Gap {
     EmptyLine,
 }
 
-/// What stands before a token in so many blocks, by what is before it.
+/// What comes before a token that is `depth` blocks deep, by the token before it.
 pub(crate) fn gap_before(before: LayoutPart, part: LayoutPart, depth: usize) -> Gap {
     match part {
         LayoutPart::Open
@@ -30,7 +30,7 @@ pub(crate) fn gap_before(before: LayoutPart, part: LayoutPart, depth: usize) -> 
     }
 }
 
-// What stands before a token that is no sign of its own, by what is before it.
+// What comes before a token that is no sign of its own, by what is before it.
 fn gap_after(before: LayoutPart, part: LayoutPart, depth: usize) -> Gap {
     let is_apart = matches!(part, LayoutPart::Head);
     match before {

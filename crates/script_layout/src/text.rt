@@ -12,7 +12,7 @@ use crate::part::{LayoutPart, part_at};
 use script_tokens::{Mark, Token};
 use std::alloc::{AllocError, Global};
 
-// In how many blocks a token stands, by that of the token before it.
+// In how many blocks a token is, by that of the token before it.
 fn depth_before(part: LayoutPart, depth: usize) -> usize {
     match part {
         LayoutPart::CloseBrace => depth.saturating_sub(1),
@@ -20,7 +20,7 @@ fn depth_before(part: LayoutPart, depth: usize) -> usize {
     }
 }
 
-// In how many blocks what follows a token stands.
+// In how many blocks what follows a token is.
 fn depth_after(part: LayoutPart, depth: usize) -> usize {
     match part {
         LayoutPart::OpenBrace => depth.saturating_add(1),
@@ -32,7 +32,7 @@ fn depth_after(part: LayoutPart, depth: usize) -> usize {
 #[derive(Drop)]
 struct WrittenLayout {
     text: Vec<u8>,
-    // In how many blocks what comes next stands.
+    // In how many blocks what comes next is.
     depth: usize,
     // What was written last.
     last: LayoutPart,
@@ -67,7 +67,7 @@ impl WrittenLayout {
         }
     }
 
-    // Puts what stands before a token after the others.
+    // Puts what comes before a token after the others.
     fn begin(&mut self, part: LayoutPart) -> Result<(), AllocError>
         ensures { (ts : List Token) → LaysOut ts self.old.text.items → OnOk result (LaysOut ts self.new.text.items) }
     {
@@ -89,7 +89,7 @@ impl WrittenLayout {
         Ok(())
     }
 
-    // The same, unless it is a parenthesis that is needless.
+    // Puts a token after the others, unless it is a parenthesis that is needless.
     fn token_unless(
         &mut self,
         alloc: Global,

@@ -16,7 +16,7 @@ use Rattle.script_code.specs.Tree as code
 use Rattle.script_code.specs.Tree.{Term, CallTarget, Wanted, Operation, Code, followed, end, act, choice, loop}
 use Rattle.script_lowering.specs.Plan.{PlanView, executor_at, actor_place_of}
 
--- whether what stands under a name is a number
+-- whether what a name means is a number
 abbrev pub is_number : NameKind → Bool
 is_number kind.Field = false
 is_number kind.Number = true
@@ -30,19 +30,19 @@ is_handle kind.Number = false
 is_handle kind.Task = true
 is_handle kind.Group = true
 
--- how many numbers and how many handles stand there: the places of the next ones
+-- how many numbers are in scope: the place of the next one
 abbrev pub numbers_in : ScopeView → ℕ
 numbers_in s = count_by is_number s.kinds
 
--- how many handles stand there: the place of the next one
+-- how many handles are in scope: the place of the next one
 abbrev pub handles_in : ScopeView → ℕ
 handles_in s = count_by is_handle s.kinds
 
--- the place of a number among the numbers that stand there, the oldest first, and of a handle among the handles
+-- the place of a number among the numbers in scope, the oldest first
 abbrev pub number_place : ScopeView → List ℕ → ℕ
 number_place s name = count_by is_number (take (place_of s.names name) s.kinds)
 
--- the place of a handle among the handles that stand there, the oldest first
+-- the place of a handle among the handles in scope, the oldest first
 abbrev pub handle_place : ScopeView → List ℕ → ℕ
 handle_place s name = count_by is_handle (take (place_of s.names name) s.kinds)
 
@@ -144,6 +144,7 @@ headed_code p s (Assume name) inner =
     else act code.isolated end
 
 abbrev mutual
+  -- the code of a statement, where `s` is the scope before it: the block of a head is in the scope within that head
   pub stmt_code : PlanView → ScopeView → StmtTree → Code
   stmt_code p s (Do a) = action_code p s a
   stmt_code p s (Headed h b) = headed_code p s h (block_code p (scope_within s h) b)

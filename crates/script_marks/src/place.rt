@@ -29,7 +29,7 @@ use swift_script::ScriptFaultKind;
 pub struct Failure {
     /// The cause.
     pub kind: ScriptFaultKind,
-    /// How many tokens stand before the one that is concerned; all of them where the text ends early.
+    /// How many tokens come before the one that is concerned; all of them where the text ends early.
     pub place: usize,
 }
 
@@ -71,7 +71,7 @@ fn kind_of_fault(kind: Kind) -> ScriptFaultKind
     }
 }
 
-// The same of tokens that spell these declarations.
+// The first failure of tokens that spell these declarations.
 fn in_names(
     alloc: Global,
     seed: Seed,
@@ -99,7 +99,7 @@ fn of_name(tokens: &[Token], error: NameError) -> Failure
     }
 }
 
-// How many tokens after the name the one stands that is concerned.
+// How many tokens after the name the one comes that is concerned.
 fn past_name(kind: NameErrorKind) -> usize
     ensures is { result ≡ past_name kind }
     ensures most { result ≤ 2 }
@@ -123,7 +123,7 @@ fn kind_of_name(kind: NameErrorKind) -> ScriptFaultKind
     }
 }
 
-// The same of tokens that spell declarations whose names are in order.
+// The first failure of tokens that spell declarations whose names are in order.
 #[tactic(auto, unfolding(swift_script::specs::Scripts::parts_of))]
 fn in_parts(
     alloc: Global,

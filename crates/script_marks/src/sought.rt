@@ -1,4 +1,4 @@
-//! A kind of token, and where it stands among others.
+//! A kind of token, and where it is among others.
 
 ghost use Rattle.std.specs.Prelude.{◌≡◌, ◌≤◌, length, map};
 ghost use Rattle.script_tokens.specs.Pieces.{piece};
@@ -25,7 +25,7 @@ fn passes(sought: SoughtSpan, token: &Token) -> bool
     }
 }
 
-/// The place of the token that is of a kind and before which so many others are of it; the number of tokens where there
+/// The place of the token that is of a kind and before which `before` others are of it; the number of tokens where there
 /// is none. Linear in the tokens.
 pub(crate) fn place_of(tokens: &[Token], sought: SoughtSpan, before: usize) -> usize
     ensures place { result ≡ place_of (passes sought) before (map piece tokens.now) }

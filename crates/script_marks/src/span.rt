@@ -14,7 +14,7 @@ pub struct Span {
     pub to: usize,
 }
 
-/// Which bytes are the token before which so many others stand; none where there are not so many. White space and comments are no
+/// Which bytes are the token before which `place` others come; none where there are fewer. White space and comments are no
 /// tokens. Linear in the bytes, and without memory.
 pub fn token_span(text: &[u8], place: usize) -> Option<Span>
     ensures { IfSome result (λ s. StandsAt text.now text.now place s.from s.to) }

@@ -44,12 +44,13 @@ abbrev pub with_names : List (List ℕ) → List (List ℕ) → List (List ℕ)
 with_names seen [] = seen
 with_names seen (n ∷ ns) = with_names (with_name seen n) ns
 
--- a method of the actor at a place
+-- a method of the actor at a place goes after the others; a second one of its name adds nothing
 abbrev pub with_method : ℕ → MethodTree → DirectoryView → DirectoryView
 with_method actor m d =
     if is_among d.methods (method_key actor m.name) then d
     else record d { methods = d.methods ++ method_key actor m.name ∷ []; params = d.params ++ length m.params ∷ [] }
 
+-- the methods of the actor at a place go after the others, in order; a second one of a name adds nothing
 abbrev pub with_methods : ℕ → List MethodTree → DirectoryView → DirectoryView
 with_methods actor [] d = d
 with_methods actor (m ∷ ms) d = with_methods actor ms (with_method actor m d)
@@ -60,16 +61,19 @@ with_actor a d =
     if is_among d.actors a.name then d
     else with_methods (length d.actors) a.methods (record d { actors = d.actors ++ a.name ∷ []; fields = d.fields ++ with_names [] (field_names a.fields) ∷ [] })
 
+-- a declaration adds what it declares; a second one of its name adds nothing
 abbrev pub with_decl : DeclTree → DirectoryView → DirectoryView
 with_decl (Executes x) d = record d { executors = with_name d.executors x.name }
 with_decl (Binds l) d = record d { locals = with_name d.locals l.name }
 with_decl (Acts a) d = with_actor a d
 with_decl (Roots r) d = record d { roots = with_name d.roots r.name }
 
+-- declarations add what they declare, in order
 abbrev pub with_decls : List DeclTree → DirectoryView → DirectoryView
 with_decls [] d = d
 with_decls (x ∷ xs) d = with_decls xs (with_decl x d)
 
+-- the directory of a script without declarations
 abbrev pub nothing_declared : DirectoryView
 nothing_declared = record { executors = []; locals = []; roots = []; actors = []; fields = []; methods = []; params = [] }
 
@@ -77,7 +81,7 @@ nothing_declared = record { executors = []; locals = []; roots = []; actors = []
 abbrev pub directory_of : List DeclTree → DirectoryView
 directory_of decls = with_decls decls nothing_declared
 
--- the executors in the order of the text, each as often as it stands there
+-- the executors in the order of the text, each as often as it is declared
 abbrev pub executors_in : List DeclTree → List (List ℕ)
 executors_in [] = []
 executors_in (Executes x ∷ xs) = x.name ∷ executors_in xs
@@ -119,6 +123,6 @@ params_in [] = []
 params_in (Acts a ∷ xs) = map (λ m. length m.params) a.methods ++ params_in xs
 params_in (_ ∷ xs) = params_in xs
 
--- all that stands in the text, with nothing left out
+-- all that the text declares, with nothing left out
 abbrev pub declared_in : List DeclTree → DirectoryView
 declared_in decls = record { executors = executors_in decls; locals = locals_in decls; roots = roots_in decls; actors = actors_in decls; fields = fields_in decls; methods = methods_from 0 decls; params = params_in decls }

@@ -13,7 +13,7 @@ use crate::scope::Scope;
 use script_grammar::{Awaited, Call, Make, Name, Value, Wait};
 use std::alloc::Global;
 
-/// Whether these names are an actor and one of its methods, with so many parameters. An error stands at the actor's
+/// Whether these names are an actor and one of its methods, with `count` parameters. An error is at the actor's
 /// name where no actor has that name, and else at the method's.
 pub(crate) fn target(
     alloc: Global,

@@ -1,11 +1,11 @@
-//! What is known of the names that stand and of the fields of other actors.
+//! What is known of the names in scope and of the fields of other actors.
 
 ghost use Rattle.std.specs.Prelude.{◌≡◌, ◌==◌, ℕ, [], if◌then◌else◌, map, min, slice_index_or, OnOk, OnErr};
 
 use std::alloc::{AllocError, Global};
 use std::marker::Model;
 
-/// For each actor, by its place, how many of the oldest names that stand are known to be no names of its fields. So an
+/// For each actor, by its place, how many of the oldest names in scope are known to be no names of its fields. So an
 /// `assume` of an actor that was assumed before looks at newer names alone.
 #[derive(Drop)]
 pub(crate) struct CheckedNames {
@@ -37,7 +37,7 @@ impl CheckedNames {
         self.counts.get(actor).copied().unwrap_or(0)
     }
 
-    /// From here on so many are known of that actor.
+    /// From here on `names` are known of that actor.
     pub(crate) fn note(&mut self, actor: usize, names: usize) -> Result<(), AllocError>
         ensures noted { OnOk result ((k : ℕ) → slice_index_or self.new k 0 ≡ (if k == actor then names else slice_index_or self.old k 0)) }
         ensures err { OnErr result ((k : ℕ) → slice_index_or self.new k 0 ≡ slice_index_or self.old k 0) }
@@ -49,7 +49,7 @@ impl CheckedNames {
         Ok(())
     }
 
-    /// No more than so many names stand. It takes time linear in the actors up to the last one that is known of.
+    /// No more than `names` names are in scope. It takes time linear in the actors up to the last one that is known of.
     pub(crate) fn lower(&mut self, names: usize)
         ensures { self.new ≡ map (min names) self.old }
     {

@@ -138,7 +138,7 @@ impl Declared {
         }
     }
 
-    /// Whether some of these names is one of a field of the actor at a place, where the first ones, up to so many, are
+    /// Whether some of these names is one of a field of the actor at a place, where the first `cleared` ones are
     /// known to be none. It takes time linear in those fields or in the names that are not known, whichever are fewer.
     pub(crate) fn has_field_among(&self, actor: usize, names: &Names, cleared: usize) -> bool
         requires cleared { share_a_name (fields_at self.now actor) (take cleared names.now) ≡ false }

@@ -5,32 +5,32 @@ ghost use Rattle.script_names.specs.declared.error.CheckError.TheVariants.{Memor
 
 use std::alloc::{AllocError, AllocFailed};
 
-/// What is wrong with a name where it stands (our own).
+/// What is wrong with a name at its place (our own).
 #[derive(Clone, Copy)]
 pub enum NameErrorKind {
     /// The name is taken there.
     Twice,
-    /// Nothing of that name stands there.
+    /// Nothing of that name is in scope.
     Unknown,
     /// A call with another number of arguments than the method has parameters.
     Arguments,
-    /// The name stands there for something else: a task, a group and a number are confused.
+    /// The name means something else there: a task, a group and a number are confused.
     Confused,
     /// A child is added inside a `bind` that was opened inside its group.
     BoundInside,
     /// One executor, actor or root more than there may be.
     TooMany,
-    /// The number after `pinned` is above the greatest number of a worker. It stands two tokens after the executor's
+    /// The number after `pinned` is above the greatest number of a worker. It comes two tokens after the executor's
     /// name.
     TooGreat,
 }
 
-/// What is wrong, and how many names stand in the text before the name that is concerned.
+/// What is wrong, and how many names come in the text before the name that is concerned.
 #[derive(Clone, Copy)]
 pub struct NameError {
     /// What is wrong.
     pub kind: NameErrorKind,
-    /// How many names stand before it, from the start of the text.
+    /// How many names come before it, from the start of the text.
     pub names_before: u32,
 }
 
@@ -60,7 +60,7 @@ impl<T: Drop> From<AllocFailed<T>> for CheckError {
 }
 
 impl CheckError {
-    /// This is wrong with the name before which so many names stand.
+    /// This is wrong with the name before which `names_before` names come.
     pub(crate) fn at(kind: NameErrorKind, names_before: u32) -> CheckError
         ensures { result ≡ CheckError.Name (record { kind = kind; names_before = names_before }) }
     {

@@ -88,7 +88,7 @@ impl Names {
         false
     }
 
-    /// Whether some name of another list is one of these, where its first ones, up to so many, are known to be none. It
+    /// Whether some name of another list is one of these, where its first `cleared` ones are known to be none. It
     /// takes time linear in these names or in those that are not known, whichever are fewer.
     pub(crate) fn has_any_of(&self, others: &Names, cleared: usize) -> bool
         requires cleared { share_a_name self.now (take cleared others.now) ≡ false }
@@ -113,7 +113,7 @@ impl Names {
         Ok(place)
     }
 
-    /// Keeps the first names, up to so many, in time linear in those that go.
+    /// Keeps the first `len` names, in time linear in those that go.
     pub fn truncate(&mut self, len: usize)
         ensures { self.new ≡ take len self.old }
     {

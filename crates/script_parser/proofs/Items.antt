@@ -83,7 +83,7 @@ taken_with Is Are make read ts x is takes e =
     let t = takes a.0 a.1 in
     taken_as Are ts t.front a.0.1 (make a.0.0) x t.parts (is t.front a.0.0 t.is) a.2
 
--- the same, after one more token
+-- what is made of a part that is read after one more token
 pub taken_after : {A B : Type 0} (Is : List TokenView → A → Type 0) (Are : List TokenView → B → Type 0) (make : A → B) (read : Reads A) (p : TokenView) (ts : List TokenView) (x : B × List TokenView)
     → ((us : List TokenView) (a : A) → Is us a → Are (p ∷ us) (make a)) → ((a : A × List TokenView) → read ts ≡ Ok a → Taken Is ts a)
     → (read ts >>= λ a. Ok (make a.0, a.1)) ≡ Ok x → Taken Are (p ∷ ts) x

@@ -31,7 +31,7 @@ one m n ts a b da db =
     let wide = m + n in
     same_tree wide ts b (a, []) (script_more n wide (omega arith) ts b db) (decls_again wide ts a (script_more m wide (omega arith) ts a da))
 
--- the same, where the tokens are those of the code
+-- a script, where `n` is the number of its tokens, as the code counts them
 pub found_of : (n : ℕ) (ts : List TokenView) (x : List DeclTree) (rest : List TokenView) → n ≡ length ts → items_at decls_end (decl_at NESTING) (n + 1) ts ≡ Ok (x, rest) → IsScript NESTING ts x
 found_of n ts x rest is e = is_found ts (x, rest) (ap (λ (k : ℕ). items_at decls_end (decl_at NESTING) (k + 1) ts) (sym is) ∙ e)
 

@@ -1,5 +1,5 @@
 -- Which scripts the grammar allows within a limit: expressions are no higher, no more blocks are open at once, and
--- each part stands where it may.
+-- each part is where it may be.
 use Rattle.std.specs.Prelude.{◌≡◌, ℕ, ◌≤◌, ◌<◌, ◌-◌, true, Option, Some, None, ⊤}
 use Rattle.std.specs.List.{All}
 use Rattle.script_grammar.specs.declared.region.Atoms.{Atoms}
@@ -54,7 +54,7 @@ abbrev pub MakeFits : ℕ → MakeTree → Type 0
 MakeFits limit (Spawned c p) = CallFits limit c
 MakeFits limit (Detached c p) = CallFits limit c
 
--- a statement without a block is within the limit, and may stand in the region
+-- a statement without a block is within the limit, and may be in the region
 abbrev pub ActionFits : ℕ → Region → ActionTree → Type 0
 ActionFits limit r (Let x v) = ValueFits limit r v
 ActionFits limit r (LetTask x m) = (may_act r ≡ true) × MakeFits limit m
@@ -68,7 +68,7 @@ ActionFits limit r (Throw t) = IsLow limit t
 ActionFits limit r Check = ⊤
 ActionFits limit r Yield = may_act r ≡ true
 
--- a block's head is within the limit, and may stand in the region
+-- a block's head is within the limit, and may be in the region
 abbrev pub HeadFits : ℕ → Region → HeadTree → Type 0
 HeadFits limit r (If t) = IsLow limit t
 HeadFits limit r (While t) = IsLow limit t
@@ -91,6 +91,7 @@ abbrev mutual
   StmtFits limit r blocks (Headed h ss) = HeadFits limit r h × (0 < blocks) × BlockFits limit (region_in r h) (blocks - 1) ss
   StmtFits limit r blocks (IfElse t ss rs) = IsLow limit t × (0 < blocks) × BlockFits limit r (blocks - 1) ss × BlockFits limit r (blocks - 1) rs
 
+  -- each statement of a block, where at most `blocks` further blocks may be open at once
   pub BlockFits : ℕ → Region → ℕ → BlockTree → Type 0
   BlockFits limit r blocks nothing = ⊤
   BlockFits limit r blocks (first_then s ss) = StmtFits limit r blocks s × BlockFits limit r blocks ss

@@ -13,7 +13,7 @@ use Rattle.script_grammar.specs.Grammar.{mark_of}
 use Rattle.script_grammar.specs.Tree.{ExprTree, Number, Named, Local, OwnPriority, IsCancelled, Negated, Inverted, Both, CallTree, AwaitedTree, Called, TaskOf, NextOf, WaitTree, ValueTree, Computed, Waited, MakeTree, Spawned, Detached, AddTree, ActionTree, Let, LetTask, Assign, Await, Makes, Adds, Cancel, Return, Throw, Check, Yield, HeadTree, If, While, Bind, Group, Assume, StmtTree, Do, Headed, IfElse, BlockTree, nothing, first_then, block_tree, ExecutorTree, LocalTree, FieldTree, MethodTree, ActorTree, RootTree, DeclTree, Executes, Binds, Acts, Roots}
 use Rattle.script_printing.specs.Script.{ScriptView, declarations_of}
 
--- an expression: each use of an operator stands in a parenthesis, and nothing else does
+-- an expression: each use of an operator is in a parenthesis, and nothing else is
 abbrev pub pieces_of : ExprTree → List TokenView
 pieces_of (Number n) = Num n ∷ []
 pieces_of (Named w) = Name w ∷ []
@@ -85,6 +85,7 @@ keyword_of_priority Low = key.Low
 keyword_of_priority Medium = key.Medium
 keyword_of_priority High = key.High
 
+-- a priority, after the word `at`
 abbrev pub pieces_of_priority : Priority → List TokenView
 pieces_of_priority p = Key key.At ∷ Key (keyword_of_priority p) ∷ []
 
@@ -121,7 +122,7 @@ pieces_of_action (Throw t) = Key key.Throw ∷ pieces_of t
 pieces_of_action Check = Key key.Check ∷ []
 pieces_of_action Yield = Key key.Yield ∷ []
 
--- what stands in front of a block
+-- what comes before a block
 abbrev pub pieces_of_head : HeadTree → List TokenView
 pieces_of_head (If t) = Key key.If ∷ pieces_of t
 pieces_of_head (While t) = Key key.While ∷ pieces_of t
@@ -130,6 +131,7 @@ pieces_of_head (Group g) = Key key.Group ∷ Name g ∷ []
 pieces_of_head (Assume a) = Key key.Assume ∷ Name a ∷ []
 
 abbrev mutual
+  -- a statement: one without a block has a semicolon after it, and blocks are in braces
   pub pieces_of_stmt : StmtTree → List TokenView
   pieces_of_stmt (Do a) = ended (pieces_of_action a)
   pieces_of_stmt (Headed h ss) = pieces_of_head h ++ braced (pieces_of_block ss)

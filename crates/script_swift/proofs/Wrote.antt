@@ -16,7 +16,7 @@ pub wrote_next : {X A B : Type 0} (f : A → List B) (view : X → A) (xs : List
 wrote_next f view xs i x h e start before now p q =
     q ∙ ap (λ bytes. bytes ++ f (view x)) p ∙ append_assoc start (flat_map f (map view (take i xs))) (f (view x)) ∙ ap (λ bytes. start ++ bytes) (sym (flat_map_next f view xs i x h e))
 
--- the same, of a list as it is
+-- the bytes of one more of a list as it is
 pub wrote_more : {A B : Type 0} (f : A → List B) (xs : List A) (i : ℕ) (x : A) → i < length xs → x ≡ get_or xs i x → (start before now : List B) → before ≡ start ++ flat_map f (take i xs) → now ≡ before ++ f x → now ≡ start ++ flat_map f (take (i + 1) xs)
 wrote_more f xs i x h e start before now p q =
     let next : flat_map f (take (i + 1) xs) ≡ flat_map f (take i xs) ++ f x = ap (flat_map f) (take_more xs i x h) ∙ flat_map-append f (take i xs) (get_or xs i x ∷ []) ∙ ap (λ ps. flat_map f (take i xs) ++ ps) (append-nil (f (get_or xs i x)) ∙ ap f (sym e)) in

@@ -36,9 +36,11 @@ abbrev pub spelled : Bool → List ℕ → List ℕ → List ℕ
 spelled true prefix w = w
 spelled false prefix w = prefix ++ w
 
+-- an actor in Swift: its name, or the same after `T_` where it is not plain
 abbrev pub type_name : List ℕ → List ℕ
 type_name w = spelled (is_plain_type w) (codes "T_") w
 
+-- a field, a parameter or a variable in Swift: its name, or the same after `v_` where it is not plain
 abbrev pub value_name : List ℕ → List ℕ
 value_name w = spelled (is_plain_value w) (codes "v_") w
 

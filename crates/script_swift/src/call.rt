@@ -78,7 +78,7 @@ pub(crate) fn say_awaited(page: &mut SwiftPage, scope: &MethodScope<'_>, awaited
     }
 }
 
-/// The same, where arguments that can overflow were computed before.
+/// What is waited for, after `try await`, where arguments that can overflow were computed before.
 pub(crate) fn say_awaited_later(page: &mut SwiftPage, scope: &MethodScope<'_>, awaited: &Awaited) {
     match awaited {
         Awaited::Call(call) if can_overflow(&call.args) => say_kept_call(page, scope, call),

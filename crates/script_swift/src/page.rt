@@ -21,7 +21,7 @@ impl Drop for SwiftPage {
 }
 
 impl SwiftPage {
-    /// No lines, to be indented by so many levels.
+    /// No lines, to be indented by `depth` levels.
     pub(crate) fn new(alloc: Global, depth: usize) -> SwiftPage {
         SwiftPage {
             text: Vec::new(alloc),

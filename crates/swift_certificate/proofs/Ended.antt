@@ -102,7 +102,7 @@ legal_is script report x is log roots many each closed ended =
 pub at_place : {A : Type 0} (xs : List A) (i : ℕ) (x : A) → i < length xs → x ≡ get_or xs i x → slice_get xs i ≡ Some x
 at_place xs i x lt is = slice_get_read xs (length xs) i x refl lt is
 
--- the same of what is seen of each
+-- what is seen of the element at a place
 pub seen_at : {A B : Type 0} (v : A → B) (xs : List A) (i : ℕ) (x : A) → i < length xs → x ≡ get_or xs i x → slice_get (map v xs) i ≡ Some (v x)
 seen_at v xs i x lt is = slice_get-map v xs i ∙ ap (option_map v) (at_place xs i x lt is)
 

@@ -94,7 +94,7 @@ turn_of task g worker p env effects exit after = record {
   after = after;
 }
 
--- the same, as a checkpoint has it
+-- what is left of that turn once it is folded
 abbrev pub folded_turn : TaskId → NextTurn → List EffectView → ExitView → Option FrameView → FoldedView
 folded_turn task g effects exit after = record { task = task.0; number = g.number; exit = exit; effects = effects; after = after }
 

@@ -174,7 +174,7 @@ fn have_ended(book: &Book, endings: &[(Origin, Ending)]) -> bool
     true
 }
 
-// Whether each of so many tasks of a book has closed the groups that it has opened.
+// Whether each of the first `tasks` tasks of a book has closed the groups that it has opened.
 fn have_closed(book: &Book, tasks: usize) -> bool
     ensures { IsTrue result → (t g : ℕ) → t < tasks → g < opened_by t book.now.log → is_closed t g book.now.log ≡ true }
 {

@@ -24,7 +24,7 @@ pub struct NextTurn {
 }
 
 impl NextTurn {
-    /// The same as a job.
+    /// The job of task `task` with that turn.
     pub fn into_job(self, task: TaskId) -> Job<Body>
         ensures { result ≡ record { task = task; number = self.number; resume = self.resume; body = self.body } }
     {

@@ -28,10 +28,10 @@ pub fn legal(alloc: Global, script: &Arc<Script>, report: &Report) -> Result<boo
     walk(alloc, TurnsMode::Play, script, report)
 }
 
-/// The same of a report whose executors are known to be replayed: each journal is lawful from its checkpoint on, and replaying
-/// it gives the fields, as executors leave them. No turn is played again, so it takes time and memory linear in the log, the
-/// journals and the endings alone: of each turn that is not folded, what it begins with is compared with what the task's job
-/// gives, and the frame after it is read. An `Err` says that a growth was refused.
+/// Whether a report is legal, as `legal` says, where its executors are known to be replayed: each journal is lawful from its
+/// checkpoint on, and replaying it gives the fields, as executors leave them. No turn is played again, so it takes time and memory
+/// linear in the log, the journals and the endings alone: of each turn that is not folded, what it begins with is compared with what
+/// the task's job gives, and the frame after it is read. An `Err` says that a growth was refused.
 pub fn legal_if_replayed(
     alloc: Global,
     script: &Arc<Script>,

@@ -22,17 +22,19 @@ use Rattle.swift_course.proofs.Applied.{other_record}
 use Rattle.swift_course.proofs.Blocks.{after_push, filter_none, filter_some, replay_append}
 use Rattle.swift_course.proofs.Lists.{equal, unequal}
 
--- a turn is folded if it is one of the first of its executor, of which there are so many
+-- a turn is folded where the flag says so: a recorded one of executor `e` becomes what a fold leaves of it
 abbrev pub folded_if : Bool → ℕ → RecordView → Block
 folded_if true e r = folded e (folded_of r)
 folded_if false e r = ran e r
 
+-- a block, as a folded turn where it is one of the first `past e` turns on executor `e`; `before` has the blocks before it
 abbrev pub folded_as : (ℕ → ℕ) → List Block → Block → Block
 folded_as past before (ran e r) = folded_if (nat_lt (length (records_of e before)) (past e)) e r
 folded_as past before (added r) = added r
 folded_as past before (begun t n env) = begun t n env
 folded_as past before (folded e f) = folded e f
 
+-- blocks after `before`, the first `past e` turns on each executor `e` being folded
 abbrev pub with_folds : List Block → (ℕ → ℕ) → List Block → List Block
 with_folds [] past before = []
 with_folds (b ∷ bs) past before = folded_as past before b ∷ with_folds bs past (before ++ b ∷ [])

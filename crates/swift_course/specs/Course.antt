@@ -13,10 +13,11 @@ use Rattle.swift_history.specs.Histories.{AllStand, Block, Standing, after_block
 use Rattle.swift_history.specs.TurnEnds.{WaitingTaskView}
 use Rattle.swift_known.specs.Views.{Account, BookFacts, Maker, BookKnown, Ticket}
 
--- the checkpoints of a run that has not begun: the values that the fields start with, and no turn
+-- the checkpoint of executor `e` in a run that has not begun: the values that its fields start with, and no turn
 abbrev pub start_of : ScriptView → ℕ → CheckpointView
 start_of script e = record { fields = executor_start script e; folded = [] }
 
+-- the checkpoints of a run that has not begun, one for each executor of the script
 abbrev pub starts : ScriptView → List CheckpointView
 starts script = map (start_of script) (range_with_len 0 (executor_count script))
 
@@ -28,7 +29,7 @@ standing script blocks = after_blocks script (at_first script) blocks
 abbrev pub IsIn : List Block → Account → Type 0
 IsIn blocks a = a.records ≡ records_of a.executor blocks
 
--- the account is this seat's alone, and its executor is one of so many
+-- the owner of the account is this seat, and its executor is one of the first `executors`
 abbrev pub IsOwned : (ℕ → ℕ) → ℕ → ℕ → Account → Type 0
 IsOwned owner executors seat a = (owner a.executor ≡ seat) × (a.executor < executors)
 
@@ -37,20 +38,23 @@ pub record IsGiven (s : Standing) (k : Ticket) : Type 0 where
   pub job : s.jobs k.job.task ≡ Some k.job
   pub begun : IfSome k.begun (λ env. (life_of k.job.task s.log).stage ≡ Some (Begun env))
 
--- how many of a seat's tickets are for a task
+-- whether a ticket is for task `t`
 abbrev pub is_for : ℕ → Ticket → Bool
 is_for t k = t == k.job.task
 
+-- how many tickets for task `t` a seat has that knows `v`
 abbrev pub tickets_in : ℕ → BookKnown → ℕ
 tickets_in t v = count_by (is_for t) v.tickets
 
--- in how many ways a task can go on: by each ticket for it, and where it waits and is woken
+-- 1 for what is so, and else 0
 abbrev pub one_if : Bool → ℕ
 one_if b = cond b 1 0
 
+-- 1 where task `t` is held as one that waits, and else 0
 abbrev pub waits : ℕ → List (Option WaitingTaskView) → ℕ
 waits t held = one_if (is_some (slice_index_or held t None))
 
+-- in how many ways task `t` can go on: by each ticket for it that a seat has, and where it waits and is woken
 abbrev pub ways : ℕ → BookFacts → List BookKnown → ℕ
 ways t facts views = sum_by (tickets_in t) views + waits t facts.held
 

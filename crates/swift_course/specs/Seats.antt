@@ -20,41 +20,49 @@ MayTakeIn v w both spent =
 abbrev pub first_view : ScriptView → BookKnown
 first_view script = record { script = Some script; accounts = []; tickets = []; maker = Some (record { executors = 0; roots = 0 }) }
 
+-- a run may begin with this seat alone
 abbrev pub RunsBegin : Type 0
 RunsBegin = (script : ScriptView) → IsCourse (first_facts script) (first_view script ∷ [])
 
--- the first tickets, so many, go to a seat of their own
+-- what a seat keeps that parts off its first `n` tickets
 abbrev pub some_left : ℕ → BookKnown → BookKnown
 some_left n v = record v { tickets = drop n v.tickets }
 
+-- what the seat knows that gets them: the script and these tickets
 abbrev pub some_parted : ℕ → BookKnown → BookKnown
 some_parted n v = record { script = v.script; accounts = []; tickets = take n v.tickets; maker = None }
 
+-- a seat may part off a seat for its first `n` tickets
 abbrev pub SomeTicketsMayBeParted : Type 0
 SomeTicketsMayBeParted = (v : BookKnown) (n : ℕ) → MayPart v (some_left n v) (some_parted n v)
 
--- the first ticket goes to a seat of its own
+-- what a seat keeps that parts off its first ticket
 abbrev pub ticket_left : BookKnown → BookKnown
 ticket_left v = record v { tickets = drop 1 v.tickets }
 
+-- what the seat knows that gets it: the script and this ticket
 abbrev pub ticket_parted : BookKnown → BookKnown
 ticket_parted v = record { script = v.script; accounts = []; tickets = take 1 v.tickets; maker = None }
 
+-- a seat may part off a seat for its first ticket
 abbrev pub TicketsMayBeParted : Type 0
 TicketsMayBeParted = (v : BookKnown) → MayPart v (ticket_left v) (ticket_parted v)
 
--- a seat for the next executor
+-- where a seat opens accounts, one more executor has one
 abbrev pub one_more : Option Maker → Option Maker
 one_more None = None
 one_more (Some m) = Some (record m { executors = m.executors + 1 })
 
+-- how many executors have an account, where a seat opens accounts; else 0
 abbrev pub number_of : Option Maker → ℕ
 number_of None = 0
 number_of (Some m) = m.executors
 
+-- what a seat keeps that parts off a seat for the next executor
 abbrev pub maker_left : BookKnown → BookKnown
 maker_left v = record v { maker = one_more v.maker }
 
+-- what the seat of that executor knows: the script and an account without records
 abbrev pub account_parted : BookKnown → BookKnown
 account_parted v = record { script = v.script; accounts = record { executor = number_of v.maker; records = [] } ∷ []; tickets = []; maker = None }
 
@@ -66,5 +74,6 @@ AccountsMayBeOpened = (v : BookKnown) (m : Maker) (script : ScriptView) → v.sc
 abbrev pub gathered : BookKnown → BookKnown → BookKnown
 gathered v w = record { script = v.script; accounts = v.accounts ++ w.accounts; tickets = w.tickets ++ v.tickets; maker = v.maker }
 
+-- a seat may take in any other, which then knows nothing
 abbrev pub SeatsMayBeGathered : Type 0
 SeatsMayBeGathered = (v w : BookKnown) → MayTakeIn v w (gathered v w) no_view

@@ -23,9 +23,11 @@ MayGive v taken given known = (views : List BookKnown) (seat : ℕ) → IsCourse
 
 -- the next root is added
 
+-- the book once root `r` is added: its events come last in the log
 abbrev pub with_root : BookFacts → ℕ → BookFacts
 with_root facts r = record facts { log = facts.log ++ root_events facts.script r }
 
+-- what a seat knows that has added the next root: the ticket of its first job comes last, and one root more is counted
 abbrev pub knowing_root : ScriptView → Maker → BookKnown → BookKnown
 knowing_root script m v = record v { tickets = v.tickets ++ fresh (root_job script m.roots) ∷ []; maker = Some (record m { roots = m.roots + 1 }) }
 
@@ -37,9 +39,11 @@ RootsMayBeAdded = (v : BookKnown) (taken : BookFacts) (m : Maker) → v.maker �
 
 -- a turn begins
 
+-- the book once a turn of job `j` has begun in this environment: its begin comes last in the log
 abbrev pub with_begin : BookFacts → JobFacts → Env → BookFacts
 with_begin facts j env = record facts { log = facts.log ++ Begin (task j.task) j.number env ∷ [] }
 
+-- what a seat knows that has begun the turn of ticket `k`, its first: the ticket says in which environment
 abbrev pub knowing_begin : Ticket → List Ticket → Env → BookKnown → BookKnown
 knowing_begin k rest env v = record v { tickets = record k { begun = Some env } ∷ rest }
 
@@ -58,12 +62,15 @@ end_of facts j r =
     turn_end facts.script facts.log facts.held j.task j.number (begun_priority (life_of j.task facts.log).stage) r.effects r.exit
     (advanced facts.script (left_as r.frame r.effects r.after) (callers_of j.frames.frames) j.frames.outer r.exit)
 
+-- the book once the turn of job `j` is applied: the log and the tasks that wait are those that its end leaves
 abbrev pub with_turn : BookFacts → JobFacts → RecordView → BookFacts
 with_turn facts j r = record facts { log = (end_of facts j r).log; held = (end_of facts j r).held }
 
+-- the account with this record after those that it has
 abbrev pub with_record : RecordView → Account → Account
 with_record r a = record a { records = a.records ++ r ∷ [] }
 
+-- what a seat knows that has applied the turn of its ticket `k`: `a` has the record, and for `k` come the tickets of the jobs made
 abbrev pub knowing_turn : BookFacts → Account → Ticket → List Ticket → RecordView → BookKnown → BookKnown
 knowing_turn taken a k rest r v = record v { accounts = with_record r a ∷ []; tickets = map fresh (end_of taken k.job r).jobs ++ rest }
 

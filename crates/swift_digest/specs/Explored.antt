@@ -23,6 +23,7 @@ pub record ExploredState : Type 0 where
   pub jobs : ℕ → Option JobPlan
   pub fields : ℕ → List (List ℤ)
 
+-- the state to which the history `bs` leads from these checkpoints
 abbrev pub state_of : ScriptView → List CheckpointView → List Block → ExploredState
 state_of script checkpoints bs =
     let s = after_blocks script (at_first script) bs in
@@ -33,6 +34,7 @@ pub record StartsFresh (script : ScriptView) (checkpoints : List CheckpointView)
   pub count : length checkpoints ≡ executor_count script
   pub each : (e : ℕ) (c : CheckpointView) → slice_get checkpoints e ≡ Some c → (c.fields ≡ executor_start script e) × (c.folded ≡ [])
 
+-- the block is no turn that was folded
 abbrev pub IsNotFolded : Block → Type 0
 IsNotFolded (folded e f) = ⊥
 IsNotFolded _ = Unit {0}
@@ -48,11 +50,12 @@ pub record AreExplored (script : ScriptView) (Allowed : List Block → Block →
   pub next : (checkpoints : List CheckpointView) (bs : List Block) (b : Block) → StartsFresh script checkpoints → AllStand script checkpoints [] bs → AllAllowed Allowed [] bs
       → IsNotFolded b → Stands script checkpoints bs b → Allowed bs b → Contains states (state_of script checkpoints bs) → Contains states (state_of script checkpoints (bs ++ b ∷ []))
 
--- the executor of a job: that of the actor whose method runs
+-- the executor of the actor whose method runs in these frames; none where there is no frame
 abbrev pub frames_executor : ScriptView → List FrameView → Option ℕ
 frames_executor script [] = None
 frames_executor script (p ∷ callers) = Some (actor_executor script (method_actor script p.method))
 
+-- the executor of a job, where there is one: that of the actor whose method runs
 abbrev pub job_executor : ScriptView → Option JobFacts → Option ℕ
 job_executor script None = None
 job_executor script (Some j) = frames_executor script j.frames.frames
@@ -84,15 +87,16 @@ pub record IsOutcome (script : ScriptView) (x : ExploredState) (report : ReportV
 abbrev pub FoldsNone : ReportView → Type 0
 FoldsNone report = (e : ℕ) (c : CheckpointView) → slice_get report.checkpoints e ≡ Some c → c.folded ≡ []
 
--- A closed list of states has the outcome of each legal report without folded turns.
+-- Each block is allowed.
 abbrev pub IsAnyBlock : List Block → Block → Type 0
 IsAnyBlock before b = Unit {0}
 
+-- A closed list of states has the outcome of each legal report without folded turns.
 abbrev pub ExploredHasEachOutcome : Type 0
 ExploredHasEachOutcome = (script : ScriptView) (states : List ExploredState) (report : ReportView) → ActorsHaveExecutors script → AreExplored script IsAnyBlock states
     → IsLegal script report → FoldsNone report → (x : ExploredState) × Contains states x × IsOutcome script x report
 
--- The same for blocks in order, which lead to fewer states.
+-- A list that is closed under blocks in order has the outcome of each such report that blocks in order have made; it may be shorter.
 abbrev pub ExploredHasEachOrderlyOutcome : Type 0
 ExploredHasEachOrderlyOutcome = (script : ScriptView) (states : List ExploredState) (report : ReportView) → ActorsHaveExecutors script → AreExplored script (IsOrderly script) states
     → IsOrderlyLegal script report → FoldsNone report → (x : ExploredState) × Contains states x × IsOutcome script x report

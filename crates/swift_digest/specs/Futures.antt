@@ -27,6 +27,7 @@ abbrev pub IsLike : ScriptView → Block → Block → Type 0
 IsLike script (ran e r) c = (q : FrameView) × (plan_of script r.frame ≡ plan_of script q) × (c ≡ ran e (record r { frame = q }))
 IsLike script b c = b ≡ c
 
+-- Two lists of blocks are equally long, and at each place their blocks are alike.
 abbrev pub AreLike : ScriptView → List Block → List Block → Type 0
 AreLike script [] [] = Unit {0}
 AreLike script (b ∷ bs) (c ∷ cs) = IsLike script b c × AreLike script bs cs

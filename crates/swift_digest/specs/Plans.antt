@@ -11,6 +11,7 @@ use Rattle.swift_interpreter.specs.Frames.{FrameView}
 use Rattle.swift_turn.specs.Body.{TaskView}
 use Rattle.swift_history.specs.TurnEnds.{JobFacts, WaitingTaskView}
 
+-- a frame, with the statements that are still to do in place of its instruction's number
 pub record FramePlan : Type 0 where
   pub method : ℕ
   pub todo : Code
@@ -22,6 +23,7 @@ pub record FramePlan : Type 0 where
   pub made : ℕ
   pub opened : ℕ
 
+-- the plan of a frame: what is still to do is what its instruction stands for in the code of its method
 abbrev pub plan_of : ScriptView → FrameView → FramePlan
 plan_of script p = record {
   method = p.method;
@@ -35,32 +37,39 @@ plan_of script p = record {
   opened = p.opened;
 }
 
--- a task's frames, a job and a waiting task, with plans in place of frames
+-- a task's frames and bindings, with plans in place of frames
 pub record TaskPlan : Type 0 where
   pub frames : List FramePlan
   pub outer : List (ℕ × ℤ)
 
+-- a job, with the plan of its task
 pub record JobPlan : Type 0 where
   pub task : ℕ
   pub number : ℕ
   pub resume : Resume
   pub plan : TaskPlan
 
+-- a task that waits, with its plan
 pub record WaitingTaskPlan : Type 0 where
   pub number : ℕ
   pub plan : TaskPlan
 
+-- the plan of a task: that of each frame, and the same bindings
 abbrev pub task_plan : ScriptView → TaskView → TaskPlan
 task_plan script v = record { frames = map (plan_of script) v.frames; outer = v.outer }
 
+-- a job with the plan of its task, and all else as it is
 abbrev pub job_plan : ScriptView → JobFacts → JobPlan
 job_plan script j = record { task = j.task; number = j.number; resume = j.resume; plan = task_plan script j.frames }
 
+-- a task that waits, with its plan and the number of its next turn
 abbrev pub held_plan : ScriptView → WaitingTaskView → WaitingTaskPlan
 held_plan script h = record { number = h.number; plan = task_plan script h.frames }
 
+-- the tasks that wait, by number, each with its plan
 abbrev pub held_plans : ScriptView → List (Option WaitingTaskView) → List (Option WaitingTaskPlan)
 held_plans script held = map (option_map (held_plan script)) held
 
+-- jobs, each with the plan of its task
 abbrev pub job_plans : ScriptView → List JobFacts → List JobPlan
 job_plans script jobs = map (job_plan script) jobs

@@ -20,12 +20,13 @@ pub fn explored_states_have_each_outcome()
     ensures { ExploredHasEachOutcome }
 {}
 
-/// The same where executors run one turn at a time, after all roots were added (our own).
+/// A list of states that is closed under one more block in order has the outcome of each such report where executors run one turn at a
+/// time, after all roots were added (our own).
 pub fn explored_states_have_each_orderly_outcome()
     ensures { ExploredHasEachOrderlyOutcome }
 {}
 
-/// The same of a list of histories, of which one is kept for all that lead alike (our own).
+/// A list of histories, of which one is kept for all that lead alike, has the outcome of each such report, too (our own).
 pub fn represented_histories_have_each_outcome()
     ensures { RepresentedHasEachOutcome }
 {}

@@ -241,7 +241,7 @@ are_of_own es place place' levels edges e t p k own fresh a =
       ];
     }
 
--- the same where the places are kept otherwise
+-- the record holds, where the places are kept otherwise
 pub are_of_same : (es : List PriorityEvent) (f g : TaskId → Option ℕ) (levels : List Priority) (edges : List TaskEdge) → ((q : TaskId) → g q ≡ f q) → AreOf es f levels edges → AreOf es g levels edges
 are_of_same es f g levels edges h k = record {
   count = k.count;

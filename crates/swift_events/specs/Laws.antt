@@ -15,6 +15,7 @@ OwnersAreOlder log = (t : ℕ) (x : ℕ × ℕ) → parent_of t log ≡ Some x �
 abbrev pub MakesNew : List Event → Event → Type 0
 MakesNew log e = (origin_in e ≡ None) ⊎ ((life_of (task_of e) log).origin ≡ None)
 
+-- each of the events that follow a log makes no task, or one that was not made before it
 abbrev pub AllMakeNew : List Event → List Event → Type 0
 AllMakeNew log [] = Unit {0}
 AllMakeNew log (e ∷ es) = MakesNew log e × AllMakeNew (log ++ e ∷ []) es

@@ -16,23 +16,25 @@ use Rattle.swift_events.specs.declared.life.Origin.{Origin}
 use Rattle.swift_events.specs.declared.life.Origin.TheVariants as origin
 use Rattle.swift_events.specs.Lives.{life_of}
 
--- the tasks that a task has spawned or detached, in order
+-- the task that task `t` spawns or detaches by this event, if it does
 abbrev pub own_in : ℕ → Event → Option TaskId
 own_in t (Free made by p detached) = if by.0 == t then Some made else None
 own_in t _ = None
 
+-- the tasks that task `t` has spawned or detached, in order
 abbrev pub own_tasks : ℕ → List Event → List TaskId
 own_tasks t log = filter_map (own_in t) log
 
--- the tasks that have waited for a task, in order of waiting; each of them did so while it had not ended
+-- the task that waits for task `t` by this event, if one does
 abbrev pub waiter_in : ℕ → Event → Option TaskId
 waiter_in t (Wait waiter awaited) = if awaited.0 == t then Some waiter else None
 waiter_in t _ = None
 
+-- the tasks that have waited for task `t`, in order of waiting; each of them did so while `t` had not ended
 abbrev pub waiters_of : ℕ → List Event → List TaskId
 waiters_of t log = filter_map (waiter_in t) log
 
--- What counts for priorities: tasks that are added, and waits. A task's priority is by reach over these.
+-- what of an event counts for priorities: a task that is added, or a wait
 abbrev pub link_in : Event → Option Link
 link_in (Root t p) = Some (link.Root t p)
 link_in (Free t by p detached) = Some (link.Free t p)
@@ -40,46 +42,52 @@ link_in (Child t o g p) = Some (link.Child t o p)
 link_in (Wait t awaited) = Some (link.Wait t awaited)
 link_in _ = None
 
+-- What counts for priorities: tasks that are added, and waits. A task's priority is by reach over these.
 abbrev pub links_of : List Event → List Link
 links_of log = filter_map link_in log
 
--- how many groups a task has opened
+-- whether task `o` opens a group by this event
 abbrev pub opens : ℕ → Event → Bool
 opens o (Open owner g) = owner.0 == o
 opens o _ = false
 
+-- how many groups task `o` has opened
 abbrev pub opened_by : ℕ → List Event → ℕ
 opened_by o log = count_by (opens o) log
 
--- the children that were added to a group
+-- the child that this event adds to group `g` of task `o`, if it does
 abbrev pub child_in : ℕ → ℕ → Event → Option TaskId
 child_in o g (Child t owner group p) = if (owner.0 == o) && (group == g) then Some t else None
 child_in o g _ = None
 
+-- the children that were added to group `g` of task `o`, in order
 abbrev pub children_of : ℕ → ℕ → List Event → List TaskId
 children_of o g log = filter_map (child_in o g) log
 
--- those of some children that have ended, with their endings, in order of ending
+-- that one of these children which this event ends, with its ending
 abbrev pub ending_among : List TaskId → Event → Option (TaskId × Ending)
 ending_among children (End t ending) = if is_among children t then Some (t, ending) else None
 ending_among children _ = None
 
+-- the children of group `g` of task `o` that have ended, with their endings, in order of ending
 abbrev pub endings_of : ℕ → ℕ → List Event → List (TaskId × Ending)
 endings_of o g log = filter_map (ending_among (children_of o g log)) log
 
--- how many results of a group its owner has asked for
+-- whether task `o` asks for a result of its group `g` by this event
 abbrev pub asks : ℕ → ℕ → Event → Bool
 asks o g (Next owner group) = (owner.0 == o) && (group == g)
 asks o g _ = false
 
+-- how many results of its group `g` task `o` has asked for
 abbrev pub asked_of : ℕ → ℕ → List Event → ℕ
 asked_of o g log = count_by (asks o g) log
 
--- whether the owner has closed the group
+-- whether task `o` closes its group `g` by this event
 abbrev pub closes : ℕ → ℕ → Event → Bool
 closes o g (Close owner group) = (owner.0 == o) && (group == g)
 closes o g _ = false
 
+-- whether task `o` has closed its group `g`
 abbrev pub is_closed : ℕ → ℕ → List Event → Bool
 is_closed o g log = list_any (closes o g) log
 
@@ -87,14 +95,16 @@ is_closed o g log = list_any (closes o g) log
 abbrev pub is_open_group : ℕ → ℕ → List Event → Bool
 is_open_group o g log = nat_lt g (opened_by o log) && not (is_closed o g log)
 
--- whether a cancel has named the group
+-- whether this event is a cancel that names group `g` of task `o`
 abbrev pub names_group : ℕ → ℕ → Event → Bool
 names_group o g (CancelGroup owner group) = (owner.0 == o) && (group == g)
 names_group o g _ = false
 
+-- whether a cancel has named group `g` of task `o`
 abbrev pub is_named_group : ℕ → ℕ → List Event → Bool
 is_named_group o g log = list_any (names_group o g) log
 
+-- how far a group is, by whether it is closed, and by its unfinished children
 abbrev pub stage_of : Bool → List TaskId → GroupStage
 stage_of false unfinished = stage.Open
 stage_of true unfinished = stage_among unfinished
@@ -113,19 +123,21 @@ group_of o g log =
       stage = stage_of (is_closed o g log) (unfinished_of added ended);
     }
 
--- whether a cancel has named the task
+-- whether this event is a cancel that names task `t`
 abbrev pub names_task : ℕ → Event → Bool
 names_task t (CancelTask task) = task.0 == t
 names_task t _ = false
 
+-- whether a cancel has named task `t`
 abbrev pub is_named : ℕ → List Event → Bool
 is_named t log = list_any (names_task t) log
 
--- the owner and the group of a child
+-- the owner and the group of a task that comes from there, if it is a child
 abbrev pub parent_by : Option Origin → Option (ℕ × ℕ)
 parent_by (Some (origin.Child o g)) = Some (o.0, g)
 parent_by _ = None
 
+-- the owner and the group of task `t`, if it is a child
 abbrev pub parent_of : ℕ → List Event → Option (ℕ × ℕ)
 parent_of t log = parent_by (life_of t log).origin
 
@@ -134,13 +146,14 @@ abbrev pub of_parent : Option (ℕ × ℕ) → (ℕ → ℕ → Bool) → Bool
 of_parent None f = false
 of_parent (Some x) f = f x.0 x.1
 
--- A task is cancelled where a cancel has named it, or the group that it is a child of, before or after it was added; or where
--- the owner of that group is cancelled. Spawned and detached tasks are nobody's children. A child has a greater number than
--- its owner, so a chain of owners is no longer than the number of the task from which it starts.
+-- whether task `t` is cancelled, as far as it and the owners above it show, `n` tasks in all
 abbrev pub cancelled_within : ℕ → ℕ → List Event → Bool
 cancelled_within zero t log = false
 cancelled_within (suc n) t log = is_named t log || of_parent (parent_of t log) (λ o g. is_named_group o g log || cancelled_within n o log)
 
+-- A task is cancelled where a cancel has named it, or the group that it is a child of, before or after it was added; or where
+-- the owner of that group is cancelled. Spawned and detached tasks are nobody's children. A child has a greater number than
+-- its owner, so a chain of owners is no longer than the number of the task from which it starts.
 abbrev pub is_cancelled : ℕ → List Event → Bool
 is_cancelled t log = cancelled_within (suc t) t log
 

@@ -11,7 +11,7 @@ use Rattle.swift_events.specs.Events.{tasks_of}
 use Rattle.swift_events.specs.Lives.{life_of, is_open, room_held}
 use Rattle.swift_events.specs.Relations.{is_cancelled, links_of}
 
--- what is known of each task, for so many of them
+-- what a log says of each of the first `n` tasks
 unfoldable pub lives_of : ℕ → List Event → List Life
 lives_of n log = map (λ t. life_of t log) (range_with_len 0 n)
 

@@ -31,16 +31,19 @@ pub record SeenJob : Type 0 where
   pub frame : Option FrameView
   pub outer : List (ℕ × ℤ)
 
+-- what the record of a job's turn keeps of the job
 abbrev pub job_seen : JobFacts → SeenJob
 job_seen j = record { task = j.task; number = j.number; resume = j.resume; frame = head j.frames.frames; outer = j.frames.outer }
 
+-- what a record keeps of the job whose turn it is
 abbrev pub record_seen : RecordView → SeenJob
 record_seen r = record { task = r.task; number = r.number; resume = r.resume; frame = Some r.frame; outer = r.outer }
 
--- what is left of it once its record was folded: the task, and the number of the turn
+-- what is left of a job once its record was folded: the task, and the number of the turn
 abbrev pub job_named : JobFacts → ℕ × ℕ
 job_named j = (j.task, j.number)
 
+-- what a folded turn keeps of the job whose turn it was: the task, and the number of the turn
 abbrev pub folded_named : FoldedView → ℕ × ℕ
 folded_named f = (f.task, f.number)
 

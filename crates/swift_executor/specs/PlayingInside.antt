@@ -32,7 +32,7 @@ use Rattle.swift_tasks.specs.Refusals.{refusal_of_apply}
 use Rattle.swift_tasks.specs.declared.fault.BookFault.{BookFault}
 use Rattle.swift_executor.specs.State.{record_by}
 
--- All invariants of the actors of the executor of the frame that runs hold of these fields, and beside each stands the row that it
+-- All invariants of the actors of the executor of the frame that runs hold of these fields, and beside each is the row that it
 -- reads.
 abbrev pub MaySpare : List ℕ → List (List ℤ) → BodyView → Type 0
 MaySpare rows fields b = IfRunning b.task.frames (λ p. HaveRows rows (invariants_at b.script p)) × IfRunning b.task.frames (λ p. AllHold (invariants_at b.script p) fields)
@@ -50,7 +50,7 @@ pub record IsUnturned (old new : BodyView) : Type 0 where
   pub script : new.script ≡ old.script
   pub task : new.task ≡ old.task
 
--- the same of a job, whose other parts stay
+-- the body of a job has had such a turn, and its other parts stay
 pub record JobTurned (old new : JobView BodyView) (rows : List (List ℤ)) (env : Env) (p : PlayedTurn) : Type 0 where
   pub body : HasTurned old.body new.body rows old.resume env p
   pub task : new.task ≡ old.task

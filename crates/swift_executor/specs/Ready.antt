@@ -22,6 +22,7 @@ pub record ReadyJobsView (B : Type 0) : Type 0 where
   pub arrived : ℕ
   pub levels : List ℕ
 
+-- the job as one that is ready, with the number of its arrival
 abbrev pub ready_job : {B : Type 0} → JobView B → ℕ → ReadyJob B
 ready_job job arrival = record { job = job; arrival = arrival }
 
@@ -29,7 +30,7 @@ ready_job job arrival = record { job = job; arrival = arrival }
 abbrev pub tasks_in : {B : Type 0} → ReadyJobsView B → List TaskId
 tasks_in r = map (λ x. x.job.task) r.front ++ map (λ j. j.task) r.behind
 
--- how often a task stands in a list
+-- how often a task is in a list
 abbrev pub times : TaskId → List TaskId → ℕ
 times t ts = count_by (λ x. eqb x.0 t.0) ts
 
@@ -55,7 +56,7 @@ ComesFirst false levels x y = (urgency levels y ≤ urgency levels x) × (urgenc
 abbrev pub IsClear : {B : Type 0} → List (ReadyJob B) → TaskId → Type 0
 IsClear front task = All (λ x. x.job.task ≢ task) front
 
--- there is room for one more job beside so many that were taken out, and a number for its arrival
+-- there is room for one more job beside `taken` that were taken out, and a number for its arrival
 pub record HasRoom {B : Type 0} (r : ReadyJobsView B) (taken : ℕ) : Type 0 where
   pub room : length r.front + length r.behind + taken < r.room
   pub number : r.arrived + length r.behind + 1 < 2 ^ 64

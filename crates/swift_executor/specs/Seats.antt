@@ -38,6 +38,7 @@ AreTicketsAt r j picked tickets = IsPermutation (jobs_of tickets) (job_facts j �
 AreTicketsAt r j (begun worker env) tickets = IsFirst r (job_facts j) env tickets
 AreTicketsAt r j (played worker env frame fields effects exit) tickets = IsFirst r (before_turn (played worker env frame fields effects exit) j) env tickets
 
+-- the tickets are those of the jobs that are ready, and of the chosen one, if there is one
 abbrev pub AreTicketsOf : ReadyJobsView BodyView → Option ChosenView → List Ticket → Type 0
 AreTicketsOf r None tickets = IsPermutation (jobs_of tickets) (ready_jobs r)
 AreTicketsOf r (Some c) tickets = AreTicketsAt r c.job c.stage tickets
@@ -53,5 +54,6 @@ pub record IsSeatFor (s : ExecStateView) (seat : BookSeatView) : Type 0 where
 abbrev pub opened_view : ScriptView → ℕ → BookKnown
 opened_view script executor = record { script = Some script; accounts = record { executor = executor; records = [] } ∷ []; tickets = []; maker = None }
 
+-- the seat is there, and knows what that of an executor does that has run no turn and has no job
 abbrev pub IsOpened : ScriptView → ℕ → BookSeatView → Type 0
 IsOpened script executor seat = (seat.here ≡ true) × (seat.knows ≡ opened_view script executor)

@@ -64,6 +64,7 @@ HasPlayed script fields j (played worker env frame fields' effects exit) =
     (frame.method < method_count script) × HasFirst j.body.task.frames (λ f. (f.method ≡ frame.method) × IsTurnOf script frame j.body.task.outer fields j.resume env f (left fields' effects exit))
 HasPlayed script fields j _ = Unit {0}
 
+-- how many jobs are chosen: 1 or 0
 abbrev pub chosen_count : Option ChosenView → ℕ
 chosen_count None = 0
 chosen_count (Some c) = 1
@@ -180,14 +181,17 @@ pub record PutsBack (old new : ExecStateView) (c : ChosenView) : Type 0 where
 abbrev pub HasChosen : ExecStateView → (ChosenView → Type 0) → Type 0
 HasChosen s P = (c : ChosenView) × (s.chosen ≡ Some c) × P c
 
+-- the turn of the chosen job has not begun
 abbrev pub IsPicked : ChosenStageView → Type 0
 IsPicked picked = Unit {0}
 IsPicked _ = ⊥
 
+-- the turn of the chosen job has begun, and was not played
 abbrev pub IsBegun : ChosenStageView → Type 0
 IsBegun (begun worker env) = Unit {0}
 IsBegun _ = ⊥
 
+-- the turn of the chosen job was played
 abbrev pub IsPlayed : ChosenStageView → Type 0
 IsPlayed (played worker env frame fields effects exit) = Unit {0}
 IsPlayed _ = ⊥
@@ -247,6 +251,7 @@ record_by j worker env frame effects exit = record {
 abbrev pub journal_with : List RecordView → RecordView → List RecordView
 journal_with journal r = if suc (length journal) == FOLD then [] else journal ++ r ∷ []
 
+-- the checkpoint once a journal gains record `r`, with the fields after it: where the journal is then full, it is folded
 abbrev pub checkpoint_with : CheckpointView → List RecordView → RecordView → List (List ℤ) → CheckpointView
 checkpoint_with c journal r fields = if suc (length journal) == FOLD then folds c (journal ++ r ∷ []) fields else c
 
@@ -290,11 +295,12 @@ abbrev pub refusal_to_begin : BookView → Option ChosenView → Option BookFaul
 refusal_to_begin book None = None
 refusal_to_begin book (Some c) = refusal_of_begin book.script book.log c.job
 
--- why the book does not take a turn that was played
+-- why the book does not take the turn of this job, where it was played
 abbrev pub refusal_of_stage : BookView → JobView BodyView → ChosenStageView → Option BookFault
 refusal_of_stage book j (played worker env frame fields effects exit) = refusal_of_apply book.script book.log j effects exit
 refusal_of_stage book j _ = None
 
+-- why the book does not take the turn of the chosen job, where it was played
 abbrev pub refusal_to_apply : BookView → Option ChosenView → Option BookFault
 refusal_to_apply book None = None
 refusal_to_apply book (Some c) = refusal_of_stage book c.job c.stage

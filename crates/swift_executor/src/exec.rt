@@ -128,10 +128,10 @@ fn first_state(
 }
 
 impl Exec {
-    /// An executor of a script, by its number, that has run no turn, with room for so many jobs in its inbox, at least 1, and as
+    /// An executor of a script, by its number, that has run no turn, with room for `room` jobs in its inbox, at least 1, and as
     /// many that are ready; and its first desk, by which 2^60 jobs may be sent. The seat is the one that the lock of its book has opened
-    /// for it. A run of so many workers, at least 1. Out of memory nothing remains, and a room of 2^60 or more is refused so. The room is
-    /// not touched before it is used, but for a mark at each place of the inbox.
+    /// for it. The run has `workers` workers, at least 1. Out of memory nothing remains, and a room of 2^60 or more is refused so. The
+    /// room is not touched before it is used, but for a mark at each place of the inbox.
     pub fn new(
         alloc: Global,
         script: Arc<Script>,

@@ -95,7 +95,7 @@ impl<B> ReadyJobs<B> {
         }
     }
 
-    /// Whether there is room for one more job, and a number for its arrival, beside so many that were taken out: one or
+    /// Whether there is room for one more job, and a number for its arrival, beside `taken` that were taken out: one or
     /// none.
     pub fn has_room(&self, taken: usize) -> bool
         requires { taken ≤ 1 }
@@ -157,7 +157,7 @@ impl<B> ReadyJobs<B> {
         self.count_each(given);
     }
 
-    // The same, task by task.
+    // Raises the level of each task to the one given, where that is greater, task by task.
     fn count_each(&mut self, given: &[u8])
         requires { length given.now ≤ TASKS }
         ensures front { IsPermutation self.old.front self.new.front }

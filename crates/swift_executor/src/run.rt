@@ -251,7 +251,7 @@ impl Exec {
         self.word.leave(seat, Resting::new(held))
     }
 
-    // Runs a turn where so many jobs are pending, and gives the state back.
+    // Runs a turn where `found` jobs are pending, and gives the state back.
     fn run_held<R, G>(
         &self,
         rt: &R,

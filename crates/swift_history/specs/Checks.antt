@@ -50,6 +50,7 @@ is_under_way (Some stage.Given) = true
 is_under_way (Some (stage.Begun env)) = true
 is_under_way _ = false
 
+-- a turn that has begun, and was not applied yet
 abbrev pub is_begun : Option JobStage → Bool
 is_begun (Some (stage.Begun env)) = true
 is_begun _ = false
@@ -64,6 +65,7 @@ pub record Counters : Type 0 where
   pub opened : ℕ
   pub room : ℕ
 
+-- what task `t` has made before its turn, by the log, and the room of the turn
 abbrev pub counters : ℕ → List Event → ℕ → Counters
 counters t log room = record { own = length (own_tasks t log); opened = opened_by t log; room = room }
 
@@ -89,7 +91,7 @@ fits_effect script t log c (adding g unless i p bindings) = nat_lt 0 c.room && (
 fits_effect script t log c (cancelling_task name) = can_name script log c name
 fits_effect script t log c (cancelling_group g) = can_use t log c g
 
--- what stands after it; a child that is left out takes room too
+-- the counters after an effect; a child that is left out takes room too
 abbrev pub counted : Counters → EffectView → Counters
 counted c (spawning i p bindings) = record c { own = c.own + 1; room = c.room - 1 }
 counted c (detaching i p) = record c { own = c.own + 1; room = c.room - 1 }
@@ -97,6 +99,7 @@ counted c opening = record c { opened = c.opened + 1 }
 counted c (adding g unless i p bindings) = record c { room = c.room - 1 }
 counted c _ = c
 
+-- whether an exit fits after the effects: what it calls can run, and the task or the group that it waits for is there
 abbrev pub fits_exit : ScriptView → ℕ → List Event → Counters → ExitView → Bool
 fits_exit script t log c (calling i) = can_run script i
 fits_exit script t log c (waiting name) = can_name script log c name

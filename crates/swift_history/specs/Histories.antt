@@ -33,7 +33,7 @@ pub data Block : Type 0 where
   begun : ℕ → ℕ → Env → Block
   -- a turn runs on an executor, and is applied
   ran : ℕ → RecordView → Block
-  -- the same of a turn of which a checkpoint has what is left
+  -- a turn runs on an executor, and is applied, of which a checkpoint has what is left
   folded : ℕ → FoldedView → Block
 
 -- where a history leads: the log, the tasks that wait, and for each other task its job
@@ -42,6 +42,7 @@ pub record Standing : Type 0 where
   pub held : List (Option WaitingTaskView)
   pub jobs : ℕ → Option JobFacts
 
+-- where a history without blocks leads: the log is empty, no task waits, and none has a job
 abbrev pub at_first : ScriptView → Standing
 at_first script = record { log = []; held = replicate (root_count script) None; jobs = λ t. None }
 
@@ -54,12 +55,13 @@ with_jobs (j ∷ js) jobs t = with_jobs js (λ u. if u == j.task then Some j els
 abbrev pub taken : ℕ → (ℕ → Option JobFacts) → ℕ → Option JobFacts
 taken t jobs u = if u == t then None else jobs u
 
--- how many tasks of its own, and how many groups, an effect adds to its task's counts
+-- whether an effect makes a task of its task's own: one that is spawned or detached
 abbrev pub makes_own : EffectView → Bool
 makes_own (spawning i p bindings) = true
 makes_own (detaching i p) = true
 makes_own _ = false
 
+-- whether an effect opens a group
 abbrev pub opens_group : EffectView → Bool
 opens_group opening = true
 opens_group _ = false
@@ -87,17 +89,19 @@ abbrev pub begun_priority : Option JobStage → Priority
 begun_priority (Some (Begun env)) = env.priority
 begun_priority _ = Background
 
--- a turn of a job with these frames is applied
+-- turn `n` of task `t` is applied, whose job has these frames and bindings
 abbrev pub frames_applied : ScriptView → Standing → ℕ → ℕ → List FrameView → List (ℕ × ℤ) → List EffectView → ExitView → Option FrameView → Standing
 frames_applied script s t n [] outer effects exit after = s
 frames_applied script s t n (p ∷ callers) outer effects exit after =
     let e = turn_end script s.log s.held t n (begun_priority (life_of t s.log).stage) effects exit (advanced script (left_as p effects after) callers outer exit) in
     record { log = e.log; held = e.held; jobs = with_jobs e.jobs (taken t s.jobs) }
 
+-- turn `n` of task `t` is applied, whose job is this one; nothing changes where there is none
 abbrev pub job_applied : ScriptView → Standing → ℕ → ℕ → Option JobFacts → List EffectView → ExitView → Option FrameView → Standing
 job_applied script s t n None effects exit after = s
 job_applied script s t n (Some j) effects exit after = frames_applied script s t n j.frames.frames j.frames.outer effects exit after
 
+-- turn `n` of task `t` is applied, by the job that the task has
 abbrev pub turn_applied : ScriptView → Standing → ℕ → ℕ → List EffectView → ExitView → Option FrameView → Standing
 turn_applied script s t n effects exit after = job_applied script s t n (s.jobs t) effects exit after
 
@@ -108,30 +112,35 @@ after_block script s (begun t n env) = record s { log = s.log ++ Begin (task t) 
 after_block script s (ran e r) = turn_applied script s r.task r.number r.effects r.exit r.after
 after_block script s (folded e f) = turn_applied script s f.task f.number f.effects f.exit f.after
 
+-- where the blocks lead, in order, from `s` on
 abbrev pub after_blocks : ScriptView → Standing → List Block → Standing
 after_blocks script s [] = s
 after_blocks script s (b ∷ bs) = after_blocks script (after_block script s b) bs
 
--- the records of an executor, and what is left of its folded turns, in order
+-- the record in a block, if that is a turn which ran on executor `e`
 abbrev pub record_in : ℕ → Block → Option RecordView
 record_in e (ran executor r) = if executor == e then Some r else None
 record_in e _ = None
 
+-- the records of executor `e`, in order
 abbrev pub records_of : ℕ → List Block → List RecordView
 records_of e bs = filter_map (record_in e) bs
 
+-- what is left of the turn in a block, if that is a folded one of executor `e`
 abbrev pub folded_in : ℕ → Block → Option FoldedView
 folded_in e (folded executor f) = if executor == e then Some f else None
 folded_in e _ = None
 
+-- what is left of the folded turns of executor `e`, in order
 abbrev pub folded_of : ℕ → List Block → List FoldedView
 folded_of e bs = filter_map (folded_in e) bs
 
--- the roots that were added, in order
+-- the root that a block adds, if it adds one
 abbrev pub root_in : Block → Option ℕ
 root_in (added r) = Some r
 root_in _ = None
 
+-- the roots that were added, in order
 abbrev pub roots_of : List Block → List ℕ
 roots_of bs = filter_map root_in bs
 
@@ -162,10 +171,11 @@ pub record FoldedStands (script : ScriptView) (s : Standing) (executor : ℕ) (f
   pub stands : TurnStands script s executor f.task f.number f.effects f.exit job env frame
   pub leaves : LeavesFrame frame f.effects f.exit f.after
 
--- the checkpoint of an executor
+-- the checkpoint of an executor that has none: no fields and no turns
 abbrev pub no_checkpoint : CheckpointView
 no_checkpoint = record { fields = []; folded = [] }
 
+-- the checkpoint of executor `e`
 abbrev pub checkpoint_at : List CheckpointView → ℕ → CheckpointView
 checkpoint_at checkpoints e = unwrap_or (slice_get checkpoints e) no_checkpoint
 
@@ -174,7 +184,7 @@ abbrev pub fields_of : ScriptView → List CheckpointView → ℕ → List Block
 fields_of script checkpoints e bs = replay script (checkpoint_at checkpoints e).fields (records_of e bs)
 
 -- A block may stand after others. A root is added once. A turn begins where it is the one that its task's last job is for, with
--- the environment of the log. Folded turns of an executor stand before its records.
+-- the environment of the log. Folded turns of an executor come before its records.
 abbrev pub Stands : ScriptView → List CheckpointView → List Block → Block → Type 0
 Stands script checkpoints before (added r) =
     let s = after_blocks script (at_first script) before in
@@ -187,6 +197,7 @@ Stands script checkpoints before (ran e r) =
 Stands script checkpoints before (folded e f) =
     FoldedStands script (after_blocks script (at_first script) before) e f × (records_of e before ≡ [])
 
+-- each of some blocks may stand after `before` and those of them that come earlier
 abbrev pub AllStand : ScriptView → List CheckpointView → List Block → List Block → Type 0
 AllStand script checkpoints before [] = Unit {0}
 AllStand script checkpoints before (b ∷ bs) = Stands script checkpoints before b × AllStand script checkpoints (before ++ b ∷ []) bs

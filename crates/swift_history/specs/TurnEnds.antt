@@ -57,14 +57,15 @@ abbrev pub resume_of : Ending → Resume
 resume_of (ending.Value v) = Value v
 resume_of (ending.Fault f) = Raise f
 
--- a task that begins: its first frame, and the bindings that stand there
+-- a task that begins: its first frame, and the bindings that it finds
 abbrev pub beginning : ScriptView → ℕ → List ℤ → List (ℕ × ℤ) → TaskView
 beginning script m args bindings = record { frames = opening script m args 0 0 ∷ []; outer = bindings }
 
+-- the first job of task `t`: its turn 0 starts method `m` with these arguments and bindings
 abbrev pub first_job : ScriptView → ℕ → ℕ → List ℤ → List (ℕ × ℤ) → JobFacts
 first_job script t m args bindings = record { task = t; number = 0; resume = Start; frames = beginning script m args bindings }
 
--- each job that is made is logged
+-- the events by which jobs are given, in order
 abbrev pub gives : List JobFacts → List Event
 gives jobs = map (λ j. Give (task j.task) j.number j.resume) jobs
 
@@ -72,6 +73,7 @@ gives jobs = map (λ j. Give (task j.task) j.number j.resume) jobs
 abbrev pub root_job : ScriptView → ℕ → JobFacts
 root_job script r = first_job script r (root_method script r) (root_args script r) []
 
+-- what adding root `r` writes: the root with its priority, and its first job
 abbrev pub root_events : ScriptView → ℕ → List Event
 root_events script r = Root (task r) (root_priority script r) ∷ gives (root_job script r ∷ [])
 
@@ -130,10 +132,12 @@ abbrev pub close_events : ℕ → ℕ → Option Fault → List Event
 close_events t g None = Close (task t) g ∷ []
 close_events t g (Some f) = CancelGroup (task t) g ∷ Close (task t) g ∷ []
 
+-- a wait for a task is written where that has not ended
 abbrev pub wait_events : ℕ → TaskId → Option Ending → List Event
 wait_events t awaited (Some e) = []
 wait_events t awaited None = Wait (task t) awaited ∷ []
 
+-- the end of task `t` is written where it has ended
 abbrev pub end_events : ℕ → Step → List Event
 end_events t (Ended e) = End (task t) e ∷ []
 end_events t _ = []
@@ -145,24 +149,28 @@ exit_events t log (asking_next g) step = next_events t g (next_of (group_of t g 
 exit_events t log (closing_group g f) step = close_events t g f
 exit_events t log _ step = end_events t step
 
--- what the task's next turn begins with, where it need not wait and has not ended
+-- what the next turn begins with after a wait for a task: the ending of that task, if it has one
 abbrev pub wait_resume : Option Ending → Option Resume
 wait_resume (Some e) = Some (resume_of e)
 wait_resume None = None
 
+-- what the next turn begins with after `next`: a result, or the fault `empty` where none is to come, unless the task waits
 abbrev pub next_resume : Answer → Option Resume
 next_resume (answer.Result child e) = Some (resume_of e)
 next_resume answer.Wait = None
 next_resume answer.Empty = Some (Raise Empty)
 
+-- what the next turn begins with after a group is closed: it goes on where no child is unfinished, and else the task waits
 abbrev pub close_resume : Closing → Option Resume
 close_resume closing.Done = Some Go
 close_resume closing.Wait = None
 
+-- what the next turn begins with by the step after an exit; nothing where the task has ended or waits
 abbrev pub step_resume : Step → Option Resume
 step_resume (Run actor resume) = Some resume
 step_resume _ = None
 
+-- what the task's next turn begins with, where it need not wait and has not ended
 abbrev pub exit_resume : ℕ → List Event → ExitView → Step → Option Resume
 exit_resume t log (waiting name) step = wait_resume (life_of (named_task t name log).0 log).ending
 exit_resume t log (asking_next g) step = next_resume (next_of (group_of t g log))
@@ -182,10 +190,11 @@ woken u resume f (Some h) = record {
   jobs = f.jobs ++ record { task = u; number = h.number; resume = resume_at h.number resume; frames = h.frames } ∷ [];
 }
 
+-- task `u` goes on with this, if it waits
 abbrev pub wake : ℕ → Resume → AfterTurn → AfterTurn
 wake u resume f = woken u resume f (slice_index_or f.held u None)
 
--- the same of several tasks, in order
+-- each of some tasks goes on with this, if it waits, in order
 abbrev pub wake_each : List TaskId → Resume → AfterTurn → AfterTurn
 wake_each [] resume f = f
 wake_each (u ∷ us) resume f = wake_each us resume (wake u.0 resume f)
@@ -202,6 +211,7 @@ wake_owner o g e (Some (Asks asked)) log f = if asked == g then wake o (resume_o
 wake_owner o g e (Some (Closes closed)) log f = if closed == g then wake_closing o (close_of (group_of o g log)) f else f
 wake_owner o g e _ log f = f
 
+-- the owner of a task that has ended with `e`, where the task is a child, by its owner and group: it goes on as `wake_owner` says
 abbrev pub wake_parent : Option (ℕ × ℕ) → Ending → List Event → AfterTurn → AfterTurn
 wake_parent None e log f = f
 wake_parent (Some x) e log f = wake_owner x.0 x.1 e (life_of x.0 log).stage log f

@@ -1,5 +1,5 @@
 -- A script, a body and an inbox may be shared by threads or go to another. The check looks for this by itself, and gives up at an
--- enum of so many variants as `Act`, so each type is shown from its parts. Who starts a thread with one of these lists the
+-- enum with as many variants as `Act`, so each type is shown from its parts. Who starts a thread with one of these lists the
 -- lemma that is meant beside `sendable`.
 use denote.Param.Send.{IsSend, IsSync, sendable, enum_send, enum_sync, struct_send, struct_sync, recorded_send, recorded_sync}
 use denote.Enum.Declared as E

@@ -83,7 +83,7 @@ fn make_placed<K: NamesSite>(
 }
 
 impl Inbox {
-    /// An empty inbox for the jobs of this site, with room for so many, at least 1, its first pass and its taker. The only call
+    /// An empty inbox for the jobs of this site, with room for `room` of them, at least 1, its first pass and its taker. The only call
     /// that takes memory: a place for each job and 8 bytes beside it, and each place is marked as empty. An `Err` says that a
     /// growth was refused, and a room of 2^60 or more is refused too.
     pub fn new(

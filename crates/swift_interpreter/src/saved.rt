@@ -138,7 +138,7 @@ fn oldest_row<'a>(rows: &'a [SavedRow], actor: usize, row: &'a [i64]) -> &'a [i6
     row
 }
 
-// The last of so many saved rows and the row that the fields have in its place change places.
+// The last of the first `used` saved rows and the row that the fields have in its place change places.
 #[tactic(auto, using(crate::proofs::SavedLists::newest_last))]
 fn take_back(rows: &mut [SavedRow], used: usize, fields: &mut [Vec<i64>])
     requires some { 0 < used }
@@ -189,7 +189,7 @@ fn set_row(rows: &mut [SavedRow], place: usize, actor: u32, row: &[i64]) -> Resu
     copy_into(row, &mut saved.row)
 }
 
-// So many values are copied one at a time: for few it takes a fraction of what a copy of memory does.
+// Up to `FEW` values are copied one at a time: for few it takes a fraction of what a copy of memory does.
 const FEW: usize = 8;
 
 // Appends values one at a time.

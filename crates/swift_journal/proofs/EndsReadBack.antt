@@ -81,7 +81,7 @@ exit_reads_back exit.Yield n = record { reads = λ rest. refl; leaves = λ rest.
 exit_reads_back (exit.Return v) n = record { reads = λ rest. refl; leaves = λ rest. refl }
 exit_reads_back (exit.Fault f) n = record { reads = λ rest. ap (λ x. exit_view (exit.Fault x)) (fault_reads f rest); leaves = fault_leaves f }
 
--- the same of a kind that is the resume's, or the exit's
+-- a resume and an exit are read back by a kind that is theirs
 pub resume_reads_back_by : (r : Resume) (k : StoredResume) → k ≡ resume_kind r → ReadsBack Resume (resume_of k) (skip_resume k) (resume_words r) r
 resume_reads_back_by r k e = subst (λ (x : StoredResume). ReadsBack Resume (resume_of x) (skip_resume x) (resume_words r) r) (sym e) (resume_reads_back r)
 

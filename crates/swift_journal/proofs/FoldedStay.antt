@@ -89,7 +89,7 @@ folded_is hs k h ws es v d lt at is =
     ∙ ap (λ (j : ℕ). f (get_or (kept ++ p ∷ placed (drop (k + 1) hs) n m) j p)) (sym place)
     ∙ ap f (seam kept (placed (drop (k + 1) hs) n m) p p)
 
--- so many turns are left
+-- the first `k` turns are left
 left : (hs hs' : List FoldedHead) (k : ℕ) (h : FoldedHead) (ws ws' : List ℤ) (es es' : List StoredEffect)
     → k < length hs → h ≡ get_or hs k h → hs' ≡ take k hs → ws' ≡ take h.start ws → es' ≡ take h.first_effect es
     → AreLaid placed_span (reverse (placed hs (length ws) (length es))) (length ws) (length es)

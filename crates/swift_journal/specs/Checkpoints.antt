@@ -15,9 +15,11 @@ pub record FoldedView : Type 0 where
   pub effects : List EffectView
   pub after : Option FrameView
 
+-- what is left of the turn of a record once it is folded
 abbrev pub folded_of : RecordView → FoldedView
 folded_of r = record { task = r.task; number = r.number; exit = r.exit; effects = r.effects; after = r.after }
 
+-- what is left of a turn that was folded, as callers see it
 abbrev pub folded_view : Folded → FoldedView
 folded_view t = record { task = t.task.0; number = t.number; exit = exit_view t.exit; effects = effect_views t.effects.items; after = frame_if t.after }
 

@@ -20,7 +20,7 @@ skip_args i ws = drop i.args ws
 abbrev pub stored_invocation : Invocation → StoredInvocation
 stored_invocation i = record { actor = i.actor; method = i.method; args = length i.args.items }
 
--- what is to run with so many bindings
+-- what is to run, with `n` bindings
 abbrev pub bound_of : StoredInvocation → ℕ → List ℤ → InvocationView × List (ℕ × ℤ)
 bound_of i n ws = (invocation_of i ws, bindings_of n (skip_args i ws))
 

@@ -50,7 +50,7 @@ abbrev pub fault_size : StoredFault → ℕ
 fault_size kind.Thrown = 1
 fault_size _ = 0
 
--- the same of a fault that may be pending
+-- a fault that may be pending, of its stored kind and its words
 abbrev pub pending_of : StoredFault → List ℤ → Option Fault
 pending_of kind.Absent ws = None
 pending_of k ws = Some (fault_of k (first_word ws))
@@ -66,7 +66,7 @@ pending_words (Some f) = fault_words f
 abbrev pub skip_pending : StoredFault → List ℤ → List ℤ
 skip_pending k ws = drop (fault_size k) ws
 
--- the same of what a turn begins with
+-- what a turn begins with, of its stored kind and its words
 abbrev pub resume_of : StoredResume → List ℤ → Resume
 resume_of start.Start ws = resume.Start
 resume_of start.Go ws = resume.Go
@@ -96,7 +96,7 @@ skip_resume k ws = drop (resume_size k) ws
 abbrev pub call_of : List ℤ → InvocationView
 call_of ws = record { actor = number_at ws 0; method = number_at ws 1; args = take (number_at ws 2) (drop 3 ws) }
 
--- the same of how a turn ends
+-- how a turn ends, of its stored kind and its words
 abbrev pub exit_of : StoredExit → List ℤ → ExitView
 exit_of end.Call ws = calling (call_of ws)
 exit_of end.Root ws = waiting (name.Root (record { 0 = number_at ws 0 }))

@@ -78,7 +78,7 @@ list_words f = map pos f.handles.items ++ (pair_words (map pair_of f.own.items) 
 abbrev pub frame_words : Bool → Frame → List ℤ
 frame_words counted f = f.variables.items ++ (counts_words counted (frame_counts f) ++ (list_words f ++ pending_words f.pending))
 
--- the same of a frame that may be there
+-- a frame, where the flag says that there is one
 abbrev pub frame_if : Bool → FrameView → Option FrameView
 frame_if false f = None
 frame_if true f = Some f

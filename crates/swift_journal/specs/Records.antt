@@ -30,10 +30,12 @@ pub record RecordView : Type 0 where
   -- the frame as the turn left it, where it goes on
   pub after : Option FrameView
 
+-- a frame behind a reference, as callers see it, where there is one
 abbrev pub frame_if_lent : Option (Bor Frame) → Option FrameView
 frame_if_lent None = None
 frame_if_lent (Some f) = Some (frame_view f.now)
 
+-- a record whose parts are behind references, as callers see it
 abbrev pub record_view : Record → RecordView
 record_view r = record {
   task = r.task.0;
@@ -48,6 +50,7 @@ record_view r = record {
   after = frame_if_lent r.after;
 }
 
+-- a record that has its parts, as callers see it
 abbrev pub owned_view : OwnedRecord → RecordView
 owned_view r = record {
   task = r.task.0;

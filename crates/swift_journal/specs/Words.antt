@@ -26,7 +26,7 @@ first_word ws = slice_index_or ws 0 (pos 0)
 abbrev pub first_pair : List ℤ → ℕ × ℤ
 first_pair ws = (narrowed (first_word ws), slice_index_or ws 1 (pos 0))
 
--- so many bindings
+-- the first `n` bindings of the words, in their order
 abbrev pub pairs_from : ℕ → List ℤ → List (ℕ × ℤ)
 pairs_from zero ws = []
 pairs_from (suc n) ws = first_pair ws ∷ pairs_from n (drop 2 ws)
@@ -38,11 +38,11 @@ rounded p = (narrowed (pos p.0), p.1)
 abbrev pub AreNarrow : List (ℕ × ℤ) → Type 0
 AreNarrow ps = map rounded ps ≡ ps
 
--- so many bindings, of which the outermost comes first, the innermost first
+-- the first `n` bindings of the words, of which the outermost comes first: the innermost first
 abbrev pub bindings_of : ℕ → List ℤ → List (ℕ × ℤ)
 bindings_of n ws = reverse (pairs_from n ws)
 
--- what follows so many bindings
+-- what follows the first `n` bindings
 abbrev pub skip_bindings : ℕ → List ℤ → List ℤ
 skip_bindings n ws = drop (n + n) ws
 

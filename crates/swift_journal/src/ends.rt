@@ -45,7 +45,7 @@ fn write_fault(words: &mut Tail, fault: Fault) -> Result<StoredFault, AllocError
     Ok(kind_of(fault))
 }
 
-// The same of a fault that may be pending.
+// Appends the value of a fault that may be pending, and says which it is.
 pub fn write_pending(words: &mut Tail, pending: Option<Fault>) -> Result<StoredFault, AllocError>
     ensures kind { IfOk result (λ kind. kind ≡ pending_kind pending) }
     ensures before { words.new.before ≡ words.old.before }
@@ -57,7 +57,7 @@ pub fn write_pending(words: &mut Tail, pending: Option<Fault>) -> Result<StoredF
     }
 }
 
-// The same of what a turn begins with.
+// Appends the values of what a turn begins with, and says which it is.
 pub fn write_resume(words: &mut Tail, resume: Resume) -> Result<StoredResume, AllocError>
     ensures kind { IfOk result (λ kind. kind ≡ resume_kind resume) }
     ensures before { words.new.before ≡ words.old.before }
@@ -74,7 +74,7 @@ pub fn write_resume(words: &mut Tail, resume: Resume) -> Result<StoredResume, Al
     }
 }
 
-// The same of how a turn ends, with what it names and the arguments of a call.
+// Appends what the exit of a turn names and the arguments of a call, and says which it is.
 pub fn write_exit(words: &mut Tail, exit: &Exit) -> Result<StoredExit, AllocError>
     ensures kind { IfOk result (λ kind. kind ≡ exit_kind exit.now) }
     ensures before { words.new.before ≡ words.old.before }

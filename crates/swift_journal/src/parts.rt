@@ -20,14 +20,14 @@ use std::alloc::{AllocError, Global};
 use swift_interpreter::Frame;
 use swift_types::Env;
 
-// So many of the words from a place on.
+// `size` of the words, from word `start` on.
 pub fn part(words: &[i64], start: usize, size: usize) -> &[i64]
     ensures { result.now ≡ take size (drop start words.now) }
 {
     split(split(words, start).1, size).0
 }
 
-// So many of the effects from a place on.
+// `size` of the effects, from effect `start` on.
 pub fn part_of_effects(effects: &[StoredEffect], start: usize, size: usize) -> &[StoredEffect]
     ensures { result.now ≡ take size (drop start effects.now) }
 {

@@ -8,7 +8,7 @@ use std::alloc::{AllocError, Global};
 use std::marker::Model;
 
 // Words, and where those begin that are being written. Whoever writes a turn may stop at a growth that is refused: its
-// words are then cut off. Contracts see the words that stood before, and those that were written since.
+// words are then cut off. Contracts see the words from before, and those that were written since.
 #[derive(Drop)]
 pub struct Tail {
     words: Vec<i64>,
@@ -38,7 +38,7 @@ impl Tail {
         }
     }
 
-    // All words that there are stood before from now on.
+    // All words that there are count as words from before from now on.
     pub fn begin(&mut self)
         ensures { self.new ≡ record { before = whole self.old; written = [] } }
     {
@@ -69,7 +69,7 @@ impl Tail {
         self.words.truncate(self.start);
     }
 
-    // Keeps so many words, all of which then stood before.
+    // Keeps the first `count` words, all of which are then words from before.
     pub fn truncate(&mut self, count: usize)
         ensures { self.new ≡ record { before = take count (whole self.old); written = [] } }
     {

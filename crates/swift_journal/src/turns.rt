@@ -86,7 +86,7 @@ impl FoldedTurns {
         Ok(())
     }
 
-    // Keeps so many turns, and drops those after them.
+    // Keeps the first `count` turns, and drops those after them.
     pub fn truncate(&mut self, count: usize)
         ensures { self.new ≡ take count self.old }
     {
@@ -152,7 +152,7 @@ impl FoldedTurns {
     }
 }
 
-// Where the words of a turn end, of so many words.
+// Where the words of the turn at a place end, of `words` words in all.
 fn next_start(heads: &[FoldedHead], place: usize, words: usize) -> usize
     requires { place < length heads.now }
     ensures { result ≡ next_start (drop (place + 1) heads.now) words }
@@ -164,7 +164,7 @@ fn next_start(heads: &[FoldedHead], place: usize, words: usize) -> usize
     }
 }
 
-// Where the effects of a turn end, of so many effects.
+// Where the effects of the turn at a place end, of `effects` effects in all.
 fn next_effect(heads: &[FoldedHead], place: usize, effects: usize) -> usize
     requires { place < length heads.now }
     ensures { result ≡ next_effect (drop (place + 1) heads.now) effects }
@@ -176,7 +176,7 @@ fn next_effect(heads: &[FoldedHead], place: usize, effects: usize) -> usize
     }
 }
 
-// Whether the frame after a turn stands, and whether its counts are stored.
+// Whether there is a frame after a turn, and whether its counts are stored.
 fn kind_of_after(after: &FrameHead) -> StoredAfter
     ensures { result ≡ after_kind after.now.stands after.now.counted }
 {

@@ -10,7 +10,7 @@ use std::alloc::{AllocError, Global};
 use swift_locals::Bindings;
 use swift_types::LocalId;
 
-// As many of the words as there are, at most so many, and what follows them.
+// The first `count` words, or all where there are fewer, and what follows them.
 pub fn split(words: &[i64], count: usize) -> (&[i64], &[i64])
     ensures front { result.0.now ≡ take count words.now }
     ensures back { result.1.now ≡ drop count words.now }
@@ -18,7 +18,7 @@ pub fn split(words: &[i64], count: usize) -> (&[i64], &[i64])
     words.split_at(count.min(words.len()))
 }
 
-// The words after so many bindings.
+// The words after `count` bindings.
 pub fn skip_bindings(words: &[i64], count: usize) -> &[i64]
     ensures { result.now ≡ after_bindings count words.now }
 {
@@ -60,7 +60,7 @@ pub fn short(length: usize) -> Result<u32, AllocError>
     }
 }
 
-// So many words are appended one at a time: for few it takes a fraction of what a copy of memory does.
+// Up to `FEW` words are appended one at a time: for few it takes a fraction of what a copy of memory does.
 const FEW: usize = 8;
 
 // Appends words for which there is room, one at a time.
@@ -85,7 +85,7 @@ pub fn append_words(words: &mut Vec<i64>, more: &[i64]) -> Result<(), AllocError
     Ok(())
 }
 
-// The same by a copy of memory. It stands apart, so that few words take no call.
+// Appends words by a copy of memory. It is a function of its own, so that few words take no call.
 #[inline(never)]
 fn append_many(words: &mut Vec<i64>, more: &[i64]) -> Result<(), AllocError>
     ensures words { OnOk result (words.new.items ≡ words.old.items ++ more.now) }
@@ -169,7 +169,7 @@ pub fn read_numbers(alloc: Global, words: &[i64]) -> Result<Vec<u32>, AllocError
     Ok(numbers)
 }
 
-// So many bindings, as they were written.
+// The first `count` bindings of the words, as they were written.
 pub fn read_own(alloc: Global, words: &[i64], count: usize) -> Result<Vec<Binding>, AllocError>
     ensures { IfOk result (λ own. map pair_of own.items ≡ pairs_from count words.now) }
 {
@@ -183,7 +183,7 @@ pub fn read_own(alloc: Global, words: &[i64], count: usize) -> Result<Vec<Bindin
     Ok(own)
 }
 
-// So many bindings, of which the outermost was written first.
+// The first `count` bindings of the words, of which the outermost was written first.
 pub fn read_bindings(alloc: Global, words: &[i64], count: usize) -> Result<Bindings, AllocError>
     ensures { IfOk result (λ bindings. bindings ≡ reverse (pairs_from count words.now)) }
 {

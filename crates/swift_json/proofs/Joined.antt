@@ -11,7 +11,7 @@ pub if_ok : {A E : Type 0} (r : Result A E) (x y z : List ℕ) → x ≡ (if is_
 if_ok (Ok u) x y z is = is
 if_ok (Err u) x y z is = tt
 
--- the same of an equal text
+-- what is appended is an equal text
 pub said : {A E : Type 0} (r : Result A E) (x0 x a text : List ℕ) → a ≡ text → OnOk r (x ≡ x0 ++ a) → OnOk r (x ≡ x0 ++ text)
 said (Ok u) x0 x a text is h = h ∙ ap (λ (xs : List ℕ). x0 ++ xs) is
 said (Err u) x0 x a text is h = tt

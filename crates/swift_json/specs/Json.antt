@@ -24,7 +24,7 @@ use Rattle.swift_events.specs.declared.life.Origin.TheVariants.{Root, Child, Spa
 use Rattle.swift_report.specs.declared.report.Report.{Report}
 use Rattle.swift_report.specs.Text.{folded_count, method_text, row_of}
 
--- what stands before an element of a list, whose first element has this place
+-- what comes before an element of a list, whose first element has this place
 abbrev pub comma : ℕ → ℕ → List ℕ
 comma first place = if place == first then [] else codes ","
 
@@ -66,6 +66,7 @@ abbrev pub ending_json : Ending → List ℕ
 ending_json (Returned v) = codes "{\"is\":\"value\"" ++ value_json v ++ codes "}"
 ending_json (Failed f) = codes "{\"is\":\"fault\"," ++ fault_json f ++ codes "}"
 
+-- the fault that is pending where a group is closed, as members after a comma; nothing where none is
 abbrev pub pending_json : Option Fault → List ℕ
 pending_json None = []
 pending_json (Some f) = codes "," ++ fault_json f
@@ -80,6 +81,7 @@ exit_json p (Close g f) = codes "{\"is\":\"close\"" ++ pending_json f ++ codes "
 exit_json p (Return v) = codes "{\"is\":\"return\"" ++ value_json v ++ codes "}"
 exit_json p (Fails f) = codes "{\"is\":\"fault\"," ++ fault_json f ++ codes "}"
 
+-- a flag: `true` or `false`
 abbrev pub flag_json : Bool → List ℕ
 flag_json false = codes "false"
 flag_json true = codes "true"
@@ -92,7 +94,7 @@ env_json e = codes ",\"priority\":" ++ decimal (rank e.priority) ++ codes ",\"ca
 abbrev pub line_of : RecordView → TurnJson
 line_of r = record { task = record { 0 = r.task }; number = r.number; worker = r.worker; method = record { 0 = r.frame.method }; env = r.env; resume = r.resume; exit = brief_of r.exit }
 
--- which turn stands at this place of a journal: the task, the turn's number in it, and the worker
+-- which turn is at this place of a journal: the task, the turn's number in it, and the worker
 abbrev pub run_json : ℕ → TurnJson → List ℕ
 run_json place r = codes "\n{\"place\":" ++ decimal place ++ codes ",\"task\":" ++ decimal r.task.0 ++ codes ",\"turn\":" ++ decimal r.number ++ codes ",\"worker\":" ++ decimal r.worker
 
@@ -104,7 +106,7 @@ resume_and_exit_json p r = codes ",\"resume\":" ++ resume_json r.resume ++ codes
 abbrev pub turn_json : ScriptView → ℕ → TurnJson → List ℕ
 turn_json p place r = run_json place r ++ codes ",\"method\":\"" ++ method_text p r.method.0 ++ codes "\"" ++ env_json r.env ++ resume_and_exit_json p r ++ codes "}"
 
--- the same in a list whose first turn has this place
+-- the turn at `place` of a journal, in a list whose first turn is at `first`: a comma comes before each other
 abbrev pub listed_json : ScriptView → ℕ → ℕ → TurnJson → List ℕ
 listed_json p first place r = comma first place ++ turn_json p place r
 
@@ -128,11 +130,12 @@ pinned_json _ = []
 abbrev pub kind_json : ExecutorKind → List ℕ
 kind_json k = kind_word k ++ pinned_json k
 
--- an executor with so many turns, up to its journal
+-- executor `e`, with the number `turns` of its turns, up to its journal
 abbrev pub heading_json : ScriptView → ℕ → ℕ → List ℕ
 heading_json p e turns = codes "\n{\"executor\":\"" ++ executor_name p e ++ codes "\"," ++ kind_json (executor_kind p e) ++ codes ",\"turns\":" ++ decimal turns
 
--- An executor, of whose turns so many were folded: all turns are counted, and the places of its journal begin after those that were folded.
+-- Executor `e`, with `folded` turns that were folded and those of its journal `j`: all are counted, and the places of the journal begin
+-- after those that were folded.
 abbrev pub executor_json : ScriptView → ℕ → ℕ → List RecordView → List ℕ
 executor_json p e folded j = heading_json p e (folded + length j) ++ codes ",\"folded\":" ++ decimal folded ++ codes ",\"records\":[" ++ turns_json p folded folded j ++ codes "]}"
 

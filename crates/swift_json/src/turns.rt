@@ -173,7 +173,7 @@ fn kind(out: &mut Vec<u8>, kind: ExecutorKind) -> Result<(), AllocError>
     pinned(out, kind)
 }
 
-// An executor with so many turns, up to its journal.
+// An executor, with the number `turns` of its turns, up to its journal.
 fn heading(
     out: &mut Vec<u8>,
     script: &Script,
@@ -190,7 +190,7 @@ fn heading(
     number(out, turns)
 }
 
-// An executor, of whose turns so many were folded.
+// The executor with number `place`, with `folded` turns that were folded and those of its journal.
 fn executor(
     out: &mut Vec<u8>,
     script: &Script,
@@ -209,7 +209,7 @@ fn executor(
     out.extend_from_slice(b"]}")
 }
 
-// The same in a list.
+// The executor with number `place` in a list: a comma comes before each but the first.
 fn listed_executor(
     out: &mut Vec<u8>,
     script: &Script,

@@ -35,6 +35,7 @@ pub record BookKnown : Type 0 where
   pub tickets : List Ticket
   pub maker : Option Maker
 
+-- what a seat knows that was joined to another: nothing
 abbrev pub no_view : BookKnown
 no_view = record { script = None; accounts = []; tickets = []; maker = None }
 

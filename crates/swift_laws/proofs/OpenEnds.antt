@@ -241,7 +241,7 @@ module _ (roots : ℕ) (t : ℕ) (log : List Event) (sound : Sound roots log) (a
           is_closes (Some (stage.Closes g)) = true
           is_closes _ = false
 
-  -- the same of an exit by what comes next
+  -- what an exit writes, by what comes next
   abbrev StepWrote : Advanced → Type 0
   StepWrote a = Wrote roots t log (log ++ end_events t a.step) (step_resume a.step) a.step
 

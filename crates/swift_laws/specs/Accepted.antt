@@ -9,7 +9,7 @@ use Rattle.swift_events.specs.declared.event.Event.TheVariants.{Give}
 use Rattle.swift_history.specs.Histories.{IsLegal, ReportView}
 use Rattle.swift_laws.specs.Laws.{TurnPlace, HasTurn, turns_of, ActorsHaveExecutors}
 
--- What a statement asks for, with so many groups open: a `return` stands where none is, and the end of a group's block where one
+-- What a statement asks for, with `n` groups open: a `return` is where none is open, and the end of a group's block where one
 -- is. `rest` says what is asked of what follows, by how many are open there.
 abbrev pub after_operation : Operation → (ℕ → Type 0) → ℕ → Type 0
 after_operation (return t) rest n = n ≡ 0
@@ -18,7 +18,7 @@ after_operation close_group rest zero = ⊥
 after_operation close_group rest (suc n) = rest n
 after_operation d rest n = rest n
 
--- Statements lead from so many open groups to so many, whichever way they are gone through.
+-- Statements lead from `n` open groups to `m`, whichever way they are gone through.
 abbrev pub LeadsTo : Code → ℕ → ℕ → Type 0
 LeadsTo end n m = n ≡ m
 LeadsTo (act d rest) n m = after_operation d (λ k. LeadsTo rest k m) n
@@ -37,7 +37,7 @@ AcceptedCloseGroups = (script : ScriptView) → WasAccepted script → ClosesGro
 abbrev pub AcceptedHaveExecutors : Type 0
 AcceptedHaveExecutors = (script : ScriptView) → WasAccepted script → 0 < root_count script → ActorsHaveExecutors script
 
--- So each turn that the log of its legal report applies stands in the report.
+-- So each turn that the log of its legal report applies is in the report.
 abbrev pub AcceptedTurnsStand : Type 0
 AcceptedTurnsStand = (script : ScriptView) (report : ReportView) (t n : ℕ) → WasAccepted script → IsLegal script report
     → n < length (turns_of t report.log) → (p : TurnPlace) × HasTurn report p t n

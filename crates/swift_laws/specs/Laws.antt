@@ -23,12 +23,12 @@ pub record IsFolded (report : ReportView) (executor place : ℕ) (f : FoldedView
   pub is_checkpoint : slice_get report.checkpoints executor ≡ Some checkpoint
   pub stands : slice_get checkpoint.folded place ≡ Some f
 
--- where a turn may stand in a report: in the journal of an executor, or among the folded turns of its checkpoint
+-- where a turn may be in a report: in the journal of an executor, or among the folded turns of its checkpoint
 pub data TurnPlace : Type 0 where
   in_journal : ℕ → ℕ → TurnPlace
   in_checkpoint : ℕ → ℕ → TurnPlace
 
--- this turn of this task stands there
+-- turn `n` of task `t` is there
 abbrev pub HasTurn : ReportView → TurnPlace → ℕ → ℕ → Type 0
 HasTurn report (in_journal e i) t n = (r : RecordView) × IsRecord report e i r × (r.task ≡ t) × (r.number ≡ n)
 HasTurn report (in_checkpoint e i) t n = (f : FoldedView) × IsFolded report e i f × (f.task ≡ t) × (f.number ≡ n)
@@ -38,15 +38,16 @@ abbrev pub EachTurnStandsOnce : Type 0
 EachTurnStandsOnce = (script : ScriptView) (report : ReportView) (p q : TurnPlace) (t n : ℕ)
     → IsLegal script report → HasTurn report p t n → HasTurn report q t n → p ≡ q
 
--- the numbers of a task's turns, in the order in which the log applies them
+-- the number of the turn of task `t` that this event applies, if it does
 abbrev pub turn_in : ℕ → Event → Option ℕ
 turn_in t (Apply task n) = if task.0 == t then Some n else None
 turn_in t _ = None
 
+-- the numbers of the turns of task `t`, in the order in which the log applies them
 abbrev pub turns_of : ℕ → List Event → List ℕ
 turns_of t log = filter_map (turn_in t) log
 
--- in a legal report they are 0, 1, 2 and so on, and each turn of the task that stands in the report is one of them
+-- in a legal report they are 0, 1, 2 and so on, and each turn of the task that is in the report is one of them
 abbrev pub TurnsAreNumbered : Type 0
 TurnsAreNumbered = (script : ScriptView) (report : ReportView) (t : ℕ) → IsLegal script report
     → (turns_of t report.log ≡ range_with_len 0 (length (turns_of t report.log)))
@@ -56,16 +57,17 @@ TurnsAreNumbered = (script : ScriptView) (report : ReportView) (t : ℕ) → IsL
 abbrev pub ActorsHaveExecutors : ScriptView → Type 0
 ActorsHaveExecutors script = (actor : ℕ) → actor_executor script actor < executor_count script
 
--- where they do, each turn that the log of a legal report applies stands in the report
+-- where they do, each turn that the log of a legal report applies is in the report
 abbrev pub AppliedTurnsStand : Type 0
 AppliedTurnsStand = (script : ScriptView) (report : ReportView) (t n : ℕ) → IsLegal script report → ActorsHaveExecutors script
     → n < length (turns_of t report.log) → (p : TurnPlace) × HasTurn report p t n
 
--- the numbers of the turns for which the log gives the task a job, in order
+-- the number of the turn for which this event gives task `t` a job, if it does
 abbrev pub given_job : ℕ → Event → Option ℕ
 given_job t (Give task n resume) = if task.0 == t then Some n else None
 given_job t _ = None
 
+-- the numbers of the turns for which the log gives task `t` a job, in order
 abbrev pub jobs_given : ℕ → List Event → List ℕ
 jobs_given t log = filter_map (given_job t) log
 

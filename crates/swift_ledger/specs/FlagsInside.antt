@@ -9,7 +9,7 @@ use Rattle.swift_events.specs.Lives.{unborn}
 use Rattle.swift_events.specs.Relations.{children_of, is_named_group, is_cancelled, names_task, names_group, of_parent, parent_by}
 use Rattle.swift_ledger.specs.declared.flags.Flags.{Flags}
 
--- which of so many tasks are cancelled
+-- which of the first `n` tasks are cancelled
 unfoldable pub flags_of : ℕ → List Event → List Bool
 flags_of n log = map (λ t. is_cancelled t log) (range_with_len 0 n)
 
@@ -17,7 +17,7 @@ flags_of n log = map (λ t. is_cancelled t log) (range_with_len 0 n)
 abbrev pub AreFlags : Flags → ℕ → List Event → Type 0
 AreFlags f roots log = f.flags.items ≡ flags_of (tasks_of roots log) log
 
--- so many more tasks find memory
+-- `n` more tasks find memory
 abbrev pub HasSpare : Flags → ℕ → Type 0
 HasSpare f n = vec_len f.flags + n ≤ vec_capacity f.flags
 

@@ -58,7 +58,7 @@ facts_of o g log = record { children = children_of o g log; endings = endings_of
 abbrev pub no_facts : GroupFacts
 no_facts = record { children = []; endings = []; asked = 0; closed = false; named = false }
 
--- the group of these facts, of which so many results were handed out
+-- the group of these facts, with owner `o` and `handed` results that were handed out
 abbrev pub group_with : TaskId → ℕ → GroupFacts → GroupView
 group_with o handed f = record { owner = o; added = f.children; ended = f.endings; handed = handed; cancelled = f.named; stage = stage_of f.closed (unfinished_of f.children f.endings) }
 

@@ -20,7 +20,7 @@ pub record AreIndexes (a : Indexes) (roots : ℕ) (log : List Event) : Type 0 wh
   pub links : a.waits.events ≡ links_of log
   pub groups : AreGroupsOf a.groups log
 
--- so many more events find memory
+-- `n` more events find memory
 pub record HasSpare (a : Indexes) (n : ℕ) : Type 0 where
   pub lives : lives.HasSpare a.lives n
   pub flags : flags.HasSpare a.flags n

@@ -9,7 +9,7 @@ use Rattle.swift_events.specs.Lives.{life_of, room_held}
 use Rattle.swift_events.specs.Relations.{opened_by, is_open_group}
 use Rattle.swift_events.specs.Room.{reserved_of}
 
--- the log, for a script with so many roots; and how many more events find memory for sure
+-- the log, for a script with `roots` roots; and how many more events find memory for sure
 pub record LedgerView : Type 0 where
   pub roots : ℕ
   pub log : List Event

@@ -17,7 +17,7 @@ pub record AreListsKept (count : ℕ → ℕ) (element : TaskId × ℕ → Optio
 abbrev pub AreLists : TaskLists → (ℕ → List TaskId) → Type 0
 AreLists l lists = AreListsKept (λ t. count_at l.counts t) (λ p. get same_place l.tasks p) lists
 
--- so many more elements find memory
+-- `n` more elements find memory
 abbrev pub HasSpare : TaskLists → ℕ → Type 0
 HasSpare l n = (0 < n → HasPlaces l.counts) × (n ≤ spare l.tasks)
 

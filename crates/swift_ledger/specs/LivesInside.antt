@@ -11,6 +11,6 @@ pub record AreLives (l : Lives) (roots : ℕ) (log : List Event) : Type 0 where
   pub open_tasks : l.open_tasks ≡ open_of roots log
   pub reserved : l.reserved ≡ reserved_of roots log
 
--- so many more tasks find memory
+-- `n` more tasks find memory
 abbrev pub HasSpare : Lives → ℕ → Type 0
 HasSpare l n = vec_len l.lives + n ≤ vec_capacity l.lives

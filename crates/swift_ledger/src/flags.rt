@@ -71,7 +71,7 @@ fn names_group(event: Event, owner: TaskId, group: u32) -> bool
 }
 
 impl Flags {
-    /// Of an empty log, for a script with so many roots.
+    /// Those of an empty log, for a script with `roots` roots.
     pub(crate) fn new(alloc: Global, roots: usize) -> Result<Flags, AllocError>
         requires { roots ≤ TASKS }
         ensures { IfOk result (λ a. AreFlags a roots []) }

@@ -52,7 +52,7 @@ fn parent_of(life: &Life) -> Option<(TaskId, u32)>
 }
 
 impl Indexes {
-    /// Of an empty log, for a script with so many roots.
+    /// Those of an empty log, for a script with `roots` roots.
     pub(crate) fn new(alloc: Global, roots: usize) -> Result<Indexes, AllocError>
         requires { roots ≤ TASKS }
         ensures { IfOk result (λ a. AreIndexes a roots []) }

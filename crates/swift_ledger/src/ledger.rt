@@ -67,7 +67,7 @@ impl Model for Ledger {
 impl Ledger {
     ghost use Rattle.swift_ledger.specs.contracts.ledger.Ledger.{the_row};
 
-    /// An empty log, for a script with so many roots, whose numbers of tasks are taken from the start.
+    /// An empty log, for a script with `roots` roots, whose numbers of tasks are taken from the start.
     pub fn new(alloc: Global, roots: usize) -> Result<Ledger, AllocError>
         requires { roots ≤ TASKS }
         ensures { IfOk result (λ a. a ≡ record { roots = roots; log = []; spare = 0 }) }

@@ -48,7 +48,7 @@ impl Levels {
         }
     }
 
-    /// Fills the list anew, if it is stale. So many numbers of tasks are taken.
+    /// Fills the list anew, if it is stale, where `tasks` numbers of tasks are taken.
     pub(crate) fn refresh(&mut self, waits: &Waits, log: &EventLog, tasks: usize)
         requires kept { KeepsLevels self.old log.now.events }
         requires links { waits.now.events ≡ links_of log.now.events }

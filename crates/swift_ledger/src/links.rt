@@ -24,7 +24,11 @@ pub(crate) fn link_of(event: Event) -> Option<Link>
             owner,
             priority,
             ..
-        } => Some(Link::Child(task, owner, priority)),
+        } => Some(Link::Child {
+            task,
+            parent: owner,
+            own: priority,
+        }),
         Event::Wait(task, awaited) => Some(Link::Wait(task, awaited)),
         Event::Begin { .. }
         | Event::Apply(_, _)
@@ -78,7 +82,11 @@ fn add_link(waits: &mut Waits, link: Link)
                 unreachable!()
             };
         }
-        Link::Child(task, owner, priority) => {
+        Link::Child {
+            task,
+            parent: owner,
+            own: priority,
+        } => {
             let Ok(()) = waits.add_child(task, owner, priority) else {
                 unreachable!()
             };

@@ -31,7 +31,7 @@ fn share(life: &Life) -> usize
 }
 
 impl Lives {
-    /// Of an empty log, for a script with so many roots.
+    /// Those of an empty log, for a script with `roots` roots.
     pub(crate) fn new(alloc: Global, roots: usize) -> Result<Lives, AllocError>
         requires { roots ≤ TASKS }
         ensures { IfOk result (λ a. AreLives a roots []) }

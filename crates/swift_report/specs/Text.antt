@@ -54,6 +54,7 @@ ending_text (Failed f) = codes "fault " ++ fault_text f
 abbrev pub method_text : ScriptView → ℕ → List ℕ
 method_text p m = if nat_lt m (method_count p) then actor_name p (method_actor p m) ++ codes "." ++ method_name p m else []
 
+-- the fault that is pending where a group is closed; nothing where none is
 abbrev pub pending_text : Option Fault → List ℕ
 pending_text None = []
 pending_text (Some f) = codes " fault " ++ fault_text f
@@ -68,6 +69,7 @@ exit_text p (Close g f) = codes "close" ++ pending_text f
 exit_text p (Return v) = codes "return " ++ signed_decimal v
 exit_text p (Fails f) = codes "fault " ++ fault_text f
 
+-- a flag: 1 or 0
 abbrev pub flag_text : Bool → List ℕ
 flag_text false = codes "0"
 flag_text true = codes "1"
@@ -80,7 +82,7 @@ env_text e = codes " p" ++ decimal (rank e.priority) ++ codes " c" ++ flag_text 
 abbrev pub line_of : RecordView → Line
 line_of r = record { task = record { 0 = r.task }; number = r.number; worker = r.worker; method = record { 0 = r.frame.method }; env = r.env; resume = r.resume; exit = brief_of r.exit }
 
--- which turn stands at this place of a journal: the task, the turn's number in it, and the worker
+-- which turn is at this place of a journal: the task, the turn's number in it, and the worker
 abbrev pub run_text : ℕ → Line → List ℕ
 run_text place r = decimal place ++ codes " t" ++ decimal r.task.0 ++ codes "." ++ decimal r.number ++ codes " w" ++ decimal r.worker
 
@@ -103,7 +105,7 @@ kind_text kind.Priority = codes "priority"
 kind_text kind.Fifo = codes "fifo"
 kind_text (kind.Pinned worker) = codes "pinned " ++ signed_decimal worker
 
--- the line of an executor with so many turns
+-- the line of executor `e`, with the number `turns` of its turns
 abbrev pub heading_text : ScriptView → ℕ → ℕ → List ℕ
 heading_text p e turns = codes "executor " ++ executor_name p e ++ codes " " ++ kind_text (executor_kind p e) ++ codes " turns " ++ decimal turns ++ codes "\n"
 
@@ -112,8 +114,8 @@ abbrev pub folded_text : ℕ → List ℕ
 folded_text zero = []
 folded_text (suc n) = codes "folded " ++ decimal (suc n) ++ codes "\n"
 
--- The lines of an executor, of whose turns so many were folded: the heading counts all turns, and the places of its journal
--- begin after those that were folded.
+-- The lines of executor `e`, with `folded` turns that were folded and those of its journal `j`: the heading counts all turns, and the
+-- places of the journal begin after those that were folded.
 abbrev pub executor_text : ScriptView → ℕ → ℕ → List RecordView → List ℕ
 executor_text p e folded j = heading_text p e (folded + length j) ++ folded_text folded ++ turns_text p folded j
 
@@ -171,6 +173,7 @@ row_among [] rows k = []
 row_among (a ∷ actors) [] k = []
 row_among (a ∷ actors) (row ∷ rows) k = if a == k then row.items else row_among actors rows k
 
+-- the fields of actor `k`, where those of the actors of its executor are given; else none
 abbrev pub row_in : Option (Vec (Vec ℤ Global) Global) → List ℕ → ℕ → List ℤ
 row_in None actors k = []
 row_in (Some rows) actors k = row_among actors rows.items k

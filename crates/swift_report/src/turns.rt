@@ -129,7 +129,7 @@ fn kind(out: &mut Vec<u8>, kind: ExecutorKind) -> Result<(), AllocError>
     }
 }
 
-// The line of an executor with so many turns.
+// The line of an executor, with the number `turns` of its turns.
 fn heading(
     out: &mut Vec<u8>,
     script: &Script,
@@ -159,7 +159,7 @@ fn folded_line(out: &mut Vec<u8>, folded: usize) -> Result<(), AllocError>
     out.extend_from_slice(b"\n")
 }
 
-// The lines of an executor, of whose turns so many were folded.
+// The lines of the executor with number `place`, with `folded` turns that were folded and those of its journal.
 fn executor(
     out: &mut Vec<u8>,
     script: &Script,

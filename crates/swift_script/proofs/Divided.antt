@@ -35,6 +35,6 @@ pub script_push : (ds : List DeclTree) (d : DeclTree) → script_in (ds ++ d ∷
 script_push [] d = last_of_none d
 script_push (c ∷ ds) d = ap (with_decl c) (script_push ds d) ∙ first_and_last c d (script_in ds)
 
--- the same of declarations of the code
+-- one more declaration of the code, at the end of those that are seen
 pub one_more : (seen : List Decl) (d : Decl) (t u : ScriptView) → t ≡ script_in (map view_decl seen) → u ≡ with_last (view_decl d) t → u ≡ script_in (map view_decl (seen ++ d ∷ []))
 one_more seen d t u e pushed = pushed ∙ ap (with_last (view_decl d)) e ∙ sym (script_push (map view_decl seen) (view_decl d)) ∙ ap script_in (sym (map_push view_decl seen d))

@@ -84,7 +84,7 @@ impl BookLock {
         seat.put(giving);
     }
 
-    // The same, and the tickets of the jobs that it made come behind those of another seat.
+    // Gives the book back, to which a turn was applied: the tickets of the jobs that it made come behind those of another seat.
     pub(crate) fn give_turn(
         &self,
         seat: &mut BookSeat,

@@ -80,7 +80,7 @@ impl BookSeat {
         self.into_badge().into_seat()
     }
 
-    // The same, out of its place, which it leaves empty.
+    // What the lock takes for a seat, out of its place, which it leaves empty.
     pub(crate) fn take(&mut self) -> LockSeat<Shelf, Known>
         requires { self.old.here ≡ true }
         ensures seat { result ≡ record { lock = self.old.lock; known = record { view = self.old.knows }; held = None } }

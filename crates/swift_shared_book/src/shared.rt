@@ -114,7 +114,7 @@ impl BookLock {
         BookSeat::of(account)
     }
 
-    // The first tickets of a seat, so many, in a seat of their own.
+    // The first `count` tickets of a seat, in a seat of their own.
     fn part_some<K: NamesCount>(&self, seat: &mut BookSeat, count: usize) -> BookSeat
         requires name { K.count ≡ count }
         requires seat { (seat.old.lock ≡ self.now.id) × (seat.old.here ≡ true) }
@@ -128,7 +128,7 @@ impl BookLock {
         BookSeat::of(parted)
     }
 
-    // The same.
+    // Parts off the first `count` tickets of a seat, in a seat of their own.
     pub(crate) fn part(&self, seat: &mut BookSeat, count: usize) -> BookSeat
         requires { (seat.old.lock ≡ self.now.id) × (seat.old.here ≡ true) }
         ensures left { seat.new ≡ knowing (some_left count seat.old.knows) seat.old }

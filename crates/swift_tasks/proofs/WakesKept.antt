@@ -21,7 +21,7 @@ use Rattle.swift_history.specs.TurnEnds.{JobFacts, WaitingTaskView, AfterTurn, r
 use Rattle.swift_tasks.specs.ApplyingInside.{AreMade}
 use Rattle.swift_tasks.proofs.JobsGiven.{among, among-append, equal, unequal, made-append}
 
--- which tasks are held, of so many, by this log; each of them was made, as each of those of which a job was made
+-- which of `n` tasks are held, by this log; each of them was made, as each of those of which a job was made
 pub record IsKept (n : ℕ) (log : List Event) (f : AfterTurn) : Type 0 where
   pub size : length f.held ≡ n
   pub waits : (t : ℕ) → is_some (slice_index_or f.held t None) ≡ (not (among t f.jobs) && is_waiting (life_of t log))

@@ -34,16 +34,17 @@ pub record HoldsWaiting {A : Type 0} (roots : ℕ) (log : List Event) (held : Li
   pub waits : (t : ℕ) → is_some (slice_index_or held t None) ≡ is_waiting (life_of t log)
   pub alive : (t : ℕ) → is_waiting (life_of t log) ≡ true → is_open (life_of t log) ≡ true
 
--- the end of the turn of a job: what it leaves of a book, and the jobs that it makes
+-- the end of the turn of a job with these frames; nothing changes where there is no frame
 abbrev pub end_of_frames : BookView → JobView BodyView → List EffectView → ExitView → List FrameView → TurnEnd
 end_of_frames b j effects exit [] = record { log = b.log; held = b.held; jobs = [] }
 end_of_frames b j effects exit (p ∷ callers) =
     turn_end b.script b.log b.held j.task.0 j.number (begun_priority (life_of j.task.0 b.log).stage) effects exit (advanced b.script p callers j.body.task.outer exit)
 
+-- the end of the turn of a job: what it leaves of a book, and the jobs that it makes
 abbrev pub end_of_turn : BookView → JobView BodyView → List EffectView → ExitView → TurnEnd
 end_of_turn b j effects exit = end_of_frames b j effects exit j.body.task.frames
 
--- the log, the tasks that wait and the jobs are those after the end of that turn; these jobs stood before
+-- the log, the tasks that wait and the jobs are those after the end of that turn; these jobs were there before
 pub record IsEndOf (b : BookView) (jobs : List JobFacts) (j : JobView BodyView) (effects : List EffectView) (exit : ExitView) (log : List Event) (held : List (Option WaitingTaskView)) (jobs' : List JobFacts) : Type 0 where
   pub log_is : log ≡ (end_of_turn b j effects exit).log
   pub held_is : held ≡ (end_of_turn b j effects exit).held

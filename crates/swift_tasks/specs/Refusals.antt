@@ -17,7 +17,7 @@ use Rattle.swift_history.specs.Checks.{is_current, counters, fits_turn}
 use Rattle.swift_tasks.specs.declared.fault.BookFault.{BookFault}
 use Rattle.swift_tasks.specs.declared.fault.BookFault.TheVariants.{Unknown, Completed, Memory, Refused}
 
--- a refusal is the one that stands, else out of memory
+-- a refusal is for the cause that there is, or else out of memory
 abbrev pub IsRefusal : Option BookFault → BookFault → Type 0
 IsRefusal (Some cause) fault = fault ≡ cause
 IsRefusal None fault = fault ≡ Memory
@@ -30,6 +30,7 @@ refusal_of_root script log r = if nat_lt r (root_count script) && is_none (life_
 abbrev pub refusal_unless_open : Life → Option BookFault
 refusal_unless_open l = if is_none l.origin then Some Unknown else if is_some l.ending then Some Completed else None
 
+-- a task is cancelled if it was made and has not ended
 abbrev pub refusal_of_cancel : List Event → ℕ → Option BookFault
 refusal_of_cancel log t = refusal_unless_open (life_of t log)
 
@@ -47,6 +48,7 @@ refused_unless None false = Some Refused
 abbrev pub refusal_of_turn : List Event → ℕ → ℕ → Resume → Option BookFault
 refusal_of_turn log t n resume = refused_unless (refusal_unless_open (life_of t log)) (is_current (life_of t log) n resume)
 
+-- the turn of a job begins if it is the one of its task's last job, and was not applied
 abbrev pub refusal_of_job : List Event → JobView BodyView → Option BookFault
 refusal_of_job log job = refusal_of_turn log job.task.0 job.number job.resume
 

@@ -181,7 +181,7 @@ impl Book {
         Ok(())
     }
 
-    // The same of a job that stands in its place, where it stays out of memory.
+    // Applies the turn of a job that is in its place, where it stays out of memory.
     fn apply_placed(
         &mut self,
         place: &mut Option<Job<Body>>,
@@ -221,7 +221,7 @@ impl Book {
     /// memory for a turn that only gives way; else it takes time linear in the effects and in the jobs, and what `Ledger::note` says of
     /// a wait and of a cancel.
     ///
-    /// A refusal is `Unknown`, `Completed`, `Refused` or `Memory`, the first of these that stands: nothing has changed, and the
+    /// A refusal is `Unknown`, `Completed`, `Refused` or `Memory`, the first of these that holds: nothing has changed, and the
     /// job and the effects come back. Where nothing else is refused, it compares the printed forms of two scripts; `apply_known`
     /// does not.
     pub fn apply(
@@ -270,8 +270,8 @@ impl Book {
         given_back(answer, place, effects)
     }
 
-    /// `apply_known` for a job that stands in a place, which must not be empty: where the turn is taken the place is empty, and on
-    /// a refusal the job stands there as before (our own). Its refusals are those of `apply`; the effects are only read. For a turn
+    /// `apply_known` for a job that is in a place, which must not be empty: where the turn is taken the place is empty, and on
+    /// a refusal the job is there as before (our own). Its refusals are those of `apply`; the effects are only read. For a turn
     /// that only gives way it takes constant time.
     pub fn apply_in(
         &mut self,

@@ -24,7 +24,7 @@ use swift_script::Script;
 use swift_turn::Body;
 use swift_types::{Ending, Env, TaskId};
 
-/// The tasks of one run of a script (SE-0304; that they stand in one book, with a log, is our own). Executors ask it before
+/// The tasks of one run of a script (SE-0304; that they are in one book, with a log, is our own). Executors ask it before
 /// each turn, tell it what the turn did, and get the jobs that follow. Each call takes constant time, besides what it writes
 /// and makes, where its own comment says nothing else; a growth is amortized.
 ///
@@ -150,7 +150,7 @@ impl Book {
     }
 }
 
-// So many tasks, of which none waits.
+// A place for each of `tasks` tasks, of which none waits.
 fn none_held(alloc: Global, tasks: usize) -> Result<Vec<Option<WaitingTask>>, BookFault>
     ensures ok { IfOk result (λ held. held.items ≡ replicate tasks None) }
     ensures err { IfErr result (λ fault. fault ≡ BookFault.Memory) }

@@ -169,7 +169,7 @@ pub fn begun_fits(
     }
 }
 
-// Whether the effects and the exit of a turn that may make so many tasks fit.
+// Whether the effects and the exit of a turn that may make `room` tasks fit.
 fn fits_room(
     script: &Script,
     ledger: &Ledger,
@@ -192,7 +192,7 @@ fn fits_room(
     turn_fits(script, ledger, task, counts, effects, exit)
 }
 
-// What a task has made before its turn, which may make so many tasks.
+// What a task has made before its turn, which may make `room` tasks.
 fn counts_of(ledger: &Ledger, task: TaskId, room: u32) -> EffectCounts
     ensures counts { counters_of result ≡ counters task.0 ledger.now.log room }
     ensures few { result.own ≤ 2 ^ 32 }

@@ -104,7 +104,7 @@ fn note_gives(ledger: &mut Ledger, jobs: &[Job<Body>])
     }
 }
 
-// So many more tasks, of which none waits.
+// A place for each of `tasks` more tasks, of which none waits.
 fn grow_held(held: &mut Vec<Option<WaitingTask>>, tasks: usize)
     requires room { vec_len held.old + tasks ≤ vec_capacity held.old }
     ensures held { held.new.items ≡ held.old.items ++ replicate tasks None }

@@ -113,7 +113,7 @@ fn wake_owner(
     }
 }
 
-// The same, where the task is a child.
+// Where task `task` that has ended is a child, its owner goes on, if it has waited for this.
 fn wake_parent(
     ledger: &Ledger,
     held: &mut [Option<WaitingTask>],

@@ -20,11 +20,12 @@ IsTicketOf j [] = Unit {0}
 IsTicketOf j (known ∷ []) = (script : Option ScriptView) × (known.view ≡ ticket_view script (job_facts j))
 IsTicketOf j (known ∷ l ∷ others) = ⊥
 
--- of which book a badge is, by the book's lock; none where it is no seat
+-- the lock, where a seat knows something of it; none where there is no seat
 abbrev pub book_at : TableId → List Known → Option TableId
 book_at lock [] = None
 book_at lock (known ∷ others) = Some lock
 
+-- of which book a badge is, by the book's lock; none where it is no seat
 abbrev pub book_of : BadgeView Known → Option TableId
 book_of b = book_at b.lock b.knows
 

@@ -5,7 +5,7 @@ use Rattle.swift_workers.specs.declared.fault.RunFault.TheVariants as run
 use Rattle.swift_tool.specs.declared.fault.ToolFault.{ToolFault}
 use Rattle.swift_tool.specs.declared.fault.ToolFault.TheVariants.{Script, Run, Device}
 
--- So many bytes left the reader, and stand after the text.
+-- `n` bytes left the reader, and come after the text.
 abbrev pub TakesMore : Option (List ℕ) → Option (List ℕ) → List ℕ → List ℕ → ℕ → Type 0
 TakesMore before after old new n = (bytes : List ℕ) × (length bytes ≡ n) × (new ≡ old ++ bytes) × Consumes before after bytes
 

@@ -24,11 +24,12 @@ use Rattle.swift_script.specs.Scripts.{ScriptView, executor_count, executor_inva
 use Rattle.swift_report.specs.declared.report.Report.{Report}
 use Rattle.swift_report.specs.Text.{report_text}
 
--- whether each task ended with a value
+-- whether a task ended with a value, and `others` holds
 abbrev pub ends_well : Ending → Bool → Bool
 ends_well (Value v) others = others
 ends_well (Fault f) others = false
 
+-- whether each task ended with a value
 abbrev pub end_well : List (Origin × Ending) → Bool
 end_well [] = true
 end_well (e ∷ es) = ends_well e.1 (end_well es)
@@ -72,7 +73,7 @@ pub record WritesPrefix (bytes : List ℕ) (quiet : Bool) (old new : Option (Lis
 abbrev pub IsCrew : ℕ → Type 0
 IsCrew workers = (0 < workers) × (workers ≤ WORKERS)
 
--- A run of these bytes has so many workers, and of a script that is accepted.
+-- A run of these bytes has from 1 to 8 workers, `workers` in number, and is of a script that is accepted.
 abbrev pub IsRunning : List ℕ → ℕ → Type 0
 IsRunning bytes workers = IsCrew workers × ((script : ScriptView) × IsAccepted bytes script)
 

@@ -20,7 +20,7 @@ use swift_types::Ending;
 use swift_types::limits::WORKERS;
 use swift_workers::{Gate, RunFault, run};
 
-/// Runs the script that a text spells, on so many threads, and writes the text of its report, in one piece as far as the
+/// Runs the script that a text spells, on `workers` threads, and writes the text of its report, in one piece as far as the
 /// device takes it; with `quiet` the journals are left out. True where no task ended with a fault. The gate is called at the
 /// moments of the run, by the thread that comes to them. It waits for the threads that it makes. Nothing is flushed.
 ///

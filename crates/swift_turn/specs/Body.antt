@@ -51,6 +51,7 @@ pub record TaskView : Type 0 where
   pub frames : List FrameView
   pub outer : List (ℕ × ℤ)
 
+-- a body, as callers see it: its script, its task, where it is with its turn, and what it waits at
 pub record BodyView : Type 0 where
   pub script : ScriptView
   pub task : TaskView
@@ -109,13 +110,16 @@ abbrev pub ends_by : ScriptView → List (ℕ × ℤ) → List FrameView → Pha
 ends_by script outer (p ∷ callers) (entered fields resume env) = ending_if callers (kept_turn script p outer fields resume env).exit
 ends_by script outer frames _ = None
 
+-- the ending that the entered turn of a body gives, if it leaves the first frame
 abbrev pub ends_with : BodyView → Option Ending
 ends_with b = ends_by b.script b.task.outer b.task.frames b.phase
 
+-- a poll is ready with an ending, and pending where there is none
 abbrev pub poll_of : Option Ending → Poll Ending
 poll_of None = Pending
 poll_of (Some e) = Ready e
 
+-- the frames below the one that runs
 abbrev pub callers_of : List FrameView → List FrameView
 callers_of [] = []
 callers_of (p ∷ callers) = callers
@@ -132,6 +136,7 @@ Registers (asking_next g) = Unit {0}
 Registers (closing g f) = Unit {0}
 Registers _ = ⊥
 
+-- the turn was played, and the body waits at its exit
 abbrev pub WaitsIn : PhaseView → Type 0
 WaitsIn (left fields effects exit) = Registers exit
 WaitsIn _ = ⊥
@@ -162,11 +167,12 @@ Hands _ fields' effects' exit' = ⊥
 abbrev pub at_rest : BodyView → BodyView
 at_rest b = record b { phase = idle }
 
--- the task has not ended
+-- the task with these frames has not ended
 abbrev pub HasFrames : List FrameView → Type 0
 HasFrames [] = ⊥
 HasFrames (p ∷ callers) = Unit {0}
 
+-- the task of the body has not ended
 abbrev pub IsRunning : BodyView → Type 0
 IsRunning b = HasFrames b.task.frames
 
@@ -241,7 +247,7 @@ advanced script p callers outer yielding = runs script p callers outer Go
 advanced script p callers outer (returning v) = resumed script p callers outer (GivenValue v) (Value v)
 advanced script p callers outer (failing f) = resumed script p callers outer (Raise f) (Fault f)
 
--- the same of the frames of a task that has not ended
+-- what follows from the exit of a turn, where the task has not ended
 abbrev pub AdvancesTo : ScriptView → List FrameView → List (ℕ × ℤ) → ExitView → Advanced → Type 0
 AdvancesTo script [] outer e after = Unit {0}
 AdvancesTo script (p ∷ callers) outer e after = after ≡ advanced script p callers outer e

@@ -11,7 +11,7 @@ use std::mem;
 use swift_interpreter::Frame;
 use swift_locals::Bindings;
 
-// Puts the bindings of a frame, whose innermost is the last, in front of those that stood when it began. Out of memory,
+// Puts the bindings of a frame, whose innermost is the last, in front of those from before it began. Out of memory,
 // these are as before.
 #[tactic(auto, using(crate::proofs::Cuts::within, crate::proofs::Cuts::cut_again))]
 pub fn bind_all(outer: &mut Bindings, own: &[Binding]) -> Result<(), AllocError>
@@ -28,7 +28,7 @@ pub fn bind_all(outer: &mut Bindings, own: &[Binding]) -> Result<(), AllocError>
     Ok(())
 }
 
-// Drops so many of the innermost.
+// Drops the innermost `count` bindings.
 pub fn unbind_all(outer: &mut Bindings, count: usize)
     ensures { outer.new ≡ drop count outer.old }
 {

@@ -51,7 +51,7 @@ pub fn run_turn(
     body.leave()
 }
 
-/// The same turn on fields in place, in buffers of the caller's that are used again from turn to turn: `fields` become
+/// Plays a whole turn on fields in place, in buffers of the caller's that are used again from turn to turn: `fields` become
 /// those after the turn, `before` the frame as it was, and `effects` what it did, in order; what the last two had before
 /// counts for nothing. A turn that was entered before is given up. It is polled once, as by `poll` of `Body`.
 ///

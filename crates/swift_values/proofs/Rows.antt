@@ -64,7 +64,7 @@ row_end actor i xs ys past = elim (cases_lt i (length xs)) [
   | inr ge ↦ at_drop_all (λ (l : List ℤ). row_differences actor i l (drop i ys)) xs i ge
 ]
 
--- the same of rows
+-- the differences of rows from row `i` on: those of row `i`, and then those of the rows after it
 pub rows_more : (i : ℕ) (xs ys : List (List ℤ)) → i < length xs → i < length ys
     → differences i (drop i xs) (drop i ys) ≡ row_differences i 0 (get_or xs i []) (get_or ys i []) ++ differences (i + 1) (drop (i + 1) xs) (drop (i + 1) ys)
 rows_more i xs ys within below =

@@ -19,13 +19,13 @@ abbrev pub difference : ℕ → ℕ → ℤ → ℤ → List Change
 difference actor field before after =
     if int_eq before after then [] else record { actor = actor; field = field; before = before; after = after } ∷ []
 
--- the same of an actor's fields from this one on
+-- the fields of an actor, from this one on, whose values before and after differ
 abbrev pub row_differences : ℕ → ℕ → List ℤ → List ℤ → List Change
 row_differences actor field [] ys = []
 row_differences actor field (x ∷ xs) [] = []
 row_differences actor field (x ∷ xs) (y ∷ ys) = difference actor field x y ++ row_differences actor (field + 1) xs ys
 
--- the same of the fields of the actors from this one on
+-- the fields of the actors, from this one on, whose values before and after differ
 abbrev pub differences : ℕ → List (List ℤ) → List (List ℤ) → List Change
 differences actor [] after = []
 differences actor (x ∷ xs) [] = []
@@ -55,9 +55,11 @@ pub record ValuesView : Type 0 where
   pub outcome : Outcome
   pub changes : List Change
 
+-- what became of a turn, and its changes, as callers see them
 abbrev pub values_view : TurnValues → ValuesView
 values_view v = record { outcome = v.outcome; changes = v.changes.items }
 
+-- what became of turns, in order, as callers see them
 abbrev pub values_views : List TurnValues → List ValuesView
 values_views = map values_view
 

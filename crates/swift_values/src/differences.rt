@@ -46,7 +46,7 @@ fn add_row(
     Ok(())
 }
 
-// The same of a row that may differ, or of one that does not.
+// Appends the fields of a row whose values differ, where `differs` says that there may be any.
 #[tactic(auto, using(crate::proofs::Rows::no_difference))]
 fn add_row_if(
     differs: bool,

@@ -127,7 +127,7 @@ parts_push p lock v w many old new s c f are site is keeps known checkpoint fiel
       fields = ap length fs ∙ one_longer old.fields.items f many are.fields;
     }
 
--- the same for a seat that knows what was gathered
+-- the parts of one more executor, for a seat that knows what was gathered
 pub parts_gathered : (p : ScriptView) (lock : TableId) (v w u : BookKnown) (many : ℕ) (old new : Parts) (s : ExecStateView) (c : CheckpointRoomView) (f : Rows) → u ≡ gathered v w → AreParts p v many old → site_of lock s ≡ record { script = p; executor = many; book = Some lock }
     → ExecInvariant s → Keeps s.script s.executor s.fields → AccountsFor s w → c.view ≡ s.checkpoint → rows_of f.items ≡ s.fields → new.checkpoints.items ≡ old.checkpoints.items ++ c ∷ []
     → new.journals.items ≡ old.journals.items ++ s.journal ∷ [] → new.fields.items ≡ old.fields.items ++ f ∷ [] → AreParts p u (many + 1) new

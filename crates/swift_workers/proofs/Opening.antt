@@ -8,7 +8,7 @@ use Rattle.swift_shared_book.specs.Shared.{BookLockView, BookSeatView, IsSeatOf,
 use Rattle.swift_executor.specs.Seats.{IsOpened}
 use Rattle.swift_workers.specs.CrewInside.{has_opened}
 
--- what the maker's seat is after so many accounts
+-- the seat of the maker after `n` accounts: seat `s`, knowing that it has opened these
 abbrev pub OpenedFrom : BookSeatView → ℕ → BookSeatView → Type 0
 OpenedFrom s n t = t ≡ knowing (has_opened n s.knows) s
 

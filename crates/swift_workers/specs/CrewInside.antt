@@ -27,10 +27,10 @@ pub record IsHandOf (b : BookLockView) (execs : List ExecView) (hand : Hand) : T
   pub book : hand.jobs.book ≡ b.id
   pub none : hand.jobs.jobs ≡ []
 
--- the same of each of these workers
+-- each of these workers is such a one
 abbrev pub AreHandsOf : BookLockView → List ExecView → List Hand → Type 0
 AreHandsOf b execs hands = AllByRecursion (IsHandOf b execs) hands
 
--- what the seat knows that opens accounts, once it has opened so many and added no root
+-- what the seat knows that opens accounts, once it has opened `many` of them and added no root
 abbrev pub has_opened : ℕ → BookKnown → BookKnown
 has_opened many v = record v { maker = Some (record { executors = many; roots = 0 }) }

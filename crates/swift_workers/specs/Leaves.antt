@@ -27,7 +27,7 @@ pub record IsPartReplayed (p : ScriptView) (e : ℕ) (c : CheckpointView) (journ
   pub runs : RunOn p e journal
   pub replayed : fields ≡ replay p c.fields journal
 
--- The same of each executor from a number on.
+-- The parts of each executor from number `e` on are replayed.
 abbrev pub AreReplayed : ScriptView → ℕ → List CheckpointRoomView → List (List RecordView) → List (Vec (Vec ℤ Global) Global) → Type 0
 AreReplayed p e [] [] [] = Unit {0}
 AreReplayed p e (c ∷ checkpoints) (journal ∷ journals) (fields ∷ others) =
@@ -43,7 +43,7 @@ EachFrom P n (x ∷ xs) = P n x × EachFrom P (n + 1) xs
 abbrev pub Keeps : ScriptView → ℕ → List (List ℤ) → Type 0
 Keeps p e rows = (t : Term) → Contains (executor_invariants p e) t → IsTrue (holds (Some t) (executor_start p e)) → IsTrue (holds (Some t) rows)
 
--- the same of each executor from a number on
+-- the fields of each executor from number `e` on keep its invariants
 abbrev pub KeepInvariants : ScriptView → ℕ → List (Vec (Vec ℤ Global) Global) → Type 0
 KeepInvariants p e fields = EachFrom (λ k rows. Keeps p k (rows_of rows.items)) e fields
 

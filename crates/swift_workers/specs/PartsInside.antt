@@ -18,7 +18,7 @@ AreAccountedFor p v e (c ∷ checkpoints) (journal ∷ journals) (fields ∷ oth
     IsAccountedFor p v e journal c.view (rows_of fields.items) × AreAccountedFor p v (e + 1) checkpoints journals others
 AreAccountedFor p v e _ _ _ = ⊥
 
--- the journals, checkpoints and fields of the first executors, so many, whose seats were gathered in one that knows v
+-- the journals, checkpoints and fields of the first `many` executors, whose seats were gathered in one that knows `v`
 pub record AreParts (p : ScriptView) (v : BookKnown) (many : ℕ) (parts : Parts) : Type 0 where
   pub lawful : AreReplayed p 0 parts.checkpoints.items parts.journals.items parts.fields.items
   pub accounts : AreAccountedFor p v 0 parts.checkpoints.items parts.journals.items parts.fields.items

@@ -43,13 +43,13 @@ IsNext may old (Visit on) new = (old.halt ≡ None) × ((place : ℕ) × IsTaken
 IsNext may old Pause new = (old.halt ≡ None) × All (λ t. may t → ⊥) old.tokens.items × ((length old.tokens.items ≢ 0) ⊎ (old.under_way ≢ 0)) × IsKeptInPool old new
 IsNext may old Stop new = ((old.halt ≢ None) ⊎ ((length old.tokens.items ≡ 0) × (old.under_way ≡ 0))) × IsKeptInPool old new
 
--- A worker has finished what followed from its token, and these tokens stand behind the others.
+-- A worker has finished what followed from its token, and these tokens come behind the others.
 pub record IsPutInPool (old : Pool) (put : List ExecId) (done : Result (Unit {0}) Halt) (new : Pool) : Type 0 where
   pub tokens : new.tokens.items ≡ old.tokens.items ++ put
   pub under_way : new.under_way ≡ old.under_way - 1
   pub halt : new.halt ≡ first_cause old.halt done
 
--- The same where memory was refused for a token: those before it were put, and the run is given up.
+-- A worker has finished, but memory was refused for a token: those before it were put, and the run is given up.
 pub record IsCutShort (old : Pool) (put : List ExecId) (done : Result (Unit {0}) Halt) (new : Pool) : Type 0 where
   pub many : ℕ
   pub within : many < length put

@@ -37,7 +37,7 @@ pub struct Hand {
     pub jobs: TicketedJobs,
 }
 
-// Room for so many desks more, 128 bytes, stays empty behind those of a worker. A worker writes its desks in each turn, and those of the
+// Room for `APART` desks more, 128 bytes, stays empty behind those of a worker. A worker writes its desks in each turn, and those of the
 // next one lie behind them: so no line of the cache has desks of both.
 const APART: usize = 8;
 

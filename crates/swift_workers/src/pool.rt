@@ -109,7 +109,7 @@ impl Pool {
         self.next_by_place(script, workers, worker)
     }
 
-    // The same where the run is not given up, by a look at each token.
+    // Takes the oldest token that this worker may run, where the run is not given up, by a look at each token.
     #[inline(never)]
     fn next_by_place(&mut self, script: &Script, workers: u32, worker: u32) -> WorkerNext
         requires { self.old.halt ≡ None }

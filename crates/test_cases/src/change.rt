@@ -55,7 +55,7 @@ fn end_all(alloc: Global, report: &mut Report, value: i64) -> Result<(), AllocEr
     Ok(())
 }
 
-// The same events, by which each task that ends ends with this value.
+// The events of a log, by which each task that ends ends with this value.
 fn with_ends(alloc: Global, log: &EventLog, value: i64) -> Result<EventLog, AllocError> {
     let mut changed = Vec::new(alloc);
     for place in 0..log.len() {
@@ -86,7 +86,7 @@ fn cancel(alloc: Global, report: &mut Report) -> Result<(), AllocError> {
     change_turns(alloc, &mut report.journals, JournalChange::Flag)
 }
 
-// The same events, and before the first of them that begins a turn that task 0 is cancelled.
+// The events of a log, and before the first of them that begins a turn that task 0 is cancelled.
 fn with_cancel(alloc: Global, log: &EventLog) -> Result<EventLog, AllocError> {
     let mut changed = Vec::new(alloc);
     for place in 0..log.len() {
@@ -109,7 +109,7 @@ fn with_cancel(alloc: Global, log: &EventLog) -> Result<EventLog, AllocError> {
     EventLog::from_events(alloc, &changed)
 }
 
-// The same, of a task that was cancelled.
+// The environment of a task that was cancelled.
 fn with_flag(env: Env) -> Env {
     Env {
         priority: env.priority,

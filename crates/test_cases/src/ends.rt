@@ -16,7 +16,7 @@ fn sum_of(text: &[u8]) -> u64 {
     sum
 }
 
-// Whether the line at this place is written, of so many.
+// Whether the line at this place is written, of `lines` lines.
 fn is_written(place: usize, lines: usize) -> bool {
     place < LINES || lines.saturating_sub(LINES) <= place
 }

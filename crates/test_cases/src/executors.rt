@@ -71,7 +71,7 @@ where
     play_of::<Brand, R>(rt, setting, booked, plan, out)
 }
 
-// The same for a book that is known by its type.
+// Makes the calls of a case on executors that threads share, with a book that is known by its type.
 fn play_of<K, R>(
     rt: &R,
     setting: Setting,

@@ -60,7 +60,7 @@ fn without_turns(alloc: Global, text: &[u8]) -> Result<Vec<u8>, AllocError> {
     Ok(kept)
 }
 
-// The same of a run with this gate.
+// The report of a run with this gate, without the lines of its turns.
 fn turns_with<R, G>(rt: &R, script: &Arc<Script>, gate: &G) -> Result<Vec<u8>, CaseFault>
 where
     R: RandomSource + AllocGlobal + Threads + Wait + Sync,
@@ -79,7 +79,7 @@ where
     Ok(out.extend_from_slice(&found)?)
 }
 
-/// The same, and whether it is that of each run in which a thread gives way at one moment.
+/// The report of a run without the lines of its turns, and whether each run in which a thread gives way at one moment has it.
 pub fn gated<R>(rt: &R, script: &Arc<Script>, out: &mut Vec<u8>) -> Result<(), CaseFault>
 where
     R: RandomSource + AllocGlobal + Threads + Wait + Sync,

@@ -14,7 +14,7 @@ pub enum JournalChange {
     Worker(u32),
     /// Its task was cancelled.
     Flag,
-    /// Its task has made so many tasks, if it is this one.
+    /// Its task has made this number of tasks, if it is this one.
     Made(TaskId, u64),
 }
 
@@ -108,7 +108,7 @@ pub fn without_frame(alloc: Global, checkpoint: &Checkpoint) -> Result<Checkpoin
     with_last(alloc, checkpoint, Some(&turn))
 }
 
-/// The same checkpoint, and the task of its last turn. In the frame that this turn leaves it has made so many tasks.
+/// A checkpoint in whose last turn the frame that it leaves says that its task has made `made` tasks, and this task.
 pub fn with_made(
     alloc: Global,
     checkpoint: &Checkpoint,

@@ -51,7 +51,7 @@
 //!
 //! - `meet`: of two executors that are run by two workers, how many wait, once they are begun, until the other is begun too.
 //! - `executors`: what each of some calls on executors answered. The text, which is taken as it is, has a script, a line `--`, a line
-//!   `WORKERS ROOM`, and a line for each call. Each case has the executors of its script, all made for so many workers and with this
+//!   `WORKERS ROOM`, and a line for each call. Each case has the executors of its script, all made for these workers and with this
 //!   room, and a book of tasks. It ends by closing them: its last lines say how many jobs each had pending, and which were ready and
 //!   in its inbox, and are a report of their turns and fields, without tasks. A case whose last line is `drop` ends by dropping them.
 //!   The calls are

@@ -33,7 +33,7 @@ where
     play_of::<Brand, R>(rt, setting, plan, out)
 }
 
-// The same for a script that is known by its type.
+// Makes the calls of a case on the executors of a script that is known by its type, and writes what each answered.
 fn play_of<K, R>(
     rt: &R,
     setting: Setting,

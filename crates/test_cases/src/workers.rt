@@ -19,7 +19,7 @@ fn script_of(alloc: Global, text: &str) -> Result<Arc<Script>, CaseFault> {
     Ok(Arc::new(alloc, script)?)
 }
 
-/// The text of the report of a run on so many workers, without its journals where it is quiet, or why there is none.
+/// The text of the report of a run on `workers` workers, without its journals where it is quiet, or why there is none.
 pub fn report_on<R, G>(
     rt: &R,
     script: &Arc<Script>,

@@ -81,7 +81,7 @@ impl Booked {
         }
     }
 
-    /// The next executor of the script, made for so many workers and with this room, and its first desk. 0 workers are made 1, and
+    /// The next executor of the script, made for `workers` workers and with this room, and its first desk. 0 workers are made 1, and
     /// so is a room of 0. A refusal is `Memory`, after which no executor can be opened, or `Form`, where the script has no more.
     pub fn open(&mut self, alloc: Global, workers: u32, room: usize) -> Result<Door, CaseFault>
         ensures door { IfOk result (λ door. door ≡ self.old) }

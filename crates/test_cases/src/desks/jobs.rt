@@ -19,7 +19,7 @@ impl Drop for Jobs {
 }
 
 impl Jobs {
-    /// No job, with room for so many.
+    /// No job, with room for `room` jobs.
     pub fn with_room(alloc: Global, room: usize) -> Result<Jobs, AllocError> {
         let list = Vec::with_capacity(alloc, room)?;
         Ok(Jobs { list })

@@ -34,7 +34,7 @@ impl Drop for Leavings {
 }
 
 impl Leavings {
-    /// Those of no executor, with room for those of so many.
+    /// Those of no executor, with room for those of `room` executors.
     pub fn new(alloc: Global, room: usize) -> Result<Leavings, AllocError> {
         let journals = Vec::with_capacity(alloc, room)?;
         let checkpoints = Vec::with_capacity(alloc, room)?;

@@ -41,7 +41,7 @@ impl<K: BookOf> CaseStage<K> {
         })
     }
 
-    /// Makes each executor of the script, for so many workers and with this room. The first desk of each comes behind the others.
+    /// Makes each executor of the script, for `workers` workers and with this room. The first desk of each comes behind the others.
     pub fn open_all(&mut self, alloc: Global, workers: u32, room: u32) -> Result<(), CaseFault> {
         for _ in 0..self.setting.executor_count() {
             let door = self.booked.get_mut().open(alloc, workers, room as usize)?;

@@ -124,7 +124,7 @@ fn push(alloc: Global, formulas: &mut Vec<Formula>, word: &str) -> Result<(), Ca
     Ok(())
 }
 
-// The same for operators of one operand.
+// What a word makes of the formulas before it, which may be an operator of one operand.
 fn push_word(alloc: Global, formulas: &mut Vec<Formula>, word: &str) -> Result<(), CaseFault> {
     if word != "neg" && word != "not" {
         return push(alloc, formulas, word);

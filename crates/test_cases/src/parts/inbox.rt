@@ -1,6 +1,6 @@
 //! Inboxes of the executors of one script, with two passes `a` and `b` and the taker: `PASS put ROOT NUMBER` for the turn of
 //! that number of a root's task, and `take`. The first line of a case is the number of the executor and the room; at the end
-//! the inbox is drained. A line `ROOM COUNT` has two threads, of which one puts twice so many jobs and the other takes them. No
+//! the inbox is drained. A line `ROOM COUNT` has two threads, of which one puts twice `COUNT` jobs and the other takes them. No
 //! book gave these jobs.
 
 ghost use Rattle.std.specs.Prelude.{◌≡◌, IfOk, None};
@@ -310,7 +310,7 @@ fn put_one<R: Wait>(
     Ok(())
 }
 
-// Takes so many jobs out. The sum of their numbers, and the taker.
+// Takes `count` jobs out. The sum of their numbers, and the taker.
 fn take_all<R: Wait>(rt: &R, inbox: &Inbox, mut taker: Taker, count: u32) -> (u64, Taker)
     requires { IsTakerOf inbox.now taker }
     ensures { IsTakerOf inbox.now result.1 }

@@ -103,7 +103,7 @@ fn is_seen_by_end(word: &Word<Number>, a: &mut WordSeat<Number>, b: &mut WordSea
     word.end(b, state) == PendingLeft::Idle
 }
 
-// The same of a leave. In the end the first seat holds.
+// Whether a job that one seat counts while the other holds is seen by its leave. In the end the first seat holds.
 fn is_seen_by_leave(word: &Word<Number>, a: &mut WordSeat<Number>, b: &mut WordSeat<Number>) -> bool
     requires one { IsSeatOf word.now a.old × (a.old.holding ≡ None) }
     requires other { IsSeatOf word.now b.old × (b.old.holding ≡ None) }

@@ -25,7 +25,7 @@ struct Post<K: Scripted> {
 }
 
 impl<K: Scripted> Post<K> {
-    // Puts a job into the inbox, which has room for so many.
+    // Puts a job into the inbox, which has room for `room` jobs.
     fn push(&mut self, job: Job<Body>, room: usize) -> Result<(), Job<Body>> {
         if self.inbox.list.len() >= room {
             return Err(job);
@@ -51,7 +51,7 @@ impl<K: Scripted> Post<K> {
         Some((self.pending, resting))
     }
 
-    // Gives the state back after so many turns.
+    // Gives the state back after `turns` turns.
     fn end(&mut self, resting: OwnResting<K>, turns: u64) -> PendingLeft {
         self.resting = Some(resting);
         self.pending = self.pending.saturating_sub(turns);
@@ -75,7 +75,7 @@ pub struct StateExec<K: Scripted> {
 }
 
 impl<K: Scripted> StateExec<K> {
-    /// The executor of this number, made for so many workers, with room for so many jobs in its inbox and as many that are ready. 0
+    /// The executor of this number, made for `workers` workers, with room for `room` jobs in its inbox and as many that are ready. 0
     /// workers are made 1, and so is a room of 0.
     pub fn new(
         alloc: Global,
@@ -103,7 +103,8 @@ impl<K: Scripted> StateExec<K> {
         })
     }
 
-    /// Sends a job, by a desk that may send so many. It comes back where it can't run here, and then with no fault, or was refused.
+    /// Sends a job, by a desk that may send as many as its allowance says. It comes back where it can't run here, and then with no fault,
+    /// or was refused.
     pub fn enqueue<R: Wait, G: Gate>(
         &self,
         rt: &R,
@@ -198,7 +199,7 @@ fn spend_one<R: Wait>(rt: &R, allowance: &Mutex<u64>) {
     *left = left.saturating_sub(1);
 }
 
-// Runs a turn where so many jobs are pending.
+// Runs a turn where `found` jobs are pending.
 fn turn_where<K, R, G>(
     rt: &R,
     found: u64,

@@ -56,7 +56,7 @@ pub fn can_run(script: &Script, executor: ExecId, job: &Job<Body>) -> bool
 }
 
 impl<K: Scripted> OwnResting<K> {
-    /// An executor that has run no turn, with room for so many jobs.
+    /// An executor that has run no turn, with room for `room` jobs.
     pub fn new(
         alloc: Global,
         script: Arc<Script>,

@@ -71,7 +71,7 @@ impl<K: Scripted> Model for StateStage<K> {
 }
 
 impl<K: Scripted> StateStage<K> {
-    /// The executors of this script, made for so many workers and with this room, each with its first desk, and no task.
+    /// The executors of this script, made for `workers` workers and with this room, each with its first desk, and no task.
     pub fn open(
         alloc: Global,
         setting: Setting,

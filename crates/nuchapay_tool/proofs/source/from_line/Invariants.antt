@@ -2,7 +2,7 @@ use Rattle.std.proofs.Common.{◌≡◌, ◌≤◌, length}
 use Rattle.nuchapay_tool.specs.Sources.{skip_lines}
 use Rattle.nuchapay_tool.proofs.source.from_line.Given as goal
 
--- so many lines are passed
+-- the first `counter` lines are passed
 abbrev pub invariant-loop : goal.invariant-loop
 invariant-loop l = record {
   passed : l.rest ≡ skip_lines l.counter l.text;

@@ -94,7 +94,7 @@ fn ran(
     }
 }
 
-// The same of a turn that is entered.
+// Polls a turn that is entered, and takes what it left; none where it was not polled.
 fn polled(cx: &mut Context<'_>, body: &mut Body) -> Result<Option<TurnLeft>, Vec<Vec<i64>>> {
     let _ = body.poll(cx);
     if !body.is_polled() {
