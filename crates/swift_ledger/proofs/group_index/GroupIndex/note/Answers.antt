@@ -7,7 +7,7 @@ use Rattle.swift_ledger.proofs.GroupSteps.{other-step, end-alone}
 use Rattle.swift_ledger.proofs.group_index.GroupIndex.note.Goals as goal
 
 pub returns-in-Child-clause-groups : goal.returns-in-Child-clause-groups
-returns-in-Child-clause-groups c = subst (λ (e : Event). AreGroupsOf c.add_child.new.self (c.args.log.now.events ++ e ∷ [])) (sym c.in-Child.is) (c.add_child.ensures.groups c.in-Child.field-3)
+returns-in-Child-clause-groups c = subst (λ (e : Event). AreGroupsOf c.add_child.new.self (c.args.log.now.events ++ e ∷ [])) (sym c.in-Child.is) (c.add_child.ensures.groups c.in-Child.priority)
 
 pub returns-in_default-parent-clause-groups : goal.returns-in_default-parent-clause-groups
 returns-in_default-parent-clause-groups c =
