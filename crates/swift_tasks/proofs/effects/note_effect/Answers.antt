@@ -26,13 +26,13 @@ returns-in-Some-body-2-clause-log c =
 pub returns-in-Some-body-2-clause-jobs : goal.returns-in-Some-body-2-clause-jobs
 returns-in-Some-body-2-clause-jobs c = λ script is count.
     let started = rw (c.in-Add.is, c.in-Some-body-2.is) at is in
-    rw c.in-Add.is (added_jobs script c.in-Add.group c.in-Add.unless (invocation_view c.in-Add.field-2) c.in-Add.priority c.in-Add.field-4 c.args.task.0 c.args.ledger.now.roots c.args.ledger.now.log c.in-Some-body-2.body c.args.jobs.now.items c.note_add.new.jobs.items started count c.note_add.ensures.jobs)
+    rw c.in-Add.is (added_jobs script c.in-Add.group c.in-Add.unless (invocation_view c.in-Add.invocation) c.in-Add.priority c.in-Add.bindings c.args.task.0 c.args.ledger.now.roots c.args.ledger.now.log c.in-Some-body-2.body c.args.jobs.now.items c.note_add.new.jobs.items started count c.note_add.ensures.jobs)
 
 pub returns-in-Some-clause-jobs : goal.returns-in-Some-clause-jobs
 returns-in-Some-clause-jobs c = λ script is count.
-    let i = invocation_view c.in-Spawn.field-0 in
+    let i = invocation_view c.in-Spawn.invocation in
     let started = rw (c.in-Spawn.is, c.in-Some.is) at is in
-    rw c.in-Spawn.is (free_jobs script i.method i.args c.in-Spawn.field-2 c.args.ledger.now.roots c.args.ledger.now.log c.in-Some.body c.args.jobs.now.items c.note_free.new.jobs.items started count c.note_free.ensures.jobs)
+    rw c.in-Spawn.is (free_jobs script i.method i.args c.in-Spawn.bindings c.args.ledger.now.roots c.args.ledger.now.log c.in-Some.body c.args.jobs.now.items c.note_free.new.jobs.items started count c.note_free.ensures.jobs)
 
 pub returns-in-Some-body-clause-jobs : goal.returns-in-Some-body-clause-jobs
 returns-in-Some-body-clause-jobs c = λ script is count.
@@ -61,10 +61,10 @@ returns-in-CancelGroup-clause-jobs c = λ script is count. rw c.in-CancelGroup.i
 
 pub returns-in-Some-clause-bodies : goal.returns-in-Some-clause-bodies
 returns-in-Some-clause-bodies c = λ script is.
-    let i = invocation_view c.in-Spawn.field-0 in
+    let i = invocation_view c.in-Spawn.invocation in
     let started = rw (c.in-Spawn.is, c.in-Some.is) at is in
     let t = tasks_of c.args.ledger.now.roots c.args.ledger.now.log in
-    added_fit false script c.args.jobs.now.items c.note_free.new.jobs.items t c.in-Some.body (started_fits script i.method i.args c.in-Spawn.field-2 t c.in-Some.body started) c.note_free.ensures.jobs
+    added_fit false script c.args.jobs.now.items c.note_free.new.jobs.items t c.in-Some.body (started_fits script i.method i.args c.in-Spawn.bindings t c.in-Some.body started) c.note_free.ensures.jobs
 
 pub returns-in-Some-body-clause-bodies : goal.returns-in-Some-body-clause-bodies
 returns-in-Some-body-clause-bodies c = λ script is.
@@ -75,11 +75,11 @@ returns-in-Some-body-clause-bodies c = λ script is.
 
 pub returns-in-Some-body-2-clause-bodies : goal.returns-in-Some-body-2-clause-bodies
 returns-in-Some-body-2-clause-bodies c = λ script is.
-    let i = invocation_view c.in-Add.field-2 in
+    let i = invocation_view c.in-Add.invocation in
     let started = rw (c.in-Add.is, c.in-Some-body-2.is) at is in
     let t = tasks_of c.args.ledger.now.roots c.args.ledger.now.log in
     let left_out = is_left_out c.args.task.0 c.in-Add.group c.in-Add.unless c.args.ledger.now.log in
-    added_fit left_out script c.args.jobs.now.items c.note_add.new.jobs.items t c.in-Some-body-2.body (started_fits script i.method i.args c.in-Add.field-4 t c.in-Some-body-2.body started) c.note_add.ensures.jobs
+    added_fit left_out script c.args.jobs.now.items c.note_add.new.jobs.items t c.in-Some-body-2.body (started_fits script i.method i.args c.in-Add.bindings t c.in-Some-body-2.body started) c.note_add.ensures.jobs
 
 pub unreachable-requires : goal.unreachable-requires
 unreachable-requires c = let body = rw (c.in-Spawn.is, c.in_default.is) at c.requires.body in body.1
