@@ -16,3 +16,4 @@ pub mod BlockCalls
 pub mod Agreed
 pub mod BlockHandles
 pub mod WholeScripts
+pub mod InOrder

@@ -1,4 +1,5 @@
 pub mod Plan
+pub mod PlanInside
 pub mod Lowered
 pub mod Counts
 pub mod Standing

@@ -25,7 +25,7 @@ pub(crate) fn place(
 {
     match scope.field(name) {
         Some(field) => Ok(NumberPlace::Field(FieldPlace {
-            actor: plan.actor_place(scope.actor())?,
+            actor: plan.actor_place(scope.actor()),
             field: to_u32(field)?,
         })),
         None => Ok(NumberPlace::Variable(scope.number_place(name))),

@@ -1,15 +1,18 @@
 //! What lowering knows of a whole script.
 
-ghost use Rattle.std.specs.Prelude.{◌≡◌, ◌==◌, ℕ, pos, ◌∷◌, ◌++◌, [], Some, length, map, option_copied, slice_get, unwrap_or, count_by, List, IfOk, OnOk};
+ghost use Rattle.std.specs.Prelude.{◌≡◌, ◌==◌, ◌+◌, ◌<◌, ◌≤◌, ℕ, pos, true, None, ◌∷◌, ◌++◌, [], Some, length, map, option_copied, slice_get, unwrap_or, count_by, List, IfOk};
+ghost use Rattle.swift_types.specs.declared.limits.TheConstants.{ACTORS, EXECUTORS};
 ghost use Rattle.script_grammar.specs.Tree.{text_if, view_decl};
 ghost use Rattle.script_names.specs.Texts.{place_of};
-ghost use Rattle.script_names.specs.Directory.{directory_of, executors_in};
+ghost use Rattle.script_names.specs.Directory.{directory_of, executors_in, actors_in};
+ghost use Rattle.script_names.specs.Rules.{names_error};
 ghost use Rattle.script_lowering.specs.Plan.{AreActorPlaces, defaults_in, on_executor, executors_from, plan_of, executor_at, actor_place_in, actor_place_of};
+ghost use Rattle.script_lowering.specs.PlanInside.{has_executor, have_executors};
 ghost use Rattle.script_lowering.specs.Lowered.{default_of};
 
-use crate::number::{declared, sum, to_u32};
+use crate::number::declared;
 use script_grammar::{Decl, Name};
-use script_names::{Declared, Names, Seed};
+use script_names::Declared;
 use std::alloc::{AllocError, Global};
 use std::marker::Model;
 use swift_types::LocalId;
@@ -39,25 +42,27 @@ impl Drop for Plan {
 }
 
 impl Model for Plan {
-    ghost use Rattle.script_lowering.specs.Plan.{PlanView, AreActorPlaces};
+    ghost use Rattle.script_lowering.specs.Plan.{PlanView};
+    ghost use Rattle.script_lowering.specs.PlanInside.{IsSmallPlan};
 
     ghost Value = { PlanView };
 
     ghost view = { λ p. record { directory = p.declared; defaults = p.defaults.items; executors = p.executors.items } };
 
-    ghost invariant = { λ p. AreActorPlaces p.executors.items p.actor_places.items };
+    ghost invariant = { λ p. IsSmallPlan p.executors.items p.actor_places.items };
 }
 
 impl Plan {
     /// The plan of a script, from what it declares. Linear in the declarations, and for these places in the pairs of actors,
-    /// of which a script whose names are in order has 64 at most. `Err` says that there was no memory, that a place is
-    /// numbered past 32 bits, or that two executors have one name.
+    /// of which there are 64 at most. `Err` says that there was no memory.
     pub fn of(alloc: Global, declared: Declared, decls: &[Decl]) -> Result<Plan, AllocError>
         // These are the declarations of the same script.
-        requires { declared ≡ directory_of (map view_decl decls.now) }
+        requires declared { declared ≡ directory_of (map view_decl decls.now) }
+        // Their names are in order, so there are few of them, and each executor that is named is declared.
+        requires names { names_error (map view_decl decls.now) ≡ None }
         ensures { IfOk result (λ p. p ≡ plan_of (map view_decl decls.now)) }
     {
-        let (defaults, executors, actor_places) = places(alloc, declared.seed(), decls)?;
+        let (defaults, executors, actor_places) = places(alloc, &declared, decls)?;
         Ok(Plan {
             declared,
             defaults,
@@ -82,12 +87,12 @@ impl Plan {
 
     /// The place of an actor among those of its executor, in constant time. One that is not there would come after all those of
     /// executor 0.
-    pub fn actor_place(&self, actor: usize) -> Result<u32, AllocError>
-        ensures { IfOk result (λ n. n ≡ actor_place_of self.now actor) }
+    pub fn actor_place(&self, actor: usize) -> u32
+        ensures { result ≡ actor_place_of self.now actor }
     {
         match self.actor_places.get(actor) {
-            Some(place) => Ok(*place),
-            None => to_u32(actor_place_in(&self.executors, actor)),
+            Some(place) => *place,
+            None => actor_place_in(&self.executors, actor) as u32,
         }
     }
 
@@ -106,24 +111,20 @@ impl Plan {
 // The defaults of the task locals, and of each actor its executor and its place there.
 fn places(
     alloc: Global,
-    seed: Seed,
+    declared: &Declared,
     decls: &[Decl],
 ) -> Result<(Vec<i64>, Vec<u32>, Vec<u32>), AllocError>
+    requires declared { declared.now ≡ directory_of (map view_decl decls.now) }
+    requires names { names_error (map view_decl decls.now) ≡ None }
     ensures defaults { IfOk result (λ p. p.0.items ≡ defaults_in (map view_decl decls.now)) }
     ensures executors { IfOk result (λ p. p.1.items ≡ (plan_of (map view_decl decls.now)).executors) }
+    ensures few { IfOk result (λ p. length p.1.items ≤ ACTORS) }
     ensures actor_places { IfOk result (λ p. AreActorPlaces p.1.items p.2.items) }
 {
     let defaults = defaults(alloc, decls)?;
-    let executors = executors_of(alloc, seed, decls)?;
+    let executors = executors(alloc, declared, decls)?;
     let actor_places = actor_places(alloc, &executors)?;
     Ok((defaults, executors, actor_places))
-}
-
-fn executors_of(alloc: Global, seed: Seed, decls: &[Decl]) -> Result<Vec<u32>, AllocError>
-    ensures { IfOk result (λ v. v.items ≡ (plan_of (map view_decl decls.now)).executors) }
-{
-    let names = executor_names(alloc, seed, decls)?;
-    executors(alloc, &names, decls)
 }
 
 fn defaults(alloc: Global, decls: &[Decl]) -> Result<Vec<i64>, AllocError>
@@ -139,41 +140,36 @@ fn defaults(alloc: Global, decls: &[Decl]) -> Result<Vec<i64>, AllocError>
     Ok(defaults)
 }
 
-// A name more. Names are checked before, so none stands twice: where one does, the answer is that there is no memory.
-fn add_new(alloc: Global, names: &mut Names, name: &[u8]) -> Result<(), AllocError>
-    ensures { OnOk result (names.new ≡ names.old ++ name.now ∷ []) }
+// How many executors are declared.
+fn executor_count(decls: &[Decl]) -> u32
+    requires { length (executors_in (map view_decl decls.now)) ≤ EXECUTORS }
+    ensures { result ≡ length (executors_in (map view_decl decls.now)) }
 {
-    if names.contains(name) {
-        return Err(AllocError);
-    }
-    names.add(alloc, name)?;
-    Ok(())
-}
-
-// The executors in text order.
-fn executor_names(alloc: Global, seed: Seed, decls: &[Decl]) -> Result<Names, AllocError>
-    ensures { IfOk result (λ names. names ≡ executors_in (map view_decl decls.now)) }
-{
-    let mut names = Names::new(alloc, seed);
+    let mut count = 0;
     for decl in decls {
         match decl {
-            Decl::Executor(executor) => add_new(alloc, &mut names, &executor.name.text)?,
+            Decl::Executor(_) => count += 1,
             Decl::Local(_) | Decl::Actor(_) | Decl::Root(_) => {}
         }
     }
-    Ok(names)
+    count
 }
 
 // The executor of each actor. Those without one have their own, after the declared ones.
-fn executors(alloc: Global, names: &Names, decls: &[Decl]) -> Result<Vec<u32>, AllocError>
-    ensures { IfOk result (λ v. v.items ≡ executors_from names.now (length names.now) (map view_decl decls.now)) }
+fn executors(alloc: Global, declared: &Declared, decls: &[Decl]) -> Result<Vec<u32>, AllocError>
+    requires declared { declared.now.executors ≡ executors_in (map view_decl decls.now) }
+    requires have { have_executors declared.now.executors (map view_decl decls.now) ≡ true }
+    requires executors { length (executors_in (map view_decl decls.now)) ≤ EXECUTORS }
+    requires actors { length (actors_in (map view_decl decls.now)) ≤ ACTORS }
+    ensures executors { IfOk result (λ v. v.items ≡ executors_from declared.now.executors (length declared.now.executors) (map view_decl decls.now)) }
+    ensures as_many { IfOk result (λ v. length v.items ≡ length (actors_in (map view_decl decls.now))) }
 {
     let mut executors = Vec::new(alloc);
-    let mut own = to_u32(names.len())?;
+    let mut own = executor_count(decls);
     for decl in decls {
         match decl {
             Decl::Actor(actor) => {
-                let (executor, next) = executor_on(names, own, &actor.executor)?;
+                let (executor, next) = executor_on(declared, own, &actor.executor);
                 executors.push(executor)?;
                 own = next;
             }
@@ -184,21 +180,29 @@ fn executors(alloc: Global, names: &Names, decls: &[Decl]) -> Result<Vec<u32>, A
 }
 
 // An actor's executor, and the number that the next actor's own executor has.
-fn executor_on(names: &Names, own: u32, on: &Option<Name>) -> Result<(u32, u32), AllocError>
-    ensures { IfOk result (λ r. (others : ℕ → List ℕ) → on_executor names.now own (text_if on.now) others ≡ r.0 ∷ others r.1) }
+fn executor_on(declared: &Declared, own: u32, on: &Option<Name>) -> (u32, u32)
+    requires has { has_executor declared.now.executors (text_if on.now) ≡ true }
+    requires executors { length declared.now.executors ≤ EXECUTORS }
+    requires own { own < EXECUTORS + ACTORS }
+    ensures executor { (others : ℕ → List ℕ) → on_executor declared.now.executors own (text_if on.now) others ≡ result.0 ∷ others result.1 }
+    ensures next { result.1 ≤ own + 1 }
 {
     match on {
-        None => Ok((own, sum(own, 1)?)),
-        Some(name) => Ok((declared(names.place(&name.text))?, own)),
+        None => (own, own + 1),
+        Some(name) => match declared.executor(&name.text) {
+            Some(place) => (place as u32, own),
+            None => unreachable!(),
+        },
     }
 }
 
 fn actor_places(alloc: Global, executors: &[u32]) -> Result<Vec<u32>, AllocError>
+    requires { length executors.now ≤ ACTORS }
     ensures { IfOk result (λ v. AreActorPlaces executors.now v.items) }
 {
     let mut actor_places = Vec::new(alloc);
     for actor in 0..executors.len() {
-        actor_places.push(to_u32(actor_place_in(executors, actor))?)?;
+        actor_places.push(actor_place_in(executors, actor) as u32)?;
     }
     Ok(actor_places)
 }
@@ -212,13 +216,15 @@ fn executor_at(executors: &[u32], actor: usize) -> u32
 
 // How often an executor stands among others.
 fn count_of(executors: &[u32], own: u32) -> usize
-    ensures { result ≡ count_by (λ e. e == own) executors.now }
+    ensures count { result ≡ count_by (λ e. e == own) executors.now }
+    ensures most { result ≤ length executors.now }
 {
     executors.iter().filter(|e| **e == own).count()
 }
 
 fn actor_place_in(executors: &[u32], actor: usize) -> usize
-    ensures { result ≡ actor_place_in executors.now actor }
+    ensures place { result ≡ actor_place_in executors.now actor }
+    ensures most { result ≤ length executors.now }
 {
     let own = executor_at(executors, actor);
     count_of(&executors[..actor.min(executors.len())], own)
