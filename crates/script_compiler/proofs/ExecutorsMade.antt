@@ -24,7 +24,7 @@ same_executors p ts e (x ∷ xs) =
     ap (λ (ms : List ℕ). record { name = x.name; kind = x.kind; actors = ms } ∷ executors_by p (length ts) (suc e) xs) (same_members p e 0 ts)
     ∙ ap (λ (vs : List ExecutorView). record { name = x.name; kind = x.kind; actors = members_from p e 0 ts } ∷ vs) (same_executors p ts (suc e) xs)
 
-as_many : (p : PlanView) (k : ℕ) (ts : List ActorTree) → length (actors_from p k ts) ≡ length ts
+pub as_many : (p : PlanView) (k : ℕ) (ts : List ActorTree) → length (actors_from p k ts) ≡ length ts
 as_many p k [] = refl
 as_many p k (t ∷ ts) = ap suc (as_many p (suc k) ts)
 

@@ -2,6 +2,7 @@ pub mod Compiled
 pub mod Starts
 pub mod IsCompiled
 pub mod Members
+pub mod RootsInside
 pub mod Rows
 pub mod Waiting
 pub mod Calls

@@ -1,8 +1,10 @@
 //! From declarations to what a run needs.
 
-ghost use Rattle.std.specs.Prelude.{◌≡◌, map, IfOk};
+ghost use Rattle.std.specs.Prelude.{◌≡◌, None, map, IfOk};
 ghost use Rattle.script_grammar.specs.Tree.{view_decl};
 ghost use Rattle.script_names.specs.Directory.{directory_of};
+ghost use Rattle.script_names.specs.Rules.{names_error};
+ghost use Rattle.script_lowering.specs.Plan.{plan_of};
 ghost use Rattle.script_printing.specs.Script.{script_in};
 ghost use Rattle.script_compiler.specs.Compiled.{compiled_by, compiled_of};
 ghost use Rattle.script_compiler.specs.IsCompiled.{IsCompiled};
@@ -19,6 +21,8 @@ use std::alloc::{AllocError, Global};
 
 // All of it, by the plan of the script.
 fn by_plan(alloc: Global, plan: &Plan, decls: &[Decl]) -> Result<Compiled, AllocError>
+    requires plan { plan.now ≡ plan_of (map view_decl decls.now) }
+    requires names { names_error (map view_decl decls.now) ≡ None }
     ensures { IfOk result (λ c. IsCompiled c (compiled_by plan.now (script_in (map view_decl decls.now)))) }
 {
     let actors = compile_actors(alloc, plan, decls)?;
@@ -35,15 +39,16 @@ fn by_plan(alloc: Global, plan: &Plan, decls: &[Decl]) -> Result<Compiled, Alloc
     })
 }
 
-/// What a run needs of a script, from what it declares and its declarations in text order (our own). Its names have to be
-/// in order, as `script_names::check` finds. `Err` says that there was no memory, that something is numbered past 32 bits,
-/// or that a name is made that stands already, or is not declared.
+/// What a run needs of a script, from what it declares and its declarations in text order (our own). `Err` says that there
+/// was no memory, or that something is numbered past 32 bits.
 ///
 /// Time and memory are linear in the declarations and all within them, and beside that in the pairs of executors and
-/// actors, of which a script whose names are in order has 128 and 64 at most.
+/// actors, of which there are 128 and 64 at most.
 pub fn compile(alloc: Global, declared: Declared, decls: &[Decl]) -> Result<Compiled, AllocError>
     // These are the declarations of the same script.
-    requires { declared ≡ directory_of (map view_decl decls.now) }
+    requires declared { declared ≡ directory_of (map view_decl decls.now) }
+    // Its names are in order, as `script_names::check` finds.
+    requires names { names_error (map view_decl decls.now) ≡ None }
     ensures { IfOk result (λ c. IsCompiled c (compiled_of (script_in (map view_decl decls.now)))) }
 {
     let plan = Plan::of(alloc, declared, decls)?;

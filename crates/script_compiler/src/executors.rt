@@ -1,6 +1,7 @@
 //! Executors, and the actors of each.
 
-ghost use Rattle.std.specs.Prelude.{◌≡◌, ◌++◌, ◌∷◌, [], All, length, map, slice_get, IfOk, OnOk};
+ghost use Rattle.std.specs.Prelude.{◌≡◌, ◌≤◌, ◌++◌, ◌∷◌, [], All, length, map, slice_get, IfOk, OnOk};
+ghost use Rattle.swift_types.specs.declared.limits.TheConstants.{ACTORS};
 ghost use Rattle.script_grammar.specs.Tree.{view_decl};
 ghost use Rattle.script_code.specs.Seen.{term_if_lent};
 ghost use Rattle.script_code.specs.Tree.{terms_of};
@@ -11,7 +12,6 @@ ghost use Rattle.script_compiler.specs.Members.{members_below, executors_by};
 
 use crate::compiled::{CompiledActor, CompiledExecutor};
 use crate::copy::copy_formula;
-use crate::number::to_u32;
 use script_code::Formula;
 use script_grammar::Decl;
 use script_lowering::Plan;
@@ -25,12 +25,13 @@ fn members(
     executor: usize,
     actors: usize,
 ) -> Result<Vec<ActorId>, AllocError>
+    requires { actors ≤ ACTORS }
     ensures { IfOk result (λ v. map actor_number v.items ≡ members_below plan.now executor 0 actors) }
 {
     let mut members = Vec::new(alloc);
     for actor in 0..actors {
         if plan.executor(actor) as usize == executor {
-            members.push(ActorId(to_u32(actor)?))?;
+            members.push(ActorId(actor as u32))?;
         }
     }
     Ok(members)
@@ -84,6 +85,7 @@ fn executor(
     name: &[u8],
     kind: ExecutorKind,
 ) -> Result<CompiledExecutor, AllocError>
+    requires { length actors.now ≤ ACTORS }
     ensures view { IfOk result (λ x. executor_view x ≡ record { name = name.now; kind = kind; actors = members_below plan.now place 0 (length actors.now) }) }
     ensures invariants { IfOk result (HasInvariants (map actor_view actors.now)) }
 {
@@ -107,7 +109,8 @@ fn add(
     kind: ExecutorKind,
     all: &mut Vec<CompiledExecutor>,
 ) -> Result<(), AllocError>
-    requires { All (HasInvariants (map actor_view actors.now)) all.old.items }
+    requires actors { length actors.now ≤ ACTORS }
+    requires invariants { All (HasInvariants (map actor_view actors.now)) all.old.items }
     ensures view { OnOk result (map executor_view all.new.items ≡ map executor_view all.old.items ++ record { name = name.now; kind = kind; actors = members_below plan.now (length all.old.items) 0 (length actors.now) } ∷ []) }
     ensures invariants { OnOk result (All (HasInvariants (map actor_view actors.now)) all.new.items) }
 {
@@ -122,6 +125,7 @@ fn compile_declared(
     actors: &[CompiledActor],
     decls: &[Decl],
 ) -> Result<Vec<CompiledExecutor>, AllocError>
+    requires { length actors.now ≤ ACTORS }
     ensures view { IfOk result (λ v. map executor_view v.items ≡ executors_by plan.now (length actors.now) 0 (script_in (map view_decl decls.now)).executors) }
     ensures invariants { IfOk result (λ v. All (HasInvariants (map actor_view actors.now)) v.items) }
 {
@@ -152,7 +156,8 @@ fn add_own(
     decls: &[Decl],
     all: &mut Vec<CompiledExecutor>,
 ) -> Result<(), AllocError>
-    requires { All (HasInvariants (map actor_view actors.now)) all.old.items }
+    requires actors { length actors.now ≤ ACTORS }
+    requires invariants { All (HasInvariants (map actor_view actors.now)) all.old.items }
     ensures view { OnOk result (map executor_view all.new.items ≡ map executor_view all.old.items ++ executors_by plan.now (length actors.now) (length all.old.items) (own_executors (script_in (map view_decl decls.now)).actors)) }
     ensures invariants { OnOk result (All (HasInvariants (map actor_view actors.now)) all.new.items) }
 {
@@ -174,14 +179,14 @@ fn add_own(
 }
 
 /// The executors of a script whose actors are these, the declared ones first. Linear in the declarations and in the
-/// invariants, and for the actors of each in the pairs of executors and actors: a script whose names are in order has 128
-/// executors and 64 actors at most.
+/// invariants, and for the actors of each in the pairs of executors and actors, of which there are 128 and 64 at most.
 pub(crate) fn compile_executors(
     alloc: Global,
     plan: &Plan,
     actors: &[CompiledActor],
     decls: &[Decl],
 ) -> Result<Vec<CompiledExecutor>, AllocError>
+    requires { length actors.now ≤ ACTORS }
     ensures view { let script = script_in (map view_decl decls.now) in
         IfOk result (λ v. map executor_view v.items ≡ executors_by plan.now (length actors.now) 0 (script.executors ++ own_executors script.actors)) }
     ensures invariants { IfOk result (λ v. All (HasInvariants (map actor_view actors.now)) v.items) }

@@ -1,7 +1,8 @@
 //! Methods.
 
-ghost use Rattle.std.specs.Prelude.{◌≡◌, ◌++◌, List, map, length, IfOk, OnOk};
+ghost use Rattle.std.specs.Prelude.{◌≡◌, ◌≤◌, ◌++◌, List, map, length, IfOk, OnOk};
 ghost use Rattle.std.specs.List.{AllZip};
+ghost use Rattle.swift_types.specs.declared.limits.TheConstants.{ACTORS};
 ghost use Rattle.script_grammar.specs.Tree.{view_method, view_decl};
 ghost use Rattle.script_printing.specs.Script.{script_in};
 ghost use Rattle.script_compiler.specs.Compiled.{MethodView, method_of, methods_from};
@@ -9,7 +10,7 @@ ghost use Rattle.script_compiler.specs.IsCompiled.{IsMethod};
 ghost use Rattle.script_compiler.specs.Members.{methods_here, number_after};
 
 use crate::compiled::CompiledMethod;
-use crate::number::{next, to_u32};
+use crate::number::to_u32;
 use script_grammar::{Decl, Method};
 use script_lowering::{Plan, lower};
 use std::alloc::{AllocError, Global};
@@ -60,13 +61,14 @@ fn add_declared(
     decl: &Decl,
     all: &mut Vec<CompiledMethod>,
 ) -> Result<ActorId, AllocError>
+    requires { number_after actor.0 (view_decl decl.now) ≤ ACTORS }
     ensures methods { OnOk result ((done : List MethodView) → AllZip IsMethod all.old.items done → AllZip IsMethod all.new.items (done ++ methods_here plan.now actor.0 (view_decl decl.now))) }
     ensures number { IfOk result (λ next. next.0 ≡ number_after actor.0 (view_decl decl.now)) }
 {
     match decl {
         Decl::Actor(declared) => {
             add_methods(alloc, plan, actor, &declared.methods, all)?;
-            Ok(ActorId(next(actor.0)?))
+            Ok(ActorId(actor.0 + 1))
         }
         Decl::Executor(_) | Decl::Local(_) | Decl::Root(_) => Ok(actor),
     }
@@ -78,6 +80,7 @@ pub(crate) fn compile_methods(
     plan: &Plan,
     decls: &[Decl],
 ) -> Result<Vec<CompiledMethod>, AllocError>
+    requires { length (script_in (map view_decl decls.now)).actors ≤ ACTORS }
     ensures { IfOk result (λ v. AllZip IsMethod v.items (methods_from plan.now 0 (script_in (map view_decl decls.now)).actors)) }
 {
     let mut methods = Vec::new(alloc);

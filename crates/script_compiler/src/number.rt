@@ -1,6 +1,6 @@
 //! Counts of 32 bits.
 
-ghost use Rattle.std.specs.Prelude.{◌≡◌, ◌+◌, IfOk};
+ghost use Rattle.std.specs.Prelude.{◌≡◌, IfOk};
 
 use std::alloc::AllocError;
 
@@ -12,15 +12,5 @@ pub(crate) fn to_u32(count: usize) -> Result<u32, AllocError>
     match u32::try_from(count) {
         Ok(n) => Ok(n),
         Err(_) => Err(AllocError),
-    }
-}
-
-/// The number after this one, under the same rule.
-pub(crate) fn next(number: u32) -> Result<u32, AllocError>
-    ensures { IfOk result (λ n. n ≡ number + 1) }
-{
-    match number.checked_add(1) {
-        Some(n) => Ok(n),
-        None => Err(AllocError),
     }
 }

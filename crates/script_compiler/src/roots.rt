@@ -1,11 +1,12 @@
 //! Roots and task locals.
 
-ghost use Rattle.std.specs.Prelude.{◌≡◌, map, IfOk};
+ghost use Rattle.std.specs.Prelude.{◌≡◌, true, map, IfOk};
 ghost use Rattle.script_grammar.specs.Tree.{view_local, view_root, view_decl};
-ghost use Rattle.script_names.specs.Directory.{method_place};
+ghost use Rattle.script_names.specs.Directory.{has_method, method_place};
 ghost use Rattle.script_printing.specs.Script.{script_in};
 ghost use Rattle.script_compiler.specs.Compiled.{root_of};
 ghost use Rattle.script_compiler.specs.IsCompiled.{local_view, root_view};
+ghost use Rattle.script_compiler.specs.RootsInside.{has_root_method, have_root_methods};
 
 use crate::compiled::{CompiledLocal, CompiledRoot};
 use crate::number::to_u32;
@@ -42,23 +43,24 @@ pub(crate) fn compile_locals(
     Ok(locals)
 }
 
-// The method that a root runs. Names are checked before, so it is declared: for one that is not the answer is that there
-// is no memory.
+// The method that a root runs, which is declared.
 fn method_of(
     alloc: Global,
     declared: &Declared,
     actor: &[u8],
     method: &[u8],
 ) -> Result<MethodId, AllocError>
+    requires { has_method declared.now actor.now method.now ≡ true }
     ensures { IfOk result (λ m. m.0 ≡ method_place declared.now actor.now method.now) }
 {
     let Some(place) = declared.method(alloc, actor, method)? else {
-        return Err(AllocError);
+        unreachable!()
     };
     Ok(MethodId(to_u32(place)?))
 }
 
 fn compile_root(alloc: Global, plan: &Plan, root: &Root) -> Result<CompiledRoot, AllocError>
+    requires { has_root_method plan.now.directory (view_root root.now) ≡ true }
     ensures { IfOk result (λ r. root_view r ≡ root_of plan.now (view_root root.now)) }
 {
     let method = method_of(alloc, plan.declared(), &root.actor.text, &root.method.text)?;
@@ -78,6 +80,7 @@ pub(crate) fn compile_roots(
     plan: &Plan,
     decls: &[Decl],
 ) -> Result<Vec<CompiledRoot>, AllocError>
+    requires { have_root_methods plan.now.directory (script_in (map view_decl decls.now)).roots ≡ true }
     ensures { IfOk result (λ v. map root_view v.items ≡ map (root_of plan.now) (script_in (map view_decl decls.now)).roots) }
 {
     let mut roots = Vec::new(alloc);

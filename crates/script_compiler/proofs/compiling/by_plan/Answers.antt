@@ -1,8 +1,13 @@
-use Rattle.std.proofs.Common.{◌++◌, map}
+use Rattle.std.proofs.Common.{◌++◌, ◌∙◌, map, length, ap, arith}
+use Rattle.std.proofs.lemmas.List.{length-map}
 use Rattle.script_grammar.specs.Tree.{view_decl}
 use Rattle.script_printing.specs.Script.{script_in}
+use Rattle.script_lowering.specs.Plan.{PlanView}
 use Rattle.script_compiler.specs.Compiled.{own_executors}
-use Rattle.script_compiler.proofs.ExecutorsMade.{by_actors, same_invariants}
+use Rattle.script_compiler.specs.IsCompiled.{actor_view}
+use Rattle.script_compiler.specs.RootsInside.{have_root_methods}
+use Rattle.script_compiler.proofs.InOrder.{few_actors, roots_have_methods}
+use Rattle.script_compiler.proofs.ExecutorsMade.{as_many, by_actors, same_invariants}
 use Rattle.script_compiler.proofs.compiling.by_plan.Goals as goal
 
 pub returns : goal.returns
@@ -15,3 +20,19 @@ returns c =
       methods = c.in_ok-methods.ensures;
       roots = c.in_ok-roots.ensures;
     }
+
+pub compile_executors-requires : goal.compile_executors-requires
+compile_executors-requires c =
+    let decls = map view_decl c.args.decls.now in
+    let few = few_actors decls c.requires.names in
+    let made = ap length c.in_ok-actors.ensures in
+    omega (arith, few, made, length-map c.in_ok-actors.actors.items actor_view, as_many c.args.plan.now 0 (script_in decls).actors, ap length c.deref.ensures.value)
+
+pub compile_methods-requires : goal.compile_methods-requires
+compile_methods-requires c = few_actors (map view_decl c.args.decls.now) c.requires.names
+
+pub compile_roots-requires : goal.compile_roots-requires
+compile_roots-requires c =
+    let decls = map view_decl c.args.decls.now in
+    ap (λ (p : PlanView). have_root_methods p.directory (script_in decls).roots) c.requires.plan
+    ∙ roots_have_methods decls c.requires.names

@@ -10,6 +10,6 @@ use Rattle.script_compiler.proofs.methods.compile_methods.Goals as goal
 
 pub returns : goal.returns
 returns c =
-    let done = c.loop-decl.invariant in
+    let done = c.loop-decl.invariant.are in
     let whole = sym (append-nil done.views) ∙ sym (at_drop_all (λ (ds : List Decl). done.views ++ methods_from c.args.plan.now c.loop-decl.actor.0 (script_in (map view_decl ds)).actors) c.args.decls.now c.loop-decl.decl-index c.loop-decl-test.false) ∙ done.with_left in
     subst (λ views. AllZip IsMethod c.loop-decl.methods.items views) whole done.compiled
