@@ -1,9 +1,10 @@
 //! At which token a text is refused.
 
-ghost use Rattle.std.specs.Prelude.{◌≡◌, ◌≤◌, ◌+◌, ◌-◌, ℕ, List, IfOk, IfSome, map};
+ghost use Rattle.std.specs.Prelude.{◌≡◌, ◌≤◌, ◌+◌, ◌-◌, ℕ, List, None, IfOk, IfSome, map};
 ghost use Rattle.script_grammar.specs.Tree.{view_decl};
 ghost use Rattle.script_grammar.specs.Grammar.{IsScript};
 ghost use Rattle.script_names.specs.Directory.{directory_of};
+ghost use Rattle.script_names.specs.Rules.{names_error};
 ghost use Rattle.script_parser.specs.declared.limits.TheConstants.{NESTING};
 ghost use Rattle.script_printing.specs.Script.{script_in};
 ghost use Rattle.script_tokens.specs.Lexes.{Lexes};
@@ -132,6 +133,7 @@ fn in_parts(
     declared: Declared,
 ) -> Result<Option<Failure>, AllocError>
     requires spelled { IsScript NESTING (map piece tokens.now) (map view_decl decls.now) }
+    requires names { names_error (map view_decl decls.now) ≡ None }
     requires directory { declared ≡ directory_of (map view_decl decls.now) }
     ensures { (text : List ℕ) → Lexes text (map piece tokens.now) → IfOk result (λ found. IfSome found (λ f. FailsAt f.kind text f.place)) }
 {
