@@ -7,7 +7,7 @@ use Rattle.script_names.specs.declared.error.NameErrorKind.{NameErrorKind}
 use Rattle.script_names.specs.declared.error.NameErrorKind.TheVariants.{Unknown, TooMany}
 use Rattle.script_names.specs.Texts.{is_among}
 use Rattle.script_names.specs.Directory.{DirectoryView, directory_of, executors_in, actors_in}
-use Rattle.script_names.specs.Rules.{SeenView, at_name, where_so, repeat_error, on_error, executor_error, actor_error, decl_error, past_decl, seen_after, declarations_error, names_error}
+use Rattle.script_names.specs.Rules.{SeenView, at_name, where_so, kind_error, repeat_error, on_error, executor_error, actor_error, decl_error, past_decl, seen_after, declarations_error, names_error}
 use Rattle.script_names.proofs.LeftOut.{nothing_left_out}
 use Rattle.script_lowering.specs.PlanInside.{has_executor, have_executors}
 use Rattle.script_lowering.proofs.Clear.{earlier_none, at_name_none}
