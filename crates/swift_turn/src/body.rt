@@ -29,7 +29,7 @@ use swift_locals::Bindings;
 use swift_script::Script;
 use swift_types::limits::{FRAMES, STEPS};
 use swift_types::{ActorId, Ending, Env, Fault, MethodId, Resume};
-use swift_undo::{Undo, play_kept_from};
+use swift_undo::{Undo, play_kept_with};
 
 /// A task: its script, its frames, the bindings that stand in it, and the turn that is under way (SE-0304). A turn is
 /// entered with the fields of the actors of its executor, polled once, and left; then `advance` says what comes next.
@@ -68,7 +68,7 @@ struct Inside {
     // What stood when the frame that runs began.
     outer: Bindings,
     phase: Phase,
-    // What a turn began with. Its buffers are kept from turn to turn.
+    // What the turn that was entered and polled began with. Its buffers are kept from turn to turn.
     undo: Undo,
     source: Source,
     waker: Option<Waker>,
@@ -209,13 +209,15 @@ fn answer(
 }
 
 // The kept turn of a frame of a script. `rows` has the rows of those invariants that are tested only where the turn sets their row.
+// `before` becomes the frame from before it, and `saved` the rows that it has set, as they were.
 fn play(
     alloc: Global,
     script: &Script,
     rows: &[u32],
     outer: &Bindings,
     turn: &mut TurnState,
-    undo: &mut Undo,
+    before: &mut Frame,
+    saved: &mut SavedRows,
     resume: Resume,
     env: &Env,
 ) -> Result<Exit, AllocError>
@@ -226,8 +228,8 @@ fn play(
     ensures frame { OnErr result (frame_view turn.new.frame ≡ frame_view turn.old.frame) }
     ensures fields { OnErr result (rows_of turn.new.fields.items ≡ rows_of turn.old.fields.items) }
     ensures method { turn.new.frame.method ≡ turn.old.frame.method }
-    ensures before { OnOk result (frame_view undo.new.frame ≡ frame_view turn.old.frame) }
-    ensures saved { restored undo.new.saved (rows_of turn.new.fields.items) ≡ rows_of turn.old.fields.items }
+    ensures before { OnOk result (frame_view before.new ≡ frame_view turn.old.frame) }
+    ensures saved { restored saved.new (rows_of turn.new.fields.items) ≡ rows_of turn.old.fields.items }
 {
     let method = turn.frame.method;
     let executor = script.actor_executor(script.method_actor(method));
@@ -237,7 +239,7 @@ fn play(
         outer,
         env,
     };
-    play_kept_from(alloc, given, rows, turn, undo, resume, STEPS)
+    play_kept_with(alloc, given, rows, turn, before, saved, resume, STEPS)
 }
 
 impl Body {
@@ -481,7 +483,8 @@ impl Body {
             &[],
             &inside.outer,
             &mut inside.turn,
-            &mut inside.undo,
+            &mut inside.undo.frame,
+            &mut inside.undo.saved,
             resume,
             &env,
         );
@@ -523,22 +526,20 @@ impl Body {
         inside.phase = Phase::Idle;
         mem::swap(&mut inside.turn.fields, fields);
         mem::swap(&mut inside.turn.effects, effects);
-        inside.undo.swap_saved(saved);
         let played = play(
             inside.alloc,
             &inside.script,
             rows,
             &inside.outer,
             &mut inside.turn,
-            &mut inside.undo,
+            before,
+            saved,
             resume,
             &env,
         );
         mem::swap(&mut inside.turn.fields, fields);
         mem::swap(&mut inside.turn.effects, effects);
-        inside.undo.swap_saved(saved);
         let exit = played?;
-        inside.undo.swap_frame(before);
         inside.waker = None;
         let _ = answer(
             cx,

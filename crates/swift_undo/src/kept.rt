@@ -12,10 +12,10 @@ ghost use Rattle.script_code.specs.Value.{holds as it_holds};
 ghost use Rattle.swift_undo.specs.Rows.{AreSpared};
 ghost use Rattle.swift_undo.specs.RowsInside.{OthersHold, is_tested};
 
-use crate::undo::Undo;
+use crate::undo::{Undo, begin_turn, leave_undone, undo_turn};
 use script_code::{Formula, holds};
 use std::alloc::{AllocError, Global};
-use swift_interpreter::{Exit, SavedRows, TurnInput, TurnState, leave_frame, play_whole};
+use swift_interpreter::{Exit, Frame, SavedRows, TurnInput, TurnState, leave_frame, play_whole};
 use swift_types::{Fault, Resume};
 
 /// Plays the turn of a frame that begins with a resume, of at most `limit` steps, and leaves in `turn` what is kept of
@@ -75,17 +75,44 @@ pub fn play_kept_from(
     ensures before { OnOk result (frame_view undo.new.frame ≡ frame_view turn.old.frame) }
     ensures saved { restored undo.new.saved (rows_of turn.new.fields.items) ≡ rows_of turn.old.fields.items }
 {
+    let before = &mut undo.frame;
+    let saved = &mut undo.saved;
+    play_kept_with(alloc, given, rows, turn, before, saved, resume, limit)
+}
+
+/// Plays the same turn with buffers of the caller's, which are used again from turn to turn: `before` becomes the frame from before
+/// it, and `saved` the rows that it has set, as they were. What the two had before counts for nothing.
+pub fn play_kept_with(
+    alloc: Global,
+    given: TurnInput<'_>,
+    rows: &[u32],
+    turn: &mut TurnState,
+    before: &mut Frame,
+    saved: &mut SavedRows,
+    resume: Resume,
+    limit: u32,
+) -> Result<Exit, AllocError>
+    requires { AreSpared rows.now (terms_of given.invariants.now) (rows_of turn.old.fields.items) }
+    ensures kept { IfOk result (λ exit. (code : Code) → (at : ℕ → Code) → FollowsCode given.entry.instructions.now code at
+        → played_of (state_of at turn.new) exit
+        ≡ kept (given_of given.entry) limit (terms_of given.entry.invariants.now) (beginning at given.entry.env.now turn.old) resume) }
+    ensures frame { OnErr result (frame_view turn.new.frame ≡ frame_view turn.old.frame) }
+    ensures fields { OnErr result (rows_of turn.new.fields.items ≡ rows_of turn.old.fields.items) }
+    ensures method { turn.new.frame.method ≡ turn.old.frame.method }
+    ensures before { OnOk result (frame_view before.new ≡ frame_view turn.old.frame) }
+    ensures saved { restored saved.new (rows_of turn.new.fields.items) ≡ rows_of turn.old.fields.items }
+{
     let room = given.env.room;
-    undo.begin(turn, room)?;
-    let Ok(exit) = play_whole(alloc, given, turn, &mut undo.saved, resume, limit) else {
-        undo.put_back(turn, room);
+    begin_turn(before, saved, turn, room)?;
+    let Ok(exit) = play_whole(alloc, given, turn, saved, resume, limit) else {
+        undo_turn(before, saved, turn, room);
         return Err(AllocError);
     };
     if undoes(&exit) {
-        return undo.leave(turn, room, exit);
+        return leave_undone(before, saved, turn, room, exit);
     }
-    if !all_hold(alloc, given.invariants, rows, &undo.saved, &turn.fields) {
-        return undo.leave(turn, room, Exit::Fault(Fault::Invariant));
+    if !all_hold(alloc, given.invariants, rows, saved, &turn.fields) {
+        return leave_undone(before, saved, turn, room, Exit::Fault(Fault::Invariant));
     }
     Ok(leave_frame(turn, exit))
 }

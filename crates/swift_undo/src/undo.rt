@@ -13,8 +13,10 @@ use swift_interpreter::{Exit, Frame, SavedRows, TurnState, leave_frame};
 /// What undoes a turn: a copy of its frame, and the rows of fields that it has changed (our own). It may serve any
 /// turn, and its buffers are used again from one to the next. After a turn the copy is still there, and can be taken.
 pub struct Undo {
-    pub(crate) frame: Frame,
-    pub(crate) saved: SavedRows,
+    /// The frame from before the turn.
+    pub frame: Frame,
+    /// The rows that the turn has set, as they were.
+    pub saved: SavedRows,
 }
 
 impl Drop for Undo {
@@ -67,10 +69,7 @@ impl Undo {
         ensures copy_method { OnOk result (self.new.frame.method ≡ turn.old.frame.method) }
         ensures saved { self.new.saved ≡ [] }
     {
-        turn.effects.clear();
-        turn.room = room;
-        self.saved.clear();
-        self.frame.copy_from(&turn.frame)
+        begin_turn(&mut self.frame, &mut self.saved, turn, room)
     }
 
     /// The turn under way is undone: it has done nothing, and may make this many tasks.
@@ -81,10 +80,7 @@ impl Undo {
         ensures method { turn.new.frame.method ≡ self.old.frame.method }
         ensures saved { self.new.saved ≡ [] }
     {
-        mem::swap(&mut turn.frame, &mut self.frame);
-        self.saved.put_back(&mut turn.fields);
-        turn.effects.clear();
-        turn.room = room;
+        undo_turn(&mut self.frame, &mut self.saved, turn, room);
     }
 
     /// Gives the frame that it holds, and keeps another for its buffers. It costs nothing. It may be called between turns only.
@@ -104,25 +100,61 @@ impl Undo {
     {
         mem::swap(&mut self.saved, saved);
     }
+}
 
-    // The turn under way is undone, and its frame is left as the exit says. The frame from before it is still held. After
-    // an error the frame is not left.
-    pub(crate) fn leave(
-        &mut self,
-        turn: &mut TurnState,
-        room: u32,
-        exit: Exit,
-    ) -> Result<Exit, AllocError>
-        ensures left { IfOk result (λ last. (at : _) → played_of (state_of at turn.new) last
-            ≡ exits (state_in at (frame_view self.old.frame) (fields_before self.old.saved turn.old) [] room) (exit_view exit)) }
-        ensures before { OnOk result (frame_view self.new.frame ≡ frame_view self.old.frame) }
-        ensures frame { OnErr result (frame_view turn.new.frame ≡ frame_view self.old.frame) }
-        ensures fields { rows_of turn.new.fields.items ≡ fields_before self.old.saved turn.old }
-        ensures method { turn.new.frame.method ≡ self.old.frame.method }
-        ensures saved { self.new.saved ≡ [] }
-    {
-        self.put_back(turn, room);
-        self.frame.copy_from(&turn.frame)?;
-        Ok(leave_frame(turn, exit))
-    }
+// A turn begins, with no effects, which may make this many tasks; `before` becomes a copy of its frame, and no rows are saved.
+pub fn begin_turn(
+    before: &mut Frame,
+    saved: &mut SavedRows,
+    turn: &mut TurnState,
+    room: u32,
+) -> Result<(), AllocError>
+    ensures state { (at : _) → state_of at turn.new ≡ state_in at (frame_view turn.old.frame) (rows_of turn.old.fields.items) [] room }
+    ensures frame { frame_view turn.new.frame ≡ frame_view turn.old.frame }
+    ensures fields { turn.new.fields.items ≡ turn.old.fields.items }
+    ensures method { turn.new.frame.method ≡ turn.old.frame.method }
+    ensures copy { OnOk result (frame_view before.new ≡ frame_view turn.old.frame) }
+    ensures copy_method { OnOk result (before.new.method ≡ turn.old.frame.method) }
+    ensures saved { saved.new ≡ [] }
+{
+    turn.effects.clear();
+    turn.room = room;
+    saved.clear();
+    before.copy_from(&turn.frame)
+}
+
+// The turn under way is undone: it has done nothing, and may make this many tasks.
+pub fn undo_turn(before: &mut Frame, saved: &mut SavedRows, turn: &mut TurnState, room: u32)
+    ensures state { (at : _) → state_of at turn.new ≡ state_in at (frame_view before.old) (fields_before saved.old turn.old) [] room }
+    ensures frame { frame_view turn.new.frame ≡ frame_view before.old }
+    ensures fields { rows_of turn.new.fields.items ≡ fields_before saved.old turn.old }
+    ensures method { turn.new.frame.method ≡ before.old.method }
+    ensures saved { saved.new ≡ [] }
+{
+    mem::swap(&mut turn.frame, before);
+    saved.put_back(&mut turn.fields);
+    turn.effects.clear();
+    turn.room = room;
+}
+
+// The turn under way is undone, and its frame is left as the exit says. The frame from before it is still held. After an error
+// the frame is not left.
+pub fn leave_undone(
+    before: &mut Frame,
+    saved: &mut SavedRows,
+    turn: &mut TurnState,
+    room: u32,
+    exit: Exit,
+) -> Result<Exit, AllocError>
+    ensures left { IfOk result (λ last. (at : _) → played_of (state_of at turn.new) last
+        ≡ exits (state_in at (frame_view before.old) (fields_before saved.old turn.old) [] room) (exit_view exit)) }
+    ensures before { OnOk result (frame_view before.new ≡ frame_view before.old) }
+    ensures frame { OnErr result (frame_view turn.new.frame ≡ frame_view before.old) }
+    ensures fields { rows_of turn.new.fields.items ≡ fields_before saved.old turn.old }
+    ensures method { turn.new.frame.method ≡ before.old.method }
+    ensures saved { saved.new ≡ [] }
+{
+    undo_turn(before, saved, turn, room);
+    before.copy_from(&turn.frame)?;
+    Ok(leave_frame(turn, exit))
 }

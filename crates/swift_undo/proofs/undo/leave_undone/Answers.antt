@@ -1,7 +1,7 @@
 use Rattle.std.proofs.Common.{ap, ◌∙◌}
 use Rattle.swift_interpreter.specs.Turn.{TurnStateView, exits}
 use Rattle.swift_interpreter.specs.TurnStates.{exit_view}
-use Rattle.swift_undo.proofs.undo.Undo.leave.Goals as goal
+use Rattle.swift_undo.proofs.undo.leave_undone.Goals as goal
 
 pub returns-clause-left : goal.returns-clause-left
-returns-clause-left c = λ at. c.leave_frame.ensures.left at ∙ ap (λ (s : TurnStateView). exits s (exit_view c.args.exit)) (c.put_back.ensures.state at)
+returns-clause-left c = λ at. c.leave_frame.ensures.left at ∙ ap (λ (s : TurnStateView). exits s (exit_view c.args.exit)) (c.undo_turn.ensures.state at)
