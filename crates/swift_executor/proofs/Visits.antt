@@ -1,25 +1,23 @@
 -- What a visit to an executor leaves, by what its calls have answered.
-use Rattle.std.proofs.Common.{◌≡◌, ℕ, Bool, true, sym, subst, inr, [], ◌∷◌, ◌++◌, Option, Some, None, Result, Ok, Err, IfOk, IfErr, IfSome, IfNone, OnOk, OnErr, List, ap, ◌∙◌}
+use Rattle.std.proofs.Common.{◌≡◌, ℕ, Bool, true, sym, subst, [], ◌∷◌, ◌++◌, Option, Some, None, Result, Ok, Err, IfOk, IfErr, IfSome, IfNone, OnOk, OnErr, List, ap, ◌∙◌}
 use Rattle.atomic_table.specs.Seated.{TableId}
 use Rattle.swift_types.specs.declared.id.TaskId.{TaskId}
 use Rattle.swift_events.specs.declared.event.Event.{Event}
 use Rattle.swift_history.specs.TurnEnds.{JobFacts}
 use Rattle.swift_ledger.specs.Levels.{AreLevels}
-use Rattle.swift_tasks.specs.declared.fault.BookFault.TheVariants.{Unknown}
 use Rattle.swift_executor.specs.declared.fault.ExecFault.{ExecFault}
-use Rattle.swift_executor.specs.declared.fault.ExecFault.TheVariants.{Refused}
 use Rattle.swift_executor.specs.Account.{HasTaken}
 use Rattle.swift_inbox.specs.Inbox.{InboxView, TakerView, has_taken}
 use Rattle.swift_job.specs.Job.{JobView}
 use Rattle.swift_history.specs.Jobs.{job_facts}
 use Rattle.swift_turn.specs.Body.{BodyView}
-use Rattle.swift_executor.specs.Exec.{IsAt, IsRunFault, chosen_task, site_of}
+use Rattle.swift_executor.specs.Exec.{IsAt, chosen_task, site_of}
 use Rattle.swift_executor.specs.Ready.{Adds}
 use Rattle.swift_executor.specs.State.{Chooses, ExecStateView, HasChosen, HasNone, IsPicked, LacksTask}
 use Rattle.swift_executor.specs.Seats.{IsSeatFor}
 use Rattle.swift_shared_book.specs.Shared.{BookLockView, BookSeatView, IsSeatOf, knowing, seat_of, with_ticket}
-use Rattle.swift_executor.proofs.AccountKept.{accepted}
-use Rattle.swift_executor.proofs.SeatKept.{accepted_knows}
+use Rattle.swift_executor.proofs.AccountKept.{accepted, chose, had_none, lacked}
+use Rattle.swift_executor.proofs.SeatKept.{accepted_knows, chose_knows, lacked_knows, none_knows}
 
 -- what holds after each answer holds
 pub either : {A E : Type 0} (r : Result A E) (P : Type 0) → OnOk r P → OnErr r P → P
@@ -34,7 +32,7 @@ pub map_err : {A E : Type 0} (r : Result A E) (P Q : Type 0) → (P → Q) → O
 map_err (Ok a) P Q f err = tt
 map_err (Err e) P Q f err = f err
 
--- A choice by levels, which are those of a log.
+-- A choice by the levels of a log, of a state in which no job was chosen.
 module _ (given : List ℕ) (old new : ExecStateView) where
   abbrev pub SomeIs : Result (Option TaskId) ExecFault → Type 0
   SomeIs r = IfOk r (λ picked. IfSome picked (λ task. (log : List Event) → AreLevels log given → Chooses log old new task))
@@ -45,26 +43,38 @@ module _ (given : List ℕ) (old new : ExecStateView) where
   abbrev pub FaultIs : (ExecFault → Type 0) → Result (Option TaskId) ExecFault → Type 0
   FaultIs F r = IfErr r (λ fault. F fault × ((log : List Event) → AreLevels log given → LacksTask log old new))
 
-  module _ (log : List Event) (levels : AreLevels log given) where
-    pub chooses : (r : Result (Option TaskId) ExecFault) → SomeIs r → IfOk r (λ picked. IfSome picked (Chooses log old new))
-    chooses (Ok (Some task)) some = some log levels
-    chooses (Ok None) some = tt
-    chooses (Err fault) some = tt
+  module _ (log : List Event) (levels : AreLevels log given) (free : old.chosen ≡ None) where
+    pub same_site : (lock : TableId) (F : ExecFault → Type 0) (r : Result (Option TaskId) ExecFault) → SomeIs r → NoneIs r → FaultIs F r → site_of lock new ≡ site_of lock old
+    same_site lock F (Ok (Some task)) some none err = ap (site_of lock) (some log levels).same
+    same_site lock F (Ok None) some none err = ap (site_of lock) (none log levels).same
+    same_site lock F (Err fault) some none err = ap (site_of lock) (err.1 log levels).same
 
-    pub has_none : (r : Result (Option TaskId) ExecFault) → NoneIs r → IfOk r (λ picked. IfNone picked (HasNone log old new))
-    has_none (Ok (Some task)) none = tt
-    has_none (Ok None) none = none log levels
-    has_none (Err fault) none = tt
+    pub same_taken : (F : ExecFault → Type 0) (taken : List JobFacts) (r : Result (Option TaskId) ExecFault) → SomeIs r → NoneIs r → FaultIs F r → HasTaken taken old → HasTaken taken new
+    same_taken F taken (Ok (Some task)) some none err was = chose taken log task old new was free (some log levels)
+    same_taken F taken (Ok None) some none err was = had_none taken log old new was (none log levels)
+    same_taken F taken (Err fault) some none err was = lacked taken log old new was (err.1 log levels)
 
-    pub lacks : (r : Result (Option TaskId) ExecFault) → FaultIs (λ fault. fault ≡ Refused Unknown) r → IfErr r (λ fault. IsRunFault fault × LacksTask log old new)
-    lacks (Ok picked) err = tt
-    lacks (Err fault) err = (inr (Unknown, err.0), err.1 log levels)
+    pub same_known : (F : ExecFault → Type 0) (seat : BookSeatView) (r : Result (Option TaskId) ExecFault) → SomeIs r → NoneIs r → FaultIs F r → IsSeatFor old seat → IsSeatFor new seat
+    same_known F seat (Ok (Some task)) some none err was = chose_knows log task old new seat was free (some log levels)
+    same_known F seat (Ok None) some none err was = none_knows log old new seat was free (none log levels)
+    same_known F seat (Err fault) some none err was = lacked_knows log old new seat was free (err.1 log levels)
 
--- the job that was chosen, whose turn has not begun
-pub is_picked : (log : List Event) (task : TaskId) (old new : ExecStateView) → Chooses log old new task → HasChosen new (λ c. IsPicked c.stage) × (chosen_task new.chosen ≡ Some task)
-is_picked log task old new h =
-    let is = ap (λ (s : ExecStateView). s.chosen) h.same in
-    ((_, is, tt), ap chosen_task is ∙ ap (λ (t : TaskId). Some t) h.task_is)
+    pub is_picked : (r : Result (Option TaskId) ExecFault) → SomeIs r → IfOk r (λ picked. IfSome picked (λ task. HasChosen new (λ c. IsPicked c.stage) × (chosen_task new.chosen ≡ Some task)))
+    is_picked (Ok (Some task)) some =
+        let h = some log levels in
+        let is = ap (λ (s : ExecStateView). s.chosen) h.same in
+        ((_, is, tt), ap chosen_task is ∙ ap (λ (t : TaskId). Some t) h.task_is)
+    is_picked (Ok None) some = tt
+    is_picked (Err fault) some = tt
+
+    pub is_none : (r : Result (Option TaskId) ExecFault) → NoneIs r → IfOk r (λ picked. IfNone picked (new.chosen ≡ None))
+    is_none (Ok (Some task)) none = tt
+    is_none (Ok None) none = ap (λ (s : ExecStateView). s.chosen) (none log levels).same ∙ free
+    is_none (Err fault) none = tt
+
+    pub is_free : (F : ExecFault → Type 0) (r : Result (Option TaskId) ExecFault) → FaultIs F r → OnErr r (new.chosen ≡ None)
+    is_free F (Ok picked) err = tt
+    is_free F (Err fault) err = ap (λ (s : ExecStateView). s.chosen) (err.1 log levels).same ∙ free
 
 -- a seat that was taken and given back as it was is the same
 pub same_seat : (b : BookLockView) (s : BookSeatView) → IsSeatOf b s → seat_of b s.knows ≡ s

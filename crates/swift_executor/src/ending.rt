@@ -34,18 +34,18 @@ fn begin_locked(
     worker: u32,
     book: &BookLock,
     seat: &mut BookSeat,
-    open: OpenBook,
+    taken: OpenBook,
 ) -> Result<(), BookFault>
-    requires open { IsAsTaken book.now open.seat open.book.value }
-    requires job { HasJob chosen.old.job (λ j. (j.body.script ≡ book.now.script) × HasTicket (job_facts j) open.seat.knows.tickets) }
-    ensures ok { OnOk result (HasJob chosen.old.job (BeginsShared book.now.script worker chosen.old chosen.new open.seat.knows seat.new.knows)) }
+    requires untouched { IsAsTaken book.now taken.seat taken.book.value }
+    requires job { HasJob chosen.old.job (λ j. (j.body.script ≡ book.now.script) × HasTicket (job_facts j) taken.seat.knows.tickets) }
+    ensures ok { OnOk result (HasJob chosen.old.job (BeginsShared book.now.script worker chosen.old chosen.new taken.seat.knows seat.new.knows)) }
     ensures seat { (seat.new.lock ≡ book.now.id) × (seat.new.here ≡ true) }
-    ensures err { OnErr result ((chosen.new ≡ chosen.old) × (seat.new ≡ seat_of book.now open.seat.knows)) }
+    ensures err { OnErr result ((chosen.new ≡ chosen.old) × (seat.new ≡ seat_of book.now taken.seat.knows)) }
 {
     let Some(job) = &chosen.job else {
         unreachable!()
     };
-    match book.begin(seat, open, job) {
+    match book.begin(seat, taken, job) {
         Ok(env) => {
             chosen.stage = ChosenStage::Begun(worker, env);
             Ok(())
@@ -100,20 +100,20 @@ impl ExecState {
         worker: u32,
         book: &BookLock,
         seat: &mut BookSeat,
-        open: OpenBook,
+        taken: OpenBook,
     ) -> Result<(), ExecFault>
         requires picked { HasChosen self.old (λ c. IsPicked c.stage) }
-        requires open { IsAsTaken book.now open.seat open.book.value }
-        requires seat { IsSeatOf book.now (seat_of book.now open.seat.knows) }
+        requires untouched { IsAsTaken book.now taken.seat taken.book.value }
+        requires seat { IsSeatOf book.now (seat_of book.now taken.seat.knows) }
         requires script { book.now.script ≡ self.old.script }
-        requires known { IsSeatFor self.old (seat_of book.now open.seat.knows) }
+        requires known { IsSeatFor self.old (seat_of book.now taken.seat.knows) }
         ensures seat { IsSeatOf book.now seat.new }
         ensures known { IsSeatFor self.new seat.new }
         ensures ok { OnOk result (BeginsTurn worker self.old self.new) }
         ensures back { OnErr result (HasChosen self.old (PutsBack self.old self.new)) }
         ensures refused { IfErr result IsRunFault }
     {
-        match begin_locked(&mut self.chosen, worker, book, seat, open) {
+        match begin_locked(&mut self.chosen, worker, book, seat, taken) {
             Ok(()) => Ok(()),
             Err(fault) => {
                 self.put_back();

@@ -1,17 +1,19 @@
 //! A visit of a worker to an executor.
 
-ghost use Rattle.std.specs.Prelude.{◌≡◌, ◌<◌, ◌↔◌, ◌⊎◌, None, Some, Err, false, map, IfOk, IfErr, IfSome, IfNone, IsSome, IsSomeAnd, OnOk, OnErr};
+ghost use Rattle.std.specs.Prelude.{◌≡◌, ◌<◌, ◌↔◌, ◌⊎◌, List, None, Some, Err, false, map, IfOk, IfErr, IfSome, IfNone, IsSome, IsSomeAnd, OnOk, OnErr};
 ghost use Rattle.std.specs.List.{AllByRecursion};
 ghost use Rattle.futures.specs.Task.{Keeps};
 ghost use Rattle.swift_script.specs.Scripts.{executor_kind};
 ghost use Rattle.swift_tasks.specs.Books.{IsJobOf};
+ghost use Rattle.atomic_table.specs.Seated.{TableId};
 ghost use Rattle.swift_history.specs.Jobs.{job_facts};
+ghost use Rattle.swift_history.specs.TurnEnds.{JobFacts};
 ghost use Rattle.swift_executor.specs.Account.{HasTaken};
 ghost use Rattle.swift_executor.specs.Exec.{IfNoTurn, IfTurn, IsMadeBy, chosen_task, IsAt, IsBookOf, IsDeskOf, IsRunFault, IsSeatAt, after_run, may_run, seat_after, site_of};
 ghost use Rattle.swift_executor.specs.Seats.{IsSeatFor};
-ghost use Rattle.swift_shared_book.specs.Shared.{IsAsTaken, IsSeatOf, seat_of};
+ghost use Rattle.swift_shared_book.specs.Shared.{BookSeatView, IsAsTaken, IsSeatOf, seat_of};
 ghost use Rattle.swift_word.specs.Seat.{ended, left};
-ghost use Rattle.swift_executor.specs.State.{Chooses, HasChosen, HasNone, IsBegun, IsPicked, IsPlayed, LacksTask};
+ghost use Rattle.swift_executor.specs.State.{HasChosen, IsBegun, IsPicked, IsPlayed};
 
 use crate::desk::Desk;
 use crate::exec::Exec;
@@ -87,13 +89,29 @@ fn accept_all<R: Wait>(rt: &R, inbox: &Inbox, held: &mut TakenState, book: &Book
     }
 }
 
+// Takes the book by the executor's seat.
+fn take_book<R: Wait>(rt: &R, held: &mut TakenState, book: &BookLock) -> OpenBook
+    requires seat { IsSeatOf book.now held.old.seat }
+    requires known { IsSeatFor held.old.state held.old.seat }
+    ensures untouched { IsAsTaken book.now result.seat result.book.value }
+    ensures seat { IsSeatOf book.now (seat_of book.now result.seat.knows) }
+    ensures known { IsSeatFor held.new.state (seat_of book.now result.seat.knows) }
+    ensures same { (held.new.taker ≡ held.old.taker) × (held.new.state ≡ held.old.state) }
+{
+    book.lock(rt, &mut held.seat)
+}
+
 // Chooses the job that runs next, by the levels of a book.
-fn choose_in(state: &mut ExecState, book: &mut Book) -> Result<Option<TaskId>, ExecFault>
+fn choose_one(state: &mut ExecState, book: &mut Book) -> Result<Option<TaskId>, ExecFault>
     requires free { state.old.chosen ≡ None }
     ensures book { book.new ≡ book.old }
-    ensures some { IfOk result (λ picked. IfSome picked (λ task. Chooses book.old.log state.old state.new task)) }
-    ensures none { IfOk result (λ picked. IfNone picked (HasNone book.old.log state.old state.new)) }
-    ensures err { IfErr result (λ fault. IsRunFault fault × LacksTask book.old.log state.old state.new) }
+    ensures same { (lock : TableId) → site_of lock state.new ≡ site_of lock state.old }
+    ensures known { (seat : BookSeatView) → IsSeatFor state.old seat → IsSeatFor state.new seat }
+    ensures taken { (taken : List JobFacts) → HasTaken taken state.old → HasTaken taken state.new }
+    ensures some { IfOk result (λ picked. IfSome picked (λ task. HasChosen state.new (λ c. IsPicked c.stage) × (chosen_task state.new.chosen ≡ Some task))) }
+    ensures none { IfOk result (λ picked. IfNone picked (state.new.chosen ≡ None)) }
+    ensures free { OnErr result (state.new.chosen ≡ None) }
+    ensures err { IfErr result IsRunFault }
 {
     state.choose(book.levels())
 }
@@ -103,13 +121,13 @@ fn start_one(
     held: &mut TakenState,
     worker: u32,
     book: &BookLock,
-    open: OpenBook,
+    taken: OpenBook,
 ) -> Result<(), ExecFault>
     requires picked { HasChosen held.old.state (λ c. IsPicked c.stage) }
-    requires open { IsAsTaken book.now open.seat open.book.value }
-    requires seat { IsSeatOf book.now (seat_of book.now open.seat.knows) }
+    requires untouched { IsAsTaken book.now taken.seat taken.book.value }
+    requires seat { IsSeatOf book.now (seat_of book.now taken.seat.knows) }
     requires script { book.now.script ≡ held.old.state.script }
-    requires known { IsSeatFor held.old.state (seat_of book.now open.seat.knows) }
+    requires known { IsSeatFor held.old.state (seat_of book.now taken.seat.knows) }
     ensures same { (held.new.taker ≡ held.old.taker) × (site_of book.now.id held.new.state ≡ site_of book.now.id held.old.state) }
     ensures seat { IsSeatOf book.now held.new.seat }
     ensures known { IsSeatFor held.new.state held.new.seat }
@@ -120,7 +138,7 @@ fn start_one(
 {
     start_loses_none();
     refusal_loses_none();
-    held.state.start_locked(worker, book, &mut held.seat, open)
+    held.state.start_locked(worker, book, &mut held.seat, taken)
 }
 
 // Chooses the job that runs next, and begins its turn, by one lock of the book. None where no job is ready.
@@ -148,20 +166,20 @@ where
     ensures free { OnErr result (held.new.state.chosen ≡ None) }
     ensures err { IfErr result IsRunFault }
 {
-    let mut open = book.lock(rt, &mut held.seat);
-    match choose_in(&mut held.state, &mut open.book) {
+    let mut taken = take_book(rt, held, book);
+    match choose_one(&mut held.state, &mut taken.book) {
         Ok(Some(task)) => {
-            let begun = start_one(held, worker, book, open);
+            let begun = start_one(held, worker, book, taken);
             gate.at(Moment::Chose(executor, worker, task));
             begun?;
             Ok(Some(task))
         }
         Ok(None) => {
-            book.leave(&mut held.seat, open);
+            book.leave(&mut held.seat, taken);
             Ok(None)
         }
         Err(fault) => {
-            book.leave(&mut held.seat, open);
+            book.leave(&mut held.seat, taken);
             Err(fault)
         }
     }

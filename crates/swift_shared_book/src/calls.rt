@@ -44,19 +44,18 @@ impl BookLock {
     pub fn begin(
         &self,
         seat: &mut BookSeat,
-        open: OpenBook,
+        mut taken: OpenBook,
         job: &Job<Body>,
     ) -> Result<Env, BookFault>
-        requires open { IsAsTaken self.now open.seat open.book.value }
+        requires untouched { IsAsTaken self.now taken.seat taken.book.value }
         requires job { job.now.body.script ≡ self.now.script }
-        requires ticket { HasTicket (job_facts job.now) open.seat.knows.tickets }
-        ensures ok { IfOk result (λ env. BeginsTicket (job_facts job.now) env open.seat.knows seat.new.knows) }
-        ensures given { IfOk result (λ env. IsEnv (root_count open.book.value.script) job.now.task open.book.value.log env) }
+        requires ticket { HasTicket (job_facts job.now) taken.seat.knows.tickets }
+        ensures ok { IfOk result (λ env. BeginsTicket (job_facts job.now) env taken.seat.knows seat.new.knows) }
+        ensures given { IfOk result (λ env. IsEnv (root_count taken.book.value.script) job.now.task taken.book.value.log env) }
         ensures lock { (seat.new.lock ≡ self.now.id) × (seat.new.here ≡ true) }
-        ensures err { OnErr result (seat.new ≡ seat_of self.now open.seat.knows) }
-        ensures refused { MatchResult result (λ _. refusal_of_begin open.book.value.script open.book.value.log job.now ≡ None) (IsRefusal (refusal_of_begin open.book.value.script open.book.value.log job.now)) }
+        ensures err { OnErr result (seat.new ≡ seat_of self.now taken.seat.knows) }
+        ensures refused { MatchResult result (λ _. refusal_of_begin taken.book.value.script taken.book.value.log job.now ≡ None) (IsRefusal (refusal_of_begin taken.book.value.script taken.book.value.log job.now)) }
     {
-        let mut taken = open;
         match taken.book.begin_known(job) {
             Ok(env) => {
                 self.give_begun::<Brand>(seat, taken, job, env);

@@ -19,10 +19,10 @@ begin_locked-requires g c =
     let s : ExecStateView = record { script = x.home.script; executor = x.home.executor; ready = x.ready; chosen = chosen_of x.played x.chosen; journal = x.journal; checkpoint = x.checkpoint.view; fields = x.played.fields.before } in
     let has : HasChosen s (λ c. IsPicked c.stage) = subst (λ (v : ExecStateView). HasChosen v (λ c. IsPicked c.stage)) (sym c.self.view_is) c.requires.picked in
     let was : IsChosen s has.0 = subst (λ (o : Option ChosenView). IfSome o (IsChosen s)) has.1 c.self.invariant.chosen in
-    let seat = seat_of c.args.book.now c.args.open.seat.knows in
+    let seat = seat_of c.args.book.now c.args.taken.seat.knows in
     let known : IsSeatFor s seat = subst (λ (v : ExecStateView). IsSeatFor v seat) (sym c.self.view_is) c.requires.known in
     record {
-      open = c.requires.open;
+      untouched = c.requires.untouched;
       job = (
         has.0.job,
         (seen x.played x.chosen.arrival x.chosen.stage x.chosen.job has.0 has.1).job,
@@ -71,7 +71,7 @@ returns-in-Ok-clause-known g c =
     let at : s.chosen ≡ Some chosen = ap (chosen_at x.played x.chosen.arrival x.chosen.stage) h.1 in
     let has : HasChosen s (λ c. IsPicked c.stage) = subst (λ (v : ExecStateView). HasChosen v (λ c. IsPicked c.stage)) (sym c.self.view_is) c.requires.picked in
     let was : IsPicked chosen.stage = subst (λ (v : ChosenView). IsPicked v.stage) (same_Some has.0 chosen (sym has.1 ∙ at)) has.2 in
-    let seat = seat_of c.args.book.now c.args.open.seat.knows in
+    let seat = seat_of c.args.book.now c.args.taken.seat.knows in
     let known : IsSeatFor s seat = subst (λ (v : ExecStateView). IsSeatFor v seat) (sym c.self.view_is) c.requires.known in
     let new : chosen_of x.played c.begin_locked.new.chosen ≡ Some (record chosen { stage = begun c.args.worker h.2.env }) =
     ap (chosen_of x.played) h.2.new_is ∙ ap (chosen_at x.played x.chosen.arrival (Begun c.args.worker h.2.env)) h.1 in
@@ -115,7 +115,7 @@ returns-in-Err-clause-known g c =
     let s : ExecStateView = record { script = x.home.script; executor = x.home.executor; ready = x.ready; chosen = chosen_of x.played x.chosen; journal = x.journal; checkpoint = x.checkpoint.view; fields = x.played.fields.before } in
     let same : record s { chosen = chosen_of x.played c.begin_locked.new.chosen } ≡ c.args.self.now = ap (λ (o : Chosen). record s { chosen = chosen_of x.played o }) c.in-Err.ensures.err.0 ∙ c.self.view_is in
     let back = subst (λ (v : ExecStateView). HasChosen v (PutsBack v c.put_back.new.self)) same c.put_back.ensures in
-    subst (λ seat. IsSeatFor c.put_back.new.self seat) (sym c.in-Err.ensures.err.1) (back_knows c.args.self.now c.put_back.new.self (seat_of c.args.book.now c.args.open.seat.knows) c.requires.known back)
+    subst (λ seat. IsSeatFor c.put_back.new.self seat) (sym c.in-Err.ensures.err.1) (back_knows c.args.self.now c.put_back.new.self (seat_of c.args.book.now c.args.taken.seat.knows) c.requires.known back)
 
 pub returns-in-Err-clause-back : goal.returns-in-Err-clause-back
 returns-in-Err-clause-back g c =

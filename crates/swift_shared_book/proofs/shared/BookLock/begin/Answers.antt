@@ -6,8 +6,8 @@ use Rattle.swift_shared_book.proofs.shared.BookLock.begin.Goals as goal
 
 pub give_begun-requires-clause-gives : goal.give_begun-requires-clause-gives
 give_begun-requires-clause-gives g c =
-    let s = c.args.open.seat in
+    let s = c.args.taken.seat in
     let b = c.deref_mut.result.now in
-    let same : c.args.open.book.value ≡ b = search rules in
-    begins s.taken s.knows b c.begin_known.new.self c.args.job.now c.in-Ok.env (c.requires.open.2 ∙ ap (λ (x : BookView). Some (facts_of x)) same) c.requires.ticket c.in-Ok.ensures.refused c.in-Ok.ensures.env
+    let same : c.args.taken.book.value ≡ b = search rules in
+    begins s.taken s.knows b c.begin_known.new.self c.args.job.now c.in-Ok.env (c.requires.untouched.2 ∙ ap (λ (x : BookView). Some (facts_of x)) same) c.requires.ticket c.in-Ok.ensures.refused c.in-Ok.ensures.env
     c.in-Ok.ensures.ok
