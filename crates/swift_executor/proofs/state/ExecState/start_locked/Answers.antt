@@ -14,7 +14,7 @@ use Rattle.swift_executor.proofs.StateKept.{stage_keeps, stage_picked}
 use Rattle.swift_executor.proofs.state.ExecState.start_locked.Goals as goal
 
 pub begin_locked-requires : goal.begin_locked-requires
-begin_locked-requires g c =
+begin_locked-requires c =
     let x = c.self.inside in
     let s : ExecStateView = record { script = x.home.script; executor = x.home.executor; ready = x.ready; chosen = chosen_of x.played x.chosen; journal = x.journal; checkpoint = x.checkpoint.view; fields = x.played.fields.before } in
     let has : HasChosen s (λ c. IsPicked c.stage) = subst (λ (v : ExecStateView). HasChosen v (λ c. IsPicked c.stage)) (sym c.self.view_is) c.requires.picked in
@@ -31,7 +31,7 @@ begin_locked-requires g c =
     }
 
 pub invariant_of-self : goal.invariant_of-self
-invariant_of-self g c =
+invariant_of-self c =
     let x = c.self.inside in
     let s : ExecStateView = record { script = x.home.script; executor = x.home.executor; ready = x.ready; chosen = chosen_of x.played x.chosen; journal = x.journal; checkpoint = x.checkpoint.view; fields = x.played.fields.before } in
     let h = c.in-Ok.ensures.ok in
@@ -44,26 +44,26 @@ invariant_of-self g c =
     (stage_keeps s chosen (record chosen { stage = begun c.args.worker h.2.env }) c.self.invariant at was.belongs refl refl tt)
 
 pub invariant_of-self-in-Err : goal.invariant_of-self-in-Err
-invariant_of-self-in-Err g c =
+invariant_of-self-in-Err c =
     let x = c.self.inside in
     let s : ExecStateView = record { script = x.home.script; executor = x.home.executor; ready = x.ready; chosen = chosen_of x.played x.chosen; journal = x.journal; checkpoint = x.checkpoint.view; fields = x.played.fields.before } in
     subst (λ (o : Chosen). ExecInvariant (record s { chosen = chosen_of x.played o })) (sym c.in-Err.ensures.err.0) c.self.invariant
 
 pub put_back-requires : goal.put_back-requires
-put_back-requires g c =
+put_back-requires c =
     let x = c.self.inside in
     let s : ExecStateView = record { script = x.home.script; executor = x.home.executor; ready = x.ready; chosen = chosen_of x.played x.chosen; journal = x.journal; checkpoint = x.checkpoint.view; fields = x.played.fields.before } in
     let has : HasChosen s (λ c. IsPicked c.stage) = subst (λ (v : ExecStateView). HasChosen v (λ c. IsPicked c.stage)) (sym c.self.view_is) c.requires.picked in
     (has.0, ap (chosen_of x.played) c.in-Err.ensures.err.0 ∙ has.1, tt)
 
 pub returns-in-Ok-clause-seat : goal.returns-in-Ok-clause-seat
-returns-in-Ok-clause-seat g c =
+returns-in-Ok-clause-seat c =
     let h = c.in-Ok.ensures.ok in
     let t = h.2.ticket in
     (c.in-Ok.ensures.seat.0, c.in-Ok.ensures.seat.1, ap (λ v. v.script) t.4 ∙ c.requires.seat.2)
 
 pub returns-in-Ok-clause-known : goal.returns-in-Ok-clause-known
-returns-in-Ok-clause-known g c =
+returns-in-Ok-clause-known c =
     let x = c.self.inside in
     let s : ExecStateView = record { script = x.home.script; executor = x.home.executor; ready = x.ready; chosen = chosen_of x.played x.chosen; journal = x.journal; checkpoint = x.checkpoint.view; fields = x.played.fields.before } in
     let h = c.in-Ok.ensures.ok in
@@ -79,7 +79,7 @@ returns-in-Ok-clause-known g c =
     (began_knows s chosen c.args.worker h.2.env seat c.begin_locked.new.seat known at (stage_picked chosen.stage was) h.2.ticket c.in-Ok.ensures.seat.1)
 
 pub returns-in-Ok-clause-ok : goal.returns-in-Ok-clause-ok
-returns-in-Ok-clause-ok g c =
+returns-in-Ok-clause-ok c =
     let x = c.self.inside in
     let s : ExecStateView = record { script = x.home.script; executor = x.home.executor; ready = x.ready; chosen = chosen_of x.played x.chosen; journal = x.journal; checkpoint = x.checkpoint.view; fields = x.played.fields.before } in
     let h = c.in-Ok.ensures.ok in
@@ -110,7 +110,7 @@ returns-in-Ok-clause-ok g c =
     })
 
 pub returns-in-Err-clause-known : goal.returns-in-Err-clause-known
-returns-in-Err-clause-known g c =
+returns-in-Err-clause-known c =
     let x = c.self.inside in
     let s : ExecStateView = record { script = x.home.script; executor = x.home.executor; ready = x.ready; chosen = chosen_of x.played x.chosen; journal = x.journal; checkpoint = x.checkpoint.view; fields = x.played.fields.before } in
     let same : record s { chosen = chosen_of x.played c.begin_locked.new.chosen } ≡ c.args.self.now = ap (λ (o : Chosen). record s { chosen = chosen_of x.played o }) c.in-Err.ensures.err.0 ∙ c.self.view_is in
@@ -118,7 +118,7 @@ returns-in-Err-clause-known g c =
     subst (λ seat. IsSeatFor c.put_back.new.self seat) (sym c.in-Err.ensures.err.1) (back_knows c.args.self.now c.put_back.new.self (seat_of c.args.book.now c.args.taken.seat.knows) c.requires.known back)
 
 pub returns-in-Err-clause-back : goal.returns-in-Err-clause-back
-returns-in-Err-clause-back g c =
+returns-in-Err-clause-back c =
     let x = c.self.inside in
     let s : ExecStateView = record { script = x.home.script; executor = x.home.executor; ready = x.ready; chosen = chosen_of x.played x.chosen; journal = x.journal; checkpoint = x.checkpoint.view; fields = x.played.fields.before } in
     let same : record s { chosen = chosen_of x.played c.begin_locked.new.chosen } ≡ c.args.self.now = ap (λ (o : Chosen). record s { chosen = chosen_of x.played o }) c.in-Err.ensures.err.0 ∙ c.self.view_is in

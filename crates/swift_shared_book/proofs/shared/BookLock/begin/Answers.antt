@@ -5,7 +5,7 @@ use Rattle.swift_shared_book.proofs.RuleKept.{begins}
 use Rattle.swift_shared_book.proofs.shared.BookLock.begin.Goals as goal
 
 pub give_begun-requires-clause-gives : goal.give_begun-requires-clause-gives
-give_begun-requires-clause-gives g c =
+give_begun-requires-clause-gives c =
     let s = c.args.taken.seat in
     let b = c.deref_mut.result.now in
     let same : c.args.taken.book.value ≡ b = search rules in
