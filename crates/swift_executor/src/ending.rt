@@ -1,10 +1,10 @@
 //! A turn that begins, and one that ends, where threads share the book.
 
-ghost use Rattle.std.specs.Prelude.{◌≡◌, None, Some, map, IfErr, IfOk, OnErr, OnOk};
+ghost use Rattle.std.specs.Prelude.{◌≡◌, true, None, Some, map, IfErr, IfOk, OnErr, OnOk};
 ghost use Rattle.std.specs.List.{AllByRecursion};
 ghost use Rattle.swift_interpreter.specs.Frames.{effect_views};
 ghost use Rattle.swift_interpreter.specs.TurnStates.{exit_view};
-ghost use Rattle.swift_shared_book.specs.Shared.{BeginsTicket, HasPlayed, HasTicket, IsSeatOf, after_turn, knowing, newest};
+ghost use Rattle.swift_shared_book.specs.Shared.{BeginsTicket, HasPlayed, HasTicket, IsAsTaken, IsSeatOf, after_turn, knowing, newest, seat_of};
 ghost use Rattle.swift_tasks.specs.Books.{IsJobOf};
 ghost use Rattle.swift_history.specs.Jobs.{job_facts};
 ghost use Rattle.swift_turn.specs.Body.{IsRunning};
@@ -23,29 +23,29 @@ use std::sync::Wait;
 use swift_job::Job;
 use swift_journal::Journal;
 use swift_journal::laws::{invariants_stay, lawful_grows};
-use swift_shared_book::{BookLock, BookSeat, TicketedJobs};
+use swift_shared_book::{BookLock, BookSeat, OpenBook, TicketedJobs};
 use swift_tasks::BookFault;
 use swift_turn::Body;
 use swift_types::TaskId;
 
-// Locks the book, and begins the turn of a job that was picked, by its ticket.
-fn begin_locked<R: Wait>(
-    rt: &R,
+// Begins the turn of a job that was picked, by its ticket, in a book that was taken, and gives the book back.
+fn begin_locked(
     chosen: &mut Chosen,
     worker: u32,
     book: &BookLock,
     seat: &mut BookSeat,
+    taken: OpenBook,
 ) -> Result<(), BookFault>
-    requires seat { IsSeatOf book.now seat.old }
-    requires job { HasJob chosen.old.job (λ j. (j.body.script ≡ book.now.script) × HasTicket (job_facts j) seat.old.knows.tickets) }
-    ensures ok { OnOk result (HasJob chosen.old.job (BeginsShared book.now.script worker chosen.old chosen.new seat.old.knows seat.new.knows)) }
-    ensures seat { (seat.new.lock ≡ seat.old.lock) × (seat.new.here ≡ seat.old.here) }
-    ensures err { OnErr result ((chosen.new ≡ chosen.old) × (seat.new ≡ seat.old)) }
+    requires untouched { IsAsTaken book.now taken.seat taken.book.value }
+    requires job { HasJob chosen.old.job (λ j. (j.body.script ≡ book.now.script) × HasTicket (job_facts j) taken.seat.knows.tickets) }
+    ensures ok { OnOk result (HasJob chosen.old.job (BeginsShared book.now.script worker chosen.old chosen.new taken.seat.knows seat.new.knows)) }
+    ensures seat { (seat.new.lock ≡ book.now.id) × (seat.new.here ≡ true) }
+    ensures err { OnErr result ((chosen.new ≡ chosen.old) × (seat.new ≡ seat_of book.now taken.seat.knows)) }
 {
     let Some(job) = &chosen.job else {
         unreachable!()
     };
-    match book.begin(rt, seat, job) {
+    match book.begin(seat, taken, job) {
         Ok(env) => {
             chosen.stage = ChosenStage::Begun(worker, env);
             Ok(())
@@ -94,25 +94,26 @@ fn apply_locked<R: Wait>(
 }
 
 impl ExecState {
-    /// `start` where threads share the book: its lock is held only while it begins the turn.
-    pub(crate) fn start_locked<R: Wait>(
+    /// `start` where threads share the book, which was taken, so that its lock is not taken anew after `choose`. It is given back.
+    pub(crate) fn start_locked(
         &mut self,
-        rt: &R,
         worker: u32,
         book: &BookLock,
         seat: &mut BookSeat,
+        taken: OpenBook,
     ) -> Result<(), ExecFault>
         requires picked { HasChosen self.old (λ c. IsPicked c.stage) }
-        requires seat { IsSeatOf book.now seat.old }
+        requires untouched { IsAsTaken book.now taken.seat taken.book.value }
+        requires seat { IsSeatOf book.now (seat_of book.now taken.seat.knows) }
         requires script { book.now.script ≡ self.old.script }
-        requires known { IsSeatFor self.old seat.old }
+        requires known { IsSeatFor self.old (seat_of book.now taken.seat.knows) }
         ensures seat { IsSeatOf book.now seat.new }
         ensures known { IsSeatFor self.new seat.new }
         ensures ok { OnOk result (BeginsTurn worker self.old self.new) }
         ensures back { OnErr result (HasChosen self.old (PutsBack self.old self.new)) }
         ensures refused { IfErr result IsRunFault }
     {
-        match begin_locked(rt, &mut self.chosen, worker, book, seat) {
+        match begin_locked(&mut self.chosen, worker, book, seat, taken) {
             Ok(()) => Ok(()),
             Err(fault) => {
                 self.put_back();

@@ -1,15 +1,17 @@
 //! A visit of a worker to an executor.
 
-ghost use Rattle.std.specs.Prelude.{◌≡◌, ◌<◌, ◌↔◌, ◌⊎◌, None, Some, Err, false, map, IfOk, IfErr, IfSome, IfNone, IsSome, IsSomeAnd, OnOk, OnErr};
+ghost use Rattle.std.specs.Prelude.{◌≡◌, ◌<◌, ◌↔◌, ◌⊎◌, List, None, Some, Err, false, map, IfOk, IfErr, IfSome, IfNone, IsSome, IsSomeAnd, OnOk, OnErr};
 ghost use Rattle.std.specs.List.{AllByRecursion};
 ghost use Rattle.futures.specs.Task.{Keeps};
 ghost use Rattle.swift_script.specs.Scripts.{executor_kind};
 ghost use Rattle.swift_tasks.specs.Books.{IsJobOf};
+ghost use Rattle.atomic_table.specs.Seated.{TableId};
 ghost use Rattle.swift_history.specs.Jobs.{job_facts};
+ghost use Rattle.swift_history.specs.TurnEnds.{JobFacts};
 ghost use Rattle.swift_executor.specs.Account.{HasTaken};
 ghost use Rattle.swift_executor.specs.Exec.{IfNoTurn, IfTurn, IsMadeBy, chosen_task, IsAt, IsBookOf, IsDeskOf, IsRunFault, IsSeatAt, after_run, may_run, seat_after, site_of};
 ghost use Rattle.swift_executor.specs.Seats.{IsSeatFor};
-ghost use Rattle.swift_shared_book.specs.Shared.{IsSeatOf};
+ghost use Rattle.swift_shared_book.specs.Shared.{BookSeatView, IsAsTaken, IsSeatOf, seat_of};
 ghost use Rattle.swift_word.specs.Seat.{ended, left};
 ghost use Rattle.swift_executor.specs.State.{HasChosen, IsBegun, IsPicked, IsPlayed};
 
@@ -23,10 +25,12 @@ use crate::laws::{
 };
 use crate::ran::VisitOutcome;
 use crate::resting::{Resting, TakenState};
+use crate::state::ExecState;
 use futures::task::Context;
 use std::sync::Wait;
 use swift_inbox::Inbox;
-use swift_shared_book::{BookLock, TicketedJobs};
+use swift_shared_book::{BookLock, OpenBook, TicketedJobs};
+use swift_tasks::Book;
 use swift_types::{ExecId, ExecutorKind, TaskId};
 use swift_word::{Begun, PendingLeft, WordSeat};
 
@@ -85,41 +89,45 @@ fn accept_all<R: Wait>(rt: &R, inbox: &Inbox, held: &mut TakenState, book: &Book
     }
 }
 
-// Chooses the job that runs next.
-fn choose_one<R: Wait>(
-    rt: &R,
-    held: &mut TakenState,
-    book: &BookLock,
-) -> Result<Option<TaskId>, ExecFault>
-    requires free { held.old.state.chosen ≡ None }
+// Takes the book by the executor's seat.
+fn take_book<R: Wait>(rt: &R, held: &mut TakenState, book: &BookLock) -> OpenBook
     requires seat { IsSeatOf book.now held.old.seat }
     requires known { IsSeatFor held.old.state held.old.seat }
-    ensures same { (held.new.taker ≡ held.old.taker) × (site_of book.now.id held.new.state ≡ site_of book.now.id held.old.state) }
-    ensures seat { IsSeatOf book.now held.new.seat }
-    ensures known { IsSeatFor held.new.state held.new.seat }
-    ensures taken { HasTaken held.old.taker.taken held.old.state → HasTaken held.new.taker.taken held.new.state }
-    ensures some { IfOk result (λ picked. IfSome picked (λ task. HasChosen held.new.state (λ c. IsPicked c.stage) × (chosen_task held.new.state.chosen ≡ Some task))) }
-    ensures none { IfOk result (λ picked. IfNone picked (held.new.state.chosen ≡ None)) }
-    ensures free { OnErr result (held.new.state.chosen ≡ None) }
-    ensures err { IfErr result IsRunFault }
+    ensures untouched { IsAsTaken book.now result.seat result.book.value }
+    ensures seat { IsSeatOf book.now (seat_of book.now result.seat.knows) }
+    ensures known { IsSeatFor held.new.state (seat_of book.now result.seat.knows) }
+    ensures same { (held.new.taker ≡ held.old.taker) × (held.new.state ≡ held.old.state) }
 {
-    let mut open = book.lock(rt, &mut held.seat);
-    let picked = held.state.choose(open.book.levels());
-    book.leave(&mut held.seat, open);
-    picked
+    book.lock(rt, &mut held.seat)
 }
 
-// Begins the turn of the chosen job.
-fn start_one<R: Wait>(
-    rt: &R,
+// Chooses the job that runs next, by the levels of a book.
+fn choose_one(state: &mut ExecState, book: &mut Book) -> Result<Option<TaskId>, ExecFault>
+    requires free { state.old.chosen ≡ None }
+    ensures book { book.new ≡ book.old }
+    ensures same { (lock : TableId) → site_of lock state.new ≡ site_of lock state.old }
+    ensures known { (seat : BookSeatView) → IsSeatFor state.old seat → IsSeatFor state.new seat }
+    ensures taken { (taken : List JobFacts) → HasTaken taken state.old → HasTaken taken state.new }
+    ensures some { IfOk result (λ picked. IfSome picked (λ task. HasChosen state.new (λ c. IsPicked c.stage) × (chosen_task state.new.chosen ≡ Some task))) }
+    ensures none { IfOk result (λ picked. IfNone picked (state.new.chosen ≡ None)) }
+    ensures free { OnErr result (state.new.chosen ≡ None) }
+    ensures err { IfErr result IsRunFault }
+{
+    state.choose(book.levels())
+}
+
+// Begins the turn of the chosen job in a book that was taken, and gives the book back.
+fn start_one(
     held: &mut TakenState,
     worker: u32,
     book: &BookLock,
+    taken: OpenBook,
 ) -> Result<(), ExecFault>
     requires picked { HasChosen held.old.state (λ c. IsPicked c.stage) }
-    requires seat { IsSeatOf book.now held.old.seat }
+    requires untouched { IsAsTaken book.now taken.seat taken.book.value }
+    requires seat { IsSeatOf book.now (seat_of book.now taken.seat.knows) }
     requires script { book.now.script ≡ held.old.state.script }
-    requires known { IsSeatFor held.old.state held.old.seat }
+    requires known { IsSeatFor held.old.state (seat_of book.now taken.seat.knows) }
     ensures same { (held.new.taker ≡ held.old.taker) × (site_of book.now.id held.new.state ≡ site_of book.now.id held.old.state) }
     ensures seat { IsSeatOf book.now held.new.seat }
     ensures known { IsSeatFor held.new.state held.new.seat }
@@ -130,7 +138,51 @@ fn start_one<R: Wait>(
 {
     start_loses_none();
     refusal_loses_none();
-    held.state.start_locked(rt, worker, book, &mut held.seat)
+    held.state.start_locked(worker, book, &mut held.seat, taken)
+}
+
+// Chooses the job that runs next, and begins its turn, by one lock of the book. None where no job is ready.
+fn begin_one<R, G>(
+    rt: &R,
+    held: &mut TakenState,
+    executor: ExecId,
+    worker: u32,
+    book: &BookLock,
+    gate: &G,
+) -> Result<Option<TaskId>, ExecFault>
+where
+    R: Wait,
+    G: Gate,
+    requires free { held.old.state.chosen ≡ None }
+    requires seat { IsSeatOf book.now held.old.seat }
+    requires script { book.now.script ≡ held.old.state.script }
+    requires known { IsSeatFor held.old.state held.old.seat }
+    ensures same { (held.new.taker ≡ held.old.taker) × (site_of book.now.id held.new.state ≡ site_of book.now.id held.old.state) }
+    ensures seat { IsSeatOf book.now held.new.seat }
+    ensures known { IsSeatFor held.new.state held.new.seat }
+    ensures taken { HasTaken held.old.taker.taken held.old.state → HasTaken held.new.taker.taken held.new.state }
+    ensures some { IfOk result (λ picked. IfSome picked (λ task. HasChosen held.new.state (λ c. IsBegun c.stage) × (chosen_task held.new.state.chosen ≡ Some task))) }
+    ensures none { IfOk result (λ picked. IfNone picked (held.new.state.chosen ≡ None)) }
+    ensures free { OnErr result (held.new.state.chosen ≡ None) }
+    ensures err { IfErr result IsRunFault }
+{
+    let mut taken = take_book(rt, held, book);
+    match choose_one(&mut held.state, &mut taken.book) {
+        Ok(Some(task)) => {
+            let begun = start_one(held, worker, book, taken);
+            gate.at(Moment::Chose(executor, worker, task));
+            begun?;
+            Ok(Some(task))
+        }
+        Ok(None) => {
+            book.leave(&mut held.seat, taken);
+            Ok(None)
+        }
+        Err(fault) => {
+            book.leave(&mut held.seat, taken);
+            Err(fault)
+        }
+    }
 }
 
 // Plays the turn that has begun.
@@ -209,15 +261,9 @@ where
     ensures err { IfErr result IsRunFault }
     ensures kept { Keeps cx.old cx.new }
 {
-    let Some(task) = choose_one(rt, held, book)? else {
+    let Some(task) = begin_one(rt, held, executor, worker, book, gate)? else {
         return Ok(None);
     };
-    gate.at(Moment::Chose {
-        executor,
-        worker,
-        task,
-    });
-    start_one(rt, held, worker, book)?;
     play_one(held, cx)?;
     end_one(rt, held, book, jobs)?;
     gate.at(Moment::Turned {
@@ -299,8 +345,8 @@ impl Exec {
     }
 
     /// Visits the executor (SE-0306): a worker takes its state, makes the jobs ready that are in the inbox, and runs a turn of the
-    /// one that comes first (`ExecState::choose`), where a job is pending. The book is locked while that job is chosen, while its turn
-    /// begins and while it is journalled, and not while it is played. The jobs that the turn makes come behind those that `jobs` has, with
+    /// one that comes first (`ExecState::choose`), where a job is pending. The book is locked while that job is chosen and its turn
+    /// begins, and while it is journalled, and not while it is played. The jobs that the turn makes come behind those that `jobs` has, with
     /// their tickets; they are of an equal script and their bodies have not ended. `Busy` where another worker holds the executor.
     ///
     /// The book is the executor's own: it is of the same script, so no scripts are compared, and the seat in the state knows the turns

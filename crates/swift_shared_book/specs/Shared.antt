@@ -11,7 +11,8 @@ use Rattle.swift_known.specs.Views.{Account, BookFacts, BookKnown, Ticket, fresh
 use Rattle.swift_known.specs.declared.known.BookImage.{BookImage}
 use Rattle.swift_known.specs.declared.known.Known.{Known}
 use Rattle.swift_course.specs.Steps.{knowing_begin, with_record}
-use Rattle.swift_book_steps.specs.Calls.{IsPlayed}
+use Rattle.swift_book_steps.specs.Calls.{IsPlayed, facts_of}
+use Rattle.swift_tasks.specs.Books.{BookView}
 use Rattle.swift_history.specs.Jobs.{job_facts}
 
 -- which lock it is, and the script of its book
@@ -55,6 +56,10 @@ knowing v s = record s { knows = v }
 -- The seat is of this lock, is there, and knows the script.
 abbrev pub IsSeatOf : BookLockView → BookSeatView → Type 0
 IsSeatOf l s = (s.lock ≡ l.id) × (s.here ≡ true) × (s.knows.script ≡ Some l.script)
+
+-- the book was taken from this lock, and is as it was then
+abbrev pub IsAsTaken : BookLockView → OpenSeatView → BookView → Type 0
+IsAsTaken l s b = (s.lock ≡ l.id) × (b.script ≡ l.script) × (s.taken ≡ Some (facts_of b))
 
 -- there is a ticket for this job, and these are the others, in some order
 abbrev pub HasTicket : JobFacts → List Ticket → Type 0

@@ -14,9 +14,10 @@ ghost use Rattle.swift_known.specs.Views.{Maker};
 ghost use Rattle.swift_tasks.specs.Books.{BookView, IsEndOf, IsJobOf};
 ghost use Rattle.swift_history.specs.Jobs.{job_facts};
 ghost use Rattle.swift_tasks.specs.Refusals.{IsRefusal, refusal_of_apply, refusal_of_begin, refusal_of_root};
-ghost use Rattle.swift_shared_book.specs.Shared.{BeginsTicket, HasPlayed, HasTicket, IsSeatOf, after_turn, knowing, newest};
+ghost use Rattle.swift_shared_book.specs.Shared.{BeginsTicket, HasPlayed, HasTicket, IsSeatOf, IsAsTaken, after_turn, knowing, newest, seat_of};
 
 use crate::jobs::{TicketedJobs, turn};
+use crate::opened::OpenBook;
 use crate::seat::BookSeat;
 use crate::shared::BookLock;
 use std::marker::Brand;
@@ -37,25 +38,24 @@ fn jobs_from(jobs: &Vec<Job<Body>>, from: usize) -> &[Job<Body>]
 }
 
 impl BookLock {
-    /// Begins the turn of a job, whose ticket the seat has: its environment comes back, and the ticket then says so, and comes first
-    /// (SE-0304). The refusals are those of `Book::begin`, and leave seat and book as they were. It takes the book once.
-    pub fn begin<R: Wait>(
+    /// Begins the turn of a job in a book that was taken, and gives the book back. The seat by which it was taken has the job's ticket:
+    /// the environment comes back, and the ticket then says so, and comes first (SE-0304). The refusals are those of `Book::begin`, and
+    /// give the book back as it was. So whoever has asked the book something takes it once for both.
+    pub fn begin(
         &self,
-        rt: &R,
         seat: &mut BookSeat,
+        mut taken: OpenBook,
         job: &Job<Body>,
     ) -> Result<Env, BookFault>
-        requires seat { IsSeatOf self.now seat.old }
+        requires untouched { IsAsTaken self.now taken.seat taken.book.value }
         requires job { job.now.body.script ≡ self.now.script }
-        requires ticket { HasTicket (job_facts job.now) seat.old.knows.tickets }
-        ensures ok { IfOk result (λ env. BeginsTicket (job_facts job.now) env seat.old.knows seat.new.knows) }
-        ensures given { IfOk result (λ env. (b : BookView) × (b.script ≡ self.now.script) × IsEnv (root_count b.script) job.now.task b.log env) }
-        ensures lock { (seat.new.lock ≡ seat.old.lock) × (seat.new.here ≡ true) }
-        ensures err { OnErr result (seat.new ≡ seat.old) }
-        ensures refused { MatchResult result (λ _. (b : BookView) × (b.script ≡ self.now.script) × (refusal_of_begin b.script b.log job.now ≡ None))
-            (λ fault. (b : BookView) × (b.script ≡ self.now.script) × IsRefusal (refusal_of_begin b.script b.log job.now) fault) }
+        requires ticket { HasTicket (job_facts job.now) taken.seat.knows.tickets }
+        ensures ok { IfOk result (λ env. BeginsTicket (job_facts job.now) env taken.seat.knows seat.new.knows) }
+        ensures given { IfOk result (λ env. IsEnv (root_count taken.book.value.script) job.now.task taken.book.value.log env) }
+        ensures lock { (seat.new.lock ≡ self.now.id) × (seat.new.here ≡ true) }
+        ensures err { OnErr result (seat.new ≡ seat_of self.now taken.seat.knows) }
+        ensures refused { MatchResult result (λ _. refusal_of_begin taken.book.value.script taken.book.value.log job.now ≡ None) (IsRefusal (refusal_of_begin taken.book.value.script taken.book.value.log job.now)) }
     {
-        let mut taken = self.lock(rt, seat);
         match taken.book.begin_known(job) {
             Ok(env) => {
                 self.give_begun::<Brand>(seat, taken, job, env);

@@ -2,6 +2,7 @@ use Rattle.std.proofs.Common.{◌≡◌, Some, Option, IfSome, ◌++◌, ◌∷�
 use Rattle.std.proofs.lemmas.Option.{same_Some}
 use Rattle.swift_events.specs.declared.event.Event.TheVariants.{Begin as Begins_event}
 use Rattle.swift_tasks.specs.Books.{BookView}
+use Rattle.swift_shared_book.specs.Shared.{seat_of}
 use Rattle.swift_executor.specs.Seats.{IsSeatFor}
 use Rattle.swift_executor.specs.State.{BeginsTurn, ChosenView, ExecStateView, HasChosen, IsChosen, ExecInvariant, IsPicked, PutsBack, begun}
 use Rattle.swift_executor.specs.StateInside.{chosen_at, chosen_of, chosen_view}
@@ -13,23 +14,24 @@ use Rattle.swift_executor.proofs.StateKept.{stage_keeps, stage_picked}
 use Rattle.swift_executor.proofs.state.ExecState.start_locked.Goals as goal
 
 pub begin_locked-requires : goal.begin_locked-requires
-begin_locked-requires g c =
+begin_locked-requires c =
     let x = c.self.inside in
     let s : ExecStateView = record { script = x.home.script; executor = x.home.executor; ready = x.ready; chosen = chosen_of x.played x.chosen; journal = x.journal; checkpoint = x.checkpoint.view; fields = x.played.fields.before } in
     let has : HasChosen s (λ c. IsPicked c.stage) = subst (λ (v : ExecStateView). HasChosen v (λ c. IsPicked c.stage)) (sym c.self.view_is) c.requires.picked in
     let was : IsChosen s has.0 = subst (λ (o : Option ChosenView). IfSome o (IsChosen s)) has.1 c.self.invariant.chosen in
-    let known : IsSeatFor s c.args.seat.now = subst (λ (v : ExecStateView). IsSeatFor v c.args.seat.now) (sym c.self.view_is) c.requires.known in
+    let seat = seat_of c.args.book.now c.args.taken.seat.knows in
+    let known : IsSeatFor s seat = subst (λ (v : ExecStateView). IsSeatFor v seat) (sym c.self.view_is) c.requires.known in
     record {
-      seat = c.requires.seat;
+      untouched = c.requires.untouched;
       job = (
         has.0.job,
         (seen x.played x.chosen.arrival x.chosen.stage x.chosen.job has.0 has.1).job,
-        (was.belongs.script_is ∙ ap (λ (v : ExecStateView). v.script) c.self.view_is ∙ sym c.requires.script, picked_has_ticket s c.args.seat.now has.0 known has.1 (stage_picked has.0.stage has.2)),
+        (was.belongs.script_is ∙ ap (λ (v : ExecStateView). v.script) c.self.view_is ∙ sym c.requires.script, picked_has_ticket s seat has.0 known has.1 (stage_picked has.0.stage has.2)),
       );
     }
 
 pub invariant_of-self : goal.invariant_of-self
-invariant_of-self g c =
+invariant_of-self c =
     let x = c.self.inside in
     let s : ExecStateView = record { script = x.home.script; executor = x.home.executor; ready = x.ready; chosen = chosen_of x.played x.chosen; journal = x.journal; checkpoint = x.checkpoint.view; fields = x.played.fields.before } in
     let h = c.in-Ok.ensures.ok in
@@ -42,26 +44,26 @@ invariant_of-self g c =
     (stage_keeps s chosen (record chosen { stage = begun c.args.worker h.2.env }) c.self.invariant at was.belongs refl refl tt)
 
 pub invariant_of-self-in-Err : goal.invariant_of-self-in-Err
-invariant_of-self-in-Err g c =
+invariant_of-self-in-Err c =
     let x = c.self.inside in
     let s : ExecStateView = record { script = x.home.script; executor = x.home.executor; ready = x.ready; chosen = chosen_of x.played x.chosen; journal = x.journal; checkpoint = x.checkpoint.view; fields = x.played.fields.before } in
     subst (λ (o : Chosen). ExecInvariant (record s { chosen = chosen_of x.played o })) (sym c.in-Err.ensures.err.0) c.self.invariant
 
 pub put_back-requires : goal.put_back-requires
-put_back-requires g c =
+put_back-requires c =
     let x = c.self.inside in
     let s : ExecStateView = record { script = x.home.script; executor = x.home.executor; ready = x.ready; chosen = chosen_of x.played x.chosen; journal = x.journal; checkpoint = x.checkpoint.view; fields = x.played.fields.before } in
     let has : HasChosen s (λ c. IsPicked c.stage) = subst (λ (v : ExecStateView). HasChosen v (λ c. IsPicked c.stage)) (sym c.self.view_is) c.requires.picked in
     (has.0, ap (chosen_of x.played) c.in-Err.ensures.err.0 ∙ has.1, tt)
 
 pub returns-in-Ok-clause-seat : goal.returns-in-Ok-clause-seat
-returns-in-Ok-clause-seat g c =
+returns-in-Ok-clause-seat c =
     let h = c.in-Ok.ensures.ok in
     let t = h.2.ticket in
-    (c.in-Ok.ensures.seat.0 ∙ c.requires.seat.0, c.in-Ok.ensures.seat.1 ∙ c.requires.seat.1, ap (λ v. v.script) t.4 ∙ c.requires.seat.2)
+    (c.in-Ok.ensures.seat.0, c.in-Ok.ensures.seat.1, ap (λ v. v.script) t.4 ∙ c.requires.seat.2)
 
 pub returns-in-Ok-clause-known : goal.returns-in-Ok-clause-known
-returns-in-Ok-clause-known g c =
+returns-in-Ok-clause-known c =
     let x = c.self.inside in
     let s : ExecStateView = record { script = x.home.script; executor = x.home.executor; ready = x.ready; chosen = chosen_of x.played x.chosen; journal = x.journal; checkpoint = x.checkpoint.view; fields = x.played.fields.before } in
     let h = c.in-Ok.ensures.ok in
@@ -69,14 +71,15 @@ returns-in-Ok-clause-known g c =
     let at : s.chosen ≡ Some chosen = ap (chosen_at x.played x.chosen.arrival x.chosen.stage) h.1 in
     let has : HasChosen s (λ c. IsPicked c.stage) = subst (λ (v : ExecStateView). HasChosen v (λ c. IsPicked c.stage)) (sym c.self.view_is) c.requires.picked in
     let was : IsPicked chosen.stage = subst (λ (v : ChosenView). IsPicked v.stage) (same_Some has.0 chosen (sym has.1 ∙ at)) has.2 in
-    let known : IsSeatFor s c.args.seat.now = subst (λ (v : ExecStateView). IsSeatFor v c.args.seat.now) (sym c.self.view_is) c.requires.known in
+    let seat = seat_of c.args.book.now c.args.taken.seat.knows in
+    let known : IsSeatFor s seat = subst (λ (v : ExecStateView). IsSeatFor v seat) (sym c.self.view_is) c.requires.known in
     let new : chosen_of x.played c.begin_locked.new.chosen ≡ Some (record chosen { stage = begun c.args.worker h.2.env }) =
     ap (chosen_of x.played) h.2.new_is ∙ ap (chosen_at x.played x.chosen.arrival (Begun c.args.worker h.2.env)) h.1 in
     subst (λ (o : Option ChosenView). IsSeatFor (record s { chosen = o }) c.begin_locked.new.seat) (sym new)
-    (began_knows s chosen c.args.worker h.2.env c.args.seat.now c.begin_locked.new.seat known at (stage_picked chosen.stage was) h.2.ticket c.in-Ok.ensures.seat.1)
+    (began_knows s chosen c.args.worker h.2.env seat c.begin_locked.new.seat known at (stage_picked chosen.stage was) h.2.ticket c.in-Ok.ensures.seat.1)
 
 pub returns-in-Ok-clause-ok : goal.returns-in-Ok-clause-ok
-returns-in-Ok-clause-ok g c =
+returns-in-Ok-clause-ok c =
     let x = c.self.inside in
     let s : ExecStateView = record { script = x.home.script; executor = x.home.executor; ready = x.ready; chosen = chosen_of x.played x.chosen; journal = x.journal; checkpoint = x.checkpoint.view; fields = x.played.fields.before } in
     let h = c.in-Ok.ensures.ok in
@@ -107,15 +110,15 @@ returns-in-Ok-clause-ok g c =
     })
 
 pub returns-in-Err-clause-known : goal.returns-in-Err-clause-known
-returns-in-Err-clause-known g c =
+returns-in-Err-clause-known c =
     let x = c.self.inside in
     let s : ExecStateView = record { script = x.home.script; executor = x.home.executor; ready = x.ready; chosen = chosen_of x.played x.chosen; journal = x.journal; checkpoint = x.checkpoint.view; fields = x.played.fields.before } in
     let same : record s { chosen = chosen_of x.played c.begin_locked.new.chosen } ≡ c.args.self.now = ap (λ (o : Chosen). record s { chosen = chosen_of x.played o }) c.in-Err.ensures.err.0 ∙ c.self.view_is in
     let back = subst (λ (v : ExecStateView). HasChosen v (PutsBack v c.put_back.new.self)) same c.put_back.ensures in
-    subst (λ seat. IsSeatFor c.put_back.new.self seat) (sym c.in-Err.ensures.err.1) (back_knows c.args.self.now c.put_back.new.self c.args.seat.now c.requires.known back)
+    subst (λ seat. IsSeatFor c.put_back.new.self seat) (sym c.in-Err.ensures.err.1) (back_knows c.args.self.now c.put_back.new.self (seat_of c.args.book.now c.args.taken.seat.knows) c.requires.known back)
 
 pub returns-in-Err-clause-back : goal.returns-in-Err-clause-back
-returns-in-Err-clause-back g c =
+returns-in-Err-clause-back c =
     let x = c.self.inside in
     let s : ExecStateView = record { script = x.home.script; executor = x.home.executor; ready = x.ready; chosen = chosen_of x.played x.chosen; journal = x.journal; checkpoint = x.checkpoint.view; fields = x.played.fields.before } in
     let same : record s { chosen = chosen_of x.played c.begin_locked.new.chosen } ≡ c.args.self.now = ap (λ (o : Chosen). record s { chosen = chosen_of x.played o }) c.in-Err.ensures.err.0 ∙ c.self.view_is in

@@ -12,7 +12,7 @@ unlock-requires-clause-rule g c =
     let s = c.given.inside.0.1.0.seat in
     let j = job_facts c.args.job.now in
     let env = c.args.env in
-    let named = g.K.Begun in
+    let named = g.K.NamesBegun in
     let may =
     subst (λ (o : OpenBook). MayGiveBack o.seat.knows o.seat.taken (facts_of o.book.value) (λ _. BeginsTicket j env o.seat.knows)) (sym c.given.view_is) c.requires.gives
     in

@@ -1,0 +1,10 @@
+use Rattle.std.proofs.Common.{ap, sym, subst, ◌∙◌}
+use Rattle.swift_executor.specs.Seats.{IsSeatFor}
+use Rattle.swift_shared_book.specs.Shared.{seat_of}
+use Rattle.swift_executor.proofs.Visits.{same_seat}
+use Rattle.swift_executor.proofs.run.take_book.Goals as goal
+
+pub returns-clause-known : goal.returns-clause-known
+returns-clause-known g c =
+    let same = ap (λ o. seat_of c.args.book.now o.knows) c.lock.ensures.seat ∙ same_seat _ _ c.requires.seat in
+    subst (λ s. IsSeatFor c.args.held.now.state s) (sym same) c.requires.known
