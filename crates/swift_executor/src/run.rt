@@ -170,7 +170,11 @@ where
     match choose_one(&mut held.state, &mut taken.book) {
         Ok(Some(task)) => {
             let begun = start_one(held, worker, book, taken);
-            gate.at(Moment::Chose(executor, worker, task));
+            gate.at(Moment::Chose {
+                executor,
+                worker,
+                task,
+            });
             begun?;
             Ok(Some(task))
         }
