@@ -1,7 +1,7 @@
 //! The statements of one turn.
 
-ghost use Rattle.std.specs.Prelude.{◌≡◌, IfOk};
-ghost use Rattle.swift_interpreter.specs.Turn.{at_limit, end_of, turn as turn_of};
+ghost use Rattle.std.specs.Prelude.{◌≡◌, true, false, IfOk};
+ghost use Rattle.swift_interpreter.specs.Turn.{act, at_limit, end_of, leaves, turn as turn_of, yielding};
 ghost use Rattle.swift_interpreter.specs.TurnStates.{fields_before, lent, played_of, state_of};
 ghost use Rattle.script_code.specs.Instructions.{FollowsCode, first};
 
@@ -39,12 +39,38 @@ pub fn play<'a>(
             continue;
         }
         settle(instructions, turn);
+        let gave = gives_way(instructions, turn);
+        if gave {
+            return Ok(Exit::Yield);
+        }
         if let Some(exit) = step(alloc, instructions, outer, env, turn, saved)? {
             return Ok(exit);
         }
     }
     settle(instructions, turn);
     Ok(end_of_steps(instructions, turn))
+}
+
+// Does the statement that comes next, if it gives way. Says whether it did; else nothing is done. Most turns end so, and a step costs
+// more than all of this.
+#[inline(always)]
+fn gives_way(instructions: &[Instruction], turn: &mut TurnState) -> bool
+    ensures done { result ≡ true → (g : _) → (code : _) → (at : _) → FollowsCode instructions.now code at
+        → leaves (state_of at turn.new) yielding ≡ act g (first (at turn.old.frame.instruction)) (state_of at turn.old) }
+    ensures other { result ≡ false → turn.new ≡ turn.old }
+    ensures fields { turn.new.fields.items ≡ turn.old.fields.items }
+    ensures method { turn.new.frame.method ≡ turn.old.frame.method }
+{
+    let Some(instruction) = instructions.get(turn.frame.instruction as usize) else {
+        return false;
+    };
+    match instruction.act {
+        Act::Yield => {
+            turn.frame.instruction = instruction.next;
+            true
+        }
+        _ => false,
+    }
 }
 
 // No step is left. The end of the method and the end of a group's block are none.

@@ -207,6 +207,9 @@ pub fn copy_into<T: Copy>(from: &[T], to: &mut Vec<T>) -> Result<(), AllocError>
     ensures { OnOk result (to.new.items ≡ from.now) }
 {
     to.clear();
+    if from.is_empty() {
+        return Ok(());
+    }
     if from.len() > FEW || from.len() > to.capacity() {
         return copy_many(from, to);
     }

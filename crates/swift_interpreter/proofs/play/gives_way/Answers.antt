@@ -1,0 +1,18 @@
+use Rattle.std.proofs.Common.{◌≡◌, Some, length, refl, sym, ap, ◌∙◌}
+use Rattle.std.proofs.lemmas.Option.{slice_get_read}
+use Rattle.std.specs.Prelude.{slice_get}
+use Rattle.script_code.specs.Instructions.{NextAction, first_by, first_if}
+use Rattle.script_code.specs.declared.instruction.Act.{Act}
+use Rattle.swift_interpreter.specs.Turn.{act}
+use Rattle.swift_interpreter.specs.TurnStates.{state_of}
+use Rattle.swift_interpreter.proofs.play.gives_way.Goals as goal
+
+pub returns-in-Yield-clause-done : goal.returns-in-Yield-clause-done
+returns-in-Yield-clause-done c = λ _ g code at follows.
+    let ins = c.args.instructions.now in
+    let k = c.args.turn.now.frame.instruction in
+    let line = c.in-Some.instruction.now in
+    let s = state_of at c.args.turn.now in
+    let there : slice_get ins k ≡ Some line = slice_get_read ins (length ins) k line refl c.in-Some.ensures.lookup.3.0 c.in-Some.ensures.lookup.1 in
+    ap (λ (a : Act). act g (first_by at a line.next line.other) s) (sym c.in-Yield.is)
+    ∙ ap (λ (n : NextAction). act g n s) (sym (follows.each k ∙ ap (first_if at) there))
