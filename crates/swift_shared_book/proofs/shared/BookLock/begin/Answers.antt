@@ -1,4 +1,4 @@
-use Rattle.std.proofs.Common.{◌≡◌, Some, rules, sym, ap, ◌∙◌}
+use Rattle.std.proofs.Common.{◌≡◌, Some, rules, ap, ◌∙◌}
 use Rattle.swift_tasks.specs.Books.{BookView}
 use Rattle.swift_book_steps.specs.Calls.{facts_of}
 use Rattle.swift_shared_book.proofs.RuleKept.{begins}
