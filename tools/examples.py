@@ -44,7 +44,7 @@ def is_second(name):
 
 
 def arguments(name):
-    return [word.decode() for word in (content(name, ".args") or b"").split()]
+    return (content(name, ".args") or b"").split()
 
 
 def faults(words, given, name):

@@ -146,10 +146,11 @@ def refuse_all(is_each, library, workers):
     asked, wanted = cases_of(os.path.join(folder, "stdin")), cases_of(os.path.join(folder, "stdout"))
     known = {case.partition("\n")[0]: (case, answer) for case, answer in zip(asked, wanted, strict=True)}
     refused, unread, differ = 0, 0, 0
-    for first in firsts:
+    for line in firsts:
+        first = line.removeprefix("each ")
         if first not in known:
             sys.exit(f"{NAME} has no case {first}")
-        counts = Case(os.path.join(folder, "out", NAME), library, *known[first]).refuse_in_turn(is_each, workers)
+        counts = Case(os.path.join(folder, "out", NAME), library, *known[first]).refuse_in_turn(is_each or line != first, workers)
         refused, unread, differ = refused + counts[0], unread + counts[1], differ + len(counts[2])
         if counts[0] <= counts[1]:
             differ += 1

@@ -1,6 +1,9 @@
 /* Loaded before a program (LD_PRELOAD), it refuses the program one allocation: the one of the number in REFUSE, from 1
-   on. It then writes a byte to the descriptor REFUSE_TELL. All other allocations are the C library's. */
+   on. A thread counts as one. It then writes a byte to the descriptor REFUSE_TELL. All other allocations are the C library's. */
+#define _GNU_SOURCE
+#include <dlfcn.h>
 #include <errno.h>
+#include <pthread.h>
 #include <stdatomic.h>
 #include <stdlib.h>
 #include <unistd.h>
@@ -9,9 +12,12 @@ extern void *__libc_malloc(size_t size);
 extern void *__libc_realloc(void *block, size_t size);
 extern void *__libc_memalign(size_t align, size_t size);
 
+typedef int create_thread(pthread_t *, const pthread_attr_t *, void *(*)(void *), void *);
+
 static atomic_long made;
 static long number;
 static int tell;
+static create_thread *create;
 
 static int number_in(const char *name)
 {
@@ -21,6 +27,10 @@ static int number_in(const char *name)
 
 __attribute__((constructor)) static void begin(void)
 {
+    create = (create_thread *)dlsym(RTLD_NEXT, "pthread_create");
+    if (create == NULL) {
+        abort();
+    }
     tell = number_in("REFUSE_TELL");
     number = number_in("REFUSE");
     atomic_store(&made, 0);
@@ -61,4 +71,9 @@ int posix_memalign(void **block, size_t align, size_t size)
     }
     *block = found;
     return 0;
+}
+
+int pthread_create(pthread_t *thread, const pthread_attr_t *attributes, void *(*body)(void *), void *argument)
+{
+    return is_refused() ? EAGAIN : create(thread, attributes, body, argument);
 }

@@ -21,6 +21,7 @@ use nuchapay_tool::{
 use nuchapay_values::Explained;
 use std::alloc::{AllocError, AllocGlobal};
 use std::fs::File;
+use std::io::ErrorKind;
 use std::process::ExitCode;
 use std::random::RandomSource;
 use std::sync::Wait;
@@ -32,12 +33,13 @@ use swift_workers::Open;
 
 fn main(rt: HostRuntime) -> ExitCode {
     let alloc = rt.alloc();
-    let Ok(found) = env::args(&rt) else {
-        return no_words(&rt);
+    let found = match env::args(&rt) {
+        Ok(found) => found,
+        Err(error) => return no_words(&rt, error.kind()),
     };
     let collected: Result<Vec<String>, AllocError> = found.collect(alloc);
     let Ok(words) = collected else {
-        return no_words(&rt);
+        return no_words(&rt, ErrorKind::OutOfMemory);
     };
     match request(alloc, &words) {
         Ok(request) => ExitCode::from(answer(&rt, &rt, request)),
@@ -48,9 +50,13 @@ fn main(rt: HostRuntime) -> ExitCode {
     }
 }
 
-// The words could not be read.
-fn no_words(rt: &HostRuntime) -> ExitCode {
-    let _ = eprintln!(rt; "nuchapay: no memory for the words");
+// Says why the words could not be read.
+fn no_words(rt: &HostRuntime, kind: ErrorKind) -> ExitCode {
+    let why = match kind {
+        ErrorKind::InvalidData => "an argument is not UTF-8",
+        _ => "no memory for the words",
+    };
+    let _ = eprintln!(rt; "nuchapay: {why}");
     ExitCode::from(2)
 }
 

@@ -8,6 +8,7 @@
 
 use std::alloc::{AllocError, AllocGlobal};
 use std::env;
+use std::io::ErrorKind;
 use std::process::ExitCode;
 use std::random::RandomSource;
 use std::sync::Wait;
@@ -17,31 +18,38 @@ use swift_workers::Open;
 
 fn main(rt: HostRuntime) -> ExitCode {
     let alloc = rt.alloc();
-    let Ok(found) = env::args(&rt) else {
-        return no_words(&rt);
+    let found = match env::args(&rt) {
+        Ok(found) => found,
+        Err(error) => return no_words(&rt, error.kind()),
     };
     let collected: Result<Vec<String>, AllocError> = found.collect(alloc);
     let Ok(words) = collected else {
-        return no_words(&rt);
+        return no_words(&rt, ErrorKind::OutOfMemory);
     };
     match options(alloc, &words) {
-        Ok(options) => {
-            let ended = whole(&rt, &rt, options);
-            if let Err(fault) = ended {
-                let _ = eprintln!(rt; "swiftrun: {fault}");
-            }
-            ExitCode::from(status(&ended))
-        }
-        Err(refused) => {
-            let _ = refused.print(&rt);
-            ExitCode::from(refused.exit_code() as u8)
-        }
+        Ok(options) => tell(&rt, whole(&rt, &rt, options)),
+        Err(refused) => match refused.print(&rt) {
+            Ok(()) => ExitCode::from(refused.exit_code() as u8),
+            Err(_) => tell(&rt, Err(ToolFault::Device)),
+        },
     }
 }
 
-// The words could not be read.
-fn no_words(rt: &HostRuntime) -> ExitCode {
-    let _ = eprintln!(rt; "swiftrun: no memory for the words");
+// Says what went wrong, if anything did.
+fn tell(rt: &HostRuntime, ended: Result<bool, ToolFault>) -> ExitCode {
+    if let Err(fault) = ended {
+        let _ = eprintln!(rt; "swiftrun: {fault}");
+    }
+    ExitCode::from(status(&ended))
+}
+
+// Says why the words could not be read.
+fn no_words(rt: &HostRuntime, kind: ErrorKind) -> ExitCode {
+    let why = match kind {
+        ErrorKind::InvalidData => "an argument is not UTF-8",
+        _ => "no memory for the words",
+    };
+    let _ = eprintln!(rt; "swiftrun: {why}");
     ExitCode::from(2)
 }
 

@@ -19,6 +19,8 @@ pub enum CaseFault {
     Script,
     /// A growth was refused.
     Memory,
+    /// A call that was to be refused memory was not.
+    Granted,
     /// Standard input or output failed.
     Device,
 }

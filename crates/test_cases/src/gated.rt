@@ -1,7 +1,6 @@
 //! Runs whose threads give way.
 
 use crate::fault::CaseFault;
-use crate::workers::report_on;
 use std::alloc::{AllocError, AllocGlobal, Global};
 use std::io::Write;
 use std::random::RandomSource;
@@ -9,8 +8,10 @@ use std::sync::atomic::{AtomicU32, Ordering};
 use std::sync::{Arc, Wait};
 use std::thread;
 use std::thread::Threads;
+use swift_certificate::legal;
+use swift_report::{Report, report_text};
 use swift_script::Script;
-use swift_workers::{Gate, Moment, Open};
+use swift_workers::{Gate, Moment, Open, run};
 
 // How many workers run the turns.
 const WORKERS: u32 = 4;
@@ -60,37 +61,51 @@ fn without_turns(alloc: Global, text: &[u8]) -> Result<Vec<u8>, AllocError> {
     Ok(kept)
 }
 
-// The report of a run with this gate, without the lines of its turns.
-fn turns_with<R, G>(rt: &R, script: &Arc<Script>, gate: &G) -> Result<Vec<u8>, CaseFault>
+// The text of a report without the lines of its turns, and whether it is legal.
+fn judged(
+    alloc: Global,
+    script: &Arc<Script>,
+    report: &Report,
+) -> Result<(Vec<u8>, bool), CaseFault> {
+    let is_legal = legal(alloc, script, report)?;
+    let text = report_text(alloc, script, report, false)?;
+    Ok((without_turns(alloc, &text)?, is_legal))
+}
+
+// The text of the report of a run with this gate, without the lines of its turns, and whether it is legal.
+fn judged_with<R, G>(rt: &R, script: &Arc<Script>, gate: &G) -> Result<(Vec<u8>, bool), CaseFault>
 where
     R: RandomSource + AllocGlobal + Threads + Wait + Sync,
     G: Gate + Sync,
 {
-    let text = report_on(rt, script, WORKERS, gate, false)?;
-    Ok(without_turns(rt.alloc(), &text)?)
+    let report = run(rt, Arc::clone(script)?, WORKERS, gate)?;
+    judged(rt.alloc(), script, &report)
 }
 
-/// The report of a run without the lines of its turns.
+/// The report of a run without the lines of its turns, and whether it is legal.
 pub fn turns<R>(rt: &R, script: &Arc<Script>, out: &mut Vec<u8>) -> Result<(), CaseFault>
 where
     R: RandomSource + AllocGlobal + Threads + Wait + Sync,
 {
-    let found = turns_with(rt, script, &Open)?;
-    Ok(out.extend_from_slice(&found)?)
+    let (found, is_legal) = judged_with(rt, script, &Open)?;
+    out.extend_from_slice(&found)?;
+    Ok(writeln!(out, "legal: {is_legal}")?)
 }
 
-/// The report of a run without the lines of its turns, and whether each run in which a thread gives way at one moment has it.
+/// The report of a run without the lines of its turns, and of how many of the runs in which a thread gives way at one moment it is that
+/// one, and legal.
 pub fn gated<R>(rt: &R, script: &Arc<Script>, out: &mut Vec<u8>) -> Result<(), CaseFault>
 where
     R: RandomSource + AllocGlobal + Threads + Wait + Sync,
 {
-    let first = turns_with(rt, script, &Open)?;
-    let mut is_same = true;
+    let (first, _) = judged_with(rt, script, &Open)?;
+    let (mut same, mut lawful) = (0u32, 0u32);
     for place in 0..PLACES {
-        let found = turns_with(rt, script, &Yielding::at_place(place))?;
-        is_same = is_same && found.as_slice() == first.as_slice();
+        let (found, is_legal) = judged_with(rt, script, &Yielding::at_place(place))?;
+        same = same.saturating_add(u32::from(found.as_slice() == first.as_slice()));
+        lawful = lawful.saturating_add(u32::from(is_legal));
     }
     out.extend_from_slice(&first)?;
-    writeln!(out, "gated 1..{PLACES}, the same: {is_same}")?;
+    writeln!(out, "gated 1..{PLACES}: {same} the same, {lawful} legal")?;
     Ok(())
 }

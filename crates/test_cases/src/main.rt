@@ -28,8 +28,11 @@
 //! - `words`: what the words of each line ask the program for, or what is said of them, with the status.
 //! - `agree`: the report of the run on one worker without its journals, whether those on two, four and eight workers are the same,
 //!   and what is said of none and of nine. No script here says more than its tasks and fields, in which all runs have to agree.
-//! - `turns`: the report of a run on four workers without the lines of its turns, of which the order depends on the schedule.
-//! - `gated`: the same of two hundred such runs, in each of which a thread gives way at one moment, each time a later one.
+//! - `report`: the report of the run on one worker, by itself.
+//! - `turns`: the report of a run on four workers without the lines of its turns, of which the order depends on the schedule, and whether
+//!   it is legal.
+//! - `gated`: of how many of two hundred such runs the report is the same, and legal. In each of them a thread gives way at one moment,
+//!   each time a later one.
 //! - `legal`: whether the report of a run on two workers is legal.
 //! - `changed`: whether the report of a run on one worker is legal once it is changed as the title says. After a line `--` stands
 //!   another script, against which the report is held. The changes are
@@ -53,7 +56,9 @@
 //! - `executors`: what each of some calls on executors answered. The text, which is taken as it is, has a script, a line `--`, a line
 //!   `WORKERS ROOM`, and a line for each call. Each case has the executors of its script, all made for these workers and with this
 //!   room, and a book of tasks. It ends by closing them: its last lines say how many jobs each had pending, and which were ready and
-//!   in its inbox, and are a report of their turns and fields, without tasks. A case whose last line is `drop` ends by dropping them.
+//!   in its inbox, and are a report of their turns and fields, without tasks. A case whose last line is `drop` ends by dropping them. In one
+//!   whose last line is `refused CALL` they are closed as soon as this call is refused memory; where it is not, the case is made again
+//!   without it.
 //!   The calls are
 //!
 //!   ```text
@@ -263,7 +268,7 @@ where
         "failing" => devices::failing_input(alloc, out),
         "faults" => faults::program_faults(out),
         "words" => words::words(alloc, text, out),
-        "agree" | "turns" | "gated" | "legal" | "meet" | "changed" => {
+        "agree" | "report" | "turns" | "gated" | "legal" | "meet" | "changed" => {
             workers::answer(rt, kind, title, text, out)
         }
         "executors" | "states" => executors::calls(rt, kind, text, out),

@@ -12,27 +12,25 @@ use std::thread::Threads;
 use swift_certificate::legal;
 use swift_report::{Report, report_text};
 use swift_script::{Script, read};
-use swift_workers::{Gate, Open, RunFault, run};
+use swift_workers::{Open, RunFault, run};
 
 fn script_of(alloc: Global, text: &str) -> Result<Arc<Script>, CaseFault> {
     let script = read(alloc, text.as_bytes())?;
     Ok(Arc::new(alloc, script)?)
 }
 
-/// The text of the report of a run on `workers` workers, without its journals where it is quiet, or why there is none.
-pub fn report_on<R, G>(
+// The text of the report of a run on this number of workers, without its journals where it is quiet, or why there is none.
+fn report_on<R>(
     rt: &R,
     script: &Arc<Script>,
     workers: u32,
-    gate: &G,
     quiet: bool,
 ) -> Result<Vec<u8>, CaseFault>
 where
     R: RandomSource + AllocGlobal + Threads + Wait + Sync,
-    G: Gate + Sync,
 {
     let alloc = rt.alloc();
-    match run(rt, Arc::clone(script)?, workers, gate) {
+    match run(rt, Arc::clone(script)?, workers, &Open) {
         Ok(report) => Ok(report_text(alloc, script, &report, quiet)?),
         Err(RunFault::Memory) => Err(CaseFault::Memory),
         Err(fault) => Ok(format!(in alloc; "{fault}\n")?.into_bytes()),
@@ -51,6 +49,7 @@ where
 {
     match kind {
         "agree" => agree(rt, script, out),
+        "report" => Ok(out.extend_from_slice(&report_on(rt, script, 1, false)?)?),
         "turns" => turns(rt, script, out),
         "gated" => gated(rt, script, out),
         "legal" => legal_on_two(rt, script, out),
@@ -81,15 +80,15 @@ fn agree<R>(rt: &R, script: &Arc<Script>, out: &mut Vec<u8>) -> Result<(), CaseF
 where
     R: RandomSource + AllocGlobal + Threads + Wait + Sync,
 {
-    let alone = report_on(rt, script, 1, &Open, true)?;
+    let alone = report_on(rt, script, 1, true)?;
     out.extend_from_slice(&alone)?;
     for workers in [2, 4, 8] {
-        let others = report_on(rt, script, workers, &Open, true)?;
+        let others = report_on(rt, script, workers, true)?;
         let is_same = others.as_slice() == alone.as_slice();
         writeln!(out, "{workers} workers, the same: {is_same}")?;
     }
     for workers in [0, 9] {
-        let refused = report_on(rt, script, workers, &Open, true)?;
+        let refused = report_on(rt, script, workers, true)?;
         out.extend_from_slice(&refused)?;
     }
     Ok(())

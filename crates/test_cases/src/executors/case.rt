@@ -2,12 +2,13 @@
 
 use crate::executors::ROOM;
 use crate::executors::acting::Acting;
-use crate::executors::call::number;
+use crate::executors::call::{call_of, number};
 use crate::executors::callee::{Callee, make, play as play_calls};
 use crate::fault::CaseFault;
 use std::alloc::AllocGlobal;
 use std::fmt::Write;
 use std::sync::{Mutex, Wait};
+use swift_executor::Open;
 
 /// The words of a case.
 #[derive(Clone, Copy)]
@@ -19,6 +20,14 @@ pub struct CasePlan<'a> {
     pub room: u32,
     /// A line for each call.
     pub calls: &'a str,
+}
+
+impl<'a> CasePlan<'a> {
+    /// The same without its last call.
+    pub fn without_last(self) -> CasePlan<'a> {
+        let (calls, _last) = self.calls.rsplit_once('\n').unwrap_or((self.calls, ""));
+        CasePlan { calls, ..self }
+    }
 }
 
 /// `SCRIPT`, `--`, `WORKERS ROOM`, and the calls, each on a line of its own.
@@ -40,12 +49,17 @@ fn pair_of(words: &str, between: &str) -> Option<(u32, u32)> {
     Some((number(first, 0)?, number(second, 0)?))
 }
 
-/// Makes these calls, writes each with its answer, and what closing the executors gives.
+/// Makes these calls, writes each with its answer, and what closing the executors gives. `Granted` where the last one is to be refused
+/// memory, and is not.
 pub fn play_on<R, C>(rt: &R, mut callee: C, lines: &str, out: &mut String) -> Result<(), CaseFault>
 where
     R: Wait + AllocGlobal,
     C: Callee<R>,
 {
+    if let Some((calls, last)) = lines.split_once("\nrefused ") {
+        play_lines(rt, &mut callee, calls, out)?;
+        return close_refused(rt, callee, last, out);
+    }
     let calls = lines.strip_suffix("\ndrop");
     play_lines(rt, &mut callee, calls.unwrap_or(lines), out)?;
     if calls.is_none() {
@@ -53,6 +67,20 @@ where
     }
     drop(callee);
     Ok(out.push_str("dropped\n")?)
+}
+
+// Closes the executors once this call is refused memory.
+fn close_refused<R, C>(rt: &R, callee: C, call: &str, out: &mut String) -> Result<(), CaseFault>
+where
+    C: Callee<R>,
+{
+    let Some(call) = call_of(call, 0) else {
+        return Err(CaseFault::Form);
+    };
+    match callee.answer(rt, call, &Open, out) {
+        Err(CaseFault::Memory) => callee.close(rt, out),
+        _ => Err(CaseFault::Granted),
+    }
 }
 
 // Makes the calls of these lines.

@@ -1,15 +1,30 @@
-//! Worked cases of a status word, and two threads on one word. Nothing of a word is a text: each case answers whether
-//! all that its calls gave is what they have to give.
+//! Status words, whose states are numbers, and their seats, which are numbered too: 0 is the one that a word is opened with. The first
+//! line of a case is the word's first state. At the end the seats are given up, and the word is closed.
+//!
+//! ```text
+//! split SEAT            a new seat
+//! allowance SEAT, holds SEAT, count SEAT
+//! begin SEAT            how many jobs are pending, and the state
+//! end SEAT STATE, leave SEAT STATE
+//!                       gives this state back
+//! ```
+//!
+//! Two cases are one line, which names them: `two_seats_are_joined`, and `two_threads_take_turns`.
 
-ghost use Rattle.std.specs.Prelude.{◌≡◌, None, IfOk, IsTrue};
+ghost use Rattle.std.specs.Prelude.{◌≡◌, None, IfOk};
+ghost use Rattle.std.specs.Arc.{arc_value};
 ghost use Rattle.swift_word.specs.Seat.{IsSeatOf, first_seat};
 
 use crate::fault::CaseFault;
+use crate::parts::calls::{PLAIN, Part, play};
+use crate::parts::words::size;
 use std::alloc::{AllocError, Global};
-use std::sync::Wait;
+use std::io::Write;
+use std::marker::Model;
+use std::sync::{Arc, Wait};
 use std::thread;
 use std::thread::Threads;
-use swift_word::{BeforeCount, Begun, Named, PendingLeft, Spent, Word, WordSeat};
+use swift_word::{Begun, Named, Spent, Word, WordSeat};
 
 // Numbers, which all have one name.
 #[derive(PartialEq, Drop)]
@@ -35,117 +50,199 @@ fn opened(alloc: Global, state: Number) -> Result<(Word<Number>, WordSeat<Number
     }
 }
 
-// Whether one of two seats, of which neither holds, takes the state where both have counted a job.
-fn one_seat_holds(word: &Word<Number>, a: &mut WordSeat<Number>, b: &mut WordSeat<Number>) -> bool
-    requires one { IsSeatOf word.now a.old × (a.old.holding ≡ None) }
-    requires other { IsSeatOf word.now b.old × (b.old.holding ≡ None) }
-    ensures one { IsTrue result → IsSeatOf word.now a.new × (a.new.holding ≡ None) }
-    ensures other { IsTrue result → IsSeatOf word.now b.new × (b.new.holding ≡ None) }
-{
-    let halves = a.allowance() == 1 << 59 && b.allowance() == 1 << 59;
-    let counted = word.count(a) == Ok(BeforeCount::Idle) && word.count(b) == Ok(BeforeCount::Busy);
-    if !halves || !counted {
-        return false;
-    }
-    let Begun::Run(2, Number(5)) = word.begin(a) else {
-        return false;
-    };
-    let Begun::Busy = word.begin(b) else {
-        return false;
-    };
-    let one_holds = a.holds() && !b.holds();
-    word.end(a, Number(6)) == PendingLeft::More && one_holds
+// A seat of a word, and how many jobs were pending when it began, where it holds. The state was given up then: another number is given
+// back.
+struct CaseSeat {
+    word: Arc<Word<Number>>,
+    seat: WordSeat<Number>,
+    found: Option<u64>,
 }
 
-// Whether the seats find the one job that is left, and then none.
-fn one_job_is_left(word: &Word<Number>, a: &mut WordSeat<Number>, b: &mut WordSeat<Number>) -> bool
-    requires one { IsSeatOf word.now a.old × (a.old.holding ≡ None) }
-    requires other { IsSeatOf word.now b.old × (b.old.holding ≡ None) }
-{
-    let Begun::Run(1, Number(6)) = word.begin(b) else {
-        return false;
-    };
-    if word.end(b, Number(6)) != PendingLeft::Idle {
-        return false;
+impl Drop for CaseSeat {
+    fn drop(self) {
+        let CaseSeat {
+            word,
+            seat,
+            found: _,
+        } = self;
+        drop(seat);
+        drop(word);
     }
-    let Begun::Run(0, Number(6)) = word.begin(a) else {
-        return false;
-    };
-    word.leave(a, Number(6)) == PendingLeft::Idle && word.count(b) == Ok(BeforeCount::Idle)
 }
 
-fn two_seats_take_turns(alloc: Global) -> Result<bool, CaseFault> {
+impl Model for CaseSeat {
+    ghost use Rattle.std.specs.Prelude.{◌≡◌};
+    ghost use Rattle.std.specs.Arc.{arc_value};
+    ghost use Rattle.swift_word.specs.Seat.{IsSeatOf};
+
+    ghost Value = { Unit {0} };
+
+    ghost view = { λ _. tt };
+
+    ghost invariant = { λ s. IsSeatOf (arc_value s.word) s.seat × (s.seat.holding ≡ s.found) };
+}
+
+impl CaseSeat {
+    // A new seat.
+    fn split(&mut self) -> Result<CaseSeat, AllocError> {
+        let word = Arc::clone(&self.word)?;
+        let seat = self.seat.split(&self.word);
+        Ok(CaseSeat {
+            word,
+            seat,
+            found: None,
+        })
+    }
+
+    // Counts a job.
+    fn count(&mut self, out: &mut String) -> Result<(), AllocError> {
+        match self.word.count(&mut self.seat) {
+            Ok(was) => write!(out, "{was:?}"),
+            Err(Spent) => out.push_str("Spent"),
+        }
+    }
+
+    // Takes the state.
+    fn begin(&mut self, out: &mut String) -> Result<(), CaseFault> {
+        if self.found.is_some() {
+            return Err(CaseFault::Form);
+        }
+        match self.word.begin(&mut self.seat) {
+            Begun::Busy => Ok(out.push_str("Busy")?),
+            Begun::Run(pending, Number(state)) => {
+                self.found = Some(pending);
+                Ok(write!(out, "{pending} pending, state {state}")?)
+            }
+        }
+    }
+
+    // Gives this state back after a turn.
+    fn end(&mut self, state: u64, out: &mut String) -> Result<(), CaseFault> {
+        let Some(1..) = self.found else {
+            return Err(CaseFault::Form);
+        };
+        let left = self.word.end(&mut self.seat, Number(state));
+        self.found = None;
+        Ok(write!(out, "{left:?}")?)
+    }
+
+    // Gives this state back, and no turn was run.
+    fn leave(&mut self, state: u64, out: &mut String) -> Result<(), CaseFault> {
+        if self.found.is_none() {
+            return Err(CaseFault::Form);
+        }
+        let left = self.word.leave(&mut self.seat, Number(state));
+        self.found = None;
+        Ok(write!(out, "{left:?}")?)
+    }
+
+    // A call on this seat but for `split`.
+    fn call(&mut self, verb: &str, state: u64, out: &mut String) -> Result<(), CaseFault> {
+        match verb {
+            "allowance" => Ok(write!(out, "{}", self.seat.allowance())?),
+            "holds" => Ok(write!(out, "{}", self.seat.holds())?),
+            "count" => Ok(self.count(out)?),
+            "begin" => self.begin(out),
+            "end" => self.end(state, out),
+            "leave" => self.leave(state, out),
+            _ => Err(CaseFault::Form),
+        }
+    }
+}
+
+// The seats of a word, in order of their numbers.
+#[derive(Drop)]
+struct WordPart {
+    seats: Vec<CaseSeat>,
+}
+
+impl WordPart {
+    fn call(
+        &mut self,
+        verb: &str,
+        place: usize,
+        state: u64,
+        out: &mut String,
+    ) -> Result<(), CaseFault> {
+        let Some(seat) = self.seats.get_mut(place) else {
+            return Err(CaseFault::Form);
+        };
+        if verb != "split" {
+            return seat.call(verb, state, out);
+        }
+        let new = seat.split()?;
+        self.seats.push(new)?;
+        Ok(out.push_str("ok")?)
+    }
+}
+
+impl Part for WordPart {
+    fn answer(&mut self, alloc: Global, words: &[&str]) -> Result<String, CaseFault> {
+        let mut out = String::new(alloc);
+        match *words {
+            [verb, place] => self.call(verb, size(place)?, 0, &mut out)?,
+            [verb, place, state] => self.call(verb, size(place)?, state.parse::<u64>()?, &mut out)?,
+            _ => return Err(CaseFault::Form),
+        }
+        Ok(out)
+    }
+}
+
+// The first seat of a word.
+fn first(
+    alloc: Global,
+    word: &Arc<Word<Number>>,
+    seat: WordSeat<Number>,
+) -> Result<WordPart, AllocError>
+    requires { seat ≡ first_seat (arc_value word.now) }
+{
+    let first = CaseSeat {
+        word: Arc::clone(word)?,
+        seat,
+        found: None,
+    };
+    let mut seats = Vec::new(alloc);
+    seats.push(first)?;
+    Ok(WordPart { seats })
+}
+
+// What a word is when it is closed: how many jobs are pending, and its state, where no seat holds.
+fn tell_closed(closed: (u64, Option<Number>), out: &mut Vec<u8>) -> Result<(), CaseFault> {
+    match closed {
+        (pending, Some(Number(state))) => writeln!(
+            out,
+            "closed: {pending} pending, state {state}"
+        )?,
+        (pending, None) => writeln!(out, "closed: {pending} pending")?,
+    }
+    Ok(())
+}
+
+// Opens a word with this state, makes the calls, and closes it.
+fn play_calls(alloc: Global, state: u64, calls: &str, out: &mut Vec<u8>) -> Result<(), CaseFault> {
+    let (word, seat) = opened(alloc, Number(state))?;
+    let word = Arc::new(alloc, word)?;
+    let mut part = first(alloc, &word, seat)?;
+    let played = play(alloc, &mut part, PLAIN, calls, out);
+    drop(part);
+    let Some(word) = Arc::into_inner(word) else {
+        return Err(CaseFault::Form);
+    };
+    let closed = word.close();
+    played?;
+    tell_closed(closed, out)
+}
+
+// A seat that holds takes in another one.
+fn two_seats_are_joined(alloc: Global, out: &mut Vec<u8>) -> Result<(), CaseFault> {
     let (word, mut a) = opened(alloc, Number(5))?;
     let mut b = a.split(&word);
-    let is_right = one_seat_holds(&word, &mut a, &mut b) && one_job_is_left(&word, &mut a, &mut b);
-    Ok(is_right && word.close() == (1, Some(Number(6))))
-}
-
-// Whether a job that one seat counts while the other holds is seen by the other's end.
-fn is_seen_by_end(word: &Word<Number>, a: &mut WordSeat<Number>, b: &mut WordSeat<Number>) -> bool
-    requires one { IsSeatOf word.now a.old × (a.old.holding ≡ None) }
-    requires other { IsSeatOf word.now b.old × (b.old.holding ≡ None) }
-    ensures one { IsTrue result → IsSeatOf word.now a.new × (a.new.holding ≡ None) }
-    ensures other { IsTrue result → IsSeatOf word.now b.new × (b.new.holding ≡ None) }
-{
-    if word.count(a) != Ok(BeforeCount::Idle) {
-        return false;
-    }
-    let Begun::Run(1, state) = word.begin(a) else {
-        return false;
-    };
-    if word.count(b) != Ok(BeforeCount::Busy) || word.end(a, state) != PendingLeft::More {
-        return false;
-    }
-    let Begun::Run(1, state) = word.begin(b) else {
-        return false;
-    };
-    word.end(b, state) == PendingLeft::Idle
-}
-
-// Whether a job that one seat counts while the other holds is seen by its leave. In the end the first seat holds.
-fn is_seen_by_leave(word: &Word<Number>, a: &mut WordSeat<Number>, b: &mut WordSeat<Number>) -> bool
-    requires one { IsSeatOf word.now a.old × (a.old.holding ≡ None) }
-    requires other { IsSeatOf word.now b.old × (b.old.holding ≡ None) }
-    ensures one { IsTrue result → IsSeatOf word.now a.new }
-    ensures other { IsTrue result → IsSeatOf word.now b.new × (b.new.holding ≡ None) }
-{
-    let Begun::Run(0, state) = word.begin(b) else {
-        return false;
-    };
-    if word.count(a) != Ok(BeforeCount::Busy) || word.leave(b, state) != PendingLeft::More {
-        return false;
-    }
-    matches!(word.begin(a), Begun::Run(1, Number(5)))
-}
-
-fn a_job_counted_during_a_turn_is_seen(alloc: Global) -> Result<bool, CaseFault> {
-    let (word, mut a) = opened(alloc, Number(5))?;
-    let mut b = a.split(&word);
-    if !is_seen_by_end(&word, &mut a, &mut b) || !is_seen_by_leave(&word, &mut a, &mut b) {
-        return Ok(false);
-    }
+    let counted = word.count(&mut b);
+    drop(word.begin(&mut a));
     a.join(&word, b);
-    let joined = a.holds() && a.allowance() == (1 << 60) - 3;
-    Ok(joined && word.close() == (1, None))
-}
-
-fn a_word_is_opened_again(alloc: Global) -> Result<bool, CaseFault> {
-    let (word, seat) = opened(alloc, Number(5))?;
-    let is_new = !seat.holds() && seat.allowance() == 1 << 60;
-    Ok(is_new && word.close() == (0, Some(Number(5))))
-}
-
-fn an_allowance_is_spent(alloc: Global) -> Result<bool, CaseFault> {
-    let (word, mut a) = opened(alloc, Number(5))?;
-    for _ in 0..60 {
-        let _half = a.split(&word);
-    }
-    let mut last = a.split(&word);
-    let halved = a.allowance() == 1 && last.allowance() == 0;
-    let one = word.count(&mut last) == Err(Spent) && word.count(&mut a) == Ok(BeforeCount::Idle);
-    let spent = word.count(&mut a) == Err(Spent);
-    Ok(halved && one && spent && word.close() == (1, Some(Number(5))))
+    let (left, holds) = (a.allowance(), a.holds());
+    writeln!(out, "{counted:?}, {left} left, holds: {holds}")?;
+    tell_closed(word.close(), out)
 }
 
 // Counts a job, and runs one as soon as no other seat holds: the state becomes one more. Each thread ends no more jobs
@@ -204,41 +301,28 @@ fn by_two_threads<R: Threads + Wait + Sync>(
 fn two_threads_take_turns<R: Threads + Wait + Sync>(
     rt: &R,
     alloc: Global,
-) -> Result<bool, CaseFault> {
-    let turns = 500_000;
+    out: &mut Vec<u8>,
+) -> Result<(), CaseFault> {
     let (word, mut a) = opened(alloc, Number(0))?;
     let b = a.split(&word);
-    let left = by_two_threads(rt, &word, a, b, turns);
-    let is_spent = left == ((1 << 59) - turns, (1 << 59) - turns);
-    Ok(is_spent && word.close() == (0, Some(Number(2 * turns))))
+    let (first, second) = by_two_threads(rt, &word, a, b, 500_000);
+    writeln!(out, "{first} and {second} left")?;
+    tell_closed(word.close(), out)
 }
 
-// Whether all that a case gave is what it has to give.
-fn is_right<R: Threads + Wait + Sync>(
-    rt: &R,
-    alloc: Global,
-    name: &str,
-) -> Result<bool, CaseFault> {
-    match name {
-        "two_seats_take_turns" => two_seats_take_turns(alloc),
-        "a_job_counted_during_a_turn_is_seen" => a_job_counted_during_a_turn_is_seen(alloc),
-        "a_word_is_opened_again" => a_word_is_opened_again(alloc),
-        "an_allowance_is_spent" => an_allowance_is_spent(alloc),
-        "two_threads_take_turns" => two_threads_take_turns(rt, alloc),
-        _ => Err(CaseFault::Form),
-    }
-}
-
-/// The cases of these names, each a line.
+/// Opens a word, and makes the calls of a case.
 pub fn play_words<R: Threads + Wait + Sync>(
     rt: &R,
     alloc: Global,
-    names: &str,
+    case: &str,
     out: &mut Vec<u8>,
 ) -> Result<(), CaseFault> {
-    for name in names.split('\n') {
-        let is_right = is_right(rt, alloc, name)?;
-        out.extend_from_slice(if is_right { b"right\n" } else { b"wrong\n" })?;
+    match case {
+        "two_seats_are_joined" => two_seats_are_joined(alloc, out),
+        "two_threads_take_turns" => two_threads_take_turns(rt, alloc, out),
+        _ => {
+            let (state, calls) = case.split_once('\n').unwrap_or((case, ""));
+            play_calls(alloc, state.parse::<u64>()?, calls, out)
+        }
     }
-    Ok(())
 }
