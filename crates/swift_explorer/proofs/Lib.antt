@@ -9,3 +9,4 @@ mod Shorter
 mod Ran
 mod Used
 mod Paths
+mod Sound

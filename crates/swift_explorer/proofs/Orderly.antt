@@ -1,5 +1,5 @@
 -- Steps that are in order.
-use Rattle.std.proofs.Common.{◌≡◌, ◌≤◌, ℕ, zero, suc, List, [], ◌∷◌, ◌++◌, length, append_assoc, append-nil, refl, sym, subst, ap, ◌∙◌, arith}
+use Rattle.std.proofs.Common.{◌≡◌, ◌≢◌, ◌⊎◌, ◌<◌, ◌≤◌, true, false, ℕ, zero, suc, List, [], ◌∷◌, ◌++◌, length, append_assoc, append-nil, refl, sym, subst, ap, ◌∙◌, arith}
 use Rattle.std.specs.Prelude.{Option, None, Some}
 use Rattle.std.specs.Option.{option_map}
 use Rattle.std.specs.Arc.{arc_value}
@@ -7,6 +7,8 @@ use Rattle.std.proofs.lemmas.Option.{none-some}
 use Rattle.swift_types.specs.declared.env.Env.{Env}
 use Rattle.swift_script.specs.Scripts.{ScriptView, root_count}
 use Rattle.swift_events.specs.declared.event.Event.{Event}
+use Rattle.swift_events.specs.declared.life.JobStage.{JobStage}
+use Rattle.swift_events.specs.declared.life.JobStage.TheVariants.{Given, Begun, Applied, Waits, Asks, Closes}
 use Rattle.swift_events.specs.Lives.{life_of}
 use Rattle.swift_history.specs.Checks.{is_begun}
 use Rattle.swift_history.specs.Histories.{Block, added, begun}
@@ -51,3 +53,20 @@ given_past (x ∷ tasks) (suc u) le = given_past tasks u (omega (arith, le))
 
 pub seat_past : (script : ScriptView) (tasks : List (Option Ready)) (u k : ℕ) → length tasks ≤ u → seat_of script tasks u ≡ Some k → ⊥
 seat_past script tasks u k le is = none-some k (sym (ap (seat_if script) (given_past tasks u le)) ∙ is)
+
+-- whether a turn is under way
+
+pub has_begun : (o : Option JobStage) (env : Env) → o ≡ Some (Begun env) → is_begun o ≡ true
+has_begun o env is = ap is_begun is
+
+pub not_begun : (o : Option JobStage) → ((env : Env) → o ≢ Some (Begun env)) → is_begun o ≡ false
+not_begun None no = refl
+not_begun (Some (Begun env)) no = absurd (no env refl)
+not_begun (Some Given) no = refl
+not_begun (Some Applied) no = refl
+not_begun (Some (Waits t)) no = refl
+not_begun (Some (Asks g)) no = refl
+not_begun (Some (Closes g)) no = refl
+
+pub before_or_past : (u n : ℕ) → (u < n) ⊎ (n ≤ u)
+before_or_past u n = grind arith

@@ -288,10 +288,14 @@ impl SearchedHistory {
     }
 
     // Whether a turn of a task is under way.
+    #[tactic(auto, using(crate::proofs::Orderly::has_begun, crate::proofs::Orderly::not_begun))]
     fn has_begun(&self, task: TaskId) -> bool
         ensures { result ≡ is_begun (life_of task.0 self.now.book.log).stage }
     {
-        self.book.begun(task).is_some()
+        match self.book.begun(task) {
+            Some(_) => true,
+            None => false,
+        }
     }
 
     // Whether the next turn of a task may begin.

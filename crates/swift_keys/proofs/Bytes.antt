@@ -39,10 +39,13 @@ pos_read a b false false r s p q e = let rest : bytes_8 a ++ r ≡ bytes_8 b ++ 
 same_head : (m n : ℕ) (r s : List ℕ) → m ∷ r ≡ n ∷ s → m ≡ n
 same_head m n r s e = cc
 
+apart : (m n : ℕ) → m ≡ 253 → n ≡ 254 → m ≡ n → ⊥
+apart m n p q e = omega (arith, p, q, e)
+
 -- a number that is none starts with 254, which no other does
 neg_read : (a b : ℕ) (x : Bool) (r s : List ℕ) → nat_lt a 253 ≡ x → (if x then a ∷ [] else 253 ∷ bytes_8 a) ++ r ≡ 254 ∷ (bytes_8 b ++ s) → ⊥
 neg_read a b true r s p e = let same : a ≡ 254 = cc in grind arith
-neg_read a b false r s p e = let same : 253 ≡ 254 = same_head 253 254 (bytes_8 a ++ r) (bytes_8 b ++ s) e in absurd (omega arith)
+neg_read a b false r s p e = apart 253 254 refl refl (same_head 253 254 (bytes_8 a ++ r) (bytes_8 b ++ s) e)
 
 packed_read : (a b : ℤ) (r s : List ℕ) → packed a ++ r ≡ packed b ++ s → (a ≡ b) × (r ≡ s)
 packed_read (pos a) (pos b) r s e = let one = pos_read a b (nat_lt a 253) (nat_lt b 253) r s refl refl e in (ap (λ n. pos n) one.0, one.1)

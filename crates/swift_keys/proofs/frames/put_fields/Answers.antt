@@ -15,9 +15,9 @@ loop-rows-preserved c =
     let fields = c.args.fields.now in
     let k = c.loop-rows.rows-index in
     let len = length-map fields rows_in in
-    some_step rows_numbers (map rows_in fields) k [] _ _ _ _ (omega (arith, len)) (get_or-map rows_in fields k _ [] (omega arith)) c.loop-rows.invariant
+    some_step rows_numbers (map rows_in fields) k [] _ _ _ _ (omega (arith, len)) (get_or-map rows_in fields k c.rows-item.result [] (omega arith)) c.loop-rows.invariant
     (two_writes c.loop-rows.key.items c.push.new.self.items c.put_rows.new.key.items (pos 1 ∷ []) _ c.in_ok-push.ensures.items
-    (c.in_ok-put_rows.ensures ∙ ap (λ (l : List (Vec ℤ)). c.push.new.self.items ++ rows_numbers (rows_of l)) c.deref.ensures.value))
+    (c.in_ok-put_rows.ensures ∙ ap (λ (l : List (Vec ℤ)). c.push.new.self.items ++ rows_numbers (rows_of l)) c.deref.ensures.value ∙ ap (λ (rows : Vec (Vec ℤ)). c.push.new.self.items ++ rows_numbers (rows_in rows)) c.rows-item.is))
 
 pub returns : goal.returns
 returns c =

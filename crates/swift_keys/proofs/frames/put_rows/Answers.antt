@@ -15,9 +15,9 @@ loop-row-preserved c =
     let rows = c.args.rows.now in
     let k = c.loop-row.row-index in
     let len = length-map rows items_of in
-    some_step values_numbers (rows_of rows) k [] _ _ _ _ (omega (arith, len)) (get_or-map items_of rows k _ [] (omega arith)) c.loop-row.invariant
+    some_step values_numbers (rows_of rows) k [] _ _ _ _ (omega (arith, len)) (get_or-map items_of rows k c.row-item.result [] (omega arith)) c.loop-row.invariant
     (two_writes c.loop-row.key.items c.push.new.self.items c.put_values.new.key.items (pos 1 ∷ []) _ c.in_ok-push.ensures.items
-    (c.in_ok-put_values.ensures ∙ ap (λ (l : List ℤ). c.push.new.self.items ++ values_numbers l) c.deref.ensures.value))
+    (c.in_ok-put_values.ensures ∙ ap (λ (l : List ℤ). c.push.new.self.items ++ values_numbers l) (c.deref.ensures.value ∙ ap items_of c.row-item.is)))
 
 pub returns : goal.returns
 returns c =

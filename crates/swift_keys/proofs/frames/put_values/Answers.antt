@@ -9,7 +9,7 @@ loop-value-preserved c =
     let v : ℤ = get_or c.args.values.now c.loop-value.value-index (pos 0) in
     let fits : to_z w64 (of_z w64 v) ≡ v = search rules in
     some_step value_numbers c.args.values.now c.loop-value.value-index (pos 0) v _ _ _ (omega arith) refl c.loop-value.invariant
-    (two_writes c.loop-value.key.items c.push.new.self.items c.push-2.new.self.items (pos 1 ∷ []) (v ∷ []) c.in_ok-push.ensures.items
+    (two_writes c.loop-value.key.items c.push.new.self.items c.push-in-loop-value.new.self.items (pos 1 ∷ []) (v ∷ []) c.in_ok-push.ensures.items
     (c.in_ok-push-2.ensures.items ∙ ap (λ (z : ℤ). c.push.new.self.items ++ z ∷ []) fits))
 
 pub returns : goal.returns
