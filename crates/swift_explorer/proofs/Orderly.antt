@@ -60,13 +60,13 @@ pub has_begun : (o : Option JobStage) (env : Env) → o ≡ Some (Begun env) →
 has_begun o env is = ap is_begun is
 
 pub not_begun : (o : Option JobStage) → ((env : Env) → o ≢ Some (Begun env)) → is_begun o ≡ false
-not_begun None no = refl
-not_begun (Some (Begun env)) no = absurd (no env refl)
-not_begun (Some Given) no = refl
-not_begun (Some Applied) no = refl
-not_begun (Some (Waits t)) no = refl
-not_begun (Some (Asks g)) no = refl
-not_begun (Some (Closes g)) no = refl
+not_begun None never = refl
+not_begun (Some (Begun env)) never = absurd (never env refl)
+not_begun (Some Given) never = refl
+not_begun (Some Applied) never = refl
+not_begun (Some (Waits t)) never = refl
+not_begun (Some (Asks g)) never = refl
+not_begun (Some (Closes g)) never = refl
 
 pub before_or_past : (u n : ℕ) → (u < n) ⊎ (n ≤ u)
 before_or_past u n = grind arith

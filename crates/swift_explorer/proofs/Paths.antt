@@ -1,5 +1,7 @@
 -- Steps that were followed one after another.
 use Rattle.std.proofs.Common.{◌≡◌, ℕ, zero, suc, ◌+◌, List, [], ◌∷◌, ◌++◌, length, refl, sym, subst, ap, ◌∙◌}
+use Rattle.std.specs.Prelude.{Result, Ok, Err, IfOk}
+use Rattle.std.specs.declared.alloc.AllocError.{AllocError}
 use Rattle.std.specs.Arc.{arc_value}
 use Rattle.swift_script.specs.Scripts.{ScriptView}
 use Rattle.swift_history.specs.Histories.{Block}
@@ -7,9 +9,9 @@ use Rattle.swift_explorer.specs.declared.moves.Move.{Move}
 use Rattle.swift_explorer.specs.declared.history.SearchedHistory.{SearchedHistory}
 use Rattle.swift_explorer.specs.Steps.{AreSteps, IsStep, roots_after, roots_over}
 use Rattle.swift_explorer.specs.declared.history.Followed.{Followed}
-use Rattle.swift_explorer.specs.declared.history.Followed.TheVariants.{Broken}
+use Rattle.swift_explorer.specs.declared.history.Followed.TheVariants.{Broken, No, Yes}
 use Rattle.swift_explorer.specs.Outcomes.{IsBrokenAfter}
-use Rattle.swift_explorer.specs.HistoryInside.{GoesOn, IsHistory, IsPath, IsSomeHistory}
+use Rattle.swift_explorer.specs.HistoryInside.{GoesOn, IsHistory, IsPath, IsSomeHistory, WasDone}
 
 steps_push : (ms : List Move) (n : ℕ) (bs : List Block) (m : Move) (b : Block) → AreSteps n ms bs → IsStep (roots_over n ms) m b → AreSteps n (ms ++ m ∷ []) (bs ++ b ∷ [])
 steps_push [] n [] m b done is = (is, tt)
@@ -49,3 +51,15 @@ path_breaks script path m x y f own goes broken p =
 -- what was followed is some history
 pub path_some : (script : ScriptView) (path : List Move) (x : SearchedHistory) → arc_value x.script ≡ script → IsPath script path x → IsSomeHistory x
 path_some script path x own p = (p.blocks, subst (λ (s : ScriptView). IsHistory s p.blocks x) (sym own) p.is)
+
+-- a step that was not refused was done
+
+pub was_done : (f : Followed) → (f ≡ No → ⊥) → WasDone f
+was_done No never = absurd (never refl)
+was_done Yes never = tt
+was_done Broken never = tt
+
+pub breaks_if : (r : Result Followed AllocError) (script : ScriptView) (path : List Move) (m : Move) (x y : SearchedHistory) → arc_value x.script ≡ script → IsPath script path x
+    → IfOk r (λ f. WasDone f → GoesOn m x y f) → IfOk r (λ f. f ≡ Broken → IsBrokenAfter script (path ++ m ∷ []))
+breaks_if (Ok f) script path m x y own p goes = λ is. path_breaks script path m x y f own (goes (subst WasDone (sym is) tt)) is p
+breaks_if (Err e) script path m x y own p goes = tt

@@ -367,11 +367,7 @@ impl SearchedHistory {
     fn fields(&self) -> Result<Vec<Vec<Vec<i64>>>, AllocError>
         ensures { IfOk result (λ copy. map (λ rows. rows_of rows.items) copy.items ≡ rows_at self.now) }
     {
-        let mut copy = Vec::with_capacity(self.alloc, self.fields.len())?;
-        for rows in &self.fields {
-            copy.push(copy_of(self.alloc, rows)?)?;
-        }
-        Ok(copy)
+        all_copied(self.alloc, &self.fields)
     }
 
     // Where a task comes from and how it has ended, if it has.
@@ -486,10 +482,19 @@ fn copy_of(alloc: Global, rows: &[Vec<i64>]) -> Result<Vec<Vec<i64>>, AllocError
     Ok(copy)
 }
 
-// The events of a log.
-fn events_of(alloc: Global, log: &EventLog) -> Result<Vec<Event>, AllocError>
-    ensures { IfOk result (λ events. events.items ≡ log.now.events) }
+// A copy of the fields of all executors.
+fn all_copied(alloc: Global, all: &[Vec<Vec<i64>>]) -> Result<Vec<Vec<Vec<i64>>>, AllocError>
+    ensures { IfOk result (λ copy. map (λ rows. rows_of rows.items) copy.items ≡ map (λ rows. rows_of rows.items) all.now) }
 {
+    let mut copy = Vec::with_capacity(alloc, all.len())?;
+    for rows in all {
+        copy.push(copy_of(alloc, rows)?)?;
+    }
+    Ok(copy)
+}
+
+// The events of a log.
+fn events_of(alloc: Global, log: &EventLog) -> Result<Vec<Event>, AllocError> {
     let mut events = Vec::with_capacity(alloc, log.len())?;
     for place in 0..log.len() {
         events.push(log.event(place))?;

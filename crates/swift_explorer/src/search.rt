@@ -143,6 +143,7 @@ fn look_ahead(
 }
 
 impl Search {
+    #[tactic(auto, using(crate::proofs::Sound::listed_none))]
     fn new(alloc: Global, script: &Arc<Script>, limit: usize) -> Result<Search, AllocError>
         ensures { IfOk result (IsSound (arc_value script.now)) }
     {
@@ -223,6 +224,7 @@ impl Search {
     }
 
     // Writes an outcome, where it is a new one.
+    #[tactic(auto, using(crate::proofs::Sound::listed_push))]
     fn note_outcome(&mut self, outcome: RunOutcome) -> Result<(), AllocError>
         requires outcome { IsOutcomeOf (arc_value self.old.script) outcome }
         requires outcomes { All (IsOutcomeOf (arc_value self.old.script)) self.old.outcomes.items }

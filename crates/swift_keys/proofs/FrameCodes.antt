@@ -1,12 +1,12 @@
 -- Frames, bindings and fields that were written as numbers can be read again.
-use Rattle.std.proofs.Common.{◌≡◌, ℕ, ℤ, List, ◌++◌, reverse, refl, sym, ◌∙◌, ap}
+use Rattle.std.proofs.Common.{◌≡◌, ℕ, ℤ, List, ◌++◌, reverse, sym, ◌∙◌, ap}
 use Rattle.std.specs.Prelude.{Option}
 use Rattle.std.proofs.lemmas.List.{reverse-reverse}
 use Rattle.swift_types.specs.declared.outcome.Fault.{Fault}
 use Rattle.swift_interpreter.specs.Frames.{FrameView}
-use Rattle.swift_keys.specs.Numbers.{pair_numbers, option_numbers, list_numbers, value_numbers, number_numbers, wide_numbers, fault_numbers}
+use Rattle.swift_keys.specs.Numbers.{option_numbers, list_numbers, value_numbers, number_numbers, wide_numbers, fault_numbers}
 use Rattle.swift_keys.specs.FrameNumbers.{values_numbers, ids_numbers, binding_numbers, bindings_numbers, groups_numbers, frame_numbers, rows_numbers, fields_numbers}
-use Rattle.swift_keys.proofs.Codes.{IsCode, IsCodeTo, peel, pair_code, option_code, list_code, value_code, number_code, wide_code, fault_code}
+use Rattle.swift_keys.proofs.Codes.{IsCode, peel, pair_code, option_code, list_code, value_code, number_code, wide_code, fault_code}
 
 pub values_code : IsCode values_numbers
 values_code = list_code value_numbers value_code

@@ -1,5 +1,5 @@
 -- One more turn of a loop that writes numbers.
-use Rattle.std.proofs.Common.{◌≡◌, ℕ, suc, ◌+◌, ◌<◌, ◌≤◌, ℤ, List, [], ◌∷◌, ◌++◌, length, map, reverse, take, get_or, refl, sym, ◌∙◌, ap, arith, add-one, append_assoc, append-nil}
+use Rattle.std.proofs.Common.{◌≡◌, ℕ, ◌+◌, ◌<◌, ◌≤◌, ℤ, List, [], ◌∷◌, ◌++◌, length, map, reverse, take, get_or, refl, sym, ◌∙◌, ap, add-one, append_assoc, append-nil}
 use Rattle.std.specs.Prelude.{pos}
 use Rattle.std.proofs.lemmas.List.{take_more, take_all, map-append, reverse-append, reverse-reverse}
 use Rattle.script_code.specs.Seen.{pair_of, pairs_of}

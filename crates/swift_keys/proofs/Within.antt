@@ -1,11 +1,11 @@
 -- Past the tasks and groups that a log names all cards are blank.
-use Rattle.std.proofs.Common.{◌≡◌, ℕ, suc, ◌<◌, ◌≤◌, Bool, true, false, List, [], refl, sym, ◌∙◌, ap, arith, inl, inr}
-use Rattle.std.specs.Prelude.{◌==◌, ◌&&◌, None, Option}
+use Rattle.std.proofs.Common.{◌≡◌, ℕ, ◌<◌, ◌≤◌, Bool, true, false, refl, ◌∙◌, ap, arith}
+use Rattle.std.specs.Prelude.{◌==◌, ◌&&◌}
 use Rattle.std.proofs.lemmas.Bool.{ne_eqb}
 use Rattle.swift_events.specs.declared.event.Event.{Event}
 use Rattle.swift_events.specs.declared.event.Event.TheVariants.{Root, Begin, Apply, Free, Open, Child, Skip, CancelTask, CancelGroup, Wait, Next, Close, End, Give}
 use Rattle.swift_events.specs.Events.{task_of}
-use Rattle.swift_digest.specs.Digests.{Card, GroupCard, Digest, no_card, no_group, no_digest, card_noted, group_noted, noted, digest_of}
+use Rattle.swift_digest.specs.Digests.{Card, GroupCard, Digest, no_card, no_group, no_digest, card_noted, group_noted, noted}
 use Rattle.swift_keys.specs.DigestNumbers.{IsWithin, other_of, group_end}
 
 -- an event that does not name a task leaves its card blank

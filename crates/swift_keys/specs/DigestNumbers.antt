@@ -1,12 +1,12 @@
 -- A digest as numbers (our own). How many tasks and groups have cards comes first: past these all cards are blank.
-use Rattle.std.specs.Prelude.{◌≡◌, ℕ, suc, ◌≤◌, ℤ, List, [], ◌∷◌, ◌++◌}
+use Rattle.std.specs.Prelude.{◌≡◌, ℕ, suc, ◌≤◌, ℤ, List, ◌++◌}
 use Rattle.swift_types.specs.declared.id.TaskId.{TaskId}
 use Rattle.swift_types.specs.declared.outcome.Ending.{Ending}
 use Rattle.swift_events.specs.declared.event.Event.{Event}
 use Rattle.swift_events.specs.declared.event.Event.TheVariants.{Free, Child, Wait, Next, Close, CancelGroup}
 use Rattle.swift_events.specs.Events.{task_of}
 use Rattle.swift_digest.specs.Digests.{Card, GroupCard, Digest, no_card, no_group}
-use Rattle.swift_keys.specs.Numbers.{pair_numbers, list_numbers, each_numbers, number_numbers, wide_numbers, flag_numbers, task_numbers, ending_numbers, life_numbers, link_numbers}
+use Rattle.swift_keys.specs.Numbers.{pair_numbers, list_numbers, each_numbers, wide_numbers, flag_numbers, task_numbers, ending_numbers, life_numbers, link_numbers}
 
 abbrev pub card_numbers : Card → List ℤ
 card_numbers c =

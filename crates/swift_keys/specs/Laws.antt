@@ -1,10 +1,6 @@
 -- Numbers that begin with those of a value say of which, and what follows them (our own).
-use Rattle.std.specs.Prelude.{◌≡◌, ℕ, ℤ, Bool, List, ◌++◌}
-use Rattle.swift_interpreter.specs.Frames.{FrameView}
-use Rattle.swift_types.specs.declared.outcome.Resume.{Resume}
+use Rattle.std.specs.Prelude.{◌≡◌, ℤ, List, ◌++◌}
 use Rattle.swift_digest.specs.Digests.{Digest}
-use Rattle.swift_keys.specs.Numbers.{list_numbers, flag_numbers, resume_numbers}
-use Rattle.swift_keys.specs.FrameNumbers.{bindings_numbers, fields_numbers, frame_numbers}
 use Rattle.swift_keys.specs.DigestNumbers.{IsWritten}
 
 abbrev pub AreRead : {A : Type 0} → (A → List ℤ) → Type 0

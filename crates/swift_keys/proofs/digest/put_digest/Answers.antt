@@ -1,4 +1,4 @@
-use Rattle.std.proofs.Common.{◌≡◌, ℕ, ℤ, List, ◌++◌, ap, ◌∙◌}
+use Rattle.std.proofs.Common.{ℕ, ℤ, List, ◌++◌, ap, ◌∙◌}
 use Rattle.swift_digest.specs.Digests.{Digest, digest_of}
 use Rattle.swift_keys.specs.Numbers.{each_numbers}
 use Rattle.swift_keys.specs.DigestNumbers.{card_numbers, groups_numbers, head_numbers}

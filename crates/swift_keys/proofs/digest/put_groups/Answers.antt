@@ -1,4 +1,3 @@
-use Rattle.std.proofs.Common.{◌≡◌, ◌++◌}
 use Rattle.swift_keys.specs.DigestNumbers.{groups_numbers}
 use Rattle.swift_digest.specs.Digests.{digest_of}
 use Rattle.swift_keys.proofs.Steps.{each_step}

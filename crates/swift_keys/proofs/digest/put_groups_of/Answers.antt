@@ -1,4 +1,4 @@
-use Rattle.std.proofs.Common.{◌≡◌, ◌++◌, ap, ◌∙◌}
+use Rattle.std.proofs.Common.{◌++◌, ap, ◌∙◌}
 use Rattle.swift_keys.specs.DigestNumbers.{group_numbers}
 use Rattle.swift_digest.specs.Digests.{digest_of}
 use Rattle.swift_keys.proofs.CardSteps.{group_written}

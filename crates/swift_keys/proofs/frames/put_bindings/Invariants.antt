@@ -1,4 +1,4 @@
-use Rattle.std.proofs.Common.{◌≡◌, ◌++◌, map, reverse, take}
+use Rattle.std.proofs.Common.{◌≡◌, ◌++◌, reverse, take}
 use Rattle.swift_keys.specs.Numbers.{some_numbers}
 use Rattle.swift_keys.specs.FrameNumbers.{binding_numbers}
 use Rattle.swift_keys.proofs.frames.put_bindings.Given as goal

@@ -1,5 +1,4 @@
-use Rattle.std.proofs.Common.{◌≡◌, ℕ, ℤ, ◌<◌, List, [], ◌∷◌, ◌++◌, length, map, reverse, get_or, refl, sym, ap, ◌∙◌, arith, rules, append_assoc, false, w64, to_z, of_z}
-use Rattle.std.specs.Prelude.{pos}
+use Rattle.std.proofs.Common.{refl, arith, false}
 use Rattle.swift_keys.specs.Numbers.{flag_numbers}
 use Rattle.swift_keys.proofs.Steps.{some_step, some_all, two_writes}
 use Rattle.swift_keys.proofs.frames.put_flags.Goals as goal

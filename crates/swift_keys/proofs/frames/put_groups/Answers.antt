@@ -1,4 +1,3 @@
-use Rattle.std.proofs.Common.{◌≡◌, reverse}
 use Rattle.std.proofs.lemmas.List.{reverse-reverse}
 use Rattle.swift_keys.proofs.frames.put_groups.Goals as goal
 

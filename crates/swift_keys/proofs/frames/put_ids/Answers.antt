@@ -1,5 +1,4 @@
-use Rattle.std.proofs.Common.{◌≡◌, ℕ, ℤ, ◌<◌, List, [], ◌∷◌, ◌++◌, length, map, reverse, get_or, refl, sym, ap, ◌∙◌, arith, rules, append_assoc, w64, to_z, of_z}
-use Rattle.std.specs.Prelude.{pos}
+use Rattle.std.proofs.Common.{refl, arith}
 use Rattle.swift_keys.specs.Numbers.{number_numbers}
 use Rattle.swift_keys.proofs.Steps.{some_step, some_all, two_writes}
 use Rattle.swift_keys.proofs.frames.put_ids.Goals as goal

@@ -1,4 +1,4 @@
-use Rattle.std.proofs.Common.{◌≡◌, ◌++◌, map, reverse, take}
+use Rattle.std.proofs.Common.{◌≡◌, ◌++◌, map, take}
 use Rattle.script_code.specs.Seen.{pair_of}
 use Rattle.swift_keys.specs.Numbers.{some_numbers}
 use Rattle.swift_keys.specs.FrameNumbers.{binding_numbers}

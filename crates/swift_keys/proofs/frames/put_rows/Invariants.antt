@@ -1,4 +1,4 @@
-use Rattle.std.proofs.Common.{◌≡◌, ◌++◌, map, reverse, take}
+use Rattle.std.proofs.Common.{◌≡◌, ◌++◌, take}
 use Rattle.script_code.specs.Seen.{rows_of}
 use Rattle.swift_keys.specs.Numbers.{some_numbers}
 use Rattle.swift_keys.specs.FrameNumbers.{values_numbers}

@@ -1,4 +1,4 @@
-use Rattle.std.proofs.Common.{◌≡◌, ℕ, ℤ, ◌<◌, List, [], ◌∷◌, ◌++◌, length, map, reverse, get_or, refl, sym, ap, ◌∙◌, arith, rules, append_assoc, w64, to_z, of_z}
+use Rattle.std.proofs.Common.{◌≡◌, ℤ, [], ◌∷◌, ◌++◌, get_or, refl, ap, ◌∙◌, arith, rules, w64, to_z, of_z}
 use Rattle.std.specs.Prelude.{pos}
 use Rattle.swift_keys.specs.Numbers.{value_numbers}
 use Rattle.swift_keys.proofs.Steps.{some_step, some_all, two_writes}

@@ -1,4 +1,4 @@
-use Rattle.std.proofs.Common.{◌≡◌, ◌++◌, map, reverse, take}
+use Rattle.std.proofs.Common.{◌≡◌, ◌++◌, take}
 use Rattle.swift_keys.specs.Numbers.{some_numbers, value_numbers}
 use Rattle.swift_keys.proofs.frames.put_values.Given as goal
 

@@ -24,6 +24,6 @@ pub returns : goal.returns
 returns c = λ _ of u seat.
     (let x = c.args.self.now in
     elim (before_or_past u (length x.tasks.items)) [
-      | inl lt ↦ c.loop-place.invariant of u (omega (arith, lt, c.loop-place-test.false, c.len.ensures)) seat
+      | inl lt ↦ c.loop-place.invariant of u (omega (arith, lt, c.loop-place-test.false, c.len-place-end.ensures)) seat
       | inr le ↦ absurd (seat_past (arc_value x.script) x.tasks.items u c.args.executor le seat)
     ])

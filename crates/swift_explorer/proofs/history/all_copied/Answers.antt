@@ -2,11 +2,11 @@ use Rattle.std.proofs.Common.{◌∙◌, ℤ, List, [], ◌∷◌, ◌++◌, Vec
 use Rattle.std.specs.declared.alloc.Global.{Global}
 use Rattle.std.proofs.lemmas.List.{map_more, map_push}
 use Rattle.script_code.specs.Seen.{rows_of}
-use Rattle.swift_explorer.proofs.history.SearchedHistory.fields.Goals as goal
+use Rattle.swift_explorer.proofs.history.all_copied.Goals as goal
 
 pub loop-rows-preserved : goal.loop-rows-preserved
 loop-rows-preserved c =
-    let all = c.args.self.now.fields.items in
+    let all = c.args.all.now in
     let k = c.loop-rows.rows-index in
     let copied = c.in_ok-copy_of.field-0 in
     let f = λ (rows : Vec (Vec ℤ Global) Global). rows_of rows.items in
@@ -18,4 +18,4 @@ loop-rows-preserved c =
     ∙ sym (map_more f all k c.rows-item.result c.loop-rows-test.true)
 
 pub returns : goal.returns
-returns c = c.loop-rows.invariant ∙ ap (map (λ (rows : Vec (Vec ℤ Global) Global). rows_of rows.items)) (take_all c.loop-rows.rows-index c.args.self.now.fields.items (omega (arith, c.loop-rows-test.false)))
+returns c = c.loop-rows.invariant ∙ ap (map (λ (rows : Vec (Vec ℤ Global) Global). rows_of rows.items)) (take_all c.loop-rows.rows-index c.args.all.now (omega (arith, c.loop-rows-test.false)))
