@@ -27,4 +27,4 @@ statements-loop-preserved t c =
 
 pub statements-returns : goal.statements-returns
 statements-returns t c =
-    refused_fails c.refused.result (at EndsEarly (map piece c.loop.rest.now)) _ c.refused.ensures (runs_out brace_at (stmt_at NESTING c.args.region (block_at NESTING c.args.blocks)) (map view_stmt c.loop.stmts.items) (length c.args.tokens.now) c.loop.counter (map piece c.loop.rest.now) _ c.loop-test.false c.loop.invariant)
+    refused_fails c.refusal.result (at EndsEarly (map piece c.loop.rest.now)) _ c.refusal.ensures (runs_out brace_at (stmt_at NESTING c.args.region (block_at NESTING c.args.blocks)) (map view_stmt c.loop.stmts.items) (length c.args.tokens.now) c.loop.counter (map piece c.loop.rest.now) _ c.loop-test.false c.loop.invariant)

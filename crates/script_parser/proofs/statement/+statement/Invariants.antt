@@ -12,8 +12,8 @@ decreases-block l = l.blocks * 4
 abbrev pub decreases-choice : goal.decreases-choice
 decreases-choice l = l.blocks * 4 + 1
 
-abbrev pub decreases-headed : goal.decreases-headed
-decreases-headed l = l.blocks * 4 + 1
+abbrev pub decreases-head_and_block : goal.decreases-head_and_block
+decreases-head_and_block l = l.blocks * 4 + 1
 
 abbrev pub decreases-stmt : goal.decreases-stmt
 decreases-stmt l = l.blocks * 4 + 2

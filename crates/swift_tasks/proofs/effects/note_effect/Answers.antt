@@ -48,7 +48,7 @@ returns-in-Open-clause-jobs c = λ script is count. rw c.in-Open.is (sym (append
 
 pub returns-in-CancelTask-clause-log : goal.returns-in-CancelTask-clause-log
 returns-in-CancelTask-clause-log c =
-    rw c.in-CancelTask.is (c.note_cancel.ensures.log ∙ ap (λ (t : TaskId). c.args.ledger.now.log ++ cancel_events t c.args.ledger.now.log) c.task_of-task_of.ensures.named)
+    rw c.in-CancelTask.is (c.note_cancel.ensures.log ∙ ap (λ (t : TaskId). c.args.ledger.now.log ++ cancel_events t c.args.ledger.now.log) c.task_of-named.ensures.named)
 
 pub returns-in-CancelTask-clause-jobs : goal.returns-in-CancelTask-clause-jobs
 returns-in-CancelTask-clause-jobs c = λ script is count. rw c.in-CancelTask.is (sym (append-nil _))
@@ -103,7 +103,7 @@ pub note_add-requires-clause-number : goal.note_add-requires-clause-number
 note_add-requires-clause-number c = let take = rw c.in-Add.is at c.requires.take in take.1
 
 pub note_cancel-requires-clause-made : goal.note_cancel-requires-clause-made
-note_cancel-requires-clause-made c = c.task_of-task_of.ensures.made (rw c.in-CancelTask.is at c.requires.take)
+note_cancel-requires-clause-made c = c.task_of-named.ensures.made (rw c.in-CancelTask.is at c.requires.take)
 
 pub note_aside-requires-clause-fits : goal.note_aside-requires-clause-fits
 note_aside-requires-clause-fits c = (c.requires.mine, rw c.in-CancelGroup.is at c.requires.take)
