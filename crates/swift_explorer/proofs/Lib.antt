@@ -5,7 +5,6 @@ mod First
 mod Ended
 mod Orderly
 mod Rows
-mod Shorter
 mod Ran
 mod Used
 mod Paths

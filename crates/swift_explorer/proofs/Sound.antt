@@ -24,3 +24,6 @@ sound_as script x y is same outcomes broken = record {
   outcomes = subst (λ (os : Vec RunOutcome Global). All (IsOutcomeOf script) os.items) (sym outcomes) is.outcomes;
   broken = subst (λ (o : Option (Vec Move Global)). IfSome o (λ schedule. IsBrokenAfter script schedule.items)) (sym broken) is.broken;
 }
+
+pub sound_broken : (script other : ScriptView) (x : Search) → other ≡ script → IsSound other x → IfSome x.broken (λ schedule. IsBrokenAfter script schedule.items)
+sound_broken script other x is sound = subst (λ (s : ScriptView). IfSome x.broken (λ schedule. IsBrokenAfter s schedule.items)) is sound.broken

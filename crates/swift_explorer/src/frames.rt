@@ -4,17 +4,18 @@ use crate::waiting::Ready;
 use std::alloc::AllocError;
 use swift_interpreter::Exit;
 use swift_keys::{put_bindings, put_frame, put_number, put_resume};
-use swift_turn::{Body, Step};
+use swift_turn::Body;
+use swift_types::limits::FRAMES;
 
-// The frames of a task, the one that runs first. The body is left frame by frame.
+// The frames of a task, of which there are at most 64, the one that runs first. The body is left frame by frame.
 fn put_frames(key: &mut Vec<i64>, mut body: Body) -> Result<(), AllocError> {
-    let exit = Exit::Return(0);
-    'frames: while body.is_running() {
+    for _ in 0..FRAMES {
+        if !body.is_running() {
+            break;
+        }
         key.push(1)?;
         put_frame(key, body.top())?;
-        let Step::Run(_, _) = body.advance(&exit)? else {
-            break;
-        };
+        let _step = body.advance_with(Exit::Return(0))?;
     }
     key.push(0)?;
     Ok(())
