@@ -1,16 +1,20 @@
 //! Answers questions about scripts of actors: runs them, checks them, prints them, and explains their refusals and faults.
 //!
-//! Its first argument is a command: `run`, `why`, `check`, `explain`, `print`, `show` or `swift`; `--help` and `--version` are taken too.
+//! Its first argument is a command: `run`, `why`, `check`, `explain`, `print`, `show`, `swift` or `explore`; `--help` and `--version` are
+//! taken too.
 //! Status 0 stands for a run whose tasks all ended with a value, a script that is accepted, and for help; 1 for a run with a task that ended
 //! with a fault, 2 for words that were refused, 3 for a script that was refused, 4 for a run that was refused, or a file or device that
 //! failed.
 #![tactic(auto)]
 
+// Outcomes of orders of turns.
+mod explore;
 // Runs as pictures.
 mod show;
 // Runs whose turns are explained.
 mod values;
 
+use crate::explore::outcomes_text;
 use crate::show::show_run;
 use crate::values::{Said, explained_turn, report_of};
 use json_tool::run_json;
@@ -110,6 +114,10 @@ where
             Ok(text) => tell(host, write_swift(host, &text)),
             Err(error) => unread(host, source, error),
         },
+        Request::Explore(source, limit) => match script(host, source) {
+            Ok(text) => tell(host, write_outcomes(host, &text, limit)),
+            Err(error) => unread(host, source, error),
+        },
         Request::Explain(topic) => tell(host, write_page(host, topic)),
     }
 }
@@ -197,6 +205,11 @@ fn write_printed(rt: &HostRuntime, text: &[u8], is_pretty: bool) -> Result<bool,
 
 fn write_swift(rt: &HostRuntime, text: &[u8]) -> Result<bool, ToolFault> {
     let said = translate(rt.alloc(), text)?;
+    write_out(rt, &said)
+}
+
+fn write_outcomes(rt: &HostRuntime, text: &[u8], limit: u32) -> Result<bool, ToolFault> {
+    let said = outcomes_text(rt.alloc(), text, limit)?;
     write_out(rt, &said)
 }
 

@@ -42,4 +42,6 @@ pub enum Request<'a> {
     Show(Source<'a>, u32, PictureFormat),
     /// To print the Swift program of a script.
     Swift(Source<'a>),
+    /// To search the histories of a script for outcomes, and to keep at most so many histories.
+    Explore(Source<'a>, u32),
 }

@@ -168,6 +168,21 @@ fn swift_command<'a>(alloc: Global) -> Result<Command<'a>, AllocError> {
         .arg(file(alloc))
 }
 
+fn explore_command<'a>(alloc: Global) -> Result<Command<'a>, AllocError> {
+    let limit = Arg::new(alloc, "limit")
+        .long("limit")
+        .value_name("N")
+        .help("Keeps at most N states, from 1 to 10000000")
+        .action(ArgAction::Set)
+        .value_parser(value_parser!(u32).range(1..10_000_001))
+        .default_value("100000");
+    let words = Command::new(alloc, "explore")
+        .about("Lists outcomes that some order of turns leads to, each with its schedule")
+        .after_help("Example: nuchapay explore examples/races/early_read.actors")
+        .arg(file(alloc));
+    with_arg(words, limit)
+}
+
 // The words that the program takes, with one command more, as `with_arg`.
 fn with_command<'a>(
     words: Result<Command<'a>, AllocError>,
@@ -192,7 +207,8 @@ fn command<'a>(alloc: Global) -> Result<Command<'a>, AllocError> {
     let words = with_command(words, explain_command(alloc));
     let words = with_command(words, print_command(alloc));
     let words = with_command(words, show_command(alloc));
-    with_command(words, swift_command(alloc))
+    let words = with_command(words, swift_command(alloc));
+    with_command(words, explore_command(alloc))
 }
 
 // The file that was named.
@@ -330,6 +346,10 @@ fn requested<'a>(matches: &ArgMatches<'a>) -> Result<Request<'a>, Refused>
     if let Some(found) = matches.subcommand_matches("swift") {
         return Ok(Request::Swift(source(found)));
     }
+    if let Some(found) = matches.subcommand_matches("explore") {
+        let limit = found.get_one::<u32>("limit").unwrap_or(100_000);
+        return Ok(Request::Explore(source(found), limit));
+    }
     match matches.subcommand_matches("explain") {
         Some(found) => explain_request(found.get_str("topic")),
         None => explain_request(None),
@@ -352,6 +372,7 @@ fn is_second(matches: &ArgMatches<'_>, argument: &str, first: &str, second: &str
 ///   is not given, and `--values`, for which there is no place where `--quiet` is given, and which is refused beside `json`;
 /// - `why`, with a file, the name of a turn, and `--workers N`;
 /// - `swift`, with a file;
+/// - `explore`, with a file, and `--limit N` from 1 to 10,000,000, 100,000 where it is not given;
 /// - `show`, with a file, `--workers N`, and `--format` with `svg` or `trace`, `svg` where it is not given;
 /// - `check`, with a file and `--color always` or `never`, which is meant where it is not given;
 /// - `print`, with a file and `--pretty`;

@@ -1,0 +1,67 @@
+-- A history of which nothing was followed.
+use Rattle.std.proofs.Common.{Bool, false, ◌≡◌, ◌<◌, ℕ, zero, suc, ◌+◌, List, [], ◌∷◌, ◌++◌, length, map, refl, sym, subst, ap, ◌∙◌, ℤ, arith}
+use Rattle.std.specs.Prelude.{Option, Some, None, slice_get, slice_index_or, replicate}
+use Rattle.std.specs.Option.{option_map}
+use Rattle.std.specs.List.{range_with_len}
+use Rattle.std.proofs.lemmas.List.{length-map}
+use Rattle.std.proofs.lemmas.Option.{none-some, slice_get-map}
+use Rattle.swift_script.specs.Scripts.{ScriptView, executor_count, executor_start}
+use Rattle.swift_tasks.specs.Books.{BookView, empty_book}
+use Rattle.swift_course.specs.Course.{starts}
+use Rattle.swift_course.proofs.Starts.{start_fields}
+use Rattle.swift_explorer.specs.declared.waiting.Ready.{Ready}
+use Rattle.swift_explorer.specs.HistoryInside.{AreFirst, IsLed, given_at, given_view}
+
+pub range_length : (a n : ℕ) → length (range_with_len a n) ≡ n
+range_length a zero = refl
+range_length a (suc n) = ap suc (range_length (a + 1) n)
+
+next : (a e : ℕ) → a + suc e ≡ a + 1 + e
+next a e = omega arith
+
+-- a number that stands in a range, at its place
+pub range_at : (a n e : ℕ) (x : ℕ) → slice_get (range_with_len a n) e ≡ Some x → (x ≡ a + e) × (e < n)
+range_at a zero e x at = absurd (none-some x at)
+range_at a (suc n) zero x at = (let is : a ≡ x = cc at in omega (arith, is), omega arith)
+range_at a (suc n) (suc e) x at =
+    let rest = range_at (a + 1) n e x at in
+    let is = rest.0 in
+    let lt = rest.1 in
+    (omega (arith, is), omega (arith, lt))
+
+-- of a list that is mapped, the one that stood there
+pub mapped : {A B : Type 0} (f : A → B) (o : Option A) (y : B) → option_map f o ≡ Some y → (x : A) × (o ≡ Some x) × (f x ≡ y)
+mapped f None y is = absurd (none-some y is)
+mapped f (Some x) y is = (x, refl, cc is)
+
+fields_first : (script : ScriptView) (fields : List (List (List ℤ))) (e : ℕ) (rows : List (List ℤ)) → AreFirst script fields → slice_get fields e ≡ Some rows → (rows ≡ executor_start script e) × (e < executor_count script)
+fields_first script fields e rows first at =
+    let one = mapped (executor_start script) (slice_get (range_with_len 0 (executor_count script)) e) rows
+    (sym (slice_get-map (executor_start script) (range_with_len 0 (executor_count script)) e) ∙ ap (λ (fs : List (List (List ℤ))). slice_get fs e) (sym first) ∙ at) in
+    let place = range_at 0 (executor_count script) e one.0 one.1 in
+    let zero_is : 0 + e ≡ e = omega arith in
+    let is : one.0 ≡ e = place.0 ∙ zero_is in
+    (sym one.2 ∙ ap (executor_start script) is, place.1)
+
+replicate_at : (n e : ℕ) → slice_index_or (replicate n false) e false ≡ false
+replicate_at zero e = refl
+replicate_at (suc n) zero = refl
+replicate_at (suc n) (suc e) = replicate_at n e
+
+pub first_led : (script : ScriptView) (fields : List (List (List ℤ))) (b : BookView) (tasks : List (Option Ready)) → tasks ≡ [] → AreFirst script fields → b ≡ empty_book script
+    → IsLed script [] b.log b.held tasks fields 0
+first_led script fields b tasks no_tasks first empty = record {
+  stand = tt;
+  none_folded = λ e. refl;
+  log_is = ap (λ (x : BookView). x.log) empty;
+  held_is = ap (λ (x : BookView). x.held) empty;
+  given = λ t. ap (λ (gs : List (Option Ready)). option_map (given_view t) (given_at gs t)) (sym no_tasks);
+  many = ap length first ∙ length-map (range_with_len 0 (executor_count script)) (executor_start script) ∙ range_length 0 (executor_count script);
+  fields_are = λ e rows at.
+      (let is = fields_first script fields e rows first at in
+      is.0 ∙ sym (start_fields script e is.1));
+  roots_are = refl;
+}
+
+pub none_used : (used : List Bool) (n : ℕ) → used ≡ replicate n false → (e : ℕ) → slice_index_or used e false ≡ false
+none_used used n is e = ap (λ (us : List Bool). slice_index_or us e false) is ∙ replicate_at n e

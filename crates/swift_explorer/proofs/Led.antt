@@ -1,0 +1,294 @@
+-- Each step of a history that is followed adds one block.
+use Rattle.std.proofs.Common.{inl, inr, ◌≡◌, ◌≢◌, ℕ, zero, suc, ◌+◌, ◌<◌, List, [], ◌∷◌, ◌++◌, length, map, set, refl, sym, subst, ap, ◌∙◌, Bool, true, false, ℤ}
+use Rattle.std.specs.Prelude.{Option, Some, None, if◌then◌else◌, is_none, ◌&&◌, ◌==◌, slice_get, slice_set, unwrap_or}
+use Rattle.std.specs.Option.{option_map}
+use Rattle.std.specs.List.{cons_option}
+use Rattle.std.proofs.lemmas.Bool.{cases_eq, false≢true}
+use Rattle.std.proofs.lemmas.Option.{none-some}
+use Rattle.swift_types.specs.declared.env.Env.{Env}
+use Rattle.swift_types.specs.declared.id.TaskId.{TaskId}
+use Rattle.swift_script.specs.Scripts.{ScriptView, actor_executor, executor_count, executor_start, method_actor, root_count}
+use Rattle.swift_interpreter.specs.Frames.{FrameView}
+use Rattle.swift_interpreter.specs.Turn.{EffectView, ExitView, Played, TurnStateView, calling, waiting, asking_next, closing, yielding, returning, failing}
+use Rattle.swift_events.specs.declared.event.Event.{Event}
+use Rattle.swift_events.specs.declared.event.Event.TheVariants.{Begin}
+use Rattle.swift_events.specs.declared.life.JobStage.{JobStage}
+use Rattle.swift_events.specs.declared.life.JobStage.TheVariants.{Begun}
+use Rattle.swift_events.specs.Lives.{life_of}
+use Rattle.swift_events.specs.Room.{IsEnv}
+use Rattle.swift_journal.specs.Records.{RecordView}
+use Rattle.swift_journal.specs.Replay.{IsAfter, IsLawfulRecord, StandsFor, fields_after, replay}
+use Rattle.swift_job.specs.Job.{JobView}
+use Rattle.swift_turn.specs.Body.{Advanced, BodyView, HasFrames, IfRunning, IsTurnOf, Polls, TaskView, TurnsTo, advanced, entered, kept_turn, left, state_at}
+use Rattle.swift_history.specs.Checks.{counters, fits_turn, is_current}
+use Rattle.swift_history.specs.Histories.{AllStand, Block, added, begun, ran, RecordStands, Standing, TurnStands, after_block, after_blocks, at_first, begun_priority, fields_of, folded_in, frames_applied, job_applied, left_as, record_in, records_of, root_in, taken, turn_applied, with_jobs}
+use Rattle.swift_history.specs.TurnEnds.{WaitingTaskView, JobFacts, TurnEnd, root_events, root_job, turn_end}
+use Rattle.swift_tasks.specs.declared.fault.BookFault.{BookFault}
+use Rattle.swift_tasks.specs.Books.{BookView, IsEndOf, end_of_frames, end_of_turn}
+use Rattle.swift_tasks.specs.Refusals.{fits_begun, refusal_of_apply, refusal_of_begin, refusal_of_root, refused_unless}
+use Rattle.swift_course.specs.Course.{standing, starts}
+use Rattle.swift_course.specs.Frames.{kept_frame}
+use Rattle.swift_course.proofs.Blocks.{after_push, filter_none, filter_some, range_next, replay_append, stand_push}
+use Rattle.swift_course.proofs.Frames.{frames_go_on}
+use Rattle.swift_explorer.specs.declared.waiting.Ready.{Ready}
+use Rattle.swift_explorer.specs.HistoryInside.{AreGiven, AreOf, IsLed, given_at, given_view, job_of, with_given}
+use Rattle.swift_explorer.proofs.Given.{equal, given_back, given_put, given_taken, unequal}
+
+-- what holds where nothing is refused
+
+if_none : (b : Bool) (x : BookFault) → (if b then None else Some x) ≡ None → b ≡ true
+if_none true x is = refl
+if_none false x is = absurd (none-some x (sym is))
+
+first_of_both : (a b : Bool) → (a && b) ≡ true → a ≡ true
+first_of_both true b is = refl
+first_of_both false b is = absurd (false≢true is)
+
+second_of_both : (a b : Bool) → (a && b) ≡ true → b ≡ true
+second_of_both true b is = is
+second_of_both false b is = absurd (false≢true is)
+
+no_one : {A : Type 0} (o : Option A) → is_none o ≡ true → o ≡ None
+no_one None is = refl
+no_one (Some x) is = absurd (false≢true is)
+
+none_before : (o : Option BookFault) (b : Bool) → refused_unless o b ≡ None → o ≡ None
+none_before None b is = refl
+none_before (Some x) b is = absurd (none-some x (sym is))
+
+holds_then : (o : Option BookFault) (b : Bool) → refused_unless o b ≡ None → b ≡ true
+holds_then None true is = refl
+holds_then None false is = absurd (none-some _ (sym is))
+holds_then (Some x) b is = absurd (none-some x (sym is))
+
+-- fields after a block that runs no turn of the executor
+fields_stay : (script : ScriptView) (bs : List Block) (b : Block) (e : ℕ) → record_in e b ≡ None → fields_of script (starts script) e (bs ++ b ∷ []) ≡ fields_of script (starts script) e bs
+fields_stay script bs b e none = ap (replay script _) (filter_none (record_in e) bs b none)
+
+-- a root more
+pub led_root : (script : ScriptView) (bs : List Block) (log : List Event) (held : List (Option WaitingTaskView)) (tasks tasks' : List (Option Ready)) (fields : List (List (List ℤ))) (r : ℕ) (t : TaskId) (g : Ready)
+    → IsLed script bs log held tasks fields r → refusal_of_root script log r ≡ None → given_view t.0 g ≡ root_job script r
+    → ((u : ℕ) → given_at tasks' u ≡ with_given t.0 (Some g) (given_at tasks) u)
+    → IsLed script (bs ++ added r ∷ []) (log ++ root_events script r) held tasks' fields (r + 1)
+led_root script bs log held tasks tasks' fields r t g f may is put =
+    let s = standing script bs in
+    let after = after_push script (at_first script) bs (added r) in
+    let both = if_none _ _ may in
+    let unmade = no_one (life_of r log).origin (second_of_both _ _ both) in
+    record {
+      none_folded = λ e. filter_none (folded_in e) bs (added r) refl ∙ f.none_folded e;
+      stand = stand_push script (starts script) bs (added r) f.stand (first_of_both _ _ both, subst (λ (l : List Event). (life_of r l).origin ≡ None) f.log_is unmade);
+      log_is = ap (λ (l : List Event). l ++ root_events script r) f.log_is ∙ ap (λ (x : Standing). x.log) (sym after);
+      held_is = f.held_is ∙ ap (λ (x : Standing). x.held) (sym after);
+      given = subst (λ (x : Standing). AreGiven x.jobs tasks') (sym after)
+          (subst (λ (j : JobFacts). AreGiven (with_jobs (j ∷ []) s.jobs) tasks') is (given_put s.jobs tasks tasks' t.0 g f.given put));
+      many = f.many;
+      fields_are = λ e rows at. f.fields_are e rows at ∙ sym (fields_stay script bs (added r) e refl);
+      roots_are = filter_some root_in bs (added r) r refl ∙ ap (λ (xs : List ℕ). xs ++ r ∷ []) f.roots_are ∙ range_next r;
+    }
+
+-- a turn begins
+pub led_begin : (script : ScriptView) (bs : List Block) (log : List Event) (held : List (Option WaitingTaskView)) (tasks between tasks' : List (Option Ready)) (fields : List (List (List ℤ))) (r : ℕ) (t : TaskId) (g : Ready) (env : Env)
+    → IsLed script bs log held tasks fields r → given_at tasks t.0 ≡ Some g → refusal_of_begin script log (job_of t g) ≡ None → IsEnv (root_count script) t log env
+    → ((u : ℕ) → given_at between u ≡ with_given t.0 None (given_at tasks) u) → ((u : ℕ) → given_at tasks' u ≡ with_given t.0 (Some g) (given_at between) u)
+    → IsLed script (bs ++ begun t.0 g.number env ∷ []) (log ++ Begin t g.number env ∷ []) held tasks' fields r
+led_begin script bs log held tasks between tasks' fields r t g env f was may is took put =
+    let s = standing script bs in
+    let b = begun t.0 g.number env in
+    let after = after_push script (at_first script) bs b in
+    let current : is_current (life_of t.0 log) g.number g.resume ≡ true = holds_then _ _ (none_before _ _ may) in
+    record {
+      none_folded = λ e. filter_none (folded_in e) bs b refl ∙ f.none_folded e;
+      stand = stand_push script (starts script) bs b f.stand
+          (given_view t.0 g, f.given t.0 ∙ ap (option_map (given_view t.0)) was, subst (λ (l : List Event). is_current (life_of t.0 l) g.number g.resume ≡ true) f.log_is current, subst (λ (l : List Event). IsEnv (root_count script) t l env) f.log_is is);
+      log_is = ap (λ (l : List Event). l ++ Begin t g.number env ∷ []) f.log_is ∙ ap (λ (x : Standing). x.log) (sym after);
+      held_is = f.held_is ∙ ap (λ (x : Standing). x.held) (sym after);
+      given = subst (λ (x : Standing). AreGiven x.jobs tasks') (sym after) (given_back s.jobs tasks between tasks' t.0 g f.given was took put);
+      many = f.many;
+      fields_are = λ e rows at. f.fields_are e rows at ∙ sym (fields_stay script bs b e refl);
+      roots_are = filter_none root_in bs b refl ∙ f.roots_are;
+    }
+
+-- a turn runs
+
+-- the frame that a turn leaves stands for what is still to do
+stands : (script : ScriptView) (g : FrameView) (rows : List (List ℤ)) (effects : List EffectView) (s : TurnStateView) → state_at script g rows effects s.room ≡ s → state_at script g s.fields s.effects s.room ≡ s
+stands script g rows effects s is =
+    ap (λ (fs : List (List ℤ)). state_at script g fs s.effects s.room) (sym (ap (λ (x : TurnStateView). x.fields) is))
+    ∙ ap (λ (es : List EffectView). state_at script g rows es s.room) (sym (ap (λ (x : TurnStateView). x.effects) is))
+    ∙ is
+
+after_left : (script : ScriptView) (m : ℕ) (s : TurnStateView) (exit : ExitView) (g : FrameView) → StandsFor script m s (Some g) → IsAfter script m s exit (kept_frame exit g)
+after_left script m s (calling c) g is = is
+after_left script m s (waiting t) g is = is
+after_left script m s (asking_next n) g is = is
+after_left script m s (closing n fault) g is = is
+after_left script m s yielding g is = is
+after_left script m s (returning v) g is = refl
+after_left script m s (failing fault) g is = refl
+
+-- the record of a turn
+abbrev turn_of : TaskId → Ready → FrameView → Env → List EffectView → ExitView → FrameView → RecordView
+turn_of t g p env effects exit q = record {
+  task = t.0;
+  number = g.number;
+  worker = 0;
+  frame = p;
+  outer = g.body.task.outer;
+  resume = g.resume;
+  env = env;
+  exit = exit;
+  effects = effects;
+  after = kept_frame exit q;
+}
+
+lawful : (script : ScriptView) (rows rows' : List (List ℤ)) (t : TaskId) (g : Ready) (p q : FrameView) (env : Env) (effects : List EffectView) (exit : ExitView)
+    → IsTurnOf script p g.body.task.outer rows g.resume env q (left rows' effects exit)
+    → IsLawfulRecord script rows (turn_of t g p env effects exit q) × (rows' ≡ fields_after script rows (turn_of t g p env effects exit q))
+lawful script rows rows' t g p q env effects exit turns =
+    let k = kept_turn script p g.body.task.outer rows g.resume env in
+    let is : record { state = state_at script q rows' effects k.state.room; exit = exit } ≡ k = turns.1 in
+    let state : state_at script q rows' effects k.state.room ≡ k.state = ap (λ (x : Played). x.state) is in (
+      record {
+        exit = ap (λ (x : Played). x.exit) is;
+        effects = ap (λ (x : TurnStateView). x.effects) state;
+        after = after_left script p.method k.state exit q (turns.0, stands script q rows' effects k.state state);
+      },
+      ap (λ (x : TurnStateView). x.fields) state,
+    )
+
+-- what is known of a turn that ran: the book before and after it, and the job with the frames that it has left
+pub record Runs (b b' : BookView) (tasks between tasks' : List (Option Ready)) (fields fields' : List (List (List ℤ))) (t : TaskId) (g : Ready) (k : ℕ) (env : Env) (rows rows' : List (List ℤ)) (body : BodyView) (effects : List EffectView) (exit : ExitView) (jobs : List JobFacts) : Type 0 where
+  pub was : given_at tasks t.0 ≡ Some g
+  pub took : (u : ℕ) → given_at between u ≡ with_given t.0 None (given_at tasks) u
+  pub has_begun : (life_of t.0 b.log).stage ≡ Some (Begun env)
+  pub same : g.body.script ≡ b.script
+  pub rows_are : slice_get fields k ≡ Some rows
+  pub fields_are : (e : ℕ) → slice_get fields' e ≡ (if e == k then Some rows' else slice_get fields e)
+  pub many : length fields' ≡ length fields
+  pub on : IfRunning g.body.task.frames (λ p. actor_executor b.script (method_actor b.script p.method) ≡ k)
+  pub rest : body ≡ record g.body { task = record g.body.task { frames = body.task.frames }; phase = body.phase }
+  pub fits : refusal_of_apply b.script b.log (record (job_of t g) { body = body }) effects exit ≡ None
+  pub ends : IsEndOf b [] (record (job_of t g) { body = body }) effects exit b'.log b'.held jobs
+  pub given : (seen : ℕ → Option JobFacts) → AreGiven seen between → AreGiven (with_jobs jobs seen) tasks'
+
+own_record : (e : ℕ) (r : RecordView) → record_in e (ran e r) ≡ Some r
+own_record e r = ap (λ b. if b then Some r else None) (equal e e refl)
+
+other_record : (e k : ℕ) (r : RecordView) → e ≢ k → record_in e (ran k r) ≡ None
+other_record e k r apart = ap (λ b. if b then Some r else None) (unequal k e (λ is. apart (sym is)))
+
+-- the fields of the executor, and those of the others
+fields_go_on : (script : ScriptView) (bs : List Block) (fields fields' : List (List (List ℤ))) (k : ℕ) (rows rows' : List (List ℤ)) (r : RecordView)
+    → ((e : ℕ) (x : List (List ℤ)) → slice_get fields e ≡ Some x → x ≡ fields_of script (starts script) e bs) → slice_get fields k ≡ Some rows
+    → ((e : ℕ) → slice_get fields' e ≡ (if e == k then Some rows' else slice_get fields e)) → rows' ≡ fields_after script rows r
+    → (e : ℕ) (x : List (List ℤ)) → slice_get fields' e ≡ Some x → x ≡ fields_of script (starts script) e (bs ++ ran k r ∷ [])
+fields_go_on script bs fields fields' k rows rows' r were at are ran_is e x here = elim (cases_eq e k) [
+  | inl same ↦
+      let own : Some rows' ≡ Some x = sym (ap (λ b. if b then Some rows' else slice_get fields e) (equal e k same)) ∙ sym (are e) ∙ here in
+      let is : rows' ≡ x = ap (λ o. unwrap_or o rows') own in
+      let more : records_of e (bs ++ ran k r ∷ []) ≡ records_of e bs ++ r ∷ [] = filter_some (record_in e) bs (ran k r) r (subst (λ (j : ℕ). record_in e (ran j r) ≡ Some r) same (own_record e r)) in
+      let before : rows ≡ fields_of script (starts script) e bs = were k rows at ∙ ap (λ (j : ℕ). fields_of script (starts script) j bs) (sym same) in
+      sym is ∙ ran_is ∙ ap (λ (f : List (List ℤ)). fields_after script f r) before
+      ∙ sym (ap (replay script _) more ∙ replay_append script _ (records_of e bs) (r ∷ []))
+  | inr ne ↦
+      let other : slice_get fields e ≡ Some x = sym (ap (λ b. if b then Some rows' else slice_get fields e) (unequal e k ne)) ∙ sym (are e) ∙ here in
+      were e x other ∙ sym (fields_stay script bs (ran k r) e (other_record e k r ne))
+]
+
+-- where the turn of a job leads
+module _ (b b' : BookView) (bs : List Block) (tasks between tasks' : List (Option Ready)) (fields fields' : List (List (List ℤ))) (roots : ℕ) (t : TaskId) (g : Ready) (k : ℕ) (env : Env) (rows rows' : List (List ℤ)) (body : BodyView) (effects : List EffectView) (exit : ExitView) (jobs : List JobFacts)
+    (f : IsLed b.script bs b.log b.held tasks fields roots) (x : Runs b b' tasks between tasks' fields fields' t g k env rows rows' body effects exit jobs) where
+  abbrev s : Standing
+  s = standing b.script bs
+
+  abbrev j : JobView BodyView
+  j = record (job_of t g) { body = body }
+
+  abbrev outer : List (ℕ × ℤ)
+  outer = g.body.task.outer
+
+  current : is_current (life_of t.0 b.log) g.number g.resume ≡ true
+  current = holds_then _ _ (none_before _ _ x.fits)
+
+  fits_is : fits_turn b.script t.0 b.log (counters t.0 b.log env.room) effects exit ≡ true
+  fits_is =
+      let all : fits_begun b.script b.log t.0 body.script effects exit (life_of t.0 b.log).stage ≡ true = holds_then _ _ x.fits in
+      first_of_both _ _ (subst (λ (o : Option JobStage). fits_begun b.script b.log t.0 body.script effects exit o ≡ true) x.has_begun all)
+
+  has_job : s.jobs t.0 ≡ Some (given_view t.0 g)
+  has_job = f.given t.0 ∙ ap (option_map (given_view t.0)) x.was
+
+  -- the frames before and after
+  module _ (p q : FrameView) (callers : List FrameView) (before : g.body.task.frames ≡ p ∷ callers) (after : body.task.frames ≡ q ∷ callers)
+      (turns : IsTurnOf b.script p outer rows g.resume env q (left rows' effects exit)) (on : actor_executor b.script (method_actor b.script p.method) ≡ k) where
+    abbrev r : RecordView
+    r = turn_of t g p env effects exit q
+
+    abbrev e : TurnEnd
+    e = turn_end b.script b.log b.held t.0 g.number (begun_priority (life_of t.0 b.log).stage) effects exit (advanced b.script (left_as p effects (kept_frame exit q)) callers outer exit)
+
+    ends_is : end_of_turn b j effects exit ≡ e
+    ends_is =
+        ap (λ (v : BodyView). end_of_frames b (record (job_of t g) { body = v }) effects exit body.task.frames) x.rest
+        ∙ ap (λ (fs : List FrameView). end_of_frames b (record (job_of t g) { body = record g.body { task = record g.body.task { frames = body.task.frames }; phase = body.phase } }) effects exit fs) after
+        ∙ ap (λ (a : Advanced). turn_end b.script b.log b.held t.0 g.number (begun_priority (life_of t.0 b.log).stage) effects exit a)
+        (frames_go_on b.script p q callers outer rows rows' g.resume env effects exit turns)
+
+    leads : after_block b.script s (ran k r) ≡ record { log = e.log; held = e.held; jobs = with_jobs e.jobs (taken t.0 s.jobs) }
+    leads =
+        ap (λ (o : Option JobFacts). job_applied b.script s t.0 g.number o effects exit r.after) has_job
+        ∙ ap (λ (fs : List FrameView). frames_applied b.script s t.0 g.number fs outer effects exit r.after) before
+        ∙ ap (λ (l : List Event).
+        let d = turn_end b.script l s.held t.0 g.number (begun_priority (life_of t.0 l).stage) effects exit (advanced b.script (left_as p effects (kept_frame exit q)) callers outer exit) in
+        record { log = d.log; held = d.held; jobs = with_jobs d.jobs (taken t.0 s.jobs) }) (sym f.log_is)
+        ∙ ap (λ (h : List (Option WaitingTaskView)).
+        let d = turn_end b.script b.log h t.0 g.number (begun_priority (life_of t.0 b.log).stage) effects exit (advanced b.script (left_as p effects (kept_frame exit q)) callers outer exit) in
+        record { log = d.log; held = d.held; jobs = with_jobs d.jobs (taken t.0 s.jobs) }) (sym f.held_is)
+
+    record_stands : RecordStands b.script s (fields_of b.script (starts b.script) k bs) k r
+    record_stands = record {
+      job = given_view t.0 g;
+      stands = record {
+        given = has_job;
+        number = refl;
+        current = subst (λ (l : List Event). is_current (life_of t.0 l) g.number g.resume ≡ true) f.log_is current;
+        has_begun = ap (λ (l : List Event). (life_of t.0 l).stage) (sym f.log_is) ∙ x.has_begun;
+        fits = subst (λ (l : List Event). fits_turn b.script t.0 l (counters t.0 l env.room) effects exit ≡ true) f.log_is fits_is;
+        runs = (callers, before);
+        on = on;
+      };
+      resume = refl;
+      outer = refl;
+      lawful = subst (λ (fs : List (List ℤ)). IsLawfulRecord b.script fs r) (f.fields_are k rows x.rows_are) (lawful b.script rows rows' t g p q env effects exit turns).0;
+    }
+
+    led_at : IsLed b.script (bs ++ ran k r ∷ []) b'.log b'.held tasks' fields' roots
+    led_at =
+        let push = after_push b.script (at_first b.script) bs (ran k r) in
+        let is = push ∙ leads in
+        let made : jobs ≡ e.jobs = x.ends.jobs_are ∙ ap (λ (d : TurnEnd). d.jobs) ends_is in
+        record {
+          stand = stand_push b.script (starts b.script) bs (ran k r) f.stand record_stands;
+          none_folded = λ i. filter_none (folded_in i) bs (ran k r) refl ∙ f.none_folded i;
+          log_is = x.ends.log_is ∙ ap (λ (d : TurnEnd). d.log) ends_is ∙ ap (λ (z : Standing). z.log) (sym is);
+          held_is = x.ends.held_is ∙ ap (λ (d : TurnEnd). d.held) ends_is ∙ ap (λ (z : Standing). z.held) (sym is);
+          given = subst (λ (z : Standing). AreGiven z.jobs tasks') (sym is)
+              (subst (λ (js : List JobFacts). AreGiven (with_jobs js (taken t.0 s.jobs)) tasks') made (x.given (taken t.0 s.jobs) (given_taken s.jobs tasks between t.0 f.given x.took)));
+          many = x.many ∙ f.many;
+          fields_are = fields_go_on b.script bs fields fields' k rows rows' r f.fields_are x.rows_are x.fields_are (lawful b.script rows rows' t g p q env effects exit turns).1;
+          roots_are = filter_none root_in bs (ran k r) refl ∙ f.roots_are;
+        }
+
+  led_after : (fs gs : List FrameView) → g.body.task.frames ≡ fs → body.task.frames ≡ gs → HasFrames fs → IfRunning fs (λ p. actor_executor b.script (method_actor b.script p.method) ≡ k)
+      → Polls b.script outer fs (entered rows g.resume env) gs (left rows' effects exit)
+      → (r : RecordView) × (r.task ≡ t.0) × (r.exit ≡ exit) × IsLed b.script (bs ++ ran k r ∷ []) b'.log b'.held tasks' fields' roots
+  led_after [] gs before after has on polls = absurd has
+  led_after (p ∷ callers) [] before after has on polls = absurd polls
+  led_after (p ∷ callers) (q ∷ others) before after has on polls =
+      let same : body.task.frames ≡ q ∷ callers = after ∙ ap (λ (cs : List FrameView). q ∷ cs) polls.0 in
+      (turn_of t g p env effects exit q, refl, refl, led_at p q callers before same polls.1 on)
+
+  pub led_run : HasFrames g.body.task.frames → Polls b.script outer g.body.task.frames (entered rows g.resume env) body.task.frames (left rows' effects exit)
+      → (r : RecordView) × (r.task ≡ t.0) × (r.exit ≡ exit) × IsLed b.script (bs ++ ran k r ∷ []) b'.log b'.held tasks' fields' roots
+  led_run has polls = led_after g.body.task.frames body.task.frames refl refl has x.on polls

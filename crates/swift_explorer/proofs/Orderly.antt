@@ -1,0 +1,72 @@
+-- Steps that are in order.
+use Rattle.std.proofs.Common.{◌≡◌, ◌≢◌, ◌⊎◌, ◌<◌, ◌≤◌, true, false, ℕ, zero, suc, List, [], ◌∷◌, ◌++◌, length, append_assoc, append-nil, refl, sym, subst, ap, ◌∙◌, arith}
+use Rattle.std.specs.Prelude.{Option, None, Some}
+use Rattle.std.specs.Option.{option_map}
+use Rattle.std.specs.Arc.{arc_value}
+use Rattle.std.proofs.lemmas.Option.{none-some}
+use Rattle.swift_types.specs.declared.env.Env.{Env}
+use Rattle.swift_script.specs.Scripts.{ScriptView, root_count}
+use Rattle.swift_events.specs.declared.event.Event.{Event}
+use Rattle.swift_events.specs.declared.life.JobStage.{JobStage}
+use Rattle.swift_events.specs.declared.life.JobStage.TheVariants.{Given, Begun, Applied, Waits, Asks, Closes}
+use Rattle.swift_events.specs.Lives.{life_of}
+use Rattle.swift_history.specs.Checks.{is_begun}
+use Rattle.swift_history.specs.Histories.{Block, added, begun}
+use Rattle.swift_history.specs.TurnEnds.{JobFacts}
+use Rattle.swift_course.specs.Course.{standing}
+use Rattle.swift_digest.specs.Explored.{AllAllowed, IsOrderly, job_executor}
+use Rattle.swift_explorer.specs.declared.waiting.Ready.{Ready}
+use Rattle.swift_explorer.specs.declared.history.SearchedHistory.{SearchedHistory}
+use Rattle.swift_explorer.specs.HistoryInside.{AreGiven, AreThere, IsHistory, MayBegin, given_at, given_view, seat_if, seat_of}
+
+pub allowed_push : (Allowed : List Block → Block → Type 0) (xs before : List Block) (b : Block) → AllAllowed Allowed before xs → Allowed (before ++ xs) b → AllAllowed Allowed before (xs ++ b ∷ [])
+allowed_push Allowed [] before b all is = (subst (λ (ys : List Block). Allowed ys b) (append-nil before) is, tt)
+allowed_push Allowed (x ∷ xs) before b all is = (all.0, allowed_push Allowed xs (before ++ x ∷ []) b all.1 (subst (λ (ys : List Block). Allowed ys b) (sym (append_assoc before (x ∷ []) xs)) is))
+
+seat_by : (script : ScriptView) (u : ℕ) (o : Option Ready) → seat_if script o ≡ job_executor script (option_map (given_view u) o)
+seat_by script u None = refl
+seat_by script u (Some g) = refl
+
+seat_is : (script : ScriptView) (tasks : List (Option Ready)) (jobs : ℕ → Option JobFacts) (u : ℕ) → AreGiven jobs tasks → seat_of script tasks u ≡ job_executor script (jobs u)
+seat_is script tasks jobs u given = seat_by script u (given_at tasks u) ∙ ap (job_executor script) (sym (given u))
+
+-- the first root that is missing may be added
+pub add_orderly : (script : ScriptView) (blocks : List Block) (log : List Event) (r : ℕ) → log ≡ (standing script blocks).log → AreThere r log → IsOrderly script blocks (added r)
+add_orderly script blocks log r is there = subst (AreThere r) is there
+
+-- a turn that may begin is in order
+pub begin_orderly : (blocks : List Block) (x : SearchedHistory) (t n : ℕ) (env : Env) → IsHistory (arc_value x.script) blocks x → MayBegin x t → IsOrderly (arc_value x.script) blocks (begun t n env)
+begin_orderly blocks x t n env h may =
+    let script = arc_value x.script in
+    let s = standing script blocks in
+    let seat = λ (u : ℕ). seat_is script x.tasks.items s.jobs u h.led.given in (
+      subst (AreThere (root_count script)) h.led.log_is may.there,
+      λ u same. ap (λ (l : List Event). is_begun (life_of u l).stage) (sym h.led.log_is) ∙ may.free h.scripts u (seat u ∙ same ∙ sym (seat t)),
+    )
+
+-- past the last task there is none
+
+given_past : (tasks : List (Option Ready)) (u : ℕ) → length tasks ≤ u → given_at tasks u ≡ None
+given_past [] u le = refl
+given_past (x ∷ tasks) zero le = absurd (omega (arith, le))
+given_past (x ∷ tasks) (suc u) le = given_past tasks u (omega (arith, le))
+
+pub seat_past : (script : ScriptView) (tasks : List (Option Ready)) (u k : ℕ) → length tasks ≤ u → seat_of script tasks u ≡ Some k → ⊥
+seat_past script tasks u k le is = none-some k (sym (ap (seat_if script) (given_past tasks u le)) ∙ is)
+
+-- whether a turn is under way
+
+pub has_begun : (o : Option JobStage) (env : Env) → o ≡ Some (Begun env) → is_begun o ≡ true
+has_begun o env is = ap is_begun is
+
+pub not_begun : (o : Option JobStage) → ((env : Env) → o ≢ Some (Begun env)) → is_begun o ≡ false
+not_begun None never = refl
+not_begun (Some (Begun env)) never = absurd (never env refl)
+not_begun (Some Given) never = refl
+not_begun (Some Applied) never = refl
+not_begun (Some (Waits t)) never = refl
+not_begun (Some (Asks g)) never = refl
+not_begun (Some (Closes g)) never = refl
+
+pub before_or_past : (u n : ℕ) → (u < n) ⊎ (n ≤ u)
+before_or_past u n = grind arith

@@ -1,0 +1,32 @@
+use Rattle.std.proofs.Common.{rules, refl, ◌≡◌, ◌∙◌, ℕ, List, length, sym, subst, ap}
+use Rattle.std.specs.Arc.{arc_value}
+use Rattle.swift_script.specs.Scripts.{ScriptView, root_count}
+use Rattle.swift_events.specs.Events.{tasks_of}
+use Rattle.swift_explorer.specs.declared.moves.Move.{Move}
+use Rattle.swift_explorer.specs.Steps.{AreSteps}
+use Rattle.swift_explorer.specs.HistoryInside.{HaveClosed, rows_at}
+use Rattle.swift_explorer.proofs.Ended.{folds_none, legal_is, report_of}
+use Rattle.swift_explorer.proofs.history.SearchedHistory.outcome.Goals as goal
+
+pub returns : goal.returns
+returns c =
+    let x = c.args.self.now in
+    let script = arc_value x.script in
+    let p = c.requires in
+    let bs = p.blocks in
+    let h = p.is in
+    let es = c.in-Some.endings.items in
+    let all : x.roots ≡ root_count script = search rules in
+    let ended : length es ≡ c.in-Ok.tasks = search rules in
+    let counted : c.in-Ok.tasks ≡ tasks_of (root_count x.book.script) x.book.log = search rules in
+    let many : length es ≡ tasks_of (root_count script) x.book.log = ended ∙ counted ∙ ap (λ (s : ScriptView). tasks_of (root_count s) x.book.log) h.book_is in
+    let shut : HaveClosed x.book.log c.in-Ok.tasks = c.if-not-has_closed_all.ensures refl in
+    let is = legal_is script bs x.book.log x.book.held x.tasks.items (rows_at x) x.roots es c.args.schedule.now h.led h.orderly p.steps all many (search rules) (subst (HaveClosed x.book.log) (sym ended) shut) in
+    record {
+      report = report_of script bs x.book.log es (rows_at x);
+      legal = is.0;
+      folds = folds_none script;
+      steps = subst (λ (ms : List Move). AreSteps 0 ms is.0.legal.blocks) (search rules) is.1;
+      endings = search rules;
+      fields = search rules;
+    }

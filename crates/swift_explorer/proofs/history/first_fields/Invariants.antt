@@ -1,0 +1,8 @@
+use Rattle.std.proofs.Common.{◌≡◌, map}
+use Rattle.std.specs.List.{range_with_len}
+use Rattle.script_code.specs.Seen.{rows_of}
+use Rattle.swift_script.specs.Scripts.{executor_start}
+use Rattle.swift_explorer.proofs.history.first_fields.Given as goal
+
+abbrev pub invariant-loop-place : goal.invariant-loop-place
+invariant-loop-place l = map (λ rows. rows_of rows.items) l.fields.items ≡ map (executor_start l.script) (range_with_len 0 l.place)

@@ -1,0 +1,4 @@
+pub mod Steps
+pub mod Outcomes
+pub mod HistoryInside
+pub mod SearchInside

@@ -1,0 +1,36 @@
+-- Outcomes (our own).
+use Rattle.std.specs.Prelude.{◌≡◌, Option, Some, List, [], ◌∷◌, ◌++◌, map}
+use Rattle.script_code.specs.Seen.{rows_of}
+use Rattle.swift_script.specs.Scripts.{ScriptView}
+use Rattle.swift_history.specs.Histories.{AllStand, Block, ReportView}
+use Rattle.swift_course.specs.Course.{starts}
+use Rattle.swift_digest.specs.Explored.{AllAllowed, FoldsNone, IsOrderly, IsOrderlyLegal}
+use Rattle.swift_explorer.specs.declared.moves.Move.{Move}
+use Rattle.swift_explorer.specs.declared.outcome.End.{End}
+use Rattle.swift_explorer.specs.declared.outcome.End.TheVariants.{Reached}
+use Rattle.swift_explorer.specs.declared.outcome.RunOutcome.{RunOutcome}
+use Rattle.swift_explorer.specs.Steps.{AreSteps, IsBroken}
+
+-- The schedule of an outcome leads to it: some legal report in order, in which no executor has folded turns, was made by what the
+-- schedule's steps do, and has these endings and these fields.
+pub record IsOutcomeOf (script : ScriptView) (outcome : RunOutcome) : Type 0 where
+  pub report : ReportView
+  pub legal : IsOrderlyLegal script report
+  pub folds : FoldsNone report
+  pub steps : AreSteps 0 outcome.schedule.items legal.legal.blocks
+  pub endings : report.endings ≡ outcome.endings.items
+  pub fields : report.fields ≡ map (λ rows. rows_of rows.items) outcome.fields.items
+
+-- The last turn of a schedule breaks an invariant: what its steps do is a history in order, and its last turn ends so.
+pub record IsBrokenAfter (script : ScriptView) (schedule : List Move) : Type 0 where
+  pub blocks : List Block
+  pub last : Block
+  pub stand : AllStand script (starts script) [] (blocks ++ last ∷ [])
+  pub orderly : AllAllowed (IsOrderly script) [] (blocks ++ last ∷ [])
+  pub steps : AreSteps 0 schedule (blocks ++ last ∷ [])
+  pub breaks : IsBroken last
+
+-- of the outcome that was reached
+abbrev pub IfReached : (RunOutcome → Type 0) → End → Type 0
+IfReached P (Reached outcome) = P outcome
+IfReached P _ = Unit {0}

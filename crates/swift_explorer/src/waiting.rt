@@ -1,0 +1,101 @@
+//! What the next turn of each task begins with.
+
+ghost use Rattle.std.specs.Prelude.{◌≡◌, ℕ, [], None, Option, OnOk, map, slice_index_or, slice_set};
+ghost use Rattle.std.specs.List.{AllByRecursion};
+ghost use Rattle.swift_history.specs.Histories.{with_jobs};
+ghost use Rattle.swift_history.specs.TurnEnds.{JobFacts};
+ghost use Rattle.swift_script.specs.Scripts.{ScriptView};
+ghost use Rattle.swift_tasks.specs.Books.{IsJobOf};
+ghost use Rattle.swift_history.specs.Jobs.{job_facts};
+ghost use Rattle.swift_explorer.specs.HistoryInside.{AreGiven, AreOf, given_at, with_given};
+
+use std::alloc::AllocError;
+use std::mem;
+use swift_job::Job;
+use swift_turn::Body;
+use swift_types::{Resume, TaskId};
+
+/// What the next turn of a task begins with: a job without its task, which can be dropped.
+#[derive(Drop)]
+pub struct Ready {
+    pub number: u32,
+    pub resume: Resume,
+    pub body: Body,
+}
+
+impl Ready {
+    /// The same as a job.
+    pub fn into_job(self, task: TaskId) -> Job<Body>
+        ensures { result ≡ record { task = task; number = self.number; resume = self.resume; body = self.body } }
+    {
+        let Ready {
+            number,
+            resume,
+            body,
+        } = self;
+        Job::new(task, number, resume, body)
+    }
+
+    /// A job's, and its task.
+    pub fn from_job(job: Job<Body>) -> (TaskId, Ready)
+        ensures task { result.0 ≡ job.task }
+        ensures ready { result.1 ≡ record { number = job.number; resume = job.resume; body = job.body } }
+    {
+        let (task, number, resume, body) = job.spend();
+        (
+            task,
+            Ready {
+                number,
+                resume,
+                body,
+            },
+        )
+    }
+}
+
+/// Takes what a task's next turn begins with, where it is there.
+pub fn take(tasks: &mut Vec<Option<Ready>>, task: TaskId) -> Option<Ready>
+    ensures found { result ≡ given_at tasks.old.items task.0 }
+    ensures rest { (u : ℕ) → given_at tasks.new.items u ≡ with_given task.0 None (given_at tasks.old.items) u }
+{
+    let place = task.0 as usize;
+    if place >= tasks.len() {
+        return None;
+    }
+    mem::replace(&mut tasks[place], None)
+}
+
+/// Puts what a task's next turn begins with to the others. It takes memory where the task's number is past those that were
+/// there before; out of memory, what was there means nothing.
+pub fn put(tasks: &mut Vec<Option<Ready>>, task: TaskId, ready: Ready) -> Result<(), AllocError>
+    ensures { OnOk result ((u : ℕ) → given_at tasks.new.items u ≡ with_given task.0 (Some ready) (given_at tasks.old.items) u) }
+{
+    let place = task.0 as usize;
+    while tasks.len() <= place {
+        tasks.push(None)?;
+    }
+    tasks[place] = Some(ready);
+    Ok(())
+}
+
+/// Puts these jobs to the others, in order. Out of memory, some of them are left.
+pub fn put_all(tasks: &mut Vec<Option<Ready>>, jobs: &mut Vec<Job<Body>>) -> Result<(), AllocError>
+    ensures scripts { OnOk result ((script : ScriptView) → AllByRecursion (IsJobOf script) jobs.old.items → AreOf script tasks.old.items → AreOf script tasks.new.items) }
+    ensures given { OnOk result ((seen : ℕ → Option JobFacts) → AreGiven seen tasks.old.items → AreGiven (with_jobs (map job_facts jobs.old.items) seen) tasks.new.items) }
+    ensures none { OnOk result (jobs.new.items ≡ []) }
+{
+    jobs.reverse();
+    while let Some(job) = jobs.pop() {
+        let (task, ready) = Ready::from_job(job);
+        put(tasks, task, ready)?;
+    }
+    Ok(())
+}
+
+/// Gives these jobs up.
+pub fn give_all_up(mut jobs: Vec<Job<Body>>) {
+    while let Some(job) = jobs.pop() {
+        let (_task, _ready) = Ready::from_job(job);
+    }
+    jobs.destroy_empty();
+}

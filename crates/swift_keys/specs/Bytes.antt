@@ -1,0 +1,23 @@
+-- Numbers as bytes (our own): one byte where a number is from 0 to 252, else nine.
+use Rattle.std.specs.Prelude.{◌≡◌, ℕ, ℤ, pos, negsuc, ◌/◌, ◌%◌, ◌^◌, nat_lt, if◌then◌else◌, List, [], ◌∷◌, ◌++◌}
+
+abbrev pub bytes_2 : ℕ → List ℕ
+bytes_2 n = n / 2 ^ 8 ∷ n % 2 ^ 8 ∷ []
+
+abbrev pub bytes_4 : ℕ → List ℕ
+bytes_4 n = bytes_2 (n / 2 ^ 16) ++ bytes_2 (n % 2 ^ 16)
+
+abbrev pub bytes_8 : ℕ → List ℕ
+bytes_8 n = bytes_4 (n / 2 ^ 32) ++ bytes_4 (n % 2 ^ 32)
+
+abbrev pub packed : ℤ → List ℕ
+packed (pos n) = if nat_lt n 253 then n ∷ [] else 253 ∷ bytes_8 n
+packed (negsuc n) = 254 ∷ bytes_8 n
+
+abbrev pub all_packed : List ℤ → List ℕ
+all_packed [] = []
+all_packed (z ∷ zs) = packed z ++ all_packed zs
+
+-- lists with equal bytes are equal
+abbrev pub BytesAreRead : Type 0
+BytesAreRead = (xs ys : List ℤ) → all_packed xs ≡ all_packed ys → xs ≡ ys

@@ -1,0 +1,59 @@
+#!/usr/bin/env python3
+"""Looks whether what `nuchapay explore` lists for random scripts is what tools/outcomes.py lists.
+
+    tools/explorer_check.py PROGRAM [--scripts N] [--seed N] [--limit STATES] [--states N]
+
+It writes N tiny racy scripts (tools/racy_scripts.py), lists the outcomes of each by brute force, where an executor may take any of its jobs
+(`--any-job` of tools/outcomes.py), and compares them with what PROGRAM explore prints, in which at most so many states are kept. The
+outcomes without `--any-job` have to be among them. A script for which either meets its limit is left out. For each other one it prints its
+seed, how many outcomes there are, and how many states each has met. The last line has the sums; status 0 where all were the same.
+PROGRAM is crates/nuchapay/out/nuchapay, or any other build of it.
+"""
+import argparse
+import re
+import subprocess
+import sys
+
+from outcomes import TooMany, explore
+from racy_scripts import Writer
+
+
+def listed(program: str, script: str, states: int) -> tuple[str, set[str]]:
+    """The first line of what a program prints, and the outcomes."""
+    ran = subprocess.run([program, "explore", "--limit", str(states)], input=script, capture_output=True, text=True, check=True)
+    head, *parts = re.split(r"\noutcome \d+\nschedule[^\n]*\n", ran.stdout)
+    return head.split("\n")[0], {part.rstrip("\n") + "\n" for part in parts}
+
+
+def main() -> None:
+    arguments = argparse.ArgumentParser(description=__doc__, formatter_class=argparse.RawDescriptionHelpFormatter)
+    arguments.add_argument("program", metavar="PROGRAM")
+    arguments.add_argument("--scripts", metavar="N", type=int, default=200)
+    arguments.add_argument("--seed", metavar="N", type=int, default=0)
+    arguments.add_argument("--limit", metavar="STATES", type=int, default=20_000)
+    arguments.add_argument("--states", metavar="N", type=int, default=100_000)
+    given = arguments.parse_args()
+    same = other = left_out = seed = 0
+    seed = given.seed
+    while same + other < given.scripts:
+        script = Writer(seed).script()
+        try:
+            every, picked = explore(script, given.limit, any_job=True), explore(script, given.limit)
+            head, found = listed(given.program, script, given.states)
+        except TooMany:
+            head = ""
+        if "complete search" not in head:
+            left_out += 1
+        elif found == every.outcomes and picked.outcomes <= found:
+            same += 1
+            print(f"seed {seed}: {len(found)} outcomes, {every.states} states here; {head}", flush=True)
+        else:
+            other += 1
+            print(f"seed {seed}: the lists differ\n{script}\nonly there: {found - every.outcomes}\nonly here: {every.outcomes - found}", flush=True)
+        seed += 1
+    print(f"{same} scripts have the same outcomes, {other} others; {left_out} were left out")
+    sys.exit(1 if other else 0)
+
+
+if __name__ == "__main__":
+    main()
