@@ -55,7 +55,11 @@ fn own_link(task: TaskId, event: Event) -> Option<Link>
             owner,
             priority,
             ..
-        } => Some(Link::Child(task, owner, priority)),
+        } => Some(Link::Child {
+            task,
+            parent: owner,
+            own: priority,
+        }),
         Event::Wait(task, awaited) => Some(Link::Wait(task, awaited)),
         _ => None,
     }

@@ -304,11 +304,11 @@ pub fn put_link(key: &mut Vec<i64>, link: Link) -> Result<(), AllocError>
             put_priority(key, priority)?;
             Ok(())
         }
-        Link::Child(task, parent, priority) => {
+        Link::Child { task, parent, own } => {
             key.push(1)?;
             put_number(key, task.0)?;
             put_number(key, parent.0)?;
-            put_priority(key, priority)?;
+            put_priority(key, own)?;
             Ok(())
         }
         Link::Free(task, priority) => {
