@@ -8,14 +8,17 @@ use Rattle.swift_events.specs.Events.{task_of}
 use Rattle.swift_digest.specs.Digests.{Card, GroupCard, Digest, no_card, no_group}
 use Rattle.swift_keys.specs.Numbers.{pair_numbers, list_numbers, each_numbers, wide_numbers, flag_numbers, task_numbers, ending_numbers, life_numbers, link_numbers}
 
+-- a card as numbers: its life, its links, its own waits, who waits for it, whether it was named, and how many groups it opened
 abbrev pub card_numbers : Card → List ℤ
 card_numbers c =
     pair_numbers life_numbers (pair_numbers (list_numbers link_numbers) (pair_numbers (list_numbers task_numbers) (pair_numbers (list_numbers task_numbers) (pair_numbers flag_numbers wide_numbers))))
     (c.life, (c.links, (c.own, (c.waiters, (c.named, c.opened)))))
 
+-- a child that has ended, and how
 abbrev pub ended_numbers : TaskId × Ending → List ℤ
 ended_numbers = pair_numbers task_numbers ending_numbers
 
+-- a card of a group as numbers: its children, those that ended, how many results were asked for, whether it is closed, and whether it was named
 abbrev pub group_numbers : GroupCard → List ℤ
 group_numbers c =
     pair_numbers (list_numbers task_numbers) (pair_numbers (list_numbers ended_numbers) (pair_numbers wide_numbers (pair_numbers flag_numbers flag_numbers)))

@@ -3,6 +3,7 @@ use Rattle.std.specs.Prelude.{◌≡◌, ℤ, List, ◌++◌}
 use Rattle.swift_digest.specs.Digests.{Digest}
 use Rattle.swift_keys.specs.DigestNumbers.{IsWritten}
 
+-- Numbers that begin with those of a value are those of no other value, and what follows is the same.
 abbrev pub AreRead : {A : Type 0} → (A → List ℤ) → Type 0
 AreRead {A} numbers = (a b : A) (r s : List ℤ) → numbers a ++ r ≡ numbers b ++ s → (a ≡ b) × (r ≡ s)
 
