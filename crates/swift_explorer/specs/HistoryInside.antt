@@ -88,7 +88,7 @@ HaveClosed log n = (t g : ℕ) → t < n → g < opened_by t log → is_closed t
 abbrev pub rows_at : SearchedHistory → List (List (List ℤ))
 rows_at x = map (λ rows. rows_of rows.items) x.fields.items
 
--- The blocks stand, and lead to this log, these waiting tasks, jobs and fields; so many roots were added, in order.
+-- The blocks stand, and lead to this log, these waiting tasks, jobs and fields; the first `roots` roots were added, in order.
 pub record IsLed (script : ScriptView) (blocks : List Block) (log : List Event) (held : List (Option WaitingTaskView)) (tasks : List (Option Ready)) (fields : List (List (List ℤ))) (roots : ℕ) : Type 0 where
   pub stand : AllStand script (starts script) [] blocks
   pub none_folded : (e : ℕ) → folded_of e blocks ≡ []

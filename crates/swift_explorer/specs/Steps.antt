@@ -7,7 +7,7 @@ use Rattle.swift_history.specs.Histories.{Block, added, begun, ran}
 use Rattle.swift_explorer.specs.declared.moves.Move.{Move}
 use Rattle.swift_explorer.specs.declared.moves.Move.TheVariants as step
 
--- a block is what a step does, where so many roots were added
+-- a block is what a step does, where the first `roots` roots were added
 abbrev pub IsStep : ℕ → Move → Block → Type 0
 IsStep roots step.Add (added r) = r ≡ roots
 IsStep roots (step.Begin t) (begun u n env) = u ≡ t.0

@@ -73,7 +73,7 @@ fn first_fields(alloc: Global, script: &Script) -> Result<Vec<Vec<Vec<i64>>>, Al
     Ok(fields)
 }
 
-// Of so many executors none has run a turn.
+// None of the executors has run a turn.
 fn none_used(alloc: Global, executors: usize) -> Result<Vec<bool>, AllocError>
     ensures { IfOk result (λ used. used.items ≡ replicate executors false) }
 {

@@ -309,7 +309,7 @@ impl Search {
     }
 }
 
-/// Searches the histories of a script from the one in which nothing has happened, and keeps at most so many: one of those whose keys are
+/// Searches the histories of a script from the one in which nothing has happened, and keeps at most `limit`: one of those whose keys are
 /// the same, since they go on alike. From each that it keeps it tries each step that is in order: roots are added in text order, then
 /// turns begin, each only at an executor that has none under way.
 ///

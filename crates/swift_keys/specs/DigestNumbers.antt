@@ -32,7 +32,7 @@ groups_numbers m at = each_numbers group_numbers at m
 abbrev pub head_numbers : ℕ → ℕ → ℕ → List ℤ
 head_numbers n m made = pair_numbers wide_numbers (pair_numbers wide_numbers wide_numbers) (n, (m, made))
 
--- of so many tasks, with so many groups each
+-- a digest as numbers: its first `n` tasks, each with its first `m` groups
 abbrev pub digest_numbers : ℕ → ℕ → Digest → List ℤ
 digest_numbers n m d =
     head_numbers n m d.made ++ (each_numbers card_numbers d.cards n ++ each_numbers (groups_numbers m) d.groups n)
