@@ -17,3 +17,4 @@ pub mod SeatTurns
 pub mod InvariantsOfActors
 pub mod StartInvariants
 pub mod Spared
+pub mod Looks

@@ -23,7 +23,7 @@ returns-clause-desks g c =
     let desks = c.args.hand.now.desks.items in
     let lt : k < length execs = omega (arith, c.if-place-crew.false) in
     let old : IsDeskOf e c.index_mut-desk.result.now = desk_at execs desks k e c.index_mut-desk.result.now c.requires.hand.desks lt c.index-crew-place.is c.index_mut-desk.ensures.value in
-    desk_set execs desks k e c.run_one.new.desk c.requires.hand.desks lt c.index-crew-place.is (desk_ran e c.index_mut-desk.result.now c.run_one.new.desk c.in_ok-ran.ran old c.in_ok-ran.ensures.desk)
+    desk_set execs desks k e c.run_one.new.desk c.requires.hand.desks lt c.index-crew-place.is (desk_ran e c.index_mut-desk.result.now c.run_one.new.desk _ c.in_ok-ran.ran old c.in_ok-ran.ensures.desk)
 
 pub returns-clause-jobs : goal.returns-clause-jobs
 returns-clause-jobs g c =
