@@ -8,7 +8,7 @@ pub returns : goal.returns
 returns c =
     let p = c.args.script.now in
     let j = c.args.journal.now in
-    let all : c.in_ok-all.all ≡ c.args.folded + length j = search rules in
+    let all : c.args.folded + c.len-all.result ≡ c.args.folded + length j = ap (λ n. c.args.folded + n) c.len-all.ensures.len in
     six_joined c.extend_from_slice-3.result
     c.args.out.now.items c.heading.new.out.items c.extend_from_slice.new.self.items c.number.new.out.items c.extend_from_slice-2.new.self.items c.turns.new.out.items c.extend_from_slice-3.new.self.items
     (heading_json p c.args.place (c.args.folded + length j)) (codes ",\"folded\":") (decimal c.args.folded) (codes ",\"records\":[") (turns_json p c.args.folded c.args.folded j) (codes "]}")
