@@ -1,8 +1,8 @@
 //! What stands below a box: what its turn did, in lines.
 
-use crate::pieces::{TextPiece, put};
+use crate::picture_text::PictureText;
+use crate::pieces::TextPiece;
 use crate::text::{begin_text, end_text, write_text};
-use std::alloc::AllocError;
 
 // How many lines find room below a box, how many characters of 11 pixels in each, and how far apart they are.
 const LINES: usize = 3;
@@ -22,54 +22,47 @@ fn count_lines(lines: &[u8]) -> usize {
     count
 }
 
+// How many lines are left.
+fn write_more(out: &mut PictureText, class: &str, at: (usize, usize), count: usize) {
+    begin_text(out, class, at.0, at.1);
+    out.put(&[
+        TextPiece::Text("and "),
+        TextPiece::Number(count),
+        TextPiece::Text(" more"),
+    ]);
+    end_text(out)
+}
+
 /// Writes lines, each of which ends with a line feed, one below the other. Where there are more than find room, the last one that does says
 /// how many are left.
-pub(crate) fn write_below(
-    out: &mut Vec<u8>,
-    lines: &[u8],
-    class: &str,
-    x: usize,
-    top: usize,
-) -> Result<(), AllocError> {
+pub(crate) fn write_below(out: &mut PictureText, lines: &[u8], class: &str, x: usize, top: usize) {
     let count = count_lines(lines);
     for (place, line) in lines.split(|byte| *byte == b'\n').enumerate() {
         if place >= count.min(LINES) {
-            return Ok(());
+            return;
         }
         let y = place
             .saturating_add(1)
             .saturating_mul(APART)
             .saturating_add(top);
         if place.saturating_add(1) == LINES && count > LINES {
-            begin_text(out, class, x, y)?;
-            let more = count.saturating_sub(place);
-            put(
-                out,
-                &[
-                    TextPiece::Text("and "),
-                    TextPiece::Number(more),
-                    TextPiece::Text(" more"),
-                ],
-            )?;
-            end_text(out)?;
+            write_more(out, class, (x, y), count.saturating_sub(place));
         } else {
-            write_text(out, class, (x, y), line, FITTING)?;
+            write_text(out, class, (x, y), line, FITTING);
         }
     }
-    Ok(())
 }
 
 /// Writes lines, each of which ends with a line feed, one after the other: each is led in by a semicolon.
-pub(crate) fn write_beside(out: &mut Vec<u8>, lines: &[u8]) -> Result<(), AllocError> {
+pub(crate) fn write_beside(out: &mut PictureText, lines: &[u8]) {
     if !lines.is_empty() {
-        out.extend_from_slice(b"; ")?;
+        out.say(b"; ");
     }
     for (place, byte) in lines.iter().enumerate() {
         if *byte != b'\n' {
-            out.push(*byte)?;
+            out.say(&[*byte]);
         } else if place.saturating_add(1) < lines.len() {
-            out.extend_from_slice(b"; ")?;
+            out.say(b"; ");
         }
     }
-    Ok(())
 }

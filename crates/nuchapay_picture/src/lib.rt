@@ -17,7 +17,9 @@ mod history;
 mod placed;
 // Pictures.
 mod picture;
-// Texts in pieces.
+// Texts that are being written.
+mod picture_text;
+// Pieces of texts.
 mod pieces;
 // Fonts, colours and lines.
 mod style;

@@ -1,7 +1,7 @@
 //! What a turn did with groups, and whom it cancelled.
 
-use crate::pieces::{TextPiece, put};
-use std::alloc::AllocError;
+use crate::picture_text::PictureText;
+use crate::pieces::TextPiece;
 use swift_events::Event;
 use swift_log::EventLog;
 
@@ -25,22 +25,18 @@ fn mark_of(event: &Event) -> Option<(&'static str, usize)> {
 }
 
 /// What the turn did that was applied at this place of the log, in the order of the log, each in a line. Linear in that.
-pub(crate) fn write_marks(out: &mut Vec<u8>, log: &EventLog, end: usize) -> Result<(), AllocError> {
+pub(crate) fn write_marks(out: &mut PictureText, log: &EventLog, end: usize) {
     for place in end.saturating_add(1)..log.len() {
         let event = log.event(place);
         if begins_block(&event) {
-            return Ok(());
+            return;
         }
         if let Some((word, number)) = mark_of(&event) {
-            put(
-                out,
-                &[
-                    TextPiece::Text(word),
-                    TextPiece::Number(number),
-                    TextPiece::Text("\n"),
-                ],
-            )?;
+            out.put(&[
+                TextPiece::Text(word),
+                TextPiece::Number(number),
+                TextPiece::Text("\n"),
+            ]);
         }
     }
-    Ok(())
 }

@@ -4,12 +4,13 @@ use crate::boxes::TurnBox;
 use crate::fault::PictureFault;
 use crate::links::Link;
 use crate::picture::Picture;
-use crate::pieces::{TextPiece, put};
+use crate::picture_text::PictureText;
+use crate::pieces::TextPiece;
 use crate::placed::PlacedTurn;
 use crate::word;
-use std::alloc::{AllocError, Global};
+use std::alloc::Global;
 use std::io::Write;
-use swift_output::{Device, write_all};
+use swift_output::write_all;
 use swift_script::Script;
 use swift_types::limits::WORKERS;
 
@@ -29,209 +30,153 @@ fn thread(turn: &TurnBox) -> usize {
 }
 
 // Begins an event of a kind.
-fn begin_event(out: &mut Vec<u8>, kind: &str, executor: usize) -> Result<(), AllocError> {
-    let between = if out.ends_with(b"[") { "\n" } else { ",\n" };
-    put(
-        out,
-        &[
-            TextPiece::Text(between),
-            TextPiece::Text("{\"ph\":\""),
-            TextPiece::Text(kind),
-            TextPiece::Text("\",\"pid\":"),
-            TextPiece::Number(process(executor)),
-        ],
-    )
+fn begin_event(out: &mut PictureText, kind: &str, executor: usize) {
+    let between = if out.bytes().ends_with(b"[") {
+        "\n"
+    } else {
+        ",\n"
+    };
+    out.put(&[
+        TextPiece::Text(between),
+        TextPiece::Text("{\"ph\":\""),
+        TextPiece::Text(kind),
+        TextPiece::Text("\",\"pid\":"),
+        TextPiece::Number(process(executor)),
+    ])
 }
 
 // Names an executor's process, and says how many of its turns were folded.
-fn name_process(
-    out: &mut Vec<u8>,
-    script: &Script,
-    executor: usize,
-    folded: usize,
-) -> Result<(), AllocError> {
-    begin_event(out, "M", executor)?;
-    put(
-        out,
-        &[
-            TextPiece::Text(",\"name\":\"process_name\",\"args\":{\"name\":\""),
-            TextPiece::Name(word::executor_name(script, executor)),
-            TextPiece::Text("\"}}"),
-        ],
-    )?;
+fn name_process(out: &mut PictureText, script: &Script, executor: usize, folded: usize) {
+    begin_event(out, "M", executor);
+    out.put(&[
+        TextPiece::Text(",\"name\":\"process_name\",\"args\":{\"name\":\""),
+        TextPiece::Name(word::executor_name(script, executor)),
+        TextPiece::Text("\"}}"),
+    ]);
     if folded == 0 {
-        return Ok(());
+        return;
     }
-    begin_event(out, "M", executor)?;
-    put(
-        out,
-        &[
-            TextPiece::Text(",\"name\":\"process_labels\",\"args\":{\"labels\":\"folded "),
-            TextPiece::Number(folded),
-            TextPiece::Text("\"}}"),
-        ],
-    )
+    begin_event(out, "M", executor);
+    out.put(&[
+        TextPiece::Text(",\"name\":\"process_labels\",\"args\":{\"labels\":\"folded "),
+        TextPiece::Number(folded),
+        TextPiece::Text("\"}}"),
+    ])
 }
 
 // Names the thread of a turn's worker in its executor's process.
-fn name_thread(out: &mut Vec<u8>, turn: &TurnBox) -> Result<(), AllocError> {
-    begin_event(out, "M", turn.executor)?;
-    put(
-        out,
-        &[
-            TextPiece::Text(",\"tid\":"),
-            TextPiece::Number(thread(turn)),
-            TextPiece::Text(",\"name\":\"thread_name\",\"args\":{\"name\":\"worker "),
-            TextPiece::Number(turn.worker as usize),
-            TextPiece::Text("\"}}"),
-        ],
-    )
+fn name_thread(out: &mut PictureText, turn: &TurnBox) {
+    begin_event(out, "M", turn.executor);
+    out.put(&[
+        TextPiece::Text(",\"tid\":"),
+        TextPiece::Number(thread(turn)),
+        TextPiece::Text(",\"name\":\"thread_name\",\"args\":{\"name\":\"worker "),
+        TextPiece::Number(turn.worker as usize),
+        TextPiece::Text("\"}}"),
+    ])
 }
 
 // What is known of a turn.
-fn write_arguments(
-    out: &mut Vec<u8>,
-    script: &Script,
-    turn: &TurnBox,
-    is_undone: bool,
-) -> Result<(), AllocError> {
-    put(
-        out,
-        &[
-            TextPiece::Text(",\"args\":{\"task\":\"t"),
-            TextPiece::Number(turn.task.0 as usize),
-            TextPiece::Text("\",\"number\":"),
-            TextPiece::Number(turn.number as usize),
-            TextPiece::Text(",\"priority\":"),
-            TextPiece::Number(turn.env.priority.number() as usize),
-            TextPiece::Text(",\"cancelled\":"),
-            TextPiece::Text(if turn.env.cancelled { "true" } else { "false" }),
-            TextPiece::Text(",\"resume\":\""),
-        ],
-    )?;
-    word::resume(out, turn.resume)?;
-    out.extend_from_slice(b"\",\"exit\":\"")?;
-    word::exit(out, script, turn.exit)?;
-    put(
-        out,
-        &[
-            TextPiece::Text("\",\"undone\":"),
-            TextPiece::Text(if is_undone { "true" } else { "false" }),
-            TextPiece::Text("}}"),
-        ],
-    )
+fn write_arguments(out: &mut PictureText, script: &Script, turn: &TurnBox, is_undone: bool) {
+    out.put(&[
+        TextPiece::Text(",\"args\":{\"task\":\"t"),
+        TextPiece::Number(turn.task.0 as usize),
+        TextPiece::Text("\",\"number\":"),
+        TextPiece::Number(turn.number as usize),
+        TextPiece::Text(",\"priority\":"),
+        TextPiece::Number(turn.env.priority.number() as usize),
+        TextPiece::Text(",\"cancelled\":"),
+        TextPiece::Text(if turn.env.cancelled { "true" } else { "false" }),
+        TextPiece::Text(",\"resume\":\""),
+    ]);
+    out.resume(turn.resume);
+    out.say(b"\",\"exit\":\"");
+    out.exit(script, turn.exit);
+    out.put(&[
+        TextPiece::Text("\",\"undone\":"),
+        TextPiece::Text(if is_undone { "true" } else { "false" }),
+        TextPiece::Text("}}"),
+    ])
 }
 
 // A turn as a complete event.
-fn write_turn(
-    out: &mut Vec<u8>,
-    script: &Script,
-    turn: &TurnBox,
-    placed: &PlacedTurn,
-) -> Result<(), AllocError> {
+fn write_turn(out: &mut PictureText, script: &Script, turn: &TurnBox, placed: &PlacedTurn) {
     let moment = &placed.moment;
-    begin_event(out, "X", turn.executor)?;
-    put(
-        out,
-        &[
-            TextPiece::Text(",\"tid\":"),
-            TextPiece::Number(thread(turn)),
-            TextPiece::Text(",\"ts\":"),
-            TextPiece::Number(moment.begin),
-            TextPiece::Text(",\"dur\":"),
-            TextPiece::Number(moment.end.saturating_sub(moment.begin)),
-            TextPiece::Text(",\"cat\":\"turn\",\"name\":\""),
-        ],
-    )?;
-    word::turn(out, turn)?;
-    out.extend_from_slice(b" ")?;
-    word::method(out, script, turn.method)?;
+    begin_event(out, "X", turn.executor);
+    out.put(&[
+        TextPiece::Text(",\"tid\":"),
+        TextPiece::Number(thread(turn)),
+        TextPiece::Text(",\"ts\":"),
+        TextPiece::Number(moment.begin),
+        TextPiece::Text(",\"dur\":"),
+        TextPiece::Number(moment.end.saturating_sub(moment.begin)),
+        TextPiece::Text(",\"cat\":\"turn\",\"name\":\""),
+    ]);
+    out.turn(turn);
+    out.say(b" ");
+    out.method(script, turn.method);
     let colour = if placed.is_undone {
         "\",\"cname\":\"terrible\""
     } else {
         "\""
     };
-    out.extend_from_slice(colour.as_bytes())?;
+    out.say(colour.as_bytes());
     write_arguments(out, script, turn, placed.is_undone)
 }
 
 // One end of a flow event: the number of the flow is that of the box that it leads to.
-fn write_flow_end(
-    out: &mut Vec<u8>,
-    kind: &str,
-    link: Link,
-    number: usize,
-    turn: &TurnBox,
-) -> Result<(), AllocError> {
-    begin_event(out, kind, turn.executor)?;
-    put(
-        out,
-        &[
-            TextPiece::Text(",\"tid\":"),
-            TextPiece::Number(thread(turn)),
-            TextPiece::Text(",\"id\":"),
-            TextPiece::Number(number),
-            TextPiece::Text(",\"cat\":\"job\",\"name\":\""),
-            TextPiece::Text(link.word()),
-            TextPiece::Text("\",\"ts\":"),
-        ],
-    )
+fn write_flow_end(out: &mut PictureText, kind: &str, link: Link, number: usize, turn: &TurnBox) {
+    begin_event(out, kind, turn.executor);
+    out.put(&[
+        TextPiece::Text(",\"tid\":"),
+        TextPiece::Number(thread(turn)),
+        TextPiece::Text(",\"id\":"),
+        TextPiece::Number(number),
+        TextPiece::Text(",\"cat\":\"job\",\"name\":\""),
+        TextPiece::Text(link.word()),
+        TextPiece::Text("\",\"ts\":"),
+    ])
 }
 
 // The flow from a turn to the one whose job it made. It begins just before the end of the first.
 fn write_flow(
-    out: &mut Vec<u8>,
+    out: &mut PictureText,
     number: usize,
     maker: (&TurnBox, &PlacedTurn),
     turn: (&TurnBox, &PlacedTurn),
-) -> Result<(), AllocError> {
+) {
     let link = Link::between(maker.0, turn.0);
-    write_flow_end(out, "s", link, number, maker.0)?;
-    put(
-        out,
-        &[
-            TextPiece::Number(maker.1.moment.end.saturating_sub(1)),
-            TextPiece::Text(".5}"),
-        ],
-    )?;
-    write_flow_end(out, "f", link, number, turn.0)?;
-    put(
-        out,
-        &[
-            TextPiece::Number(turn.1.moment.begin),
-            TextPiece::Text(",\"bp\":\"e\"}"),
-        ],
-    )
+    write_flow_end(out, "s", link, number, maker.0);
+    out.put(&[
+        TextPiece::Number(maker.1.moment.end.saturating_sub(1)),
+        TextPiece::Text(".5}"),
+    ]);
+    write_flow_end(out, "f", link, number, turn.0);
+    out.put(&[
+        TextPiece::Number(turn.1.moment.begin),
+        TextPiece::Text(",\"bp\":\"e\"}"),
+    ])
 }
 
 // The flow to the turn of a box from the one that made its job, by their places.
-fn write_flow_to(
-    out: &mut Vec<u8>,
-    picture: &Picture,
-    maker: usize,
-    place: usize,
-) -> Result<(), AllocError> {
+fn write_flow_to(out: &mut PictureText, picture: &Picture, maker: usize, place: usize) {
     match (picture.at(maker), picture.at(place)) {
         (Some(maker), Some(turn)) => write_flow(out, place, maker, turn),
-        _ => Ok(()),
+        _ => {}
     }
 }
 
-fn write_processes(
-    piece: &mut Vec<u8>,
-    script: &Script,
-    folded: &[usize],
-) -> Result<(), AllocError> {
+fn write_processes(piece: &mut PictureText, script: &Script, folded: &[usize]) {
     for (executor, count) in folded.iter().enumerate() {
-        name_process(piece, script, executor, *count)?;
+        name_process(piece, script, executor, *count);
     }
-    Ok(())
 }
 
-// Writes a piece once it is long enough. A new one is begun then.
-fn hand_on<W: Write>(out: &mut W, piece: &mut Vec<u8>) -> Result<(), Device> {
-    if piece.len() >= PIECE {
-        write_all(out, piece)?;
+// Writes a piece once it is long enough, if there was memory for it. A new one is begun then.
+fn hand_on<W: Write>(out: &mut W, piece: &mut PictureText) -> Result<(), PictureFault> {
+    piece.whole()?;
+    if piece.bytes().len() >= PIECE {
+        write_all(out, piece.bytes())?;
         piece.clear();
     }
     Ok(())
@@ -240,7 +185,7 @@ fn hand_on<W: Write>(out: &mut W, piece: &mut Vec<u8>) -> Result<(), Device> {
 // The threads of workers, each once, and before its first turn.
 fn write_turns<W: Write>(
     out: &mut W,
-    piece: &mut Vec<u8>,
+    piece: &mut PictureText,
     script: &Script,
     picture: &Picture,
 ) -> Result<(), PictureFault> {
@@ -254,10 +199,10 @@ fn write_turns<W: Write>(
         if let Some(is_named) = named.get_mut(turn.worker as usize) {
             if !*is_named {
                 *is_named = true;
-                name_thread(piece, turn)?;
+                name_thread(piece, turn);
             }
         }
-        write_turn(piece, script, turn, placed)?;
+        write_turn(piece, script, turn, placed);
         hand_on(out, piece)?;
     }
     Ok(())
@@ -265,15 +210,32 @@ fn write_turns<W: Write>(
 
 fn write_flows<W: Write>(
     out: &mut W,
-    piece: &mut Vec<u8>,
+    piece: &mut PictureText,
     picture: &Picture,
 ) -> Result<(), PictureFault> {
     for (place, placed) in picture.placed.iter().enumerate() {
         if let Some(maker) = placed.maker {
-            write_flow_to(piece, picture, maker, place)?;
+            write_flow_to(piece, picture, maker, place);
             hand_on(out, piece)?;
         }
     }
+    Ok(())
+}
+
+// All pieces. In a function of its own, so that none has to be let go where a write fails.
+fn write_pieces<W: Write>(
+    out: &mut W,
+    piece: &mut PictureText,
+    script: &Script,
+    picture: &Picture,
+) -> Result<(), PictureFault> {
+    piece.say(b"{\"displayTimeUnit\":\"ms\",\"traceEvents\":[");
+    write_processes(piece, script, &picture.folded);
+    write_turns(out, piece, script, picture)?;
+    write_flows(out, piece, picture)?;
+    piece.say(b"\n]}\n");
+    piece.whole()?;
+    write_all(out, piece.bytes())?;
     Ok(())
 }
 
@@ -293,12 +255,6 @@ pub fn write_trace<W: Write>(
     picture: &Picture,
     out: &mut W,
 ) -> Result<(), PictureFault> {
-    let mut piece = Vec::with_capacity(alloc, 2 * PIECE)?;
-    piece.extend_from_slice(b"{\"displayTimeUnit\":\"ms\",\"traceEvents\":[")?;
-    write_processes(&mut piece, script, &picture.folded)?;
-    write_turns(out, &mut piece, script, picture)?;
-    write_flows(out, &mut piece, picture)?;
-    piece.extend_from_slice(b"\n]}\n")?;
-    write_all(out, &piece)?;
-    Ok(())
+    let mut piece = PictureText::after(Vec::with_capacity(alloc, 2 * PIECE)?);
+    write_pieces(out, &mut piece, script, picture)
 }

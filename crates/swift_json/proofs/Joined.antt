@@ -1,20 +1,20 @@
 -- Texts that grow piece by piece.
-use Rattle.std.proofs.Common.{◌≡◌, ℕ, List, ◌++◌, ap, ◌∙◌, append_assoc}
-use Rattle.std.specs.Prelude.{Result, Ok, Err, OnOk, is_ok, if◌then◌else◌}
+use Rattle.std.proofs.Common.{◌≡◌, ℕ, List, ◌++◌, ap, sym, ◌∙◌, append_assoc}
+use Rattle.std.specs.Prelude.{Result, Ok, Err, OnOk}
 
 -- after a text stands one more piece
-onto : (x0 x1 x2 text piece : List ℕ) → x1 ≡ x0 ++ text → x2 ≡ x1 ++ piece → x2 ≡ x0 ++ (text ++ piece)
+pub onto : (x0 x1 x2 text piece : List ℕ) → x1 ≡ x0 ++ text → x2 ≡ x1 ++ piece → x2 ≡ x0 ++ (text ++ piece)
 onto x0 x1 x2 text piece before e = e ∙ ap (λ (xs : List ℕ). xs ++ piece) before ∙ append_assoc x0 text piece
-
--- what is so unless an error is
-pub if_ok : {A E : Type 0} (r : Result A E) (x y z : List ℕ) → x ≡ (if is_ok r then y else z) → OnOk r (x ≡ y)
-if_ok (Ok u) x y z is = is
-if_ok (Err u) x y z is = tt
 
 -- the same of an equal text
 pub said : {A E : Type 0} (r : Result A E) (x0 x a text : List ℕ) → a ≡ text → OnOk r (x ≡ x0 ++ a) → OnOk r (x ≡ x0 ++ text)
 said (Ok u) x0 x a text is h = h ∙ ap (λ (xs : List ℕ). x0 ++ xs) is
 said (Err u) x0 x a text is h = tt
+
+-- after a text stands a number with its label
+pub labelled_after : {A E : Type 0} (r : Result A E) (x0 x1 x2 a label n : List ℕ) → x1 ≡ x0 ++ a → OnOk r (x2 ≡ x1 ++ (label ++ n)) → OnOk r (x2 ≡ x0 ++ ((a ++ label) ++ n))
+labelled_after (Ok u) x0 x1 x2 a label n h1 h2 = onto x0 x1 x2 a (label ++ n) h1 h2 ∙ ap (λ (xs : List ℕ). x0 ++ xs) (sym (append_assoc a label n))
+labelled_after (Err u) x0 x1 x2 a label n h1 h2 = tt
 
 -- pieces, one after the other
 pub two_joined : {A E : Type 0} (r : Result A E) (x0 x1 x2 a b : List ℕ) → x1 ≡ x0 ++ a → OnOk r (x2 ≡ x1 ++ b) → OnOk r (x2 ≡ x0 ++ (a ++ b))

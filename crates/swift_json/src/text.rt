@@ -5,7 +5,7 @@ ghost use Rattle.swift_report.specs.Text.{number_of, row_among, row_of};
 ghost use Rattle.swift_json.specs.Json.{actor_json, field_json, fields_json, journals_json, origin_json, report_json, task_json, tasks_json, values_json};
 ghost use Rattle.swift_script.specs.Scripts.{actor_count};
 
-use crate::append::{comma, number};
+use crate::append::{comma, labelled, say, say_three};
 use crate::names::{actor_name, field_name, root_name};
 use crate::turns::executors;
 use crate::word;
@@ -32,14 +32,26 @@ pub fn report_json(
     ensures { IfOk result (λ t. t.items ≡ report_json script.now report.now quiet) }
 {
     let mut out = Vec::new(alloc);
-    out.extend_from_slice(b"{")?;
-    journals(&mut out, script, report, quiet)?;
-    out.extend_from_slice(b"\"tasks\":[")?;
-    tasks(&mut out, script, &report.endings)?;
-    out.extend_from_slice(b"],\n\"fields\":{")?;
-    fields(&mut out, script, &report.fields)?;
-    out.extend_from_slice(b"}}\n")?;
+    members(&mut out, script, report, quiet)?;
     Ok(out)
+}
+
+// The members of a report. In a function of its own, so that nothing has to be let go where a growth is refused.
+fn members(
+    out: &mut Vec<u8>,
+    script: &Script,
+    report: &Report,
+    quiet: bool,
+) -> Result<(), AllocError>
+    ensures { OnOk result (out.new.items ≡ out.old.items ++ report_json script.now report.now quiet) }
+{
+    say(out, b"{")?;
+    journals(out, script, report, quiet)?;
+    say(out, b"\"tasks\":[")?;
+    tasks(out, script, &report.endings)?;
+    say(out, b"],\n\"fields\":{")?;
+    fields(out, script, &report.fields)?;
+    say(out, b"}}\n")
 }
 
 fn journals(
@@ -53,9 +65,9 @@ fn journals(
     if quiet {
         return Ok(());
     }
-    out.extend_from_slice(b"\"journals\":[")?;
+    say(out, b"\"journals\":[")?;
     executors(out, script, &report.checkpoints, &report.journals)?;
-    out.extend_from_slice(b"],\n")
+    say(out, b"],\n")
 }
 
 // Where the task of this number comes from.
@@ -69,22 +81,12 @@ fn origin(
 {
     match origin {
         Origin::Root => {
-            out.extend_from_slice(b"\"from\":\"root\",\"root\":\"")?;
-            out.extend_from_slice(root_name(script, number_of))?;
-            out.extend_from_slice(b"\"")
+            let name = root_name(script, number_of);
+            say_three(out, b"\"from\":\"root\",\"root\":\"", name, b"\"")
         }
-        Origin::Child(owner, _) => {
-            out.extend_from_slice(b"\"from\":\"child\",\"by\":")?;
-            number(out, owner.0)
-        }
-        Origin::Spawned(by) => {
-            out.extend_from_slice(b"\"from\":\"spawned\",\"by\":")?;
-            number(out, by.0)
-        }
-        Origin::Detached(by) => {
-            out.extend_from_slice(b"\"from\":\"detached\",\"by\":")?;
-            number(out, by.0)
-        }
+        Origin::Child(owner, _) => labelled(out, b"\"from\":\"child\",\"by\":", owner.0),
+        Origin::Spawned(by) => labelled(out, b"\"from\":\"spawned\",\"by\":", by.0),
+        Origin::Detached(by) => labelled(out, b"\"from\":\"detached\",\"by\":", by.0),
     }
 }
 
@@ -98,13 +100,12 @@ fn task(
 {
     let (comes_from, ending) = ended;
     comma(out, 0, number_of)?;
-    out.extend_from_slice(b"\n{\"task\":")?;
-    number(out, number_of)?;
-    out.extend_from_slice(b",")?;
+    labelled(out, b"\n{\"task\":", number_of)?;
+    say(out, b",")?;
     origin(out, script, number_of, comes_from)?;
-    out.extend_from_slice(b",\"ending\":")?;
+    say(out, b",\"ending\":")?;
     word::ending(out, ending)?;
-    out.extend_from_slice(b"}")
+    say(out, b"}")
 }
 
 fn tasks(out: &mut Vec<u8>, script: &Script, endings: &[(Origin, Ending)]) -> Result<(), AllocError>
@@ -126,10 +127,9 @@ fn field(
     ensures { OnOk result (out.new.items ≡ out.old.items ++ field_json script.now actor field value) }
 {
     comma(out, 0, field)?;
-    out.extend_from_slice(b"\"")?;
-    out.extend_from_slice(field_name(script, actor, field))?;
-    out.extend_from_slice(b"\":")?;
-    number(out, value)
+    say(out, b"\"")?;
+    say(out, field_name(script, actor, field))?;
+    labelled(out, b"\":", value)
 }
 
 // The fields of one actor.
@@ -157,11 +157,9 @@ fn actor_fields(
     ensures { OnOk result (out.new.items ≡ out.old.items ++ actor_json script.now actor row.now) }
 {
     comma(out, 0, actor)?;
-    out.extend_from_slice(b"\n\"")?;
-    out.extend_from_slice(actor_name(script, actor))?;
-    out.extend_from_slice(b"\":{")?;
+    say_three(out, b"\n\"", actor_name(script, actor), b"\":{")?;
     values(out, script, actor, row)?;
-    out.extend_from_slice(b"}")
+    say(out, b"}")
 }
 
 // The fields of an actor, among those of the actors of its executor.

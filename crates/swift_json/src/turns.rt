@@ -1,17 +1,17 @@
 //! Turns, and executors.
 
-ghost use Rattle.std.specs.Prelude.{◌≡◌, ◌++◌, OnOk, slice_get};
+ghost use Rattle.std.specs.Prelude.{◌≡◌, ◌++◌, OnOk, codes, slice_get};
 ghost use Rattle.swift_report.specs.Text.{folded_count, method_text};
-ghost use Rattle.swift_json.specs.Json.{comma, env_json, executor_json, executors_json, exit_json, flag_json, heading_json, kind_json, kind_word, pinned_json, listed_json, resume_and_exit_json, run_json, turn_json, turns_json};
+ghost use Rattle.swift_json.specs.Json.{comma, env_json, executor_json, executors_json, exit_json, flag_json, heading_json, kind_json, kind_word, pinned_json, listed_json, pending_json, resume_and_exit_json, run_json, turn_json, turns_json, value_json};
 
-use crate::append::{comma, number};
+use crate::append::{comma, labelled, say, say_three};
 use crate::line::{TurnJson, line_at};
 use crate::names::{executor_kind, executor_name};
 use crate::word;
 use std::alloc::AllocError;
 use swift_journal::{BriefExit, Checkpoint, Journal};
 use swift_script::Script;
-use swift_types::{Env, ExecutorKind, MethodId};
+use swift_types::{Env, ExecutorKind, Fault, MethodId};
 
 // A method by its names.
 fn method(out: &mut Vec<u8>, script: &Script, method: MethodId) -> Result<(), AllocError>
@@ -20,78 +20,87 @@ fn method(out: &mut Vec<u8>, script: &Script, method: MethodId) -> Result<(), Al
     if method.0 as usize >= script.method_count() {
         return Ok(());
     }
-    out.extend_from_slice(script.actor_name(script.method_actor(method)))?;
-    out.extend_from_slice(b".")?;
-    out.extend_from_slice(script.method_name(method))
+    let actor = script.actor_name(script.method_actor(method));
+    say_three(out, actor, b".", script.method_name(method))
+}
+
+// The exit of a turn that calls a method.
+fn call(out: &mut Vec<u8>, script: &Script, called: MethodId) -> Result<(), AllocError>
+    ensures { OnOk result (out.new.items ≡ out.old.items ++ (codes "{\"is\":\"call\",\"method\":\"" ++ method_text script.now called.0 ++ codes "\"}")) }
+{
+    say(out, b"{\"is\":\"call\",\"method\":\"")?;
+    method(out, script, called)?;
+    say(out, b"\"}")
+}
+
+// The exit of a turn that closes a group.
+fn close(out: &mut Vec<u8>, pending: Option<Fault>) -> Result<(), AllocError>
+    ensures { OnOk result (out.new.items ≡ out.old.items ++ (codes "{\"is\":\"close\"" ++ pending_json pending ++ codes "}")) }
+{
+    say(out, b"{\"is\":\"close\"")?;
+    word::pending(out, pending)?;
+    say(out, b"}")
+}
+
+// The exit of a turn that leaves its frame with a number.
+fn returned(out: &mut Vec<u8>, value: i64) -> Result<(), AllocError>
+    ensures { OnOk result (out.new.items ≡ out.old.items ++ (codes "{\"is\":\"return\"" ++ value_json value ++ codes "}")) }
+{
+    say(out, b"{\"is\":\"return\"")?;
+    word::value(out, value)?;
+    say(out, b"}")
 }
 
 fn exit(out: &mut Vec<u8>, script: &Script, exit: BriefExit) -> Result<(), AllocError>
     ensures { OnOk result (out.new.items ≡ out.old.items ++ exit_json script.now exit) }
 {
     match exit {
-        BriefExit::Call(_, called) => {
-            out.extend_from_slice(b"{\"is\":\"call\",\"method\":\"")?;
-            method(out, script, called)?;
-            out.extend_from_slice(b"\"}")
-        }
-        BriefExit::Wait(_) => out.extend_from_slice(b"{\"is\":\"wait\"}"),
-        BriefExit::Next(_) => out.extend_from_slice(b"{\"is\":\"next\"}"),
-        BriefExit::Yield => out.extend_from_slice(b"{\"is\":\"yield\"}"),
-        BriefExit::Close(_, pending) => {
-            out.extend_from_slice(b"{\"is\":\"close\"")?;
-            word::pending(out, pending)?;
-            out.extend_from_slice(b"}")
-        }
-        BriefExit::Return(value) => {
-            out.extend_from_slice(b"{\"is\":\"return\"")?;
-            word::value(out, value)?;
-            out.extend_from_slice(b"}")
-        }
-        BriefExit::Fault(fault) => {
-            out.extend_from_slice(b"{\"is\":\"fault\",")?;
-            word::fault(out, fault)?;
-            out.extend_from_slice(b"}")
-        }
+        BriefExit::Call(_, called) => call(out, script, called),
+        BriefExit::Wait(_) => say(out, b"{\"is\":\"wait\"}"),
+        BriefExit::Next(_) => say(out, b"{\"is\":\"next\"}"),
+        BriefExit::Yield => say(out, b"{\"is\":\"yield\"}"),
+        BriefExit::Close(_, pending) => close(out, pending),
+        BriefExit::Return(value) => returned(out, value),
+        BriefExit::Fault(fault) => word::fault_object(out, fault),
     }
 }
 
-fn flag(set: bool) -> &'static [u8]
-    ensures { result.now ≡ flag_json set }
+// Whether a task was cancelled, as a member.
+fn cancelled(set: bool) -> &'static [u8]
+    ensures { result.now ≡ codes ",\"cancelled\":" ++ flag_json set }
 {
-    if set { b"true" } else { b"false" }
+    if set {
+        b",\"cancelled\":true"
+    } else {
+        b",\"cancelled\":false"
+    }
 }
 
 // What a turn was given.
 fn env(out: &mut Vec<u8>, env: &Env) -> Result<(), AllocError>
     ensures { OnOk result (out.new.items ≡ out.old.items ++ env_json env.now) }
 {
-    out.extend_from_slice(b",\"priority\":")?;
-    number(out, env.priority.number())?;
-    out.extend_from_slice(b",\"cancelled\":")?;
-    out.extend_from_slice(flag(env.cancelled))
+    labelled(out, b",\"priority\":", env.priority.number())?;
+    say(out, cancelled(env.cancelled))
 }
 
 // The turn's place, its task, its number there and its worker.
 fn run(out: &mut Vec<u8>, place: usize, entry: &TurnJson) -> Result<(), AllocError>
     ensures { OnOk result (out.new.items ≡ out.old.items ++ run_json place entry.now) }
 {
-    out.extend_from_slice(b"\n{\"place\":")?;
-    number(out, place)?;
-    out.extend_from_slice(b",\"task\":")?;
-    number(out, entry.task.0)?;
-    out.extend_from_slice(b",\"turn\":")?;
-    number(out, entry.number)?;
-    out.extend_from_slice(b",\"worker\":")?;
-    number(out, entry.worker)
+    labelled(out, b"\n{\"place\":", place)?;
+    labelled(out, b",\"task\":", entry.task.0)?;
+    labelled(out, b",\"turn\":", entry.number)?;
+    labelled(out, b",\"worker\":", entry.worker)
 }
 
 // How a turn began and how it ended.
 fn resume_and_exit(out: &mut Vec<u8>, script: &Script, entry: &TurnJson) -> Result<(), AllocError>
     ensures { OnOk result (out.new.items ≡ out.old.items ++ resume_and_exit_json script.now entry.now) }
 {
-    out.extend_from_slice(b",\"resume\":")?;
+    say(out, b",\"resume\":")?;
     word::resume(out, entry.resume)?;
-    out.extend_from_slice(b",\"exit\":")?;
+    say(out, b",\"exit\":")?;
     exit(out, script, entry.exit)
 }
 
@@ -104,12 +113,12 @@ fn turn(
     ensures { OnOk result (out.new.items ≡ out.old.items ++ turn_json script.now place entry.now) }
 {
     run(out, place, entry)?;
-    out.extend_from_slice(b",\"method\":\"")?;
+    say(out, b",\"method\":\"")?;
     method(out, script, entry.method)?;
-    out.extend_from_slice(b"\"")?;
+    say(out, b"\"")?;
     env(out, &entry.env)?;
     resume_and_exit(out, script, entry)?;
-    out.extend_from_slice(b"}")
+    say(out, b"}")
 }
 
 // The turn at a place of a list whose first turn has this one.
@@ -158,10 +167,7 @@ fn pinned(out: &mut Vec<u8>, kind: ExecutorKind) -> Result<(), AllocError>
     ensures { OnOk result (out.new.items ≡ out.old.items ++ pinned_json kind) }
 {
     match kind {
-        ExecutorKind::Pinned(worker) => {
-            out.extend_from_slice(b",\"pinned\":")?;
-            number(out, worker)
-        }
+        ExecutorKind::Pinned(worker) => { labelled(out, b",\"pinned\":", worker) }
         _ => Ok(()),
     }
 }
@@ -169,7 +175,7 @@ fn pinned(out: &mut Vec<u8>, kind: ExecutorKind) -> Result<(), AllocError>
 fn kind(out: &mut Vec<u8>, kind: ExecutorKind) -> Result<(), AllocError>
     ensures { OnOk result (out.new.items ≡ out.old.items ++ kind_json kind) }
 {
-    out.extend_from_slice(kind_word(kind))?;
+    say(out, kind_word(kind))?;
     pinned(out, kind)
 }
 
@@ -182,12 +188,14 @@ fn heading(
 ) -> Result<(), AllocError>
     ensures { OnOk result (out.new.items ≡ out.old.items ++ heading_json script.now executor turns) }
 {
-    out.extend_from_slice(b"\n{\"executor\":\"")?;
-    out.extend_from_slice(executor_name(script, executor))?;
-    out.extend_from_slice(b"\",")?;
+    say_three(
+        out,
+        b"\n{\"executor\":\"",
+        executor_name(script, executor),
+        b"\",",
+    )?;
     kind(out, executor_kind(script, executor))?;
-    out.extend_from_slice(b",\"turns\":")?;
-    number(out, turns)
+    labelled(out, b",\"turns\":", turns)
 }
 
 // An executor, of whose turns so many were folded.
@@ -202,11 +210,10 @@ fn executor(
 {
     let all = folded.checked_add(journal.len()).ok_or(AllocError)?;
     heading(out, script, place, all)?;
-    out.extend_from_slice(b",\"folded\":")?;
-    number(out, folded)?;
-    out.extend_from_slice(b",\"records\":[")?;
+    labelled(out, b",\"folded\":", folded)?;
+    say(out, b",\"records\":[")?;
     turns(out, script, folded, journal)?;
-    out.extend_from_slice(b"]}")
+    say(out, b"]}")
 }
 
 // The same in a list.

@@ -1,9 +1,9 @@
 //! Faults, and what a turn or a task began and ended with.
 
-ghost use Rattle.std.specs.Prelude.{◌≡◌, ◌++◌, OnOk};
+ghost use Rattle.std.specs.Prelude.{◌≡◌, ◌++◌, OnOk, codes};
 ghost use Rattle.swift_json.specs.Json.{ending_json, fault_json, fault_word, pending_json, resume_json, thrown_json, value_json};
 
-use crate::append::number;
+use crate::append::{labelled, say};
 use std::alloc::AllocError;
 use swift_types::{Ending, Fault, Resume};
 
@@ -29,8 +29,7 @@ fn fault_word(fault: Fault) -> &'static [u8]
 pub(crate) fn value(out: &mut Vec<u8>, value: i64) -> Result<(), AllocError>
     ensures { OnOk result (out.new.items ≡ out.old.items ++ value_json value) }
 {
-    out.extend_from_slice(b",\"value\":")?;
-    number(out, value)
+    labelled(out, b",\"value\":", value)
 }
 
 // The value of a throw, as a member.
@@ -46,26 +45,36 @@ fn thrown(out: &mut Vec<u8>, fault: Fault) -> Result<(), AllocError>
 pub(crate) fn fault(out: &mut Vec<u8>, fault: Fault) -> Result<(), AllocError>
     ensures { OnOk result (out.new.items ≡ out.old.items ++ fault_json fault) }
 {
-    out.extend_from_slice(fault_word(fault))?;
+    say(out, fault_word(fault))?;
     thrown(out, fault)
+}
+
+// A number, as an object.
+fn value_object(out: &mut Vec<u8>, given: i64) -> Result<(), AllocError>
+    ensures { OnOk result (out.new.items ≡ out.old.items ++ (codes "{\"is\":\"value\"" ++ value_json given ++ codes "}")) }
+{
+    say(out, b"{\"is\":\"value\"")?;
+    value(out, given)?;
+    say(out, b"}")
+}
+
+/// A fault, as an object.
+pub(crate) fn fault_object(out: &mut Vec<u8>, raised: Fault) -> Result<(), AllocError>
+    ensures { OnOk result (out.new.items ≡ out.old.items ++ (codes "{\"is\":\"fault\"," ++ fault_json raised ++ codes "}")) }
+{
+    say(out, b"{\"is\":\"fault\",")?;
+    fault(out, raised)?;
+    say(out, b"}")
 }
 
 pub(crate) fn resume(out: &mut Vec<u8>, resume: Resume) -> Result<(), AllocError>
     ensures { OnOk result (out.new.items ≡ out.old.items ++ resume_json resume) }
 {
     match resume {
-        Resume::Start => out.extend_from_slice(b"{\"is\":\"start\"}"),
-        Resume::Go => out.extend_from_slice(b"{\"is\":\"go\"}"),
-        Resume::Value(given) => {
-            out.extend_from_slice(b"{\"is\":\"value\"")?;
-            value(out, given)?;
-            out.extend_from_slice(b"}")
-        }
-        Resume::Fault(raised) => {
-            out.extend_from_slice(b"{\"is\":\"fault\",")?;
-            fault(out, raised)?;
-            out.extend_from_slice(b"}")
-        }
+        Resume::Start => say(out, b"{\"is\":\"start\"}"),
+        Resume::Go => say(out, b"{\"is\":\"go\"}"),
+        Resume::Value(given) => value_object(out, given),
+        Resume::Fault(raised) => fault_object(out, raised),
     }
 }
 
@@ -73,16 +82,8 @@ pub(crate) fn ending(out: &mut Vec<u8>, ending: Ending) -> Result<(), AllocError
     ensures { OnOk result (out.new.items ≡ out.old.items ++ ending_json ending) }
 {
     match ending {
-        Ending::Value(given) => {
-            out.extend_from_slice(b"{\"is\":\"value\"")?;
-            value(out, given)?;
-            out.extend_from_slice(b"}")
-        }
-        Ending::Fault(raised) => {
-            out.extend_from_slice(b"{\"is\":\"fault\",")?;
-            fault(out, raised)?;
-            out.extend_from_slice(b"}")
-        }
+        Ending::Value(given) => value_object(out, given),
+        Ending::Fault(raised) => fault_object(out, raised),
     }
 }
 
@@ -91,7 +92,7 @@ pub(crate) fn pending(out: &mut Vec<u8>, pending: Option<Fault>) -> Result<(), A
 {
     match pending {
         Some(raised) => {
-            out.extend_from_slice(b",")?;
+            say(out, b",")?;
             fault(out, raised)
         }
         None => Ok(()),

@@ -3,7 +3,7 @@ use Rattle.std.specs.Prelude.{codes}
 use Rattle.swift_journal.specs.Checkpoints.{CheckpointRoomView}
 use Rattle.swift_journal.specs.Records.{RecordView}
 use Rattle.swift_json.specs.Json.{executors_json, journals_json}
-use Rattle.swift_json.proofs.Joined.{if_ok, said, three_joined}
+use Rattle.swift_json.proofs.Joined.{said, three_joined}
 use Rattle.swift_json.proofs.text.journals.Goals as goal
 
 pub returns : goal.returns
@@ -11,15 +11,15 @@ returns c =
     let p = c.args.script.now in
     let cs = c.args.report.now.checkpoints.items in
     let js = c.args.report.now.journals.items in
-    let r = c.extend_from_slice-2.result in
-    let x1 = c.extend_from_slice.new.self.items in
+    let r = c.say-2.result in
+    let x1 = c.say.new.out.items in
     let told : c.args.quiet ≡ false = search rules in
-    said r c.args.out.now.items c.extend_from_slice-2.new.self.items
+    said r c.args.out.now.items c.say-2.new.out.items
     ((codes "\"journals\":[" ++ executors_json p cs 0 js) ++ codes "],\n") (journals_json p c.args.quiet cs js) (ap (λ (quiet : Bool). journals_json p quiet cs js) (sym told))
-    (three_joined r c.args.out.now.items x1 c.executors.new.out.items c.extend_from_slice-2.new.self.items
+    (three_joined r c.args.out.now.items x1 c.executors.new.out.items c.say-2.new.out.items
     (codes "\"journals\":[") (executors_json p cs 0 js) (codes "],\n")
-    c.in_ok-extend_from_slice.ensures.items
+    c.in_ok-say.ensures
     (c.in_ok-executors.ensures
     ∙ ap (λ (found : List CheckpointRoomView). x1 ++ executors_json p found 0 c.deref-2.result.now) c.deref.ensures.value
     ∙ ap (λ (found : List (List RecordView)). x1 ++ executors_json p cs 0 found) c.deref-2.ensures.value)
-    (if_ok r _ _ _ c.extend_from_slice-2.ensures.items))
+    c.say-2.ensures)

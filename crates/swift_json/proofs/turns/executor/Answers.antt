@@ -1,7 +1,7 @@
-use Rattle.std.proofs.Common.{◌≡◌, ℕ, ◌+◌, ◌++◌, length, ap, ◌∙◌, rules}
+use Rattle.std.proofs.Common.{◌≡◌, ℕ, ◌+◌, ◌++◌, length, ap, sym, refl, ◌∙◌, append_assoc, rules}
 use Rattle.std.specs.Prelude.{codes, decimal}
 use Rattle.swift_json.specs.Json.{heading_json, turns_json}
-use Rattle.swift_json.proofs.Joined.{if_ok, six_joined}
+use Rattle.swift_json.proofs.Joined.{six_joined}
 use Rattle.swift_json.proofs.turns.executor.Goals as goal
 
 pub returns : goal.returns
@@ -9,9 +9,11 @@ returns c =
     let p = c.args.script.now in
     let j = c.args.journal.now in
     let all : c.in_ok-all.all ≡ c.args.folded + length j = search rules in
-    six_joined c.extend_from_slice-3.result
-    c.args.out.now.items c.heading.new.out.items c.extend_from_slice.new.self.items c.number.new.out.items c.extend_from_slice-2.new.self.items c.turns.new.out.items c.extend_from_slice-3.new.self.items
+    let x1 = c.heading.new.out.items in
+    six_joined c.say-2.result
+    c.args.out.now.items x1 (x1 ++ codes ",\"folded\":") c.labelled.new.out.items c.say.new.out.items c.turns.new.out.items c.say-2.new.out.items
     (heading_json p c.args.place (c.args.folded + length j)) (codes ",\"folded\":") (decimal c.args.folded) (codes ",\"records\":[") (turns_json p c.args.folded c.args.folded j) (codes "]}")
     (c.in_ok-heading.ensures ∙ ap (λ (n : ℕ). c.args.out.now.items ++ heading_json p c.args.place n) all)
-    c.in_ok-extend_from_slice.ensures.items c.in_ok-number.ensures c.in_ok-extend_from_slice-2.ensures.items c.in_ok-turns.ensures
-    (if_ok c.extend_from_slice-3.result _ _ _ c.extend_from_slice-3.ensures.items)
+    refl
+    (c.in_ok-labelled.ensures ∙ sym (append_assoc x1 (codes ",\"folded\":") (decimal c.args.folded)))
+    c.in_ok-say.ensures c.in_ok-turns.ensures c.say-2.ensures

@@ -3,18 +3,19 @@ use Rattle.std.specs.Prelude.{codes, decimal}
 use Rattle.swift_types.specs.declared.executor_kind.ExecutorKind.{ExecutorKind}
 use Rattle.swift_script.specs.Scripts.{executor_kind, executor_name}
 use Rattle.swift_json.specs.Json.{kind_json}
-use Rattle.swift_json.proofs.Joined.{six_joined}
+use Rattle.swift_json.proofs.Joined.{labelled_after, onto}
 use Rattle.swift_json.proofs.turns.heading.Goals as goal
 
 pub returns : goal.returns
 returns c =
     let p = c.args.script.now in
-    six_joined c.number.result
-    c.args.out.now.items c.extend_from_slice.new.self.items c.extend_from_slice-2.new.self.items c.extend_from_slice-3.new.self.items c.kind.new.out.items c.extend_from_slice-4.new.self.items c.number.new.out.items
-    (codes "\n{\"executor\":\"") (executor_name p c.args.executor) (codes "\",") (kind_json (executor_kind p c.args.executor)) (codes ",\"turns\":") (decimal c.args.turns)
-    c.in_ok-extend_from_slice.ensures.items
-    (c.in_ok-extend_from_slice-2.ensures.items ∙ ap (λ (name : List ℕ). c.extend_from_slice.new.self.items ++ name) c.executor_name.ensures)
-    c.in_ok-extend_from_slice-3.ensures.items
-    (c.in_ok-kind.ensures ∙ ap (λ (k : ExecutorKind). c.extend_from_slice-3.new.self.items ++ kind_json k) c.executor_kind.ensures)
-    c.in_ok-extend_from_slice-4.ensures.items
-    c.number.ensures
+    let x0 = c.args.out.now.items in
+    let x1 = c.say_three.new.out.items in
+    let x2 = c.kind.new.out.items in
+    let name = codes "\n{\"executor\":\"" ++ executor_name p c.args.executor ++ codes "\"," in
+    let kind = kind_json (executor_kind p c.args.executor) in
+    labelled_after c.labelled.result x0 x2 c.labelled.new.out.items (name ++ kind) (codes ",\"turns\":") (decimal c.args.turns)
+    (onto x0 x1 x2 name kind
+    (c.in_ok-say_three.ensures ∙ ap (λ (said : List ℕ). x0 ++ (codes "\n{\"executor\":\"" ++ said ++ codes "\",")) c.executor_name.ensures)
+    (c.in_ok-kind.ensures ∙ ap (λ (k : ExecutorKind). x1 ++ kind_json k) c.executor_kind.ensures))
+    c.labelled.ensures
