@@ -1,3 +1,4 @@
+use Rattle.std.proofs.Common.{◌≡◌, ℤ, ◌++◌, ap, ◌∙◌, rules, w64, to_z, of_z}
 use Rattle.std.specs.Prelude.{codes}
 use Rattle.swift_json.specs.Json.{value_json}
 use Rattle.swift_json.proofs.Joined.{three_joined}
@@ -5,6 +6,8 @@ use Rattle.swift_json.proofs.turns.returned.Goals as goal
 
 pub returns : goal.returns
 returns c =
-    three_joined c.say-2.result c.args.out.now.items c.say.new.out.items c.value.new.out.items c.say-2.new.out.items
+    let x1 = c.say.new.out.items in
+    let same : to_z w64 (of_z w64 c.args.value) ≡ c.args.value = search rules in
+    three_joined c.say-2.result c.args.out.now.items x1 c.value.new.out.items c.say-2.new.out.items
     (codes "{\"is\":\"return\"") (value_json c.args.value) (codes "}")
-    c.in_ok-say.ensures c.in_ok-value.ensures c.say-2.ensures
+    c.in_ok-say.ensures (c.in_ok-value.ensures ∙ ap (λ (z : ℤ). x1 ++ value_json z) same) c.say-2.ensures
