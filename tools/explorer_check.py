@@ -42,7 +42,7 @@ def main() -> None:
             head, found = listed(given.program, script, given.states)
         except TooMany:
             head = ""
-        if "complete search" not in head:
+        if "came to its end" not in head:
             left_out += 1
         elif found == every.outcomes and picked.outcomes <= found:
             same += 1
