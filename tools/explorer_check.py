@@ -1,11 +1,11 @@
 #!/usr/bin/env python3
 """Looks whether what `nuchapay explore` lists for random scripts is what tools/outcomes.py lists.
 
-    tools/explorer_check.py PROGRAM [--scripts N] [--seed N] [--limit STATES] [--states N]
+    tools/explorer_check.py PROGRAM [--scripts N] [--seed N] [--limit STATES] [--states N] [--runs N --swiftrun PROGRAM]
 
 It writes N tiny racy scripts (tools/racy_scripts.py), lists the outcomes of each by brute force, where an executor may take any of its jobs
-(`--any-job` of tools/outcomes.py), and compares them with what PROGRAM explore prints, in which at most so many states are kept. The
-outcomes without `--any-job` have to be among them. A script for which either meets its limit is left out. For each other one it prints its
+(`--any-job` of tools/outcomes.py), and compares them with what PROGRAM explore prints, in which at most this number of states is kept. The
+outcomes without `--any-job` have to be among them, and so has what a built swiftrun prints, N times on each of 1, 2, 4 and 8 workers. A script for which either meets its limit is left out. For each other one it prints its
 seed, how many outcomes there are, and how many states each has met. The last line has the sums; status 0 where all were the same.
 PROGRAM is crates/nuchapay/out/nuchapay, or any other build of it.
 """
@@ -25,6 +25,18 @@ def listed(program: str, script: str, states: int) -> tuple[str, set[str]]:
     return head.split("\n")[0], {part.rstrip("\n") + "\n" for part in parts}
 
 
+def runs_outside(program: str, script: str, runs: int, found: set[str]) -> set[str]:
+    """What runs of a script print that is not among these outcomes."""
+    outside = set()
+    for workers in (1, 2, 4, 8):
+        for _ in range(runs if workers > 1 else 1):
+            words = [program, "--quiet", "--workers", str(workers)]
+            ran = subprocess.run(words, input=script, capture_output=True, text=True, check=False)
+            if ran.stdout not in found:
+                outside.add(f"{workers} workers, status {ran.returncode}: {ran.stdout}{ran.stderr}")
+    return outside
+
+
 def main() -> None:
     arguments = argparse.ArgumentParser(description=__doc__, formatter_class=argparse.RawDescriptionHelpFormatter)
     arguments.add_argument("program", metavar="PROGRAM")
@@ -32,6 +44,8 @@ def main() -> None:
     arguments.add_argument("--seed", metavar="N", type=int, default=0)
     arguments.add_argument("--limit", metavar="STATES", type=int, default=20_000)
     arguments.add_argument("--states", metavar="N", type=int, default=100_000)
+    arguments.add_argument("--runs", metavar="N", type=int, default=0)
+    arguments.add_argument("--swiftrun", metavar="PROGRAM")
     given = arguments.parse_args()
     same = other = left_out = seed = 0
     seed = given.seed
@@ -44,6 +58,9 @@ def main() -> None:
             head = ""
         if "came to its end" not in head:
             left_out += 1
+        elif given.runs and (outside := runs_outside(given.swiftrun, script, given.runs, found)):
+            other += 1
+            print(f"seed {seed}: runs are outside the list\n{script}\n" + "\n".join(sorted(outside)), flush=True)
         elif found == every.outcomes and picked.outcomes <= found:
             same += 1
             print(f"seed {seed}: {len(found)} outcomes, {every.states} states here; {head}", flush=True)
