@@ -1,6 +1,6 @@
 -- A serial executor that threads share, and their desks, as callers see them (SE-0392 for executors that run one job at a
 -- time; the rest is our own).
-use Rattle.std.specs.Prelude.{◌≡◌, ◌≤◌, ℕ, length, map, ◌+◌, ◌-◌, ◌/◌, ◌^◌, ◌%◌, ◌==◌, Bool, true, false, pos, negsuc, Option, Some, None, List, [], ◌∷◌, ◌++◌, ◌⊎◌}
+use Rattle.std.specs.Prelude.{◌≡◌, ◌≤◌, ◌<◌, ◌↔◌, ℕ, length, map, ◌+◌, ◌-◌, ◌*◌, ◌/◌, ◌^◌, ◌%◌, ◌==◌, Bool, true, false, pos, negsuc, Option, Some, None, List, [], ◌∷◌, ◌++◌, ◌⊎◌}
 use Rattle.atomic_table.specs.Seated.{TableId}
 use Rattle.swift_types.specs.declared.executor_kind.ExecutorKind.{ExecutorKind}
 use Rattle.swift_types.specs.declared.executor_kind.ExecutorKind.TheVariants as kind
@@ -16,27 +16,30 @@ use Rattle.swift_types.specs.declared.id.TaskId.{TaskId}
 use Rattle.swift_tasks.specs.declared.fault.BookFault.{BookFault}
 use Rattle.swift_turn.specs.Body.{BodyView}
 use Rattle.swift_word.specs.Seat.{WordSeatView, ended, left}
+use Rattle.swift_word.specs.declared.word.PendingLeft.TheVariants.{More}
 use Rattle.swift_executor.specs.Account.{HasTaken}
 use Rattle.swift_executor.specs.Seats.{IsSeatFor}
 use Rattle.swift_executor.specs.State.{ChosenView, ExecStateView, HasChosen, Journals}
 use Rattle.swift_executor.specs.declared.fault.ExecFault.{ExecFault}
-use Rattle.swift_executor.specs.declared.fault.ExecFault.TheVariants.{Memory, Refused}
+use Rattle.swift_executor.specs.declared.fault.ExecFault.TheVariants.{Memory, Worker, Refused}
 use Rattle.swift_executor.specs.declared.ran.VisitOutcome.{VisitOutcome}
 use Rattle.swift_executor.specs.declared.ran.VisitOutcome.TheVariants.{Turn, Busy, Nothing}
 use Rattle.swift_executor.specs.declared.state_name.StateName.{StateName}
 
--- Which executor it is: the word of its state, its inbox with its script, number and book, and how many workers there are.
+-- Which executor it is: the word of its state, its inbox with its script, number and book, how many workers there are, and the state
+-- that it began with.
 pub record ExecView : Type 0 where
   pub word : TableId
   pub inbox : InboxView
   pub workers : ℕ
+  pub opened : ExecStateView
 
 -- the lock is that of the executor's book, which is of its script
 abbrev pub IsBookOf : ExecView → BookLockView → Type 0
 IsBookOf e b = (e.inbox.site.book ≡ Some b.id) × (b.script ≡ e.inbox.site.script)
 
--- A desk: of which executor it is, the jobs that were sent by it, the oldest first, how many turns were run by it, and how many
--- jobs may still be sent.
+-- A desk: of which executor it is, the jobs that were sent by it, the oldest first, how many turns were run by it, how many jobs may
+-- still be sent, and what each of its steps on the executor's word found there, the newest first.
 pub record DeskView : Type 0 where
   pub word : TableId
   pub inbox : TableId
@@ -44,6 +47,7 @@ pub record DeskView : Type 0 where
   pub sent : List JobFacts
   pub finished : ℕ
   pub allowance : ℕ
+  pub found : List ℕ
 
 -- the desk is of this executor
 abbrev pub IsDeskOf : ExecView → DeskView → Type 0
@@ -51,11 +55,11 @@ IsDeskOf e d = (d.word ≡ e.word) × (d.inbox ≡ e.inbox.id) × (d.site ≡ So
 
 -- the desk that an executor is made with
 abbrev pub first_desk : ExecView → DeskView
-first_desk e = record { word = e.word; inbox = e.inbox.id; site = Some e.inbox.site; sent = []; finished = 0; allowance = 2 ^ 60 }
+first_desk e = record { word = e.word; inbox = e.inbox.id; site = Some e.inbox.site; sent = []; finished = 0; allowance = 2 ^ 60; found = [] }
 
--- one job more was sent by the desk
-abbrev pub has_sent : DeskView → JobView BodyView → DeskView
-has_sent d j = record d { sent = d.sent ++ job_facts j ∷ []; allowance = d.allowance - 1 }
+-- one job more was sent by the desk, whose count found this word
+abbrev pub has_sent : ℕ → DeskView → JobView BodyView → DeskView
+has_sent n d j = record d { sent = d.sent ++ job_facts j ∷ []; allowance = d.allowance - 1; found = n ∷ d.found }
 
 -- a desk that was split keeps the half of its allowance, rounded up
 abbrev pub kept_desk : DeskView → DeskView
@@ -63,13 +67,40 @@ kept_desk d = record d { allowance = d.allowance - d.allowance / 2 }
 
 -- the new desk has the other half
 abbrev pub other_desk : DeskView → DeskView
-other_desk d = record d { sent = []; finished = 0; allowance = d.allowance / 2 }
+other_desk d = record d { sent = []; finished = 0; allowance = d.allowance / 2; found = [] }
+
+-- the desk has made further steps on the word
+abbrev pub has_found : List ℕ → DeskView → DeskView
+has_found found d = record d { found = found }
 
 -- one turn more was run by the desk, where one was
 abbrev pub after_run : VisitOutcome → DeskView → DeskView
 after_run (Turn task left) d = record d { finished = d.finished + 1 }
 after_run Busy d = d
 after_run (Nothing left) d = d
+
+-- The steps of a visit that got the state: its begin found so many jobs pending and no worker that held it, and its last step found
+-- this word.
+abbrev pub FoundFree : List ℕ → List ℕ → ℕ → ℕ → Type 0
+FoundFree old new pending n = new ≡ n ∷ 2 * pending ∷ old
+
+-- whether jobs were left, by the word that the end of a turn found, and by that which the visit found that gave the state back unused
+abbrev pub HasLeft : VisitOutcome → ℕ → Type 0
+HasLeft (Turn task left) n = (left ≡ More) ↔ (1 < n / 2)
+HasLeft Busy n = ⊥
+HasLeft (Nothing left) n = (left ≡ More) ↔ (0 < n / 2)
+
+-- What a visit answers is what its steps on the word found. `Busy`: its begin found that a worker held the state. A turn: a job was
+-- pending.
+abbrev pub HasFound : VisitOutcome → List ℕ → List ℕ → Type 0
+HasFound (Turn task left) old new = (pending n : ℕ) × FoundFree old new pending n × (0 < pending) × HasLeft (Turn task left) n
+HasFound Busy old new = (n : ℕ) × (new ≡ n ∷ old) × (n % 2 ≡ 1)
+HasFound (Nothing left) old new = (pending n : ℕ) × FoundFree old new pending n × HasLeft (Nothing left) n
+
+-- of a refused visit: a worker that may not run the executor makes no step, and any other got the state, where a job was pending
+abbrev pub HasTried : ExecFault → List ℕ → List ℕ → Type 0
+HasTried Worker old new = new ≡ old
+HasTried _ old new = (pending n : ℕ) × FoundFree old new pending n × (0 < pending)
 
 -- the executor whose state it is, of the book of this lock
 abbrev pub site_of : TableId → ExecStateView → SiteView
@@ -88,11 +119,11 @@ state_name site inbox = record { site = site; inbox = record { inbox = inbox } }
 abbrev pub IsSeatAt : ExecView → WordSeatView StateName → Type 0
 IsSeatAt e s = (s.word ≡ e.word) × (s.name ≡ Some (state_name e.inbox.site e.inbox.id))
 
--- what a visit leaves of the seat that held the state
-abbrev pub seat_after : VisitOutcome → WordSeatView StateName → WordSeatView StateName
-seat_after (Turn task l) s = ended s
-seat_after Busy s = s
-seat_after (Nothing l) s = left s
+-- what a visit, whose last step found this word, leaves of the seat that held the state
+abbrev pub seat_after : VisitOutcome → ℕ → WordSeatView StateName → WordSeatView StateName
+seat_after (Turn task l) n s = ended n s
+seat_after Busy n s = s
+seat_after (Nothing l) n s = left n s
 
 -- where a turn was run, this holds of its task
 abbrev pub IfTurn : (TaskId → Type 0) → VisitOutcome → Type 0

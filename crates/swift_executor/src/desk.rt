@@ -14,7 +14,8 @@ use swift_word::WordSeat;
 /// it knows.
 ///
 /// It has an allowance, how many jobs may still be sent by it: all those of an executor together began as 2^60. In a clause a
-/// desk is its executor, the jobs that were sent by it, the oldest first, how many turns were run by it, and its allowance.
+/// desk is its executor, the jobs that were sent by it, the oldest first, how many turns were run by it, its allowance, and what
+/// its steps found on the executor's word.
 /// No job comes out of the inbox through a desk: the right to take is one value, which lies in the executor's state. A desk that
 /// is dropped takes its allowance with it.
 pub struct Desk {
@@ -40,7 +41,7 @@ impl Model for Desk {
 
     ghost coded = { Prim.hlevel (codes, expression_code, statement_code (block_code (Prim.hlevel (codes, expression_code)) (Prim.hlevel (codes, expression_code)))) };
 
-    ghost view = { λ d. record { word = d.seat.word; inbox = d.pass.inbox; site = d.pass.site; sent = d.pass.pushed; finished = d.seat.finished; allowance = d.seat.allowance } };
+    ghost view = { λ d. record { word = d.seat.word; inbox = d.pass.inbox; site = d.pass.site; sent = d.pass.pushed; finished = d.seat.finished; allowance = d.seat.allowance; found = d.seat.found } };
 
     ghost invariant = { λ d. IfSome d.pass.site (λ site. d.seat.name ≡ Some (state_name site d.pass.inbox)) × (d.seat.holding ≡ None) };
 }

@@ -1,10 +1,12 @@
 //! A serial executor that threads share, and what is left of it.
 
-ghost use Rattle.std.specs.Prelude.{◌≡◌, ◌<◌, [], None, Some, IfOk, IfErr, IfSome, IfNone, OnOk, OnErr};
+ghost use Rattle.std.specs.Prelude.{◌≡◌, ◌<◌, ◌↔◌, [], None, Some, IfOk, IfErr, IfSome, IfNone, OnOk, OnErr};
 ghost use Rattle.std.specs.Arc.{arc_value};
 ghost use Rattle.swift_inbox.specs.Site.{CanRunAt};
 ghost use Rattle.swift_executor.specs.Exec.{IsDeskOf, IsLeft, first_desk, has_sent, site_of};
 ghost use Rattle.swift_executor.specs.Seats.{IsOpened};
+ghost use Rattle.swift_executor.specs.State.{new_executor};
+ghost use Rattle.swift_word.specs.Seat.{newest};
 
 use crate::desk::Desk;
 use crate::fault::ExecFault;
@@ -28,9 +30,9 @@ use swift_word::{BeforeCount, Word};
 /// sends jobs and runs turns with a `Desk` of its own. One turn runs at a time, since a worker takes the state out of the
 /// word before it, and puts it back after. No call waits for a turn that another thread runs.
 ///
-/// In a clause it is its word, its inbox, with its script, number and book, and how many workers the run has. No clause knows
-/// the state, since other threads may change it at any moment: what holds of it is said by its type, `ExecState`. Where an
-/// executor is dropped, its jobs are spent.
+/// In a clause it is its word, its inbox, with its script, number and book, how many workers the run has, and the state that it
+/// began with. No clause knows the state that it has, since other threads may change it at any moment: what holds of it is said by
+/// its type, `ExecState`. Where an executor is dropped, its jobs are spent.
 pub struct Exec {
     pub(crate) word: Word<Resting>,
     pub(crate) inbox: Inbox,
@@ -83,7 +85,7 @@ impl Model for Exec {
 
     ghost coded = { Prim.hlevel (codes, expression_code, statement_code (block_code (Prim.hlevel (codes, expression_code)) (Prim.hlevel (codes, expression_code)))) };
 
-    ghost view = { λ e. record { word = e.word.id; inbox = e.inbox; workers = e.workers } };
+    ghost view = { λ e. record { word = e.word.id; inbox = e.inbox; workers = e.workers; opened = e.word.opened.state } };
 
     ghost invariant = { λ e. (e.word.name ≡ state_name e.inbox.site e.inbox.id) × (0 < e.workers) × (e.spare.list.items ≡ []) × (e.inbox.room ≤ vec_capacity e.spare.list) };
 }
@@ -111,6 +113,7 @@ fn first_state(
     requires book { site.now.book ≡ Some seat.lock }
     requires seat { IsOpened site.now.script site.now.executor seat }
     ensures of { IfOk result (λ r. (site_of r.seat.lock r.state ≡ site.now) × (r.taker ≡ taker) × (r.seat ≡ seat)) }
+    ensures state { IfOk result (λ r. r.state ≡ new_executor site.now.script site.now.executor room) }
     ensures room { IfOk result (λ r. r.state.ready.room ≡ room) }
 {
     new_has_taken_none();
@@ -146,6 +149,7 @@ impl Exec {
         ensures site { IfOk result (λ r. r.0.inbox.site ≡ record { script = arc_value script; executor = executor.0; book = Some seat.lock }) }
         ensures room { IfOk result (λ r. r.0.inbox.room ≡ room) }
         ensures workers { IfOk result (λ r. r.0.workers ≡ workers) }
+        ensures opened { IfOk result (λ r. r.0.opened ≡ new_executor (arc_value script) executor.0 room) }
         ensures desk { IfOk result (λ r. r.1 ≡ first_desk r.0) }
     {
         let site = ExecutorSite::of_book(script, executor, seat.name());
@@ -195,7 +199,8 @@ impl Exec {
         G: Gate,
         requires desk { IsDeskOf self.now desk.old }
         requires job { CanRunAt self.now.inbox.site job }
-        ensures ok { OnOk result (desk.new ≡ has_sent desk.old job.job) }
+        ensures ok { OnOk result (desk.new ≡ has_sent (newest desk.new.found) desk.old job.job) }
+        ensures idle { IfOk result (λ was. (was ≡ BeforeCount.Idle) ↔ (newest desk.new.found ≡ 0)) }
         ensures allowed { OnOk result (0 < desk.old.allowance) }
         ensures back { IfErr result (λ e. (e.0 ≡ job) × (e.1 ≡ ExecFault.Full)) }
         ensures kept { OnErr result (desk.new ≡ desk.old) }

@@ -1,6 +1,6 @@
 //! A visit of a worker to an executor.
 
-ghost use Rattle.std.specs.Prelude.{◌≡◌, ◌<◌, ◌↔◌, ◌⊎◌, List, None, Some, Err, false, map, IfOk, IfErr, IfSome, IfNone, IsSome, IsSomeAnd, OnOk, OnErr};
+ghost use Rattle.std.specs.Prelude.{◌≡◌, ◌<◌, ◌/◌, ◌↔◌, ◌⊎◌, List, None, Some, Err, false, map, IfOk, IfErr, IfSome, IfNone, IsSome, IsSomeAnd, OnOk, OnErr};
 ghost use Rattle.std.specs.List.{AllByRecursion};
 ghost use Rattle.futures.specs.Task.{Keeps};
 ghost use Rattle.swift_script.specs.Scripts.{executor_kind};
@@ -9,10 +9,10 @@ ghost use Rattle.atomic_table.specs.Seated.{TableId};
 ghost use Rattle.swift_history.specs.Jobs.{job_facts};
 ghost use Rattle.swift_history.specs.TurnEnds.{JobFacts};
 ghost use Rattle.swift_executor.specs.Account.{HasTaken};
-ghost use Rattle.swift_executor.specs.Exec.{IfNoTurn, IfTurn, IsMadeBy, chosen_task, IsAt, IsBookOf, IsDeskOf, IsRunFault, IsSeatAt, after_run, may_run, seat_after, site_of};
+ghost use Rattle.swift_executor.specs.Exec.{HasFound, HasLeft, HasTried, IfNoTurn, IfTurn, IsMadeBy, chosen_task, IsAt, IsBookOf, IsDeskOf, IsRunFault, IsSeatAt, after_run, has_found, may_run, seat_after, site_of};
 ghost use Rattle.swift_executor.specs.Seats.{IsSeatFor};
 ghost use Rattle.swift_shared_book.specs.Shared.{BookSeatView, IsAsTaken, IsSeatOf, seat_of};
-ghost use Rattle.swift_word.specs.Seat.{ended, left};
+ghost use Rattle.swift_word.specs.Seat.{ended, last_found, left};
 ghost use Rattle.swift_executor.specs.State.{HasChosen, IsBegun, IsPicked, IsPlayed};
 
 use crate::desk::Desk;
@@ -285,7 +285,8 @@ impl Exec {
         requires found { IsSomeAnd seat.old.holding (λ found. 0 < found) }
         requires at { IsAt self.now.inbox held.value.taker held.value.seat held.value.state }
         requires free { held.value.state.chosen ≡ None }
-        ensures { seat.new ≡ ended seat.old }
+        ensures seat { seat.new ≡ ended (last_found seat.new) seat.old }
+        ensures left { (result ≡ PendingLeft.More) ↔ (1 < last_found seat.new / 2) }
     {
         self.word.end(seat, Resting::new(held))
     }
@@ -296,7 +297,8 @@ impl Exec {
         requires found { IsSome seat.old.holding }
         requires at { IsAt self.now.inbox held.value.taker held.value.seat held.value.state }
         requires free { held.value.state.chosen ≡ None }
-        ensures { seat.new ≡ left seat.old }
+        ensures seat { seat.new ≡ left (last_found seat.new) seat.old }
+        ensures left { (result ≡ PendingLeft.More) ↔ (0 < last_found seat.new / 2) }
     {
         self.word.leave(seat, Resting::new(held))
     }
@@ -323,8 +325,11 @@ impl Exec {
         requires free { held.value.state.chosen ≡ None }
         requires lock { IsBookOf self.now book.now }
         requires jobs { jobs.old.book ≡ book.now.id }
-        ensures seat { IfOk result (λ ran. seat.new ≡ seat_after ran seat.old) }
-        ensures kept { OnErr result (seat.new ≡ left seat.old) }
+        ensures seat { IfOk result (λ ran. seat.new ≡ seat_after ran (last_found seat.new) seat.old) }
+        ensures left { IfOk result (λ ran. HasLeft ran (last_found seat.new)) }
+        ensures pending { IfOk result (IfTurn (λ task. 0 < found)) }
+        ensures kept { OnErr result (seat.new ≡ left (last_found seat.new) seat.old) }
+        ensures tried { OnErr result (0 < found) }
         ensures free { (seat.new.name ≡ seat.old.name) × (seat.new.holding ≡ None) }
         ensures made { IfOk result (IfTurn (λ task. IsMadeBy self.now.inbox.site.script (Some task) (map job_facts jobs.old.jobs) (map job_facts jobs.new.jobs))) }
         ensures jobs { IfOk result (IfNoTurn (jobs.new ≡ jobs.old)) }
@@ -381,8 +386,10 @@ impl Exec {
         requires desk { IsDeskOf self.now desk.old }
         requires book { IsBookOf self.now book.now }
         requires jobs { jobs.old.book ≡ book.now.id }
-        ensures desk { IfOk result (λ ran. desk.new ≡ after_run ran desk.old) }
-        ensures kept { OnErr result (desk.new ≡ desk.old) }
+        ensures desk { IfOk result (λ ran. desk.new ≡ has_found desk.new.found (after_run ran desk.old)) }
+        ensures found { IfOk result (λ ran. HasFound ran desk.old.found desk.new.found) }
+        ensures kept { OnErr result (desk.new ≡ has_found desk.new.found desk.old) }
+        ensures tried { IfErr result (λ fault. HasTried fault desk.old.found desk.new.found) }
         ensures made { IfOk result (IfTurn (λ task. IsMadeBy self.now.inbox.site.script (Some task) (map job_facts jobs.old.jobs) (map job_facts jobs.new.jobs))) }
         ensures jobs { IfOk result (IfNoTurn (jobs.new ≡ jobs.old)) }
         ensures none { OnErr result (jobs.new ≡ jobs.old) }

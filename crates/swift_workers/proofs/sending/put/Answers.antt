@@ -25,4 +25,4 @@ returns-in-Ok g c =
     let k = c.actor_executor-on.result.0 in
     let lt : k < length execs = omega (arith, c.if-place-crew.false) in
     let old : IsDeskOf e d = desk_at execs desks k e d c.requires.desks lt c.index-crew-place.is c.index_mut-desk.ensures.value in
-    record { desks = desk_set execs desks k e c.enqueue.new.desk c.requires.desks lt c.index-crew-place.is (desk_sent e d c.enqueue.new.desk c.args.job.job old c.in-Ok.ensures.ok) }
+    record { desks = desk_set execs desks k e c.enqueue.new.desk c.requires.desks lt c.index-crew-place.is (desk_sent e d c.enqueue.new.desk _ c.args.job.job old c.in-Ok.ensures.ok) }

@@ -6,7 +6,7 @@ use Rattle.swift_turn.specs.Body.{BodyView}
 use Rattle.swift_tasks.specs.Books.{IsJobOf}
 use Rattle.swift_inbox.specs.Site.{SiteView}
 use Rattle.swift_executor.specs.Exec.{ExecView, IsBookOf, IsDeskOf}
-use Rattle.swift_workers.proofs.Desks.{book_at, desk_at, desk_ran, desk_set, site_at}
+use Rattle.swift_workers.proofs.Desks.{book_at, desk_at, desk_ran, desk_set, desk_tried, site_at}
 use Rattle.swift_workers.proofs.turns.visit.Goals as goal
 
 pub run_one-requires-clause-book : goal.run_one-requires-clause-book
@@ -23,7 +23,17 @@ returns-clause-desks g c =
     let desks = c.args.hand.now.desks.items in
     let lt : k < length execs = omega (arith, c.if-place-crew.false) in
     let old : IsDeskOf e c.index_mut-desk.result.now = desk_at execs desks k e c.index_mut-desk.result.now c.requires.hand.desks lt c.index-crew-place.is c.index_mut-desk.ensures.value in
-    desk_set execs desks k e c.run_one.new.desk c.requires.hand.desks lt c.index-crew-place.is (desk_ran e c.index_mut-desk.result.now c.run_one.new.desk c.in_ok-ran.ran old c.in_ok-ran.ensures.desk)
+    desk_set execs desks k e c.run_one.new.desk c.requires.hand.desks lt c.index-crew-place.is (desk_ran e c.index_mut-desk.result.now c.run_one.new.desk _ c.in_ok-ran.ran old c.in_ok-ran.ensures.desk)
+
+pub returns-in_err-ran-clause-desks : goal.returns-in_err-ran-clause-desks
+returns-in_err-ran-clause-desks g c =
+    let e = c.index-crew-place.result in
+    let k = c.args.on.0 in
+    let execs = c.args.crew.execs.now in
+    let desks = c.args.hand.now.desks.items in
+    let lt : k < length execs = omega (arith, c.if-place-crew.false) in
+    let old : IsDeskOf e c.index_mut-desk.result.now = desk_at execs desks k e c.index_mut-desk.result.now c.requires.hand.desks lt c.index-crew-place.is c.index_mut-desk.ensures.value in
+    desk_set execs desks k e c.run_one.new.desk c.requires.hand.desks lt c.index-crew-place.is (desk_tried e c.index_mut-desk.result.now c.run_one.new.desk _ old c.in_err-ran.ensures.kept)
 
 pub returns-clause-jobs : goal.returns-clause-jobs
 returns-clause-jobs g c =
