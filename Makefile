@@ -72,7 +72,7 @@ install: $(PROGRAM) $(DAILY)
 refusals: $(CASES) $(DAILY)
 	@tools/refusals.py $(EACH)
 
-# Whether what the documents link to is there.
+# Whether what the documents link to is there, and each crate of a line of crates.txt is named by a file of that line's crate.
 links:
 	@tools/links.py
 

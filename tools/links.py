@@ -1,8 +1,10 @@
 #!/usr/bin/env python3
-"""Whether each link of the documents stands: the file is there, and has each name that the link's text puts in code.
+"""Whether each link of the documents stands: the file is there, and has each name that the link's text puts in code. And whether each
+crate that a line of crates.txt names is one that a file of that line's crate names.
 
 A link such as [`read`](crates/swift_script/src/reading.rt) says that this file has the word `read`. A link to a
-heading, FILE#words-of-the-heading, says that the file has that heading."""
+heading, FILE#words-of-the-heading, says that the file has that heading. A file names a crate by `NAME::` or by `Rattle.NAME.`, outside
+of comments."""
 import glob
 import os
 import re
@@ -42,9 +44,33 @@ def faults(document):
                     yield f"{target} has no {word}"
 
 
+def named_by(crate):
+    """The crates that the files of a crate name."""
+    found = set()
+    for part, comment in (("src", r"//.*"), ("specs", r"--.*"), ("proofs", r"--.*")):
+        for at, _, files in os.walk(os.path.join(TOP, "crates", crate, part)):
+            for file in files:
+                with open(os.path.join(at, file), encoding="utf8") as lines:
+                    text = re.sub(comment, "", lines.read())
+                found.update(re.findall(r"\b([a-z]\w*)::", text), re.findall(r"\bRattle\.(\w+)\.", text))
+    return found
+
+
+def unnamed():
+    """Each crate that a line of crates.txt names, and no file of that line's crate."""
+    with open(os.path.join(TOP, "crates.txt"), encoding="utf8") as lines:
+        for line in lines:
+            head, _, below = line.split("#")[0].partition(":")
+            if below.strip():
+                crate = head.split()[0]
+                named = named_by(crate)
+                yield from (f"crates.txt: no file of {crate} names {name}" for name in below.split() if name not in named)
+
+
 told = [f"{document}: {fault}" for document in DOCUMENTS if os.path.exists(os.path.join(TOP, document)) for fault in faults(document)]
+told += unnamed()
 for line in told:
     print(line)
 if not told:
-    print("each link of the documents stands")
+    print("each link of the documents stands, and each crate of a line of crates.txt is named by that line's crate")
 sys.exit(1 if told else 0)
