@@ -8,10 +8,8 @@ use Rattle.script_tokens.proofs.Unique.{unique}
 use Rattle.script_grammar.specs.Grammar.{IsScript}
 use Rattle.script_parser.specs.declared.limits.TheConstants.{NESTING}
 use Rattle.script_printing.specs.Script.{ScriptView}
-use Rattle.script_waits.specs.Waits.{NoneBefore}
-use Rattle.script_compiler.specs.Waiting.{edges_of, waits_of, root_methods}
-use Rattle.swift_script.specs.Scripts.{parts_of}
 use Rattle.swift_script.specs.Accepted.{IsAccepted, first_false, RootWaits, NoRootWaits}
+use Rattle.swift_script.specs.BrokenInside.{IsFirstWaiting, NoneEarlier}
 use Rattle.swift_script.specs.FaultLines.{is_root, place_of, RootStandsOn}
 use Rattle.swift_script.specs.SpelledInside.{pieces_of, AreKept, IsNamed, HasNamesInOrder, line_in}
 use Rattle.swift_script.proofs.Refusing.{kept_line}
@@ -20,16 +18,13 @@ pub none_waits : (s : ScriptView) (o : Option ℕ) → o ≡ None → IfNone o (
 none_waits s None is h = h
 none_waits s (Some k) is h = absurd cc
 
-some_at : (P : ℕ → Type 0) (o : Option ℕ) (k : ℕ) → o ≡ Some k → IfSome o P → P k
+pub some_at : (P : ℕ → Type 0) (o : Option ℕ) (k : ℕ) → o ≡ Some k → IfSome o P → P k
 some_at P o k is h = subst (λ (x : Option ℕ). IfSome x P) is h
 
-abbrev pub NoneEarlier : ScriptView → ℕ → Type 0
-NoneEarlier s root = NoneBefore (edges_of (parts_of s)) (waits_of (parts_of s)) (root_methods (parts_of s)) root
-
 -- a root that waits stands at its keyword
-pub root_stands : (text : List ℕ) (s : ScriptView) (kept : Tokens) (lent : List Token) (o : Option ℕ) (root place line : ℕ) → IsNamed text s kept → o ≡ Some root → IfSome o (RootWaits s) → IfSome o (NoneEarlier s)
+pub root_stands : (text : List ℕ) (s : ScriptView) (kept : Tokens) (lent : List Token) (root place line : ℕ) → IsNamed text s kept → IsFirstWaiting s root
     → lent ≡ kept.tokens.items → place ≡ place_of is_root root (map piece lent) → line ≡ line_in kept place → RootStandsOn text line
-root_stands text s kept lent o root place line n is waits first same at on =
+root_stands text s kept lent root place line n w same at on =
     let there : place ≡ place_of is_root root (pieces_of kept) = at ∙ ap (λ (ts : List Token). place_of is_root root (map piece ts)) same in
     record {
       pieces = pieces_of kept;
@@ -38,8 +33,8 @@ root_stands text s kept lent o root place line n is waits first same at on =
       decls = n.decls;
       spelled = n.spelled.spelled;
       root = root;
-      waits = subst (λ (t : ScriptView). RootWaits t root) n.is (some_at (RootWaits s) o root is waits);
-      first = subst (λ (t : ScriptView). NoneEarlier t root) n.is (some_at (NoneEarlier s) o root is first);
+      waits = subst (λ (t : ScriptView). RootWaits t root) n.is w.waits;
+      first = subst (λ (t : ScriptView). NoneEarlier t root) n.is w.first;
       on = on ∙ ap (line_in kept) there ∙ kept_line text kept (place_of is_root root (pieces_of kept)) n.spelled.are_kept;
     }
 

@@ -8,3 +8,4 @@ pub mod SpelledInside
 pub mod ScriptInvariant
 pub mod LentInside
 pub mod SameScripts
+pub mod BrokenInside

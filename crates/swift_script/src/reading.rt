@@ -20,7 +20,7 @@ use crate::naming::check_names;
 use crate::script::Script;
 use crate::spelled::{Spelled, all_tokens, spell};
 use crate::split::{Declarations, split};
-use crate::start::{check_starts, check_waits, is_in_order};
+use crate::start::{fault_of, first_broken};
 use script_compiler::{Compiled, compile};
 use script_grammar::Decl;
 use script_names::{Declared, Seed};
@@ -120,10 +120,9 @@ fn settle(
     ensures refused { IfErr result (λ e. Refuses e.kind text.now) }
     ensures line { IfErr result (λ e. IsAtItsLine e text.now) }
 {
-    if is_in_order(alloc, declarations, compiled)? {
+    let Some(rule) = first_broken(alloc, declarations, compiled)? else {
         return Ok(());
-    }
+    };
     let tokens = all_tokens(alloc, text)?;
-    check_starts(alloc, &tokens, declarations, compiled)?;
-    check_waits(alloc, &tokens, declarations, compiled)
+    Err(fault_of(&tokens, declarations, rule))
 }
