@@ -91,10 +91,6 @@ local_count s = length (parts_of s).locals
 abbrev pub local_name : ScriptView → ℕ → List ℕ
 local_name s l = (local_at s l).name
 
--- what is read of a task local where it is not bound
-abbrev pub local_default : ScriptView → ℕ → ℤ
-local_default s l = (local_at s l).default
-
 -- how many actors a script has
 abbrev pub actor_count : ScriptView → ℕ
 actor_count s = length (parts_of s).actors

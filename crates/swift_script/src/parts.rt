@@ -7,7 +7,7 @@ ghost use Rattle.script_code.specs.Seen.{rows_of, term_if_lent};
 ghost use Rattle.script_code.specs.Tree.{terms_of};
 ghost use Rattle.script_compiler.specs.IsCompiled.{actor_number, field_view};
 ghost use Rattle.swift_script.specs.LentInside.{field_lent};
-ghost use Rattle.swift_script.specs.Scripts.{executor_name, executor_kind, executor_actors, executor_invariants, executor_start, local_name, local_default, actor_name, actor_executor, actor_fields, field_at, field_name, actor_invariant, method_count, method_name, method_actor, method_params, method_numbers, method_handles, method_code, root_name, root_method, root_args, root_priority};
+ghost use Rattle.swift_script.specs.Scripts.{executor_name, executor_kind, executor_actors, executor_invariants, executor_start, local_name, actor_name, actor_executor, actor_fields, field_at, field_name, actor_invariant, method_count, method_name, method_actor, method_params, method_numbers, method_handles, method_code, root_name, root_method, root_args, root_priority};
 
 use crate::script::Script;
 use script_code::{Formula, Instruction};
@@ -54,16 +54,6 @@ impl Script {
         match self.local(local) {
             Some(found) => &found.name,
             None => &[],
-        }
-    }
-
-    /// What is read of a task local where it is not bound (SE-0311); 0 of one that the script lacks.
-    pub fn local_default(&self, local: LocalId) -> i64
-        ensures { result ≡ local_default self.now local.0 }
-    {
-        match self.local(local) {
-            Some(found) => found.default,
-            None => 0,
         }
     }
 
