@@ -1,7 +1,7 @@
 //! What the events of one task say of it.
 
 ghost use Rattle.std.specs.Prelude.{◌≡◌};
-ghost use Rattle.swift_events.specs.Lives.{unborn, lived, is_open, is_waiting, room_held};
+ghost use Rattle.swift_events.specs.Lives.{unborn, lived, is_open, room_held};
 
 use crate::event::Event;
 use swift_types::{Ending, Env, Resume, TaskId};
@@ -116,16 +116,6 @@ impl Life {
         ensures { result ≡ is_open self.now }
     {
         self.origin.is_some() && self.ending.is_none()
-    }
-
-    /// Whether it waits: for a task, for a result of a group, or for the children of a group that it closes.
-    pub fn is_waiting(&self) -> bool
-        ensures { result ≡ is_waiting self.now }
-    {
-        matches!(
-            self.stage,
-            Some(JobStage::Waits(_) | JobStage::Asks(_) | JobStage::Closes(_))
-        )
     }
 
     /// How many tasks its turn that is under way may still make: the room that is reserved for it.
