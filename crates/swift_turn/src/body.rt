@@ -29,7 +29,7 @@ use swift_locals::Bindings;
 use swift_script::Script;
 use swift_types::limits::{FRAMES, STEPS};
 use swift_types::{ActorId, Ending, Env, Fault, MethodId, Resume};
-use swift_undo::{Undo, play_kept_with};
+use swift_undo::{Undo, play_kept};
 
 /// A task: its script, its frames, the bindings that stand in it, and the turn that is under way (SE-0304). A turn is
 /// entered with the fields of the actors of its executor, polled once, and left; then `advance` says what comes next.
@@ -239,7 +239,7 @@ fn play(
         outer,
         env,
     };
-    play_kept_with(alloc, given, rows, turn, before, saved, resume, STEPS)
+    play_kept(alloc, given, rows, turn, before, saved, resume, STEPS)
 }
 
 impl Body {

@@ -12,7 +12,7 @@ ghost use Rattle.script_code.specs.Value.{holds as it_holds};
 ghost use Rattle.swift_undo.specs.Rows.{AreSpared};
 ghost use Rattle.swift_undo.specs.RowsInside.{OthersHold, is_tested};
 
-use crate::undo::{Undo, begin_turn, leave_undone, undo_turn};
+use crate::undo::{begin_turn, leave_undone, undo_turn};
 use script_code::{Formula, holds};
 use std::alloc::{AllocError, Global};
 use swift_interpreter::{Exit, Frame, SavedRows, TurnInput, TurnState, leave_frame, play_whole};
@@ -26,63 +26,17 @@ use swift_types::{Fault, Resume};
 /// of the executor's actors false, with the fault `invariant`: all is as before it, has no effects, and the frame is left
 /// with that fault. Where the instructions stand for statements, what is kept is that of the statements.
 ///
-/// What undoes the turn then holds the frame from before it (`Undo::swap_frame`), whether the turn was undone or not.
+/// Only those invariants are tested that the turn can have made false: of the first ones, beside each of which `rows` has the row that it
+/// reads (`rows_of_invariants`), and which hold before the turn, those whose row the turn has set; and the others.
+///
+/// The last two are buffers of the caller's, which are used again from turn to turn: `before` becomes the frame from before
+/// the turn, and `saved` the rows that it has set, as they were. What they had before counts for nothing.
 ///
 /// Where memory runs out, the frame and the fields are as before.
 ///
-/// It costs the steps, a copy of the frame (two where the turn is undone), a copy of each row of fields that it changes,
-/// and all invariants. It takes memory only where a list grows.
+/// It costs the steps, a copy of the frame (two where the turn is undone), a copy of each row of fields that it changes, the
+/// invariants that it tests, and for each other one a look at the rows that were set. It takes memory only where a list grows.
 pub fn play_kept(
-    alloc: Global,
-    given: TurnInput<'_>,
-    turn: &mut TurnState,
-    undo: &mut Undo,
-    resume: Resume,
-    limit: u32,
-) -> Result<Exit, AllocError>
-    ensures kept { IfOk result (λ exit. (code : Code) → (at : ℕ → Code) → FollowsCode given.entry.instructions.now code at
-        → played_of (state_of at turn.new) exit
-        ≡ kept (given_of given.entry) limit (terms_of given.entry.invariants.now) (beginning at given.entry.env.now turn.old) resume) }
-    ensures frame { OnErr result (frame_view turn.new.frame ≡ frame_view turn.old.frame) }
-    ensures fields { OnErr result (rows_of turn.new.fields.items ≡ rows_of turn.old.fields.items) }
-    ensures method { turn.new.frame.method ≡ turn.old.frame.method }
-    ensures before { OnOk result (frame_view undo.new.frame ≡ frame_view turn.old.frame) }
-{
-    play_kept_from(alloc, given, &[], turn, undo, resume, limit)
-}
-
-/// Plays the same turn, and tests only those invariants that it can have made false: of the first ones, beside each of which `rows`
-/// has the row that it reads (`rows_of_invariants`), and which hold before the turn, those whose row the turn has set; and the others.
-/// In place of all invariants it costs those, and for each other one a look at the rows that were set.
-///
-/// What undoes the turn then holds the rows that the turn has set, as they were before it (`Undo::swap_saved`).
-pub fn play_kept_from(
-    alloc: Global,
-    given: TurnInput<'_>,
-    rows: &[u32],
-    turn: &mut TurnState,
-    undo: &mut Undo,
-    resume: Resume,
-    limit: u32,
-) -> Result<Exit, AllocError>
-    requires { AreSpared rows.now (terms_of given.invariants.now) (rows_of turn.old.fields.items) }
-    ensures kept { IfOk result (λ exit. (code : Code) → (at : ℕ → Code) → FollowsCode given.entry.instructions.now code at
-        → played_of (state_of at turn.new) exit
-        ≡ kept (given_of given.entry) limit (terms_of given.entry.invariants.now) (beginning at given.entry.env.now turn.old) resume) }
-    ensures frame { OnErr result (frame_view turn.new.frame ≡ frame_view turn.old.frame) }
-    ensures fields { OnErr result (rows_of turn.new.fields.items ≡ rows_of turn.old.fields.items) }
-    ensures method { turn.new.frame.method ≡ turn.old.frame.method }
-    ensures before { OnOk result (frame_view undo.new.frame ≡ frame_view turn.old.frame) }
-    ensures saved { restored undo.new.saved (rows_of turn.new.fields.items) ≡ rows_of turn.old.fields.items }
-{
-    let before = &mut undo.frame;
-    let saved = &mut undo.saved;
-    play_kept_with(alloc, given, rows, turn, before, saved, resume, limit)
-}
-
-/// Plays the same turn with buffers of the caller's, which are used again from turn to turn: `before` becomes the frame from before
-/// it, and `saved` the rows that it has set, as they were. What the two had before counts for nothing.
-pub fn play_kept_with(
     alloc: Global,
     given: TurnInput<'_>,
     rows: &[u32],

@@ -6,6 +6,6 @@ pub mod laws;
 mod rows;
 mod undo;
 
-pub use kept::{play_kept, play_kept_from, play_kept_with};
+pub use kept::play_kept;
 pub use rows::rows_of_invariants;
 pub use undo::Undo;

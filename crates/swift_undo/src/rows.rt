@@ -7,7 +7,7 @@ ghost use Rattle.swift_undo.specs.Rows.{HaveRows, first_row as first_row_of, rea
 use script_code::Formula;
 use std::alloc::{AllocError, Global};
 
-/// The row that each of these invariants reads, for `play_kept_from`, up to the first that reads more than one (our own): a script's
+/// The row that each of these invariants reads, for `play_kept`, up to the first that reads more than one (our own): a script's
 /// invariants read the fields of their own actor alone, so of those it gives all. In time linear in the invariants.
 pub fn rows_of_invariants(alloc: Global, invariants: &[Formula]) -> Result<Vec<u32>, AllocError>
     ensures rows { IfOk result (λ rows. rows.items ≡ rows_read (terms_of invariants.now)) }

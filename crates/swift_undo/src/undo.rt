@@ -10,8 +10,8 @@ use std::alloc::{AllocError, Global};
 use std::mem;
 use swift_interpreter::{Exit, Frame, SavedRows, TurnState, leave_frame};
 
-/// What undoes a turn: a copy of its frame, and the rows of fields that it has changed (our own). It may serve any
-/// turn, and its buffers are used again from one to the next. After a turn the copy is still there, and can be taken.
+/// What undoes a turn: buffers for a copy of its frame and for the rows of fields that it has changed (our own). It may serve any
+/// turn, and they are used again from one to the next.
 pub struct Undo {
     /// The frame from before the turn.
     pub frame: Frame,
@@ -56,49 +56,6 @@ impl Undo {
         self.frame.own.reserve(frame.own.len())?;
         self.frame.groups.clear();
         self.frame.groups.reserve(frame.groups.len())
-    }
-
-    /// A turn begins, with no effects, which may make this many tasks. After an error its frame, fields and method are as
-    /// they were.
-    pub fn begin(&mut self, turn: &mut TurnState, room: u32) -> Result<(), AllocError>
-        ensures state { (at : _) → state_of at turn.new ≡ state_in at (frame_view turn.old.frame) (rows_of turn.old.fields.items) [] room }
-        ensures frame { frame_view turn.new.frame ≡ frame_view turn.old.frame }
-        ensures fields { turn.new.fields.items ≡ turn.old.fields.items }
-        ensures method { turn.new.frame.method ≡ turn.old.frame.method }
-        ensures copy { OnOk result (frame_view self.new.frame ≡ frame_view turn.old.frame) }
-        ensures copy_method { OnOk result (self.new.frame.method ≡ turn.old.frame.method) }
-        ensures saved { self.new.saved ≡ [] }
-    {
-        begin_turn(&mut self.frame, &mut self.saved, turn, room)
-    }
-
-    /// The turn under way is undone: it has done nothing, and may make this many tasks.
-    pub fn put_back(&mut self, turn: &mut TurnState, room: u32)
-        ensures state { (at : _) → state_of at turn.new ≡ state_in at (frame_view self.old.frame) (fields_before self.old.saved turn.old) [] room }
-        ensures frame { frame_view turn.new.frame ≡ frame_view self.old.frame }
-        ensures fields { rows_of turn.new.fields.items ≡ fields_before self.old.saved turn.old }
-        ensures method { turn.new.frame.method ≡ self.old.frame.method }
-        ensures saved { self.new.saved ≡ [] }
-    {
-        undo_turn(&mut self.frame, &mut self.saved, turn, room);
-    }
-
-    /// Gives the frame that it holds, and keeps another for its buffers. It costs nothing. It may be called between turns only.
-    pub fn swap_frame(&mut self, frame: &mut Frame)
-        ensures given { frame.new ≡ self.old.frame }
-        ensures taken { self.new.frame ≡ frame.old }
-        ensures saved { self.new.saved ≡ self.old.saved }
-    {
-        mem::swap(&mut self.frame, frame);
-    }
-
-    /// Gives the rows that it holds, as they were before the turn, and keeps others for their buffers. It costs nothing.
-    pub fn swap_saved(&mut self, saved: &mut SavedRows)
-        ensures given { saved.new ≡ self.old.saved }
-        ensures taken { self.new.saved ≡ saved.old }
-        ensures frame { self.new.frame ≡ self.old.frame }
-    {
-        mem::swap(&mut self.saved, saved);
     }
 }
 

@@ -11,7 +11,7 @@ use Rattle.swift_interpreter.specs.Turn.{TurnStateView, failing, all_hold, kept,
 use Rattle.swift_interpreter.specs.TurnStates.{beginning, exit_view, fields_before, given_of, played_of, state_of}
 use Rattle.swift_undo.proofs.Keeping.{kept_undone, kept_false, kept_whole, left_undone, put_back_fields, put_back_state}
 use Rattle.swift_undo.proofs.Spared.{others_hold}
-use Rattle.swift_undo.proofs.kept.play_kept_with.Goals as goal
+use Rattle.swift_undo.proofs.kept.play_kept.Goals as goal
 
 pub all_hold-requires : goal.all_hold-requires
 all_hold-requires c =
