@@ -16,6 +16,7 @@ use crate::bodies::bodies_of;
 use crate::book::Book;
 use crate::exits::resume_at;
 use crate::fault::BookFault;
+use crate::refusals::JobScript;
 use crate::turns::{make_room, take_turn};
 use std::alloc::AllocError;
 use std::mem;
@@ -240,7 +241,7 @@ impl Book {
         ensures refused { MatchResult result (λ _. refusal_of_apply self.old.script self.old.log job (effect_views effects.items) (exit_view exit.now) ≡ None)
             (λ e. IsRefusal (refusal_of_apply self.old.script self.old.log job (effect_views effects.items) (exit_view exit.now)) e.2) }
     {
-        if let Some(fault) = self.refusal_to_apply(&job, exit, &effects, false) {
+        if let Some(fault) = self.refusal_to_apply(&job, exit, &effects, JobScript::Unchecked) {
             return Err((job, effects, fault));
         }
         let mut place = Some(job);
@@ -291,7 +292,7 @@ impl Book {
             (λ fault. IsSomeAnd job.old (λ j. IsRefusal (refusal_of_apply self.old.script self.old.log j (effect_views effects.now) (exit_view exit.now)) fault)) }
     {
         let Some(stands) = &*job else { unreachable!() };
-        if let Some(fault) = self.refusal_to_apply(stands, exit, effects, true) {
+        if let Some(fault) = self.refusal_to_apply(stands, exit, effects, JobScript::Equal) {
             return Err(fault);
         }
         self.apply_placed(job, exit, effects, jobs)

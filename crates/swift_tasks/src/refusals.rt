@@ -21,6 +21,15 @@ use swift_job::Job;
 use swift_turn::Body;
 use swift_types::{Env, Fault, Resume, TaskId};
 
+/// What is known of the script of a job.
+#[derive(Clone, Copy)]
+pub(crate) enum JobScript {
+    /// It is equal to the book's.
+    Equal,
+    /// Nothing, so the printed forms of the two are compared.
+    Unchecked,
+}
+
 fn faults_equal(a: Fault, b: Fault) -> bool
     ensures { result ≡ same_fault a b }
 {
@@ -114,17 +123,20 @@ fn unless_current(life: Life, number: u32, resume: Resume) -> Option<BookFault>
 
 impl Book {
     // Whether a job is of the book's script. Where that is not known, it compares the printed forms of two scripts.
-    fn is_of_script(&self, job: &Job<Body>, known: bool) -> bool
-        requires { IsTrue known → job.now.body.script ≡ self.now.script }
+    fn is_of_script(&self, job: &Job<Body>, script: JobScript) -> bool
+        requires { script ≡ JobScript.Equal → job.now.body.script ≡ self.now.script }
         ensures same { IsTrue result → job.now.body.script ≡ self.now.script }
         ensures printed { result ≡ same_scripts self.now.script job.now.body.script }
     {
-        known || self.script.says_the_same(job.body().script())
+        match script {
+            JobScript::Equal => true,
+            JobScript::Unchecked => self.script.says_the_same(job.body().script()),
+        }
     }
 
     // Why a job's turn may not begin.
-    fn refusal_to_begin(&self, job: &Job<Body>, known: bool) -> Option<BookFault>
-        requires { IsTrue known → job.now.body.script ≡ self.now.script }
+    fn refusal_to_begin(&self, job: &Job<Body>, script: JobScript) -> Option<BookFault>
+        requires { script ≡ JobScript.Equal → job.now.body.script ≡ self.now.script }
         ensures cause { result ≡ refusal_of_begin self.now.script self.now.log job.now }
         ensures made { result ≡ None → IsMade self.now.log job.now.task }
         ensures goes { result ≡ None → is_waiting (life_of job.now.task.0 self.now.log) ≡ false }
@@ -133,7 +145,7 @@ impl Book {
         if let Some(fault) = unless_current(life, job.number(), job.resume()) {
             return Some(fault);
         }
-        if self.is_of_script(job, known) {
+        if self.is_of_script(job, script) {
             None
         } else {
             Some(BookFault::Refused)
@@ -166,7 +178,7 @@ impl Book {
         ensures err { OnErr result (self.new ≡ self.old) }
         ensures refused { MatchResult result (λ _. refusal_of_begin self.old.script self.old.log job.now ≡ None) (IsRefusal (refusal_of_begin self.old.script self.old.log job.now)) }
     {
-        if let Some(fault) = self.refusal_to_begin(job, false) {
+        if let Some(fault) = self.refusal_to_begin(job, JobScript::Unchecked) {
             return Err(fault);
         }
         self.begin_fitting(job.task(), job.number())
@@ -180,7 +192,7 @@ impl Book {
         ensures err { OnErr result (self.new ≡ self.old) }
         ensures refused { MatchResult result (λ _. refusal_of_begin self.old.script self.old.log job.now ≡ None) (IsRefusal (refusal_of_begin self.old.script self.old.log job.now)) }
     {
-        if let Some(fault) = self.refusal_to_begin(job, true) {
+        if let Some(fault) = self.refusal_to_begin(job, JobScript::Equal) {
             return Err(fault);
         }
         self.begin_fitting(job.task(), job.number())
@@ -192,9 +204,9 @@ impl Book {
         job: &Job<Body>,
         exit: &Exit,
         effects: &[Effect],
-        known: bool,
+        script: JobScript,
     ) -> Option<BookFault>
-        requires { IsTrue known → job.now.body.script ≡ self.now.script }
+        requires { script ≡ JobScript.Equal → job.now.body.script ≡ self.now.script }
         ensures cause { result ≡ refusal_of_apply self.now.script self.now.log job.now (effect_views effects.now) (exit_view exit.now) }
         ensures made { result ≡ None → IsMade self.now.log job.now.task }
         ensures small { result ≡ None → job.now.number + 1 < 2 ^ 32 }
@@ -212,7 +224,7 @@ impl Book {
             life.stage,
             effects,
             exit,
-        ) && self.is_of_script(job, known)
+        ) && self.is_of_script(job, script)
         {
             None
         } else {
