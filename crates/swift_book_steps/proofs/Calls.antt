@@ -17,6 +17,7 @@ use Rattle.swift_journal.specs.Records.{RecordView}
 use Rattle.swift_journal.specs.Replay.{replay}
 use Rattle.swift_history.specs.Checks.{counters, fits_turn, is_current}
 use Rattle.swift_history.specs.Histories.{begun_priority, left_as}
+use Rattle.swift_history.specs.Orderly.{has_last_root, job_executor}
 use Rattle.swift_history.specs.TurnEnds.{WaitingTaskView, JobFacts, TurnEnd, root_events, task, turn_end}
 use Rattle.swift_tasks.specs.declared.fault.BookFault.{BookFault}
 use Rattle.swift_tasks.specs.Books.{BookView, end_of_frames, end_of_turn}
@@ -70,13 +71,15 @@ root_keeps v m b b' j makes may is job =
 -- a turn that begins
 
 pub begin_keeps : BegunTurnsKeep
-begin_keeps v k rest env b b' j tickets job may env_is is =
+begin_keeps v a k rest env b b' j accounts tickets job on may env_is is =
+    let there = has_last_root b.script b.log in
     let current : is_current (life_of j.task.0 b.log) j.number j.resume ≡ true = holds_then _ _ (none_before _ _ may) in
     let own : is_current (life_of k.job.task b.log) k.job.number k.job.resume ≡ true = subst (λ (x : JobFacts). is_current (life_of x.task b.log) x.number x.resume ≡ true) (sym job) current in
     let given : IsEnv (root_count b.script) (task k.job.task) b.log env = subst (λ (x : JobFacts). IsEnv (root_count b.script) (task x.task) b.log env) (sym job) env_is in
-    let gives = turn_begun v (facts_of b) k rest env tickets own given in
-    subst (λ (x : BookView). MayGive v (facts_of b) (facts_of x) (knowing_begin k rest env v)) (sym is)
-    (subst (λ (x : JobFacts). MayGive v (facts_of b) (with_begin (facts_of b) x env) (knowing_begin k rest env v)) job gives)
+    let on_own : job_executor b.script (Some k.job) ≡ Some a.executor = subst (λ (x : JobFacts). job_executor b.script (Some x) ≡ Some a.executor) (sym job) on in
+    let gives = turn_begun v (facts_of b) a k rest env accounts tickets on_own own given in
+    subst (λ (x : BookView). MayGive v (facts_of b) (facts_of x) (knowing_begin there k rest env v)) (sym is)
+    (subst (λ (x : JobFacts). MayGive v (facts_of b) (with_begin (facts_of b) x env) (knowing_begin there k rest env v)) job gives)
 
 -- a turn that is applied
 

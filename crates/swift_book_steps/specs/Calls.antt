@@ -9,6 +9,7 @@ use Rattle.swift_events.specs.declared.event.Event.TheVariants.{Begin}
 use Rattle.swift_events.specs.Room.{IsEnv}
 use Rattle.swift_journal.specs.Records.{RecordView}
 use Rattle.swift_journal.specs.Replay.{IsLawfulRecord, replay}
+use Rattle.swift_history.specs.Orderly.{has_last_root, job_executor}
 use Rattle.swift_history.specs.TurnEnds.{JobFacts, root_events, root_job}
 use Rattle.swift_tasks.specs.Books.{BookView, IsEndOf, empty_book}
 use Rattle.swift_history.specs.Jobs.{job_facts}
@@ -33,11 +34,12 @@ AddedRootsKeep = (v : BookKnown) (m : Maker) (b b' : BookView) (j : JobView Body
     → refusal_of_root b.script b.log m.roots ≡ None → b' ≡ record b { log = b.log ++ root_events b.script m.roots } → job_facts j ≡ root_job b.script m.roots
     → MayGive v (facts_of b) (facts_of b') (record v { tickets = v.tickets ++ fresh (job_facts j) ∷ []; maker = Some (record m { roots = m.roots + 1 }) })
 
--- `begin`, of the job of the seat's first ticket.
+-- `begin`, of the job of the seat's first ticket, which runs on the executor of the seat's one account.
 abbrev pub BegunTurnsKeep : Type 0
-BegunTurnsKeep = (v : BookKnown) (k : Ticket) (rest : List Ticket) (env : Env) (b b' : BookView) (j : JobView BodyView) → v.tickets ≡ k ∷ rest → k.job ≡ job_facts j
+BegunTurnsKeep = (v : BookKnown) (a : Account) (k : Ticket) (rest : List Ticket) (env : Env) (b b' : BookView) (j : JobView BodyView) → v.accounts ≡ a ∷ [] → v.tickets ≡ k ∷ rest → k.job ≡ job_facts j
+    → job_executor b.script (Some (job_facts j)) ≡ Some a.executor
     → refusal_of_begin b.script b.log j ≡ None → IsEnv (root_count b.script) j.task b.log env → b' ≡ record b { log = b.log ++ Begin j.task j.number env ∷ [] }
-    → MayGive v (facts_of b) (facts_of b') (knowing_begin k rest env v)
+    → MayGive v (facts_of b) (facts_of b') (knowing_begin (has_last_root b.script b.log) k rest env v)
 
 -- a job as it was before the turn of its frame
 abbrev pub before_of : JobView BodyView → FrameView → List FrameView → JobFacts

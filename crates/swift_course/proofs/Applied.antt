@@ -1,6 +1,6 @@
 -- A turn that is applied keeps the rule.
 use Rattle.std.proofs.Common.{◌≡◌, ◌≢◌, ◌⊎◌, ℕ, ℤ, ◌+◌, ◌≤◌, ◌<◌, ◌==◌, true, List, [], ◌∷◌, ◌++◌, map, set, count_by, if◌then◌else◌, refl, sym, ap, ◌∙◌, subst, arith, inl, inr}
-use Rattle.std.specs.Prelude.{All, Option, Some, None, IfSome, sum_by}
+use Rattle.std.specs.Prelude.{All, Option, Some, None, IfSome, is_some, sum_by}
 use Rattle.std.proofs.lemmas.List.Elements.{All-append, All-cons, All-head, All-nil, All-tail}
 use Rattle.swift_types.specs.declared.env.Env.{Env}
 use Rattle.swift_script.specs.Scripts.{executor_count, executor_start, root_count}
@@ -8,18 +8,22 @@ use Rattle.swift_interpreter.specs.Frames.{FrameView}
 use Rattle.swift_turn.specs.Body.{HasFirst, advanced, callers_of}
 use Rattle.swift_events.specs.declared.event.Event.{Event}
 use Rattle.swift_events.specs.declared.life.JobStage.TheVariants.{Begun}
+use Rattle.swift_events.specs.declared.life.Origin.{Origin}
 use Rattle.swift_events.specs.Events.{tasks_of}
 use Rattle.swift_events.specs.Lives.{life_of}
 use Rattle.swift_journal.specs.Records.{RecordView}
 use Rattle.swift_journal.specs.Replay.{IsLawfulRecord, replay}
-use Rattle.swift_history.specs.Checks.{counters, fits_turn, is_current}
+use Rattle.swift_history.specs.Checks.{counters, fits_turn, is_begun, is_current}
 use Rattle.swift_history.specs.Histories.{ran, RecordStands, Standing, after_block, at_first, begun_priority, fields_of, folded_in, frames_applied, job_applied, left_as, record_in, records_of, root_in, taken, with_jobs}
 use Rattle.swift_history.specs.TurnEnds.{WaitingTaskView, JobFacts, TurnEnd, turn_end}
-use Rattle.swift_course.specs.Course.{IsGiven, IsIn, IsOwned, is_for, one_if, ways, standing, starts, tickets_in, waits}
-use Rattle.swift_course.specs.Steps.{IsTurn, TurnsMayBeApplied, end_of, knowing_turn, with_record}
-use Rattle.swift_known.specs.Views.{Account, BookFacts, BookKnown, Ticket, fresh}
-use Rattle.swift_course.proofs.Blocks.{after_push, filter_none, filter_some, stand_push}
+use Rattle.swift_history.specs.Orderly.{IsOrderly, frames_executor, job_executor}
+use Rattle.swift_course.specs.Course.{HasUnderWay, IsGiven, IsIn, IsOwned, IsUnderWay, SaysOrder, is_for, one_if, ways, standing, starts, tickets_in, waits}
+use Rattle.swift_course.specs.Steps.{IsTurn, TurnsMayBeApplied, end_of, knowing_turn, order_applied, with_record}
+use Rattle.swift_known.specs.Views.{Account, BookFacts, BookKnown, Ticket, TurnOrder, fresh}
+use Rattle.swift_course.proofs.Begun.{TurnKeeps, turn_keeps}
+use Rattle.swift_course.proofs.Blocks.{after_push, allowed_push, filter_none, filter_some, stand_push}
 use Rattle.swift_course.proofs.Lists.{count_append, count_cons, equal, if_some, no_one, one, total_set, unequal}
+use Rattle.swift_course.proofs.Order.{applied_has, changed_at, changed_else, ordered_applied, ordered_before, orders_changed, own_changed}
 use Rattle.swift_course.proofs.Seats.{given_fresh, other_counts, others, others_and, rest_counts, seats_after, tickets_stay}
 use Rattle.swift_course.proofs.Stages.{stage_of}
 use Rattle.swift_course.proofs.Starts.{start_fields}
@@ -148,6 +152,13 @@ stays facts views views' o s j r c log k some_one is =
 given_new : (facts : BookFacts) (views views' : List BookKnown) (o : ℕ → ℕ) (s : Standing) (j : JobFacts) (r : RecordView) → Counts facts views views' o j (end_of facts j r) → All (IsGiven (after_turn facts s j r)) (map fresh (end_of facts j r).jobs)
 given_new facts views views' o s j r c = (let e = end_of facts j r in given_fresh (after_turn facts s j r) e.jobs (jobs_there e.jobs (taken j.task s.jobs) (few_jobs facts views views' o j e c)))
 
+-- the turn was under way on its executor
+under_way_is : (facts : BookFacts) (s : Standing) (a : Account) (k : Ticket) (r : RecordView) → IsGiven s k → IsTurn facts a k r → IsUnderWay facts.script s a.executor k.job.task
+under_way_is facts s a k r given turn = (
+  ap (job_executor facts.script) given.job ∙ ap (frames_executor facts.script) (first_is k.job.frames.frames r.frame turn.runs) ∙ ap (λ (e : ℕ). Some e) turn.on,
+  ap is_begun (subst (λ (o : Option Env). IfSome o (λ env. (life_of k.job.task s.log).stage ≡ Some (Begun env))) turn.begun given.begun),
+)
+
 pub turn_applied_is : TurnsMayBeApplied
 turn_applied_is v taken a k rest r one_account is turn views seat c at =
     let script = taken.script in
@@ -165,6 +176,9 @@ turn_applied_is v taken a k rest r one_account is turn views seat c at =
     let own : IsGiven s k = All-head (IsGiven s) k rest tickets in
     let known : IsIn bs a = All-head (IsIn bs) a [] (subst (All (IsIn bs)) one_account right.accounts) in
     let mine : IsOwned c.owner c.maker.executors seat a = All-head (IsOwned c.owner c.maker.executors seat) a [] (subst (All (IsOwned c.owner c.maker.executors seat)) one_account right.owns) in
+    let says : SaysOrder c.order a = All-head (SaysOrder c.order) a [] (subst (All (SaysOrder c.order)) one_account (c.orders seat v at)) in
+    let keeps : (y : ℕ) → TurnKeeps (root_count script) j.task y taken.log e = (λ y. turn_keeps script taken.log taken.held j.task j.number y _ r.effects r.exit _) in
+    let order : ℕ → TurnOrder = changed_at x order_applied c.order in
     let within : x < executor_count script = (let lt = mine.1 in let few = c.few in omega (arith, lt, few)) in
     let push : standing script bs' ≡ after_turn taken s j r = after_push script (at_first script) bs b ∙ block_leads taken s a k r c.log_is c.held_is own turn in
     let lawful : IsLawfulRecord script (fields_of script (starts script) x bs) r =
@@ -205,6 +219,14 @@ turn_applied_is v taken a k rest r one_account is turn views seat c at =
         few = c.few;
         none_else = λ i le. filter_none (record_in i) bs b (other_record i x r (λ same. (let lt = mine.1 in omega (arith, same, lt, le)))) ∙ c.none_else i le;
         roots = filter_none root_in bs b refl ∙ c.roots;
+        there = λ i lt. ap (λ (o : Option Origin). is_some o) ((keeps i).origin lt) ∙ c.there i lt;
+        order = order;
+        under_way = λ i. subst (λ (z : Standing). HasUnderWay script z i (order i)) (sym push)
+            (applied_has script taken.log s j.task x e c.order c.log_is keeps (under_way_is taken s a k r own turn) c.under_way i);
+        unopened = λ i le. changed_else x order_applied c.order i (λ same. (let lt = mine.1 in omega (arith, same, lt, le))) ∙ c.unopened i le;
+        orders = orders_changed x order_applied c.order c.owner c.maker.executors views seat w c.orders (λ i u at'. (c.seats i u at').owns) mine.0
+            (own_changed order_applied c.order a (with_record r a) says refl refl);
+        orderly = λ all. allowed_push (IsOrderly script) bs b (c.orderly (ordered_before x order_applied c.order (ordered_applied (c.order x)) all)) tt;
         single = still_single taken views views' o j e counts;
         unadded = λ y le few. still_none taken views views' o j e counts y (c.unadded y le few) (inl (omega (arith, few)));
         unmade = λ y le. still_none taken views views' o j e counts y (c.unmade y (let grows = counts.leaves.grows in omega (arith, le, grows))) (inr le);

@@ -9,6 +9,7 @@ use Rattle.swift_journal.specs.Checkpoints.{CheckpointView}
 use Rattle.swift_journal.specs.Records.{RecordView}
 use Rattle.swift_journal.specs.Replay.{fields_after, replay}
 use Rattle.swift_history.specs.Histories.{AllStand, Block, Standing, Stands, after_block, after_blocks}
+use Rattle.swift_history.specs.Orderly.{AllAllowed}
 
 pub after_push : (script : ScriptView) (s : Standing) (bs : List Block) (b : Block) → after_blocks script s (bs ++ b ∷ []) ≡ after_block script (after_blocks script s bs) b
 after_push script s [] b = refl
@@ -21,6 +22,13 @@ stand_from script cps before (c ∷ bs) b all is =
 
 pub stand_push : (script : ScriptView) (cps : List CheckpointView) (bs : List Block) (b : Block) → AllStand script cps [] bs → Stands script cps bs b → AllStand script cps [] (bs ++ b ∷ [])
 stand_push script cps bs b all is = stand_from script cps [] bs b all is
+
+allowed_from : (Allowed : List Block → Block → Type 0) (before bs : List Block) (b : Block) → AllAllowed Allowed before bs → Allowed (before ++ bs) b → AllAllowed Allowed before (bs ++ b ∷ [])
+allowed_from Allowed before [] b all is = (subst (λ xs. Allowed xs b) (append-nil before) is, tt)
+allowed_from Allowed before (c ∷ bs) b all is = (all.0, allowed_from Allowed (before ++ c ∷ []) bs b all.1 (subst (λ xs. Allowed xs b) (sym (append_assoc before (c ∷ []) bs)) is))
+
+pub allowed_push : (Allowed : List Block → Block → Type 0) (bs : List Block) (b : Block) → AllAllowed Allowed [] bs → Allowed bs b → AllAllowed Allowed [] (bs ++ b ∷ [])
+allowed_push Allowed bs b all is = allowed_from Allowed [] bs b all is
 
 pub filter_none : {A B : Type 0} (f : A → Option B) (xs : List A) (x : A) → f x ≡ None → filter_map f (xs ++ x ∷ []) ≡ filter_map f xs
 filter_none f xs x is = filter_map-append f xs (x ∷ []) ∙ ap (λ y. filter_map f xs ++ cons_option y []) is ∙ append-nil (filter_map f xs)

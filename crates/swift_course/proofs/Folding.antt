@@ -1,6 +1,6 @@
 -- A history whose first turns of each executor are folded stands, and leads to the same.
 use Rattle.std.proofs.Common.{◌≡◌, ◌≢◌, ℕ, ℤ, zero, suc, ◌+◌, ◌≤◌, ◌<◌, Bool, true, false, List, [], ◌∷◌, ◌++◌, length, map, take, drop, if◌then◌else◌, refl, sym, ap, ◌∙◌, subst, append_assoc, length-append, take-append-drop, arith, inl, inr}
-use Rattle.std.specs.Prelude.{Some, None, nat_lt}
+use Rattle.std.specs.Prelude.{Some, None, is_some, nat_lt}
 use Rattle.std.specs.List.{filter_map, cons_option}
 use Rattle.std.proofs.lemmas.Bool.{cases_eq}
 use Rattle.std.proofs.lemmas.Bool.Decides.{nat_tests}
@@ -12,9 +12,10 @@ use Rattle.swift_events.specs.Room.{IsEnv}
 use Rattle.swift_journal.specs.Checkpoints.{CheckpointView, FoldedView, folded_of}
 use Rattle.swift_journal.specs.Records.{RecordView}
 use Rattle.swift_journal.specs.Replay.{replay}
-use Rattle.swift_history.specs.Checks.{is_current}
-use Rattle.swift_history.specs.Histories.{AllStand, Block, added, begun, ran, folded, FoldedStands, RecordStands, Standing, Stands, after_block, after_blocks, at_first, checkpoint_at, fields_of, folded_in, record_in, records_of, root_in, roots_of}
+use Rattle.swift_history.specs.Checks.{is_begun, is_current}
+use Rattle.swift_history.specs.Histories.{AllStand, Block, added, begun, ran, folded, FoldedStands, RecordStands, Standing, Stands, after_block, at_first, checkpoint_at, fields_of, folded_in, record_in, records_of, root_in, roots_of}
 use Rattle.swift_history.specs.Histories as history
+use Rattle.swift_history.specs.Orderly.{AllAllowed, IsOrderly, job_executor}
 use Rattle.swift_history.specs.TurnEnds.{JobFacts, task}
 use Rattle.swift_counts.proofs.Left.{may_be_folded}
 use Rattle.swift_course.specs.Course.{standing}
@@ -235,3 +236,24 @@ module _ (script : ScriptView) (from cps : List CheckpointView) (past : ℕ → 
     block_stands before before' (b ∷ bs) b whole m plain.0 stand.0,
     all_stand bs (before ++ b ∷ []) (before' ++ folded_as past before b ∷ []) (append_assoc before (b ∷ []) bs ∙ whole) (block_matches script past before before' b plain.0 m) plain.1 stand.1,
   )
+
+-- the blocks are in order too
+
+if_orderly : (script : ScriptView) (before : List Block) (b : Bool) (e : ℕ) (r : RecordView) → IsOrderly script before (folded_if b e r)
+if_orderly script before true e r = tt
+if_orderly script before false e r = tt
+
+block_orderly : (script : ScriptView) (past : ℕ → ℕ) (before before' : List Block) (b : Block) → Matches script past before before' → IsOrderly script before b → IsOrderly script before' (folded_as past before b)
+block_orderly script past before before' (added r) m is = subst (λ (s : Standing). (u : ℕ) → u < r → is_some (life_of u s.log).origin ≡ true) (sym m.same) is
+block_orderly script past before before' (begun t n env) m is =
+    subst (λ (s : Standing). ((u : ℕ) → u < root_count script → is_some (life_of u s.log).origin ≡ true)
+    × ((u : ℕ) → job_executor script (s.jobs u) ≡ job_executor script (s.jobs t) → is_begun (life_of u s.log).stage ≡ false)) (sym m.same) is
+block_orderly script past before before' (ran e r) m is = if_orderly script before' (nat_lt (length (records_of e before)) (past e)) e r
+block_orderly script past before before' (folded e f) m is = tt
+
+pub all_orderly : (bs : List Block) (script : ScriptView) (past : ℕ → ℕ) (before before' : List Block) → ArePlain bs → Matches script past before before' → AllAllowed (IsOrderly script) before bs → AllAllowed (IsOrderly script) before' (with_folds bs past before)
+all_orderly [] script past before before' plain m all = tt
+all_orderly (b ∷ bs) script past before before' plain m all = (
+  block_orderly script past before before' b m all.0,
+  all_orderly bs script past (before ++ b ∷ []) (before' ++ folded_as past before b ∷ []) plain.1 (block_matches script past before before' b plain.0 m) all.1,
+)

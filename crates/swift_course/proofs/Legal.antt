@@ -9,10 +9,11 @@ use Rattle.swift_journal.specs.Checkpoints.{CheckpointView, folded_of}
 use Rattle.swift_journal.specs.Records.{RecordView}
 use Rattle.swift_journal.specs.Replay.{replay}
 use Rattle.swift_history.specs.Histories.{Block, ReportView, Standing, checkpoint_at, no_checkpoint, records_of, roots_of}
-use Rattle.swift_course.specs.Course.{IsIn, starts}
-use Rattle.swift_course.specs.Reports.{HasHistory, IsAccountedFor, IsReportOf, RunsAreLegal}
+use Rattle.swift_history.specs.Orderly.{AllAllowed, IsOrderly}
+use Rattle.swift_course.specs.Course.{IsIn, IsOrdered, SaysOrder, starts}
+use Rattle.swift_course.specs.Reports.{HasHistory, IsAccountedFor, IsReportOf, RunsAreLegal, RunsAreOrderly}
 use Rattle.swift_known.specs.Views.{Account, BookFacts, Maker, BookKnown}
-use Rattle.swift_course.proofs.Folding.{GiveFields, Matches, all_match, all_plain, all_stand, nothing_matches, with_folds}
+use Rattle.swift_course.proofs.Folding.{GiveFields, Matches, all_match, all_orderly, all_plain, all_stand, nothing_matches, with_folds}
 use Rattle.swift_course.proofs.Lists.{same_one}
 use Rattle.swift_course.proofs.Starts.{many_starts, none_at, start_fields}
 
@@ -64,7 +65,7 @@ module _ (facts : BookFacts) (v : BookKnown) (report : ReportView) (h : HasHisto
   left_of : (e : ℕ) (journal : List RecordView) (checkpoint : CheckpointView) (fields : List (List ℤ)) → slice_get report.journals e ≡ Some journal → slice_get report.checkpoints e ≡ Some checkpoint → slice_get report.fields e ≡ Some fields
       → IsAccountedFor facts.script v e journal checkpoint fields → HasLeft facts report h.blocks e
   left_of e journal checkpoint fields journal_at checkpoint_is fields_at is =
-      let account : Account = record { executor = e; records = is.past ++ journal } in
+      let account : Account = record { executor = e; records = is.past ++ journal; order = is.order } in
       let known : IsIn h.blocks account = All-contains (IsIn h.blocks) v.accounts account h.accounts is.account in
       let own : checkpoint_at report.checkpoints e ≡ checkpoint = ap (λ (o : Option CheckpointView). unwrap_or o no_checkpoint) checkpoint_is in
       record {
@@ -150,3 +151,19 @@ report_is_legal facts v report h all r =
       endings = r.endings;
       groups = r.groups;
     }
+
+pub report_is_orderly : RunsAreOrderly
+unfolding report_is_legal
+report_is_orderly facts v report h all r rest =
+    let script = facts.script in
+    let past = past_of report in
+    let ordered : (e : ℕ) → e < executor_count script → IsOrdered (h.order e) =
+    (λ e lt. let x = rest e lt in
+    let says : SaysOrder h.order x.0 = All-contains (SaysOrder h.order) v.accounts x.0 h.orders x.1 in
+    let is = ap h.order (sym x.2) ∙ sym says ∙ x.3 in
+    subst IsOrdered (sym is) tt)
+    in
+    let orderly : AllAllowed (IsOrderly script) [] h.blocks =
+    subst (λ (o : Option Maker). IfSome o (λ m. ((e : ℕ) → e < m.executors → IsOrdered (h.order e)) → AllAllowed (IsOrderly script) [] h.blocks)) all h.orderly ordered
+    in
+    record { legal = report_is_legal facts v report h all r; orderly = all_orderly h.blocks script past [] [] (all_plain h.blocks h.none_folded) (nothing_matches script past) orderly }

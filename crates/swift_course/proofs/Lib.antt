@@ -6,6 +6,8 @@ pub mod Made
 pub mod Stages
 pub mod Starts
 pub mod Turns
+pub mod Begun
+pub mod Order
 pub mod Seats
 pub mod Roots
 pub mod Begins

@@ -8,6 +8,7 @@ use Rattle.swift_course.specs.Course.{IsCourse, IsGiven, SeatIsRight, is_for, on
 use Rattle.swift_course.specs.Steps.{MayGive, TicketsMayBeOrdered}
 use Rattle.swift_known.specs.Views.{BookFacts, BookKnown, Ticket}
 use Rattle.swift_course.proofs.Lists.{at_set, set_there, total_set}
+use Rattle.swift_course.proofs.Order.{orders_kept}
 use Rattle.swift_course.proofs.Parts.{SameWays, course_with}
 
 set_twice : {X : Type 0} (l : List X) (i : ℕ) (a b : X) → set (set l i a) i b ≡ set l i b
@@ -32,7 +33,7 @@ reordered facts views seat v tickets c at moved =
     let right : SeatIsRight facts.script c.blocks c.owner c.maker c.maker_seat seat v' =
     record { script_is = s.script_is; accounts = s.accounts; owns = s.owns; tickets = All-permutation (IsGiven (standing facts.script c.blocks)) v.tickets tickets moved s.tickets; maker_is = s.maker_is }
     in
-    course_with facts views (set views seat v') c c.maker c.maker_seat c.owner same refl (omega arith) c.few
+    course_with facts views (set views seat v') c c.maker c.maker_seat c.owner same refl (omega arith) c.few (orders_kept c.order views seat v' c.orders (c.orders seat v at))
     (λ j u there. elim (at_set views seat j v' u there) [
       | inl y ↦ subst (λ (i : ℕ). SeatIsRight facts.script c.blocks c.owner c.maker c.maker_seat i u) (sym y.0) (subst (SeatIsRight facts.script c.blocks c.owner c.maker c.maker_seat seat) y.1 right)
       | inr y ↦ c.seats j u y.1

@@ -1,6 +1,6 @@
 -- Seats that are parted, put together, or give back what they took keep the rule.
-use Rattle.std.proofs.Common.{◌≡◌, ◌≢◌, ℕ, zero, suc, ◌+◌, ◌≤◌, ◌<◌, ◌==◌, List, [], ◌∷◌, ◌++◌, length, take, drop, set, count_by, replicate, if◌then◌else◌, refl, sym, ap, ◌∙◌, subst, arith, inl, inr}
-use Rattle.std.specs.Prelude.{Option, Some, None, IfSome, sum_by}
+use Rattle.std.proofs.Common.{◌≡◌, ◌≢◌, ◌⊎◌, ℕ, zero, suc, ◌+◌, ◌≤◌, ◌<◌, ◌==◌, List, [], ◌∷◌, ◌++◌, length, take, drop, set, count_by, replicate, if◌then◌else◌, refl, sym, ap, ◌∙◌, subst, arith, inl, inr}
+use Rattle.std.specs.Prelude.{All, Option, Some, None, IfSome, nat_lt, sum_by}
 use Rattle.std.specs.List.{range_with_len}
 use Rattle.std.proofs.lemmas.List.Elements.{All-append, All-cons, All-drop, All-nil, All-take}
 use Rattle.std.proofs.lemmas.List.Sums.{sum_by-take-drop, sum_by_push}
@@ -8,12 +8,14 @@ use mathlib.Core.Option.{some, some-injective, some-ne-none}
 use lib.ListN.{get_elem?}
 use Rattle.swift_script.specs.Scripts.{ScriptView, executor_count, root_count}
 use Rattle.swift_history.specs.Histories.{Block, records_of, roots_of}
-use Rattle.swift_course.specs.Course.{IsCourse, IsGiven, IsIn, IsOwned, SeatIsRight, is_for, one_if, standing, tickets_in, waits}
+use Rattle.swift_history.specs.Orderly.{AllAllowed, IsOrderly}
+use Rattle.swift_course.specs.Course.{IsCourse, IsGiven, IsIn, IsOrdered, IsOwned, SaysOrder, SeatIsRight, is_for, one_if, standing, tickets_in, waits}
 use Rattle.swift_course.specs.Reports.{SeatsLearn}
 use Rattle.swift_course.specs.Seats.{AccountsMayBeOpened, RunsBegin, SeatsMayBeGathered, SomeTicketsMayBeParted, TicketsMayBeParted, account_parted, first_view, gathered, maker_left, number_of, one_more, some_left, some_parted}
 use Rattle.swift_course.specs.Steps.{BooksMayStay}
-use Rattle.swift_known.specs.Views.{Account, BookFacts, Maker, BookKnown, Ticket, no_view}
+use Rattle.swift_known.specs.Views.{Account, BookFacts, Maker, BookKnown, Ticket, TurnOrder, at_rest, no_view}
 use Rattle.swift_course.proofs.Lists.{all_each, at_push, at_set, count_append, equal, if_some, set_again, set_else, total_set, unequal}
+use Rattle.swift_course.proofs.Order.{first_has, first_there, orders_kept}
 
 -- each task can go on in as many ways as before
 pub record SameWays (facts : BookFacts) (views views' : List BookKnown) : Type 0 where
@@ -21,8 +23,9 @@ pub record SameWays (facts : BookFacts) (views views' : List BookKnown) : Type 0
 
 -- the rule, with other seats, of the same history
 pub course_with : (facts : BookFacts) (views views' : List BookKnown) (c : IsCourse facts views) (maker : Maker) (maker_seat : ℕ) (owner : ℕ → ℕ) → SameWays facts views views' → maker.roots ≡ c.maker.roots → c.maker.executors ≤ maker.executors → maker.executors ≤ executor_count facts.script
+    → ((seat : ℕ) (v : BookKnown) → get_elem? views' seat ≡ some v → All (SaysOrder c.order) v.accounts)
     → ((seat : ℕ) (v : BookKnown) → get_elem? views' seat ≡ some v → SeatIsRight facts.script c.blocks owner maker maker_seat seat v) → IsCourse facts views'
-course_with facts views views' c maker maker_seat owner same roots more few seats = record {
+course_with facts views views' c maker maker_seat owner same roots more few orders seats = record {
   blocks = c.blocks;
   stand = c.stand;
   none_folded = c.none_folded;
@@ -34,6 +37,12 @@ course_with facts views views' c maker maker_seat owner same roots more few seat
   few = few;
   none_else = λ e le. c.none_else e (omega (arith, more, le));
   roots = c.roots ∙ ap (range_with_len 0) (sym roots);
+  there = λ r lt. c.there r lt ∙ ap (nat_lt r) (sym roots);
+  order = c.order;
+  under_way = c.under_way;
+  unopened = λ e le. c.unopened e (omega (arith, more, le));
+  orders = orders;
+  orderly = c.orderly;
   single = λ x. (let was = c.single x in let sum = same.sums x in omega (arith, was, sum));
   unadded = λ x le lt. (let was = c.unadded x (omega (arith, roots, le)) lt in let sum = same.sums x in omega (arith, was, sum));
   unmade = λ x le. (let was = c.unmade x le in let sum = same.sums x in omega (arith, was, sum));
@@ -52,6 +61,10 @@ first_right script zero u at = subst (SeatIsRight script [] (λ e. 0) (record { 
     (record { script_is = refl; accounts = All-nil (IsIn []); owns = All-nil (IsOwned (λ e. 0) 0 0); tickets = All-nil (IsGiven (standing script [])); maker_is = (refl, refl) })
 first_right script (suc j) u at = absurd (some-ne-none u (sym at))
 
+first_says : (script : ScriptView) (j : ℕ) (u : BookKnown) → get_elem? (first_view script ∷ []) j ≡ some u → All (SaysOrder (λ e. at_rest)) u.accounts
+first_says script zero u at = subst (λ (x : BookKnown). All (SaysOrder (λ e. at_rest)) x.accounts) (some-injective (first_view script) u at) (All-nil (SaysOrder (λ e. at_rest)))
+first_says script (suc j) u at = absurd (some-ne-none u (sym at))
+
 pub run_begins : RunsBegin
 run_begins script = record {
   blocks = [];
@@ -65,6 +78,12 @@ run_begins script = record {
   few = omega arith;
   none_else = λ e le. refl;
   roots = refl;
+  there = λ r lt. first_there r;
+  order = λ e. at_rest;
+  under_way = first_has script;
+  unopened = λ e le. refl;
+  orders = first_says script;
+  orderly = λ all. tt;
   single = λ x. (let none = none_waits (root_count script) x in omega (arith, none));
   unadded = λ x le lt. (let none = none_waits (root_count script) x in omega (arith, none));
   unmade = λ x le. (let none = none_waits (root_count script) x in omega (arith, none));
@@ -72,6 +91,15 @@ run_begins script = record {
 }
 
 -- what a seat learns, and a book that stays
+
+each_ordered : (n : ℕ) (order : ℕ → TurnOrder) → ((e : ℕ) → n ≤ e → order e ≡ at_rest) → ((e : ℕ) → e < n → IsOrdered (order e)) → (e : ℕ) → IsOrdered (order e)
+each_ordered n order rest all e = elim (lt_or e n) [
+  | inl lt ↦ all e lt
+  | inr le ↦ subst IsOrdered (sym (rest e le)) tt
+]
+  where
+    lt_or : (x y : ℕ) → (x < y) ⊎ (y ≤ x)
+    lt_or x y = grind arith
 
 pub seat_learns : SeatsLearn
 seat_learns v facts views seat c at =
@@ -86,11 +114,24 @@ seat_learns v facts views seat c at =
         tickets = s.tickets;
         none_else = if_some v.maker (λ m. (m ≡ c.maker) × (c.maker_seat ≡ seat)) (λ m. (e : ℕ) → m.executors ≤ e → records_of e c.blocks ≡ []) (λ m is e le. c.none_else e (subst (λ (n : Maker). n.executors ≤ e) is.0 le)) s.maker_is;
         roots = if_some v.maker (λ m. (m ≡ c.maker) × (c.maker_seat ≡ seat)) (λ m. roots_of c.blocks ≡ range_with_len 0 m.roots) (λ m is. c.roots ∙ ap (λ (n : Maker). range_with_len 0 n.roots) (sym is.0)) s.maker_is;
+        order = c.order;
+        orders = c.orders seat v at;
+        orderly = if_some v.maker (λ m. (m ≡ c.maker) × (c.maker_seat ≡ seat)) (λ m. ((e : ℕ) → e < m.executors → IsOrdered (c.order e)) → AllAllowed (IsOrderly facts.script) [] c.blocks)
+            (λ m is all. c.orderly (each_ordered c.maker.executors c.order c.unopened (subst (λ (n : Maker). (e : ℕ) → e < n.executors → IsOrdered (c.order e)) is.0 all))) s.maker_is;
       },
     )
 
 pub book_stays : BooksMayStay
 book_stays v taken views seat c at = (v, subst (IsCourse taken) (sym (set_again views seat v at)) c, refl)
+
+-- one seat more
+
+says_push : (order : ℕ → TurnOrder) (views : List BookKnown) (w : BookKnown) → ((j : ℕ) (u : BookKnown) → get_elem? views j ≡ some u → All (SaysOrder order) u.accounts) → All (SaysOrder order) w.accounts
+    → (j : ℕ) (u : BookKnown) → get_elem? (views ++ w ∷ []) j ≡ some u → All (SaysOrder order) u.accounts
+says_push order views w says own j u there = elim (at_push views w u j there) [
+  | inl x ↦ says j u x
+  | inr x ↦ subst (λ (k : BookKnown). All (SaysOrder order) k.accounts) x.1 own
+]
 
 -- tickets get a seat
 
@@ -114,6 +155,7 @@ tickets_part v n facts views seat c at =
     (λ j. record { script_is = s.script_is; accounts = All-nil (IsIn c.blocks); owns = All-nil (IsOwned c.owner c.maker.executors j); tickets = All-take given n v.tickets s.tickets; maker_is = tt })
     in
     course_with facts views (front ++ right ∷ []) c c.maker c.maker_seat c.owner same refl (omega arith) c.few
+    (says_push c.order front right (orders_kept c.order views seat left c.orders (c.orders seat v at)) (All-nil (SaysOrder c.order)))
     (λ j u there. elim (at_push front right u j there) [
       | inl x ↦ elim (at_set views seat j left u x) [
         | inl y ↦ subst (λ (i : ℕ). SeatIsRight facts.script c.blocks c.owner c.maker c.maker_seat i u) (sym y.0) (subst (SeatIsRight facts.script c.blocks c.owner c.maker c.maker_seat seat) y.1 left_right)
@@ -169,7 +211,7 @@ open_next facts views seat v c at makes maker_seat lt =
       maker_is = subst (λ (o : Option Maker). IfSome (one_more o) (λ m. (m ≡ maker) × (seat ≡ seat))) (sym makes) (refl, refl);
     }
     in
-    let a : Account = record { executor = number_of v.maker; records = [] } in
+    let a : Account = record { executor = number_of v.maker; records = []; order = at_rest } in
     let right_right : SeatIsRight facts.script c.blocks owner maker seat l right =
     record {
       script_is = s.script_is;
@@ -180,6 +222,8 @@ open_next facts views seat v c at makes maker_seat lt =
     }
     in
     course_with facts views (front ++ right ∷ []) c maker seat owner same refl (omega arith) (omega (arith, lt))
+    (says_push c.order front right (orders_kept c.order views seat left c.orders (c.orders seat v at))
+    (All-cons (SaysOrder c.order) a [] (sym (c.unopened (number_of v.maker) (omega (arith, number)))) (All-nil (SaysOrder c.order))))
     (λ j u there. elim (at_push front right u j there) [
       | inl x ↦ elim (at_set views seat j left u x) [
         | inl y ↦ subst (λ (i : ℕ). SeatIsRight facts.script c.blocks owner maker seat i u) (sym y.0) (subst (SeatIsRight facts.script c.blocks owner maker seat seat) y.1 left_right)
@@ -236,6 +280,8 @@ seat_gathers v w facts views seat other c at apart at' =
     record { script_is = tt; accounts = All-nil (IsIn c.blocks); owns = All-nil (IsOwned owner n other); tickets = All-nil given; maker_is = tt }
     in
     course_with facts views (set front other no_view) c c.maker c.maker_seat owner same refl (omega arith) c.few
+    (orders_kept c.order front other no_view
+    (orders_kept c.order views seat both c.orders (All-append (SaysOrder c.order) v.accounts w.accounts (c.orders seat v at) (c.orders other w (sym (set_else views seat other both apart) ∙ at')))) (All-nil (SaysOrder c.order)))
     (λ j u there. elim (at_set front other j no_view u there) [
       | inl x ↦ subst (λ (i : ℕ). SeatIsRight facts.script c.blocks owner c.maker c.maker_seat i u) (sym x.0) (subst (SeatIsRight facts.script c.blocks owner c.maker c.maker_seat other) x.1 spent_right)
       | inr x ↦ elim (at_set views seat j both u x.1) [

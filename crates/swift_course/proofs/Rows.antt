@@ -1,5 +1,5 @@
 -- Some steps, worked out by hand and computed. The script doesn't matter: no task is made.
-use Rattle.std.proofs.Common.{◌≡◌, ℤ, Option, Some, None, List, [], ◌∷◌, ◌++◌, refl}
+use Rattle.std.proofs.Common.{◌≡◌, ℤ, true, false, Option, Some, None, List, [], ◌∷◌, ◌++◌, refl}
 use Rattle.swift_types.specs.declared.env.Env.{Env}
 use Rattle.swift_types.specs.declared.outcome.Ending.TheVariants as ending
 use Rattle.swift_types.specs.declared.outcome.Resume.TheVariants as resume
@@ -11,10 +11,11 @@ use Rattle.swift_events.specs.declared.event.Event.{Event}
 use Rattle.swift_events.specs.declared.event.Event.TheVariants.{Root, Begin, Apply, Wait, End, Give}
 use Rattle.swift_events.specs.Lives.{life}
 use Rattle.swift_journal.specs.Records.{RecordView}
+use Rattle.swift_history.specs.Orderly.{has_last_of}
 use Rattle.swift_history.specs.TurnEnds.{WaitingTaskView, JobFacts, task}
 use Rattle.swift_course.specs.Course.{ways}
 use Rattle.swift_course.specs.Steps.{knowing_begin, knowing_turn, with_begin, with_turn}
-use Rattle.swift_known.specs.Views.{Account, BookFacts, BookKnown, Ticket, no_view, fresh}
+use Rattle.swift_known.specs.Views.{Account, BookFacts, BookKnown, Ticket, at_rest, under_way, unordered, no_view, fresh}
 
 abbrev job : FrameView → JobFacts
 job p = record { task = 0; number = 0; resume = resume.Start; frames = record { frames = p ∷ []; outer = [] } }
@@ -26,7 +27,10 @@ abbrev log : Env → List Event
 log env = Root (task 0) Medium ∷ Give (task 0) 0 resume.Start ∷ Root (task 1) Medium ∷ Wait (task 1) (task 0) ∷ Begin (task 0) 0 env ∷ []
 
 abbrev account : Account
-account = record { executor = 0; records = [] }
+account = record { executor = 0; records = []; order = under_way }
+
+abbrev rested : Account
+rested = record account { order = at_rest }
 
 abbrev seat : FrameView → Option Env → BookKnown
 seat p begun = record no_view { accounts = account ∷ []; tickets = record { job = job p; begun = begun } ∷ [] }
@@ -35,8 +39,12 @@ seat p begun = record no_view { accounts = account ∷ []; tickets = record { jo
 begins : (s : ScriptView) (p : FrameView) (env : Env) →
     let facts : BookFacts = record { script = s; log = Root (task 0) Medium ∷ []; held = None ∷ [] } in
     (with_begin facts (job p) env ≡ record { script = s; log = Root (task 0) Medium ∷ Begin (task 0) 0 env ∷ []; held = None ∷ [] })
-    × (knowing_begin (fresh (job p)) [] env (seat p None) ≡ seat p (Some env))
-begins s p env = (refl, refl)
+    × (knowing_begin true (fresh (job p)) [] env (record (seat p None) { accounts = rested ∷ [] }) ≡ seat p (Some env))
+    × (has_last_of 1 facts.log ≡ true) × (has_last_of 2 facts.log ≡ false)
+    × ((knowing_begin false (fresh (job p)) [] env (seat p None)).accounts ≡ record account { order = unordered } ∷ [])
+    × ((knowing_begin true (fresh (job p)) [] env (seat p None)).accounts ≡ record account { order = unordered } ∷ [])
+unfolding life
+begins s p env = (refl, refl, refl, refl, refl, refl)
 
 -- a task ends for which another has waited: its ticket goes, and one for that comes, which waits no more
 ends : (s : ScriptView) (p : FrameView) (env : Env) (h : WaitingTaskView) (v : ℤ) →
@@ -45,7 +53,7 @@ ends : (s : ScriptView) (p : FrameView) (env : Env) (h : WaitingTaskView) (v : �
     let r = turn p env (returning v) None in
     let next : JobFacts = record { task = 1; number = 1; resume = resume.Value v; frames = h.frames } in
     (with_turn facts (job p) r ≡ record { script = s; log = log env ++ Apply (task 0) 0 ∷ End (task 0) (ending.Value v) ∷ Give (task 1) 1 (resume.Value v) ∷ []; held = None ∷ None ∷ [] })
-    × (knowing_turn facts account k [] r (seat p (Some env)) ≡ record no_view { accounts = record { executor = 0; records = r ∷ [] } ∷ []; tickets = fresh next ∷ [] })
+    × (knowing_turn facts account k [] r (seat p (Some env)) ≡ record no_view { accounts = record { executor = 0; records = r ∷ []; order = at_rest } ∷ []; tickets = fresh next ∷ [] })
     × (ways 0 facts (seat p (Some env) ∷ []) ≡ 1) × (ways 1 facts (seat p (Some env) ∷ []) ≡ 1)
     × (ways 0 (with_turn facts (job p) r) (knowing_turn facts account k [] r (seat p (Some env)) ∷ []) ≡ 0)
     × (ways 1 (with_turn facts (job p) r) (knowing_turn facts account k [] r (seat p (Some env)) ∷ []) ≡ 1)
@@ -58,6 +66,6 @@ yields : (s : ScriptView) (p q : FrameView) (env : Env) →
     let r = turn p env yielding (Some q) in
     let next : JobFacts = record { task = 0; number = 1; resume = resume.Go; frames = record { frames = q ∷ []; outer = [] } } in
     (with_turn facts (job p) r ≡ record { script = s; log = facts.log ++ Apply (task 0) 0 ∷ Give (task 0) 1 resume.Go ∷ []; held = None ∷ [] })
-    × (knowing_turn facts account (record { job = job p; begun = Some env }) [] r (seat p (Some env)) ≡ record no_view { accounts = record { executor = 0; records = r ∷ [] } ∷ []; tickets = fresh next ∷ [] })
+    × (knowing_turn facts account (record { job = job p; begun = Some env }) [] r (seat p (Some env)) ≡ record no_view { accounts = record { executor = 0; records = r ∷ []; order = at_rest } ∷ []; tickets = fresh next ∷ [] })
 unfolding life
 yields s p q env = (refl, refl)

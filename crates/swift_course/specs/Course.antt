@@ -1,6 +1,6 @@
 -- The rule of a run that is under way: some history led to the book, and what the seats know of it is true (our own). A run has no
 -- folded block while it goes: which turns a checkpoint has is settled at its end.
-use Rattle.std.specs.Prelude.{◌≡◌, ℕ, ◌+◌, ◌<◌, ◌≤◌, ◌==◌, Bool, is_some, Option, Some, None, IfSome, List, [], All, count_by, sum_by, map, slice_index_or, cond}
+use Rattle.std.specs.Prelude.{◌≡◌, ℕ, ◌+◌, ◌<◌, ◌≤◌, ◌==◌, nat_lt, Bool, true, is_some, Option, Some, None, IfSome, List, [], All, count_by, sum_by, map, slice_index_or, cond}
 use Rattle.std.specs.List.{range_with_len}
 use mathlib.Core.Option.{some}
 use lib.ListN.{get_elem?}
@@ -10,8 +10,10 @@ use Rattle.swift_events.specs.Events.{tasks_of}
 use Rattle.swift_events.specs.Lives.{life_of}
 use Rattle.swift_journal.specs.Checkpoints.{CheckpointView}
 use Rattle.swift_history.specs.Histories.{AllStand, Block, Standing, after_blocks, at_first, folded_of, records_of, roots_of}
+use Rattle.swift_history.specs.Checks.{is_begun}
+use Rattle.swift_history.specs.Orderly.{AllAllowed, IsOrderly, job_executor}
 use Rattle.swift_history.specs.TurnEnds.{WaitingTaskView}
-use Rattle.swift_known.specs.Views.{Account, BookFacts, Maker, BookKnown, Ticket}
+use Rattle.swift_known.specs.Views.{Account, BookFacts, Maker, BookKnown, Ticket, TurnOrder, at_rest, under_way, unordered}
 
 -- the checkpoint of executor `e` in a run that has not begun: the values that its fields start with, and no turn
 abbrev pub start_of : ScriptView → ℕ → CheckpointView
@@ -32,6 +34,25 @@ IsIn blocks a = a.records ≡ records_of a.executor blocks
 -- the owner of the account is this seat, and its executor is one of the first `executors`
 abbrev pub IsOwned : (ℕ → ℕ) → ℕ → ℕ → Account → Type 0
 IsOwned owner executors seat a = (owner a.executor ≡ seat) × (a.executor < executors)
+
+-- a turn of task `t` has begun and was not applied, on executor `e`
+abbrev pub IsUnderWay : ScriptView → Standing → ℕ → ℕ → Type 0
+IsUnderWay script s e t = (job_executor script (s.jobs t) ≡ Some e) × (is_begun (life_of t s.log).stage ≡ true)
+
+-- what is under way on executor `e`, by how its turns have begun: nothing, one turn at most, or whatever it is
+abbrev pub HasUnderWay : ScriptView → Standing → ℕ → TurnOrder → Type 0
+HasUnderWay script s e at_rest = (t : ℕ) → IsUnderWay script s e t → ⊥
+HasUnderWay script s e under_way = (t u : ℕ) → IsUnderWay script s e t → IsUnderWay script s e u → t ≡ u
+HasUnderWay script s e unordered = Unit {0}
+
+-- turns have begun in order
+abbrev pub IsOrdered : TurnOrder → Type 0
+IsOrdered unordered = ⊥
+IsOrdered _ = Unit {0}
+
+-- the account says how the turns of its executor have begun
+abbrev pub SaysOrder : (ℕ → TurnOrder) → Account → Type 0
+SaysOrder order a = a.order ≡ order a.executor
 
 -- The history gives the ticket's job to its task, and where the turn has begun, it is under way in this environment.
 pub record IsGiven (s : Standing) (k : Ticket) : Type 0 where
@@ -81,6 +102,13 @@ pub record IsCourse (facts : BookFacts) (views : List BookKnown) : Type 0 where
   pub few : maker.executors ≤ executor_count facts.script
   pub none_else : (e : ℕ) → maker.executors ≤ e → records_of e blocks ≡ []
   pub roots : roots_of blocks ≡ range_with_len 0 maker.roots
+  pub there : (r : ℕ) → r < root_count facts.script → is_some (life_of r facts.log).origin ≡ nat_lt r maker.roots
+  -- how the turns of each executor have begun; where each has in order, so has the history
+  pub order : ℕ → TurnOrder
+  pub under_way : (e : ℕ) → HasUnderWay facts.script (standing facts.script blocks) e (order e)
+  pub unopened : (e : ℕ) → maker.executors ≤ e → order e ≡ at_rest
+  pub orders : (seat : ℕ) (v : BookKnown) → get_elem? views seat ≡ some v → All (SaysOrder order) v.accounts
+  pub orderly : ((e : ℕ) → IsOrdered (order e)) → AllAllowed (IsOrderly facts.script) [] blocks
   -- A task can go on in one way at most: it has a ticket, or waits; and in none where it was not made.
   pub single : (t : ℕ) → ways t facts views ≤ 1
   pub unadded : (t : ℕ) → maker.roots ≤ t → t < root_count facts.script → ways t facts views ≡ 0

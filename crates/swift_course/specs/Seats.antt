@@ -4,7 +4,7 @@ use mathlib.Core.Option.{some}
 use lib.ListN.{get_elem?}
 use Rattle.swift_script.specs.Scripts.{ScriptView, executor_count}
 use Rattle.swift_course.specs.Course.{IsCourse}
-use Rattle.swift_known.specs.Views.{BookFacts, Maker, BookKnown, no_view, first_facts}
+use Rattle.swift_known.specs.Views.{BookFacts, Maker, BookKnown, at_rest, no_view, first_facts}
 
 -- a seat that knows v may be parted
 abbrev pub MayPart : BookKnown → BookKnown → BookKnown → Type 0
@@ -64,7 +64,7 @@ maker_left v = record v { maker = one_more v.maker }
 
 -- what the seat of that executor knows: the script and an account without records
 abbrev pub account_parted : BookKnown → BookKnown
-account_parted v = record { script = v.script; accounts = record { executor = number_of v.maker; records = [] } ∷ []; tickets = []; maker = None }
+account_parted v = record { script = v.script; accounts = record { executor = number_of v.maker; records = []; order = at_rest } ∷ []; tickets = []; maker = None }
 
 -- A seat that opens accounts may part off a seat for the next executor of the script.
 abbrev pub AccountsMayBeOpened : Type 0

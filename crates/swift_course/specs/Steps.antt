@@ -1,5 +1,5 @@
 -- What the holder of a book may do to it, and what its seat knows then: a root is added, a turn begins, a turn is applied (our own).
-use Rattle.std.specs.Prelude.{◌≡◌, ℕ, ◌+◌, true, nat_lt, Some, None, List, [], ◌∷◌, ◌++◌, map, set, IsPermutation}
+use Rattle.std.specs.Prelude.{◌≡◌, ℕ, ◌+◌, Bool, true, nat_lt, Some, None, List, [], ◌∷◌, ◌++◌, map, set, IsPermutation}
 use mathlib.Core.Option.{some}
 use lib.ListN.{get_elem?}
 use Rattle.swift_types.specs.declared.env.Env.{Env}
@@ -13,9 +13,10 @@ use Rattle.swift_journal.specs.Records.{RecordView}
 use Rattle.swift_journal.specs.Replay.{IsLawfulRecord, replay}
 use Rattle.swift_history.specs.Checks.{counters, fits_turn, is_current}
 use Rattle.swift_history.specs.Histories.{begun_priority, left_as}
+use Rattle.swift_history.specs.Orderly.{has_last_root, job_executor}
 use Rattle.swift_history.specs.TurnEnds.{JobFacts, TurnEnd, root_events, root_job, task, turn_end}
 use Rattle.swift_course.specs.Course.{IsCourse}
-use Rattle.swift_known.specs.Views.{Account, BookFacts, Maker, BookKnown, Ticket, fresh}
+use Rattle.swift_known.specs.Views.{Account, BookFacts, Maker, BookKnown, Ticket, TurnOrder, at_rest, under_way, unordered, fresh}
 
 -- Whatever else is known, a seat that knows v may give back this for what it took, and knows this then.
 abbrev pub MayGive : BookKnown → BookFacts → BookFacts → BookKnown → Type 0
@@ -43,16 +44,27 @@ RootsMayBeAdded = (v : BookKnown) (taken : BookFacts) (m : Maker) → v.maker �
 abbrev pub with_begin : BookFacts → JobFacts → Env → BookFacts
 with_begin facts j env = record facts { log = facts.log ++ Begin (task j.task) j.number env ∷ [] }
 
--- what a seat knows that has begun the turn of ticket `k`, its first: the ticket says in which environment
-abbrev pub knowing_begin : Ticket → List Ticket → Env → BookKnown → BookKnown
-knowing_begin k rest env v = record v { tickets = record k { begun = Some env } ∷ rest }
+-- how an executor's turns have begun once one more has: in order where the last root was there and none was under way
+abbrev pub order_begun : Bool → TurnOrder → TurnOrder
+order_begun true at_rest = under_way
+order_begun _ _ = unordered
 
--- A seat may begin the turn of its first ticket, where it is the task's current one, in the environment of the log. It may have
--- begun before.
+-- the account once one more turn has begun, where the last root was there or was not
+abbrev pub with_turn_begun : Bool → Account → Account
+with_turn_begun there a = record a { order = order_begun there a.order }
+
+-- what a seat knows that has begun the turn of ticket `k`, its first: the ticket says in which environment, and its account that a turn
+-- has begun, where the last root was `there` or was not
+abbrev pub knowing_begin : Bool → Ticket → List Ticket → Env → BookKnown → BookKnown
+knowing_begin there k rest env v = record v { accounts = map (with_turn_begun there) v.accounts; tickets = record k { begun = Some env } ∷ rest }
+
+-- A seat of one account may begin the turn of its first ticket, which runs on the executor of that account, where it is the task's
+-- current one, in the environment of the log. It may have begun before.
 abbrev pub TurnsMayBegin : Type 0
-TurnsMayBegin = (v : BookKnown) (taken : BookFacts) (k : Ticket) (rest : List Ticket) (env : Env) → v.tickets ≡ k ∷ rest
+TurnsMayBegin = (v : BookKnown) (taken : BookFacts) (a : Account) (k : Ticket) (rest : List Ticket) (env : Env) → v.accounts ≡ a ∷ [] → v.tickets ≡ k ∷ rest
+    → job_executor taken.script (Some k.job) ≡ Some a.executor
     → is_current (life_of k.job.task taken.log) k.job.number k.job.resume ≡ true → IsEnv (root_count taken.script) (task k.job.task) taken.log env
-    → MayGive v taken (with_begin taken k.job env) (knowing_begin k rest env v)
+    → MayGive v taken (with_begin taken k.job env) (knowing_begin (has_last_root taken.script taken.log) k rest env v)
 
 -- a turn is applied
 
@@ -66,9 +78,14 @@ end_of facts j r =
 abbrev pub with_turn : BookFacts → JobFacts → RecordView → BookFacts
 with_turn facts j r = record facts { log = (end_of facts j r).log; held = (end_of facts j r).held }
 
--- the account with this record after those that it has
+-- how an executor's turns have begun once the one that was under way is applied
+abbrev pub order_applied : TurnOrder → TurnOrder
+order_applied under_way = at_rest
+order_applied o = o
+
+-- the account with this record after those that it has: the turn is no longer under way
 abbrev pub with_record : RecordView → Account → Account
-with_record r a = record a { records = a.records ++ r ∷ [] }
+with_record r a = record a { records = a.records ++ r ∷ []; order = order_applied a.order }
 
 -- what a seat knows that has applied the turn of its ticket `k`: `a` has the record, and for `k` come the tickets of the jobs made
 abbrev pub knowing_turn : BookFacts → Account → Ticket → List Ticket → RecordView → BookKnown → BookKnown

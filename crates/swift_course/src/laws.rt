@@ -1,7 +1,7 @@
 //! What holds of runs that are under way. A call costs nothing; its contract is the law.
 
 ghost use Rattle.swift_course.specs.Frames.{FramesGoOn};
-ghost use Rattle.swift_course.specs.Reports.{RunsAreLegal, SeatsLearn};
+ghost use Rattle.swift_course.specs.Reports.{RunsAreLegal, RunsAreOrderly, SeatsLearn};
 ghost use Rattle.swift_course.specs.Rule.{GivesAreKept, JoinsAreKept, PartsAreKept, SeatsLearnOf};
 ghost use Rattle.swift_course.specs.Seats.{AccountsMayBeOpened, RunsBegin, SeatsMayBeGathered, SomeTicketsMayBeParted, TicketsMayBeParted};
 ghost use Rattle.swift_course.specs.Steps.{BooksMayStay, RootsMayBeAdded, TicketsMayBeOrdered, TurnsMayBeApplied, TurnsMayBegin};
@@ -64,6 +64,11 @@ pub fn seats_may_be_gathered()
 /// The report of a run whose accounts are all in one seat is legal (our own).
 pub fn runs_are_legal()
     ensures { RunsAreLegal }
+{}
+
+/// Where the turns of each executor have begun in order, the blocks of that report are in order too (our own).
+pub fn runs_are_orderly()
+    ensures { RunsAreOrderly }
 {}
 
 /// What follows from a turn is the same by the frame that has had it, which is in the job, as by the record of the turn (our own).

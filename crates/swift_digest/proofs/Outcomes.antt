@@ -11,7 +11,8 @@ use Rattle.swift_journal.specs.Checkpoints.{FoldedView, CheckpointView}
 use Rattle.swift_laws.specs.Laws.{ActorsHaveExecutors}
 use Rattle.swift_laws.proofs.HistoriesApplied.{there}
 use Rattle.swift_history.specs.Histories.{Block, added, begun, ran, folded, folded_in, folded_of, at_first, after_blocks, Stands, AllStand, ReportView, IsLegal}
-use Rattle.swift_digest.specs.Explored.{ExploredState, state_of, StartsFresh, IsNotFolded, AllAllowed, AreExplored, IsAnyBlock, IsOrderly, IsOutcome, FoldsNone, ExploredHasEachOutcome, ExploredHasEachOrderlyOutcome, AreRepresented, RepresentedHasEachOutcome, job_executor, frames_executor}
+use Rattle.swift_history.specs.Orderly.{AllAllowed, IsOrderly, job_executor, frames_executor}
+use Rattle.swift_digest.specs.Explored.{ExploredState, state_of, StartsFresh, IsNotFolded, AreExplored, IsAnyBlock, IsOutcome, FoldsNone, ExploredHasEachOutcome, ExploredHasEachOrderlyOutcome, AreRepresented, RepresentedHasEachOutcome}
 use Rattle.swift_digest.proofs.Answers.{tasks_of_is, life_of_is}
 use Rattle.swift_digest.proofs.SameStands.{all_push, block_stands, lead_push}
 use Rattle.swift_digest.proofs.SameLogs.{same_life}

@@ -1,17 +1,14 @@
 -- What a search of all histories has to find so that it has missed no outcome (our own). It leaves out histories in which an
 -- executor has folded turns.
-use Rattle.std.specs.Prelude.{◌≡◌, ℕ, ℤ, ◌+◌, ◌<◌, true, false, is_some, Option, Some, None, List, [], ◌∷◌, ◌++◌, length, slice_get, Contains}
+use Rattle.std.specs.Prelude.{◌≡◌, ℕ, ℤ, ◌+◌, Option, Some, List, [], ◌∷◌, ◌++◌, length, slice_get, Contains}
 use Rattle.swift_types.specs.declared.outcome.Ending.{Ending}
 use Rattle.swift_events.specs.declared.life.Origin.{Origin}
-use Rattle.swift_script.specs.Scripts.{ScriptView, root_count, executor_count, executor_start, actor_executor, method_actor}
-use Rattle.swift_interpreter.specs.Frames.{FrameView}
-use Rattle.swift_events.specs.Lives.{life_of}
-use Rattle.swift_history.specs.Checks.{is_begun}
+use Rattle.swift_script.specs.Scripts.{ScriptView, root_count, executor_count, executor_start}
 use Rattle.swift_journal.specs.Checkpoints.{CheckpointView}
 use Rattle.swift_laws.specs.Laws.{ActorsHaveExecutors}
 use Rattle.std.specs.Option.{option_map}
-use Rattle.swift_history.specs.TurnEnds.{JobFacts}
-use Rattle.swift_history.specs.Histories.{Block, added, begun, folded, at_first, after_blocks, fields_of, Stands, AllStand, ReportView, IsLegal}
+use Rattle.swift_history.specs.Histories.{Block, folded, at_first, after_blocks, fields_of, Stands, AllStand, ReportView, IsLegal}
+use Rattle.swift_history.specs.Orderly.{AllAllowed, IsOrderly, IsOrderlyLegal}
 use Rattle.swift_digest.specs.Digests.{Digest, digest_of}
 use Rattle.swift_digest.specs.Plans.{JobPlan, WaitingTaskPlan, job_plan, held_plans}
 use Rattle.swift_digest.specs.Futures.{LeadAlike}
@@ -39,43 +36,11 @@ abbrev pub IsNotFolded : Block → Type 0
 IsNotFolded (folded e f) = ⊥
 IsNotFolded _ = Unit {0}
 
--- each of some blocks is allowed after those before it
-abbrev pub AllAllowed : (List Block → Block → Type 0) → List Block → List Block → Type 0
-AllAllowed Allowed before [] = Unit {0}
-AllAllowed Allowed before (b ∷ bs) = Allowed before b × AllAllowed Allowed (before ++ b ∷ []) bs
-
 -- A list of states is closed: it has the first one, and whatever one more allowed block leads to from one that it has.
 pub record AreExplored (script : ScriptView) (Allowed : List Block → Block → Type 0) (states : List ExploredState) : Type 0 where
   pub first : (checkpoints : List CheckpointView) → StartsFresh script checkpoints → Contains states (state_of script checkpoints [])
   pub next : (checkpoints : List CheckpointView) (bs : List Block) (b : Block) → StartsFresh script checkpoints → AllStand script checkpoints [] bs → AllAllowed Allowed [] bs
       → IsNotFolded b → Stands script checkpoints bs b → Allowed bs b → Contains states (state_of script checkpoints bs) → Contains states (state_of script checkpoints (bs ++ b ∷ []))
-
--- the executor of the actor whose method runs in these frames; none where there is no frame
-abbrev pub frames_executor : ScriptView → List FrameView → Option ℕ
-frames_executor script [] = None
-frames_executor script (p ∷ callers) = Some (actor_executor script (method_actor script p.method))
-
--- the executor of a job, where there is one: that of the actor whose method runs
-abbrev pub job_executor : ScriptView → Option JobFacts → Option ℕ
-job_executor script None = None
-job_executor script (Some j) = frames_executor script j.frames.frames
-
--- A block is in order: roots are added in text order, and a turn begins once each root is there, and only at an executor that has
--- no turn under way. So no turn begins twice.
-abbrev pub IsOrderly : ScriptView → List Block → Block → Type 0
-IsOrderly script before (added r) =
-    let s = after_blocks script (at_first script) before in
-    (u : ℕ) → u < r → is_some (life_of u s.log).origin ≡ true
-IsOrderly script before (begun t n env) =
-    let s = after_blocks script (at_first script) before in
-    ((u : ℕ) → u < root_count script → is_some (life_of u s.log).origin ≡ true)
-    × ((u : ℕ) → job_executor script (s.jobs u) ≡ job_executor script (s.jobs t) → is_begun (life_of u s.log).stage ≡ false)
-IsOrderly script before _ = Unit {0}
-
--- A legal report, made by a history whose blocks are in order.
-pub record IsOrderlyLegal (script : ScriptView) (report : ReportView) : Type 0 where
-  pub legal : IsLegal script report
-  pub orderly : AllAllowed (IsOrderly script) [] legal.blocks
 
 -- The outcome of a report is that of a state: as many tasks, each from there and with that ending, and the fields of each executor.
 pub record IsOutcome (script : ScriptView) (x : ExploredState) (report : ReportView) : Type 0 where

@@ -7,7 +7,7 @@ use Rattle.swift_types.specs.declared.env.Env.{Env}
 use Rattle.swift_types.specs.declared.id.TaskId.{TaskId}
 use Rattle.swift_types.specs.declared.limits.TheConstants.{FOLD}
 use Rattle.swift_types.specs.declared.outcome.Resume.{Resume}
-use Rattle.swift_script.specs.Scripts.{ScriptView, executor_start}
+use Rattle.swift_script.specs.Scripts.{ScriptView, actor_executor, executor_start, method_actor}
 use Rattle.swift_interpreter.specs.Frames.{FrameView}
 use Rattle.swift_interpreter.specs.Turn.{EffectView, ExitView, calling, waiting, asking_next, closing, yielding, returning, failing}
 use Rattle.swift_turn.specs.Body.{BodyView, HasFirst, IsTurnOf, left}
@@ -19,15 +19,16 @@ use Rattle.swift_journal.specs.Replay.{IsLawfulRecord, LawfulGrows, fields_after
 use Rattle.swift_events.specs.declared.event.Event.{Event}
 use Rattle.swift_history.specs.TurnEnds.{JobFacts}
 use Rattle.swift_history.specs.Jobs.{job_facts}
-use Rattle.swift_known.specs.Views.{Account, BookKnown, Ticket, fresh}
+use Rattle.swift_history.specs.Orderly.{frames_executor}
+use Rattle.swift_known.specs.Views.{Account, BookKnown, Ticket, TurnOrder, at_rest, fresh}
 use Rattle.swift_course.specs.Frames.{kept_frame}
-use Rattle.swift_course.specs.Steps.{knowing_begin, with_record}
+use Rattle.swift_course.specs.Steps.{order_applied, order_begun, with_record, with_turn_begun}
 use Rattle.swift_book_steps.specs.Calls.{IsPlayed}
-use Rattle.swift_shared_book.specs.Shared.{BeginsTicket, BookSeatView, HasPlayed, HasTicket, after_turn, knowing, with_ticket}
+use Rattle.swift_shared_book.specs.Shared.{BeginsTicket, BookSeatView, HasPlayed, HasTicket, RunsAtSeat, after_turn, knowing, with_ticket}
 use Rattle.swift_executor.specs.Account.{ready_jobs}
 use Rattle.swift_executor.specs.Ready.{Adds, ReadyJobsView, ready_job}
 use Rattle.swift_executor.specs.Seats.{AccountsFor, AreTicketsAt, AreTicketsOf, IsFirst, IsOpened, IsSeatFor, jobs_of}
-use Rattle.swift_executor.specs.State.{Chooses, ChosenView, ExecStateView, HasChosen, HasNone, IsChosen, ExecInvariant, Journals, LacksTask, Plays, PutsBack, ChosenStageView, picked, begun, played, before_turn, checkpoint_with, frame_after, journal_with, new_executor, record_by}
+use Rattle.swift_executor.specs.State.{BelongsTo, Chooses, ChosenView, ExecStateView, HasChosen, HasNone, IsChosen, ExecInvariant, LacksTask, Plays, PutsBack, ChosenStageView, picked, begun, played, before_turn, checkpoint_with, frame_after, journal_with, new_executor, record_by}
 use Rattle.swift_executor.specs.State as state
 use Rattle.swift_executor.proofs.AccountKept.{added, front_less, front_moved, front_more}
 use Rattle.swift_executor.proofs.Cancelled.{has_image, same_others}
@@ -35,7 +36,7 @@ use Rattle.swift_executor.proofs.TurnKept.{recorded}
 
 -- the account is the same, whatever jobs are ready or chosen
 same_account : (s : ExecStateView) (v : BookKnown) (ready : ReadyJobsView BodyView) (chosen : Option ChosenView) (tickets : List Ticket) → AccountsFor s v → AccountsFor (record s { ready = ready; chosen = chosen }) (record v { tickets = tickets })
-same_account s v ready chosen tickets a = record { script_is = a.script_is; past = a.past; accounts = a.accounts; folded = a.folded; replayed = a.replayed }
+same_account s v ready chosen tickets a = record { script_is = a.script_is; past = a.past; order = a.order; accounts = a.accounts; folded = a.folded; replayed = a.replayed }
 
 -- the tickets, where no job is chosen, and where this one is
 free_tickets : (s : ExecStateView) (seat : BookSeatView) → IsSeatFor s seat → s.chosen ≡ None → IsPermutation (jobs_of seat.knows.tickets) (ready_jobs s.ready)
@@ -48,7 +49,7 @@ chosen_tickets s seat c is at = subst (λ (o : Option ChosenView). AreTicketsOf 
 pub new_knows : (script : ScriptView) (executor room : ℕ) (seat : BookSeatView) → IsOpened script executor seat → IsSeatFor (new_executor script executor room) seat
 new_knows script executor room seat is = record {
   here = is.0;
-  account = subst (λ (v : BookKnown). AccountsFor (new_executor script executor room) v) (sym is.1) (record { script_is = refl; past = []; accounts = refl; folded = refl; replayed = refl });
+  account = subst (λ (v : BookKnown). AccountsFor (new_executor script executor room) v) (sym is.1) (record { script_is = refl; past = []; order = at_rest; accounts = refl; folded = refl; replayed = refl });
   tickets = subst (λ (v : BookKnown). IsPermutation (jobs_of v.tickets) []) (sym is.1) (IsPermutation-refl []);
 }
 
@@ -106,19 +107,40 @@ picked_has_ticket s seat c is at was =
     let h = has_image (λ (k : Ticket). k.job) seat.knows.tickets (job_facts c.job) (ready_jobs s.ready) all in
     (h.one, h.rest, h.all, h.is)
 
-pub began_knows : (s : ExecStateView) (c : ChosenView) (worker : ℕ) (env : Env) (seat seat' : BookSeatView) → IsSeatFor s seat → s.chosen ≡ Some c → c.stage ≡ picked → BeginsTicket (job_facts c.job) env seat.knows seat'.knows → seat'.here ≡ seat.here
+-- the job runs on the executor of the seat's account
+pub picked_runs : (s : ExecStateView) (seat : BookSeatView) (j : JobView BodyView) → IsSeatFor s seat → BelongsTo s.script s.executor j → RunsAtSeat s.script seat.knows (job_facts j)
+picked_runs s seat j is belongs = (record { executor = s.executor; records = is.account.past ++ s.journal; order = is.account.order }, is.account.accounts, first_on s.script s.executor j.body.task.frames belongs.top)
+  where
+    first_on : (script : ScriptView) (e : ℕ) (fs : List FrameView) → HasFirst fs (λ f. actor_executor script (method_actor script f.method) ≡ e) → frames_executor script fs ≡ Some e
+    first_on script e [] on = absurd on
+    first_on script e (f ∷ fs) on = ap (λ (x : ℕ). Some x) on
+
+-- the account, once one more turn has begun there
+begun_account : (s : ExecStateView) (v : BookKnown) (chosen : Option ChosenView) (there : Bool) (tickets : List Ticket) → AccountsFor s v
+    → AccountsFor (record s { chosen = chosen }) (record v { accounts = map (with_turn_begun there) v.accounts; tickets = tickets })
+begun_account s v chosen there tickets a = record { script_is = a.script_is; past = a.past; order = order_begun there a.order; accounts = ap (map (with_turn_begun there)) a.accounts; folded = a.folded; replayed = a.replayed }
+
+-- what the accounts say then of how turns have begun
+pub orders_begun : (there : Bool) (xs : List Account) → map (λ (a : Account). a.order) (map (with_turn_begun there) xs) ≡ map (order_begun there) (map (λ (a : Account). a.order) xs)
+orders_begun there [] = refl
+orders_begun there (a ∷ xs) = ap (λ (os : List TurnOrder). order_begun there a.order ∷ os) (orders_begun there xs)
+
+pub orders_applied : (r : RecordView) (xs : List Account) → map (λ (a : Account). a.order) (map (with_record r) xs) ≡ map order_applied (map (λ (a : Account). a.order) xs)
+orders_applied r [] = refl
+orders_applied r (a ∷ xs) = ap (λ (os : List TurnOrder). order_applied a.order ∷ os) (orders_applied r xs)
+
+pub began_knows : (s : ExecStateView) (c : ChosenView) (there : Bool) (worker : ℕ) (env : Env) (seat seat' : BookSeatView) → IsSeatFor s seat → s.chosen ≡ Some c → c.stage ≡ picked → BeginsTicket there (job_facts c.job) env seat.knows seat'.knows → seat'.here ≡ seat.here
     → IsSeatFor (record s { chosen = Some (record c { stage = begun worker env }) }) seat'
-began_knows s c worker env seat seat' is at was (k, rest, perm, of_job, knows) here =
+began_knows s c there worker env seat seat' is at was (k, rest, perm, of_job, knows) here =
     let all = subst (λ (st : ChosenStageView). AreTicketsAt s.ready c.job st seat.knows.tickets) was (chosen_tickets s seat c is at) in
     let images = IsPermutation-trans (k.job ∷ jobs_of rest) (jobs_of seat.knows.tickets) (job_facts c.job ∷ ready_jobs s.ready)
     (IsPermutation-sym (jobs_of seat.knows.tickets) (k.job ∷ jobs_of rest) (IsPermutation-map (λ (x : Ticket). x.job) seat.knows.tickets (k ∷ rest) perm)) all in
     let others = same_others (job_facts c.job) (jobs_of rest) (ready_jobs s.ready) (subst (λ (j : JobFacts). IsPermutation (j ∷ jobs_of rest) (job_facts c.job ∷ ready_jobs s.ready)) of_job images) in
     let first : Ticket = record k { begun = Some env } in
-    let v = knowing_begin k rest env seat.knows in
     let chosen : ChosenView = record c { stage = begun worker env } in
     record {
       here = here ∙ is.here;
-      account = subst (λ (x : BookKnown). AccountsFor (record s { chosen = Some chosen }) x) (sym knows) (same_account s seat.knows s.ready (Some chosen) (first ∷ rest) is.account);
+      account = subst (λ (x : BookKnown). AccountsFor (record s { chosen = Some chosen }) x) (sym knows) (begun_account s seat.knows (Some chosen) there (first ∷ rest) is.account);
       tickets = subst (λ (x : BookKnown). IsFirst s.ready (job_facts c.job) env x.tickets) (sym knows) (first, rest, refl, of_job, refl, others);
     }
 
@@ -201,7 +223,7 @@ module _ (s : ExecStateView) (seat : BookSeatView) (c : ChosenView) (worker : �
       let fields = all_replayed s seat.knows a is in
       let rec = recorded s.script s.executor s.fields rows j worker env frame effects exit chosen.belongs plays in
       let has = frame_first s.script frame j.body.task.outer s.fields rows j.resume env effects exit j.body.task.frames plays.1 in
-      let account : Account = record { executor = s.executor; records = a.past ++ s.journal } in
+      let account : Account = record { executor = s.executor; records = a.past ++ s.journal; order = a.order } in
       let plays_is : IsPlayed s.script account t.0 j r =
       record {
         was = t.3;
@@ -243,8 +265,8 @@ module _ (s : ExecStateView) (seat : BookSeatView) (c : ChosenView) (worker : �
           let rec = recorded s.script s.executor s.fields rows c.job worker env frame effects exit chosen.belongs plays in
           rec.fields_are ∙ ap (λ (fs : List (List ℤ)). fields_after s.script fs r) is.replayed ∙ sym (grows s.script s.checkpoint.fields s.journal r).replayed
 
-      accounts : (records : List RecordView) → (a.past ++ s.journal) ++ r ∷ [] ≡ records → map (with_record r) seat.knows.accounts ≡ record { executor = s.executor; records = records } ∷ []
-      accounts records are = ap (map (with_record r)) a.accounts ∙ ap (λ (rs : List RecordView). record { executor = s.executor; records = rs } ∷ []) are
+      accounts : (records : List RecordView) → (a.past ++ s.journal) ++ r ∷ [] ≡ records → map (with_record r) seat.knows.accounts ≡ record { executor = s.executor; records = records; order = order_applied a.order } ∷ []
+      accounts records are = ap (map (with_record r)) a.accounts ∙ ap (λ (rs : List RecordView). record { executor = s.executor; records = rs; order = order_applied a.order } ∷ []) are
 
       by : (b : Bool) → AccountsFor (record s { ready = ready'; chosen = None; journal = if b then [] else (s.journal ++ r ∷ []); checkpoint = if b then folds s.checkpoint (s.journal ++ r ∷ []) rows else s.checkpoint; fields = rows }) (after_turn r seat.knows)
       by true =
@@ -252,6 +274,7 @@ module _ (s : ExecStateView) (seat : BookSeatView) (c : ChosenView) (worker : �
           record {
             script_is = a.script_is;
             past = past;
+            order = order_applied a.order;
             accounts = accounts (past ++ []) (append_assoc a.past s.journal (r ∷ []) ∙ sym (append-nil past));
             folded = ap (λ (fs : List FoldedView). fs ++ map folded_of (s.journal ++ r ∷ [])) a.folded ∙ sym (map-append folded_of a.past (s.journal ++ r ∷ []));
             replayed = after ∙ ap (λ (fs : List (List ℤ)). replay s.script fs (s.journal ++ r ∷ [])) a.replayed ∙ sym (replay-append s.script start a.past (s.journal ++ r ∷ []));
@@ -259,6 +282,7 @@ module _ (s : ExecStateView) (seat : BookSeatView) (c : ChosenView) (worker : �
       by false = record {
         script_is = a.script_is;
         past = a.past;
+        order = order_applied a.order;
         accounts = accounts (a.past ++ (s.journal ++ r ∷ [])) (append_assoc a.past s.journal (r ∷ []));
         folded = a.folded;
         replayed = a.replayed;

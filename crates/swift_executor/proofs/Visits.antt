@@ -1,5 +1,5 @@
 -- What a visit to an executor leaves, by what its calls have answered.
-use Rattle.std.proofs.Common.{◌≡◌, ℕ, Bool, true, sym, subst, [], ◌∷◌, ◌++◌, Option, Some, None, Result, Ok, Err, IfOk, IfErr, IfSome, IfNone, OnOk, OnErr, List, ap, ◌∙◌}
+use Rattle.std.proofs.Common.{◌≡◌, ℕ, Bool, true, map, sym, subst, [], ◌∷◌, ◌++◌, Option, Some, None, Result, Ok, Err, IfOk, IfErr, IfSome, IfNone, OnOk, OnErr, List, ap, ◌∙◌}
 use Rattle.atomic_table.specs.Seated.{TableId}
 use Rattle.swift_types.specs.declared.id.TaskId.{TaskId}
 use Rattle.swift_events.specs.declared.event.Event.{Event}
@@ -11,6 +11,8 @@ use Rattle.swift_inbox.specs.Inbox.{InboxView, TakerView, has_taken}
 use Rattle.swift_job.specs.Job.{JobView}
 use Rattle.swift_history.specs.Jobs.{job_facts}
 use Rattle.swift_turn.specs.Body.{BodyView}
+use Rattle.swift_known.specs.Views.{TurnOrder, at_rest, under_way}
+use Rattle.swift_course.specs.Steps.{order_begun}
 use Rattle.swift_executor.specs.Exec.{IsAt, chosen_task, site_of}
 use Rattle.swift_executor.specs.Ready.{Adds}
 use Rattle.swift_executor.specs.State.{Chooses, ExecStateView, HasChosen, HasNone, IsPicked, LacksTask}
@@ -75,6 +77,10 @@ module _ (given : List ℕ) (old new : ExecStateView) where
     pub is_free : (F : ExecFault → Type 0) (r : Result (Option TaskId) ExecFault) → FaultIs F r → OnErr r (new.chosen ≡ None)
     is_free F (Ok picked) err = tt
     is_free F (Err fault) err = ap (λ (s : ExecStateView). s.chosen) (err.1 log levels).same ∙ free
+
+-- where the last root is there, and none was under way, one more turn begins in order
+pub begun_in_order : (there : Bool) (orders : List TurnOrder) → there ≡ true → orders ≡ at_rest ∷ [] → map (order_begun there) orders ≡ under_way ∷ []
+begun_in_order there orders is rest = ap (map (order_begun there)) rest ∙ ap (λ (b : Bool). order_begun b at_rest ∷ []) is
 
 -- a seat that was taken and given back as it was is the same
 pub same_seat : (b : BookLockView) (s : BookSeatView) → IsSeatOf b s → seat_of b s.knows ≡ s

@@ -164,11 +164,13 @@ may_run kind.Fifo workers worker = true
 abbrev pub IsRunFault : ExecFault → Type 0
 IsRunFault fault = (fault ≡ Memory) ⊎ ((cause : BookFault) × (fault ≡ Refused cause))
 
--- a state while no worker holds it, with the taker of its jobs, and the seat by which it takes the book
+-- a state while no worker holds it, with the taker of its jobs, the seat by which it takes the book, and whether its turns are known to
+-- have begun in order
 pub record RestingView : Type 0 where
   pub state : ExecStateView
   pub taker : TakerView
   pub seat : BookSeatView
+  pub is_orderly : Bool
 
 -- the state of this executor, with the taker of its inbox and its seat
 abbrev pub IsAt : InboxView → TakerView → BookSeatView → ExecStateView → Type 0

@@ -1,5 +1,5 @@
 -- How a job is played and put back. No public clause names these.
-use Rattle.std.specs.Prelude.{◌≡◌, ◌<◌, ◌≤◌, ℕ, ℤ, Option, Some, None, List, [], ◌∷◌, ◌++◌, length, map}
+use Rattle.std.specs.Prelude.{◌≡◌, ◌<◌, ◌≤◌, ℕ, ℤ, Bool, Option, Some, None, List, [], ◌∷◌, ◌++◌, length, map}
 use Rattle.std.specs.declared.vec.Vec.{Vec}
 use Rattle.std.specs.declared.alloc.Global.{Global}
 use Rattle.script_code.specs.Seen.{rows_of}
@@ -102,14 +102,15 @@ abbrev pub StageIsBegun : ChosenStage → Type 0
 StageIsBegun (stage.Begun worker env) = Unit {0}
 StageIsBegun _ = ⊥
 
--- some book of this script has begun its turn on a worker, and its ticket says so and comes first
-pub record BeginsShared (script : ScriptView) (worker : ℕ) (old new : Chosen) (knows knows' : BookKnown) (j : JobView BodyView) : Type 0 where
+-- some book of this script has begun its turn on a worker, where the last root was `there` or was not, and its ticket says so and comes
+-- first
+pub record BeginsShared (script : ScriptView) (there : Bool) (worker : ℕ) (old new : Chosen) (knows knows' : BookKnown) (j : JobView BodyView) : Type 0 where
   pub book : BookView
   pub book_of : book.script ≡ script
   pub env : Env
   pub given : IsEnv (root_count book.script) j.task book.log env
   pub new_is : new ≡ record old { stage = stage.Begun worker env }
-  pub ticket : BeginsTicket (job_facts j) env knows knows'
+  pub ticket : BeginsTicket there (job_facts j) env knows knows'
 
 -- its turn was played on these fields, and has left this
 pub record PlaysJob (rows : List (List ℤ)) (old new : Chosen) (p : PlayedTurn) (j : JobView BodyView) : Type 0 where

@@ -1,5 +1,5 @@
 -- What the seat of an executor knows: the turns that the executor has run, and the tickets of its jobs (our own).
-use Rattle.std.specs.Prelude.{◌≡◌, ℕ, true, Option, Some, None, List, [], ◌∷◌, ◌++◌, map}
+use Rattle.std.specs.Prelude.{◌≡◌, ℕ, Bool, true, Option, Some, None, List, [], ◌∷◌, ◌++◌, map}
 use Rattle.std.specs.List.Sorted.{IsPermutation}
 use Rattle.swift_types.specs.declared.env.Env.{Env}
 use Rattle.swift_script.specs.Scripts.{ScriptView, executor_start}
@@ -10,7 +10,7 @@ use Rattle.swift_journal.specs.Records.{RecordView}
 use Rattle.swift_journal.specs.Replay.{replay}
 use Rattle.swift_history.specs.TurnEnds.{JobFacts}
 use Rattle.swift_history.specs.Jobs.{job_facts}
-use Rattle.swift_known.specs.Views.{BookKnown, Ticket}
+use Rattle.swift_known.specs.Views.{Account, BookKnown, Ticket, TurnOrder, at_rest}
 use Rattle.swift_shared_book.specs.Shared.{BookSeatView}
 use Rattle.swift_executor.specs.Account.{ready_jobs}
 use Rattle.swift_executor.specs.Ready.{ReadyJobsView}
@@ -24,7 +24,8 @@ jobs_of tickets = map (λ k. k.job) tickets
 pub record AccountsFor (s : ExecStateView) (v : BookKnown) : Type 0 where
   pub script_is : v.script ≡ Some s.script
   pub past : List RecordView
-  pub accounts : v.accounts ≡ record { executor = s.executor; records = past ++ s.journal } ∷ []
+  pub order : TurnOrder
+  pub accounts : v.accounts ≡ record { executor = s.executor; records = past ++ s.journal; order = order } ∷ []
   pub folded : s.checkpoint.folded ≡ map folded_of past
   pub replayed : s.checkpoint.fields ≡ replay s.script (executor_start s.script s.executor) past
 
@@ -50,9 +51,17 @@ pub record IsSeatFor (s : ExecStateView) (seat : BookSeatView) : Type 0 where
   pub account : AccountsFor s seat.knows
   pub tickets : AreTicketsOf s.ready s.chosen seat.knows.tickets
 
+-- what the accounts of a seat say of how turns have begun
+abbrev pub orders_of : BookKnown → List TurnOrder
+orders_of v = map (λ a. a.order) v.accounts
+
+-- where an executor's turns are known to have begun in order, its seat's one account says this
+abbrev pub KeepsOrder : Bool → TurnOrder → BookSeatView → Type 0
+KeepsOrder is_orderly order seat = is_orderly ≡ true → orders_of seat.knows ≡ order ∷ []
+
 -- what the seat of an executor knows that has run no turn and has no job
 abbrev pub opened_view : ScriptView → ℕ → BookKnown
-opened_view script executor = record { script = Some script; accounts = record { executor = executor; records = [] } ∷ []; tickets = []; maker = None }
+opened_view script executor = record { script = Some script; accounts = record { executor = executor; records = []; order = at_rest } ∷ []; tickets = []; maker = None }
 
 -- the seat is there, and knows what that of an executor does that has run no turn and has no job
 abbrev pub IsOpened : ScriptView → ℕ → BookSeatView → Type 0

@@ -4,14 +4,16 @@ ghost use Rattle.std.specs.Prelude.{◌≡◌, true, None, Some, map, IfErr, IfO
 ghost use Rattle.std.specs.List.{AllByRecursion};
 ghost use Rattle.swift_interpreter.specs.Frames.{effect_views};
 ghost use Rattle.swift_interpreter.specs.TurnStates.{exit_view};
-ghost use Rattle.swift_shared_book.specs.Shared.{BeginsTicket, HasPlayed, HasTicket, IsAsTaken, IsSeatOf, after_turn, knowing, newest, seat_of};
+ghost use Rattle.swift_course.specs.Steps.{order_applied, order_begun};
+ghost use Rattle.swift_shared_book.specs.Shared.{BeginsTicket, HasPlayed, HasTicket, IsAsTaken, IsSeatOf, RunsAtSeat, after_turn, knowing, newest, seat_of};
 ghost use Rattle.swift_tasks.specs.Books.{IsJobOf};
 ghost use Rattle.swift_history.specs.Jobs.{job_facts};
+ghost use Rattle.swift_history.specs.Orderly.{has_last_root};
 ghost use Rattle.swift_turn.specs.Body.{IsRunning};
 ghost use Rattle.swift_journal.specs.Records.{RecordView};
 ghost use Rattle.swift_executor.specs.Exec.{IsRunFault};
 ghost use Rattle.swift_executor.specs.PlayingInside.{BeginsShared, HasJob, IsTaken};
-ghost use Rattle.swift_executor.specs.Seats.{IsSeatFor};
+ghost use Rattle.swift_executor.specs.Seats.{IsSeatFor, orders_of};
 ghost use Rattle.swift_executor.specs.State.{BeginsTurn, EndsTurn, HasChosen, IsPicked, IsPlayed, PutsBack};
 
 use crate::chosen::{Chosen, ChosenStage, PlayedTurn};
@@ -23,8 +25,9 @@ use std::sync::Wait;
 use swift_job::Job;
 use swift_journal::Journal;
 use swift_journal::laws::{invariants_stay, lawful_grows};
+use swift_script::Script;
 use swift_shared_book::{BookLock, BookSeat, OpenBook, TicketedJobs};
-use swift_tasks::BookFault;
+use swift_tasks::{Book, BookFault};
 use swift_turn::Body;
 use swift_types::TaskId;
 
@@ -37,8 +40,8 @@ fn begin_locked(
     taken: OpenBook,
 ) -> Result<(), BookFault>
     requires untouched { IsAsTaken book.now taken.seat taken.book.value }
-    requires job { HasJob chosen.old.job (λ j. (j.body.script ≡ book.now.script) × HasTicket (job_facts j) taken.seat.knows.tickets) }
-    ensures ok { OnOk result (HasJob chosen.old.job (BeginsShared book.now.script worker chosen.old chosen.new taken.seat.knows seat.new.knows)) }
+    requires job { HasJob chosen.old.job (λ j. (j.body.script ≡ book.now.script) × HasTicket (job_facts j) taken.seat.knows.tickets × RunsAtSeat book.now.script taken.seat.knows (job_facts j)) }
+    ensures ok { OnOk result (HasJob chosen.old.job (BeginsShared book.now.script (has_last_root taken.book.value.script taken.book.value.log) worker chosen.old chosen.new taken.seat.knows seat.new.knows)) }
     ensures seat { (seat.new.lock ≡ book.now.id) × (seat.new.here ≡ true) }
     ensures err { OnErr result ((chosen.new ≡ chosen.old) × (seat.new ≡ seat_of book.now taken.seat.knows)) }
 {
@@ -93,7 +96,25 @@ fn apply_locked<R: Wait>(
     }
 }
 
+// Whether the script's last root is there, by a book. Then each is, since they are added in order.
+fn has_last_root(script: &Script, book: &Book) -> bool
+    ensures { result ≡ has_last_root script.now book.now.log }
+{
+    script.facts();
+    let roots = script.root_count();
+    roots == 0 || book.origin(TaskId((roots - 1) as u32)).is_some()
+}
+
 impl ExecState {
+    // Whether turns that have begun in order still do, where one more begins in this book: the last root is there.
+    pub(crate) fn stays_orderly(&self, was: bool, book: &Book) -> bool
+        requires { book.now.script ≡ self.now.script }
+        ensures before { result ≡ true → was ≡ true }
+        ensures there { result ≡ true → has_last_root book.now.script book.now.log ≡ true }
+    {
+        was && has_last_root(self.home.script(), book)
+    }
+
     /// `start` where threads share the book, which was taken, so that its lock is not taken anew after `choose`. It is given back.
     pub(crate) fn start_locked(
         &mut self,
@@ -110,7 +131,9 @@ impl ExecState {
         ensures seat { IsSeatOf book.now seat.new }
         ensures known { IsSeatFor self.new seat.new }
         ensures ok { OnOk result (BeginsTurn worker self.old self.new) }
+        ensures order { OnOk result (orders_of seat.new.knows ≡ map (order_begun (has_last_root taken.book.value.script taken.book.value.log)) (orders_of taken.seat.knows)) }
         ensures back { OnErr result (HasChosen self.old (PutsBack self.old self.new)) }
+        ensures same { OnErr result (seat.new ≡ seat_of book.now taken.seat.knows) }
         ensures refused { IfErr result IsRunFault }
     {
         match begin_locked(&mut self.chosen, worker, book, seat, taken) {
@@ -139,6 +162,7 @@ impl ExecState {
         ensures seat { IsSeatOf book.now seat.new }
         ensures known { IsSeatFor self.new seat.new }
         ensures ok { OnOk result (EndsTurn (map job_facts jobs.old.jobs) (map job_facts jobs.new.jobs) self.old self.new) }
+        ensures order { OnOk result (orders_of seat.new.knows ≡ map order_applied (orders_of seat.old.knows)) }
         ensures bodies { AllByRecursion (IsJobOf self.old.script) jobs.old.jobs → AllByRecursion (IsJobOf self.old.script) jobs.new.jobs }
         ensures lock { jobs.new.book ≡ jobs.old.book }
         ensures back { OnErr result (HasChosen self.old (PutsBack self.old self.new)) }

@@ -4,7 +4,8 @@ ghost use Rattle.std.specs.Prelude.{◌≡◌, ◌<◌, ◌↔◌, [], None, Som
 ghost use Rattle.std.specs.Arc.{arc_value};
 ghost use Rattle.swift_inbox.specs.Site.{CanRunAt};
 ghost use Rattle.swift_executor.specs.Exec.{IsDeskOf, IsLeft, first_desk, has_sent, site_of};
-ghost use Rattle.swift_executor.specs.Seats.{IsOpened};
+ghost use Rattle.swift_executor.specs.Seats.{IsOpened, KeepsOrder};
+ghost use Rattle.swift_known.specs.Views.{at_rest};
 ghost use Rattle.swift_executor.specs.State.{new_executor};
 ghost use Rattle.swift_word.specs.Seat.{newest};
 
@@ -98,6 +99,9 @@ pub struct Closed {
     pub state: Option<(ExecState, Taker, BookSeat)>,
     /// The jobs that were in the inbox, the oldest first. Where a desk held the state, it held their taker too, and there are none.
     pub inbox: Vec<Job<Body>>,
+    /// Whether each turn has begun once the last root was there, and while no other was under way. Not known, and false, where a turn was
+    /// put back once it had begun, or no state comes.
+    pub is_orderly: bool,
 }
 
 // The first state of an executor, with no job.
@@ -120,7 +124,12 @@ fn first_state(
     new_knows_no_turn();
     let script = Arc::clone(site.script())?;
     let state = ExecState::new(alloc, script, site.executor(), room)?;
-    let held = TakenState { state, taker, seat };
+    let held = TakenState {
+        state,
+        taker,
+        seat,
+        is_orderly: true,
+    };
     match Box::new(alloc, held) {
         Ok(held) => Ok(Resting::new(held)),
         Err(refused) => {
@@ -231,6 +240,8 @@ impl Exec {
     pub fn close<R: Wait>(self, rt: &R) -> Closed
         ensures state { IfSome result.state (λ s. IsLeft self.inbox s.1 s.2 s.0 result.inbox.items) }
         ensures none { IfNone result.state (result.inbox.items ≡ []) }
+        // Where its turns have begun in order, none is under way, by the seat's account.
+        ensures order { IfSome result.state (λ s. KeepsOrder result.is_orderly at_rest s.2) }
     {
         let Exec {
             word,
@@ -241,18 +252,20 @@ impl Exec {
         let list = spare.into_list();
         match word.close() {
             (pending, Some(resting)) => {
-                let (state, taker, seat) = resting.into_parts();
+                let (state, taker, seat, is_orderly) = resting.into_parts();
                 let (inbox, taker) = inbox.drain(rt, taker, list);
                 Closed {
                     pending,
                     state: Some((state, taker, seat)),
                     inbox,
+                    is_orderly,
                 }
             }
             (pending, None) => Closed {
                 pending,
                 state: None,
                 inbox: list,
+                is_orderly: false,
             },
         }
     }

@@ -2,6 +2,8 @@
 
 ghost use Rattle.std.specs.Prelude.{◌≡◌, None};
 ghost use Rattle.swift_executor.specs.Exec.{IsOf};
+ghost use Rattle.swift_executor.specs.Seats.{KeepsOrder};
+ghost use Rattle.swift_known.specs.Views.{at_rest};
 
 use crate::state::ExecState;
 use crate::state_name::StateName;
@@ -17,6 +19,8 @@ pub struct TakenState {
     pub state: ExecState,
     pub taker: Taker,
     pub seat: BookSeat,
+    /// Whether its turns are known to have begun in order: each once the last root was there, and while no other was under way.
+    pub is_orderly: bool,
 }
 
 /// The state of an executor while no worker holds it: no job is chosen. Where it is dropped, its jobs are spent.
@@ -29,14 +33,16 @@ impl Model for Resting {
     ghost use Rattle.std.specs.Coded.{codes};
     ghost use Rattle.swift_script.specs.Codes.{expression_code, statement_code, block_code};
     ghost use Rattle.swift_executor.specs.Exec.{IsOf, RestingView};
+    ghost use Rattle.swift_executor.specs.Seats.{KeepsOrder};
+    ghost use Rattle.swift_known.specs.Views.{at_rest};
 
     ghost Value = { RestingView };
 
     ghost coded = { Prim.hlevel (codes, expression_code, statement_code (block_code (Prim.hlevel (codes, expression_code)) (Prim.hlevel (codes, expression_code)))) };
 
-    ghost view = { λ r. record { state = r.held.value.state; taker = r.held.value.taker; seat = r.held.value.seat } };
+    ghost view = { λ r. record { state = r.held.value.state; taker = r.held.value.taker; seat = r.held.value.seat; is_orderly = r.held.value.is_orderly } };
 
-    ghost invariant = { λ r. (r.held.value.state.chosen ≡ None) × IsOf r.held.value.taker r.held.value.seat r.held.value.state };
+    ghost invariant = { λ r. (r.held.value.state.chosen ≡ None) × IsOf r.held.value.taker r.held.value.seat r.held.value.state × KeepsOrder r.held.value.is_orderly at_rest r.held.value.seat };
 }
 
 impl Named for Resting {
@@ -52,7 +58,8 @@ impl Resting {
     pub fn new(held: Box<TakenState>) -> Resting
         requires free { held.value.state.chosen ≡ None }
         requires is_of { IsOf held.value.taker held.value.seat held.value.state }
-        ensures { result ≡ record { state = held.value.state; taker = held.value.taker; seat = held.value.seat } }
+        requires order { KeepsOrder held.value.is_orderly at_rest held.value.seat }
+        ensures { result ≡ record { state = held.value.state; taker = held.value.taker; seat = held.value.seat; is_orderly = held.value.is_orderly } }
     {
         Resting { held }
     }
@@ -62,20 +69,27 @@ impl Resting {
         ensures same { (result.value.state ≡ self.state) × (result.value.taker ≡ self.taker) × (result.value.seat ≡ self.seat) }
         ensures free { result.value.state.chosen ≡ None }
         ensures is_of { IsOf result.value.taker result.value.seat result.value.state }
+        ensures order { KeepsOrder result.value.is_orderly at_rest result.value.seat }
     {
         let Resting { held } = self;
         held
     }
 
-    /// The state, the right to take its jobs, and the seat by which it took the book.
-    pub fn into_parts(self) -> (ExecState, Taker, BookSeat)
+    /// The state, the right to take its jobs, the seat by which it took the book, and whether its turns are known to have begun in order.
+    pub fn into_parts(self) -> (ExecState, Taker, BookSeat, bool)
         ensures same { (result.0 ≡ self.state) × (result.1 ≡ self.taker) × (result.2 ≡ self.seat) }
         ensures free { result.0.chosen ≡ None }
         ensures is_of { IsOf result.1 result.2 result.0 }
+        ensures order { KeepsOrder result.3 at_rest result.2 }
     {
         let held = Box::into_inner(self.into_held());
-        let TakenState { state, taker, seat } = held;
-        (state, taker, seat)
+        let TakenState {
+            state,
+            taker,
+            seat,
+            is_orderly,
+        } = held;
+        (state, taker, seat, is_orderly)
     }
 }
 
@@ -87,6 +101,7 @@ pub fn spend_held(held: TakenState)
         state,
         taker: _,
         seat: _,
+        is_orderly: _,
     } = held;
     let (jobs, _journal, _fields, _checkpoint) = state.into_parts();
     spend_all(jobs);

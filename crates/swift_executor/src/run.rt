@@ -10,7 +10,8 @@ ghost use Rattle.swift_history.specs.Jobs.{job_facts};
 ghost use Rattle.swift_history.specs.TurnEnds.{JobFacts};
 ghost use Rattle.swift_executor.specs.Account.{HasTaken};
 ghost use Rattle.swift_executor.specs.Exec.{HasFound, HasLeft, HasTried, IfNoTurn, IfTurn, IsMadeBy, chosen_task, IsAt, IsBookOf, IsDeskOf, IsRunFault, IsSeatAt, after_run, has_found, may_run, seat_after, site_of};
-ghost use Rattle.swift_executor.specs.Seats.{IsSeatFor};
+ghost use Rattle.swift_executor.specs.Seats.{IsSeatFor, KeepsOrder, orders_of};
+ghost use Rattle.swift_known.specs.Views.{at_rest, under_way};
 ghost use Rattle.swift_shared_book.specs.Shared.{BookSeatView, IsAsTaken, IsSeatOf, seat_of};
 ghost use Rattle.swift_word.specs.Seat.{ended, last_found, left};
 ghost use Rattle.swift_executor.specs.State.{HasChosen, IsBegun, IsPicked, IsPlayed};
@@ -57,6 +58,7 @@ fn accept_one<R: Wait>(rt: &R, inbox: &Inbox, held: &mut TakenState, book: &Book
     ensures at { IsAt inbox.now held.new.taker held.new.seat held.new.state }
     ensures free { held.new.state.chosen ≡ None }
     ensures lock { held.new.seat.lock ≡ held.old.seat.lock }
+    ensures order { (held.new.is_orderly ≡ held.old.is_orderly) × (orders_of held.new.seat.knows ≡ orders_of held.old.seat.knows) }
 {
     if inbox.is_empty_now(&mut held.taker) || !held.state.has_room() {
         return false;
@@ -81,6 +83,7 @@ fn accept_all<R: Wait>(rt: &R, inbox: &Inbox, held: &mut TakenState, book: &Book
     ensures at { IsAt inbox.now held.new.taker held.new.seat held.new.state }
     ensures free { held.new.state.chosen ≡ None }
     ensures lock { held.new.seat.lock ≡ held.old.seat.lock }
+    ensures order { (held.new.is_orderly ≡ held.old.is_orderly) × (orders_of held.new.seat.knows ≡ orders_of held.old.seat.knows) }
 {
     for _ in 0..inbox.room() {
         if !accept_one(rt, inbox, held, book) {
@@ -97,6 +100,7 @@ fn take_book<R: Wait>(rt: &R, held: &mut TakenState, book: &BookLock) -> OpenBoo
     ensures seat { IsSeatOf book.now (seat_of book.now result.seat.knows) }
     ensures known { IsSeatFor held.new.state (seat_of book.now result.seat.knows) }
     ensures same { (held.new.taker ≡ held.old.taker) × (held.new.state ≡ held.old.state) }
+    ensures order { (held.new.is_orderly ≡ held.old.is_orderly) × (result.seat.knows ≡ held.old.seat.knows) }
 {
     book.lock(rt, &mut held.seat)
 }
@@ -116,7 +120,8 @@ fn choose_one(state: &mut ExecState, book: &mut Book) -> Result<Option<TaskId>, 
     state.choose(book.levels())
 }
 
-// Begins the turn of the chosen job in a book that was taken, and gives the book back.
+// Begins the turn of the chosen job in a book that was taken, and gives the book back. It begins in order where the last root is there
+// and no other turn was under way.
 fn start_one(
     held: &mut TakenState,
     worker: u32,
@@ -128,16 +133,20 @@ fn start_one(
     requires seat { IsSeatOf book.now (seat_of book.now taken.seat.knows) }
     requires script { book.now.script ≡ held.old.state.script }
     requires known { IsSeatFor held.old.state (seat_of book.now taken.seat.knows) }
+    requires order { KeepsOrder held.old.is_orderly at_rest (seat_of book.now taken.seat.knows) }
     ensures same { (held.new.taker ≡ held.old.taker) × (site_of book.now.id held.new.state ≡ site_of book.now.id held.old.state) }
     ensures seat { IsSeatOf book.now held.new.seat }
     ensures known { IsSeatFor held.new.state held.new.seat }
     ensures taken { HasTaken held.old.taker.taken held.old.state → HasTaken held.new.taker.taken held.new.state }
     ensures ok { OnOk result (HasChosen held.new.state (λ c. IsBegun c.stage) × (chosen_task held.new.state.chosen ≡ chosen_task held.old.state.chosen)) }
     ensures free { OnErr result (held.new.state.chosen ≡ None) }
+    ensures begun { OnOk result (KeepsOrder held.new.is_orderly under_way held.new.seat) }
+    ensures back { OnErr result (KeepsOrder held.new.is_orderly at_rest held.new.seat) }
     ensures err { IfErr result IsRunFault }
 {
     start_loses_none();
     refusal_loses_none();
+    held.is_orderly = held.state.stays_orderly(held.is_orderly, &taken.book);
     held.state.start_locked(worker, book, &mut held.seat, taken)
 }
 
@@ -157,10 +166,14 @@ where
     requires seat { IsSeatOf book.now held.old.seat }
     requires script { book.now.script ≡ held.old.state.script }
     requires known { IsSeatFor held.old.state held.old.seat }
+    requires order { KeepsOrder held.old.is_orderly at_rest held.old.seat }
     ensures same { (held.new.taker ≡ held.old.taker) × (site_of book.now.id held.new.state ≡ site_of book.now.id held.old.state) }
     ensures seat { IsSeatOf book.now held.new.seat }
     ensures known { IsSeatFor held.new.state held.new.seat }
     ensures taken { HasTaken held.old.taker.taken held.old.state → HasTaken held.new.taker.taken held.new.state }
+    ensures begun { IfOk result (λ picked. IfSome picked (λ task. KeepsOrder held.new.is_orderly under_way held.new.seat)) }
+    ensures idle { IfOk result (λ picked. IfNone picked (KeepsOrder held.new.is_orderly at_rest held.new.seat)) }
+    ensures back { OnErr result (KeepsOrder held.new.is_orderly at_rest held.new.seat) }
     ensures some { IfOk result (λ picked. IfSome picked (λ task. HasChosen held.new.state (λ c. IsBegun c.stage) × (chosen_task held.new.state.chosen ≡ Some task))) }
     ensures none { IfOk result (λ picked. IfNone picked (held.new.state.chosen ≡ None)) }
     ensures free { OnErr result (held.new.state.chosen ≡ None) }
@@ -195,6 +208,7 @@ fn play_one(held: &mut TakenState, cx: &mut Context<'_>) -> Result<(), ExecFault
     requires known { IsSeatFor held.old.state held.old.seat }
     ensures same { (held.new.taker ≡ held.old.taker) × (site_of held.new.seat.lock held.new.state ≡ site_of held.old.seat.lock held.old.state) }
     ensures seat { held.new.seat ≡ held.old.seat }
+    ensures order { held.new.is_orderly ≡ held.old.is_orderly }
     ensures known { IsSeatFor held.new.state held.new.seat }
     ensures taken { HasTaken held.old.taker.taken held.old.state → HasTaken held.new.taker.taken held.new.state }
     ensures ok { OnOk result (HasChosen held.new.state (λ c. IsPlayed c.stage) × (chosen_task held.new.state.chosen ≡ chosen_task held.old.state.chosen)) }
@@ -219,9 +233,11 @@ fn end_one<R: Wait>(
     requires script { book.now.script ≡ held.old.state.script }
     requires known { IsSeatFor held.old.state held.old.seat }
     requires jobs { jobs.old.book ≡ book.now.id }
+    requires order { KeepsOrder held.old.is_orderly under_way held.old.seat }
     ensures same { (held.new.taker ≡ held.old.taker) × (site_of book.now.id held.new.state ≡ site_of book.now.id held.old.state) }
     ensures seat { IsSeatOf book.now held.new.seat }
     ensures known { IsSeatFor held.new.state held.new.seat }
+    ensures rest { OnOk result (KeepsOrder held.new.is_orderly at_rest held.new.seat) }
     ensures lock { jobs.new.book ≡ jobs.old.book }
     ensures taken { HasTaken held.old.taker.taken held.old.state → HasTaken held.new.taker.taken held.new.state }
     ensures free { held.new.state.chosen ≡ None }
@@ -231,6 +247,37 @@ fn end_one<R: Wait>(
     ensures err { IfErr result IsRunFault }
 {
     held.state.turn_locked(rt, book, &mut held.seat, jobs)
+}
+
+// Plays the turn that has begun, and journals it.
+fn finish_one<R: Wait>(
+    rt: &R,
+    held: &mut TakenState,
+    book: &BookLock,
+    cx: &mut Context<'_>,
+    jobs: &mut TicketedJobs,
+) -> Result<(), ExecFault>
+    requires begun { HasChosen held.old.state (λ c. IsBegun c.stage) }
+    requires seat { IsSeatOf book.now held.old.seat }
+    requires script { book.now.script ≡ held.old.state.script }
+    requires known { IsSeatFor held.old.state held.old.seat }
+    requires jobs { jobs.old.book ≡ book.now.id }
+    requires order { KeepsOrder held.old.is_orderly under_way held.old.seat }
+    ensures same { (held.new.taker ≡ held.old.taker) × (site_of book.now.id held.new.state ≡ site_of book.now.id held.old.state) }
+    ensures seat { IsSeatOf book.now held.new.seat }
+    ensures known { IsSeatFor held.new.state held.new.seat }
+    ensures rest { OnOk result (KeepsOrder held.new.is_orderly at_rest held.new.seat) }
+    ensures lock { jobs.new.book ≡ jobs.old.book }
+    ensures taken { HasTaken held.old.taker.taken held.old.state → HasTaken held.new.taker.taken held.new.state }
+    ensures free { held.new.state.chosen ≡ None }
+    ensures made { OnOk result (IsMadeBy held.old.state.script (chosen_task held.old.state.chosen) (map job_facts jobs.old.jobs) (map job_facts jobs.new.jobs)) }
+    ensures jobs { OnErr result (jobs.new ≡ jobs.old) }
+    ensures bodies { AllByRecursion (IsJobOf held.old.state.script) jobs.old.jobs → AllByRecursion (IsJobOf held.old.state.script) jobs.new.jobs }
+    ensures err { IfErr result IsRunFault }
+    ensures kept { Keeps cx.old cx.new }
+{
+    play_one(held, cx)?;
+    end_one(rt, held, book, jobs)
 }
 
 // Runs a turn of the job that comes first. None where no job is ready.
@@ -251,10 +298,12 @@ where
     requires seat { IsSeatOf book.now held.old.seat }
     requires script { book.now.script ≡ held.old.state.script }
     requires known { IsSeatFor held.old.state held.old.seat }
+    requires order { KeepsOrder held.old.is_orderly at_rest held.old.seat }
     requires jobs { jobs.old.book ≡ book.now.id }
     ensures same { (held.new.taker ≡ held.old.taker) × (site_of book.now.id held.new.state ≡ site_of book.now.id held.old.state) }
     ensures seat { IsSeatOf book.now held.new.seat }
     ensures known { IsSeatFor held.new.state held.new.seat }
+    ensures order { KeepsOrder held.new.is_orderly at_rest held.new.seat }
     ensures lock { jobs.new.book ≡ jobs.old.book }
     ensures taken { HasTaken held.old.taker.taken held.old.state → HasTaken held.new.taker.taken held.new.state }
     ensures free { held.new.state.chosen ≡ None }
@@ -268,8 +317,11 @@ where
     let Some(task) = begin_one(rt, held, executor, worker, book, gate)? else {
         return Ok(None);
     };
-    play_one(held, cx)?;
-    end_one(rt, held, book, jobs)?;
+    if let Err(fault) = finish_one(rt, held, book, cx, jobs) {
+        // The turn was put back, and the next one may begin while it is under way.
+        held.is_orderly = false;
+        return Err(fault);
+    }
     gate.at(Moment::Turned {
         executor,
         worker,
@@ -284,6 +336,7 @@ impl Exec {
         requires seat { IsSeatAt self.now seat.old }
         requires found { IsSomeAnd seat.old.holding (λ found. 0 < found) }
         requires at { IsAt self.now.inbox held.value.taker held.value.seat held.value.state }
+        requires order { KeepsOrder held.value.is_orderly at_rest held.value.seat }
         requires free { held.value.state.chosen ≡ None }
         ensures seat { seat.new ≡ ended (last_found seat.new) seat.old }
         ensures left { (result ≡ PendingLeft.More) ↔ (1 < last_found seat.new / 2) }
@@ -296,6 +349,7 @@ impl Exec {
         requires seat { IsSeatAt self.now seat.old }
         requires found { IsSome seat.old.holding }
         requires at { IsAt self.now.inbox held.value.taker held.value.seat held.value.state }
+        requires order { KeepsOrder held.value.is_orderly at_rest held.value.seat }
         requires free { held.value.state.chosen ≡ None }
         ensures seat { seat.new ≡ left (last_found seat.new) seat.old }
         ensures left { (result ≡ PendingLeft.More) ↔ (0 < last_found seat.new / 2) }
@@ -322,6 +376,7 @@ impl Exec {
         requires seat { IsSeatAt self.now seat.old }
         requires found { seat.old.holding ≡ Some found }
         requires at { IsAt self.now.inbox held.value.taker held.value.seat held.value.state }
+        requires order { KeepsOrder held.value.is_orderly at_rest held.value.seat }
         requires free { held.value.state.chosen ≡ None }
         requires lock { IsBookOf self.now book.now }
         requires jobs { jobs.old.book ≡ book.now.id }

@@ -18,7 +18,7 @@ use Rattle.swift_history.specs.TurnEnds.{WaitingTaskView}
 use Rattle.swift_course.specs.Course.{start_of, starts}
 use Rattle.swift_course.proofs.Starts.{many_starts}
 use Rattle.swift_explorer.specs.declared.waiting.Ready.{Ready}
-use Rattle.swift_digest.specs.Explored.{AllAllowed, IsOrderly, IsOrderlyLegal}
+use Rattle.swift_history.specs.Orderly.{AllAllowed, IsOrderly, IsOrderlyLegal}
 use Rattle.swift_explorer.specs.declared.moves.Move.{Move}
 use Rattle.swift_explorer.specs.Steps.{AreSteps}
 use Rattle.swift_explorer.specs.HistoryInside.{AreEnded, HaveClosed, IsLed}

@@ -14,7 +14,7 @@ use Rattle.swift_history.specs.Checks.{is_begun}
 use Rattle.swift_history.specs.Histories.{Block, added, begun}
 use Rattle.swift_history.specs.TurnEnds.{JobFacts}
 use Rattle.swift_course.specs.Course.{standing}
-use Rattle.swift_digest.specs.Explored.{AllAllowed, IsOrderly, job_executor}
+use Rattle.swift_history.specs.Orderly.{AllAllowed, IsOrderly, job_executor}
 use Rattle.swift_explorer.specs.declared.waiting.Ready.{Ready}
 use Rattle.swift_explorer.specs.declared.history.SearchedHistory.{SearchedHistory}
 use Rattle.swift_explorer.specs.HistoryInside.{AreGiven, AreThere, IsHistory, MayBegin, given_at, given_view, seat_if, seat_of}

@@ -21,7 +21,7 @@ use Rattle.swift_explorer.specs.declared.waiting.Ready.{Ready}
 use Rattle.std.specs.declared.alloc.AllocError.{AllocError}
 use Rattle.swift_explorer.specs.declared.history.Followed.{Followed}
 use Rattle.swift_explorer.specs.declared.history.SearchedHistory.{SearchedHistory}
-use Rattle.swift_digest.specs.Explored.{IsOrderly}
+use Rattle.swift_history.specs.Orderly.{IsOrderly}
 use Rattle.swift_explorer.specs.declared.history.Followed.TheVariants.{Broken, Yes}
 use Rattle.swift_explorer.specs.Steps.{BreaksInvariant, IsBroken, IsStep}
 use Rattle.swift_explorer.specs.HistoryInside.{WasDone, Applies, AreOf, IsHistory, IsLed, JobRunsAt, given_at, job_of, rows_at, with_given}

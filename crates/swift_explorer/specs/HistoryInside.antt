@@ -15,7 +15,7 @@ use Rattle.swift_events.specs.Relations.{opened_by, is_closed}
 use Rattle.swift_history.specs.Checks.{is_begun}
 use Rattle.swift_history.specs.Histories.{AllStand, Block, fields_of, folded_of, records_of, roots_of, with_jobs}
 use Rattle.swift_journal.specs.Records.{RecordView}
-use Rattle.swift_digest.specs.Explored.{AllAllowed, IsOrderly, frames_executor}
+use Rattle.swift_history.specs.Orderly.{AllAllowed, IsOrderly, frames_executor}
 use Rattle.swift_history.specs.TurnEnds.{WaitingTaskView, JobFacts}
 use Rattle.swift_course.specs.Course.{standing, starts}
 use Rattle.swift_job.specs.Job.{JobView}

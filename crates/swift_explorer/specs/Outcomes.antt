@@ -4,7 +4,8 @@ use Rattle.script_code.specs.Seen.{rows_of}
 use Rattle.swift_script.specs.Scripts.{ScriptView}
 use Rattle.swift_history.specs.Histories.{AllStand, Block, ReportView}
 use Rattle.swift_course.specs.Course.{starts}
-use Rattle.swift_digest.specs.Explored.{AllAllowed, FoldsNone, IsOrderly, IsOrderlyLegal}
+use Rattle.swift_history.specs.Orderly.{AllAllowed, IsOrderly, IsOrderlyLegal}
+use Rattle.swift_digest.specs.Explored.{FoldsNone}
 use Rattle.swift_explorer.specs.declared.moves.Move.{Move}
 use Rattle.swift_explorer.specs.declared.outcome.End.{End}
 use Rattle.swift_explorer.specs.declared.outcome.End.TheVariants.{Reached}

@@ -1,4 +1,5 @@
 pub mod Checks
 pub mod TurnEnds
 pub mod Histories
+pub mod Orderly
 pub mod Jobs

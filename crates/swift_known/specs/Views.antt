@@ -12,10 +12,18 @@ pub record BookFacts : Type 0 where
   pub log : List Event
   pub held : List (Option WaitingTaskView)
 
--- All turns of an executor so far, in order, those that its checkpoint has folded too.
+-- How the turns of an executor have begun. In order, where each has begun once the last root was there, and while no other was under
+-- way; then none is under way now, or one may be. Unordered, where that is not known.
+pub data TurnOrder : Type 0 where
+  at_rest : TurnOrder
+  under_way : TurnOrder
+  unordered : TurnOrder
+
+-- All turns of an executor so far, in order, those that its checkpoint has folded too, and how its turns have begun.
 pub record Account : Type 0 where
   pub executor : ℕ
   pub records : List RecordView
+  pub order : TurnOrder
 
 -- The right to run the turn of a job; where the turn has begun, in which environment.
 pub record Ticket : Type 0 where

@@ -5,6 +5,7 @@ use Rattle.swift_types.specs.declared.env.Env.{Env}
 use Rattle.swift_script.specs.Scripts.{ScriptView}
 use Rattle.swift_job.specs.Job.{JobView}
 use Rattle.swift_turn.specs.Body.{BodyView}
+use Rattle.swift_history.specs.Orderly.{job_executor}
 use Rattle.swift_history.specs.TurnEnds.{JobFacts}
 use Rattle.swift_journal.specs.Records.{RecordView}
 use Rattle.swift_known.specs.Views.{Account, BookFacts, BookKnown, Ticket, fresh, no_view}
@@ -65,9 +66,14 @@ IsAsTaken l s b = (s.lock ≡ l.id) × (b.script ≡ l.script) × (s.taken ≡ S
 abbrev pub HasTicket : JobFacts → List Ticket → Type 0
 HasTicket j tickets = (k : Ticket) × (rest : List Ticket) × IsPermutation tickets (k ∷ rest) × (k.job ≡ j)
 
--- The turn of the ticket's job has begun in this environment: the ticket says so, and comes first.
-abbrev pub BeginsTicket : JobFacts → Env → BookKnown → BookKnown → Type 0
-BeginsTicket j env v w = (k : Ticket) × (rest : List Ticket) × IsPermutation v.tickets (k ∷ rest) × (k.job ≡ j) × (w ≡ knowing_begin k rest env v)
+-- the seat has one account, and this job runs on its executor
+abbrev pub RunsAtSeat : ScriptView → BookKnown → JobFacts → Type 0
+RunsAtSeat script v j = (a : Account) × (v.accounts ≡ a ∷ []) × (job_executor script (Some j) ≡ Some a.executor)
+
+-- The turn of the ticket's job has begun in this environment: the ticket says so, and comes first. The accounts say that one more turn
+-- has begun, where the last root was `there` or was not.
+abbrev pub BeginsTicket : Bool → JobFacts → Env → BookKnown → BookKnown → Type 0
+BeginsTicket there j env v w = (k : Ticket) × (rest : List Ticket) × IsPermutation v.tickets (k ∷ rest) × (k.job ≡ j) × (w ≡ knowing_begin there k rest env v)
 
 -- the newest record of a journal
 abbrev pub newest : List RecordView → Option RecordView

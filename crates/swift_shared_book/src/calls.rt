@@ -9,12 +9,13 @@ ghost use Rattle.swift_turn.specs.Body.{BodyView, IsRunning};
 ghost use Rattle.swift_job.specs.Job.{JobView};
 ghost use Rattle.swift_events.specs.Room.{IsEnv};
 ghost use Rattle.swift_journal.specs.Records.{RecordView};
+ghost use Rattle.swift_history.specs.Orderly.{has_last_root};
 ghost use Rattle.swift_history.specs.TurnEnds.{root_job};
 ghost use Rattle.swift_known.specs.Views.{Maker};
 ghost use Rattle.swift_tasks.specs.Books.{BookView, IsEndOf, IsJobOf};
 ghost use Rattle.swift_history.specs.Jobs.{job_facts};
 ghost use Rattle.swift_tasks.specs.Refusals.{IsRefusal, refusal_of_apply, refusal_of_begin, refusal_of_root};
-ghost use Rattle.swift_shared_book.specs.Shared.{BeginsTicket, HasPlayed, HasTicket, IsSeatOf, IsAsTaken, after_turn, knowing, newest, seat_of};
+ghost use Rattle.swift_shared_book.specs.Shared.{BeginsTicket, HasPlayed, HasTicket, IsSeatOf, IsAsTaken, RunsAtSeat, after_turn, knowing, newest, seat_of};
 
 use crate::jobs::{TicketedJobs, turn};
 use crate::opened::OpenBook;
@@ -39,8 +40,9 @@ fn jobs_from(jobs: &Vec<Job<Body>>, from: usize) -> &[Job<Body>]
 
 impl BookLock {
     /// Begins the turn of a job in a book that was taken, and gives the book back. The seat by which it was taken has the job's ticket:
-    /// the environment comes back, and the ticket then says so, and comes first (SE-0304). The refusals are those of `Book::begin`, and
-    /// give the book back as it was. So whoever has asked the book something takes it once for both.
+    /// the environment comes back, and the ticket then says so, and comes first (SE-0304). The job runs on the executor of the seat's one
+    /// account, which then says how the executor's turns have begun (our own). The refusals are those of `Book::begin`, and give the book
+    /// back as it was. So whoever has asked the book something takes it once for both.
     pub fn begin(
         &self,
         seat: &mut BookSeat,
@@ -50,7 +52,8 @@ impl BookLock {
         requires untouched { IsAsTaken self.now taken.seat taken.book.value }
         requires job { job.now.body.script ≡ self.now.script }
         requires ticket { HasTicket (job_facts job.now) taken.seat.knows.tickets }
-        ensures ok { IfOk result (λ env. BeginsTicket (job_facts job.now) env taken.seat.knows seat.new.knows) }
+        requires account { RunsAtSeat self.now.script taken.seat.knows (job_facts job.now) }
+        ensures ok { IfOk result (λ env. BeginsTicket (has_last_root taken.book.value.script taken.book.value.log) (job_facts job.now) env taken.seat.knows seat.new.knows) }
         ensures given { IfOk result (λ env. IsEnv (root_count taken.book.value.script) job.now.task taken.book.value.log env) }
         ensures lock { (seat.new.lock ≡ self.now.id) × (seat.new.here ≡ true) }
         ensures err { OnErr result (seat.new ≡ seat_of self.now taken.seat.knows) }

@@ -2,6 +2,7 @@
 
 ghost use Rattle.std.specs.Prelude.{◌≡◌, true, Some, IfSome, IsSome, map};
 ghost use Rattle.swift_history.specs.Jobs.{job_facts};
+ghost use Rattle.swift_history.specs.Orderly.{has_last_root};
 ghost use Rattle.swift_course.specs.Seats.{gathered};
 ghost use Rattle.swift_book_steps.specs.Calls.{facts_of};
 ghost use Rattle.swift_shared_book.specs.Shared.{BeginsTicket, after_turn, newest, seat_of, tickets_view};
@@ -30,9 +31,9 @@ impl BookLock {
     )
         requires name { (K.job ≡ Some (job_facts job.now)) × (K.env ≡ Some env) }
         requires lock { given.seat.lock ≡ self.now.id }
-        requires gives { MayGiveBack given.seat.knows given.seat.taken (facts_of given.book.value) (λ _. BeginsTicket (job_facts job.now) env given.seat.knows) }
+        requires gives { MayGiveBack given.seat.knows given.seat.taken (facts_of given.book.value) (λ taken. BeginsTicket (has_last_root taken.script taken.log) (job_facts job.now) env given.seat.knows) }
         ensures lock { (seat.new.lock ≡ self.now.id) × (seat.new.here ≡ true) }
-        ensures begun { BeginsTicket (job_facts job.now) env given.seat.knows seat.new.knows }
+        ensures begun { IfSome given.seat.taken (λ taken. BeginsTicket (has_last_root taken.script taken.log) (job_facts job.now) env given.seat.knows seat.new.knows) }
     {
         let _task = job.task();
         let _env = env;

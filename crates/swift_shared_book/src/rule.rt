@@ -2,6 +2,7 @@
 
 ghost use Rattle.std.specs.Prelude.{◌≡◌, ℕ, Option, Some, None, IfSome};
 ghost use Rattle.swift_types.specs.declared.env.Env.{Env};
+ghost use Rattle.swift_history.specs.Orderly.{has_last_root};
 ghost use Rattle.swift_history.specs.TurnEnds.{JobFacts};
 ghost use Rattle.swift_known.specs.Views.{BookKnown, no_view};
 ghost use Rattle.swift_course.specs.Reports.{Knows};
@@ -56,7 +57,7 @@ pub struct BookBegins<K> {
 }
 
 impl<K: NamesBegun> UnlockOutcome<BookImage, Known> for BookBegins<K> {
-    ghost then = { λ known _ _ known'. IfSome K.job (λ job. IfSome K.env (λ env. BeginsTicket job env known.view known'.view)) };
+    ghost then = { λ known taken _ known'. IfSome K.job (λ job. IfSome K.env (λ env. BeginsTicket (has_last_root taken.facts.script taken.facts.log) job env known.view known'.view)) };
 }
 
 /// Names what a seat knows after a turn, in proofs alone: the record of the turn is in its view, and the book does not have it.

@@ -1,5 +1,5 @@
 -- One executor more, and one task more, of what a run leaves.
-use Rattle.std.proofs.Common.{◌≡◌, ℕ, suc, ◌+◌, ℤ, List, [], ◌∷◌, ◌++◌, Some, Contains, length, refl, sym, subst, ap, ◌∙◌, arith, add-zero, length-append}
+use Rattle.std.proofs.Common.{◌≡◌, ◌⊎◌, ℕ, suc, ◌+◌, ◌<◌, ◌≤◌, ℤ, List, [], ◌∷◌, ◌++◌, Some, Contains, length, map, refl, sym, subst, ap, ◌∙◌, arith, inl, inr, add-zero, length-append}
 use Rattle.std.proofs.lemmas.List.Elements.{Contains-append_left, Contains-append_right}
 use Rattle.std.specs.declared.vec.Vec.{Vec}
 use Rattle.std.specs.declared.alloc.Global.{Global}
@@ -10,11 +10,11 @@ use Rattle.swift_journal.specs.Records.{RecordView}
 use Rattle.swift_journal.specs.Replay.{replay}
 use Rattle.swift_inbox.specs.Site.{SiteView}
 use Rattle.atomic_table.specs.Seated.{TableId}
-use Rattle.swift_known.specs.Views.{Account, BookKnown}
-use Rattle.swift_course.specs.Reports.{IsAccountedFor}
+use Rattle.swift_known.specs.Views.{Account, BookKnown, TurnOrder, at_rest}
+use Rattle.swift_course.specs.Reports.{AreAtRest, IsAccountedFor}
 use Rattle.swift_course.specs.Seats.{gathered}
 use Rattle.swift_executor.specs.Exec.{site_of}
-use Rattle.swift_executor.specs.Seats.{AccountsFor}
+use Rattle.swift_executor.specs.Seats.{AccountsFor, orders_of}
 use Rattle.swift_executor.specs.State.{ExecStateView, ExecInvariant}
 use Rattle.swift_workers.specs.declared.leave.Parts.{Parts}
 use Rattle.swift_workers.specs.Leaves.{AreReplayed, EachFrom, IsPartReplayed, KeepInvariants, Keeps}
@@ -49,7 +49,8 @@ accounted_push p v e (d ∷ cs) (k ∷ js) (g ∷ fs) c j f are is =
 accounted_more : (p : ScriptView) (v w : BookKnown) (e : ℕ) (journal : List RecordView) (c : CheckpointView) (fields : List (List ℤ)) → IsAccountedFor p v e journal c fields → IsAccountedFor p (gathered v w) e journal c fields
 accounted_more p v w e journal c fields is = record {
   past = is.past;
-  account = Contains-append_left v.accounts w.accounts (record { executor = e; records = is.past ++ journal }) is.account;
+  order = is.order;
+  account = Contains-append_left v.accounts w.accounts (record { executor = e; records = is.past ++ journal; order = is.order }) is.account;
   folded = is.folded;
   replayed = is.replayed;
   fields_are = is.fields_are;
@@ -70,14 +71,31 @@ only_one a = (0, omega arith, refl)
 -- The account of an executor's seat says what is left of the executor, once it is gathered.
 accounted_new : (v w : BookKnown) (s : ExecStateView) → AccountsFor s w → s.fields ≡ replay s.script s.checkpoint.fields s.journal → IsAccountedFor s.script (gathered v w) s.executor s.journal s.checkpoint s.fields
 accounted_new v w s are replayed =
-    let a : Account = record { executor = s.executor; records = are.past ++ s.journal } in
+    let a : Account = record { executor = s.executor; records = are.past ++ s.journal; order = are.order } in
     record {
       past = are.past;
+      order = are.order;
       account = Contains-append_right v.accounts w.accounts a (subst (λ (accounts : List Account). Contains accounts a) (sym are.accounts) (only_one a));
       folded = are.folded;
       replayed = are.replayed;
       fields_are = replayed;
     }
+
+-- The accounts that are at rest are so once one more is gathered, which is at rest too.
+rest_more : (v w : BookKnown) (s : ExecStateView) (many : ℕ) → AreAtRest many v → AccountsFor s w → s.executor ≡ many → orders_of w ≡ at_rest ∷ [] → AreAtRest (many + 1) (gathered v w)
+rest_more v w s many all are is rest e lt = elim (lt_or e many) [
+  | inl less ↦ let x = all e less in (x.0, Contains-append_left v.accounts w.accounts x.0 x.1, x.2, x.3)
+  | inr last ↦
+      let a : Account = record { executor = s.executor; records = are.past ++ s.journal; order = are.order } in
+      let own : are.order ≡ at_rest = first_one are.order at_rest (sym (ap (map (λ (b : Account). b.order)) are.accounts) ∙ rest) in
+      (a, Contains-append_right v.accounts w.accounts a (subst (λ (accounts : List Account). Contains accounts a) (sym are.accounts) (only_one a)), omega (arith, is, last, lt), own)
+]
+  where
+    lt_or : (x y : ℕ) → (x < y) ⊎ (y ≤ x)
+    lt_or x y = grind arith
+
+    first_one : (o p : TurnOrder) → o ∷ [] ≡ p ∷ [] → o ≡ p
+    first_one o p same = cc
 
 -- one thing more, of each of which something holds
 pub each_push : {A : Type 0} (P : ℕ → A → Type 0) (n : ℕ) (xs : List A) (x : A) → EachFrom P n xs → P (n + length xs) x → EachFrom P n (xs ++ x ∷ [])
@@ -92,9 +110,9 @@ one_longer xs x n is = omega (arith, is, length-append xs (x ∷ []))
 
 -- the parts of the executors of a prefix, and of the one after them, whose state this was, and whose seat was gathered
 parts_push : (p : ScriptView) (lock : TableId) (v w : BookKnown) (many : ℕ) (old new : Parts) (s : ExecStateView) (c : CheckpointRoomView) (f : Rows) → AreParts p v many old → site_of lock s ≡ record { script = p; executor = many; book = Some lock }
-    → ExecInvariant s → Keeps s.script s.executor s.fields → AccountsFor s w → c.view ≡ s.checkpoint → rows_of f.items ≡ s.fields → new.checkpoints.items ≡ old.checkpoints.items ++ c ∷ []
+    → ExecInvariant s → Keeps s.script s.executor s.fields → AccountsFor s w → orders_of w ≡ at_rest ∷ [] → c.view ≡ s.checkpoint → rows_of f.items ≡ s.fields → new.checkpoints.items ≡ old.checkpoints.items ++ c ∷ []
     → new.journals.items ≡ old.journals.items ++ s.journal ∷ [] → new.fields.items ≡ old.fields.items ++ f ∷ [] → AreParts p (gathered v w) (many + 1) new
-parts_push p lock v w many old new s c f are site is keeps known checkpoint fields cs js fs =
+parts_push p lock v w many old new s c f are site is keeps known rest checkpoint fields cs js fs =
     let both : BookKnown = gathered v w in
     let script : s.script ≡ p = ap (λ (x : SiteView). x.script) site in
     let executor : s.executor ≡ many = ap (λ (x : SiteView). x.executor) site in
@@ -125,11 +143,12 @@ parts_push p lock v w many old new s c f are site is keeps known checkpoint fiel
       journals = ap length js ∙ one_longer old.journals.items s.journal many are.journals;
       checkpoints = ap length cs ∙ one_longer old.checkpoints.items c many are.checkpoints;
       fields = ap length fs ∙ one_longer old.fields.items f many are.fields;
+      rest = rest_more v w s many are.rest known executor rest;
     }
 
 -- the parts of one more executor, for a seat that knows what was gathered
 pub parts_gathered : (p : ScriptView) (lock : TableId) (v w u : BookKnown) (many : ℕ) (old new : Parts) (s : ExecStateView) (c : CheckpointRoomView) (f : Rows) → u ≡ gathered v w → AreParts p v many old → site_of lock s ≡ record { script = p; executor = many; book = Some lock }
-    → ExecInvariant s → Keeps s.script s.executor s.fields → AccountsFor s w → c.view ≡ s.checkpoint → rows_of f.items ≡ s.fields → new.checkpoints.items ≡ old.checkpoints.items ++ c ∷ []
+    → ExecInvariant s → Keeps s.script s.executor s.fields → AccountsFor s w → orders_of w ≡ at_rest ∷ [] → c.view ≡ s.checkpoint → rows_of f.items ≡ s.fields → new.checkpoints.items ≡ old.checkpoints.items ++ c ∷ []
     → new.journals.items ≡ old.journals.items ++ s.journal ∷ [] → new.fields.items ≡ old.fields.items ++ f ∷ [] → AreParts p u (many + 1) new
-parts_gathered p lock v w u many old new s c f same are site is keeps known checkpoint fields cs js fs =
-    subst (λ (x : BookKnown). AreParts p x (many + 1) new) (sym same) (parts_push p lock v w many old new s c f are site is keeps known checkpoint fields cs js fs)
+parts_gathered p lock v w u many old new s c f same are site is keeps known rest checkpoint fields cs js fs =
+    subst (λ (x : BookKnown). AreParts p x (many + 1) new) (sym same) (parts_push p lock v w many old new s c f are site is keeps known rest checkpoint fields cs js fs)

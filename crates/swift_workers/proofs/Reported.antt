@@ -12,8 +12,9 @@ use Rattle.swift_journal.specs.Records.{RecordView}
 use Rattle.swift_events.specs.declared.event.Event.{Event}
 use Rattle.swift_events.specs.declared.life.Origin.{Origin}
 use Rattle.swift_history.specs.Histories.{IsLegal}
+use Rattle.swift_history.specs.Orderly.{IsOrderlyLegal}
 use Rattle.swift_known.specs.Views.{BookFacts, BookKnown}
-use Rattle.swift_course.specs.Reports.{IsAccountedFor, IsReportOf, Knows, RunsAreLegal}
+use Rattle.swift_course.specs.Reports.{AreAtRest, IsAccountedFor, IsReportOf, Knows, RunsAreLegal, RunsAreOrderly}
 use Rattle.swift_report.specs.declared.report.Report.{Report}
 use Rattle.swift_certificate.specs.Reports.{report_view}
 use Rattle.swift_workers.specs.declared.leave.Parts.{Parts}
@@ -95,3 +96,15 @@ is_legal laws facts p v r parts knows script maker are js cs fs log ends =
     let parts_of = subst (λ (x : ScriptView). AreParts x v (executor_count x) parts) back are in
     let ends_of = subst (λ (x : ScriptView). AreEndings (root_count x) r.log.events r.endings.items) back ends in
     subst (λ (x : ScriptView). IsLegal x (report_view r)) script (laws facts v (report_view r) knows.1 maker_of (reported facts v r parts parts_of js cs fs log ends_of))
+
+-- Where each account is at rest too, its blocks are in order.
+pub is_orderly : (laws : RunsAreOrderly) (facts : BookFacts) (p : ScriptView) (v : BookKnown) (r : Report) (parts : Parts) → Knows v facts → facts.script ≡ p → v.maker ≡ Some (record { executors = executor_count p; roots = root_count p })
+    → AreParts p v (executor_count p) parts → r.journals ≡ parts.journals → r.checkpoints ≡ parts.checkpoints → r.fields ≡ parts.fields
+    → r.log.events ≡ facts.log → AreEndings (root_count p) r.log.events r.endings.items → IsOrderlyLegal p (report_view r)
+is_orderly laws facts p v r parts knows script maker are js cs fs log ends =
+    let back = sym script in
+    let maker_of : v.maker ≡ Some (record { executors = executor_count facts.script; roots = root_count facts.script }) = subst (λ (x : ScriptView). v.maker ≡ Some (record { executors = executor_count x; roots = root_count x })) back maker in
+    let parts_of = subst (λ (x : ScriptView). AreParts x v (executor_count x) parts) back are in
+    let ends_of = subst (λ (x : ScriptView). AreEndings (root_count x) r.log.events r.endings.items) back ends in
+    let rest : AreAtRest (executor_count facts.script) v = parts_of.rest in
+    subst (λ (x : ScriptView). IsOrderlyLegal x (report_view r)) script (laws facts v (report_view r) knows.1 maker_of (reported facts v r parts parts_of js cs fs log ends_of) rest)

@@ -7,7 +7,7 @@ use Rattle.swift_script.specs.Scripts.{ScriptView}
 use Rattle.swift_journal.specs.Checkpoints.{CheckpointRoomView}
 use Rattle.swift_journal.specs.Records.{RecordView}
 use Rattle.swift_known.specs.Views.{BookKnown}
-use Rattle.swift_course.specs.Reports.{IsAccountedFor}
+use Rattle.swift_course.specs.Reports.{AreAtRest, IsAccountedFor}
 use Rattle.swift_workers.specs.declared.leave.Parts.{Parts}
 use Rattle.swift_workers.specs.Leaves.{AreReplayed, KeepInvariants}
 
@@ -26,3 +26,4 @@ pub record AreParts (p : ScriptView) (v : BookKnown) (many : ℕ) (parts : Parts
   pub journals : length parts.journals.items ≡ many
   pub checkpoints : length parts.checkpoints.items ≡ many
   pub fields : length parts.fields.items ≡ many
+  pub rest : AreAtRest many v

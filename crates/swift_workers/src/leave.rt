@@ -1,12 +1,14 @@
 //! What a run leaves.
 
-ghost use Rattle.std.specs.Prelude.{◌≡◌, ◌↔◌, ℕ, ◌+◌, Some, None, length, IfOk, IfSome, IsOk, IsTrue, OnOk};
+ghost use Rattle.std.specs.Prelude.{◌≡◌, ◌↔◌, ℕ, ◌+◌, Some, None, [], ◌∷◌, length, IfOk, IfSome, IsOk, IsTrue, OnOk};
 ghost use Rattle.swift_script.specs.Scripts.{ScriptView, executor_count, root_count};
 ghost use Rattle.swift_events.specs.Events.{tasks_of};
 ghost use Rattle.swift_history.specs.Histories.{IsLegal};
+ghost use Rattle.swift_history.specs.Orderly.{IsOrderlyLegal};
 ghost use Rattle.swift_certificate.specs.Reports.{report_view};
 ghost use Rattle.swift_executor.specs.Exec.{site_of};
-ghost use Rattle.swift_executor.specs.Seats.{IsSeatFor};
+ghost use Rattle.swift_executor.specs.Seats.{IsSeatFor, orders_of};
+ghost use Rattle.swift_known.specs.Views.{at_rest};
 ghost use Rattle.swift_shared_book.specs.Shared.{IsSeatOf};
 ghost use Rattle.swift_workers.specs.CrewInside.{AreAtSites};
 ghost use Rattle.swift_workers.specs.Leaves.{AreEndings, AreReplayed, IsEnding, KeepInvariants};
@@ -15,7 +17,7 @@ ghost use Rattle.swift_workers.specs.PartsInside.{AreParts};
 use crate::fault::Halt;
 use std::alloc::Global;
 use std::sync::Wait;
-use swift_course::laws::runs_are_legal;
+use swift_course::laws::{runs_are_legal, runs_are_orderly};
 use swift_events::Origin;
 use swift_executor::{Closed, Exec, ExecState};
 use swift_job::spend_all;
@@ -142,18 +144,20 @@ impl Parts {
 }
 
 // The state of an executor whose jobs have all been run, and the seat that knows its turns. A job that was counted and not run, or that
-// still lies in the inbox, is left.
+// still lies in the inbox, is left. Where a turn was put back once it had begun, the run was given up.
 fn close<R: Wait>(rt: &R, exec: Exec) -> Result<(ExecState, BookSeat), Halt>
     ensures site { IfOk result (λ r. site_of r.1.lock r.0 ≡ exec.inbox.site) }
     ensures free { IfOk result (λ r. r.0.chosen ≡ None) }
     ensures seat { IfOk result (λ r. IsSeatFor r.0 r.1) }
+    ensures rest { IfOk result (λ r. orders_of r.1.knows ≡ at_rest ∷ []) }
 {
     let Closed {
         pending,
         state,
         inbox,
+        is_orderly,
     } = exec.close(rt);
-    let is_left = pending > 0 || !inbox.is_empty();
+    let is_left = pending > 0 || !inbox.is_empty() || !is_orderly;
     spend_all(inbox);
     let Some((state, _taker, seat)) = state else {
         return Err(Halt::Unfinished);
@@ -176,6 +180,7 @@ fn note_state(
 ) -> Result<(), Halt>
     requires free { state.chosen ≡ None }
     requires known { IsSeatFor state own }
+    requires rest { orders_of own.knows ≡ at_rest ∷ [] }
     requires lock { own.lock ≡ book.now.id }
     requires seat { IsSeatOf book.now seat.old }
     ensures seat { IsSeatOf book.now seat.new }
@@ -218,8 +223,8 @@ fn parts_of<R: Wait>(
     Ok(parts)
 }
 
-/// The report of a run that was played, or was given up, by the seat that has opened all accounts and added all roots. It is legal: the
-/// seats of the executors, gathered in that one, and the book say so, and no turn is followed again. A book that was not given back is
+/// The report of a run that was played, or was given up, by the seat that has opened all accounts and added all roots. It is legal, and
+/// its blocks are in order: the seats of the executors, gathered in that one, and the book say so, and no turn is followed again. A book that was not given back is
 /// `Unfinished`.
 pub fn report_of<R: Wait>(
     rt: &R,
@@ -237,6 +242,7 @@ pub fn report_of<R: Wait>(
     requires maker { OnOk played (seat.knows.maker ≡ Some (record { executors = executor_count script.now; roots = root_count script.now })) }
     ensures played { OnOk result (IsOk played) }
     ensures legal { IfOk result (λ r. IsLegal script.now (report_view r)) }
+    ensures orderly { IfOk result (λ r. IsOrderlyLegal script.now (report_view r)) }
     ensures lawful { IfOk result (λ r. AreReplayed script.now 0 r.checkpoints.items r.journals.items r.fields.items) }
     ensures invariants { IfOk result (λ r. KeepInvariants script.now 0 r.fields.items) }
     ensures journals { IfOk result (λ r. length r.journals.items ≡ executor_count script.now) }
@@ -246,6 +252,7 @@ pub fn report_of<R: Wait>(
 {
     played?;
     runs_are_legal();
+    runs_are_orderly();
     let parts = parts_of(rt, alloc, &book, &mut seat, execs)?;
     let Some(book) = book.close(seat) else {
         return Err(Halt::Unfinished);

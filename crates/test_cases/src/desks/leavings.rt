@@ -66,6 +66,7 @@ impl Leavings {
             pending,
             state,
             inbox,
+            is_orderly: _,
         } = door.into_exec()?.close(rt);
         let inbox = Jobs { list: inbox };
         let (state, _taker, _seat) = state?;

@@ -2,14 +2,17 @@ use Rattle.std.proofs.Common.{◌≡◌, Some, Option, IfSome, ◌++◌, ◌∷�
 use Rattle.std.proofs.lemmas.Option.{same_Some}
 use Rattle.swift_events.specs.declared.event.Event.TheVariants.{Begin as Begins_event}
 use Rattle.swift_tasks.specs.Books.{BookView}
-use Rattle.swift_shared_book.specs.Shared.{seat_of}
-use Rattle.swift_executor.specs.Seats.{IsSeatFor}
+use Rattle.swift_known.specs.Views.{BookKnown}
+use Rattle.swift_script.specs.Scripts.{ScriptView}
+use Rattle.swift_history.specs.Jobs.{job_facts}
+use Rattle.swift_shared_book.specs.Shared.{RunsAtSeat, seat_of}
+use Rattle.swift_executor.specs.Seats.{IsSeatFor, orders_of}
 use Rattle.swift_executor.specs.State.{BeginsTurn, ChosenView, ExecStateView, HasChosen, IsChosen, ExecInvariant, IsPicked, PutsBack, begun}
 use Rattle.swift_executor.specs.StateInside.{chosen_at, chosen_of, chosen_view}
 use Rattle.swift_executor.specs.declared.chosen.Chosen.{Chosen}
 use Rattle.swift_executor.specs.declared.chosen.ChosenStage.TheVariants.{Begun}
 use Rattle.swift_executor.proofs.ChosenJob.{seen}
-use Rattle.swift_executor.proofs.SeatKept.{back_knows, began_knows, picked_has_ticket}
+use Rattle.swift_executor.proofs.SeatKept.{back_knows, began_knows, orders_begun, picked_has_ticket, picked_runs}
 use Rattle.swift_executor.proofs.StateKept.{stage_keeps, stage_picked}
 use Rattle.swift_executor.proofs.state.ExecState.start_locked.Goals as goal
 
@@ -26,7 +29,11 @@ begin_locked-requires c =
       job = (
         has.0.job,
         (seen x.played x.chosen.arrival x.chosen.stage x.chosen.job has.0 has.1).job,
-        (was.belongs.script_is ∙ ap (λ (v : ExecStateView). v.script) c.self.view_is ∙ sym c.requires.script, picked_has_ticket s seat has.0 known has.1 (stage_picked has.0.stage has.2)),
+        (
+          was.belongs.script_is ∙ ap (λ (v : ExecStateView). v.script) c.self.view_is ∙ sym c.requires.script,
+          picked_has_ticket s seat has.0 known has.1 (stage_picked has.0.stage has.2),
+          subst (λ (p : ScriptView). RunsAtSeat p seat.knows (job_facts has.0.job)) (ap (λ (v : ExecStateView). v.script) c.self.view_is ∙ sym c.requires.script) (picked_runs s seat has.0.job known was.belongs),
+        ),
       );
     }
 
@@ -76,7 +83,7 @@ returns-in-Ok-clause-known c =
     let new : chosen_of x.played c.begin_locked.new.chosen ≡ Some (record chosen { stage = begun c.args.worker h.2.env }) =
     ap (chosen_of x.played) h.2.new_is ∙ ap (chosen_at x.played x.chosen.arrival (Begun c.args.worker h.2.env)) h.1 in
     subst (λ (o : Option ChosenView). IsSeatFor (record s { chosen = o }) c.begin_locked.new.seat) (sym new)
-    (began_knows s chosen c.args.worker h.2.env seat c.begin_locked.new.seat known at (stage_picked chosen.stage was) h.2.ticket c.in-Ok.ensures.seat.1)
+    (began_knows s chosen _ c.args.worker h.2.env seat c.begin_locked.new.seat known at (stage_picked chosen.stage was) h.2.ticket c.in-Ok.ensures.seat.1)
 
 pub returns-in-Ok-clause-ok : goal.returns-in-Ok-clause-ok
 returns-in-Ok-clause-ok c =
@@ -123,3 +130,8 @@ returns-in-Err-clause-back c =
     let s : ExecStateView = record { script = x.home.script; executor = x.home.executor; ready = x.ready; chosen = chosen_of x.played x.chosen; journal = x.journal; checkpoint = x.checkpoint.view; fields = x.played.fields.before } in
     let same : record s { chosen = chosen_of x.played c.begin_locked.new.chosen } ≡ c.args.self.now = ap (λ (o : Chosen). record s { chosen = chosen_of x.played o }) c.in-Err.ensures.err.0 ∙ c.self.view_is in
     subst (λ (v : ExecStateView). HasChosen v (PutsBack v c.put_back.new.self)) same c.put_back.ensures
+
+pub returns-in-Ok-clause-order : goal.returns-in-Ok-clause-order
+returns-in-Ok-clause-order c =
+    let t = c.in-Ok.ensures.ok.2.ticket in
+    ap (λ (v : BookKnown). orders_of v) t.4 ∙ orders_begun _ c.args.taken.seat.knows.accounts

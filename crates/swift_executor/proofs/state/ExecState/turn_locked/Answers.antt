@@ -11,12 +11,12 @@ use Rattle.swift_history.specs.Jobs.{job_facts}
 use Rattle.swift_executor.specs.PlayingInside.{Applied}
 use Rattle.swift_executor.specs.FieldsInside.{FieldsAre}
 use Rattle.swift_executor.specs.State.{ChosenView, EndsTurn, ExecStateView, HasChosen, IsChosen, ExecInvariant, IsPlayed, PutsBack}
-use Rattle.swift_executor.specs.Seats.{IsSeatFor}
+use Rattle.swift_executor.specs.Seats.{IsSeatFor, orders_of}
 use Rattle.swift_executor.specs.StateInside.{chosen_at, chosen_of, chosen_view, stage_of}
 use Rattle.swift_executor.specs.declared.chosen.PlayedTurn.{PlayedTurn}
 use Rattle.swift_executor.proofs.ChosenJob.{played_stage, runs, seen}
 use Rattle.swift_executor.proofs.Ended.{ended, unchanged}
-use Rattle.swift_executor.proofs.SeatKept.{back_knows}
+use Rattle.swift_executor.proofs.SeatKept.{back_knows, orders_applied}
 use Rattle.swift_executor.proofs.SeatTurns.{applied as seat_applied, written}
 use Rattle.swift_executor.proofs.state.ExecState.turn_locked.Goals as goal
 
@@ -176,3 +176,8 @@ returns-in_default-clause-known g c =
     ap (λ j. record s { journal = j; checkpoint = c.prepare.new.checkpoint.view }) c.in_default.ensures.err ∙ ap (λ v. record s { checkpoint = v }) c.in_default.ensures.same ∙ c.self.view_is in
     let back = subst (λ (v : ExecStateView). HasChosen v (PutsBack v c.put_back.new.self)) same c.put_back.ensures in
     back_knows c.args.self.now c.put_back.new.self c.args.seat.now c.requires.known back
+
+pub returns-in-Ok-apply_locked-clause-order : goal.returns-in-Ok-apply_locked-clause-order
+returns-in-Ok-apply_locked-clause-order g c =
+    let seat = c.in-Ok-apply_locked.ensures.seat in
+    ap (λ x. orders_of x.knows) seat.2 ∙ orders_applied seat.0 c.args.seat.now.knows.accounts

@@ -1,7 +1,7 @@
 use Rattle.std.proofs.Common.{rules, refl, ◌≡◌, ◌+◌, [], ◌∷◌, ◌++◌, sym, subst, ℕ}
 use Rattle.std.specs.Arc.{arc_value}
 use Rattle.swift_history.specs.Histories.{added}
-use Rattle.swift_digest.specs.Explored.{IsOrderly}
+use Rattle.swift_history.specs.Orderly.{IsOrderly}
 use Rattle.swift_explorer.specs.HistoryInside.{IsLed, IsMissing, rows_at}
 use Rattle.swift_explorer.proofs.Orderly.{add_orderly, allowed_push}
 use Rattle.swift_explorer.proofs.Ran.{yes_is}

@@ -1,7 +1,7 @@
 use Rattle.std.proofs.Common.{rules, [], ◌≡◌, Some, ◌∙◌, sym, refl}
 use Rattle.std.specs.Arc.{arc_value}
 use Rattle.swift_history.specs.Histories.{begun}
-use Rattle.swift_digest.specs.Explored.{IsOrderly}
+use Rattle.swift_history.specs.Orderly.{IsOrderly}
 use Rattle.swift_explorer.specs.HistoryInside.{MayBegin, given_at}
 use Rattle.swift_explorer.proofs.Orderly.{allowed_push, begin_orderly}
 use Rattle.swift_explorer.proofs.Ran.{yes_is}
