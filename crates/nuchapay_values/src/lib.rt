@@ -28,4 +28,4 @@ mod words;
 
 pub use explained::{Explained, explain_turn};
 pub use notes::write_change;
-pub use report::{report_with_values, turn_notes};
+pub use report::report_with_values;

@@ -85,37 +85,3 @@ pub fn report_with_values(
     out.extend_from_slice(&text[at..])?;
     Ok(out)
 }
-
-/// For each turn of an executor's journal, in order, the lines that `report_with_values` has below it; empty where it changed nothing. At
-/// the cost of `turn_values`, and of a look over the script's text for each actor.
-///
-/// # Errors
-///
-/// `AllocError` where there is no memory for it.
-pub fn turn_notes(
-    alloc: Global,
-    script: &Script,
-    executor: ExecId,
-    checkpoint: &Checkpoint,
-    journal: &Journal,
-) -> Result<Vec<Vec<u8>>, AllocError> {
-    let printed = Words::new(alloc, script.printed())?;
-    let invariants = invariants_of(alloc, script, &printed, executor)?;
-    let values = turn_values(alloc, script, checkpoint.fields(), journal)?;
-    let mut fields = copy_of(alloc, checkpoint.fields())?;
-    let mut notes = Vec::with_capacity(alloc, values.len())?;
-    for turn in &values {
-        let mut note = Vec::new(alloc);
-        write_notes(
-            &mut note,
-            alloc,
-            script,
-            executor,
-            &invariants,
-            &mut fields,
-            turn,
-        )?;
-        notes.push(note)?;
-    }
-    Ok(notes)
-}
