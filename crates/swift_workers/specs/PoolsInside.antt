@@ -10,7 +10,7 @@ use Rattle.swift_word.specs.declared.word.PendingLeft.TheVariants.{Idle}
 use Rattle.swift_workers.specs.declared.fault.Halt.{Halt}
 use Rattle.swift_workers.specs.declared.fault.Halt.TheVariants.{Memory}
 use Rattle.swift_workers.specs.declared.pool.WorkerNext.{WorkerNext}
-use Rattle.swift_workers.specs.declared.pool.WorkerNext.TheVariants.{Visit, Pause, Stop}
+use Rattle.swift_workers.specs.declared.pool.WorkerNext.TheVariants.{Visit, Pause, Rest, Stop}
 use Rattle.swift_workers.specs.declared.pool.Pool.{Pool}
 
 -- the first cause, once a worker has come to this
@@ -37,10 +37,11 @@ pub record IsKeptInPool (old new : Pool) : Type 0 where
   pub halt : new.halt ≡ old.halt
 
 -- What a worker is told that may visit these executors, and what is left. It takes the oldest token of such a one. Where there is none, it
--- stops if there is no token at all and no worker under way, and pauses if not. Where the run is given up, it stops.
+-- stops if there is no token at all and no worker under way, and pauses if not. Where the run is given up, it stops. It is not told to rest.
 abbrev pub IsNext : (ExecId → Type 0) → Pool → WorkerNext → Pool → Type 0
 IsNext may old (Visit on) new = (old.halt ≡ None) × ((place : ℕ) × IsTakenFromPool old place on new × may on × All (λ t. may t → ⊥) (take place old.tokens.items))
 IsNext may old Pause new = (old.halt ≡ None) × All (λ t. may t → ⊥) old.tokens.items × ((length old.tokens.items ≢ 0) ⊎ (old.under_way ≢ 0)) × IsKeptInPool old new
+IsNext may old Rest new = ⊥
 IsNext may old Stop new = ((old.halt ≢ None) ⊎ ((length old.tokens.items ≡ 0) × (old.under_way ≡ 0))) × IsKeptInPool old new
 
 -- A worker has finished what followed from its token, and these tokens come behind the others.

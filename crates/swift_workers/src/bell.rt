@@ -44,6 +44,8 @@ impl Word for Rest {
 pub struct Bell {
     rest: AtomicCell<Rest>,
     rung: EventCount,
+    // Counted up to let time pass.
+    steps: AtomicCell<u64>,
 }
 
 impl Bell {
@@ -52,6 +54,7 @@ impl Bell {
         Bell {
             rest: AtomicCell::new(Rest::Awake),
             rung: EventCount::new(),
+            steps: AtomicCell::new(0),
         }
     }
 
@@ -65,6 +68,16 @@ impl Bell {
         // In most turns it is awake as before, and a line that is only read stays with each reader.
         if self.rest.load() != rest {
             self.rest.store(rest);
+        }
+    }
+
+    /// Lets as much time pass as so many atomic steps take on a line of the worker's own, or less where the bell is rung.
+    pub fn pass(&self, steps: u32) {
+        for _ in 0..steps {
+            if self.rest() != Rest::Waits {
+                return;
+            }
+            let _before = self.steps.fetch_add(1);
         }
     }
 

@@ -34,6 +34,10 @@ pub struct Hand {
     pub worker: u32,
     pub desks: Vec<Desk>,
     pub tokens: Vec<ExecId>,
+    /// The executor that it visits, or has visited.
+    pub at: ExecId,
+    /// Whether its turn there has sent a job to another executor.
+    pub is_link: bool,
     pub jobs: TicketedJobs,
 }
 
@@ -111,6 +115,8 @@ pub fn others_of(
             worker,
             desks,
             tokens,
+            at: ExecId(0),
+            is_link: false,
             jobs,
         })?;
     }

@@ -3,6 +3,8 @@
 
 // Where one worker waits.
 mod bell;
+// Whether a worker's turns are links of chains of calls.
+mod chain;
 
 // The executors of a script, and the desks of each worker.
 mod crew;

@@ -1,6 +1,6 @@
 //! The tokens of executors that have jobs.
 
-ghost use Rattle.std.specs.Prelude.{◌≡◌, ℕ, ◌-◌, ◌<◌, ◌++◌, ◌∷◌, ◌↔◌, [], All, Err, None, IfNone, IfSome, IsSomeAnd, IsTrue, OnOk, OnErr, length, slice_get, take};
+ghost use Rattle.std.specs.Prelude.{◌≡◌, ◌≢◌, ℕ, ◌-◌, ◌<◌, ◌++◌, ◌∷◌, ◌↔◌, [], All, Err, None, IfNone, IfSome, IsSomeAnd, IsTrue, OnOk, OnErr, length, slice_get, take};
 ghost use Rattle.swift_workers.specs.declared.pool.Pool.{Pool};
 ghost use Rattle.swift_workers.specs.PoolsInside.{IsNext, IsOver, IsTakenFromPool, MayVisit, first_cause};
 
@@ -29,6 +29,8 @@ pub enum WorkerNext {
     Visit(ExecId),
     /// No token is one that it may run, but a token is left or a worker is under way.
     Pause,
+    /// Tokens are left, and another worker will see to each of them. A pool alone never says so.
+    Rest,
     Stop,
 }
 
@@ -52,6 +54,18 @@ fn place_for(tokens: &VecDeque<ExecId>, script: &Script, workers: u32, worker: u
         }
     }
     None
+}
+
+// Whether each token is one that this worker may run.
+fn are_for(tokens: &VecDeque<ExecId>, script: &Script, workers: u32, worker: u32) -> bool
+    ensures { IsTrue result → All (MayVisit script.now workers worker) tokens.now.items }
+{
+    for k in 0..tokens.len() {
+        if !is_for(script, workers, worker, tokens[k]) {
+            return false;
+        }
+    }
+    true
 }
 
 // Whether the oldest token is one that this worker may run.
@@ -125,6 +139,15 @@ impl Pool {
         }
     }
 
+    /// Whether there are tokens, this worker may run the executor of each, and the run is not given up.
+    pub fn is_all_for(&self, script: &Script, workers: u32, worker: u32) -> bool
+        ensures { IsTrue result → (self.now.halt ≡ None) × (self.now.tokens.items ≢ []) × All (MayVisit script.now workers worker) self.now.tokens.items }
+    {
+        self.halt.is_none()
+            && !self.tokens.is_empty()
+            && are_for(&self.tokens, script, workers, worker)
+    }
+
     /// How many tokens there are.
     pub fn token_count(&self) -> usize
         ensures { result ≡ length self.now.tokens.items }
@@ -168,8 +191,8 @@ impl Pool {
         }
     }
 
-    // A worker has finished what followed from its token, and these tokens go behind the others. Out of memory the run is given up.
-    fn end_turn(&mut self, tokens: &[ExecId], done: Result<(), Halt>)
+    /// A worker has finished what followed from its token, and these tokens go behind the others. Out of memory the run is given up.
+    pub fn end_turn(&mut self, tokens: &[ExecId], done: Result<(), Halt>)
         ensures { IsOver self.old tokens.now done self.new }
     {
         self.finish(done);

@@ -74,6 +74,9 @@ fn send<R: Wait, G: Gate>(
     ensures jobs { hand.new.jobs ≡ hand.old.jobs }
 {
     let (on, was) = put(rt, crew, &mut hand.desks, job, gate)?;
+    if on != hand.at {
+        hand.is_link = true;
+    }
     if was == BeforeCount::Idle {
         // Where there is no memory for it the token is lost, and the run is given up: no executor is visited any more.
         hand.tokens.push(on)?;

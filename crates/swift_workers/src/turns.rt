@@ -6,6 +6,7 @@ ghost use Rattle.swift_tasks.specs.Books.{IsJobOf};
 ghost use Rattle.swift_workers.specs.CrewInside.{AreAtSites, AreDesksOf, IsHandOf};
 ghost use Rattle.swift_workers.specs.PoolsInside.{left_after};
 
+use crate::chain::Chain;
 use crate::crew::{Crew, Hand};
 use crate::fault::Halt;
 use crate::pool::WorkerNext;
@@ -74,6 +75,8 @@ fn turn_at<R: Wait, G: Gate>(
 {
     // Those of the turn before have been put.
     hand.tokens.clear();
+    hand.at = on;
+    hand.is_link = false;
     let left = visit(rt, cx, crew, hand, on, gate)?;
     if left == PendingLeft::More {
         hand.tokens.push(on)?;
@@ -98,17 +101,22 @@ fn drain<R: Wait, G: Gate>(rt: &R, cx: &mut Context<'_>, crew: Crew<'_>, hand: &
         ..
     } = crew;
     let worker = hand.worker;
+    let mut chain = Chain::new();
     let mut next = pool.next(rt, script, workers, worker);
     for _ in 0..u64::MAX {
         match next {
             WorkerNext::Stop => return,
             WorkerNext::Pause => {
-                pool.wait(rt, worker);
-                next = pool.next(rt, script, workers, worker);
+                next = pool.pause(rt, script, workers, worker);
+            }
+            WorkerNext::Rest => {
+                next = pool.rest(rt, script, workers, worker);
+                chain.end_rest(matches!(next, WorkerNext::Visit(_)));
             }
             WorkerNext::Visit(on) => {
                 let done = turn_at(rt, cx, crew, hand, on, gate);
-                next = pool.turn_over(rt, &hand.tokens, done, script, workers, worker);
+                chain.note(hand.is_link);
+                next = pool.turn_over(rt, &hand.tokens, done, script, workers, worker, chain);
                 if done.is_err() {
                     return;
                 }

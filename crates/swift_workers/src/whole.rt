@@ -30,6 +30,7 @@ use swift_report::Report;
 use swift_script::Script;
 use swift_shared_book::{BookLock, BookSeat};
 use swift_tasks::Book;
+use swift_types::ExecId;
 use swift_types::limits::WORKERS;
 
 /// Runs a script to its end on one to eight threads, and leaves the report of the run (SE-0304 for tasks, SE-0392 for executors
@@ -40,7 +41,8 @@ use swift_types::limits::WORKERS;
 /// An executor with jobs has a token, until a worker takes it. A worker takes the oldest token of an executor that it may run,
 /// runs one turn there, and sends the jobs that the turn made. Then the token goes behind the others where more is pending, and
 /// after it one for each executor that was idle. A pinned executor is run by one worker alone. A worker that finds no such token sleeps
-/// while a token is left or another worker is under way, and else stops. It stops, too, once the run is given up. The roots' jobs
+/// while a token is left or another worker is under way, and else stops. It may also sleep while others run short turns that call each
+/// other's actors, and one of them may run each token. It stops, too, once the run is given up. The roots' jobs
 /// are sent first, as the text declares them; then the workers start. With one worker a run is determined. `run` returns when
 /// each thread that it made has ended.
 ///
@@ -100,6 +102,8 @@ where
         worker: 0,
         desks,
         tokens: Vec::new(alloc),
+        at: ExecId(0),
+        is_link: false,
         jobs: book.no_jobs(alloc, &mut seat),
     };
     let played = play(
