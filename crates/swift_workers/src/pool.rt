@@ -141,11 +141,17 @@ impl Pool {
 
     /// Whether there are tokens, this worker may run the executor of each, and the run is not given up.
     pub fn is_all_for(&self, script: &Script, workers: u32, worker: u32) -> bool
-        ensures { IsTrue result → (self.now.halt ≡ None) × (self.now.tokens.items ≢ []) × All (MayVisit script.now workers worker) self.now.tokens.items }
+        ensures halt { IsTrue result → self.now.halt ≡ None }
+        ensures some { IsTrue result → self.now.tokens.items ≢ [] }
+        ensures all { IsTrue result → All (MayVisit script.now workers worker) self.now.tokens.items }
     {
-        self.halt.is_none()
-            && !self.tokens.is_empty()
-            && are_for(&self.tokens, script, workers, worker)
+        if self.halt.is_some() {
+            return false;
+        }
+        if self.tokens.is_empty() {
+            return false;
+        }
+        are_for(&self.tokens, script, workers, worker)
     }
 
     /// How many tokens there are.

@@ -1,4 +1,4 @@
-use Rattle.std.proofs.Common.{rules, ◌≡◌, ◌∙◌, List, length, refl, sym, subst, ap, arith}
+use Rattle.std.proofs.Common.{rules, ◌≡◌, ◌∙◌, false, List, length, refl, sym, subst, ap, arith}
 use Rattle.swift_workers.specs.declared.crew.Hand.{Hand}
 use Rattle.swift_workers.specs.CrewInside.{AreHandsOf, IsHandOf}
 use Rattle.swift_workers.specs.Leaves.{EachFrom}
@@ -12,7 +12,7 @@ loop-worker-preserved c =
     let execs = c.args.execs.now in
     let hands = c.loop-worker.hands.items in
     let many = c.loop-worker.invariant.many in
-    let next : Hand = record { worker = c.loop-worker.worker; desks = c.in_ok-desks.desks; tokens = c.new-tokens.result; jobs = c.no_jobs-jobs.result } in
+    let next : Hand = record { worker = c.loop-worker.worker; desks = c.in_ok-desks.desks; tokens = c.new-tokens.result; at = record { 0 = 0 }; is_link = false; jobs = c.no_jobs-jobs.result } in
     let is : IsHandOf b execs next = record { desks = c.in_ok-desks.ensures.others; book = ap (λ j. j.book) c.no_jobs-jobs.ensures.none; none = ap (λ j. j.jobs) c.no_jobs-jobs.ensures.none } in
     let longer = ap length c.in_ok-push.ensures.items in
     let by_one = one_longer hands next (length hands) refl in
