@@ -7,13 +7,13 @@ use Rattle.swift_executor.proofs.run.start_one.Goals as goal
 
 pub returns-clause-begun : goal.returns-clause-begun
 returns-clause-begun c =
-    let same : c.deref.result.now ≡ c.args.taken.book.value = c.deref.ensures.value in
+    let same : c.deref.result.now ≡ c.args.taken.book.value = c.deref.ensures in
     map_ok c.start_locked.result _ _
-    (λ is r. is ∙ begun_in_order _ _ (ap (λ (b : BookView). has_last_root b.script b.log) (sym same) ∙ c.stays_orderly.ensures.there r) (c.requires.order (c.stays_orderly.ensures.before r)))
+    (λ is r. is ∙ begun_in_order _ _ (ap (λ (b : BookView). has_last_root b.script b.log) (sym same) ∙ c.stays_orderly-held.ensures.there r) (c.requires.order (c.stays_orderly-held.ensures.before r)))
     c.start_locked.ensures.order
 
 pub returns-clause-back : goal.returns-clause-back
 returns-clause-back c =
     map_err c.start_locked.result _ _
-    (λ is r. ap (λ s. orders_of s.knows) is ∙ c.requires.order (c.stays_orderly.ensures.before r))
+    (λ is r. ap (λ s. orders_of s.knows) is ∙ c.requires.order (c.stays_orderly-held.ensures.before r))
     c.start_locked.ensures.same
