@@ -9,3 +9,4 @@ mod Ran
 mod Used
 mod Paths
 mod Sound
+mod SameMoves

@@ -43,7 +43,7 @@ pub run_step : (script : ScriptView) (blocks : List Block) (x y z : SearchedHist
     → body ≡ record g.body { task = record g.body.task { frames = body.task.frames }; phase = body.phase }
     → y.script ≡ x.script → y.book ≡ x.book → y.roots ≡ x.roots
     → k < length x.used.items → y.used.items ≡ set x.used.items k true → Applies y z t (record g { body = body }) effects exit f
-    → (b : Block) × IsStep x.roots (step.Run t) b × IsHistory script (blocks ++ b ∷ []) z × (z.roots ≡ x.roots) × (f ≡ Broken → IsBroken b)
+    → (b : Block) × IsStep x.roots (step.Run t) b × IsHistory script (blocks ++ b ∷ []) z × (z.roots ≡ x.roots) × (f ≡ Broken → IsBroken b) × (f ≡ Yes → IsBroken b → ⊥)
 run_step script blocks x y z t g k env rows rows' body effects exit f h was took begun at rows_are fields_are many polls rest same_script same_book same_roots in_used used a =
     let own = x.book.script in
     let mine : g.body.script ≡ own = (h.scripts t.0 g was).script_is ∙ sym h.book_is in
@@ -86,6 +86,7 @@ run_step script blocks x y z t g k env rows rows' body effects exit f h was took
       },
       a.roots_are ∙ same_roots,
       λ is. subst BreaksInvariant (sym more.2) (a.told is),
+      λ is breaks. a.quiet is (subst BreaksInvariant more.2 breaks),
     )
 
 -- a task that has had a turn has frames still

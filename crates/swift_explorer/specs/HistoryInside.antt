@@ -13,9 +13,9 @@ use Rattle.swift_types.specs.declared.outcome.Ending.{Ending}
 use Rattle.swift_events.specs.Lives.{life_of}
 use Rattle.swift_events.specs.Relations.{opened_by, is_closed}
 use Rattle.swift_history.specs.Checks.{is_begun}
-use Rattle.swift_history.specs.Histories.{AllStand, Block, fields_of, folded_of, records_of, roots_of, with_jobs}
+use Rattle.swift_history.specs.Histories.{AllStand, Block, fields_of, folded_of, records_of, roots_of, with_jobs, Stands, added, begun, ran}
 use Rattle.swift_journal.specs.Records.{RecordView}
-use Rattle.swift_digest.specs.Explored.{AllAllowed, IsOrderly, frames_executor}
+use Rattle.swift_digest.specs.Explored.{AllAllowed, IsNotFolded, IsOrderly, frames_executor}
 use Rattle.swift_history.specs.TurnEnds.{WaitingTaskView, JobFacts}
 use Rattle.swift_course.specs.Course.{standing, starts}
 use Rattle.swift_job.specs.Job.{JobView}
@@ -23,10 +23,11 @@ use Rattle.swift_turn.specs.Body.{BodyView, HasFrames, IfRunning, IsRunning}
 use Rattle.swift_tasks.specs.Books.{IsEndOf}
 use Rattle.swift_tasks.specs.Refusals.{refusal_of_apply}
 use Rattle.swift_explorer.specs.declared.moves.Move.{Move}
+use Rattle.swift_explorer.specs.declared.moves.Move.TheVariants as step
 use Rattle.swift_explorer.specs.declared.waiting.Ready.{Ready}
 use Rattle.swift_explorer.specs.declared.history.SearchedHistory.{SearchedHistory}
 use Rattle.swift_explorer.specs.declared.history.Followed.{Followed}
-use Rattle.swift_explorer.specs.declared.history.Followed.TheVariants.{Broken, No}
+use Rattle.swift_explorer.specs.declared.history.Followed.TheVariants.{Broken, No, Yes}
 use Rattle.swift_explorer.specs.Steps.{AreSteps, BreaksInvariant, IsBroken, IsStep, roots_after, roots_over}
 
 -- a step was done
@@ -113,18 +114,31 @@ pub record IsHistory (script : ScriptView) (blocks : List Block) (x : SearchedHi
 abbrev pub IsSomeHistory : SearchedHistory → Type 0
 IsSomeHistory x = (blocks : List Block) × IsHistory (arc_value x.script) blocks x
 
--- Whatever was followed before, one block more was, which is what the step does.
+-- Whatever was followed before, one block more was, which is what the step does; whether it breaks an invariant is told.
 abbrev pub GoesOn : Move → SearchedHistory → SearchedHistory → Followed → Type 0
 GoesOn step old new done = (blocks : List Block) → IsHistory (arc_value old.script) blocks old
-    → (b : Block) × IsStep old.roots step b × IsHistory (arc_value old.script) (blocks ++ b ∷ []) new × (new.roots ≡ roots_after old.roots step) × (done ≡ Broken → IsBroken b)
+    → (b : Block) × IsStep old.roots step b × IsHistory (arc_value old.script) (blocks ++ b ∷ []) new × (new.roots ≡ roots_after old.roots step) × (done ≡ Broken → IsBroken b) × (done ≡ Yes → IsBroken b → ⊥)
+
+-- a block is what a step does, whichever root it adds
+abbrev pub IsMoveOf : Move → Block → Type 0
+IsMoveOf step.Add (added r) = Unit {0}
+IsMoveOf (step.Begin t) (begun u n env) = u ≡ t.0
+IsMoveOf (step.Run t) (ran e r) = r.task ≡ t.0
+IsMoveOf _ _ = ⊥
+
+-- Each block in order that may follow a history is what one of these steps does.
+abbrev pub HasEachMove : SearchedHistory → List Move → Type 0
+HasEachMove x moves = (blocks : List Block) (b : Block) → IsHistory (arc_value x.script) blocks x
+    → IsNotFolded b → Stands (arc_value x.script) (starts (arc_value x.script)) blocks b → IsOrderly (arc_value x.script) blocks b → (m : Move) × Contains moves m × IsMoveOf m b
 
 -- the job of a turn that is to be applied
 abbrev pub job_of : TaskId → Ready → JobView BodyView
 job_of task g = record { task = task; number = g.number; resume = g.resume; body = g.body }
 
--- What a turn did was applied to the book, and where it broke an invariant, that is told.
+-- What a turn did was applied to the book, and whether it broke an invariant is told.
 pub record Applies (old new : SearchedHistory) (task : TaskId) (ready : Ready) (effects : List EffectView) (exit : ExitView) (done : Followed) : Type 0 where
   pub told : done ≡ Broken → BreaksInvariant exit
+  pub quiet : done ≡ Yes → BreaksInvariant exit → ⊥
   pub script_is : new.script ≡ old.script
   pub book_is : new.book.script ≡ old.book.script
   pub none : new.jobs.items ≡ []

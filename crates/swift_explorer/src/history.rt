@@ -13,7 +13,7 @@ ghost use Rattle.swift_interpreter.specs.Frames.{effect_views};
 ghost use Rattle.swift_interpreter.specs.TurnStates.{exit_view};
 ghost use Rattle.swift_explorer.specs.Outcomes.{IfReached, IsOutcomeOf};
 ghost use Rattle.swift_explorer.specs.Steps.{BreaksInvariant};
-ghost use Rattle.swift_explorer.specs.HistoryInside.{Applies, AreEnded, AreFirst, AreOf, AreThere, GoesOn, HaveClosed, IsHistory, IsMissing, IsPath, IsSomeHistory, JobRunsAt, MayBegin, WasDone, rows_at, seat_of};
+ghost use Rattle.swift_explorer.specs.HistoryInside.{Applies, AreEnded, AreFirst, AreOf, AreThere, GoesOn, HasEachMove, HaveClosed, IsHistory, IsMissing, IsPath, IsSomeHistory, JobRunsAt, MayBegin, WasDone, rows_at, seat_of};
 
 use crate::frames::put_ready;
 use crate::moves::Move;
@@ -98,6 +98,7 @@ fn refused(fault: BookFault) -> Result<Followed, AllocError>
 fn told(exit: &Exit) -> Followed
     ensures done { WasDone result }
     ensures broken { result ≡ Followed.Broken → BreaksInvariant (exit_view exit.now) }
+    ensures quiet { result ≡ Followed.Yes → BreaksInvariant (exit_view exit.now) → ⊥ }
 {
     match exit {
         Exit::Fault(Fault::Invariant) | Exit::Close(_, Some(Fault::Invariant)) => Followed::Broken,
@@ -349,7 +350,9 @@ impl SearchedHistory {
     /// The steps that may follow: each turn that has begun may run; and the next root is added, until all are there, and then at each
     /// executor that has no turn under way each turn may begin. Those that run come first, so that of schedules of one length a search
     /// meets one first whose turns overlap less. Nothing where there are more tasks than numbers for them.
-    pub fn next(&self) -> Result<Option<Vec<Move>>, AllocError> {
+    pub fn next(&self) -> Result<Option<Vec<Move>>, AllocError>
+        ensures { IfOk result (λ o. IfSome o (λ moves. HasEachMove self.now moves.items)) }
+    {
         let Ok(tasks) = u32::try_from(self.tasks.len()) else {
             return Ok(None);
         };

@@ -31,4 +31,5 @@ returns-in_ok-put-in-Ok-clause-follows c = λ done blocks h.
       },
       next,
       λ is. absurd (yes_is is),
+      λ _ breaks. breaks,
     ))
