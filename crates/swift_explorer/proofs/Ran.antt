@@ -28,7 +28,7 @@ use Rattle.swift_explorer.specs.HistoryInside.{WasDone, Applies, AreOf, IsHistor
 use Rattle.swift_explorer.proofs.Given.{of_taken}
 use Rattle.swift_explorer.proofs.Led.{Runs, led_run}
 use Rattle.swift_explorer.proofs.Orderly.{allowed_push}
-use Rattle.swift_explorer.proofs.Used.{used_set}
+use Rattle.swift_explorer.proofs.Used.{used_set, used_short}
 
 on_own : (script own : ScriptView) (fs : List FrameView) (k : ℕ) → script ≡ own → IfRunning fs (λ p. actor_executor script (method_actor script p.method) ≡ k) → IfRunning fs (λ p. actor_executor own (method_actor own p.method) ≡ k)
 on_own script own fs k is on = subst (λ (sc : ScriptView). IfRunning fs (λ p. actor_executor sc (method_actor sc p.method) ≡ k)) is on
@@ -82,6 +82,7 @@ run_step script blocks x y z t g k env rows rows' body effects exit f h was took
         none = a.none;
         scripts = subst (λ (sc : ScriptView). AreOf sc z.tasks.items) y_script (a.scripts (subst (λ (sc : ScriptView). AreOf sc y.tasks.items) (sym y_script) between));
         used = λ e. ap (λ (us : Vec Bool Global). slice_index_or us.items e false) a.used_are ∙ ap (λ (us : List Bool). slice_index_or us e false) used ∙ used_set x.used.items blocks k more.0 in_used h.used e;
+        short = used_short script x.used.items y.used.items z.used.items k h.short used (ap (λ (us : Vec Bool Global). us.items) a.used_are);
         led = subst (λ (n : ℕ). IsLed script (blocks ++ b ∷ []) z.book.log z.book.held z.tasks.items (rows_at z) n) (sym same_roots ∙ sym a.roots_are) led'';
       },
       a.roots_are ∙ same_roots,

@@ -1,5 +1,5 @@
 -- While a history is followed. No public clause names these.
-use Rattle.std.specs.Prelude.{◌≡◌, ◌<◌, ℕ, ℤ, ◌==◌, Bool, true, false, is_some, if◌then◌else◌, Option, Some, None, List, [], ◌∷◌, ◌++◌, length, map, slice_get, slice_index_or}
+use Rattle.std.specs.Prelude.{◌≡◌, ◌<◌, ◌≤◌, ℕ, ℤ, ◌==◌, Bool, true, false, is_some, if◌then◌else◌, Option, Some, None, List, [], ◌∷◌, ◌++◌, length, map, slice_get, slice_index_or}
 use Rattle.std.specs.Option.{option_map}
 use Rattle.std.specs.List.{Contains, range_with_len}
 use Rattle.std.specs.Arc.{arc_value}
@@ -108,6 +108,7 @@ pub record IsHistory (script : ScriptView) (blocks : List Block) (x : SearchedHi
   pub none : x.jobs.items ≡ []
   pub scripts : AreOf script x.tasks.items
   pub used : (e : ℕ) → slice_index_or x.used.items e false ≡ has_records (records_of e blocks)
+  pub short : length x.used.items ≤ executor_count script
   pub led : IsLed script blocks x.book.log x.book.held x.tasks.items (rows_at x) x.roots
 
 -- some blocks were
