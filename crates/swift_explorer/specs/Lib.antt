@@ -3,3 +3,4 @@ pub mod Outcomes
 pub mod HistoryInside
 pub mod SearchInside
 pub mod KeysInside
+pub mod EndsInside

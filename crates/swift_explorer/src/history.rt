@@ -1,6 +1,6 @@
 //! One history, followed from its beginning.
 
-ghost use Rattle.std.specs.Prelude.{◌≡◌, ◌<◌, ℕ, [], IfOk, IfSome, IsTrue, None, OnOk, Some, false, length, map, replicate};
+ghost use Rattle.std.specs.Prelude.{◌≡◌, ◌<◌, ℕ, List, [], IfOk, IfSome, IsTrue, None, OnOk, Some, false, length, map, replicate};
 ghost use Rattle.std.specs.Arc.{arc_value};
 ghost use Rattle.script_code.specs.Seen.{rows_of};
 ghost use Rattle.swift_events.specs.declared.life.JobStage.TheVariants.{Begun};
@@ -13,6 +13,9 @@ ghost use Rattle.swift_interpreter.specs.Frames.{effect_views};
 ghost use Rattle.swift_interpreter.specs.TurnStates.{exit_view};
 ghost use Rattle.swift_explorer.specs.Outcomes.{IfReached, IsOutcomeOf};
 ghost use Rattle.swift_explorer.specs.Steps.{BreaksInvariant};
+ghost use Rattle.swift_types.specs.declared.outcome.Ending.{Ending};
+ghost use Rattle.swift_events.specs.declared.life.Origin.{Origin};
+ghost use Rattle.swift_explorer.specs.EndsInside.{IsEndedAs, IsKnownEnd, SomeGoesOn};
 ghost use Rattle.swift_explorer.specs.HistoryInside.{Applies, AreEnded, AreFirst, AreOf, AreThere, GoesOn, HasEachMove, HaveClosed, IsHistory, IsMissing, IsPath, IsSomeHistory, JobRunsAt, MayBegin, WasDone, rows_at, seat_of};
 
 use crate::frames::put_ready;
@@ -377,6 +380,7 @@ impl SearchedHistory {
     fn ended(&self, task: TaskId) -> Option<(Origin, Ending)>
         ensures origin { IfSome result (λ x. (life_of task.0 self.now.book.log).origin ≡ Some x.0) }
         ensures ending { IfSome result (λ x. (life_of task.0 self.now.book.log).ending ≡ Some x.1) }
+        ensures none { result ≡ None → (x : Origin × Ending) → IsEndedAs self.now.book.log task.0 x → ⊥ }
     {
         let origin = self.book.origin(task)?;
         let ending = self.book.ending(task)?;
@@ -385,7 +389,8 @@ impl SearchedHistory {
 
     // The same of each of the first tasks, if all have ended.
     fn endings(&self, tasks: u32) -> Result<Option<Vec<(Origin, Ending)>>, AllocError>
-        ensures { IfOk result (λ o. IfSome o (λ endings. (length endings.items ≡ tasks) × AreEnded self.now.book.log endings.items)) }
+        ensures all { IfOk result (λ o. IfSome o (λ endings. (length endings.items ≡ tasks) × AreEnded self.now.book.log endings.items)) }
+        ensures none { IfOk result (λ o. o ≡ None → SomeGoesOn self.now.book.log tasks) }
     {
         let mut endings = Vec::new(self.alloc);
         for place in 0..tasks {
@@ -412,7 +417,8 @@ impl SearchedHistory {
     /// The outcome, where each root was added and each task has ended. These steps were followed, and are written into it.
     pub fn outcome(&self, schedule: &[Move]) -> Result<End, AllocError>
         requires { IsPath (arc_value self.now.script) schedule.now self.now }
-        ensures { IfOk result (IfReached (IsOutcomeOf (arc_value self.now.script))) }
+        ensures reached { IfOk result (IfReached (IsOutcomeOf (arc_value self.now.script))) }
+        ensures known { IfOk result (λ known. (blocks : List Block) → IsHistory (arc_value self.now.script) blocks self.now → IsKnownEnd (arc_value self.now.script) blocks known) }
     {
         let Ok(tasks) = u32::try_from(self.book.tasks()) else {
             return Ok(End::Unknown);

@@ -1,10 +1,14 @@
 //! The search.
 
-ghost use Rattle.std.specs.Prelude.{◌≡◌, [], ◌∷◌, ◌++◌, All, IfOk, IfSome, OnOk};
+ghost use Rattle.std.specs.Prelude.{◌≡◌, ◌<◌, ℕ, List, [], ◌∷◌, ◌++◌, All, Contains, IfOk, IfSome, IsTrue, None, OnOk, Some, is_some, length, slice_get, true};
 ghost use Rattle.std.specs.Arc.{arc_value};
-ghost use Rattle.swift_explorer.specs.Outcomes.{IfReached, IsBrokenAfter, IsOutcomeOf};
+ghost use Rattle.swift_history.specs.Histories.{Block, ReportView};
+ghost use Rattle.swift_explorer.specs.Outcomes.{HasEachOutcome, IfReached, IsBrokenAfter, IsOutcomeOf, NeverBreaks, Tells};
+ghost use Rattle.swift_explorer.specs.declared.outcome.RunOutcome.{RunOutcome};
 ghost use Rattle.swift_explorer.specs.HistoryInside.{IsPath, WasDone};
-ghost use Rattle.swift_explorer.specs.SearchInside.{IsSound};
+ghost use Rattle.swift_explorer.specs.EndsInside.{HasEnd, IsKnownEnd};
+ghost use Rattle.swift_explorer.specs.KeysInside.{IsKeyOf, outcome_bytes};
+ghost use Rattle.swift_explorer.specs.SearchInside.{GoOn, HasGrown, IsAhead, IsExpandedAt, IsFollowedBy, IsNoted, IsSound, Keeps, MayGoOn, StepWasTried, path_after, paths_of};
 
 use crate::history::{Followed, SearchedHistory};
 use crate::moves::Move;
@@ -50,16 +54,17 @@ struct Search {
     is_complete: bool,
 }
 
-// The steps of a history.
-fn path_to(alloc: Global, nodes: &[Node], place: usize) -> Result<Vec<Move>, AllocError> {
+// The steps to a node.
+fn path_to(alloc: Global, nodes: &[Node], place: usize) -> Result<Vec<Move>, AllocError>
+    requires there { place < length nodes.now }
+    requires on { GoOn nodes.now }
+    ensures { IfOk result (λ path. slice_get (paths_of nodes.now) place ≡ Some path.items) }
+{
     let mut path = Vec::new(alloc);
     let mut at = place;
-    'back: while 0 < at && at < nodes.len() {
+    'back: while 0 < at {
         let Node { before, step } = nodes[at];
         path.push(step)?;
-        if before >= at {
-            break;
-        }
         at = before;
     }
     path.reverse();
@@ -76,7 +81,9 @@ fn with_step(alloc: Global, path: &[Move], step: Move) -> Result<Vec<Move>, Allo
 }
 
 // An outcome, as bytes.
-fn outcome_key(alloc: Global, outcome: &RunOutcome) -> Result<Vec<u8>, AllocError> {
+fn outcome_key(alloc: Global, outcome: &RunOutcome) -> Result<Vec<u8>, AllocError>
+    ensures { IfOk result (λ key. key.items ≡ outcome_bytes outcome.now) }
+{
     let mut key = Vec::new(alloc);
     for (origin, ending) in &outcome.endings {
         key.push(1)?;
@@ -89,7 +96,9 @@ fn outcome_key(alloc: Global, outcome: &RunOutcome) -> Result<Vec<u8>, AllocErro
 }
 
 // What decides how a history may go on, as bytes.
-fn key_of(alloc: Global, history: SearchedHistory) -> Result<Vec<u8>, AllocError> {
+fn key_of(alloc: Global, history: SearchedHistory) -> Result<Vec<u8>, AllocError>
+    ensures { IfOk result (λ key. IsKeyOf history key.items) }
+{
     let numbers = history.into_key()?;
     pack(alloc, &numbers)
 }
@@ -115,8 +124,9 @@ fn follow_one(
     step: Move,
 ) -> Result<Followed, AllocError>
     requires { IsPath (arc_value history.old.script) [] history.old }
-    ensures script { history.new.script ≡ history.old.script }
     ensures broken { IfOk result (λ f. f ≡ Followed.Broken → IsBrokenAfter (arc_value history.old.script) (path.now ++ step ∷ [])) }
+    ensures path { IfOk result (λ f. WasDone f → IsPath (arc_value history.old.script) (path.now ++ step ∷ []) history.new) }
+    ensures last { IfOk result (λ f. WasDone f → IsFollowedBy (arc_value history.old.script) path.now step history.new f) }
 {
     if let Followed::No = follow(history, path)? {
         return Ok(Followed::No);
@@ -130,7 +140,8 @@ fn look_ahead(
     path: &[Move],
 ) -> Result<Option<(Vec<Move>, End)>, AllocError>
     requires { IsPath (arc_value history.old.script) [] history.old }
-    ensures { IfOk result (λ o. IfSome o (λ ahead. IfReached (IsOutcomeOf (arc_value history.old.script)) ahead.1)) }
+    ensures outcome { IfOk result (λ o. IfSome o (λ ahead. IfReached (IsOutcomeOf (arc_value history.old.script)) ahead.1)) }
+    ensures ahead { IfOk result (λ o. IfSome o (λ ahead. IsAhead (arc_value history.old.script) path.now ahead.0.items ahead.1)) }
 {
     if let Followed::No = follow(history, path)? {
         return Ok(None);
@@ -143,9 +154,10 @@ fn look_ahead(
 }
 
 impl Search {
-    #[tactic(auto, using(crate::proofs::Sound::listed_none))]
     fn new(alloc: Global, script: &Arc<Script>, limit: usize) -> Result<Search, AllocError>
-        ensures { IfOk result (IsSound (arc_value script.now)) }
+        ensures none { IfOk result (λ x. x.nodes.items ≡ []) }
+        ensures script { IfOk result (λ x. arc_value x.script ≡ arc_value script.now) }
+        ensures sound { IfOk result (IsSound (arc_value script.now)) }
     {
         Ok(Search {
             alloc,
@@ -167,9 +179,10 @@ impl Search {
         before: usize,
         step: Move,
     ) -> Result<(), AllocError>
-        ensures script { self.new.script ≡ self.old.script }
-        ensures outcomes { self.new.outcomes ≡ self.old.outcomes }
-        ensures broken { self.new.broken ≡ self.old.broken }
+        requires before { MayGoOn (paths_of self.old.nodes.items) before }
+        requires path { IsPath (arc_value self.old.script) (path_after (paths_of self.old.nodes.items) before step) history }
+        requires sound { IsSound (arc_value self.old.script) self.old }
+        ensures keeps { OnOk result (Keeps self.old self.new history) }
     {
         let key = key_of(self.alloc, history)?;
         if self.keys.contains(&key) {
@@ -188,8 +201,8 @@ impl Search {
     fn note_broken(&mut self, path: &[Move], step: Move) -> Result<(), AllocError>
         requires broken { IsBrokenAfter (arc_value self.old.script) (path.now ++ step ∷ []) }
         requires before { IfSome self.old.broken (λ schedule. IsBrokenAfter (arc_value self.old.script) schedule.items) }
-        ensures script { self.new.script ≡ self.old.script }
-        ensures outcomes { self.new.outcomes ≡ self.old.outcomes }
+        ensures rest { self.new ≡ record self.old { broken = self.new.broken } }
+        ensures noted { OnOk result (is_some self.new.broken ≡ true) }
         ensures broken { OnOk result (IfSome self.new.broken (λ schedule. IsBrokenAfter (arc_value self.old.script) schedule.items)) }
     {
         if self.broken.is_none() {
@@ -200,9 +213,11 @@ impl Search {
 
     // Follows one more step than these, and keeps the history that it leads to.
     fn try_step(&mut self, path: &[Move], before: usize, step: Move) -> Result<(), AllocError>
-        requires { IsSound (arc_value self.old.script) self.old }
-        ensures script { self.new.script ≡ self.old.script }
+        requires sound { IsSound (arc_value self.old.script) self.old }
+        requires path { slice_get (paths_of self.old.nodes.items) before ≡ Some path.now }
+        ensures grown { OnOk result (HasGrown self.old self.new) }
         ensures sound { OnOk result (IsSound (arc_value self.old.script) self.new) }
+        ensures tried { OnOk result (IsTrue self.new.is_complete → StepWasTried (arc_value self.old.script) self.new path.now step) }
     {
         let mut history = SearchedHistory::new(self.alloc, &self.script)?;
         match follow_one(&mut history, path, step) {
@@ -228,9 +243,12 @@ impl Search {
     fn note_outcome(&mut self, outcome: RunOutcome) -> Result<(), AllocError>
         requires outcome { IsOutcomeOf (arc_value self.old.script) outcome }
         requires outcomes { All (IsOutcomeOf (arc_value self.old.script)) self.old.outcomes.items }
-        ensures script { self.new.script ≡ self.old.script }
+        requires ends { (key : List ℕ) → Contains self.old.ends key → IsNoted self.old.outcomes.items key }
+        ensures rest { self.new ≡ record self.old { outcomes = self.new.outcomes; ends = self.new.ends } }
         ensures outcomes { OnOk result (All (IsOutcomeOf (arc_value self.old.script)) self.new.outcomes.items) }
-        ensures broken { self.new.broken ≡ self.old.broken }
+        ensures ends { OnOk result ((key : List ℕ) → Contains self.new.ends key → IsNoted self.new.outcomes.items key) }
+        ensures kept { OnOk result ((o : RunOutcome) → Contains self.old.outcomes.items o → Contains self.new.outcomes.items o) }
+        ensures noted { OnOk result ((report : ReportView) → Tells outcome report → (o : RunOutcome) × Contains self.new.outcomes.items o × Tells o report) }
     {
         let key = outcome_key(self.alloc, &outcome)?;
         if self.ends.contains(&key) {
@@ -244,10 +262,10 @@ impl Search {
     // Writes what is known of the end of a history.
     fn note(&mut self, end: End) -> Result<(), AllocError>
         requires end { IfReached (IsOutcomeOf (arc_value self.old.script)) end }
-        requires outcomes { All (IsOutcomeOf (arc_value self.old.script)) self.old.outcomes.items }
-        ensures script { self.new.script ≡ self.old.script }
-        ensures outcomes { OnOk result (All (IsOutcomeOf (arc_value self.old.script)) self.new.outcomes.items) }
-        ensures broken { self.new.broken ≡ self.old.broken }
+        requires sound { IsSound (arc_value self.old.script) self.old }
+        ensures grown { OnOk result (HasGrown self.old self.new) }
+        ensures sound { OnOk result (IsSound (arc_value self.old.script) self.new) }
+        ensures noted { OnOk result (IsTrue self.new.is_complete → (blocks : List Block) → IsKnownEnd (arc_value self.old.script) blocks end → HasEnd (arc_value self.old.script) self.new.outcomes.items blocks) }
     {
         match end {
             End::NotYet => Ok(()),
@@ -261,9 +279,11 @@ impl Search {
 
     // Follows each of these steps after a history, and keeps where it leads.
     fn try_all(&mut self, path: &[Move], place: usize, moves: &[Move]) -> Result<(), AllocError>
-        requires { IsSound (arc_value self.old.script) self.old }
-        ensures script { self.new.script ≡ self.old.script }
+        requires sound { IsSound (arc_value self.old.script) self.old }
+        requires path { slice_get (paths_of self.old.nodes.items) place ≡ Some path.now }
+        ensures grown { OnOk result (HasGrown self.old self.new) }
         ensures sound { OnOk result (IsSound (arc_value self.old.script) self.new) }
+        ensures tried { OnOk result (IsTrue self.new.is_complete → All (StepWasTried (arc_value self.old.script) self.new path.now) moves.now) }
     {
         for step in moves {
             self.try_step(path, place, *step)?;
@@ -273,9 +293,11 @@ impl Search {
 
     // Goes on from a history that is kept.
     fn expand(&mut self, place: usize) -> Result<(), AllocError>
-        requires { IsSound (arc_value self.old.script) self.old }
-        ensures script { self.new.script ≡ self.old.script }
+        requires sound { IsSound (arc_value self.old.script) self.old }
+        requires there { place < length self.old.nodes.items }
+        ensures grown { OnOk result (HasGrown self.old self.new) }
         ensures sound { OnOk result (IsSound (arc_value self.old.script) self.new) }
+        ensures expanded { OnOk result (IsTrue self.new.is_complete → IsExpandedAt (arc_value self.old.script) self.new place) }
     {
         let path = path_to(self.alloc, &self.nodes, place)?;
         let mut history = SearchedHistory::new(self.alloc, &self.script)?;
@@ -296,8 +318,9 @@ impl Search {
     // Goes on from each history that is kept.
     fn go_through(&mut self) -> Result<(), AllocError>
         requires { IsSound (arc_value self.old.script) self.old }
-        ensures script { self.new.script ≡ self.old.script }
+        ensures grown { OnOk result (HasGrown self.old self.new) }
         ensures sound { OnOk result (IsSound (arc_value self.old.script) self.new) }
+        ensures expanded { OnOk result (IsTrue self.new.is_complete → (place : ℕ) → place < length self.new.nodes.items → IsExpandedAt (arc_value self.old.script) self.new place) }
     {
         for place in 0..self.limit {
             if place >= self.nodes.len() {
@@ -332,6 +355,8 @@ pub fn explore(
 ) -> Result<FoundOutcomes, AllocError>
     ensures outcomes { IfOk result (λ found. All (IsOutcomeOf (arc_value script.now)) found.outcomes.items) }
     ensures broken { IfOk result (λ found. IfSome found.broken (λ schedule. IsBrokenAfter (arc_value script.now) schedule.items)) }
+    ensures all { IfOk result (λ found. IsTrue found.is_complete → HasEachOutcome (arc_value script.now) found.outcomes.items) }
+    ensures unbroken { IfOk result (λ found. IsTrue found.is_complete → found.broken ≡ None → NeverBreaks (arc_value script.now)) }
 {
     let mut search = Search::new(alloc, script, limit)?;
     let first = SearchedHistory::new(alloc, script)?;
