@@ -116,15 +116,15 @@ module _ (script : ScriptView) where
   by_plans None (Some k) same = absurd (cc same)
   by_plans (Some j) None same = absurd (cc same)
 
-module _ (script : ScriptView) (histories : List (List Block)) (reps : AreRepresented script histories) (on : ActorsHaveExecutors script) (cps : List CheckpointView) (fresh : StartsFresh script cps) where
-  lead_on : (a b c : List Block) → LeadAlike script cps a b → LeadAlike script cps b c → LeadAlike script cps a c
+module _ (script : ScriptView) (cps : List CheckpointView) where
+  pub lead_on : (a b c : List Block) → LeadAlike script cps a b → LeadAlike script cps b c → LeadAlike script cps a c
   lead_on a b c one two = record {
     standing = record { digest = one.standing.digest ∙ two.standing.digest; held = one.standing.held ∙ two.standing.held; jobs = λ t. one.standing.jobs t ∙ two.standing.jobs t };
     fields = λ e. one.fields e ∙ two.fields e;
     unused = λ e none. two.unused e (one.unused e none);
   }
 
-  orderly_too : (before others : List Block) → LeadAlike script cps before others → (b c : Block) → IsLike script b c → IsOrderly script before b → IsOrderly script others c
+  pub orderly_too : (before others : List Block) → LeadAlike script cps before others → (b c : Block) → IsLike script b c → IsOrderly script before b → IsOrderly script others c
   orderly_too before others lead (added r) c like is =
       let s = after_blocks script (at_first script) before in
       let z = after_blocks script (at_first script) others in
@@ -140,12 +140,13 @@ module _ (script : ScriptView) (histories : List (List Block)) (reps : AreRepres
   orderly_too before others lead (ran e r) c like is = subst (IsOrderly script others) (sym like.2) tt
   orderly_too before others lead (folded e f) c like is = subst (IsOrderly script others) like tt
 
-  unfolded_too : (b c : Block) → IsLike script b c → IsNotFolded b → IsNotFolded c
+  pub unfolded_too : (b c : Block) → IsLike script b c → IsNotFolded b → IsNotFolded c
   unfolded_too (added r) c like is = subst IsNotFolded like tt
   unfolded_too (begun t n env) c like is = subst IsNotFolded like tt
   unfolded_too (ran e r) c like is = subst IsNotFolded (sym like.2) tt
   unfolded_too (folded e f) c like is = absurd is
 
+module _ (script : ScriptView) (histories : List (List Block)) (reps : AreRepresented script histories) (on : ActorsHaveExecutors script) (cps : List CheckpointView) (fresh : StartsFresh script cps) where
   abbrev HasOne : List Block → Type 0
   HasOne bs = (k : List Block) × Contains histories k × LeadAlike script cps bs k
 
@@ -155,9 +156,9 @@ module _ (script : ScriptView) (histories : List (List Block)) (reps : AreRepres
       let also : AllStand script cps [] h = reps.stand cps h fresh one.1 in
       let o = block_stands script cps before h one.2 b stands in
       let c : Block = o.other in
-      let k = reps.next cps h c fresh one.1 (unfolded_too b c o.like unfolded) o.stands (orderly_too before h one.2 b c o.like orderly) in
+      let k = reps.next cps h c fresh one.1 (unfolded_too script cps b c o.like unfolded) o.stands (orderly_too script cps before h one.2 b c o.like orderly) in
       let lead = lead_push script cps before h one.2 b c o.like (all_push script cps before [] b stood stands) (all_push script cps h [] c also o.stands) in
-      (k.0, k.1, lead_on (before ++ b ∷ []) (h ++ c ∷ []) k.0 lead k.2)
+      (k.0, k.1, lead_on script cps (before ++ b ∷ []) (h ++ c ∷ []) k.0 lead k.2)
 
   has_all : (bs before : List Block) → AllStand script cps [] before → AllStand script cps before bs → AllAllowed (IsOrderly script) before bs → NoneFolded script on cps bs → HasOne before → HasOne (before ++ bs)
   has_all [] before stood stand may none one = subst HasOne (sym (append-nil before)) one

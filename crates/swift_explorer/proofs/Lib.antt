@@ -10,3 +10,4 @@ mod Used
 mod Paths
 mod Sound
 mod SameMoves
+mod EachMove

@@ -1,7 +1,7 @@
 -- While a history is followed. No public clause names these.
-use Rattle.std.specs.Prelude.{◌≡◌, ◌<◌, ◌≤◌, ℕ, ℤ, ◌==◌, Bool, true, false, is_some, if◌then◌else◌, Option, Some, None, List, [], ◌∷◌, ◌++◌, length, map, slice_get, slice_index_or}
+use Rattle.std.specs.Prelude.{◌≡◌, ◌<◌, ◌≤◌, ℕ, ℤ, ◌==◌, Bool, true, false, is_some, if◌then◌else◌, Option, Some, None, List, [], ◌∷◌, ◌++◌, length, map, slice_get, slice_index_or, Contains}
 use Rattle.std.specs.Option.{option_map}
-use Rattle.std.specs.List.{Contains, range_with_len}
+use Rattle.std.specs.List.{range_with_len}
 use Rattle.std.specs.Arc.{arc_value}
 use Rattle.script_code.specs.Seen.{rows_of}
 use Rattle.swift_types.specs.declared.id.TaskId.{TaskId}
@@ -120,14 +120,14 @@ abbrev pub GoesOn : Move → SearchedHistory → SearchedHistory → Followed �
 GoesOn step old new done = (blocks : List Block) → IsHistory (arc_value old.script) blocks old
     → (b : Block) × IsStep old.roots step b × IsHistory (arc_value old.script) (blocks ++ b ∷ []) new × (new.roots ≡ roots_after old.roots step) × (done ≡ Broken → IsBroken b) × (done ≡ Yes → IsBroken b → ⊥)
 
--- a block is what a step does, whichever root it adds
+-- the block is what the step does, whichever root it adds
 abbrev pub IsMoveOf : Move → Block → Type 0
 IsMoveOf step.Add (added r) = Unit {0}
 IsMoveOf (step.Begin t) (begun u n env) = u ≡ t.0
 IsMoveOf (step.Run t) (ran e r) = r.task ≡ t.0
 IsMoveOf _ _ = ⊥
 
--- Each block in order that may follow a history is what one of these steps does.
+-- Each block in order that may follow a history `x` is what one of the steps `moves` does.
 abbrev pub HasEachMove : SearchedHistory → List Move → Type 0
 HasEachMove x moves = (blocks : List Block) (b : Block) → IsHistory (arc_value x.script) blocks x
     → IsNotFolded b → Stands (arc_value x.script) (starts (arc_value x.script)) blocks b → IsOrderly (arc_value x.script) blocks b → (m : Move) × Contains moves m × IsMoveOf m b
@@ -169,6 +169,18 @@ AreEnded log endings = (t : ℕ) (x : Origin × Ending) → slice_get endings t 
 pub record MayBegin (x : SearchedHistory) (t : ℕ) : Type 0 where
   pub there : AreThere (root_count (arc_value x.script)) x.book.log
   pub free : AreOf (arc_value x.script) x.tasks.items → (u : ℕ) → seat_of (arc_value x.script) x.tasks.items u ≡ seat_of (arc_value x.script) x.tasks.items t → is_begun (life_of u x.book.log).stage ≡ false
+
+-- an executor `k` has a turn under way: that of some task
+abbrev pub IsBusy : SearchedHistory → ℕ → Type 0
+IsBusy x k = (u : ℕ) × (seat_of (arc_value x.script) x.tasks.items u ≡ Some k) × (is_begun (life_of u x.book.log).stage ≡ true)
+
+-- a turn of task `t` is under way
+abbrev pub IsUnderWay : SearchedHistory → ℕ → Type 0
+IsUnderWay x t = is_begun (life_of t x.book.log).stage ≡ true
+
+-- Of the first `n` tasks, each that has a job and of which `Is` says something has its step `of` among these.
+abbrev pub HasEach : (TaskId → Move) → (SearchedHistory → ℕ → Type 0) → SearchedHistory → ℕ → List Move → Type 0
+HasEach of Is x n moves = AreOf (arc_value x.script) x.tasks.items → (t : TaskId) (k : ℕ) → t.0 < n → seat_of (arc_value x.script) x.tasks.items t.0 ≡ Some k → Is x t.0 → Contains moves (of t)
 
 -- these steps were followed
 pub record IsPath (script : ScriptView) (path : List Move) (x : SearchedHistory) : Type 0 where

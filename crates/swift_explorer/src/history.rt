@@ -1,6 +1,6 @@
 //! One history, followed from its beginning.
 
-ghost use Rattle.std.specs.Prelude.{◌≡◌, ◌<◌, ℕ, List, [], IfOk, IfSome, IsTrue, None, OnOk, Some, false, length, map, replicate};
+ghost use Rattle.std.specs.Prelude.{◌≡◌, ◌<◌, ℕ, List, [], IfOk, IfSome, IsTrue, None, OnOk, Some, false, length, map, replicate, ◌^◌, Contains};
 ghost use Rattle.std.specs.Arc.{arc_value};
 ghost use Rattle.script_code.specs.Seen.{rows_of};
 ghost use Rattle.swift_events.specs.declared.life.JobStage.TheVariants.{Begun};
@@ -16,7 +16,7 @@ ghost use Rattle.swift_explorer.specs.Steps.{BreaksInvariant};
 ghost use Rattle.swift_types.specs.declared.outcome.Ending.{Ending};
 ghost use Rattle.swift_events.specs.declared.life.Origin.{Origin};
 ghost use Rattle.swift_explorer.specs.EndsInside.{IsEndedAs, IsKnownEnd, SomeGoesOn};
-ghost use Rattle.swift_explorer.specs.HistoryInside.{Applies, AreEnded, AreFirst, AreOf, AreThere, GoesOn, HasEachMove, HaveClosed, IsHistory, IsMissing, IsPath, IsSomeHistory, JobRunsAt, MayBegin, WasDone, rows_at, seat_of};
+ghost use Rattle.swift_explorer.specs.HistoryInside.{Applies, AreEnded, AreFirst, AreOf, AreThere, GoesOn, HasEachMove, HaveClosed, IsHistory, IsMissing, IsPath, IsSomeHistory, JobRunsAt, MayBegin, WasDone, rows_at, seat_of, HasEach, IsBusy, IsUnderWay};
 
 use crate::frames::put_ready;
 use crate::moves::Move;
@@ -268,7 +268,8 @@ impl SearchedHistory {
 
     // Whether a turn of a task is under way at an executor.
     fn runs_at(&self, task: TaskId, executor: usize) -> bool
-        ensures { result ≡ false → AreOf (arc_value self.now.script) self.now.tasks.items → seat_of (arc_value self.now.script) self.now.tasks.items task.0 ≡ Some executor → is_begun (life_of task.0 self.now.book.log).stage ≡ false }
+        ensures none { result ≡ false → AreOf (arc_value self.now.script) self.now.tasks.items → seat_of (arc_value self.now.script) self.now.tasks.items task.0 ≡ Some executor → is_begun (life_of task.0 self.now.book.log).stage ≡ false }
+        ensures runs { IsTrue result → AreOf (arc_value self.now.script) self.now.tasks.items → (seat_of (arc_value self.now.script) self.now.tasks.items task.0 ≡ Some executor) × IsUnderWay self.now task.0 }
     {
         match self.executor_of(task) {
             Some(place) if place == executor => self.has_begun(task),
@@ -276,9 +277,10 @@ impl SearchedHistory {
         }
     }
 
-    // Whether some turn is under way at an executor.
+    // Whether some turn is under way at an executor. True, too, where there are more tasks than numbers for them.
     fn is_busy(&self, executor: usize) -> bool
-        ensures { result ≡ false → AreOf (arc_value self.now.script) self.now.tasks.items → (u : ℕ) → seat_of (arc_value self.now.script) self.now.tasks.items u ≡ Some executor → is_begun (life_of u self.now.book.log).stage ≡ false }
+        ensures free { result ≡ false → AreOf (arc_value self.now.script) self.now.tasks.items → (u : ℕ) → seat_of (arc_value self.now.script) self.now.tasks.items u ≡ Some executor → is_begun (life_of u self.now.book.log).stage ≡ false }
+        ensures busy { IsTrue result → AreOf (arc_value self.now.script) self.now.tasks.items → length self.now.tasks.items < 2 ^ 32 → IsBusy self.now executor }
     {
         for place in 0..self.tasks.len() {
             let Ok(number) = u32::try_from(place) else {
@@ -304,7 +306,8 @@ impl SearchedHistory {
 
     // Whether the next turn of a task may begin.
     fn can_begin(&self, task: TaskId) -> bool
-        ensures { IsTrue result → MayBegin self.now task.0 }
+        ensures may { IsTrue result → MayBegin self.now task.0 }
+        ensures all { result ≡ false → length self.now.tasks.items < 2 ^ 32 → AreOf (arc_value self.now.script) self.now.tasks.items → (k : ℕ) → seat_of (arc_value self.now.script) self.now.tasks.items task.0 ≡ Some k → MayBegin self.now task.0 → ⊥ }
     {
         if self.missing_root().is_some() {
             return false;
@@ -316,7 +319,9 @@ impl SearchedHistory {
     }
 
     // Writes the turns that have begun and may run, of the first tasks.
-    fn push_runs(&self, tasks: u32, moves: &mut Vec<Move>) -> Result<(), AllocError> {
+    fn push_runs(&self, tasks: u32, moves: &mut Vec<Move>) -> Result<(), AllocError>
+        ensures { OnOk result (HasEach Move.Run IsUnderWay self.now tasks moves.new.items) }
+    {
         for place in 0..tasks {
             if self.executor_of(TaskId(place)).is_some() && self.has_begun(TaskId(place)) {
                 moves.push(Move::Run(TaskId(place)))?;
@@ -326,7 +331,10 @@ impl SearchedHistory {
     }
 
     // Writes the turns that may begin, of the first tasks.
-    fn push_begins(&self, tasks: u32, moves: &mut Vec<Move>) -> Result<(), AllocError> {
+    fn push_begins(&self, tasks: u32, moves: &mut Vec<Move>) -> Result<(), AllocError>
+        ensures kept { OnOk result ((m : Move) → Contains moves.old.items m → Contains moves.new.items m) }
+        ensures all { OnOk result (length self.now.tasks.items < 2 ^ 32 → HasEach Move.Begin MayBegin self.now tasks moves.new.items) }
+    {
         for place in 0..tasks {
             if self.can_begin(TaskId(place)) {
                 moves.push(Move::Begin(TaskId(place)))?;
