@@ -25,14 +25,14 @@ use Rattle.swift_history.specs.TurnEnds.{JobFacts}
 
 module _ (script : ScriptView) (on : ActorsHaveExecutors script) (cps : List CheckpointView) where
   -- no block is a folded turn
-  abbrev NoneFolded : List Block → Type 0
+  abbrev pub NoneFolded : List Block → Type 0
   NoneFolded bs = (e : ℕ) → e < executor_count script → folded_of e bs ≡ []
 
-  none_in : (o : Option FoldedView) (fs : List FoldedView) → cons_option o fs ≡ [] → (o ≡ None) × (fs ≡ [])
+  pub none_in : (o : Option FoldedView) (fs : List FoldedView) → cons_option o fs ≡ [] → (o ≡ None) × (fs ≡ [])
   none_in None fs is = (refl, is)
   none_in (Some f) fs is = absurd (cc is)
 
-  not_folded : (before : List Block) (b : Block) (bs : List Block) → Stands script cps before b → NoneFolded (b ∷ bs) → IsNotFolded b
+  pub not_folded : (before : List Block) (b : Block) (bs : List Block) → Stands script cps before b → NoneFolded (b ∷ bs) → IsNotFolded b
   not_folded before (added r) bs stands none = tt
   not_folded before (begun t n env) bs stands none = tt
   not_folded before (ran e r) bs stands none = tt
@@ -59,12 +59,12 @@ module _ (script : ScriptView) (Allowed : List Block → Block → Type 0) (stat
   explored_has bs stand may none = explored_all bs [] tt tt stand may none (explored.first cps fresh)
 
 -- what a legal report without folded turns is made by, and what it says at its end
-record Made (script : ScriptView) (report : ReportView) (legal : IsLegal script report) : Type 0 where
-  fresh : StartsFresh script report.checkpoints
-  none : (e : ℕ) → e < executor_count script → folded_of e legal.blocks ≡ []
-  outcome : IsOutcome script (state_of script report.checkpoints legal.blocks) report
+pub record Made (script : ScriptView) (report : ReportView) (legal : IsLegal script report) : Type 0 where
+  pub fresh : StartsFresh script report.checkpoints
+  pub none : (e : ℕ) → e < executor_count script → folded_of e legal.blocks ≡ []
+  pub outcome : IsOutcome script (state_of script report.checkpoints legal.blocks) report
 
-made : (script : ScriptView) (report : ReportView) (legal : IsLegal script report) → FoldsNone report → Made script report legal
+pub made : (script : ScriptView) (report : ReportView) (legal : IsLegal script report) → FoldsNone report → Made script report legal
 made script report legal folds =
     let s = after_blocks script (at_first script) legal.blocks in
     let tasks : tasks_of (root_count script) report.log ≡ tasks_of (root_count script) s.log = ap (tasks_of (root_count script)) legal.log in
@@ -167,7 +167,7 @@ module _ (script : ScriptView) (histories : List (List Block)) (reps : AreRepres
       (has_all bs (before ++ b ∷ []) (all_push script cps before [] b stood stand.0) stand.1 may.1 (λ e low. (none_in script on cps (folded_in e b) (folded_of e bs) (none e low)).1)
       (has_next before b stood (not_folded script on cps before b bs stand.0 none) stand.0 may.0 one))
 
-outcome_too : (script : ScriptView) (cps : List CheckpointView) (report : ReportView) (a b : List Block) → LeadAlike script cps a b → IsOutcome script (state_of script cps a) report → IsOutcome script (state_of script cps b) report
+pub outcome_too : (script : ScriptView) (cps : List CheckpointView) (report : ReportView) (a b : List Block) → LeadAlike script cps a b → IsOutcome script (state_of script cps a) report → IsOutcome script (state_of script cps b) report
 outcome_too script cps report a b lead is =
     let same = lead.standing.digest in
     record {

@@ -11,3 +11,11 @@ mod Paths
 mod Sound
 mod SameMoves
 mod EachMove
+mod Nodes
+mod Growing
+mod Keeping
+mod Trying
+mod Noting
+mod KnownEnds
+mod Complete
+mod Alike

@@ -32,6 +32,11 @@ paths_many (n ∷ ns) ps =
 pub paths_length : (ns : List Node) → length (paths_of ns) ≡ length ns
 paths_length ns = let is = paths_many ns [] in omega (arith, is)
 
+pub path_there : (ns : List Node) (i : ℕ) → i < length ns → (path : List Move) × (slice_get (paths_of ns) i ≡ Some path)
+path_there ns i lt =
+    let many = paths_length ns in
+    (get_or (paths_of ns) i [], slice_get-get_or (paths_of ns) i [] (omega (arith, lt, many)))
+
 -- the paths stay where a node is put to the others
 pub paths_grow : (ns : List Node) (n : Node) (i : ℕ) (path : List Move) → slice_get (paths_of ns) i ≡ Some path → slice_get (paths_of (ns ++ n ∷ [])) i ≡ Some path
 paths_grow ns n i path at = subst (λ (ps : List (List Move)). slice_get ps i ≡ Some path) (sym (paths_push ns n [])) (at_front (paths_of ns) _ i path at)

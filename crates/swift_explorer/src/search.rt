@@ -337,8 +337,9 @@ impl Search {
 /// turns begin, each only at an executor that has none under way.
 ///
 /// What it finds is so: each outcome is that of a legal report, which a history in order has made by the steps of its schedule; and a
-/// turn that it says breaks an invariant does so after these steps. That it finds each outcome where `is_complete` says that no history
-/// was left out is tested, and not proved.
+/// turn that it says breaks an invariant does so after these steps. Where `is_complete` says that no history was left out, it is all, of
+/// a script whose actors have executors: some outcome has the endings and the fields of each legal report that a history in order has
+/// made and in which no executor has folded turns, and where no broken turn was found, none of such a history breaks an invariant.
 ///
 /// An executor takes any of its jobs: the list has outcomes of orders that priorities, arrival and `fifo` would not give (SE-0304 calls
 /// priorities hints; of a `fifo` executor it has more than can happen).
