@@ -1,6 +1,6 @@
 -- Each block that may follow is what one of the steps does that are listed.
 use Rattle.std.proofs.Common.{◌≡◌, ◌<◌, ℕ, ◌+◌, true, false, List, [], ◌∷◌, ◌++◌, length, refl, sym, subst, ap, ◌∙◌, inl, inr}
-use Rattle.std.specs.Prelude.{Some, None, is_some, Contains}
+use Rattle.std.specs.Prelude.{Option, Some, None, IfSome, is_some, Contains}
 use Rattle.std.specs.Arc.{arc_value}
 use Rattle.std.proofs.lemmas.Bool.{false≢true, ltb-true}
 use Rattle.std.proofs.lemmas.List.Elements.{Contains-append_left, Contains-push}
@@ -98,14 +98,19 @@ module _ (x : SearchedHistory) (blocks : List Block) (h : IsHistory (arc_value x
       (step.Begin (record { 0 = u }), each h.scripts (record { 0 = u }) seat.0 seat.1 seat.2 (may_begin u n env orderly), refl)
 
 -- where a root is missing: the turns that may run, and that a root is added
-pub each_with_add : (x : SearchedHistory) (runs ms : List Move) (r : ℕ) → IsMissing (arc_value x.script) x.book.log r → HasEach step.Run IsUnderWay x (length x.tasks.items) runs → ms ≡ runs ++ step.Add ∷ [] → HasEachMove x ms
-each_with_add x runs ms r missing each is blocks (added q) h unfolded stands orderly = (step.Add, subst (λ (l : List Move). Contains l step.Add) (sym is) (Contains-push runs step.Add), tt)
-each_with_add x runs ms r missing each is blocks (begun u n env) h unfolded stands orderly =
+with_add : (x : SearchedHistory) (runs ms : List Move) (r : ℕ) → IsMissing (arc_value x.script) x.book.log r → HasEach step.Run IsUnderWay x (length x.tasks.items) runs → ms ≡ runs ++ step.Add ∷ [] → HasEachMove x ms
+with_add x runs ms r missing each is blocks (added q) h unfolded stands orderly = (step.Add, subst (λ (l : List Move). Contains l step.Add) (sym is) (Contains-push runs step.Add), tt)
+with_add x runs ms r missing each is blocks (begun u n env) h unfolded stands orderly =
     absurd (missing_not_there (arc_value x.script) x.book.log r missing (may_begin x blocks h u n env orderly).there)
-each_with_add x runs ms r missing each is blocks (ran e q) h unfolded stands orderly =
+with_add x runs ms r missing each is blocks (ran e q) h unfolded stands orderly =
     let one = has_run x blocks h runs e q each stands in
     (one.0, subst (λ (l : List Move). Contains l one.0) (sym is) (Contains-append_left runs (step.Add ∷ []) one.0 one.1), one.2)
-each_with_add x runs ms r missing each is blocks (folded e f) h unfolded stands orderly = absurd unfolded
+with_add x runs ms r missing each is blocks (folded e f) h unfolded stands orderly = absurd unfolded
+
+pub each_with_add : (x : SearchedHistory) (runs ms : List Move) (o : Option ℕ) → is_some o ≡ true → IfSome o (IsMissing (arc_value x.script) x.book.log) → HasEach step.Run IsUnderWay x (length x.tasks.items) runs
+    → ms ≡ runs ++ step.Add ∷ [] → HasEachMove x ms
+each_with_add x runs ms None some missing each is = absurd (false≢true some)
+each_with_add x runs ms (Some r) some missing each is = with_add x runs ms r missing each is
 
 -- where no root is missing: the turns that may run, and those that may begin
 pub each_with_begins : (x : SearchedHistory) (runs ms : List Move) → AreThere (root_count (arc_value x.script)) x.book.log → HasEach step.Run IsUnderWay x (length x.tasks.items) runs
