@@ -16,7 +16,7 @@ use Rattle.swift_digest.proofs.Answers.{tasks_of_is, life_of_is}
 use Rattle.swift_digest.proofs.SameStands.{all_push, block_stands, lead_push}
 use Rattle.swift_digest.proofs.SameLogs.{same_life}
 use Rattle.swift_digest.specs.Futures.{LeadAlike, IsLike}
-use Rattle.swift_digest.specs.Plans.{FramePlan, JobPlan, plan_of, job_plan}
+use Rattle.swift_digest.specs.Plans.{FramePlan, JobPlan, plan_of, frame_plans, job_plan}
 use Rattle.swift_interpreter.specs.Frames.{FrameView}
 use Rattle.std.specs.Option.{option_map}
 use Rattle.swift_digest.specs.Digests.{Digest}
@@ -104,7 +104,7 @@ each_orderly_outcome script states report on explored orderly folds = outcome sc
 -- one history for each standing
 
 module _ (script : ScriptView) where
-  frames_by : (ps qs : List FrameView) → map (plan_of script) ps ≡ map (plan_of script) qs → frames_executor script ps ≡ frames_executor script qs
+  frames_by : (ps qs : List FrameView) → frame_plans script ps ≡ frame_plans script qs → frames_executor script ps ≡ frames_executor script qs
   frames_by [] [] same = refl
   frames_by (p ∷ ps) (q ∷ qs) same = let one : plan_of script p ≡ plan_of script q = cc same in ap (λ (h : FramePlan). Some (actor_executor script (method_actor script h.method))) one
   frames_by [] (q ∷ qs) same = absurd (cc same)
