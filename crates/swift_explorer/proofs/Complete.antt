@@ -14,11 +14,14 @@ use Rattle.swift_digest.proofs.Outcomes.{NoneFolded, made, none_in, not_folded, 
 use Rattle.swift_digest.proofs.SameStands.{all_push}
 use Rattle.swift_explorer.specs.declared.moves.Move.{Move}
 use Rattle.swift_explorer.specs.declared.outcome.RunOutcome.{RunOutcome}
+use Rattle.swift_explorer.specs.declared.history.SearchedHistory.{SearchedHistory}
 use Rattle.swift_explorer.specs.declared.search.Search.{Search}
 use Rattle.swift_explorer.specs.Outcomes.{HasEachOutcome, NeverBreaks, Tells}
-use Rattle.swift_explorer.specs.Steps.{IsBroken}
-use Rattle.swift_explorer.specs.SearchInside.{HasLike, IsExpanded, IsExpandedAt, LeadsTo, WasTried, paths_of}
+use Rattle.swift_explorer.specs.Steps.{AreSteps, IsBroken}
+use Rattle.swift_explorer.specs.HistoryInside.{IsHistory, IsPath}
+use Rattle.swift_explorer.specs.SearchInside.{HasGrown, HasLike, Keeps, IsExpanded, IsExpandedAt, LeadsTo, WasTried, paths_of}
 use Rattle.swift_explorer.proofs.Ended.{starts_at}
+use Rattle.swift_explorer.proofs.Growing.{like_grown}
 use Rattle.swift_explorer.proofs.KnownEnds.{same_list}
 use Rattle.swift_explorer.proofs.Nodes.{paths_length}
 use Rattle.swift_explorer.proofs.Trying.{like_too, other_block}
@@ -37,6 +40,18 @@ none_there x has = let lt = has.1 in omega (arith, lt)
 first_or : {A : Type 0} (y : A) (ys : List A) (x : A) (k : ℕ) → k < length (y ∷ ys) → slice_index_or (y ∷ ys) k x ≡ x → (y ≡ x) ⊎ Contains ys x
 first_or y ys x zero lt at = inl at
 first_or y ys x (suc k) lt at = inr (k, omega (arith, lt), at)
+
+no_steps : (bs : List Block) → AreSteps 0 [] bs → bs ≡ []
+no_steps [] is = refl
+no_steps (b ∷ bs) is = absurd is
+
+-- the history in which nothing has happened was kept
+pub first_like : (script : ScriptView) (s z x : Search) (history : SearchedHistory) → arc_value s.script ≡ script → IsPath script [] history → Keeps s z history → HasGrown z x → IsTrue x.is_complete
+    → HasLike script (paths_of x.nodes.items) []
+first_like script s z x history own p keeps grown is =
+    let h = subst (λ (sc : ScriptView). IsHistory sc p.blocks history) (sym own) p.is in
+    let like = keeps.kept (grown.complete is) p.blocks h in
+    like_grown script z x [] grown (subst (λ (sc : ScriptView). HasLike sc (paths_of z.nodes.items) []) own (subst (HasLike (arc_value s.script) (paths_of z.nodes.items)) (no_steps p.blocks p.steps) like))
 
 module _ (script : ScriptView) (x : Search) (first : HasLike script (paths_of x.nodes.items) []) (each : (place : ℕ) → place < length x.nodes.items → IsExpandedAt script x place) (on : ActorsHaveExecutors script) where
   expanded_at : (bs : List Block) (like : HasLike script (paths_of x.nodes.items) bs) → (path : List Move) × LeadsTo script path like.others × IsExpanded script x path

@@ -35,7 +35,7 @@ name_cases keys key k new has =
     Contains-push_cases keys key k (subst (λ (b : Bool). Contains (if b then keys else keys ++ key ∷ []) k) new has)
 
 -- what is followed leads to its blocks
-path_leads : (script : ScriptView) (path : List Move) (x : SearchedHistory) (p : IsPath script path x) → LeadsTo script path p.blocks
+pub path_leads : (script : ScriptView) (path : List Move) (x : SearchedHistory) (p : IsPath script path x) → LeadsTo script path p.blocks
 path_leads script path x p = record { steps = p.steps; stand = p.is.led.stand; orderly = p.is.orderly }
 
 -- one that goes on alike was kept before

@@ -1,9 +1,7 @@
 -- What a report says of the end of a history is what is known of it.
-use Rattle.std.proofs.Common.{◌≡◌, ◌<◌, ℕ, suc, List, [], ◌∷◌, Vec, length, map, refl, sym, subst, ap, ap₂, ◌∙◌, ℤ, arith, inl, inr}
-use Rattle.std.specs.Prelude.{Option, Some, slice_get, unwrap_or}
-use Rattle.std.specs.declared.alloc.Global.{Global}
+use Rattle.std.proofs.Common.{◌≡◌, ◌<◌, ℕ, suc, List, [], ◌∷◌, length, refl, sym, subst, ap, ap₂, ◌∙◌, ℤ, arith, inl, inr}
+use Rattle.std.specs.Prelude.{None, Option, Some, slice_get, unwrap_or}
 use Rattle.std.proofs.lemmas.Option.{slice_get_cases}
-use Rattle.script_code.specs.Seen.{rows_of}
 use Rattle.swift_types.specs.declared.outcome.Ending.{Ending}
 use Rattle.swift_script.specs.Scripts.{ScriptView, root_count}
 use Rattle.swift_events.specs.declared.event.Event.{Event}
@@ -15,9 +13,7 @@ use Rattle.swift_history.specs.Histories.{Block, ReportView}
 use Rattle.swift_history.specs.TurnEnds.{WaitingTaskView}
 use Rattle.swift_course.specs.Course.{standing}
 use Rattle.swift_digest.proofs.Answers.{life_of_is, tasks_of_is}
-use Rattle.swift_explorer.specs.declared.outcome.RunOutcome.{RunOutcome}
 use Rattle.swift_explorer.specs.declared.waiting.Ready.{Ready}
-use Rattle.swift_explorer.specs.Outcomes.{Tells}
 use Rattle.swift_explorer.specs.EndsInside.{IsEndedAs, IsReportOf, SomeGoesOn}
 use Rattle.swift_explorer.specs.HistoryInside.{AreEnded, IsLed}
 
@@ -55,9 +51,13 @@ module _ (script : ScriptView) (bs : List Block) (log : List Event) (log_is : lo
       ]
 
   -- and where each has, it says so
-  pub reached : (held : List (Option WaitingTaskView)) (tasks : List (Option Ready)) (fields : List (List (List ℤ))) (roots : ℕ) (outcome : RunOutcome) → IsLed script bs log held tasks fields roots
-      → length outcome.endings.items ≡ tasks_of (root_count script) log → AreEnded log outcome.endings.items → map (λ (rows : Vec (Vec ℤ Global) Global). rows_of rows.items) outcome.fields.items ≡ fields → Tells outcome report
-  reached held tasks fields roots outcome led ended are fields_are = (
-    same_list report.endings outcome.endings.items (many ∙ sym ended) (λ t x y at also. one_end log t x y (says t x at) (are t y also)),
-    same_list report.fields fields (of.many ∙ sym led.many) (λ e f rows at also. of.outcome.fields e f at ∙ sym (led.fields_are e rows also)) ∙ sym fields_are,
+  pub reached : (held : List (Option WaitingTaskView)) (tasks : List (Option Ready)) (fields : List (List (List ℤ))) (roots : ℕ) (es : List (Origin × Ending)) → IsLed script bs log held tasks fields roots
+      → length es ≡ tasks_of (root_count script) log → AreEnded log es → (report.endings ≡ es) × (report.fields ≡ fields)
+  reached held tasks fields roots es led ended are = (
+    same_list report.endings es (many ∙ sym ended) (λ t x y at also. one_end log t x y (says t x at) (are t y also)),
+    same_list report.fields fields (of.many ∙ sym led.many) (λ e f rows at also. of.outcome.fields e f at ∙ sym (led.fields_are e rows also)),
   )
+
+pub none_of : {A : Type 0} (o : Option A) → ((x : A) → o ≡ Some x → ⊥) → o ≡ None
+none_of None never = refl
+none_of (Some x) never = absurd (never x refl)

@@ -1,6 +1,6 @@
 -- An outcome or a broken turn is noted.
 use Rattle.std.proofs.Common.{◌≡◌, ℕ, Bool, true, false, List, [], ◌∷◌, ◌++◌, Vec, refl, sym, subst, ap, ◌∙◌, inl, inr}
-use Rattle.std.specs.Prelude.{All, IfSome, None, Option, Some, is_some, Contains}
+use Rattle.std.specs.Prelude.{All, Err, IfSome, None, Ok, OnOk, Option, Result, Some, is_some, Contains}
 use Rattle.std.specs.declared.alloc.Global.{Global}
 use Rattle.std.specs.Arc.{arc_value}
 use Rattle.std.proofs.lemmas.Bool.{false≢true}
@@ -60,3 +60,8 @@ is_not_none o is none = false≢true (sym (ap is_some none) ∙ is)
 
 pub grown_breaks : (x : Search) (broken : Option (Vec Move Global)) → is_some broken ≡ true → HasGrown x (record x { broken = broken })
 grown_breaks x broken some = record { script = refl; limit = refl; paths = λ i path at. at; outcomes = λ o has. has; broken = λ none. absurd (is_not_none broken some none); complete = λ is. is }
+
+-- where two facts hold if all went well, so does what follows from both
+pub on_ok_both : {T E P Q R : Type 0} (r : Result T E) → (P → Q → R) → OnOk r P → OnOk r Q → OnOk r R
+on_ok_both (Ok x) leads one two = leads one two
+on_ok_both (Err e) leads one two = tt
