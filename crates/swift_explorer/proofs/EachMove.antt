@@ -1,10 +1,9 @@
--- Each block that may follow is what one of the steps does that are listed.
-use Rattle.std.proofs.Common.{◌≡◌, ◌<◌, ℕ, ◌+◌, true, false, List, [], ◌∷◌, ◌++◌, length, refl, sym, subst, ap, ◌∙◌, inl, inr}
+-- Each block that may follow a history is what one of the listed steps does.
+use Rattle.std.proofs.Common.{◌≡◌, ◌<◌, ℕ, ◌+◌, true, List, [], ◌∷◌, ◌++◌, length, refl, sym, subst, ap, ◌∙◌, inl, inr}
 use Rattle.std.specs.Prelude.{Option, Some, None, IfSome, is_some, Contains}
 use Rattle.std.specs.Arc.{arc_value}
 use Rattle.std.proofs.lemmas.Bool.{false≢true, ltb-true}
 use Rattle.std.proofs.lemmas.List.Elements.{Contains-append_left, Contains-push}
-use Rattle.std.proofs.lemmas.Option.{none-some}
 use Rattle.swift_types.specs.declared.env.Env.{Env}
 use Rattle.swift_types.specs.declared.id.TaskId.{TaskId}
 use Rattle.swift_script.specs.Scripts.{ScriptView, actor_executor, method_actor, root_count}
@@ -17,7 +16,7 @@ use Rattle.swift_history.specs.Checks.{is_begun}
 use Rattle.swift_history.specs.Histories.{Block, Stands, added, begun, folded, ran}
 use Rattle.swift_history.specs.TurnEnds.{JobFacts}
 use Rattle.swift_course.specs.Course.{standing, starts}
-use Rattle.swift_digest.specs.Explored.{IsNotFolded, IsOrderly, frames_executor}
+use Rattle.swift_digest.specs.Explored.{IsOrderly, frames_executor}
 use Rattle.swift_explorer.specs.declared.history.SearchedHistory.{SearchedHistory}
 use Rattle.swift_explorer.specs.declared.moves.Move.{Move}
 use Rattle.swift_explorer.specs.declared.moves.Move.TheVariants as step
@@ -35,7 +34,7 @@ each_push of Is x n ms ns t at is each own u k lt seat may = elim (lt_or u.0 n l
       subst (λ (l : List Move). Contains l (of u)) (sym is) (subst (λ (v : TaskId). Contains (ms ++ of t ∷ []) (of v)) same (Contains-push ms (of t)))
 ]
 
--- one task more, whose step is not one that may follow
+-- one task more, whose step may not follow
 pub each_skip : (of : TaskId → Move) (Is : SearchedHistory → ℕ → Type 0) (x : SearchedHistory) (n : ℕ) (ms : List Move)
     → (AreOf (arc_value x.script) x.tasks.items → (k : ℕ) → seat_of (arc_value x.script) x.tasks.items n ≡ Some k → Is x n → ⊥) → HasEach of Is x n ms → HasEach of Is x (n + 1) ms
 each_skip of Is x n ms none each own u k lt seat may = elim (lt_or u.0 n lt) [

@@ -1,5 +1,5 @@
 -- The same steps after one history lead alike.
-use Rattle.std.proofs.Common.{◌≡◌, ◌<◌, ℕ, Bool, true, List, [], ◌∷◌, ◌++◌, append_assoc, append-nil, refl, sym, subst, subst₂, ap, ap₂, ◌∙◌, arith, inl, inr}
+use Rattle.std.proofs.Common.{◌≡◌, ◌<◌, ℕ, true, List, [], ◌∷◌, ◌++◌, append_assoc, append-nil, refl, sym, subst, subst₂, ap, ap₂, ◌∙◌, arith, inl, inr}
 use Rattle.std.specs.Prelude.{Option, Some, None, is_some}
 use Rattle.std.proofs.lemmas.Bool.{eqb-true, false≢true}
 use Rattle.swift_types.specs.declared.env.Env.{Env}
@@ -8,10 +8,9 @@ use Rattle.swift_types.specs.declared.outcome.Resume.{Resume}
 use Rattle.swift_script.specs.Scripts.{ScriptView, root_count}
 use Rattle.swift_events.specs.declared.event.Event.{Event}
 use Rattle.swift_events.specs.declared.life.LastJob.{LastJob}
-use Rattle.swift_events.specs.declared.life.Life.{Life}
 use Rattle.swift_events.specs.Lives.{life_of}
 use Rattle.swift_journal.specs.Records.{RecordView}
-use Rattle.swift_history.specs.Checks.{is_current, was_given}
+use Rattle.swift_history.specs.Checks.{was_given}
 use Rattle.swift_history.specs.Histories.{AllStand, Block, Stands, added, begun, folded, ran}
 use Rattle.swift_history.specs.TurnEnds.{task}
 use Rattle.swift_course.specs.Course.{standing, starts}
@@ -28,7 +27,7 @@ use Rattle.swift_explorer.specs.HistoryInside.{AreThere, IsMoveOf}
 use Rattle.swift_explorer.proofs.Led.{first_of_both}
 use Rattle.swift_explorer.proofs.Orderly.{before_or_past}
 
--- what is a step's block where a number of roots was added is so without that number
+-- the block that a step does, whichever root it adds
 pub move_of_step : (r : ℕ) (m : Move) (b : Block) → IsStep r m b → IsMoveOf m b
 move_of_step r step.Add (added q) is = tt
 move_of_step r (step.Begin t) (begun u n env) is = is
@@ -43,7 +42,7 @@ move_of_step r (step.Run t) (added q) is = absurd is
 move_of_step r (step.Run t) (begun u n env) is = absurd is
 move_of_step r (step.Run t) (folded e f) is = absurd is
 
--- the blocks of each step
+-- which block a step does
 
 block_of_add : (b : Block) → IsMoveOf step.Add b → (r : ℕ) × (b ≡ added r)
 block_of_add (added r) is = (r, refl)
@@ -63,7 +62,7 @@ block_of_run t (begun u n env) is = absurd is
 block_of_run t (ran e r) is = (e, r, is, refl)
 block_of_run t (folded e f) is = absurd is
 
--- two blocks that are one but for the frame of a turn
+-- of blocks that are one but for the frame of a turn
 
 pub move_too : (script : ScriptView) (m : Move) (b c : Block) → IsLike script b c → IsMoveOf m b → IsMoveOf m c
 move_too script m (added r) c like is = subst (IsMoveOf m) like is
@@ -79,7 +78,7 @@ broken_too script (begun u n env) c like breaks = absurd breaks
 broken_too script (folded e f) c like breaks = absurd breaks
 broken_too script (ran e r) c like breaks = subst IsBroken (sym like.2) breaks
 
--- what is determined by the history
+-- what a history leaves no choice of
 
 module _ (script : ScriptView) (bs : List Block) where
   abbrev log : List Event

@@ -304,7 +304,7 @@ impl SearchedHistory {
         }
     }
 
-    // Whether the next turn of a task may begin.
+    // Whether the next turn of a task may begin. False, too, where there are more tasks than numbers for them.
     fn can_begin(&self, task: TaskId) -> bool
         ensures may { IsTrue result → MayBegin self.now task.0 }
         ensures all { result ≡ false → length self.now.tasks.items < 2 ^ 32 → AreOf (arc_value self.now.script) self.now.tasks.items → (k : ℕ) → seat_of (arc_value self.now.script) self.now.tasks.items task.0 ≡ Some k → MayBegin self.now task.0 → ⊥ }
@@ -318,7 +318,7 @@ impl SearchedHistory {
         }
     }
 
-    // Writes the turns that have begun and may run, of the first tasks.
+    // Writes the turns that have begun and may run, of the first tasks. None is left out.
     fn push_runs(&self, tasks: u32, moves: &mut Vec<Move>) -> Result<(), AllocError>
         ensures { OnOk result (HasEach Move.Run IsUnderWay self.now tasks moves.new.items) }
     {
@@ -330,7 +330,7 @@ impl SearchedHistory {
         Ok(())
     }
 
-    // Writes the turns that may begin, of the first tasks.
+    // Writes the turns that may begin, of the first tasks. None is left out.
     fn push_begins(&self, tasks: u32, moves: &mut Vec<Move>) -> Result<(), AllocError>
         ensures kept { OnOk result ((m : Move) → Contains moves.old.items m → Contains moves.new.items m) }
         ensures all { OnOk result (length self.now.tasks.items < 2 ^ 32 → HasEach Move.Begin MayBegin self.now tasks moves.new.items) }
@@ -360,7 +360,8 @@ impl SearchedHistory {
 
     /// The steps that may follow: each turn that has begun may run; and the next root is added, until all are there, and then at each
     /// executor that has no turn under way each turn may begin. Those that run come first, so that of schedules of one length a search
-    /// meets one first whose turns overlap less. Nothing where there are more tasks than numbers for them.
+    /// meets one first whose turns overlap less. No step that is in order is left out. Nothing where there are more tasks than numbers
+    /// for them.
     pub fn next(&self) -> Result<Option<Vec<Move>>, AllocError>
         ensures { IfOk result (λ o. IfSome o (λ moves. HasEachMove self.now moves.items)) }
     {
