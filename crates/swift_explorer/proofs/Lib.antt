@@ -9,3 +9,5 @@ mod Ran
 mod Used
 mod Paths
 mod Sound
+pub mod Alike
+mod Written

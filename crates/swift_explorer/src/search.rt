@@ -4,7 +4,9 @@ ghost use Rattle.std.specs.Prelude.{◌≡◌, [], ◌∷◌, ◌++◌, All, IfO
 ghost use Rattle.std.specs.Arc.{arc_value};
 ghost use Rattle.swift_explorer.specs.Outcomes.{IfReached, IsBrokenAfter, IsOutcomeOf};
 ghost use Rattle.swift_explorer.specs.HistoryInside.{IsPath, WasDone};
+ghost use Rattle.swift_explorer.specs.KeysInside.{IsKeyOf, end_numbers, outcome_bytes};
 ghost use Rattle.swift_explorer.specs.SearchInside.{IsSound};
+ghost use Rattle.swift_keys.specs.Numbers.{list_numbers};
 
 use crate::history::{Followed, SearchedHistory};
 use crate::moves::Move;
@@ -12,8 +14,10 @@ use crate::outcome::{End, RunOutcome};
 use script_names::{Names, Seed};
 use std::alloc::{AllocError, Global};
 use std::sync::Arc;
+use swift_events::Origin;
 use swift_keys::{pack, put_ending, put_fields, put_origin};
 use swift_script::Script;
+use swift_types::Ending;
 
 // A history that was kept: one step after another that was.
 #[derive(Clone, Copy)]
@@ -75,21 +79,33 @@ fn with_step(alloc: Global, path: &[Move], step: Move) -> Result<Vec<Move>, Allo
     Ok(steps)
 }
 
-// An outcome, as bytes.
-fn outcome_key(alloc: Global, outcome: &RunOutcome) -> Result<Vec<u8>, AllocError> {
-    let mut key = Vec::new(alloc);
-    for (origin, ending) in &outcome.endings {
+// Where each task comes from and how it has ended, as numbers.
+fn put_endings(key: &mut Vec<i64>, endings: &[(Origin, Ending)]) -> Result<(), AllocError>
+    ensures { OnOk result (key.new.items ≡ key.old.items ++ list_numbers end_numbers endings.now) }
+{
+    for (origin, ending) in endings {
         key.push(1)?;
-        put_origin(&mut key, *origin)?;
-        put_ending(&mut key, *ending)?;
+        put_origin(key, *origin)?;
+        put_ending(key, *ending)?;
     }
     key.push(0)?;
+    Ok(())
+}
+
+// An outcome, as bytes.
+fn outcome_key(alloc: Global, outcome: &RunOutcome) -> Result<Vec<u8>, AllocError>
+    ensures { IfOk result (λ key. key.items ≡ outcome_bytes outcome.now) }
+{
+    let mut key = Vec::new(alloc);
+    put_endings(&mut key, &outcome.endings)?;
     put_fields(&mut key, &outcome.fields)?;
     pack(alloc, &key)
 }
 
 // What decides how a history may go on, as bytes.
-fn key_of(alloc: Global, history: SearchedHistory) -> Result<Vec<u8>, AllocError> {
+fn key_of(alloc: Global, history: SearchedHistory) -> Result<Vec<u8>, AllocError>
+    ensures { IfOk result (λ key. IsKeyOf history key.items) }
+{
     let numbers = history.into_key()?;
     pack(alloc, &numbers)
 }
