@@ -11,6 +11,8 @@ mod Paths
 mod Sound
 mod SameMoves
 mod EachMove
+mod Written
+mod Alike
 mod Nodes
 mod Growing
 mod Keeping
@@ -18,4 +20,3 @@ mod Trying
 mod Noting
 mod KnownEnds
 mod Complete
-mod Alike

@@ -1,14 +1,14 @@
 -- Keys of histories and of outcomes. No public clause names these.
-use Rattle.std.specs.Prelude.{◌≡◌, ℕ, ℤ, Bool, Option, List, [], ◌∷◌, ◌++◌, map, reverse}
+use Rattle.std.specs.Prelude.{◌≡◌, ℕ, ℤ, Bool, Option, List, [], ◌∷◌, ◌++◌, length, map, reverse}
 use Rattle.std.specs.Option.{option_map}
 use Rattle.script_code.specs.Seen.{rows_of}
 use Rattle.swift_types.specs.declared.outcome.Ending.{Ending}
 use Rattle.swift_types.specs.declared.outcome.Resume.{Resume}
-use Rattle.swift_script.specs.Scripts.{ScriptView}
+use Rattle.swift_script.specs.Scripts.{ScriptView, root_count}
 use Rattle.swift_interpreter.specs.Frames.{FrameView}
 use Rattle.swift_turn.specs.Body.{TaskView}
-use Rattle.swift_events.specs.declared.event.Event.{Event}
 use Rattle.swift_events.specs.declared.life.Origin.{Origin}
+use Rattle.swift_events.specs.Events.{tasks_of}
 use Rattle.swift_history.specs.Histories.{Block}
 use Rattle.swift_history.specs.TurnEnds.{JobFacts}
 use Rattle.swift_tasks.specs.Books.{jobs_held}
@@ -31,12 +31,13 @@ abbrev pub frames_left : List FrameView → List FrameView
 frames_left [] = []
 frames_left (p ∷ callers) = p ∷ map (with_counts p) callers
 
+-- a task with its frames so
 abbrev pub task_left : TaskView → TaskView
 task_left v = record { frames = frames_left v.frames; outer = v.outer }
 
 -- the bindings and the frames of a task as numbers
-abbrev pub task_numbers : TaskView → List ℤ
-task_numbers v = bindings_numbers v.outer ++ list_numbers frame_numbers v.frames
+abbrev pub body_numbers : TaskView → List ℤ
+body_numbers v = bindings_numbers v.outer ++ list_numbers frame_numbers v.frames
 
 -- what the next turn of a task begins with: its number, what it resumes with, and the task's frames
 pub record ReadyView : Type 0 where
@@ -48,15 +49,17 @@ pub record ReadyView : Type 0 where
 abbrev pub ready_view : Ready → ReadyView
 ready_view g = record { number = g.number; resume = g.resume; frames = task_left g.body.task }
 
+-- the same as numbers
 abbrev pub ready_numbers : ReadyView → List ℤ
-ready_numbers g = number_numbers g.number ++ (resume_numbers g.resume ++ task_numbers g.frames)
+ready_numbers g = number_numbers g.number ++ (resume_numbers g.resume ++ body_numbers g.frames)
 
 -- a job, with its frames as they are left
 abbrev pub job_left : JobFacts → JobFacts
 job_left j = record j { frames = task_left j.frames }
 
+-- a job as numbers
 abbrev pub job_numbers : JobFacts → List ℤ
-job_numbers j = number_numbers j.task ++ (number_numbers j.number ++ (resume_numbers j.resume ++ task_numbers j.frames))
+job_numbers j = number_numbers j.task ++ (number_numbers j.number ++ (resume_numbers j.resume ++ body_numbers j.frames))
 
 -- The numbers of all but the digest: what the tasks that wait will go on with, which executors have run a turn, the fields, and what the
 -- other tasks go on with. Tasks come from the last one.
@@ -64,19 +67,14 @@ abbrev pub rest_numbers : List JobFacts → List Bool → List (List (List ℤ))
 rest_numbers waiting used fields ready =
     list_numbers job_numbers (reverse waiting) ++ (list_numbers flag_numbers used ++ (fields_numbers fields ++ list_numbers (option_numbers ready_numbers) (reverse ready)))
 
--- the numbers are these, and then the digest of this log
-pub record AreNumbers (log : List Event) (rest numbers : List ℤ) : Type 0 where
-  pub before : List ℤ
-  pub before_is : before ≡ rest
-  pub written : IsWritten (digest_of log) before numbers
-
 -- the numbers of a history that is followed, without its digest
 abbrev pub rest_of : SearchedHistory → List ℤ
 rest_of x = rest_numbers (map job_left (jobs_held 0 x.book.held)) x.used.items (rows_at x) (map (option_map ready_view) x.tasks.items)
 
--- these numbers decide how a history that is followed may go on
-abbrev pub IsNumbered : SearchedHistory → List ℤ → Type 0
-IsNumbered x numbers = IsWritten (digest_of x.book.log) (rest_of x) numbers
+-- These numbers decide how a history that is followed may go on: its digest comes last. It has a place for each task, as one may wait.
+pub record IsNumbered (x : SearchedHistory) (numbers : List ℤ) : Type 0 where
+  pub written : IsWritten (digest_of x.book.log) (rest_of x) numbers
+  pub places : length x.book.held ≡ tasks_of (root_count x.book.script) x.book.log
 
 -- these bytes decide how it may go on
 abbrev pub IsKeyOf : SearchedHistory → List ℕ → Type 0
@@ -87,9 +85,9 @@ abbrev pub IsKeyFor : ScriptView → List Block → List ℕ → Type 0
 IsKeyFor script blocks key = (x : SearchedHistory) × IsHistory script blocks x × IsKeyOf x key
 
 -- where a task comes from and how it has ended
-abbrev pub ended_numbers : Origin × Ending → List ℤ
-ended_numbers = pair_numbers origin_numbers ending_numbers
+abbrev pub end_numbers : Origin × Ending → List ℤ
+end_numbers = pair_numbers origin_numbers ending_numbers
 
 -- the bytes of an outcome: the endings of its tasks, and the fields
 abbrev pub outcome_bytes : RunOutcome → List ℕ
-outcome_bytes o = all_packed (list_numbers ended_numbers o.endings.items ++ fields_numbers (map (λ rows. rows_of rows.items) o.fields.items))
+outcome_bytes o = all_packed (list_numbers end_numbers o.endings.items ++ fields_numbers (map (λ rows. rows_of rows.items) o.fields.items))

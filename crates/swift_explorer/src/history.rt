@@ -17,8 +17,9 @@ ghost use Rattle.swift_types.specs.declared.outcome.Ending.{Ending};
 ghost use Rattle.swift_events.specs.declared.life.Origin.{Origin};
 ghost use Rattle.swift_explorer.specs.EndsInside.{IsEndedAs, IsKnownEnd, SomeGoesOn};
 ghost use Rattle.swift_explorer.specs.HistoryInside.{Applies, AreEnded, AreFirst, AreOf, AreThere, GoesOn, HasEachMove, HaveClosed, IsHistory, IsMissing, IsPath, IsSomeHistory, JobRunsAt, MayBegin, WasDone, rows_at, seat_of, HasEach, IsBusy, IsUnderWay};
+ghost use Rattle.swift_explorer.specs.KeysInside.{IsNumbered};
 
-use crate::frames::put_ready;
+use crate::frames::{put_jobs, put_ready};
 use crate::moves::Move;
 use crate::outcome::{End, RunOutcome};
 use crate::waiting::{Ready, give_all_up, put, put_all, take};
@@ -446,28 +447,31 @@ impl SearchedHistory {
     }
 
     /// What decides how it may go on, as numbers. It gives the history up.
-    pub fn into_key(self) -> Result<Vec<i64>, AllocError> {
+    pub fn into_key(self) -> Result<Vec<i64>, AllocError>
+        ensures { IfOk result (λ key. IsNumbered self key.items) }
+    {
         let SearchedHistory {
             alloc,
             script: _,
             book,
-            mut tasks,
+            tasks,
             fields,
             used,
             roots: _,
             jobs,
         } = self;
         give_all_up(jobs);
+        book.facts();
         let (log, mut waiting) = book.close();
-        let kept = put_all(&mut tasks, &mut waiting);
-        give_all_up(waiting);
-        kept?;
-        let events = events_of(alloc, &log)?;
         let mut key = Vec::new(alloc);
-        put_digest(alloc, &mut key, &events)?;
+        let put = put_jobs(&mut key, &mut waiting);
+        give_all_up(waiting);
+        put?;
         put_flags(&mut key, &used)?;
         put_fields(&mut key, &fields)?;
         put_ready(&mut key, tasks)?;
+        let events = events_of(alloc, &log)?;
+        put_digest(alloc, &mut key, &events)?;
         Ok(key)
     }
 
@@ -512,7 +516,9 @@ fn all_copied(alloc: Global, all: &[Vec<Vec<i64>>]) -> Result<Vec<Vec<Vec<i64>>>
 }
 
 // The events of a log.
-fn events_of(alloc: Global, log: &EventLog) -> Result<Vec<Event>, AllocError> {
+fn events_of(alloc: Global, log: &EventLog) -> Result<Vec<Event>, AllocError>
+    ensures { IfOk result (λ events. events.items ≡ log.now.events) }
+{
     let mut events = Vec::with_capacity(alloc, log.len())?;
     for place in 0..log.len() {
         events.push(log.event(place))?;

@@ -7,8 +7,9 @@ ghost use Rattle.swift_explorer.specs.Outcomes.{HasEachOutcome, IfReached, IsBro
 ghost use Rattle.swift_explorer.specs.declared.outcome.RunOutcome.{RunOutcome};
 ghost use Rattle.swift_explorer.specs.HistoryInside.{IsPath, WasDone};
 ghost use Rattle.swift_explorer.specs.EndsInside.{HasEnd, IsKnownEnd};
-ghost use Rattle.swift_explorer.specs.KeysInside.{IsKeyOf, outcome_bytes};
+ghost use Rattle.swift_explorer.specs.KeysInside.{IsKeyOf, outcome_bytes, end_numbers};
 ghost use Rattle.swift_explorer.specs.SearchInside.{GoOn, HasGrown, IsAhead, IsExpandedAt, IsFollowedBy, IsNoted, IsSound, Keeps, MayGoOn, StepWasTried, path_after, paths_of};
+ghost use Rattle.swift_keys.specs.Numbers.{list_numbers};
 
 use crate::history::{Followed, SearchedHistory};
 use crate::moves::Move;
@@ -16,8 +17,10 @@ use crate::outcome::{End, RunOutcome};
 use script_names::{Names, Seed};
 use std::alloc::{AllocError, Global};
 use std::sync::Arc;
+use swift_events::Origin;
 use swift_keys::{pack, put_ending, put_fields, put_origin};
 use swift_script::Script;
+use swift_types::Ending;
 
 // A history that was kept: one step after another that was.
 #[derive(Clone, Copy)]
@@ -80,17 +83,25 @@ fn with_step(alloc: Global, path: &[Move], step: Move) -> Result<Vec<Move>, Allo
     Ok(steps)
 }
 
+// Where each task comes from and how it has ended, as numbers.
+fn put_endings(key: &mut Vec<i64>, endings: &[(Origin, Ending)]) -> Result<(), AllocError>
+    ensures { OnOk result (key.new.items ≡ key.old.items ++ list_numbers end_numbers endings.now) }
+{
+    for (origin, ending) in endings {
+        key.push(1)?;
+        put_origin(key, *origin)?;
+        put_ending(key, *ending)?;
+    }
+    key.push(0)?;
+    Ok(())
+}
+
 // An outcome, as bytes.
 fn outcome_key(alloc: Global, outcome: &RunOutcome) -> Result<Vec<u8>, AllocError>
     ensures { IfOk result (λ key. key.items ≡ outcome_bytes outcome.now) }
 {
     let mut key = Vec::new(alloc);
-    for (origin, ending) in &outcome.endings {
-        key.push(1)?;
-        put_origin(&mut key, *origin)?;
-        put_ending(&mut key, *ending)?;
-    }
-    key.push(0)?;
+    put_endings(&mut key, &outcome.endings)?;
     put_fields(&mut key, &outcome.fields)?;
     pack(alloc, &key)
 }
