@@ -10,7 +10,7 @@ use Rattle.swift_laws.specs.Laws.{ActorsHaveExecutors}
 use Rattle.swift_course.specs.Course.{start_of, starts}
 use Rattle.swift_course.proofs.Starts.{many_starts}
 use Rattle.swift_digest.specs.Explored.{AllAllowed, FoldsNone, IsOrderly, IsOrderlyLegal, IsOutcome, StartsFresh, state_of}
-use Rattle.swift_digest.proofs.Outcomes.{NoneFolded, made, none_in, not_folded, outcome_too}
+use Rattle.swift_digest.proofs.Outcomes.{Made, NoneFolded, made, none_in, not_folded, outcome_too}
 use Rattle.swift_digest.proofs.SameStands.{all_push}
 use Rattle.swift_explorer.specs.declared.moves.Move.{Move}
 use Rattle.swift_explorer.specs.declared.outcome.RunOutcome.{RunOutcome}
@@ -80,11 +80,13 @@ module _ (script : ScriptView) (x : Search) (first : HasLike script (paths_of x.
       )
 
   module _ (report : ReportView) (orderly : IsOrderlyLegal script report) (folds : FoldsNone report) where
+    made_is : Made script report orderly.legal
     made_is = made script report orderly.legal folds
 
     cps_are : report.checkpoints ≡ starts script
     cps_are = fresh_starts script report.checkpoints made_is.fresh
 
+    walked : HasLike script (paths_of x.nodes.items) orderly.legal.blocks × ((b : Block) → Contains orderly.legal.blocks b → x.broken ≡ None → IsBroken b → ⊥)
     walked = walk orderly.legal.blocks [] tt (subst (λ (cps : List CheckpointView). AllStand script cps [] orderly.legal.blocks) cps_are orderly.legal.stand) orderly.orderly made_is.none first
 
     pub has_outcome : (o : RunOutcome) × Contains x.outcomes.items o × Tells o report

@@ -23,7 +23,7 @@ pub known_tells : (os : List RunOutcome) (ends : List (List ℕ)) (key : List �
 known_tells os ends key outcome noted keyed is report tells =
     let one = noted key (among_there ends key is) in
     let same = outcome_read outcome one.0 (sym (one.2 ∙ keyed)) in
-    (one.0, one.1, tells.0 ∙ same.0, tells.1 ∙ same.1)
+    (one.0, one.1, (tells.0 ∙ same.0, tells.1 ∙ same.1))
 
 -- one outcome more, and its key
 

@@ -302,6 +302,26 @@ impl Search {
         Ok(())
     }
 
+    // Goes on from a history to which these steps have led, where this is known of what comes after it.
+    fn go_on(
+        &mut self,
+        path: &[Move],
+        place: usize,
+        moves: &[Move],
+        end: End,
+    ) -> Result<(), AllocError>
+        requires sound { IsSound (arc_value self.old.script) self.old }
+        requires path { slice_get (paths_of self.old.nodes.items) place ≡ Some path.now }
+        requires outcome { IfReached (IsOutcomeOf (arc_value self.old.script)) end }
+        requires ahead { IsAhead (arc_value self.old.script) path.now moves.now end }
+        ensures grown { OnOk result (HasGrown self.old self.new) }
+        ensures sound { OnOk result (IsSound (arc_value self.old.script) self.new) }
+        ensures expanded { OnOk result (IsTrue self.new.is_complete → IsExpandedAt (arc_value self.old.script) self.new place) }
+    {
+        self.note(end)?;
+        self.try_all(path, place, moves)
+    }
+
     // Goes on from a history that is kept.
     fn expand(&mut self, place: usize) -> Result<(), AllocError>
         requires sound { IsSound (arc_value self.old.script) self.old }
@@ -315,10 +335,7 @@ impl Search {
         let seen = look_ahead(&mut history, &path);
         history.close();
         match seen? {
-            Some((moves, end)) => {
-                self.note(end)?;
-                self.try_all(&path, place, &moves)
-            }
+            Some((moves, end)) => self.go_on(&path, place, &moves, end),
             None => {
                 self.is_complete = false;
                 Ok(())
