@@ -32,6 +32,6 @@ returns c =
         path,
         grown.paths c.args.place path (note.grown.paths c.args.place path c.requires.path),
         expanded script z path c.args.moves.now c.args.end c.requires.ahead (subst (λ (s : ScriptView). All (StepWasTried s z path) c.args.moves.now) own (tried is)) (λ blocks known report of.
-        (let o = note.noted (grown.complete is) blocks known report of in (o.0, grown.outcomes o.0 o.1, o.2))),
+            (let o = note.noted (grown.complete is) blocks known report of in (o.0, grown.outcomes o.0 o.1, o.2))),
       )) made.grown made.tried;
     }
