@@ -17,7 +17,7 @@ use Rattle.swift_digest.proofs.Answers.{tasks_of_is, life_of_is}
 use Rattle.swift_digest.proofs.SameStands.{all_push, block_stands, lead_push}
 use Rattle.swift_digest.proofs.SameLogs.{same_life}
 use Rattle.swift_digest.specs.Futures.{LeadAlike, IsLike}
-use Rattle.swift_digest.specs.Plans.{FramePlan, JobPlan, plan_of, job_plan}
+use Rattle.swift_digest.specs.Plans.{FramePlan, JobPlan, plan_of, frame_plans, job_plan}
 use Rattle.swift_interpreter.specs.Frames.{FrameView}
 use Rattle.std.specs.Option.{option_map}
 use Rattle.swift_digest.specs.Digests.{Digest}
@@ -26,14 +26,14 @@ use Rattle.swift_history.specs.TurnEnds.{JobFacts}
 
 module _ (script : ScriptView) (on : ActorsHaveExecutors script) (cps : List CheckpointView) where
   -- no block is a folded turn
-  abbrev NoneFolded : List Block → Type 0
+  abbrev pub NoneFolded : List Block → Type 0
   NoneFolded bs = (e : ℕ) → e < executor_count script → folded_of e bs ≡ []
 
-  none_in : (o : Option FoldedView) (fs : List FoldedView) → cons_option o fs ≡ [] → (o ≡ None) × (fs ≡ [])
+  pub none_in : (o : Option FoldedView) (fs : List FoldedView) → cons_option o fs ≡ [] → (o ≡ None) × (fs ≡ [])
   none_in None fs is = (refl, is)
   none_in (Some f) fs is = absurd (cc is)
 
-  not_folded : (before : List Block) (b : Block) (bs : List Block) → Stands script cps before b → NoneFolded (b ∷ bs) → IsNotFolded b
+  pub not_folded : (before : List Block) (b : Block) (bs : List Block) → Stands script cps before b → NoneFolded (b ∷ bs) → IsNotFolded b
   not_folded before (added r) bs stands none = tt
   not_folded before (begun t n env) bs stands none = tt
   not_folded before (ran e r) bs stands none = tt
@@ -60,12 +60,12 @@ module _ (script : ScriptView) (Allowed : List Block → Block → Type 0) (stat
   explored_has bs stand may none = explored_all bs [] tt tt stand may none (explored.first cps fresh)
 
 -- what a legal report without folded turns is made by, and what it says at its end
-record Made (script : ScriptView) (report : ReportView) (legal : IsLegal script report) : Type 0 where
-  fresh : StartsFresh script report.checkpoints
-  none : (e : ℕ) → e < executor_count script → folded_of e legal.blocks ≡ []
-  outcome : IsOutcome script (state_of script report.checkpoints legal.blocks) report
+pub record Made (script : ScriptView) (report : ReportView) (legal : IsLegal script report) : Type 0 where
+  pub fresh : StartsFresh script report.checkpoints
+  pub none : (e : ℕ) → e < executor_count script → folded_of e legal.blocks ≡ []
+  pub outcome : IsOutcome script (state_of script report.checkpoints legal.blocks) report
 
-made : (script : ScriptView) (report : ReportView) (legal : IsLegal script report) → FoldsNone report → Made script report legal
+pub made : (script : ScriptView) (report : ReportView) (legal : IsLegal script report) → FoldsNone report → Made script report legal
 made script report legal folds =
     let s = after_blocks script (at_first script) legal.blocks in
     let tasks : tasks_of (root_count script) report.log ≡ tasks_of (root_count script) s.log = ap (tasks_of (root_count script)) legal.log in
@@ -105,7 +105,7 @@ each_orderly_outcome script states report on explored orderly folds = outcome sc
 -- one history for each standing
 
 module _ (script : ScriptView) where
-  frames_by : (ps qs : List FrameView) → map (plan_of script) ps ≡ map (plan_of script) qs → frames_executor script ps ≡ frames_executor script qs
+  frames_by : (ps qs : List FrameView) → frame_plans script ps ≡ frame_plans script qs → frames_executor script ps ≡ frames_executor script qs
   frames_by [] [] same = refl
   frames_by (p ∷ ps) (q ∷ qs) same = let one : plan_of script p ≡ plan_of script q = cc same in ap (λ (h : FramePlan). Some (actor_executor script (method_actor script h.method))) one
   frames_by [] (q ∷ qs) same = absurd (cc same)
@@ -117,15 +117,15 @@ module _ (script : ScriptView) where
   by_plans None (Some k) same = absurd (cc same)
   by_plans (Some j) None same = absurd (cc same)
 
-module _ (script : ScriptView) (histories : List (List Block)) (reps : AreRepresented script histories) (on : ActorsHaveExecutors script) (cps : List CheckpointView) (fresh : StartsFresh script cps) where
-  lead_on : (a b c : List Block) → LeadAlike script cps a b → LeadAlike script cps b c → LeadAlike script cps a c
+module _ (script : ScriptView) (cps : List CheckpointView) where
+  pub lead_on : (a b c : List Block) → LeadAlike script cps a b → LeadAlike script cps b c → LeadAlike script cps a c
   lead_on a b c one two = record {
     standing = record { digest = one.standing.digest ∙ two.standing.digest; held = one.standing.held ∙ two.standing.held; jobs = λ t. one.standing.jobs t ∙ two.standing.jobs t };
     fields = λ e. one.fields e ∙ two.fields e;
     unused = λ e none. two.unused e (one.unused e none);
   }
 
-  orderly_too : (before others : List Block) → LeadAlike script cps before others → (b c : Block) → IsLike script b c → IsOrderly script before b → IsOrderly script others c
+  pub orderly_too : (before others : List Block) → LeadAlike script cps before others → (b c : Block) → IsLike script b c → IsOrderly script before b → IsOrderly script others c
   orderly_too before others lead (added r) c like is =
       let s = after_blocks script (at_first script) before in
       let z = after_blocks script (at_first script) others in
@@ -141,12 +141,13 @@ module _ (script : ScriptView) (histories : List (List Block)) (reps : AreRepres
   orderly_too before others lead (ran e r) c like is = subst (IsOrderly script others) (sym like.2) tt
   orderly_too before others lead (folded e f) c like is = subst (IsOrderly script others) like tt
 
-  unfolded_too : (b c : Block) → IsLike script b c → IsNotFolded b → IsNotFolded c
+  pub unfolded_too : (b c : Block) → IsLike script b c → IsNotFolded b → IsNotFolded c
   unfolded_too (added r) c like is = subst IsNotFolded like tt
   unfolded_too (begun t n env) c like is = subst IsNotFolded like tt
   unfolded_too (ran e r) c like is = subst IsNotFolded (sym like.2) tt
   unfolded_too (folded e f) c like is = absurd is
 
+module _ (script : ScriptView) (histories : List (List Block)) (reps : AreRepresented script histories) (on : ActorsHaveExecutors script) (cps : List CheckpointView) (fresh : StartsFresh script cps) where
   abbrev HasOne : List Block → Type 0
   HasOne bs = (k : List Block) × Contains histories k × LeadAlike script cps bs k
 
@@ -156,9 +157,9 @@ module _ (script : ScriptView) (histories : List (List Block)) (reps : AreRepres
       let also : AllStand script cps [] h = reps.stand cps h fresh one.1 in
       let o = block_stands script cps before h one.2 b stands in
       let c : Block = o.other in
-      let k = reps.next cps h c fresh one.1 (unfolded_too b c o.like unfolded) o.stands (orderly_too before h one.2 b c o.like orderly) in
+      let k = reps.next cps h c fresh one.1 (unfolded_too script cps b c o.like unfolded) o.stands (orderly_too script cps before h one.2 b c o.like orderly) in
       let lead = lead_push script cps before h one.2 b c o.like (all_push script cps before [] b stood stands) (all_push script cps h [] c also o.stands) in
-      (k.0, k.1, lead_on (before ++ b ∷ []) (h ++ c ∷ []) k.0 lead k.2)
+      (k.0, k.1, lead_on script cps (before ++ b ∷ []) (h ++ c ∷ []) k.0 lead k.2)
 
   has_all : (bs before : List Block) → AllStand script cps [] before → AllStand script cps before bs → AllAllowed (IsOrderly script) before bs → NoneFolded script on cps bs → HasOne before → HasOne (before ++ bs)
   has_all [] before stood stand may none one = subst HasOne (sym (append-nil before)) one
@@ -167,7 +168,7 @@ module _ (script : ScriptView) (histories : List (List Block)) (reps : AreRepres
       (has_all bs (before ++ b ∷ []) (all_push script cps before [] b stood stand.0) stand.1 may.1 (λ e low. (none_in script on cps (folded_in e b) (folded_of e bs) (none e low)).1)
       (has_next before b stood (not_folded script on cps before b bs stand.0 none) stand.0 may.0 one))
 
-outcome_too : (script : ScriptView) (cps : List CheckpointView) (report : ReportView) (a b : List Block) → LeadAlike script cps a b → IsOutcome script (state_of script cps a) report → IsOutcome script (state_of script cps b) report
+pub outcome_too : (script : ScriptView) (cps : List CheckpointView) (report : ReportView) (a b : List Block) → LeadAlike script cps a b → IsOutcome script (state_of script cps a) report → IsOutcome script (state_of script cps b) report
 outcome_too script cps report a b lead is =
     let same = lead.standing.digest in
     record {

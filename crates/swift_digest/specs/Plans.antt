@@ -1,6 +1,6 @@
 -- Frames without their instruction's number (our own). More than one number can stand for the same rest of a method, as each past
 -- its last instruction stands for its end, and a lawful record may have any of these. So a plan has that rest itself.
-use Rattle.std.specs.Prelude.{ℕ, ℤ, Option, List, map}
+use Rattle.std.specs.Prelude.{ℕ, ℤ, Option, List, [], ◌∷◌, map}
 use Rattle.std.specs.Option.{option_map}
 use Rattle.swift_types.specs.declared.outcome.Fault.{Fault}
 use Rattle.swift_types.specs.declared.outcome.Resume.{Resume}
@@ -37,6 +37,15 @@ plan_of script p = record {
   opened = p.opened;
 }
 
+-- the plan of a caller: its counts do not matter, since it gets those of the frame that returns to it
+abbrev pub caller_plan : ScriptView → FrameView → FramePlan
+caller_plan script p = record (plan_of script p) { made = 0; opened = 0 }
+
+-- the plans of a task's frames: of the one that runs, and of its callers
+abbrev pub frame_plans : ScriptView → List FrameView → List FramePlan
+frame_plans script [] = []
+frame_plans script (p ∷ callers) = plan_of script p ∷ map (caller_plan script) callers
+
 -- a task's frames and bindings, with plans in place of frames
 pub record TaskPlan : Type 0 where
   pub frames : List FramePlan
@@ -54,9 +63,9 @@ pub record WaitingTaskPlan : Type 0 where
   pub number : ℕ
   pub plan : TaskPlan
 
--- the plan of a task: that of each frame, and the same bindings
+-- the plan of a task: those of its frames, and the same bindings
 abbrev pub task_plan : ScriptView → TaskView → TaskPlan
-task_plan script v = record { frames = map (plan_of script) v.frames; outer = v.outer }
+task_plan script v = record { frames = frame_plans script v.frames; outer = v.outer }
 
 -- a job with the plan of its task, and all else as it is
 abbrev pub job_plan : ScriptView → JobFacts → JobPlan

@@ -25,7 +25,7 @@ use Rattle.swift_explorer.specs.HistoryInside.{AreEnded, HaveClosed, IsLed}
 use Rattle.swift_explorer.proofs.First.{mapped, range_at, range_length}
 
 -- what stands at a place of a list with one more
-push_at : {A : Type 0} (xs : List A) (x y : A) (t : ℕ) → slice_get (xs ++ x ∷ []) t ≡ Some y → (slice_get xs t ≡ Some y) ⊎ ((t ≡ length xs) × (x ≡ y))
+pub push_at : {A : Type 0} (xs : List A) (x y : A) (t : ℕ) → slice_get (xs ++ x ∷ []) t ≡ Some y → (slice_get xs t ≡ Some y) ⊎ ((t ≡ length xs) × (x ≡ y))
 push_at [] x y zero at = inr (refl, ap (λ o. unwrap_or o x) at)
 push_at [] x y (suc t) at = absurd (none-some y at)
 push_at (z ∷ xs) x y zero at = inl at

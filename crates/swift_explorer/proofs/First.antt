@@ -1,9 +1,9 @@
 -- A history of which nothing was followed.
-use Rattle.std.proofs.Common.{Bool, false, ◌≡◌, ◌<◌, ℕ, zero, suc, ◌+◌, List, [], ◌∷◌, ◌++◌, length, map, refl, sym, subst, ap, ◌∙◌, ℤ, arith}
+use Rattle.std.proofs.Common.{Bool, false, ◌≡◌, ◌<◌, ◌≤◌, ℕ, zero, suc, ◌+◌, List, [], ◌∷◌, ◌++◌, length, map, refl, sym, subst, ap, ◌∙◌, ℤ, arith}
 use Rattle.std.specs.Prelude.{Option, Some, None, slice_get, slice_index_or, replicate}
 use Rattle.std.specs.Option.{option_map}
 use Rattle.std.specs.List.{range_with_len}
-use Rattle.std.proofs.lemmas.List.{length-map}
+use Rattle.std.proofs.lemmas.List.{length-map, length-replicate}
 use Rattle.std.proofs.lemmas.Option.{none-some, slice_get-map}
 use Rattle.swift_script.specs.Scripts.{ScriptView, executor_count, executor_start}
 use Rattle.swift_tasks.specs.Books.{BookView, empty_book}
@@ -65,3 +65,9 @@ first_led script fields b tasks no_tasks first empty = record {
 
 pub none_used : (used : List Bool) (n : ℕ) → used ≡ replicate n false → (e : ℕ) → slice_index_or used e false ≡ false
 none_used used n is e = ap (λ (us : List Bool). slice_index_or us e false) is ∙ replicate_at n e
+
+pub few_used : (script : ScriptView) (used : List Bool) (fields : List (List (List ℤ))) (n : ℕ) → used ≡ replicate n false → n ≡ length fields → AreFirst script fields → length used ≤ executor_count script
+few_used script used fields n is many first =
+    let count = ap length first ∙ length-map (range_with_len 0 (executor_count script)) (executor_start script) ∙ range_length 0 (executor_count script) in
+    let size : length used ≡ n = ap length is ∙ length-replicate n false in
+    omega (arith, size, many, count)

@@ -22,7 +22,7 @@ use Rattle.swift_explorer.proofs.Given.{of_put, of_taken}
 use Rattle.swift_explorer.proofs.Led.{led_begin, led_root}
 
 -- a job whose task and rest stand apart
-view_is : (j : JobView BodyView) (t : TaskId) (g : Ready) → t ≡ j.task → g ≡ record { number = j.number; resume = j.resume; body = j.body } → given_view t.0 g ≡ job_facts j
+pub view_is : (j : JobView BodyView) (t : TaskId) (g : Ready) → t ≡ j.task → g ≡ record { number = j.number; resume = j.resume; body = j.body } → given_view t.0 g ≡ job_facts j
 view_is j t g at is = ap (λ (x : TaskId). given_view x.0 g) at ∙ ap (λ (h : Ready). given_view j.task.0 h) is
 
 -- what a step that runs no turn leaves

@@ -40,7 +40,7 @@ if_none : (b : Bool) (x : BookFault) → (if b then None else Some x) ≡ None �
 if_none true x is = refl
 if_none false x is = absurd (none-some x (sym is))
 
-first_of_both : (a b : Bool) → (a && b) ≡ true → a ≡ true
+pub first_of_both : (a b : Bool) → (a && b) ≡ true → a ≡ true
 first_of_both true b is = refl
 first_of_both false b is = absurd (false≢true is)
 

@@ -9,3 +9,14 @@ mod Ran
 mod Used
 mod Paths
 mod Sound
+mod SameMoves
+mod EachMove
+mod Written
+mod Alike
+mod Nodes
+mod Growing
+mod Keeping
+mod Trying
+mod Noting
+mod KnownEnds
+mod Complete

@@ -27,7 +27,7 @@ seat_by : (script : ScriptView) (u : ℕ) (o : Option Ready) → seat_if script 
 seat_by script u None = refl
 seat_by script u (Some g) = refl
 
-seat_is : (script : ScriptView) (tasks : List (Option Ready)) (jobs : ℕ → Option JobFacts) (u : ℕ) → AreGiven jobs tasks → seat_of script tasks u ≡ job_executor script (jobs u)
+pub seat_is : (script : ScriptView) (tasks : List (Option Ready)) (jobs : ℕ → Option JobFacts) (u : ℕ) → AreGiven jobs tasks → seat_of script tasks u ≡ job_executor script (jobs u)
 seat_is script tasks jobs u given = seat_by script u (given_at tasks u) ∙ ap (job_executor script) (sym (given u))
 
 -- the first root that is missing may be added

@@ -28,7 +28,7 @@ use Rattle.swift_explorer.specs.HistoryInside.{WasDone, Applies, AreOf, IsHistor
 use Rattle.swift_explorer.proofs.Given.{of_taken}
 use Rattle.swift_explorer.proofs.Led.{Runs, led_run}
 use Rattle.swift_explorer.proofs.Orderly.{allowed_push}
-use Rattle.swift_explorer.proofs.Used.{used_set}
+use Rattle.swift_explorer.proofs.Used.{used_set, used_short}
 
 on_own : (script own : ScriptView) (fs : List FrameView) (k : ℕ) → script ≡ own → IfRunning fs (λ p. actor_executor script (method_actor script p.method) ≡ k) → IfRunning fs (λ p. actor_executor own (method_actor own p.method) ≡ k)
 on_own script own fs k is on = subst (λ (sc : ScriptView). IfRunning fs (λ p. actor_executor sc (method_actor sc p.method) ≡ k)) is on
@@ -43,7 +43,7 @@ pub run_step : (script : ScriptView) (blocks : List Block) (x y z : SearchedHist
     → body ≡ record g.body { task = record g.body.task { frames = body.task.frames }; phase = body.phase }
     → y.script ≡ x.script → y.book ≡ x.book → y.roots ≡ x.roots
     → k < length x.used.items → y.used.items ≡ set x.used.items k true → Applies y z t (record g { body = body }) effects exit f
-    → (b : Block) × IsStep x.roots (step.Run t) b × IsHistory script (blocks ++ b ∷ []) z × (z.roots ≡ x.roots) × (f ≡ Broken → IsBroken b)
+    → (b : Block) × IsStep x.roots (step.Run t) b × IsHistory script (blocks ++ b ∷ []) z × (z.roots ≡ x.roots) × (f ≡ Broken → IsBroken b) × (f ≡ Yes → IsBroken b → ⊥)
 run_step script blocks x y z t g k env rows rows' body effects exit f h was took begun at rows_are fields_are many polls rest same_script same_book same_roots in_used used a =
     let own = x.book.script in
     let mine : g.body.script ≡ own = (h.scripts t.0 g was).script_is ∙ sym h.book_is in
@@ -82,10 +82,12 @@ run_step script blocks x y z t g k env rows rows' body effects exit f h was took
         none = a.none;
         scripts = subst (λ (sc : ScriptView). AreOf sc z.tasks.items) y_script (a.scripts (subst (λ (sc : ScriptView). AreOf sc y.tasks.items) (sym y_script) between));
         used = λ e. ap (λ (us : Vec Bool Global). slice_index_or us.items e false) a.used_are ∙ ap (λ (us : List Bool). slice_index_or us e false) used ∙ used_set x.used.items blocks k more.0 in_used h.used e;
+        short = used_short script x.used.items y.used.items z.used.items k h.short used (ap (λ (us : Vec Bool Global). us.items) a.used_are);
         led = subst (λ (n : ℕ). IsLed script (blocks ++ b ∷ []) z.book.log z.book.held z.tasks.items (rows_at z) n) (sym same_roots ∙ sym a.roots_are) led'';
       },
       a.roots_are ∙ same_roots,
       λ is. subst BreaksInvariant (sym more.2) (a.told is),
+      λ is breaks. a.quiet is (subst BreaksInvariant more.2 breaks),
     )
 
 -- a task that has had a turn has frames still

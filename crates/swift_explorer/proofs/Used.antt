@@ -1,7 +1,8 @@
 -- Which executors have run a turn.
-use Rattle.std.proofs.Common.{◌≡◌, ℕ, ◌<◌, List, [], ◌∷◌, ◌++◌, length, set, get_or-set_same, get_or-set_other, sym, subst, ap, ◌∙◌, refl, Bool, true, false, inl, inr}
+use Rattle.std.proofs.Common.{◌≡◌, ℕ, ◌<◌, ◌≤◌, List, [], ◌∷◌, ◌++◌, length, set, get_or-set_same, get_or-set_other, length-set, sym, subst, ap, ◌∙◌, refl, Bool, true, false, inl, inr}
 use Rattle.std.specs.Prelude.{None, Some, if◌then◌else◌, slice_index_or}
 use Rattle.std.proofs.lemmas.Bool.{cases_eq}
+use Rattle.swift_script.specs.Scripts.{ScriptView, executor_count}
 use Rattle.swift_journal.specs.Records.{RecordView}
 use Rattle.swift_history.specs.Histories.{Block, ran, record_in, records_of}
 use Rattle.swift_course.proofs.Blocks.{filter_none, filter_some}
@@ -28,3 +29,7 @@ used_set used blocks k r lt are e = elim (cases_eq e k) [
       let none : record_in e (ran k r) ≡ None = ap (λ b. if b then Some r else None) (unequal k e (λ is. ne (sym is))) in
       get_or-set_other used k e true false ne ∙ are e ∙ ap has_records (sym (filter_none (record_in e) blocks (ran k r) none))
 ]
+
+-- as many are told of after a turn as before it
+pub used_short : (script : ScriptView) (us vs ws : List Bool) (k : ℕ) → length us ≤ executor_count script → vs ≡ set us k true → ws ≡ vs → length ws ≤ executor_count script
+used_short script us vs ws k short one same = subst (λ (n : ℕ). n ≤ executor_count script) (sym (ap length same ∙ ap length one ∙ length-set us k true)) short

@@ -1,7 +1,7 @@
 -- While a history is followed. No public clause names these.
-use Rattle.std.specs.Prelude.{◌≡◌, ◌<◌, ℕ, ℤ, ◌==◌, Bool, true, false, is_some, if◌then◌else◌, Option, Some, None, List, [], ◌∷◌, ◌++◌, length, map, slice_get, slice_index_or}
+use Rattle.std.specs.Prelude.{◌≡◌, ◌<◌, ◌≤◌, ℕ, ℤ, ◌==◌, Bool, true, false, is_some, if◌then◌else◌, Option, Some, None, List, [], ◌∷◌, ◌++◌, length, map, slice_get, slice_index_or, Contains}
 use Rattle.std.specs.Option.{option_map}
-use Rattle.std.specs.List.{Contains, range_with_len}
+use Rattle.std.specs.List.{range_with_len}
 use Rattle.std.specs.Arc.{arc_value}
 use Rattle.script_code.specs.Seen.{rows_of}
 use Rattle.swift_types.specs.declared.id.TaskId.{TaskId}
@@ -13,9 +13,10 @@ use Rattle.swift_types.specs.declared.outcome.Ending.{Ending}
 use Rattle.swift_events.specs.Lives.{life_of}
 use Rattle.swift_events.specs.Relations.{opened_by, is_closed}
 use Rattle.swift_history.specs.Checks.{is_begun}
-use Rattle.swift_history.specs.Histories.{AllStand, Block, fields_of, folded_of, records_of, roots_of, with_jobs}
+use Rattle.swift_history.specs.Histories.{AllStand, Block, fields_of, folded_of, records_of, roots_of, with_jobs, Stands, added, begun, ran}
 use Rattle.swift_journal.specs.Records.{RecordView}
 use Rattle.swift_history.specs.Orderly.{AllAllowed, IsOrderly, frames_executor}
+use Rattle.swift_digest.specs.Explored.{IsNotFolded}
 use Rattle.swift_history.specs.TurnEnds.{WaitingTaskView, JobFacts}
 use Rattle.swift_course.specs.Course.{standing, starts}
 use Rattle.swift_job.specs.Job.{JobView}
@@ -23,10 +24,11 @@ use Rattle.swift_turn.specs.Body.{BodyView, HasFrames, IfRunning, IsRunning}
 use Rattle.swift_tasks.specs.Books.{IsEndOf}
 use Rattle.swift_tasks.specs.Refusals.{refusal_of_apply}
 use Rattle.swift_explorer.specs.declared.moves.Move.{Move}
+use Rattle.swift_explorer.specs.declared.moves.Move.TheVariants as step
 use Rattle.swift_explorer.specs.declared.waiting.Ready.{Ready}
 use Rattle.swift_explorer.specs.declared.history.SearchedHistory.{SearchedHistory}
 use Rattle.swift_explorer.specs.declared.history.Followed.{Followed}
-use Rattle.swift_explorer.specs.declared.history.Followed.TheVariants.{Broken, No}
+use Rattle.swift_explorer.specs.declared.history.Followed.TheVariants.{Broken, No, Yes}
 use Rattle.swift_explorer.specs.Steps.{AreSteps, BreaksInvariant, IsBroken, IsStep, roots_after, roots_over}
 
 -- a step was done
@@ -107,24 +109,38 @@ pub record IsHistory (script : ScriptView) (blocks : List Block) (x : SearchedHi
   pub none : x.jobs.items ≡ []
   pub scripts : AreOf script x.tasks.items
   pub used : (e : ℕ) → slice_index_or x.used.items e false ≡ has_records (records_of e blocks)
+  pub short : length x.used.items ≤ executor_count script
   pub led : IsLed script blocks x.book.log x.book.held x.tasks.items (rows_at x) x.roots
 
 -- some blocks were
 abbrev pub IsSomeHistory : SearchedHistory → Type 0
 IsSomeHistory x = (blocks : List Block) × IsHistory (arc_value x.script) blocks x
 
--- Whatever was followed before, one block more was, which is what the step does.
+-- Whatever was followed before, one block more was, which is what the step does; whether it breaks an invariant is told.
 abbrev pub GoesOn : Move → SearchedHistory → SearchedHistory → Followed → Type 0
 GoesOn step old new done = (blocks : List Block) → IsHistory (arc_value old.script) blocks old
-    → (b : Block) × IsStep old.roots step b × IsHistory (arc_value old.script) (blocks ++ b ∷ []) new × (new.roots ≡ roots_after old.roots step) × (done ≡ Broken → IsBroken b)
+    → (b : Block) × IsStep old.roots step b × IsHistory (arc_value old.script) (blocks ++ b ∷ []) new × (new.roots ≡ roots_after old.roots step) × (done ≡ Broken → IsBroken b) × (done ≡ Yes → IsBroken b → ⊥)
+
+-- the block is what the step does, whichever root it adds
+abbrev pub IsMoveOf : Move → Block → Type 0
+IsMoveOf step.Add (added r) = Unit {0}
+IsMoveOf (step.Begin t) (begun u n env) = u ≡ t.0
+IsMoveOf (step.Run t) (ran e r) = r.task ≡ t.0
+IsMoveOf _ _ = ⊥
+
+-- Each block in order that may follow a history `x` is what one of the steps `moves` does.
+abbrev pub HasEachMove : SearchedHistory → List Move → Type 0
+HasEachMove x moves = (blocks : List Block) (b : Block) → IsHistory (arc_value x.script) blocks x
+    → IsNotFolded b → Stands (arc_value x.script) (starts (arc_value x.script)) blocks b → IsOrderly (arc_value x.script) blocks b → (m : Move) × Contains moves m × IsMoveOf m b
 
 -- the job of a turn that is to be applied
 abbrev pub job_of : TaskId → Ready → JobView BodyView
 job_of task g = record { task = task; number = g.number; resume = g.resume; body = g.body }
 
--- What a turn did was applied to the book, and where it broke an invariant, that is told.
+-- What a turn did was applied to the book, and whether it broke an invariant is told.
 pub record Applies (old new : SearchedHistory) (task : TaskId) (ready : Ready) (effects : List EffectView) (exit : ExitView) (done : Followed) : Type 0 where
   pub told : done ≡ Broken → BreaksInvariant exit
+  pub quiet : done ≡ Yes → BreaksInvariant exit → ⊥
   pub script_is : new.script ≡ old.script
   pub book_is : new.book.script ≡ old.book.script
   pub none : new.jobs.items ≡ []
@@ -154,6 +170,18 @@ AreEnded log endings = (t : ℕ) (x : Origin × Ending) → slice_get endings t 
 pub record MayBegin (x : SearchedHistory) (t : ℕ) : Type 0 where
   pub there : AreThere (root_count (arc_value x.script)) x.book.log
   pub free : AreOf (arc_value x.script) x.tasks.items → (u : ℕ) → seat_of (arc_value x.script) x.tasks.items u ≡ seat_of (arc_value x.script) x.tasks.items t → is_begun (life_of u x.book.log).stage ≡ false
+
+-- an executor `k` has a turn under way: that of some task
+abbrev pub IsBusy : SearchedHistory → ℕ → Type 0
+IsBusy x k = (u : ℕ) × (seat_of (arc_value x.script) x.tasks.items u ≡ Some k) × (is_begun (life_of u x.book.log).stage ≡ true)
+
+-- a turn of task `t` is under way
+abbrev pub IsUnderWay : SearchedHistory → ℕ → Type 0
+IsUnderWay x t = is_begun (life_of t x.book.log).stage ≡ true
+
+-- Of the first `n` tasks, each that has a job and of which `Is` says something has its step `of` among these.
+abbrev pub HasEach : (TaskId → Move) → (SearchedHistory → ℕ → Type 0) → SearchedHistory → ℕ → List Move → Type 0
+HasEach of Is x n moves = AreOf (arc_value x.script) x.tasks.items → (t : TaskId) (k : ℕ) → t.0 < n → seat_of (arc_value x.script) x.tasks.items t.0 ≡ Some k → Is x t.0 → Contains moves (of t)
 
 -- these steps were followed
 pub record IsPath (script : ScriptView) (path : List Move) (x : SearchedHistory) : Type 0 where

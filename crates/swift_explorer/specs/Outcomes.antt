@@ -1,11 +1,12 @@
 -- Outcomes (our own).
-use Rattle.std.specs.Prelude.{◌≡◌, Option, Some, List, [], ◌∷◌, ◌++◌, map}
+use Rattle.std.specs.Prelude.{◌≡◌, Option, Some, List, [], ◌∷◌, ◌++◌, Contains, map}
 use Rattle.script_code.specs.Seen.{rows_of}
 use Rattle.swift_script.specs.Scripts.{ScriptView}
 use Rattle.swift_history.specs.Histories.{AllStand, Block, ReportView}
 use Rattle.swift_course.specs.Course.{starts}
 use Rattle.swift_history.specs.Orderly.{AllAllowed, IsOrderly, IsOrderlyLegal}
 use Rattle.swift_digest.specs.Explored.{FoldsNone}
+use Rattle.swift_laws.specs.Laws.{ActorsHaveExecutors}
 use Rattle.swift_explorer.specs.declared.moves.Move.{Move}
 use Rattle.swift_explorer.specs.declared.outcome.End.{End}
 use Rattle.swift_explorer.specs.declared.outcome.End.TheVariants.{Reached}
@@ -35,3 +36,16 @@ pub record IsBrokenAfter (script : ScriptView) (schedule : List Move) : Type 0 w
 abbrev pub IfReached : (RunOutcome → Type 0) → End → Type 0
 IfReached P (Reached outcome) = P outcome
 IfReached P _ = Unit {0}
+
+-- an outcome tells how the tasks of a report have ended, and which fields it has
+abbrev pub Tells : RunOutcome → ReportView → Type 0
+Tells outcome report = (report.endings ≡ outcome.endings.items) × (report.fields ≡ map (λ rows. rows_of rows.items) outcome.fields.items)
+
+-- One of these outcomes tells of each legal report in order, in which no executor has folded turns, where each actor of the script has an
+-- executor.
+abbrev pub HasEachOutcome : ScriptView → List RunOutcome → Type 0
+HasEachOutcome script outcomes = ActorsHaveExecutors script → (report : ReportView) → IsOrderlyLegal script report → FoldsNone report → (o : RunOutcome) × Contains outcomes o × Tells o report
+
+-- No turn of such a report breaks an invariant.
+abbrev pub NeverBreaks : ScriptView → Type 0
+NeverBreaks script = ActorsHaveExecutors script → (report : ReportView) (orderly : IsOrderlyLegal script report) → FoldsNone report → (b : Block) → Contains orderly.legal.blocks b → IsBroken b → ⊥

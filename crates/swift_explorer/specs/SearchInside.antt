@@ -1,13 +1,141 @@
 -- While histories are searched. No public clause names these.
-use Rattle.std.specs.Prelude.{◌≡◌, All, IfSome, List, [], ◌∷◌, ◌++◌}
+use Rattle.std.specs.Prelude.{◌≡◌, ◌<◌, ◌≤◌, ℕ, IsTrue, Option, Some, None, All, IfSome, List, [], ◌∷◌, ◌++◌, length, slice_get, slice_index_or, Contains}
 use Rattle.std.specs.Arc.{arc_value}
 use Rattle.swift_script.specs.Scripts.{ScriptView}
+use Rattle.swift_history.specs.Histories.{AllStand, Block, Stands}
+use Rattle.swift_course.specs.Course.{starts}
+use Rattle.swift_digest.specs.Explored.{IsNotFolded}
+use Rattle.swift_history.specs.Orderly.{AllAllowed, IsOrderly}
+use Rattle.swift_digest.specs.Futures.{LeadAlike}
 use Rattle.swift_explorer.specs.declared.moves.Move.{Move}
+use Rattle.swift_explorer.specs.declared.outcome.End.{End}
+use Rattle.swift_explorer.specs.declared.outcome.RunOutcome.{RunOutcome}
+use Rattle.swift_explorer.specs.declared.history.SearchedHistory.{SearchedHistory}
+use Rattle.swift_explorer.specs.declared.history.Followed.{Followed}
+use Rattle.swift_explorer.specs.declared.history.Followed.TheVariants.{Yes}
+use Rattle.swift_explorer.specs.declared.search.Node.{Node}
 use Rattle.swift_explorer.specs.declared.search.Search.{Search}
 use Rattle.swift_explorer.specs.Outcomes.{IsBrokenAfter, IsOutcomeOf}
+use Rattle.swift_explorer.specs.Steps.{AreSteps, IsBroken}
+use Rattle.swift_explorer.specs.HistoryInside.{IsHistory, IsMoveOf}
+use Rattle.swift_explorer.specs.EndsInside.{HasEnd, IsKnownEnd}
+use Rattle.swift_explorer.specs.KeysInside.{IsKeyFor, outcome_bytes}
 
--- what a search has found is so
+-- the steps to one node more: none to the first, and to another those to the node that it goes on from, and its own
+abbrev pub path_after : List (List Move) → ℕ → Move → List Move
+path_after [] before step = []
+path_after (p ∷ ps) before step = slice_index_or (p ∷ ps) before [] ++ step ∷ []
+
+-- the steps to each of some nodes, after those to the nodes before them
+abbrev pub paths_from : List Node → List (List Move) → List (List Move)
+paths_from [] paths = paths
+paths_from (n ∷ ns) paths = paths_from ns (paths ++ path_after paths n.before n.step ∷ [])
+
+-- the steps to each of these nodes, in their order
+abbrev pub paths_of : List Node → List (List Move)
+paths_of nodes = paths_from nodes []
+
+-- each node but the first goes on from one before it, by its step
+abbrev pub GoOn : List Node → Type 0
+GoOn nodes = (i : ℕ) (n : Node) → 0 < i → slice_get nodes i ≡ Some n
+    → (path : List Move) × (n.before < i) × (slice_get (paths_of nodes) n.before ≡ Some path) × (slice_get (paths_of nodes) i ≡ Some (path ++ n.step ∷ []))
+
+-- a node that comes after these can go on from this one, unless it is the first
+abbrev pub MayGoOn : List (List Move) → ℕ → Type 0
+MayGoOn [] before = Unit {0}
+MayGoOn (p ∷ ps) before = before < length (p ∷ ps)
+
+-- These steps lead to these blocks: they are what the steps do, each may stand where it stands, and each is in order.
+pub record LeadsTo (script : ScriptView) (path : List Move) (blocks : List Block) : Type 0 where
+  pub steps : AreSteps 0 path blocks
+  pub stand : AllStand script (starts script) [] blocks
+  pub orderly : AllAllowed (IsOrderly script) [] blocks
+
+-- one of these paths leads to blocks that lead alike
+pub record HasLike (script : ScriptView) (paths : List (List Move)) (blocks : List Block) : Type 0 where
+  pub place : ℕ
+  pub path : List Move
+  pub there : slice_get paths place ≡ Some path
+  pub others : List Block
+  pub leads : LeadsTo script path others
+  pub alike : LeadAlike script (starts script) blocks others
+
+-- one of these paths leads to blocks that have this key
+pub record IsKept (script : ScriptView) (paths : List (List Move)) (key : List ℕ) : Type 0 where
+  pub place : ℕ
+  pub path : List Move
+  pub there : slice_get paths place ≡ Some path
+  pub blocks : List Block
+  pub leads : LeadsTo script path blocks
+  pub keyed : IsKeyFor script blocks key
+
+-- one of these outcomes has this key
+abbrev pub IsNoted : List RunOutcome → List ℕ → Type 0
+IsNoted outcomes key = (o : RunOutcome) × Contains outcomes o × (outcome_bytes o ≡ key)
+
+-- What a search has found is so, and its keys are those of what it has kept.
 pub record IsSound (script : ScriptView) (x : Search) : Type 0 where
   pub script_is : arc_value x.script ≡ script
   pub outcomes : All (IsOutcomeOf script) x.outcomes.items
   pub broken : IfSome x.broken (λ schedule. IsBrokenAfter script schedule.items)
+  pub nodes : GoOn x.nodes.items
+  pub few : length x.nodes.items ≤ x.limit
+  pub keys : (key : List ℕ) → Contains x.keys key → IsKept script (paths_of x.nodes.items) key
+  pub ends : (key : List ℕ) → Contains x.ends key → IsNoted x.outcomes.items key
+
+-- A search has gone on: it has what it had, and where a history was left out or a turn was broken, that stays so.
+pub record HasGrown (old new : Search) : Type 0 where
+  pub script : new.script ≡ old.script
+  pub limit : new.limit ≡ old.limit
+  pub paths : (place : ℕ) (path : List Move) → slice_get (paths_of old.nodes.items) place ≡ Some path → slice_get (paths_of new.nodes.items) place ≡ Some path
+  pub outcomes : (o : RunOutcome) → Contains old.outcomes.items o → Contains new.outcomes.items o
+  pub broken : new.broken ≡ None → old.broken ≡ None
+  pub complete : IsTrue new.is_complete → IsTrue old.is_complete
+
+-- a block may follow others, and is in order there
+pub record MayFollow (script : ScriptView) (blocks : List Block) (b : Block) : Type 0 where
+  pub unfolded : IsNotFolded b
+  pub stands : Stands script (starts script) blocks b
+  pub orderly : IsOrderly script blocks b
+
+-- A block after others was tried: some history that was kept leads alike, and where no turn was found that breaks an invariant, this
+-- one breaks none.
+pub record WasTried (script : ScriptView) (x : Search) (blocks : List Block) (b : Block) : Type 0 where
+  pub kept : HasLike script (paths_of x.nodes.items) (blocks ++ b ∷ [])
+  pub whole : x.broken ≡ None → IsBroken b → ⊥
+
+-- after these steps each block was tried that this step does
+abbrev pub StepWasTried : ScriptView → Search → List Move → Move → Type 0
+StepWasTried script x path step = (blocks : List Block) (b : Block) → LeadsTo script path blocks → MayFollow script blocks b → IsMoveOf step b → WasTried script x blocks b
+
+-- A search has gone on from where this path leads: it has the outcome, if that is one, and has tried each block that may follow.
+pub record IsExpanded (script : ScriptView) (x : Search) (path : List Move) : Type 0 where
+  pub ends : (blocks : List Block) → LeadsTo script path blocks → HasEnd script x.outcomes.items blocks
+  pub tried : (blocks : List Block) (b : Block) → LeadsTo script path blocks → MayFollow script blocks b → WasTried script x blocks b
+
+-- the same of the path to the node at this place
+abbrev pub IsExpandedAt : ScriptView → Search → ℕ → Type 0
+IsExpandedAt script x place = (path : List Move) × (slice_get (paths_of x.nodes.items) place ≡ Some path) × IsExpanded script x path
+
+-- A history was kept: the search has grown, is sound still, and where it is complete, has a history that leads alike.
+pub record Keeps (old new : Search) (history : SearchedHistory) : Type 0 where
+  pub grown : HasGrown old new
+  pub sound : IsSound (arc_value old.script) new
+  pub kept : IsTrue new.is_complete → (blocks : List Block) → IsHistory (arc_value old.script) blocks history → HasLike (arc_value old.script) (paths_of new.nodes.items) blocks
+
+-- These steps and one more were followed, and the last block breaks no invariant unless that is told.
+pub record IsFollowedBy (script : ScriptView) (path : List Move) (step : Move) (x : SearchedHistory) (done : Followed) : Type 0 where
+  pub blocks : List Block
+  pub last : Block
+  pub leads : LeadsTo script path blocks
+  pub follows : MayFollow script blocks last
+  pub does : IsMoveOf step last
+  pub is : IsHistory script (blocks ++ last ∷ []) x
+  pub whole : done ≡ Yes → IsBroken last → ⊥
+
+-- What is known of these steps: they lead to blocks after which each block in order is what one of these moves does, and whose end is this.
+pub record IsAhead (script : ScriptView) (path moves : List Move) (known : End) : Type 0 where
+  pub blocks : List Block
+  pub leads : LeadsTo script path blocks
+  pub each : (b : Block) → MayFollow script blocks b → (m : Move) × Contains moves m × IsMoveOf m b
+  pub ends : IsKnownEnd script blocks known

@@ -1,6 +1,6 @@
 //! One history, followed from its beginning.
 
-ghost use Rattle.std.specs.Prelude.{◌≡◌, ◌<◌, ℕ, [], IfOk, IfSome, IsTrue, None, OnOk, Some, false, length, map, replicate};
+ghost use Rattle.std.specs.Prelude.{◌≡◌, ◌<◌, ℕ, List, [], IfOk, IfSome, IsTrue, None, OnOk, Some, false, length, map, replicate, ◌^◌, Contains};
 ghost use Rattle.std.specs.Arc.{arc_value};
 ghost use Rattle.script_code.specs.Seen.{rows_of};
 ghost use Rattle.swift_events.specs.declared.life.JobStage.TheVariants.{Begun};
@@ -13,9 +13,13 @@ ghost use Rattle.swift_interpreter.specs.Frames.{effect_views};
 ghost use Rattle.swift_interpreter.specs.TurnStates.{exit_view};
 ghost use Rattle.swift_explorer.specs.Outcomes.{IfReached, IsOutcomeOf};
 ghost use Rattle.swift_explorer.specs.Steps.{BreaksInvariant};
-ghost use Rattle.swift_explorer.specs.HistoryInside.{Applies, AreEnded, AreFirst, AreOf, AreThere, GoesOn, HaveClosed, IsHistory, IsMissing, IsPath, IsSomeHistory, JobRunsAt, MayBegin, WasDone, rows_at, seat_of};
+ghost use Rattle.swift_types.specs.declared.outcome.Ending.{Ending};
+ghost use Rattle.swift_events.specs.declared.life.Origin.{Origin};
+ghost use Rattle.swift_explorer.specs.EndsInside.{IsEndedAs, IsKnownEnd, SomeGoesOn};
+ghost use Rattle.swift_explorer.specs.HistoryInside.{Applies, AreEnded, AreFirst, AreOf, AreThere, GoesOn, HasEachMove, HaveClosed, IsHistory, IsMissing, IsPath, IsSomeHistory, JobRunsAt, MayBegin, WasDone, rows_at, seat_of, HasEach, IsBusy, IsUnderWay};
+ghost use Rattle.swift_explorer.specs.KeysInside.{IsNumbered};
 
-use crate::frames::put_ready;
+use crate::frames::{put_jobs, put_ready};
 use crate::moves::Move;
 use crate::outcome::{End, RunOutcome};
 use crate::waiting::{Ready, give_all_up, put, put_all, take};
@@ -98,6 +102,7 @@ fn refused(fault: BookFault) -> Result<Followed, AllocError>
 fn told(exit: &Exit) -> Followed
     ensures done { WasDone result }
     ensures broken { result ≡ Followed.Broken → BreaksInvariant (exit_view exit.now) }
+    ensures quiet { result ≡ Followed.Yes → BreaksInvariant (exit_view exit.now) → ⊥ }
 {
     match exit {
         Exit::Fault(Fault::Invariant) | Exit::Close(_, Some(Fault::Invariant)) => Followed::Broken,
@@ -264,7 +269,8 @@ impl SearchedHistory {
 
     // Whether a turn of a task is under way at an executor.
     fn runs_at(&self, task: TaskId, executor: usize) -> bool
-        ensures { result ≡ false → AreOf (arc_value self.now.script) self.now.tasks.items → seat_of (arc_value self.now.script) self.now.tasks.items task.0 ≡ Some executor → is_begun (life_of task.0 self.now.book.log).stage ≡ false }
+        ensures none { result ≡ false → AreOf (arc_value self.now.script) self.now.tasks.items → seat_of (arc_value self.now.script) self.now.tasks.items task.0 ≡ Some executor → is_begun (life_of task.0 self.now.book.log).stage ≡ false }
+        ensures runs { IsTrue result → AreOf (arc_value self.now.script) self.now.tasks.items → (seat_of (arc_value self.now.script) self.now.tasks.items task.0 ≡ Some executor) × IsUnderWay self.now task.0 }
     {
         match self.executor_of(task) {
             Some(place) if place == executor => self.has_begun(task),
@@ -272,9 +278,10 @@ impl SearchedHistory {
         }
     }
 
-    // Whether some turn is under way at an executor.
+    // Whether some turn is under way at an executor. True, too, where there are more tasks than numbers for them.
     fn is_busy(&self, executor: usize) -> bool
-        ensures { result ≡ false → AreOf (arc_value self.now.script) self.now.tasks.items → (u : ℕ) → seat_of (arc_value self.now.script) self.now.tasks.items u ≡ Some executor → is_begun (life_of u self.now.book.log).stage ≡ false }
+        ensures free { result ≡ false → AreOf (arc_value self.now.script) self.now.tasks.items → (u : ℕ) → seat_of (arc_value self.now.script) self.now.tasks.items u ≡ Some executor → is_begun (life_of u self.now.book.log).stage ≡ false }
+        ensures busy { IsTrue result → AreOf (arc_value self.now.script) self.now.tasks.items → length self.now.tasks.items < 2 ^ 32 → IsBusy self.now executor }
     {
         for place in 0..self.tasks.len() {
             let Ok(number) = u32::try_from(place) else {
@@ -298,9 +305,10 @@ impl SearchedHistory {
         }
     }
 
-    // Whether the next turn of a task may begin.
+    // Whether the next turn of a task may begin. False, too, where there are more tasks than numbers for them.
     fn can_begin(&self, task: TaskId) -> bool
-        ensures { IsTrue result → MayBegin self.now task.0 }
+        ensures may { IsTrue result → MayBegin self.now task.0 }
+        ensures all { result ≡ false → length self.now.tasks.items < 2 ^ 32 → AreOf (arc_value self.now.script) self.now.tasks.items → (k : ℕ) → seat_of (arc_value self.now.script) self.now.tasks.items task.0 ≡ Some k → MayBegin self.now task.0 → ⊥ }
     {
         if self.missing_root().is_some() {
             return false;
@@ -311,8 +319,10 @@ impl SearchedHistory {
         }
     }
 
-    // Writes the turns that have begun and may run, of the first tasks.
-    fn push_runs(&self, tasks: u32, moves: &mut Vec<Move>) -> Result<(), AllocError> {
+    // Writes the turns that have begun and may run, of the first tasks. None is left out.
+    fn push_runs(&self, tasks: u32, moves: &mut Vec<Move>) -> Result<(), AllocError>
+        ensures { OnOk result (HasEach Move.Run IsUnderWay self.now tasks moves.new.items) }
+    {
         for place in 0..tasks {
             if self.executor_of(TaskId(place)).is_some() && self.has_begun(TaskId(place)) {
                 moves.push(Move::Run(TaskId(place)))?;
@@ -321,8 +331,11 @@ impl SearchedHistory {
         Ok(())
     }
 
-    // Writes the turns that may begin, of the first tasks.
-    fn push_begins(&self, tasks: u32, moves: &mut Vec<Move>) -> Result<(), AllocError> {
+    // Writes the turns that may begin, of the first tasks. None is left out.
+    fn push_begins(&self, tasks: u32, moves: &mut Vec<Move>) -> Result<(), AllocError>
+        ensures kept { OnOk result ((m : Move) → Contains moves.old.items m → Contains moves.new.items m) }
+        ensures all { OnOk result (length self.now.tasks.items < 2 ^ 32 → HasEach Move.Begin MayBegin self.now tasks moves.new.items) }
+    {
         for place in 0..tasks {
             if self.can_begin(TaskId(place)) {
                 moves.push(Move::Begin(TaskId(place)))?;
@@ -348,8 +361,11 @@ impl SearchedHistory {
 
     /// The steps that may follow: each turn that has begun may run; and the next root is added, until all are there, and then at each
     /// executor that has no turn under way each turn may begin. Those that run come first, so that of schedules of one length a search
-    /// meets one first whose turns overlap less. Nothing where there are more tasks than numbers for them.
-    pub fn next(&self) -> Result<Option<Vec<Move>>, AllocError> {
+    /// meets one first whose turns overlap less. No step that is in order is left out. Nothing where there are more tasks than numbers
+    /// for them.
+    pub fn next(&self) -> Result<Option<Vec<Move>>, AllocError>
+        ensures { IfOk result (λ o. IfSome o (λ moves. HasEachMove self.now moves.items)) }
+    {
         let Ok(tasks) = u32::try_from(self.tasks.len()) else {
             return Ok(None);
         };
@@ -374,6 +390,7 @@ impl SearchedHistory {
     fn ended(&self, task: TaskId) -> Option<(Origin, Ending)>
         ensures origin { IfSome result (λ x. (life_of task.0 self.now.book.log).origin ≡ Some x.0) }
         ensures ending { IfSome result (λ x. (life_of task.0 self.now.book.log).ending ≡ Some x.1) }
+        ensures none { result ≡ None → (x : Origin × Ending) → IsEndedAs self.now.book.log task.0 x → ⊥ }
     {
         let origin = self.book.origin(task)?;
         let ending = self.book.ending(task)?;
@@ -382,7 +399,8 @@ impl SearchedHistory {
 
     // The same of each of the first tasks, if all have ended.
     fn endings(&self, tasks: u32) -> Result<Option<Vec<(Origin, Ending)>>, AllocError>
-        ensures { IfOk result (λ o. IfSome o (λ endings. (length endings.items ≡ tasks) × AreEnded self.now.book.log endings.items)) }
+        ensures all { IfOk result (λ o. IfSome o (λ endings. (length endings.items ≡ tasks) × AreEnded self.now.book.log endings.items)) }
+        ensures none { IfOk result (λ o. o ≡ None → SomeGoesOn self.now.book.log tasks) }
     {
         let mut endings = Vec::new(self.alloc);
         for place in 0..tasks {
@@ -409,7 +427,8 @@ impl SearchedHistory {
     /// The outcome, where each root was added and each task has ended. These steps were followed, and are written into it.
     pub fn outcome(&self, schedule: &[Move]) -> Result<End, AllocError>
         requires { IsPath (arc_value self.now.script) schedule.now self.now }
-        ensures { IfOk result (IfReached (IsOutcomeOf (arc_value self.now.script))) }
+        ensures reached { IfOk result (IfReached (IsOutcomeOf (arc_value self.now.script))) }
+        ensures known { IfOk result (λ known. (blocks : List Block) → IsHistory (arc_value self.now.script) blocks self.now → IsKnownEnd (arc_value self.now.script) blocks known) }
     {
         let Ok(tasks) = u32::try_from(self.book.tasks()) else {
             return Ok(End::Unknown);
@@ -428,28 +447,31 @@ impl SearchedHistory {
     }
 
     /// What decides how it may go on, as numbers. It gives the history up.
-    pub fn into_key(self) -> Result<Vec<i64>, AllocError> {
+    pub fn into_key(self) -> Result<Vec<i64>, AllocError>
+        ensures { IfOk result (λ key. IsNumbered self key.items) }
+    {
         let SearchedHistory {
             alloc,
             script: _,
             book,
-            mut tasks,
+            tasks,
             fields,
             used,
             roots: _,
             jobs,
         } = self;
         give_all_up(jobs);
+        book.facts();
         let (log, mut waiting) = book.close();
-        let kept = put_all(&mut tasks, &mut waiting);
-        give_all_up(waiting);
-        kept?;
-        let events = events_of(alloc, &log)?;
         let mut key = Vec::new(alloc);
-        put_digest(alloc, &mut key, &events)?;
+        let put = put_jobs(&mut key, &mut waiting);
+        give_all_up(waiting);
+        put?;
         put_flags(&mut key, &used)?;
         put_fields(&mut key, &fields)?;
         put_ready(&mut key, tasks)?;
+        let events = events_of(alloc, &log)?;
+        put_digest(alloc, &mut key, &events)?;
         Ok(key)
     }
 
@@ -494,7 +516,9 @@ fn all_copied(alloc: Global, all: &[Vec<Vec<i64>>]) -> Result<Vec<Vec<Vec<i64>>>
 }
 
 // The events of a log.
-fn events_of(alloc: Global, log: &EventLog) -> Result<Vec<Event>, AllocError> {
+fn events_of(alloc: Global, log: &EventLog) -> Result<Vec<Event>, AllocError>
+    ensures { IfOk result (λ events. events.items ≡ log.now.events) }
+{
     let mut events = Vec::with_capacity(alloc, log.len())?;
     for place in 0..log.len() {
         events.push(log.event(place))?;

@@ -27,8 +27,10 @@ returns-in_ok-put-in-Ok-clause-follows c = λ done blocks h.
         none = h.none;
         scripts = is.scripts;
         used = used_same x.used.items blocks (added x.roots) (λ e. refl) h.used;
+        short = h.short;
         led = subst (λ (n : ℕ). IsLed script (blocks ++ added x.roots ∷ []) c.add_root.new.self.log c.add_root.new.self.held c.put.new.tasks.items (rows_at x) n) (sym next) is.led;
       },
       next,
       λ is. absurd (yes_is is),
+      λ _ breaks. breaks,
     ))

@@ -20,6 +20,7 @@ returns-in_ok-put_all-in-Ok-clause-applies c = λ _.
     let put = c.in_ok-put_all-in-Ok.ensures in
     record {
       told = c.told.ensures.broken;
+      quiet = c.told.ensures.quiet;
       script_is = refl;
       book_is = c.apply_known.ensures.script;
       none = put.none;

@@ -18,4 +18,4 @@ returns-in_ok-put-in-Ok-clause-follows c = λ done blocks h.
     h was c.into_job-job.ensures (search rules) (search rules) (search rules) made.task made.ready c.take.ensures.rest c.in_ok-put-in-Ok.ensures in
     let b = begun c.args.task.0 c.in-Some.ready.number c.in-Ok.field-0 in
     let may : MayBegin x c.args.task.0 = search rules in
-    (b, refl, record { orderly = allowed_push (IsOrderly (arc_value x.script)) blocks [] b h.orderly (begin_orderly blocks x c.args.task.0 c.in-Some.ready.number c.in-Ok.field-0 h may); script_is = h.script_is; book_is = is.book_is; none = h.none; scripts = is.scripts; used = used_same x.used.items blocks b (λ e. refl) h.used; led = is.led }, refl, λ is. absurd (yes_is is)))
+    (b, refl, record { orderly = allowed_push (IsOrderly (arc_value x.script)) blocks [] b h.orderly (begin_orderly blocks x c.args.task.0 c.in-Some.ready.number c.in-Ok.field-0 h may); script_is = h.script_is; book_is = is.book_is; none = h.none; scripts = is.scripts; used = used_same x.used.items blocks b (λ e. refl) h.used; short = h.short; led = is.led }, refl, λ is. absurd (yes_is is), λ _ breaks. breaks))

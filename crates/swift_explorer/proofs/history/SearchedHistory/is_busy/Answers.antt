@@ -17,11 +17,11 @@ loop-place-preserved c = λ of u lt seat.
       | inl old ↦ c.loop-place.invariant of u old seat
       | inr new ↦
           ap (λ (n : ℕ). is_begun (life_of n x.book.log).stage) (new ∙ sym same)
-          ∙ c.if-runs_at.ensures refl of (ap (seat_of script x.tasks.items) (same ∙ sym new) ∙ seat)
+          ∙ c.if-runs_at.ensures.none refl of (ap (seat_of script x.tasks.items) (same ∙ sym new) ∙ seat)
     ])
 
-pub returns : goal.returns
-returns c = λ _ of u seat.
+pub returns-clause-free : goal.returns-clause-free
+returns-clause-free c = λ _ of u seat.
     (let x = c.args.self.now in
     elim (before_or_past u (length x.tasks.items)) [
       | inl lt ↦ c.loop-place.invariant of u (omega (arith, lt, c.loop-place-test.false, c.len-place-end.ensures)) seat

@@ -4,12 +4,14 @@ use Rattle.swift_script.specs.Scripts.{ScriptView, root_count}
 use Rattle.swift_events.specs.Events.{tasks_of}
 use Rattle.swift_explorer.specs.declared.moves.Move.{Move}
 use Rattle.swift_explorer.specs.Steps.{AreSteps}
+use Rattle.swift_explorer.specs.EndsInside.{SomeGoesOn}
 use Rattle.swift_explorer.specs.HistoryInside.{HaveClosed, rows_at}
 use Rattle.swift_explorer.proofs.Ended.{folds_none, legal_is, report_of}
+use Rattle.swift_explorer.proofs.KnownEnds.{none_of, not_yet, reached}
 use Rattle.swift_explorer.proofs.history.SearchedHistory.outcome.Goals as goal
 
-pub returns : goal.returns
-returns c =
+pub returns-clause-reached : goal.returns-clause-reached
+returns-clause-reached c =
     let x = c.args.self.now in
     let script = arc_value x.script in
     let p = c.requires in
@@ -30,3 +32,23 @@ returns c =
       endings = search rules;
       fields = search rules;
     }
+
+pub returns-clause-known : goal.returns-clause-known
+returns-clause-known c = λ blocks h report of.
+    (let x = c.args.self.now in
+    let script = arc_value x.script in
+    let es = c.in-Some.endings.items in
+    let ended : length es ≡ c.in-Ok.tasks = search rules in
+    let counted : c.in-Ok.tasks ≡ tasks_of (root_count x.book.script) x.book.log = search rules in
+    let many : length es ≡ tasks_of (root_count script) x.book.log = ended ∙ counted ∙ ap (λ (s : ScriptView). tasks_of (root_count s) x.book.log) h.book_is in
+    let is = reached script blocks x.book.log h.led.log_is report of x.book.held x.tasks.items (rows_at x) x.roots es h.led many (search rules) in
+    (is.0 ∙ search rules, is.1 ∙ search rules))
+
+pub returns-in_default-2-clause-known : goal.returns-in_default-2-clause-known
+returns-in_default-2-clause-known c = λ blocks h report of.
+    (let x = c.args.self.now in
+    let script = arc_value x.script in
+    let counted : c.in-Ok.tasks ≡ tasks_of (root_count x.book.script) x.book.log = search rules in
+    let same = counted ∙ ap (λ (s : ScriptView). tasks_of (root_count s) x.book.log) h.book_is in
+    let goes : SomeGoesOn x.book.log c.in-Ok.tasks = c.in_ok-endings.ensures.none (none_of c.in_ok-endings.field-0 c.in_default-2.not-Some) in
+    not_yet script blocks x.book.log h.led.log_is report of (subst (SomeGoesOn x.book.log) same goes))

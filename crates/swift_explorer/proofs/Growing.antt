@@ -1,0 +1,65 @@
+-- What a search has found stays as it goes on.
+use Rattle.std.proofs.Common.{◌≡◌, ℕ, false, List, refl, ◌∙◌}
+use Rattle.std.proofs.lemmas.Bool.{false≢true}
+use Rattle.swift_script.specs.Scripts.{ScriptView}
+use Rattle.swift_history.specs.Histories.{Block}
+use Rattle.swift_explorer.specs.declared.moves.Move.{Move}
+use Rattle.swift_explorer.specs.declared.search.Search.{Search}
+use Rattle.swift_explorer.specs.SearchInside.{HasGrown, HasLike, IsExpandedAt, IsKept, IsSound, StepWasTried, WasTried, paths_of}
+
+pub grown_none : (x : Search) → HasGrown x x
+grown_none x = record { script = refl; limit = refl; paths = λ i path at. at; outcomes = λ o has. has; broken = λ none. none; complete = λ is. is }
+
+pub grown_on : (x y z : Search) → HasGrown x y → HasGrown y z → HasGrown x z
+grown_on x y z one two = record {
+  script = two.script ∙ one.script;
+  limit = two.limit ∙ one.limit;
+  paths = λ i path at. two.paths i path (one.paths i path at);
+  outcomes = λ o has. two.outcomes o (one.outcomes o has);
+  broken = λ none. one.broken (two.broken none);
+  complete = λ is. one.complete (two.complete is);
+}
+
+pub like_grown : (script : ScriptView) (x y : Search) (blocks : List Block) → HasGrown x y → HasLike script (paths_of x.nodes.items) blocks → HasLike script (paths_of y.nodes.items) blocks
+like_grown script x y blocks grown like = record {
+  place = like.place;
+  path = like.path;
+  there = grown.paths like.place like.path like.there;
+  others = like.others;
+  leads = like.leads;
+  alike = like.alike;
+}
+
+pub kept_grown : (script : ScriptView) (x y : Search) (key : List ℕ) → HasGrown x y → IsKept script (paths_of x.nodes.items) key → IsKept script (paths_of y.nodes.items) key
+kept_grown script x y key grown kept = record {
+  place = kept.place;
+  path = kept.path;
+  there = grown.paths kept.place kept.path kept.there;
+  blocks = kept.blocks;
+  leads = kept.leads;
+  keyed = kept.keyed;
+}
+
+tried_grown : (script : ScriptView) (x y : Search) (blocks : List Block) (b : Block) → HasGrown x y → WasTried script x blocks b → WasTried script y blocks b
+tried_grown script x y blocks b grown was = record { kept = like_grown script x y _ grown was.kept; whole = λ none. was.whole (grown.broken none) }
+
+pub step_grown : (script : ScriptView) (x y : Search) (path : List Move) (step : Move) → HasGrown x y → StepWasTried script x path step → StepWasTried script y path step
+step_grown script x y path step grown was blocks b leads may does = tried_grown script x y blocks b grown (was blocks b leads may does)
+
+pub expanded_grown : (script : ScriptView) (x y : Search) (place : ℕ) → HasGrown x y → IsExpandedAt script x place → IsExpandedAt script y place
+expanded_grown script x y place grown is = (
+  is.0,
+  grown.paths place is.0 is.1,
+  record {
+    ends = λ blocks leads report of. (let o = is.2.ends blocks leads report of in (o.0, grown.outcomes o.0 o.1, o.2));
+    tried = λ blocks b leads may. tried_grown script x y blocks b grown (is.2.tried blocks b leads may);
+  },
+)
+
+-- a search that leaves a history out
+
+pub sound_left : (script : ScriptView) (x : Search) → IsSound script x → IsSound script (record x { is_complete = false })
+sound_left script x is = record { script_is = is.script_is; outcomes = is.outcomes; broken = is.broken; nodes = is.nodes; few = is.few; keys = is.keys; ends = is.ends }
+
+pub grown_left : (x : Search) → HasGrown x (record x { is_complete = false })
+grown_left x = record { script = refl; limit = refl; paths = λ i path at. at; outcomes = λ o has. has; broken = λ none. none; complete = λ is. absurd (false≢true is) }

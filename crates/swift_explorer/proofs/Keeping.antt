@@ -1,0 +1,119 @@
+-- A history is kept, where none is that has its key.
+use Rattle.std.proofs.Common.{◌≡◌, ◌⊎◌, ◌<◌, ◌≤◌, ℕ, ◌+◌, Bool, true, false, List, [], ◌∷◌, ◌++◌, Vec, length, refl, sym, subst, ap, ◌∙◌, arith, inl, inr}
+use Rattle.std.specs.Prelude.{if◌then◌else◌, IsTrue, Some, slice_get, Contains}
+use Rattle.std.specs.declared.alloc.Global.{Global}
+use Rattle.std.specs.Arc.{arc_value}
+use Rattle.std.specs.Str.{bytes_eq}
+use Rattle.std.proofs.lemmas.Bool.{false≢true}
+use Rattle.std.proofs.lemmas.List.{length_push}
+use Rattle.std.proofs.lemmas.List.Elements.{Contains-push_cases}
+use Rattle.std.proofs.lemmas.List.Folds.{Any-from_list_any}
+use Rattle.std.proofs.lemmas.Slice.Eq.{bytes_eq-Decides}
+use Rattle.script_names.specs.Texts.{is_among, with_name}
+use Rattle.swift_script.specs.Scripts.{ScriptView}
+use Rattle.swift_history.specs.Histories.{Block}
+use Rattle.swift_explorer.specs.declared.moves.Move.{Move}
+use Rattle.swift_explorer.specs.declared.history.SearchedHistory.{SearchedHistory}
+use Rattle.swift_explorer.specs.declared.search.Node.{Node}
+use Rattle.swift_explorer.specs.declared.search.Search.{Search}
+use Rattle.swift_explorer.specs.HistoryInside.{IsHistory, IsPath}
+use Rattle.swift_explorer.specs.KeysInside.{IsKeyFor, IsKeyOf}
+use Rattle.swift_explorer.specs.SearchInside.{GoOn, HasGrown, HasLike, IsKept, IsSound, Keeps, LeadsTo, MayGoOn, path_after, paths_of}
+use Rattle.swift_explorer.proofs.Alike.{alike_keys}
+use Rattle.swift_explorer.proofs.Growing.{grown_left, grown_none, kept_grown, sound_left}
+use Rattle.swift_explorer.proofs.Nodes.{on_push, path_here, paths_grow}
+
+-- keys that are there, and one more
+
+pub among_there : (keys : List (List ℕ)) (key : List ℕ) → is_among keys key ≡ true → Contains keys key
+among_there keys key is =
+    let one = Any-from_list_any (bytes_eq key) keys is in
+    subst (Contains keys) (sym ((bytes_eq-Decides key one.1).0 one.4)) (one.0, one.2, one.3)
+
+pub name_cases : (keys : List (List ℕ)) (key k : List ℕ) → is_among keys key ≡ false → Contains (with_name keys key) k → Contains keys k ⊎ (key ≡ k)
+name_cases keys key k new has =
+    Contains-push_cases keys key k (subst (λ (b : Bool). Contains (if b then keys else keys ++ key ∷ []) k) new has)
+
+-- what is followed leads to its blocks
+pub path_leads : (script : ScriptView) (path : List Move) (x : SearchedHistory) (p : IsPath script path x) → LeadsTo script path p.blocks
+path_leads script path x p = record { steps = p.steps; stand = p.is.led.stand; orderly = p.is.orderly }
+
+-- one that goes on alike was kept before
+pub keeps_known : (x : Search) (history : SearchedHistory) (key : List ℕ) → IsSound (arc_value x.script) x → IsKeyOf history key → is_among x.keys key ≡ true → Keeps x x history
+keeps_known x history key sound keyed is = record {
+  grown = grown_none x;
+  sound = sound;
+  kept = λ _ blocks of.
+      (let k = sound.keys key (among_there x.keys key is) in
+      record {
+        place = k.place;
+        path = k.path;
+        there = k.there;
+        others = k.blocks;
+        leads = k.leads;
+        alike = alike_keys (arc_value x.script) blocks k.blocks key (history, of, keyed) k.keyed;
+      });
+}
+
+-- as many are kept as may be
+pub keeps_none : (x : Search) (history : SearchedHistory) → IsSound (arc_value x.script) x → Keeps x (record x { is_complete = false }) history
+keeps_none x history sound = record { grown = grown_left x; sound = sound_left (arc_value x.script) x sound; kept = λ is. absurd (false≢true is) }
+
+-- it is kept
+module _ (x : Search) (history : SearchedHistory) (key : List ℕ) (n : Node) (nodes : Vec Node Global) (keys : List (List ℕ)) (sound : IsSound (arc_value x.script) x) (keyed : IsKeyOf history key)
+    (may : MayGoOn (paths_of x.nodes.items) n.before) (p : IsPath (arc_value x.script) (path_after (paths_of x.nodes.items) n.before n.step) history)
+    (nodes_are : nodes.items ≡ x.nodes.items ++ n ∷ []) (keys_are : keys ≡ with_name x.keys key) (new : is_among x.keys key ≡ false) (room : length x.nodes.items < x.limit) where
+  abbrev script : ScriptView
+  script = arc_value x.script
+
+  abbrev y : Search
+  y = record x { nodes = nodes; keys = keys }
+
+  abbrev path : List Move
+  path = path_after (paths_of x.nodes.items) n.before n.step
+
+  grown : HasGrown x y
+  grown = record {
+    script = refl;
+    limit = refl;
+    paths = λ i q at. subst (λ (ns : List Node). slice_get (paths_of ns) i ≡ Some q) (sym nodes_are) (paths_grow x.nodes.items n i q at);
+    outcomes = λ o has. has;
+    broken = λ none. none;
+    complete = λ is. is;
+  }
+
+  here : slice_get (paths_of y.nodes.items) (length x.nodes.items) ≡ Some path
+  here = subst (λ (ns : List Node). slice_get (paths_of ns) (length x.nodes.items) ≡ Some path) (sym nodes_are) (path_here x.nodes.items n)
+
+  leads : LeadsTo script path p.blocks
+  leads = path_leads script path history p
+
+  key_kept : (k : List ℕ) → Contains keys k → IsKept script (paths_of y.nodes.items) k
+  key_kept k has = elim (name_cases x.keys key k new (subst (λ (ks : List (List ℕ)). Contains ks k) keys_are has)) [
+    | inl old ↦ kept_grown script x y k grown (sound.keys k old)
+    | inr same ↦ subst (IsKept script (paths_of y.nodes.items)) same (record { place = length x.nodes.items; path = path; there = here; blocks = p.blocks; leads = leads; keyed = (history, p.is, keyed) })
+  ]
+
+  pub keeps_new : Keeps x y history
+  keeps_new = record {
+    grown = grown;
+    sound = record {
+      script_is = sound.script_is;
+      outcomes = sound.outcomes;
+      broken = sound.broken;
+      nodes = subst GoOn (sym nodes_are) (on_push x.nodes.items n sound.nodes may);
+      few =
+          let many = ap length nodes_are ∙ length_push x.nodes.items n in
+          omega (arith, many, room);
+      keys = key_kept;
+      ends = sound.ends;
+    };
+    kept = λ _ blocks of. record {
+      place = length x.nodes.items;
+      path = path;
+      there = here;
+      others = p.blocks;
+      leads = leads;
+      alike = alike_keys script blocks p.blocks key (history, of, keyed) (history, p.is, keyed);
+    };
+  }

@@ -1,0 +1,63 @@
+-- What a report says of the end of a history is what is known of it.
+use Rattle.std.proofs.Common.{◌≡◌, ◌<◌, ℕ, suc, List, [], ◌∷◌, length, refl, sym, subst, ap, ap₂, ◌∙◌, ℤ, arith, inl, inr}
+use Rattle.std.specs.Prelude.{None, Option, Some, slice_get, unwrap_or}
+use Rattle.std.proofs.lemmas.Option.{slice_get_cases}
+use Rattle.swift_types.specs.declared.outcome.Ending.{Ending}
+use Rattle.swift_script.specs.Scripts.{ScriptView, root_count}
+use Rattle.swift_events.specs.declared.event.Event.{Event}
+use Rattle.swift_events.specs.declared.life.Life.{Life}
+use Rattle.swift_events.specs.declared.life.Origin.{Origin}
+use Rattle.swift_events.specs.Events.{tasks_of}
+use Rattle.swift_events.specs.Lives.{life_of}
+use Rattle.swift_history.specs.Histories.{Block, ReportView}
+use Rattle.swift_history.specs.TurnEnds.{WaitingTaskView}
+use Rattle.swift_course.specs.Course.{standing}
+use Rattle.swift_digest.proofs.Answers.{life_of_is, tasks_of_is}
+use Rattle.swift_explorer.specs.declared.waiting.Ready.{Ready}
+use Rattle.swift_explorer.specs.EndsInside.{IsEndedAs, IsReportOf, SomeGoesOn}
+use Rattle.swift_explorer.specs.HistoryInside.{AreEnded, IsLed}
+
+pub same_list : {A : Type 0} (xs ys : List A) → length xs ≡ length ys → ((i : ℕ) (x y : A) → slice_get xs i ≡ Some x → slice_get ys i ≡ Some y → x ≡ y) → xs ≡ ys
+same_list [] [] many same = refl
+same_list [] (y ∷ ys) many same = absurd (omega (arith, many))
+same_list (x ∷ xs) [] many same = absurd (omega (arith, many))
+same_list (x ∷ xs) (y ∷ ys) many same = ap₂ (λ z zs. z ∷ zs) (same 0 x y refl refl) (same_list xs ys (omega (arith, many)) (λ i a b at also. same (suc i) a b at also))
+
+of_some : {A : Type 0} (o : Option A) (a b : A) → o ≡ Some a → o ≡ Some b → a ≡ b
+of_some o a b is also = ap (λ (p : Option _). unwrap_or p a) (sym is ∙ also)
+
+one_end : (log : List Event) (t : ℕ) (x y : Origin × Ending) → IsEndedAs log t x → IsEndedAs log t y → x ≡ y
+one_end log t x y is also =
+    ap₂ (λ (a : Origin) (b : Ending). (a, b)) (of_some (life_of t log).origin x.0 y.0 is.0 also.0) (of_some (life_of t log).ending x.1 y.1 is.1 also.1)
+
+module _ (script : ScriptView) (bs : List Block) (log : List Event) (log_is : log ≡ (standing script bs).log) (report : ReportView) (of : IsReportOf script bs report) where
+  many : length report.endings ≡ tasks_of (root_count script) log
+  many = of.outcome.tasks ∙ sym (tasks_of_is (root_count script) (standing script bs).log) ∙ ap (tasks_of (root_count script)) (sym log_is)
+
+  says : (t : ℕ) (x : Origin × Ending) → slice_get report.endings t ≡ Some x → IsEndedAs log t x
+  says t x at =
+      let life = ap (life_of t) log_is ∙ life_of_is t (standing script bs).log in
+      let is = of.outcome.endings t x at in
+      (ap (λ (l : Life). l.origin) life ∙ is.0, ap (λ (l : Life). l.ending) life ∙ is.1)
+
+  -- where some task has not ended, no report says where these blocks lead
+  pub not_yet : SomeGoesOn log (tasks_of (root_count script) log) → ⊥
+  not_yet goes =
+      let t : ℕ = goes.0 in
+      let lt : t < length report.endings = subst (λ (n : ℕ). t < n) (sym many) goes.1 in
+      elim (slice_get_cases report.endings t).1 [
+        | inl one ↦ goes.2 one.0 (says t one.0 one.2)
+        | inr past ↦ (let le = past.0 in absurd (omega (arith, lt, le)))
+      ]
+
+  -- and where each has, it says so
+  pub reached : (held : List (Option WaitingTaskView)) (tasks : List (Option Ready)) (fields : List (List (List ℤ))) (roots : ℕ) (es : List (Origin × Ending)) → IsLed script bs log held tasks fields roots
+      → length es ≡ tasks_of (root_count script) log → AreEnded log es → (report.endings ≡ es) × (report.fields ≡ fields)
+  reached held tasks fields roots es led ended are = (
+    same_list report.endings es (many ∙ sym ended) (λ t x y at also. one_end log t x y (says t x at) (are t y also)),
+    same_list report.fields fields (of.many ∙ sym led.many) (λ e f rows at also. of.outcome.fields e f at ∙ sym (led.fields_are e rows also)),
+  )
+
+pub none_of : {A : Type 0} (o : Option A) → ((x : A) → o ≡ Some x → ⊥) → o ≡ None
+none_of None never = refl
+none_of (Some x) never = absurd (never x refl)

@@ -1,0 +1,99 @@
+-- The steps to the nodes of a search.
+use Rattle.std.proofs.Common.{◌≡◌, ◌⊎◌, ◌<◌, ℕ, zero, suc, ◌+◌, List, [], ◌∷◌, ◌++◌, length, get_or, reverse, append_assoc, refl, sym, subst, ap, ◌∙◌, arith, inl, inr}
+use Rattle.std.specs.Prelude.{Option, Some, slice_get, unwrap_or}
+use Rattle.std.proofs.lemmas.List.{length_push, reverse-append}
+use Rattle.std.proofs.lemmas.Option.{get_or_from_slice_get, none-some, slice_get-get_or, slice_get_within}
+use Rattle.swift_explorer.specs.declared.moves.Move.{Move}
+use Rattle.swift_explorer.specs.declared.search.Node.{Node}
+use Rattle.swift_explorer.specs.SearchInside.{GoOn, MayGoOn, path_after, paths_from, paths_of}
+use Rattle.swift_explorer.proofs.Ended.{push_at}
+
+at_front : {A : Type 0} (xs ys : List A) (i : ℕ) (x : A) → slice_get xs i ≡ Some x → slice_get (xs ++ ys) i ≡ Some x
+at_front [] ys i x at = absurd (none-some x at)
+at_front (z ∷ xs) ys zero x at = at
+at_front (z ∷ xs) ys (suc i) x at = at_front xs ys i x at
+
+at_last : {A : Type 0} (xs : List A) (x : A) → slice_get (xs ++ x ∷ []) (length xs) ≡ Some x
+at_last [] x = refl
+at_last (z ∷ xs) x = at_last xs x
+
+paths_push : (ns : List Node) (n : Node) (ps : List (List Move)) → paths_from (ns ++ n ∷ []) ps ≡ paths_from ns ps ++ path_after (paths_from ns ps) n.before n.step ∷ []
+paths_push [] n ps = refl
+paths_push (m ∷ ns) n ps = paths_push ns n (ps ++ path_after ps m.before m.step ∷ [])
+
+paths_many : (ns : List Node) (ps : List (List Move)) → length (paths_from ns ps) ≡ length ps + length ns
+paths_many [] ps = omega arith
+paths_many (n ∷ ns) ps =
+    let one = length_push ps (path_after ps n.before n.step) in
+    let rest = paths_many ns (ps ++ path_after ps n.before n.step ∷ []) in
+    omega (arith, one, rest)
+
+-- there is one path for each node
+pub paths_length : (ns : List Node) → length (paths_of ns) ≡ length ns
+paths_length ns = let is = paths_many ns [] in omega (arith, is)
+
+pub path_there : (ns : List Node) (i : ℕ) → i < length ns → (path : List Move) × (slice_get (paths_of ns) i ≡ Some path)
+path_there ns i lt =
+    let many = paths_length ns in
+    (get_or (paths_of ns) i [], slice_get-get_or (paths_of ns) i [] (omega (arith, lt, many)))
+
+-- the paths stay where a node is put to the others
+pub paths_grow : (ns : List Node) (n : Node) (i : ℕ) (path : List Move) → slice_get (paths_of ns) i ≡ Some path → slice_get (paths_of (ns ++ n ∷ [])) i ≡ Some path
+paths_grow ns n i path at = subst (λ (ps : List (List Move)). slice_get ps i ≡ Some path) (sym (paths_push ns n [])) (at_front (paths_of ns) _ i path at)
+
+-- the path to a node that is put to the others
+pub path_here : (ns : List Node) (n : Node) → slice_get (paths_of (ns ++ n ∷ [])) (length ns) ≡ Some (path_after (paths_of ns) n.before n.step)
+path_here ns n =
+    let path = path_after (paths_of ns) n.before n.step in
+    subst (λ (ps : List (List Move)). slice_get ps (length ns) ≡ Some path) (sym (paths_push ns n []))
+    (subst (λ (k : ℕ). slice_get (paths_of ns ++ path ∷ []) k ≡ Some path) (paths_length ns) (at_last (paths_of ns) path))
+
+-- where there is a path to the node that another goes on from
+pub path_on : (ps : List (List Move)) (before : ℕ) (step : Move) (path : List Move) → slice_get ps before ≡ Some path → path_after ps before step ≡ path ++ step ∷ []
+path_on [] before step path at = absurd (none-some path at)
+path_on (p ∷ ps) before step path at = ap (λ (q : List Move). q ++ step ∷ []) (get_or_from_slice_get (p ∷ ps) before path [] at)
+
+pub may_on : (ps : List (List Move)) (before : ℕ) (path : List Move) → slice_get ps before ≡ Some path → MayGoOn ps before
+may_on [] before path at = tt
+may_on (p ∷ ps) before path at = slice_get_within (p ∷ ps) before path at
+
+next_of : (ps : List (List Move)) (before : ℕ) (step : Move) → 0 < length ps → MayGoOn ps before
+    → (path : List Move) × (before < length ps) × (slice_get ps before ≡ Some path) × (path_after ps before step ≡ path ++ step ∷ [])
+next_of [] before step lt may = absurd (omega (arith, lt))
+next_of (p ∷ ps) before step lt may = (get_or (p ∷ ps) before [], may, slice_get-get_or (p ∷ ps) before [] may, refl)
+
+-- a node that is put to the others goes on from one of them
+pub on_push : (ns : List Node) (n : Node) → GoOn ns → MayGoOn (paths_of ns) n.before → GoOn (ns ++ n ∷ [])
+on_push ns n on may i m lt at = elim (push_at ns n m i at) [
+  | inl old ↦ let one = on i m lt old in (one.0, one.1, paths_grow ns n m.before one.0 one.2, paths_grow ns n i _ one.3)
+  | inr new ↦
+      let many = paths_length ns in
+      let place : i ≡ length ns = new.0 in
+      let one = next_of (paths_of ns) n.before n.step (omega (arith, lt, place, many)) may in
+      let low = one.1 in
+      subst (λ (k : Node). (path : List Move) × (k.before < i) × (slice_get (paths_of (ns ++ n ∷ [])) k.before ≡ Some path) × (slice_get (paths_of (ns ++ n ∷ [])) i ≡ Some (path ++ k.step ∷ []))) new.1
+      (one.0, omega (arith, low, place, many), paths_grow ns n n.before one.0 one.2, ap (slice_get (paths_of (ns ++ n ∷ []))) place ∙ path_here ns n ∙ ap Some one.3)
+]
+
+first_path : (ns : List Node) (ps : List (List Move)) (path : List Move) → slice_get ps 0 ≡ Some path → slice_get (paths_from ns ps) 0 ≡ Some path
+first_path [] ps path at = at
+first_path (n ∷ ns) ps path at = first_path ns (ps ++ path_after ps n.before n.step ∷ []) path (at_front ps _ 0 path at)
+
+-- to the first node there are no steps
+pub first_none : (ns : List Node) (path : List Move) → slice_get (paths_of ns) 0 ≡ Some path → path ≡ []
+first_none [] path at = absurd (none-some path at)
+first_none (n ∷ ns) path at = ap (λ (o : Option (List Move)). unwrap_or o []) (sym at ∙ first_path ns ([] ∷ []) [] refl)
+
+-- from a node to the one before it: the steps after the second are one more than those after the first
+pub one_back : (ns : List Node) (at place : ℕ) (n : Node) (path rest : List Move) → GoOn ns → 0 < at → slice_get ns at ≡ Some n → slice_get (paths_of ns) at ≡ Some path → slice_get (paths_of ns) place ≡ Some (path ++ reverse rest)
+    → (n.before < at) × ((q : List Move) × (slice_get (paths_of ns) n.before ≡ Some q) × (slice_get (paths_of ns) place ≡ Some (q ++ reverse (rest ++ n.step ∷ []))))
+one_back ns at place n path rest on lt is here there =
+    let one = on at n lt is in
+    let same : path ≡ one.0 ++ n.step ∷ [] = ap (λ (o : Option (List Move)). unwrap_or o []) (sym here ∙ one.3) in (
+      one.1,
+      (
+        one.0,
+        one.2,
+        there ∙ ap (λ (p : List Move). Some (p ++ reverse rest)) same ∙ ap Some (append_assoc one.0 (n.step ∷ []) (reverse rest)) ∙ ap (λ (p : List Move). Some (one.0 ++ p)) (sym (reverse-append rest (n.step ∷ []))),
+      ),
+    )

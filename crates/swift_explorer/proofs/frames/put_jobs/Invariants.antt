@@ -1,0 +1,13 @@
+use Rattle.std.proofs.Common.{◌≡◌, ◌++◌, map, reverse, vec_len}
+use Rattle.swift_history.specs.Jobs.{job_facts}
+use Rattle.swift_keys.specs.Numbers.{list_numbers}
+use Rattle.swift_explorer.specs.KeysInside.{job_left, job_numbers}
+use Rattle.swift_explorer.proofs.frames.put_jobs.Given as goal
+
+abbrev pub invariant-loop-job : goal.invariant-loop-job
+invariant-loop-job l =
+    l.key.items ++ list_numbers job_numbers (reverse (map job_left (map job_facts l.jobs.items)))
+    ≡ l.initial.key.items ++ list_numbers job_numbers (reverse (map job_left (map job_facts l.initial.jobs.items)))
+
+abbrev pub decreases-loop-job : goal.decreases-loop-job
+decreases-loop-job l = vec_len l.jobs

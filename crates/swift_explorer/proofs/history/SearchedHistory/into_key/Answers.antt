@@ -1,0 +1,30 @@
+use Rattle.std.proofs.Common.{◌≡◌, ◌++◌, ℤ, Bool, List, Vec, map, reverse, ap, subst, ◌∙◌}
+use Rattle.std.specs.declared.alloc.Global.{Global}
+use Rattle.std.specs.Option.{option_map}
+use Rattle.script_code.specs.Seen.{rows_of}
+use Rattle.swift_events.specs.declared.event.Event.{Event}
+use Rattle.swift_history.specs.TurnEnds.{JobFacts}
+use Rattle.swift_tasks.specs.Books.{jobs_held}
+use Rattle.swift_digest.specs.Digests.{digest_of}
+use Rattle.swift_keys.specs.Numbers.{flag_numbers, list_numbers}
+use Rattle.swift_keys.specs.FrameNumbers.{fields_numbers}
+use Rattle.swift_keys.specs.DigestNumbers.{IsWritten}
+use Rattle.swift_explorer.specs.HistoryInside.{rows_at}
+use Rattle.swift_explorer.specs.KeysInside.{job_left, job_numbers, ready_view, rest_of}
+use Rattle.swift_explorer.proofs.Written.{rest_written}
+use Rattle.swift_explorer.proofs.history.SearchedHistory.into_key.Goals as goal
+
+pub returns : goal.returns
+returns c =
+    let x = c.args.self in
+    let waiting = c.in_ok-put.ensures ∙ ap (λ (js : List JobFacts). c.new-key.result.items ++ list_numbers job_numbers (reverse (map job_left js))) c.close-log.ensures.jobs in
+    let used = c.in_ok-put_flags.ensures ∙ ap (λ (us : List Bool). c.put_jobs-put.new.key.items ++ list_numbers flag_numbers us) c.deref.ensures.value in
+    let fields = c.in_ok-put_fields.ensures ∙ ap (λ (l : List (Vec (Vec ℤ Global) Global)). c.put_flags.new.key.items ++ fields_numbers (map (λ (rows : Vec (Vec ℤ Global) Global). rows_of rows.items) l)) c.deref-2.ensures.value in
+    let rest : c.put_ready.new.key.items ≡ rest_of x =
+    rest_written (map job_left (jobs_held 0 x.book.held)) x.used.items (rows_at x) (map (option_map ready_view) x.tasks.items) _ _ _ _ _ c.new-key.ensures.items waiting used fields c.in_ok-put_ready.ensures in
+    let log = c.deref-3.ensures.value ∙ c.in_ok-events.ensures ∙ c.close-log.ensures.log in
+    record {
+      written = subst (λ (es : List Event). IsWritten (digest_of es) (rest_of x) c.put_digest.new.key.items) log
+          (subst (λ (k : List ℤ). IsWritten (digest_of c.deref-3.result.now) k c.put_digest.new.key.items) rest c.in_ok-put_digest.ensures);
+      places = c.facts.ensures.size;
+    }

@@ -1,0 +1,12 @@
+use Rattle.std.proofs.Common.{◌<◌, ◌^◌, length}
+use Rattle.std.specs.Prelude.{Contains}
+use Rattle.swift_explorer.specs.declared.moves.Move.{Move}
+use Rattle.swift_explorer.specs.declared.moves.Move.TheVariants as step
+use Rattle.swift_explorer.specs.HistoryInside.{HasEach, MayBegin}
+use Rattle.swift_explorer.proofs.history.SearchedHistory.push_begins.Given as goal
+
+abbrev pub invariant-loop-place : goal.invariant-loop-place
+invariant-loop-place l = record {
+  kept : (m : Move) → Contains l.fn.moves.items m → Contains l.moves.items m;
+  all : length l.self.tasks.items < 2 ^ 32 → HasEach step.Begin MayBegin l.self l.place l.moves.items;
+}
