@@ -14,7 +14,7 @@ mod show;
 // Runs whose turns are explained.
 mod values;
 
-use crate::explore::outcomes_text;
+use crate::explore::{Rerun, outcomes_text, rerun_text};
 use crate::show::show_run;
 use crate::values::{Said, explained_turn, report_of};
 use json_tool::run_json;
@@ -118,6 +118,18 @@ where
             Ok(text) => tell(host, write_outcomes(host, &text, limit)),
             Err(error) => unread(host, source, error),
         },
+        Request::Rerun {
+            source,
+            limit,
+            outcome,
+        } => match script(host, source) {
+            Ok(text) => say_rerun(
+                host,
+                outcome,
+                rerun_text(host.alloc(), &text, limit, outcome),
+            ),
+            Err(error) => unread(host, source, error),
+        },
         Request::Explain(topic) => tell(host, write_page(host, topic)),
     }
 }
@@ -211,6 +223,18 @@ fn write_swift(rt: &HostRuntime, text: &[u8]) -> Result<bool, ToolFault> {
 fn write_outcomes(rt: &HostRuntime, text: &[u8], limit: u32) -> Result<bool, ToolFault> {
     let said = outcomes_text(rt.alloc(), text, limit)?;
     write_out(rt, &said)
+}
+
+// Writes the run of an outcome's schedule. The status to end with.
+fn say_rerun(rt: &HostRuntime, outcome: u32, found: Result<Rerun, ToolFault>) -> u8 {
+    match found {
+        Ok(Rerun::Report(said)) => tell(rt, write_out(rt, &said)),
+        Ok(Rerun::Nowhere(many)) => {
+            let _ = eprintln!(rt; "nuchapay: there is no outcome {outcome}: {many} were found");
+            2
+        }
+        Err(fault) => tell(rt, Err(fault)),
+    }
 }
 
 fn write_page(rt: &HostRuntime, topic: Topic) -> Result<bool, ToolFault> {

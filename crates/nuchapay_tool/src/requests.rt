@@ -44,4 +44,10 @@ pub enum Request<'a> {
     Swift(Source<'a>),
     /// To search the histories of a script for outcomes, and to keep at most so many histories.
     Explore(Source<'a>, u32),
+    /// To search as `Explore` does, and to run the schedule of one of the outcomes again, by its number from 1.
+    Rerun {
+        source: Source<'a>,
+        limit: u32,
+        outcome: u32,
+    },
 }

@@ -168,19 +168,32 @@ fn swift_command<'a>(alloc: Global) -> Result<Command<'a>, AllocError> {
         .arg(file(alloc))
 }
 
-fn explore_command<'a>(alloc: Global) -> Result<Command<'a>, AllocError> {
-    let limit = Arg::new(alloc, "limit")
+fn limit<'a>(alloc: Global) -> Arg<'a> {
+    Arg::new(alloc, "limit")
         .long("limit")
         .value_name("N")
         .help("Keeps at most N states, from 1 to 10000000")
         .action(ArgAction::Set)
         .value_parser(value_parser!(u32).range(1..10_000_001))
-        .default_value("100000");
+        .default_value("100000")
+}
+
+fn schedule<'a>(alloc: Global) -> Arg<'a> {
+    Arg::new(alloc, "schedule")
+        .long("schedule")
+        .value_name("K")
+        .help("Runs the schedule of outcome K again, and prints the whole report")
+        .action(ArgAction::Set)
+        .value_parser(value_parser!(u32).range(1..10_000_001))
+}
+
+fn explore_command<'a>(alloc: Global) -> Result<Command<'a>, AllocError> {
     let words = Command::new(alloc, "explore")
         .about("Lists outcomes that some order of turns leads to, each with its schedule")
         .after_help("Example: nuchapay explore examples/races/early_read.actors")
         .arg(file(alloc));
-    with_arg(words, limit)
+    let words = with_arg(words, limit(alloc));
+    with_arg(words, schedule(alloc))
 }
 
 // The words that the program takes, with one command more, as `with_arg`.
@@ -347,12 +360,26 @@ fn requested<'a>(matches: &ArgMatches<'a>) -> Result<Request<'a>, Refused>
         return Ok(Request::Swift(source(found)));
     }
     if let Some(found) = matches.subcommand_matches("explore") {
-        let limit = found.get_one::<u32>("limit").unwrap_or(100_000);
-        return Ok(Request::Explore(source(found), limit));
+        return Ok(explore_request(found));
     }
     match matches.subcommand_matches("explain") {
         Some(found) => explain_request(found.get_str("topic")),
         None => explain_request(None),
+    }
+}
+
+// The search that is asked for.
+fn explore_request<'a>(found: &ArgMatches<'a>) -> Request<'a>
+    ensures { HasCrew result }
+{
+    let limit = found.get_one::<u32>("limit").unwrap_or(100_000);
+    match found.get_one::<u32>("schedule") {
+        Some(outcome) => Request::Rerun {
+            source: source(found),
+            limit,
+            outcome,
+        },
+        None => Request::Explore(source(found), limit),
     }
 }
 
@@ -372,7 +399,7 @@ fn is_second(matches: &ArgMatches<'_>, argument: &str, first: &str, second: &str
 ///   is not given, and `--values`, for which there is no place where `--quiet` is given, and which is refused beside `json`;
 /// - `why`, with a file, the name of a turn, and `--workers N`;
 /// - `swift`, with a file;
-/// - `explore`, with a file, and `--limit N` from 1 to 10,000,000, 100,000 where it is not given;
+/// - `explore`, with a file, `--limit N` from 1 to 10,000,000, 100,000 where it is not given, and `--schedule K` from 1 to 10,000,000;
 /// - `show`, with a file, `--workers N`, and `--format` with `svg` or `trace`, `svg` where it is not given;
 /// - `check`, with a file and `--color always` or `never`, which is meant where it is not given;
 /// - `print`, with a file and `--pretty`;

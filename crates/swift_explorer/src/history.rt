@@ -27,14 +27,16 @@ use std::alloc::{AllocError, Global};
 use std::mem;
 use std::sync::Arc;
 use swift_events::{Event, Origin};
-use swift_interpreter::{Effect, Exit};
+use swift_interpreter::{Effect, Exit, Frame};
+use swift_journal::{Checkpoint, Journal, Record};
 use swift_job::Job;
 use swift_keys::{put_digest, put_fields, put_flags};
 use swift_log::EventLog;
+use swift_report::Report;
 use swift_script::Script;
 use swift_tasks::{Book, BookFault};
 use swift_turn::{Body, replay_turn};
-use swift_types::{Ending, ExecId, Fault, RootId, TaskId};
+use swift_types::{Ending, Env, ExecId, Fault, RootId, TaskId};
 
 /// Whether a step could be done.
 #[derive(Clone, Copy, PartialEq, Eq)]
@@ -62,6 +64,8 @@ pub struct SearchedHistory {
     pub roots: u32,
     // It is empty: the jobs that a turn makes come here.
     pub jobs: Vec<Job<Body>>,
+    // A journal for each executor, where turns are written down, or none.
+    pub journals: Vec<Journal>,
 }
 
 // The fields of each executor at the start.
@@ -131,7 +135,18 @@ impl SearchedHistory {
             used,
             roots: 0,
             jobs: Vec::new(alloc),
+            journals: Vec::new(alloc),
         })
+    }
+
+    /// Nothing has happened, and each turn will be written into the journal of its executor.
+    pub fn with_journals(alloc: Global, script: &Arc<Script>) -> Result<SearchedHistory, AllocError>
+        ensures first { IfOk result (IsPath (arc_value script.now) []) }
+    {
+        let journals = empty_journals(alloc, script.executor_count())?;
+        let mut history = SearchedHistory::new(alloc, script)?;
+        history.journals = journals;
+        Ok(history)
     }
 
     // The next root is added, where it is the first that was not.
@@ -226,11 +241,13 @@ impl SearchedHistory {
         let Some(mut ready) = take(&mut self.tasks, task) else {
             return Ok(Followed::No);
         };
+        let before = frame_before(&self.journals, place, &ready.body)?;
         let fields = mem::replace(&mut self.fields[place], Vec::new(self.alloc));
         let Ok((fields, effects, exit)) = replay_turn(&mut ready.body, fields, ready.resume, env)
         else {
             return Err(AllocError);
         };
+        write_turn(&mut self.journals, place, task, &ready, before, env, &exit, &effects)?;
         self.fields[place] = fields;
         self.used[place] = true;
         self.apply(task, ready, &exit, effects)
@@ -459,6 +476,7 @@ impl SearchedHistory {
             used,
             roots: _,
             jobs,
+            journals: _,
         } = self;
         give_all_up(jobs);
         book.facts();
@@ -486,11 +504,126 @@ impl SearchedHistory {
             used: _,
             roots: _,
             jobs,
+            journals: _,
         } = self;
         give_all_up(jobs);
         let (_log, waiting) = book.close();
         give_all_up(waiting);
     }
+
+    /// The report of it, if each task has ended. It gives the history up.
+    pub fn into_report(self) -> Result<Option<Report>, AllocError> {
+        let ended = self.all_endings();
+        let SearchedHistory {
+            alloc,
+            script,
+            book,
+            tasks: _,
+            fields,
+            used: _,
+            roots: _,
+            jobs,
+            journals,
+        } = self;
+        give_all_up(jobs);
+        let (log, waiting) = book.close();
+        give_all_up(waiting);
+        let Some(endings) = ended? else {
+            return Ok(None);
+        };
+        let checkpoints = first_checkpoints(alloc, &script)?;
+        Ok(Some(Report {
+            journals,
+            checkpoints,
+            log,
+            endings,
+            fields,
+        }))
+    }
+
+    // How each task has ended, if all have.
+    fn all_endings(&self) -> Result<Option<Vec<(Origin, Ending)>>, AllocError> {
+        let Ok(tasks) = u32::try_from(self.book.tasks()) else {
+            return Ok(None);
+        };
+        self.endings(tasks)
+    }
+}
+
+// An empty journal for each executor.
+fn empty_journals(alloc: Global, executors: usize) -> Result<Vec<Journal>, AllocError> {
+    let mut journals = Vec::new(alloc);
+    for _ in 0..executors {
+        journals.push(Journal::new(alloc))?;
+    }
+    Ok(journals)
+}
+
+// A checkpoint for each executor, with the fields at the start and no turn.
+fn first_checkpoints(alloc: Global, script: &Script) -> Result<Vec<Checkpoint>, AllocError> {
+    let mut checkpoints = Vec::new(alloc);
+    for fields in first_fields(alloc, script)? {
+        checkpoints.push(Checkpoint::new(alloc, fields))?;
+    }
+    Ok(checkpoints)
+}
+
+// A copy of the frame that runs next, where turns are written down.
+fn frame_before(
+    journals: &[Journal],
+    place: usize,
+    body: &Body,
+) -> Result<Option<Frame>, AllocError>
+    requires { IsRunning body.now }
+{
+    if place < journals.len() {
+        Ok(Some(body.frame()?))
+    } else {
+        Ok(None)
+    }
+}
+
+// The frame after a turn that ended so, where one goes on.
+fn frame_after<'a>(body: &'a Body, exit: &Exit) -> Option<&'a Frame>
+    requires { IsRunning body.now }
+{
+    match exit {
+        Exit::Return(_) | Exit::Fault(_) => None,
+        _ => Some(body.top()),
+    }
+}
+
+// Writes a turn that was run, where turns are written down.
+fn write_turn(
+    journals: &mut [Journal],
+    place: usize,
+    task: TaskId,
+    ready: &Ready,
+    before: Option<Frame>,
+    env: Env,
+    exit: &Exit,
+    effects: &[Effect],
+) -> Result<(), AllocError>
+    requires { IsRunning ready.now.body }
+{
+    let Some(frame) = before else {
+        return Ok(());
+    };
+    if place >= journals.len() {
+        return Ok(());
+    }
+    journals[place].push(&Record {
+        task,
+        number: ready.number,
+        worker: 0,
+        frame: &frame,
+        outer: ready.body.outer(),
+        resume: ready.resume,
+        env,
+        exit,
+        effects,
+        after: frame_after(&ready.body, exit),
+    })
 }
 
 // A copy of the fields of an executor.

@@ -9,6 +9,8 @@ mod history;
 mod moves;
 // How a history has ended.
 mod outcome;
+// A schedule that is run again.
+mod schedule;
 // The search.
 mod search;
 // What a search has found, as a text.
@@ -18,5 +20,6 @@ mod waiting;
 
 pub use moves::Move;
 pub use outcome::RunOutcome;
+pub use schedule::schedule_report;
 pub use search::{FoundOutcomes, explore};
 pub use text::found_text;

@@ -115,7 +115,7 @@ fn key_of(alloc: Global, history: SearchedHistory) -> Result<Vec<u8>, AllocError
 }
 
 // Follows these steps.
-fn follow(history: &mut SearchedHistory, path: &[Move]) -> Result<Followed, AllocError>
+pub(crate) fn follow(history: &mut SearchedHistory, path: &[Move]) -> Result<Followed, AllocError>
     requires { IsPath (arc_value history.old.script) [] history.old }
     ensures script { history.new.script ≡ history.old.script }
     ensures path { IfOk result (λ f. WasDone f → IsPath (arc_value history.old.script) path.now history.new) }

@@ -1,0 +1,14 @@
+//! What holds of the runs of a script whose histories were searched to the end. A call costs nothing; its contract is the law.
+
+ghost use Rattle.explorer_laws.specs.Runs.{EachRunIsListed, NoRunBreaks};
+
+/// How the tasks of a run end, and which fields it leaves, is among the outcomes of a search that came to its end, whatever the number
+/// of workers and the order of their threads, where no executor has folded turns (our own).
+pub fn each_run_is_listed()
+    ensures { EachRunIsListed }
+{}
+
+/// Where such a search met no turn that breaks an invariant, no turn of such a run does (our own).
+pub fn no_run_breaks()
+    ensures { NoRunBreaks }
+{}
