@@ -16,7 +16,7 @@ use Rattle.swift_journal.specs.Replay.{replay}
 use Rattle.swift_laws.proofs.HistoriesApplied.{there}
 use Rattle.swift_history.specs.Histories.{Block, checkpoint_at, fields_of, records_of}
 use Rattle.swift_history.specs.TurnEnds.{JobFacts, WaitingTaskView}
-use Rattle.swift_course.specs.Course.{standing, starts}
+use Rattle.swift_course.specs.Course.{starts}
 use Rattle.swift_tasks.specs.Books.{jobs_held}
 use Rattle.swift_digest.specs.Digests.{Digest, digest_of}
 use Rattle.swift_digest.specs.Futures.{LeadAlike}

@@ -1,9 +1,9 @@
 -- A search that has gone on from each history which it has kept has found each outcome.
 use Rattle.std.proofs.Common.{◌≡◌, ◌⊎◌, ◌<◌, ℕ, ℤ, zero, suc, List, [], ◌∷◌, ◌++◌, append_assoc, append-nil, length, refl, sym, subst, ap, ap₂, ◌∙◌, arith, inl, inr}
-use Rattle.std.specs.Prelude.{IsTrue, None, Option, Some, slice_get, slice_index_or, unwrap_or, Contains}
+use Rattle.std.specs.Prelude.{IsTrue, None, Option, slice_index_or, unwrap_or, Contains}
 use Rattle.std.specs.Arc.{arc_value}
 use Rattle.std.proofs.lemmas.Option.{slice_get_within}
-use Rattle.swift_script.specs.Scripts.{ScriptView, executor_count}
+use Rattle.swift_script.specs.Scripts.{ScriptView}
 use Rattle.swift_journal.specs.Checkpoints.{CheckpointView, FoldedView}
 use Rattle.swift_history.specs.Histories.{AllStand, Block, ReportView, folded_in, folded_of}
 use Rattle.swift_laws.specs.Laws.{ActorsHaveExecutors}
@@ -17,10 +17,10 @@ use Rattle.swift_explorer.specs.declared.moves.Move.{Move}
 use Rattle.swift_explorer.specs.declared.outcome.RunOutcome.{RunOutcome}
 use Rattle.swift_explorer.specs.declared.history.SearchedHistory.{SearchedHistory}
 use Rattle.swift_explorer.specs.declared.search.Search.{Search}
-use Rattle.swift_explorer.specs.Outcomes.{HasEachOutcome, NeverBreaks, Tells}
+use Rattle.swift_explorer.specs.Outcomes.{Tells}
 use Rattle.swift_explorer.specs.Steps.{AreSteps, IsBroken}
 use Rattle.swift_explorer.specs.HistoryInside.{IsHistory, IsPath}
-use Rattle.swift_explorer.specs.SearchInside.{HasGrown, HasLike, Keeps, IsExpanded, IsExpandedAt, LeadsTo, WasTried, paths_of}
+use Rattle.swift_explorer.specs.SearchInside.{HasGrown, HasLike, Keeps, IsExpanded, IsExpandedAt, LeadsTo, paths_of}
 use Rattle.swift_explorer.proofs.Ended.{starts_at}
 use Rattle.swift_explorer.proofs.Growing.{like_grown}
 use Rattle.swift_explorer.proofs.KnownEnds.{same_list}

@@ -1,16 +1,15 @@
 -- Where each task has ended, a history has made a legal report.
-use Rattle.std.proofs.Common.{◌≡◌, ◌≢◌, ◌⊎◌, ◌<◌, ℕ, zero, suc, ◌+◌, List, [], ◌∷◌, ◌++◌, length, map, refl, sym, subst, ap, ◌∙◌, ℤ, arith, inl, inr, true}
-use Rattle.std.specs.Prelude.{Option, Some, None, slice_get, unwrap_or}
+use Rattle.std.proofs.Common.{◌≡◌, ◌⊎◌, ◌<◌, ℕ, zero, suc, ◌+◌, List, [], ◌∷◌, ◌++◌, length, map, refl, sym, ap, ◌∙◌, ℤ, arith, inl, inr}
+use Rattle.std.specs.Prelude.{Option, Some, slice_get, unwrap_or}
 use Rattle.std.specs.List.{range_with_len}
 use Rattle.std.proofs.lemmas.List.{length-map}
 use Rattle.std.proofs.lemmas.Option.{none-some, slice_get-map}
 use Rattle.swift_types.specs.declared.outcome.Ending.{Ending}
-use Rattle.swift_script.specs.Scripts.{ScriptView, executor_count, executor_start, root_count}
+use Rattle.swift_script.specs.Scripts.{ScriptView, executor_count, root_count}
 use Rattle.swift_events.specs.declared.event.Event.{Event}
 use Rattle.swift_events.specs.declared.life.Origin.{Origin}
 use Rattle.swift_events.specs.Events.{tasks_of}
 use Rattle.swift_events.specs.Lives.{life_of}
-use Rattle.swift_events.specs.Relations.{opened_by, is_closed}
 use Rattle.swift_journal.specs.Records.{RecordView}
 use Rattle.swift_journal.specs.Checkpoints.{CheckpointView}
 use Rattle.swift_history.specs.Histories.{Block, ReportView, records_of}

@@ -1,5 +1,5 @@
 -- A history of which nothing was followed.
-use Rattle.std.proofs.Common.{Bool, false, ◌≡◌, ◌<◌, ◌≤◌, ℕ, zero, suc, ◌+◌, List, [], ◌∷◌, ◌++◌, length, map, refl, sym, subst, ap, ◌∙◌, ℤ, arith}
+use Rattle.std.proofs.Common.{Bool, false, ◌≡◌, ◌<◌, ◌≤◌, ℕ, zero, suc, ◌+◌, List, [], length, refl, sym, ap, ◌∙◌, ℤ, arith}
 use Rattle.std.specs.Prelude.{Option, Some, None, slice_get, slice_index_or, replicate}
 use Rattle.std.specs.Option.{option_map}
 use Rattle.std.specs.List.{range_with_len}
@@ -7,7 +7,6 @@ use Rattle.std.proofs.lemmas.List.{length-map, length-replicate}
 use Rattle.std.proofs.lemmas.Option.{none-some, slice_get-map}
 use Rattle.swift_script.specs.Scripts.{ScriptView, executor_count, executor_start}
 use Rattle.swift_tasks.specs.Books.{BookView, empty_book}
-use Rattle.swift_course.specs.Course.{starts}
 use Rattle.swift_course.proofs.Starts.{start_fields}
 use Rattle.swift_explorer.specs.declared.waiting.Ready.{Ready}
 use Rattle.swift_explorer.specs.HistoryInside.{AreFirst, IsLed, given_at, given_view}

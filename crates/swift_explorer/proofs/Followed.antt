@@ -1,17 +1,15 @@
 -- The calls of a book lead a history on.
-use Rattle.std.proofs.Common.{◌≡◌, ℕ, ◌+◌, List, [], ◌∷◌, ◌++◌, length, refl, sym, subst, ap, ◌∙◌, ℤ, ◌<◌, map}
-use Rattle.std.specs.Prelude.{Option, Some, None, Result, Ok, Err, IfOk}
-use Rattle.std.specs.Arc.{arc_value}
+use Rattle.std.proofs.Common.{◌≡◌, ℕ, ◌+◌, List, [], ◌∷◌, ◌++◌, sym, subst, ap, ◌∙◌}
+use Rattle.std.specs.Prelude.{Option, Some, None}
 use Rattle.swift_types.specs.declared.env.Env.{Env}
 use Rattle.swift_types.specs.declared.id.TaskId.{TaskId}
 use Rattle.swift_script.specs.Scripts.{ScriptView, root_count}
-use Rattle.swift_events.specs.declared.event.Event.{Event}
 use Rattle.swift_events.specs.declared.event.Event.TheVariants.{Begin}
 use Rattle.swift_events.specs.Room.{IsEnv}
 use Rattle.swift_job.specs.Job.{JobView}
 use Rattle.swift_turn.specs.Body.{BodyView}
 use Rattle.swift_history.specs.Histories.{Block, added, begun}
-use Rattle.swift_history.specs.TurnEnds.{JobFacts, root_events, root_job}
+use Rattle.swift_history.specs.TurnEnds.{root_events, root_job}
 use Rattle.swift_tasks.specs.Books.{BookView, IsJobOf}
 use Rattle.swift_history.specs.Jobs.{job_facts}
 use Rattle.swift_tasks.specs.Refusals.{refusal_of_begin, refusal_of_root}

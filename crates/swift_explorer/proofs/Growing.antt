@@ -1,5 +1,5 @@
 -- What a search has found stays as it goes on.
-use Rattle.std.proofs.Common.{◌≡◌, ℕ, false, List, refl, ◌∙◌}
+use Rattle.std.proofs.Common.{ℕ, false, List, refl, ◌∙◌}
 use Rattle.std.proofs.lemmas.Bool.{false≢true}
 use Rattle.swift_script.specs.Scripts.{ScriptView}
 use Rattle.swift_history.specs.Histories.{Block}

@@ -1,6 +1,6 @@
 -- A history is kept, where none is that has its key.
-use Rattle.std.proofs.Common.{◌≡◌, ◌⊎◌, ◌<◌, ◌≤◌, ℕ, ◌+◌, Bool, true, false, List, [], ◌∷◌, ◌++◌, Vec, length, refl, sym, subst, ap, ◌∙◌, arith, inl, inr}
-use Rattle.std.specs.Prelude.{if◌then◌else◌, IsTrue, Some, slice_get, Contains}
+use Rattle.std.proofs.Common.{◌≡◌, ◌⊎◌, ◌<◌, ℕ, Bool, true, false, List, [], ◌∷◌, ◌++◌, Vec, length, refl, sym, subst, ap, ◌∙◌, arith, inl, inr}
+use Rattle.std.specs.Prelude.{if◌then◌else◌, Some, slice_get, Contains}
 use Rattle.std.specs.declared.alloc.Global.{Global}
 use Rattle.std.specs.Arc.{arc_value}
 use Rattle.std.specs.Str.{bytes_eq}
@@ -11,14 +11,13 @@ use Rattle.std.proofs.lemmas.List.Folds.{Any-from_list_any}
 use Rattle.std.proofs.lemmas.Slice.Eq.{bytes_eq-Decides}
 use Rattle.script_names.specs.Texts.{is_among, with_name}
 use Rattle.swift_script.specs.Scripts.{ScriptView}
-use Rattle.swift_history.specs.Histories.{Block}
 use Rattle.swift_explorer.specs.declared.moves.Move.{Move}
 use Rattle.swift_explorer.specs.declared.history.SearchedHistory.{SearchedHistory}
 use Rattle.swift_explorer.specs.declared.search.Node.{Node}
 use Rattle.swift_explorer.specs.declared.search.Search.{Search}
-use Rattle.swift_explorer.specs.HistoryInside.{IsHistory, IsPath}
-use Rattle.swift_explorer.specs.KeysInside.{IsKeyFor, IsKeyOf}
-use Rattle.swift_explorer.specs.SearchInside.{GoOn, HasGrown, HasLike, IsKept, IsSound, Keeps, LeadsTo, MayGoOn, path_after, paths_of}
+use Rattle.swift_explorer.specs.HistoryInside.{IsPath}
+use Rattle.swift_explorer.specs.KeysInside.{IsKeyOf}
+use Rattle.swift_explorer.specs.SearchInside.{GoOn, HasGrown, IsKept, IsSound, Keeps, LeadsTo, MayGoOn, path_after, paths_of}
 use Rattle.swift_explorer.proofs.Alike.{alike_keys}
 use Rattle.swift_explorer.proofs.Growing.{grown_left, grown_none, kept_grown, sound_left}
 use Rattle.swift_explorer.proofs.Nodes.{on_push, path_here, paths_grow}

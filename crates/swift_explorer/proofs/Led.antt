@@ -1,13 +1,12 @@
 -- Each step of a history that is followed adds one block.
-use Rattle.std.proofs.Common.{inl, inr, ◌≡◌, ◌≢◌, ℕ, zero, suc, ◌+◌, ◌<◌, List, [], ◌∷◌, ◌++◌, length, map, set, refl, sym, subst, ap, ◌∙◌, Bool, true, false, ℤ}
-use Rattle.std.specs.Prelude.{Option, Some, None, if◌then◌else◌, is_none, ◌&&◌, ◌==◌, slice_get, slice_set, unwrap_or}
+use Rattle.std.proofs.Common.{inl, inr, ◌≡◌, ◌≢◌, ℕ, ◌+◌, List, [], ◌∷◌, ◌++◌, length, refl, sym, subst, ap, ◌∙◌, Bool, true, false, ℤ}
+use Rattle.std.specs.Prelude.{Option, Some, None, if◌then◌else◌, is_none, ◌&&◌, ◌==◌, slice_get, unwrap_or}
 use Rattle.std.specs.Option.{option_map}
-use Rattle.std.specs.List.{cons_option}
 use Rattle.std.proofs.lemmas.Bool.{cases_eq, false≢true}
 use Rattle.std.proofs.lemmas.Option.{none-some}
 use Rattle.swift_types.specs.declared.env.Env.{Env}
 use Rattle.swift_types.specs.declared.id.TaskId.{TaskId}
-use Rattle.swift_script.specs.Scripts.{ScriptView, actor_executor, executor_count, executor_start, method_actor, root_count}
+use Rattle.swift_script.specs.Scripts.{ScriptView, actor_executor, method_actor, root_count}
 use Rattle.swift_interpreter.specs.Frames.{FrameView}
 use Rattle.swift_interpreter.specs.Turn.{EffectView, ExitView, Played, TurnStateView, calling, waiting, asking_next, closing, yielding, returning, failing}
 use Rattle.swift_events.specs.declared.event.Event.{Event}
@@ -19,9 +18,9 @@ use Rattle.swift_events.specs.Room.{IsEnv}
 use Rattle.swift_journal.specs.Records.{RecordView}
 use Rattle.swift_journal.specs.Replay.{IsAfter, IsLawfulRecord, StandsFor, fields_after, replay}
 use Rattle.swift_job.specs.Job.{JobView}
-use Rattle.swift_turn.specs.Body.{Advanced, BodyView, HasFrames, IfRunning, IsTurnOf, Polls, TaskView, TurnsTo, advanced, entered, kept_turn, left, state_at}
+use Rattle.swift_turn.specs.Body.{Advanced, BodyView, HasFrames, IfRunning, IsTurnOf, Polls, advanced, entered, kept_turn, left, state_at}
 use Rattle.swift_history.specs.Checks.{counters, fits_turn, is_current}
-use Rattle.swift_history.specs.Histories.{AllStand, Block, added, begun, ran, RecordStands, Standing, TurnStands, after_block, after_blocks, at_first, begun_priority, fields_of, folded_in, frames_applied, job_applied, left_as, record_in, records_of, root_in, taken, turn_applied, with_jobs}
+use Rattle.swift_history.specs.Histories.{Block, added, begun, ran, RecordStands, Standing, after_block, at_first, begun_priority, fields_of, folded_in, frames_applied, job_applied, left_as, record_in, records_of, root_in, taken, with_jobs}
 use Rattle.swift_history.specs.TurnEnds.{WaitingTaskView, JobFacts, TurnEnd, root_events, root_job, turn_end}
 use Rattle.swift_tasks.specs.declared.fault.BookFault.{BookFault}
 use Rattle.swift_tasks.specs.Books.{BookView, IsEndOf, end_of_frames, end_of_turn}
@@ -31,7 +30,7 @@ use Rattle.swift_course.specs.Frames.{kept_frame}
 use Rattle.swift_course.proofs.Blocks.{after_push, filter_none, filter_some, range_next, replay_append, stand_push}
 use Rattle.swift_course.proofs.Frames.{frames_go_on}
 use Rattle.swift_explorer.specs.declared.waiting.Ready.{Ready}
-use Rattle.swift_explorer.specs.HistoryInside.{AreGiven, AreOf, IsLed, given_at, given_view, job_of, with_given}
+use Rattle.swift_explorer.specs.HistoryInside.{AreGiven, IsLed, given_at, given_view, job_of, with_given}
 use Rattle.swift_explorer.proofs.Given.{equal, given_back, given_put, given_taken, unequal}
 
 -- what holds where nothing is refused

@@ -1,8 +1,7 @@
 -- An outcome or a broken turn is noted.
-use Rattle.std.proofs.Common.{◌≡◌, ℕ, Bool, true, false, List, [], ◌∷◌, ◌++◌, Vec, refl, sym, subst, ap, ◌∙◌, inl, inr}
-use Rattle.std.specs.Prelude.{All, Err, IfSome, None, Ok, OnOk, Option, Result, Some, is_some, Contains}
+use Rattle.std.proofs.Common.{◌≡◌, ℕ, true, false, List, [], ◌∷◌, ◌++◌, Vec, refl, sym, subst, ap, ◌∙◌, inl, inr}
+use Rattle.std.specs.Prelude.{All, Err, IfSome, None, Ok, OnOk, Option, Result, is_some, Contains}
 use Rattle.std.specs.declared.alloc.Global.{Global}
-use Rattle.std.specs.Arc.{arc_value}
 use Rattle.std.proofs.lemmas.Bool.{false≢true}
 use Rattle.std.proofs.lemmas.List.Elements.{Contains-append_left, Contains-push}
 use Rattle.script_names.specs.Texts.{is_among, with_name}

@@ -1,5 +1,5 @@
 -- Steps that were followed one after another.
-use Rattle.std.proofs.Common.{◌≡◌, ℕ, zero, suc, ◌+◌, List, [], ◌∷◌, ◌++◌, length, refl, sym, subst, ap, ◌∙◌}
+use Rattle.std.proofs.Common.{◌≡◌, ℕ, List, [], ◌∷◌, ◌++◌, refl, sym, subst, ap, ◌∙◌}
 use Rattle.std.specs.Prelude.{Result, Ok, Err, IfOk}
 use Rattle.std.specs.declared.alloc.AllocError.{AllocError}
 use Rattle.std.specs.Arc.{arc_value}

@@ -1,6 +1,6 @@
 -- A turn of a history that is followed runs.
-use Rattle.std.proofs.Common.{Bool, true, false, ◌≡◌, ℕ, ◌<◌, List, [], ◌∷◌, ◌++◌, length, map, set, refl, sym, subst, ap, ◌∙◌, ℤ, Vec}
-use Rattle.std.specs.Prelude.{Result, Ok, Err, IfOk, Option, Some, None, if◌then◌else◌, ◌==◌, slice_get, slice_index_or}
+use Rattle.std.proofs.Common.{Bool, true, false, ◌≡◌, ℕ, ◌<◌, List, [], ◌∷◌, ◌++◌, length, map, set, sym, subst, ap, ◌∙◌, ℤ, Vec}
+use Rattle.std.specs.Prelude.{Result, Ok, Err, IfOk, Some, None, if◌then◌else◌, ◌==◌, slice_get, slice_index_or}
 use Rattle.std.specs.declared.alloc.Global.{Global}
 use Rattle.std.specs.Arc.{arc_value}
 use Rattle.script_code.specs.Seen.{rows_of}

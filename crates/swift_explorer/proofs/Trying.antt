@@ -1,15 +1,13 @@
 -- A step is tried after others.
-use Rattle.std.proofs.Common.{◌≡◌, ◌≢◌, ℕ, Bool, true, false, List, [], ◌∷◌, ◌++◌, Vec, append_assoc, append-nil, refl, sym, subst, ap, ◌∙◌}
-use Rattle.std.specs.Prelude.{All, IfSome, IsTrue, None, Option, Some, is_some, Contains}
-use Rattle.std.specs.declared.alloc.Global.{Global}
+use Rattle.std.proofs.Common.{◌≡◌, List, [], ◌∷◌, ◌++◌, append_assoc, append-nil, sym, subst}
+use Rattle.std.specs.Prelude.{All, None}
 use Rattle.std.specs.Arc.{arc_value}
-use Rattle.std.proofs.lemmas.Bool.{false≢true}
 use Rattle.std.proofs.lemmas.List.Elements.{All-contains}
 use Rattle.swift_script.specs.Scripts.{ScriptView}
 use Rattle.swift_journal.specs.Checkpoints.{CheckpointView}
 use Rattle.swift_history.specs.Histories.{AllStand, Block, ReportView, Stands, added, begun, folded, ran}
 use Rattle.swift_course.specs.Course.{starts}
-use Rattle.swift_digest.specs.Explored.{IsNotFolded, state_of}
+use Rattle.swift_digest.specs.Explored.{IsNotFolded}
 use Rattle.swift_history.specs.Orderly.{AllAllowed, IsOrderly}
 use Rattle.swift_digest.specs.Futures.{LeadAlike}
 use Rattle.swift_digest.proofs.Outcomes.{lead_on, orderly_too, outcome_too, unfolded_too}
@@ -17,19 +15,15 @@ use Rattle.swift_digest.proofs.SameStands.{all_push, block_stands, lead_push}
 use Rattle.swift_explorer.specs.declared.moves.Move.{Move}
 use Rattle.swift_explorer.specs.declared.moves.Move.TheVariants as step
 use Rattle.swift_explorer.specs.declared.outcome.End.{End}
-use Rattle.swift_explorer.specs.declared.outcome.RunOutcome.{RunOutcome}
 use Rattle.swift_explorer.specs.declared.history.SearchedHistory.{SearchedHistory}
 use Rattle.swift_explorer.specs.declared.history.Followed.{Followed}
 use Rattle.swift_explorer.specs.declared.history.Followed.TheVariants.{Yes}
 use Rattle.swift_explorer.specs.declared.search.Search.{Search}
-use Rattle.swift_explorer.specs.Outcomes.{IsBrokenAfter}
-use Rattle.swift_explorer.specs.Steps.{IsBroken, IsStep, roots_over}
+use Rattle.swift_explorer.specs.Steps.{IsBroken}
 use Rattle.swift_explorer.specs.HistoryInside.{GoesOn, HasEachMove, IsHistory, IsMoveOf, IsPath}
 use Rattle.swift_explorer.specs.EndsInside.{HasEnd, IsKnownEnd, IsReportOf}
-use Rattle.swift_explorer.specs.SearchInside.{HasGrown, HasLike, IsAhead, IsExpanded, IsFollowedBy, IsSound, Keeps, LeadsTo, MayFollow, StepWasTried, WasTried, path_after, paths_of}
-use Rattle.swift_explorer.proofs.Growing.{grown_on, step_grown}
+use Rattle.swift_explorer.specs.SearchInside.{HasLike, IsAhead, IsExpanded, IsFollowedBy, LeadsTo, MayFollow, StepWasTried, paths_of}
 use Rattle.swift_explorer.proofs.Keeping.{path_leads}
-use Rattle.swift_explorer.proofs.Nodes.{path_on}
 use Rattle.swift_explorer.proofs.SameMoves.{broken_too, move_of_step, move_too, same_move, same_path}
 
 -- what may follow blocks, after others to which the same steps lead

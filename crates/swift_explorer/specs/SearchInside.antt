@@ -1,5 +1,5 @@
 -- While histories are searched. No public clause names these.
-use Rattle.std.specs.Prelude.{◌≡◌, ◌<◌, ◌≤◌, ℕ, IsTrue, Option, Some, None, All, IfSome, List, [], ◌∷◌, ◌++◌, length, slice_get, slice_index_or, Contains}
+use Rattle.std.specs.Prelude.{◌≡◌, ◌<◌, ◌≤◌, ℕ, IsTrue, Some, None, All, IfSome, List, [], ◌∷◌, ◌++◌, length, slice_get, slice_index_or, Contains}
 use Rattle.std.specs.Arc.{arc_value}
 use Rattle.swift_script.specs.Scripts.{ScriptView}
 use Rattle.swift_history.specs.Histories.{AllStand, Block, Stands}

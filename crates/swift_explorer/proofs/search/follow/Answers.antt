@@ -1,4 +1,4 @@
-use Rattle.std.proofs.Common.{◌≡◌, ◌∙◌, List, take, take_all, sym, subst, ap, arith}
+use Rattle.std.proofs.Common.{◌∙◌, List, take, take_all, sym, subst, ap, arith}
 use Rattle.std.specs.Arc.{arc_value}
 use Rattle.std.proofs.lemmas.List.{take_more}
 use Rattle.swift_explorer.specs.declared.moves.Move.{Move}

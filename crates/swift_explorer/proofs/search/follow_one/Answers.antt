@@ -1,4 +1,4 @@
-use Rattle.std.proofs.Common.{◌≡◌, ◌∙◌, ap}
+use Rattle.std.proofs.Common.{ap}
 use Rattle.std.specs.Arc.{arc_value}
 use Rattle.swift_explorer.specs.HistoryInside.{GoesOn}
 use Rattle.swift_explorer.proofs.Paths.{breaks_if, path_push, was_done}

@@ -1,6 +1,4 @@
-use Rattle.std.proofs.Common.{◌≡◌, ◌∙◌, ◌+◌, ℕ, List, length, sym, subst, ap}
-use Rattle.swift_types.specs.declared.outcome.Ending.{Ending}
-use Rattle.swift_events.specs.declared.life.Origin.{Origin}
+use Rattle.std.proofs.Common.{◌≡◌, ◌∙◌, ◌+◌, ℕ, length, sym, subst, ap}
 use Rattle.swift_events.specs.Lives.{life_of}
 use Rattle.swift_explorer.specs.HistoryInside.{AreEnded}
 use Rattle.swift_explorer.proofs.Ended.{ended_push, push_length}

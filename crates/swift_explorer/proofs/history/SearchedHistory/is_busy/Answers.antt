@@ -1,5 +1,4 @@
-use Rattle.std.proofs.Common.{rules, ◌≡◌, ◌<◌, ◌∙◌, ℕ, length, false, refl, sym, ap, arith, inl, inr}
-use Rattle.std.specs.Prelude.{Some}
+use Rattle.std.proofs.Common.{rules, ◌≡◌, ◌∙◌, ℕ, length, refl, sym, ap, arith, inl, inr}
 use Rattle.std.specs.Arc.{arc_value}
 use Rattle.swift_events.specs.Lives.{life_of}
 use Rattle.swift_history.specs.Checks.{is_begun}

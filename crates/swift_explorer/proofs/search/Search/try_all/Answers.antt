@@ -1,10 +1,9 @@
-use Rattle.std.proofs.Common.{◌≡◌, List, take, take_all, sym, subst, ap, arith}
-use Rattle.std.specs.Prelude.{All, IsTrue, slice_index_or}
+use Rattle.std.proofs.Common.{◌≡◌, take, take_all, sym, subst, ap, arith}
+use Rattle.std.specs.Prelude.{All, slice_index_or}
 use Rattle.std.specs.Arc.{arc_value}
 use Rattle.std.proofs.lemmas.List.{take_more}
 use Rattle.std.proofs.lemmas.List.Elements.{All-nil, All-push, All-weaker}
 use Rattle.swift_script.specs.Scripts.{ScriptView}
-use Rattle.swift_explorer.specs.declared.moves.Move.{Move}
 use Rattle.swift_explorer.specs.declared.moves.Move.TheVariants as step
 use Rattle.swift_explorer.specs.SearchInside.{IsSound, StepWasTried}
 use Rattle.swift_explorer.proofs.Growing.{grown_none, grown_on, step_grown}
