@@ -27,7 +27,11 @@ pub enum Rerun {
 }
 
 // The report of a schedule, as a text. Only a legal report has one.
-fn legal_text(alloc: Global, script: &Arc<Script>, schedule: &[Move]) -> Result<Vec<u8>, ToolFault> {
+fn legal_text(
+    alloc: Global,
+    script: &Arc<Script>,
+    schedule: &[Move],
+) -> Result<Vec<u8>, ToolFault> {
     let Some(report) = schedule_report(alloc, script, schedule)? else {
         return Err(ToolFault::Run(RunFault::Unfinished));
     };

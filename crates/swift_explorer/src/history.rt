@@ -28,8 +28,8 @@ use std::mem;
 use std::sync::Arc;
 use swift_events::{Event, Origin};
 use swift_interpreter::{Effect, Exit, Frame};
-use swift_journal::{Checkpoint, Journal, Record};
 use swift_job::Job;
+use swift_journal::{Checkpoint, Journal, Record};
 use swift_keys::{put_digest, put_fields, put_flags};
 use swift_log::EventLog;
 use swift_report::Report;
@@ -247,7 +247,16 @@ impl SearchedHistory {
         else {
             return Err(AllocError);
         };
-        write_turn(&mut self.journals, place, task, &ready, before, env, &exit, &effects)?;
+        write_turn(
+            &mut self.journals,
+            place,
+            task,
+            &ready,
+            before,
+            env,
+            &exit,
+            &effects,
+        )?;
         self.fields[place] = fields;
         self.used[place] = true;
         self.apply(task, ready, &exit, effects)
