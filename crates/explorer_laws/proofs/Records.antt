@@ -1,7 +1,8 @@
 -- Records of a history's blocks.
-use Rattle.std.proofs.Common.{◌≡◌, ℕ, zero, suc, ◌<◌, ◌==◌, Bool, true, false, List, [], ◌∷◌, length, sym, subst, ap, ap₂, ◌∙◌, arith, nat_tests}
+use Rattle.std.proofs.Common.{◌≡◌, ℕ, zero, suc, ◌<◌, ◌==◌, Bool, true, false, List, [], ◌∷◌, length, refl, ap, ap₂, ◌∙◌, arith}
+use Rattle.std.proofs.lemmas.Bool.Decides.{nat_tests}
 use Rattle.std.specs.Prelude.{Option, Some, None, if◌then◌else◌, slice_index_or, Contains}
-use Rattle.core.specs.List.{cons_option}
+use Rattle.std.specs.List.{cons_option}
 use Rattle.swift_journal.specs.Records.{RecordView}
 use Rattle.swift_history.specs.Histories.{Block, added, begun, ran, folded, record_in, records_of}
 
