@@ -1,14 +1,14 @@
 //! A serial executor that threads share, and what is left of it.
 
-ghost use Rattle.std.specs.Prelude.{◌≡◌, ◌<◌, ◌↔◌, [], None, Some, IfOk, IfErr, IfSome, IfNone, OnOk, OnErr};
+ghost use Rattle.std.specs.Prelude.{◌≡◌, ◌<◌, ◌*◌, ◌↔◌, [], ◌∷◌, None, Some, IfOk, IfErr, IfSome, IfNone, OnOk, OnErr};
 ghost use Rattle.std.specs.Arc.{arc_value};
 ghost use Rattle.swift_inbox.specs.Site.{CanRunAt};
-ghost use Rattle.swift_executor.specs.Exec.{IsDeskOf, IsLeft, first_desk, has_sent, site_of};
+ghost use Rattle.swift_executor.specs.Exec.{FoundRunning, IsDeskOf, IsLeft, first_desk, has_found, has_sent, site_of};
 ghost use Rattle.swift_executor.specs.Seats.{IsOpened};
 ghost use Rattle.swift_executor.specs.State.{new_executor};
 ghost use Rattle.swift_word.specs.Seat.{newest};
 
-use crate::desk::Desk;
+use crate::desk::{ClosedDesk, Desk};
 use crate::fault::ExecFault;
 use crate::gate::{Gate, Moment};
 use crate::laws::{new_has_taken_none, new_knows_no_turn};
@@ -24,7 +24,7 @@ use swift_shared_book::BookSeat;
 use swift_ticket::TicketedJob;
 use swift_turn::Body;
 use swift_types::ExecId;
-use swift_word::{BeforeCount, Word};
+use swift_word::{BeforeCount, Begun, Word};
 
 /// A serial executor (SE-0392): its state behind a status word, and its inbox. Any number of threads share it by reference; each
 /// sends jobs and runs turns with a `Desk` of its own. One turn runs at a time, since a worker takes the state out of the
@@ -98,6 +98,8 @@ pub struct Closed {
     pub state: Option<(ExecState, Taker, BookSeat)>,
     /// The jobs that were in the inbox, the oldest first. Where a desk held the state, it held their taker too, and there are none.
     pub inbox: Vec<Job<Body>>,
+    /// The desk by which it was closed. In a clause it has what that step found.
+    pub desk: ClosedDesk,
 }
 
 // The first state of an executor, with no job.
@@ -223,15 +225,21 @@ impl Exec {
         }
     }
 
-    /// Gives the executor up. The state comes where no desk holds it, with no job chosen, and the seat whose account has its turns; and
-    /// what was in the inbox comes out through the taker that lay in the state. So of each job that ever came out of the inbox it is
-    /// known where it is: among these, or ready or journalled. The tickets of these jobs are given up. Where a desk still holds the
-    /// state, since a visit never came to its end, it holds the taker too: then nothing comes, and what is in the inbox is spent. It
-    /// takes no memory. It waits only for a thread that stands between two steps of a call of its own.
-    pub fn close<R: Wait>(self, rt: &R) -> Closed
+    /// Gives the executor up, by one of its desks. One step on the word takes the state where no desk holds it: then it comes, with no job
+    /// chosen, and the seat whose account has its turns; so many jobs were pending then; and what was in the inbox comes out through the
+    /// taker that lay in the state. So of each job that ever came out of the inbox it is known where it is: among these, or ready or
+    /// journalled. The tickets of these jobs are given up. Where that step finds that a desk holds the state, since a visit never came to
+    /// its end, that desk holds the taker too: then nothing comes, and what is in the inbox is spent. It takes no memory. It waits only
+    /// for a thread that stands between two steps of a call of its own.
+    pub fn close<R: Wait>(self, rt: &R, desk: Desk) -> Closed
+        requires desk { IsDeskOf self desk }
         ensures state { IfSome result.state (λ s. IsLeft self.inbox s.1 s.2 s.0 result.inbox.items) }
         ensures none { IfNone result.state (result.inbox.items ≡ []) }
+        ensures desk { result.desk ≡ has_found result.desk.found desk }
+        ensures pending { IfSome result.state (λ s. result.desk.found ≡ 2 * result.pending ∷ desk.found) }
+        ensures held { IfNone result.state (FoundRunning desk.found result.desk.found) }
     {
+        let (desk, begun) = desk.begin_last(&self);
         let Exec {
             word,
             inbox,
@@ -239,20 +247,23 @@ impl Exec {
             spare,
         } = self;
         let list = spare.into_list();
-        match word.close() {
-            (pending, Some(resting)) => {
+        let (pending, _) = word.close();
+        match begun {
+            Begun::Run(pending, resting) => {
                 let (state, taker, seat) = resting.into_parts();
                 let (inbox, taker) = inbox.drain(rt, taker, list);
                 Closed {
                     pending,
                     state: Some((state, taker, seat)),
                     inbox,
+                    desk,
                 }
             }
-            (pending, None) => Closed {
+            Begun::Busy => Closed {
                 pending,
                 state: None,
                 inbox: list,
+                desk,
             },
         }
     }
