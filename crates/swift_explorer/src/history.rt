@@ -29,7 +29,7 @@ use swift_keys::{put_digest, put_fields, put_flags};
 use swift_log::EventLog;
 use swift_script::Script;
 use swift_tasks::{Book, BookFault};
-use swift_turn::{Body, replay_turn};
+use swift_turn::{Body, TurnOutcome, replay_turn};
 use swift_types::{Ending, ExecId, Fault, RootId, TaskId};
 
 /// Whether a step could be done.
@@ -222,7 +222,13 @@ impl SearchedHistory {
             return Ok(Followed::No);
         };
         let fields = mem::replace(&mut self.fields[place], Vec::new(self.alloc));
-        let Ok((fields, effects, exit)) = replay_turn(&mut ready.body, fields, ready.resume, env)
+        let Ok(
+            TurnOutcome {
+                fields,
+                effects,
+                exit,
+            },
+        ) = replay_turn(&mut ready.body, fields, ready.resume, env)
         else {
             return Err(AllocError);
         };
