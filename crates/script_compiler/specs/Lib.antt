@@ -2,6 +2,7 @@ pub mod Compiled
 pub mod Starts
 pub mod IsCompiled
 pub mod MembersInside
+pub mod NamesInside
 pub mod RootsInside
 pub mod RowsInside
 pub mod Waiting

@@ -1,6 +1,6 @@
 //! Methods.
 
-ghost use Rattle.std.specs.Prelude.{◌≡◌, ◌≤◌, ◌++◌, List, map, length, IfOk, OnOk};
+ghost use Rattle.std.specs.Prelude.{◌≡◌, true, ◌≤◌, ◌++◌, List, map, length, IfOk, OnOk};
 ghost use Rattle.std.specs.List.{AllZip};
 ghost use Rattle.swift_types.specs.declared.limits.TheConstants.{ACTORS};
 ghost use Rattle.script_grammar.specs.Tree.{view_method, view_decl};
@@ -8,6 +8,7 @@ ghost use Rattle.script_printing.specs.Script.{script_in};
 ghost use Rattle.script_compiler.specs.Compiled.{MethodView, method_of, methods_from};
 ghost use Rattle.script_compiler.specs.IsCompiled.{IsMethod};
 ghost use Rattle.script_compiler.specs.MembersInside.{methods_here, number_after};
+ghost use Rattle.script_compiler.specs.NamesInside.{method_known, methods_known, declared_methods_known, all_methods_known};
 
 use crate::compiled::CompiledMethod;
 use crate::number::to_u32;
@@ -22,6 +23,7 @@ fn compile_method(
     actor: ActorId,
     method: &Method,
 ) -> Result<CompiledMethod, AllocError>
+    requires { method_known plan.now.directory actor.0 (view_method method.now) ≡ true }
     ensures { IfOk result (λ m. IsMethod m (method_of plan.now actor.0 (view_method method.now))) }
 {
     let name = Vec::from_slice(alloc, &method.name.text)?;
@@ -45,6 +47,7 @@ fn add_methods(
     methods: &[Method],
     all: &mut Vec<CompiledMethod>,
 ) -> Result<(), AllocError>
+    requires { methods_known plan.now.directory actor.0 (map view_method methods.now) ≡ true }
     ensures { OnOk result ((done : List MethodView) → AllZip IsMethod all.old.items done → AllZip IsMethod all.new.items (done ++ map (method_of plan.now actor.0) (map view_method methods.now))) }
 {
     for method in methods {
@@ -61,7 +64,8 @@ fn add_declared(
     decl: &Decl,
     all: &mut Vec<CompiledMethod>,
 ) -> Result<ActorId, AllocError>
-    requires { number_after actor.0 (view_decl decl.now) ≤ ACTORS }
+    requires few { number_after actor.0 (view_decl decl.now) ≤ ACTORS }
+    requires known { declared_methods_known plan.now.directory actor.0 (view_decl decl.now) ≡ true }
     ensures methods { OnOk result ((done : List MethodView) → AllZip IsMethod all.old.items done → AllZip IsMethod all.new.items (done ++ methods_here plan.now actor.0 (view_decl decl.now))) }
     ensures number { IfOk result (λ next. next.0 ≡ number_after actor.0 (view_decl decl.now)) }
 {
@@ -80,7 +84,8 @@ pub(crate) fn compile_methods(
     plan: &Plan,
     decls: &[Decl],
 ) -> Result<Vec<CompiledMethod>, AllocError>
-    requires { length (script_in (map view_decl decls.now)).actors ≤ ACTORS }
+    requires few { length (script_in (map view_decl decls.now)).actors ≤ ACTORS }
+    requires known { all_methods_known plan.now.directory 0 (map view_decl decls.now) ≡ true }
     ensures { IfOk result (λ v. AllZip IsMethod v.items (methods_from plan.now 0 (script_in (map view_decl decls.now)).actors)) }
 {
     let mut methods = Vec::new(alloc);

@@ -75,12 +75,12 @@ headed_fits d p s (Assume n) inner k =
     cond_both (executor_at p (place_of s.directory.actors n) == executor_at p s.actor) (act code.assume inner) (act code.isolated end) (TargetsFit d) (λ _. (tt, k)) (λ _. (tt, tt))
 
 -- a script's directory stays
-after_directory : (s : ScopeView) (x : StmtTree) → (scope_after s x).directory ≡ s.directory
+pub after_directory : (s : ScopeView) (x : StmtTree) → (scope_after s x).directory ≡ s.directory
 after_directory s (Do (Let n v)) = refl
 after_directory s (Do (LetTask n m)) = refl
 after_directory s _ = refl
 
-within_directory : (s : ScopeView) (h : HeadTree) → (scope_within s h).directory ≡ s.directory
+pub within_directory : (s : ScopeView) (h : HeadTree) → (scope_within s h).directory ≡ s.directory
 within_directory s (If t) = refl
 within_directory s (While t) = refl
 within_directory s (Bind n t) = refl

@@ -15,5 +15,6 @@ pub mod Parameters
 pub mod BlockCalls
 pub mod Agreed
 pub mod BlockHandles
+pub mod Known
 pub mod WholeScripts
 pub mod InOrder

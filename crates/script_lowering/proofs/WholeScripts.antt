@@ -20,7 +20,7 @@ use Rattle.script_lowering.proofs.BlockHandles.{block_handles}
 use Rattle.script_lowering.proofs.Agreed.{none_agrees}
 use Rattle.script_lowering.specs.Handles.{none_held}
 
-parameters_directory : (s : ScopeView) (names : List (List ℕ)) → (with_parameters s names).directory ≡ s.directory
+pub parameters_directory : (s : ScopeView) (names : List (List ℕ)) → (with_parameters s names).directory ≡ s.directory
 parameters_directory s [] = refl
 parameters_directory s (n ∷ names) = parameters_directory (with_standing s n kind.Number) names
 

@@ -1,6 +1,7 @@
 pub mod Plan
 pub mod PlanInside
 pub mod Lowered
+pub mod Known
 pub mod Counts
 pub mod StandingInside
 pub mod HeadsInside

@@ -1,11 +1,12 @@
 //! Statements without a block. Each of these functions writes the instructions of its part after those that are there,
 //! and answers the number of the one that it begins with.
 
-ghost use Rattle.std.specs.Prelude.{◌≡◌, ◌++◌, length, map, IfOk, OnOk};
+ghost use Rattle.std.specs.Prelude.{◌≡◌, true, ◌++◌, length, map, IfOk, OnOk};
 ghost use Rattle.script_grammar.specs.Tree.{view_wait, view_value, view_make, view_action};
 ghost use Rattle.script_code.specs.Tree.{term_of, act, end};
 ghost use Rattle.script_code.specs.Layout.{meaning_of, entry, written};
 ghost use Rattle.script_lowering.specs.Lowered.{wait_to, set_at, value_to, make_to, action_code};
+ghost use Rattle.script_lowering.specs.Known.{wait_known, value_known, make_known, action_known};
 
 use crate::call::{call, lower_awaited, lower_cancelled};
 use crate::expression::{expression, expression_if, place};
@@ -26,6 +27,7 @@ fn wait(
     wait: &Wait,
     next: u32,
 ) -> Result<u32, AllocError>
+    requires { wait_known plan.now.directory scope.now (view_wait wait.now) ≡ true }
     ensures lines { OnOk result (map meaning_of instructions.new.items ≡ map meaning_of instructions.old.items ++ written (wait_to plan.now scope.now place (view_wait wait.now)) (length instructions.old.items) next) }
     ensures start { IfOk result (λ n. n ≡ entry (wait_to plan.now scope.now place (view_wait wait.now)) (length instructions.old.items) next) }
 {
@@ -61,6 +63,7 @@ fn assignment(
     value: &Value,
     next: u32,
 ) -> Result<u32, AllocError>
+    requires { value_known plan.now.directory scope.now (view_value value.now) ≡ true }
     ensures lines { OnOk result (map meaning_of instructions.new.items ≡ map meaning_of instructions.old.items ++ written (value_to plan.now scope.now place (view_value value.now)) (length instructions.old.items) next) }
     ensures start { IfOk result (λ n. n ≡ entry (value_to plan.now scope.now place (view_value value.now)) (length instructions.old.items) next) }
 {
@@ -83,6 +86,7 @@ fn make(
     make: &Make,
     next: u32,
 ) -> Result<u32, AllocError>
+    requires { make_known plan.now.directory scope.now (view_make make.now) ≡ true }
     ensures lines { OnOk result (map meaning_of instructions.new.items ≡ map meaning_of instructions.old.items ++ written (act (make_to plan.now scope.now handle (view_make make.now)) end) (length instructions.old.items) next) }
     ensures start { IfOk result (λ n. n ≡ entry (act (make_to plan.now scope.now handle (view_make make.now)) end) (length instructions.old.items) next) }
 {
@@ -114,6 +118,7 @@ pub(crate) fn action(
     action: &Action,
     next: u32,
 ) -> Result<u32, AllocError>
+    requires { action_known plan.now.directory scope.now (view_action action.now) ≡ true }
     ensures lines { OnOk result (map meaning_of instructions.new.items ≡ map meaning_of instructions.old.items ++ written (action_code plan.now scope.now (view_action action.now)) (length instructions.old.items) next) }
     ensures start { IfOk result (λ n. n ≡ entry (action_code plan.now scope.now (view_action action.now)) (length instructions.old.items) next) }
 {

@@ -1,12 +1,13 @@
 //! Blocks and their statements, which are written from their ends on: so each instruction is written after those that
 //! follow it.
 
-ghost use Rattle.std.specs.Prelude.{◌≡◌, ◌++◌, length, map, IfOk, OnOk};
+ghost use Rattle.std.specs.Prelude.{◌≡◌, true, ◌++◌, length, map, IfOk, OnOk};
 ghost use Rattle.script_grammar.specs.Tree.{view_head, view_stmt, block_tree};
 ghost use Rattle.script_names.specs.Scope.{ScopeView};
 ghost use Rattle.script_names.specs.Rules.{scope_after, scope_within};
 ghost use Rattle.script_code.specs.Layout.{meaning_of, entry, written};
 ghost use Rattle.script_lowering.specs.Lowered.{stmt_code, block_code};
+ghost use Rattle.script_lowering.specs.Known.{makes_new, opens_known, head_known, stmt_known, block_known};
 ghost use Rattle.script_lowering.specs.StandingInside.{scope_through};
 ghost use Rattle.script_lowering.specs.HeadsInside.{foot, HeadsAs, is_isolated};
 
@@ -23,6 +24,7 @@ use std::alloc::{AllocError, Global};
 
 // After a statement what it makes stands.
 fn pass(alloc: Global, scope: &mut StandingNames<'_>, stmt: &Stmt) -> Result<(), AllocError>
+    requires { makes_new scope.old (view_stmt stmt.now) ≡ true }
     ensures { OnOk result (scope.new ≡ scope_after scope.old (view_stmt stmt.now)) }
 {
     match stmt {
@@ -44,6 +46,7 @@ fn pass_back(scope: &mut StandingNames<'_>, stmt: &Stmt)
 
 // What stands in a block, by its head.
 fn enter(alloc: Global, scope: &mut StandingNames<'_>, head: &Head) -> Result<(), AllocError>
+    requires { opens_known scope.old (view_head head.now) ≡ true }
     ensures { OnOk result (scope.new ≡ scope_within scope.old (view_head head.now)) }
 {
     match head {
@@ -60,6 +63,7 @@ fn enter(alloc: Global, scope: &mut StandingNames<'_>, head: &Head) -> Result<()
 
 // Whether an `assume` names an actor of another executor, so that its block is not run.
 fn is_isolated(plan: &Plan, scope: &StandingNames<'_>, head: &Head) -> Result<bool, AllocError>
+    requires { opens_known scope.now (view_head head.now) ≡ true }
     ensures { IfOk result (λ b. b ≡ is_isolated plan.now scope.now (view_head head.now)) }
 {
     match head {
@@ -94,6 +98,7 @@ fn head_act(
     scope: &StandingNames<'_>,
     head: &Head,
 ) -> Result<Act, AllocError>
+    requires { head_known plan.now.directory (view_head head.now) ≡ true }
     ensures { IfOk result (λ a. HeadsAs a plan.now scope.now (view_head head.now)) }
 {
     match head {
@@ -117,6 +122,7 @@ fn statement(
     stmt: &Stmt,
     next: u32,
 ) -> Result<u32, AllocError>
+    requires { stmt_known plan.now.directory scope.old (view_stmt stmt.now) ≡ true }
     ensures lines { OnOk result (map meaning_of instructions.new.items ≡ map meaning_of instructions.old.items ++ written (stmt_code plan.now scope.old (view_stmt stmt.now)) (length instructions.old.items) next) }
     ensures start { IfOk result (λ n. n ≡ entry (stmt_code plan.now scope.old (view_stmt stmt.now)) (length instructions.old.items) next) }
     ensures scope { OnOk result (scope.new ≡ scope.old) }
@@ -164,6 +170,7 @@ pub(crate) fn block(
     block: &[Stmt],
     next: u32,
 ) -> Result<u32, AllocError>
+    requires { block_known plan.now.directory scope.old (block_tree (map view_stmt block.now)) ≡ true }
     ensures lines { OnOk result (map meaning_of instructions.new.items ≡ map meaning_of instructions.old.items ++ written (block_code plan.now scope.old (block_tree (map view_stmt block.now))) (length instructions.old.items) next) }
     ensures start { IfOk result (λ n. n ≡ entry (block_code plan.now scope.old (block_tree (map view_stmt block.now))) (length instructions.old.items) next) }
     ensures scope { OnOk result (scope.new ≡ scope.old) }

@@ -1,11 +1,12 @@
 //! Calls, and what is waited for.
 
-ghost use Rattle.std.specs.Prelude.{◌≡◌, IfOk};
+ghost use Rattle.std.specs.Prelude.{◌≡◌, true, IfOk};
 ghost use Rattle.script_grammar.specs.Tree.{view_call, view_awaited};
-ghost use Rattle.script_names.specs.Texts.{place_of};
+ghost use Rattle.script_names.specs.Texts.{is_among, place_of};
 ghost use Rattle.script_names.specs.Scope.{meaning_of};
 ghost use Rattle.script_code.specs.Tree.{target_of as target_said, wanted_of as wanted_said};
 ghost use Rattle.script_lowering.specs.Lowered.{target_of, task_named, wanted_of, cancelled_named};
+ghost use Rattle.script_lowering.specs.Known.{call_known, task_known, awaited_known, cancelled_known};
 
 use crate::expression::expressions;
 use crate::number::declared;
@@ -24,6 +25,7 @@ pub(crate) fn call(
     scope: &StandingNames<'_>,
     call: &Call,
 ) -> Result<script_code::CompiledCall, AllocError>
+    requires { call_known plan.now.directory scope.now (view_call call.now) ≡ true }
     ensures { IfOk result (λ c. target_said c ≡ target_of plan.now scope.now (view_call call.now)) }
 {
     let (actor, method) = (&call.actor.text, &call.method.text);
@@ -36,6 +38,7 @@ pub(crate) fn call(
 }
 
 fn root(scope: &StandingNames<'_>, name: &[u8]) -> Result<RootId, AllocError>
+    requires { is_among scope.now.directory.roots name.now ≡ true }
     ensures { IfOk result (λ r. r.0 ≡ place_of scope.now.directory.roots name.now) }
 {
     Ok(RootId(declared(scope.declared().root(name))?))
@@ -43,6 +46,7 @@ fn root(scope: &StandingNames<'_>, name: &[u8]) -> Result<RootId, AllocError>
 
 // A name after `task` is the task variable of that name, or else the root.
 fn task(scope: &StandingNames<'_>, name: &[u8]) -> Result<script_code::CompiledAwait, AllocError>
+    requires { task_known scope.now name.now (meaning_of scope.now name.now) ≡ true }
     ensures { IfOk result (λ w. wanted_said w ≡ task_named scope.now name.now (meaning_of scope.now name.now)) }
 {
     match scope.meaning(name) {
@@ -58,6 +62,7 @@ pub(crate) fn lower_awaited(
     scope: &StandingNames<'_>,
     awaited: &Awaited,
 ) -> Result<script_code::CompiledAwait, AllocError>
+    requires { awaited_known plan.now.directory scope.now (view_awaited awaited.now) ≡ true }
     ensures { IfOk result (λ w. wanted_said w ≡ wanted_of plan.now scope.now (view_awaited awaited.now)) }
 {
     match awaited {
@@ -74,6 +79,7 @@ pub(crate) fn lower_cancelled(
     scope: &StandingNames<'_>,
     name: &[u8],
 ) -> Result<Cancelled, AllocError>
+    requires { cancelled_known scope.now name.now (meaning_of scope.now name.now) ≡ true }
     ensures { IfOk result (λ k. k ≡ cancelled_named scope.now name.now (meaning_of scope.now name.now)) }
 {
     match scope.meaning(name) {

@@ -1,10 +1,11 @@
 //! Expressions, with places for their names.
 
-ghost use Rattle.std.specs.Prelude.{◌≡◌, map, IfOk};
+ghost use Rattle.std.specs.Prelude.{◌≡◌, true, map, IfOk};
 ghost use Rattle.script_grammar.specs.Tree.{Named, view, view_if};
-ghost use Rattle.script_names.specs.Texts.{place_of};
+ghost use Rattle.script_names.specs.Texts.{is_among, place_of};
 ghost use Rattle.script_code.specs.Tree.{local as local_term, term_of, terms_of, term_if};
 ghost use Rattle.script_lowering.specs.Lowered.{default_of, place_named, lowered, lowered_if};
+ghost use Rattle.script_lowering.specs.Known.{expression_known, expressions_known, optional_known};
 
 use crate::number::to_u32;
 use crate::plan::Plan;
@@ -42,8 +43,9 @@ fn lower_name(plan: &Plan, scope: &StandingNames<'_>, name: &[u8]) -> Result<For
     }
 }
 
-// What is read of a task local.
+// What is read of a task local that is declared.
 fn local(plan: &Plan, name: &[u8]) -> Result<Formula, AllocError>
+    requires { is_among plan.now.directory.locals name.now ≡ true }
     ensures { IfOk result (λ f. term_of f ≡ local_term (place_of plan.now.directory.locals name.now) (default_of plan.now name.now)) }
 {
     let (local, default) = plan.local(name)?;
@@ -57,6 +59,7 @@ pub(crate) fn expression(
     scope: &StandingNames<'_>,
     expr: &Expr,
 ) -> Result<Formula, AllocError>
+    requires { expression_known plan.now.directory (view expr.now) ≡ true }
     ensures { IfOk result (λ f. term_of f ≡ lowered plan.now scope.now (view expr.now)) }
 {
     match expr {
@@ -88,6 +91,7 @@ pub(crate) fn expressions(
     scope: &StandingNames<'_>,
     exprs: &[Expr],
 ) -> Result<Vec<Formula>, AllocError>
+    requires { expressions_known plan.now.directory (map view exprs.now) ≡ true }
     ensures { IfOk result (λ v. terms_of v.items ≡ map (lowered plan.now scope.now) (map view exprs.now)) }
 {
     let mut formulas = Vec::with_capacity(alloc, exprs.len())?;
@@ -104,6 +108,7 @@ pub(crate) fn expression_if(
     scope: &StandingNames<'_>,
     expr: &Option<Expr>,
 ) -> Result<Option<Formula>, AllocError>
+    requires { optional_known plan.now.directory (view_if expr.now) ≡ true }
     ensures { IfOk result (λ f. term_if f ≡ lowered_if plan.now scope.now (view_if expr.now)) }
 {
     match expr {

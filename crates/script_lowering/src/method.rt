@@ -1,6 +1,6 @@
 //! Whole methods, and invariants.
 
-ghost use Rattle.std.specs.Prelude.{◌≡◌, map, IfOk, OnOk};
+ghost use Rattle.std.specs.Prelude.{◌≡◌, true, map, IfOk, OnOk};
 ghost use Rattle.script_grammar.specs.Tree.{text_of, view, view_stmt, block_tree};
 ghost use Rattle.script_names.specs.Scope.{fields_alone};
 ghost use Rattle.script_names.specs.Rules.{with_parameters};
@@ -9,6 +9,7 @@ ghost use Rattle.script_code.specs.Instructions.{FollowsCode};
 ghost use Rattle.script_code.specs.Layout.{code_at};
 ghost use Rattle.script_lowering.specs.Counts.{counts_of, most_of};
 ghost use Rattle.script_lowering.specs.Lowered.{lowered, block_code};
+ghost use Rattle.script_lowering.specs.Known.{expression_known, block_known, parameters_new};
 
 use crate::block::block;
 use crate::counts::most_of;
@@ -33,9 +34,8 @@ pub struct Lowered {
     pub handles: u32,
 }
 
-/// The instructions of a method of the actor at a place, from what its names stand for (our own). Its names have to be
-/// in order, as `script_names::check` finds. `Err` says that there was no memory, that an instruction or a place is
-/// numbered past 32 bits, or that a name is made that stands already, or is not declared.
+/// The instructions of a method of the actor at a place, from what its names stand for (our own). `Err` says that there was
+/// no memory, or that an instruction or a place is numbered past 32 bits.
 ///
 /// Time and memory are linear in the statements.
 pub fn lower(
@@ -45,6 +45,9 @@ pub fn lower(
     params: &[Name],
     body: &[Stmt],
 ) -> Result<Lowered, AllocError>
+    // Its parameters are new, and all that its body names is known, as it is where names are in order.
+    requires parameters { parameters_new (fields_alone plan.now.directory actor) (map text_of params.now) ≡ true }
+    requires body { block_known plan.now.directory (with_parameters (fields_alone plan.now.directory actor) (map text_of params.now)) (block_tree (map view_stmt body.now)) ≡ true }
     // To follow the instructions from instruction 0 on is to do the statements.
     ensures stands { let code = block_code plan.now (with_parameters (fields_alone plan.now.directory actor) (map text_of params.now)) (block_tree (map view_stmt body.now)) in
         IfOk result (λ l. FollowsCode l.instructions.items code (code_at code)) }
@@ -65,6 +68,8 @@ pub fn lower(
 
 /// An expression over the fields of the actor at a place alone: an invariant. `Err` is as that of `lower`.
 pub fn formula(alloc: Global, plan: &Plan, actor: usize, expr: &Expr) -> Result<Formula, AllocError>
+    // Each task local that it reads is declared.
+    requires { expression_known plan.now.directory (view expr.now) ≡ true }
     ensures { IfOk result (λ f. term_of f ≡ lowered plan.now (fields_alone plan.now.directory actor) (view expr.now)) }
 {
     let scope = StandingNames::fields_alone(alloc, plan.declared(), actor);
@@ -77,6 +82,7 @@ fn parameters(
     scope: &mut StandingNames<'_>,
     params: &[Name],
 ) -> Result<(), AllocError>
+    requires { parameters_new scope.old (map text_of params.now) ≡ true }
     ensures { OnOk result (scope.new ≡ with_parameters scope.old (map text_of params.now)) }
 {
     for param in params {
@@ -92,6 +98,7 @@ fn instructions(
     scope: &mut StandingNames<'_>,
     body: &[Stmt],
 ) -> Result<Vec<Instruction>, AllocError>
+    requires { block_known plan.now.directory scope.old (block_tree (map view_stmt body.now)) ≡ true }
     ensures { let code = block_code plan.now scope.old (block_tree (map view_stmt body.now)) in
         IfOk result (λ v. FollowsCode v.items code (code_at code)) }
 {

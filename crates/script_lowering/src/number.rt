@@ -1,6 +1,6 @@
 //! Counts of 32 bits.
 
-ghost use Rattle.std.specs.Prelude.{◌≡◌, ◌+◌, Some, IfOk};
+ghost use Rattle.std.specs.Prelude.{◌≡◌, ◌+◌, true, is_some, Some, IfOk};
 
 use std::alloc::AllocError;
 
@@ -25,13 +25,13 @@ pub(crate) fn sum(a: u32, b: u32) -> Result<u32, AllocError>
     }
 }
 
-/// The place of a name that is declared, under the same rule. Names are checked before, so each is declared: for one that
-/// is not the answer is that there is no memory.
+/// The place of a name that is declared, under the same rule.
 pub(crate) fn declared(place: Option<usize>) -> Result<u32, AllocError>
+    requires { is_some place ≡ true }
     ensures { IfOk result (λ n. place ≡ Some n) }
 {
     match place {
         Some(place) => to_u32(place),
-        None => Err(AllocError),
+        None => unreachable!(),
     }
 }

@@ -3,7 +3,7 @@
 ghost use Rattle.std.specs.Prelude.{◌≡◌, ◌==◌, ◌+◌, ◌<◌, ◌≤◌, ℕ, pos, true, None, ◌∷◌, ◌++◌, [], Some, length, map, option_copied, slice_get, unwrap_or, count_by, List, IfOk};
 ghost use Rattle.swift_types.specs.declared.limits.TheConstants.{ACTORS, EXECUTORS};
 ghost use Rattle.script_grammar.specs.Tree.{text_if, view_decl};
-ghost use Rattle.script_names.specs.Texts.{place_of};
+ghost use Rattle.script_names.specs.Texts.{is_among, place_of};
 ghost use Rattle.script_names.specs.Directory.{directory_of, executors_in, actors_in};
 ghost use Rattle.script_names.specs.Rules.{names_error};
 ghost use Rattle.script_lowering.specs.Plan.{AreActorPlaces, defaults_in, on_executor, executors_from, plan_of, executor_at, actor_place_in, actor_place_of};
@@ -96,9 +96,10 @@ impl Plan {
         }
     }
 
-    /// A task local, and its default.
+    /// A task local that is declared, and its default.
     #[tactic(auto, unfolding(crate::specs::Lowered::default_of))]
     pub(crate) fn local(&self, name: &[u8]) -> Result<(LocalId, i64), AllocError>
+        requires { is_among self.now.directory.locals name.now ≡ true }
         ensures number { IfOk result (λ l. l.0.0 ≡ place_of self.now.directory.locals name.now) }
         ensures default { IfOk result (λ l. l.1 ≡ default_of self.now name.now) }
     {

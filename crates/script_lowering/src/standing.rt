@@ -1,6 +1,6 @@
 //! What stands at a place of a method, with the place of each name.
 
-ghost use Rattle.std.specs.Prelude.{◌≡◌, is_some, length, take, ℕ, List, IfSome, OnOk};
+ghost use Rattle.std.specs.Prelude.{◌≡◌, None, is_some, length, take, ℕ, List, IfSome, OnOk};
 ghost use Rattle.script_names.specs.Texts.{is_among, place_of};
 ghost use Rattle.script_names.specs.Directory.{fields_at};
 ghost use Rattle.script_names.specs.Scope.{fields_alone, with_standing, meaning_of, ScopeView};
@@ -124,19 +124,16 @@ impl<'a> StandingNames<'a> {
         self.here
     }
 
-    /// A name more. Names are checked before, so none stands there yet: for one that does the answer is that there is no
-    /// memory.
+    /// A name more, which must not stand there yet.
     pub(crate) fn add(
         &mut self,
         alloc: Global,
         name: &[u8],
         kind: NameKind,
     ) -> Result<(), AllocError>
+        requires { meaning_of self.old name.now ≡ None }
         ensures { OnOk result (self.new ≡ with_standing self.old name.now kind) }
     {
-        if self.scope.meaning(name).is_some() {
-            return Err(AllocError);
-        }
         let here = count_name(self.here, kind)?;
         self.counts.push(self.here)?;
         match self.scope.add(alloc, name, kind) {

@@ -6,7 +6,8 @@ use Rattle.script_lowering.specs.Plan.{PlanView}
 use Rattle.script_compiler.specs.Compiled.{own_executors}
 use Rattle.script_compiler.specs.IsCompiled.{actor_view}
 use Rattle.script_compiler.specs.RootsInside.{have_root_methods}
-use Rattle.script_compiler.proofs.InOrder.{few_actors, roots_have_methods}
+use Rattle.script_compiler.specs.NamesInside.{all_methods_known, invariants_known}
+use Rattle.script_compiler.proofs.InOrder.{few_actors, roots_have_methods, names_are_known}
 use Rattle.script_compiler.proofs.ExecutorsMade.{as_many, by_actors, same_invariants}
 use Rattle.script_compiler.proofs.compiling.by_plan.Goals as goal
 
@@ -29,7 +30,18 @@ compile_executors-requires c =
     omega (arith, few, made, length-map c.in_ok-actors.actors.items actor_view, as_many c.args.plan.now 0 (script_in decls).actors, ap length c.deref.ensures.value)
 
 pub compile_methods-requires : goal.compile_methods-requires
-compile_methods-requires c = few_actors (map view_decl c.args.decls.now) c.requires.names
+compile_methods-requires c =
+    let decls = map view_decl c.args.decls.now in
+    record {
+      few = few_actors decls c.requires.names;
+      known = ap (λ (p : PlanView). all_methods_known p.directory 0 decls) c.requires.plan ∙ (names_are_known decls c.requires.names).1;
+    }
+
+pub compile_actors-requires : goal.compile_actors-requires
+compile_actors-requires c =
+    let decls = map view_decl c.args.decls.now in
+    ap (λ (p : PlanView). invariants_known p.directory decls) c.requires.plan
+    ∙ (names_are_known decls c.requires.names).0
 
 pub compile_roots-requires : goal.compile_roots-requires
 compile_roots-requires c =

@@ -1,6 +1,6 @@
-use Rattle.std.proofs.Common.{◌≡◌, ◌+◌, ◌-◌, ◌<◌, ◌++◌, List, map, false, length, sym, ap, subst, ◌∙◌, arith}
+use Rattle.std.proofs.Common.{◌≡◌, ◌+◌, ◌-◌, ◌<◌, ◌++◌, List, map, true, false, length, sym, ap, subst, ◌∙◌, take, arith, rules}
 use Rattle.std.proofs.lemmas.List.{append-nil, take_all, at_drop_all}
-use Rattle.script_grammar.specs.declared.statement.Stmt.{Stmt}
+use Rattle.script_grammar.specs.declared.statement.Stmt.{Stmt, the_lemmas}
 use Rattle.script_grammar.specs.Tree.{view, view_head, view_stmt, block_tree}
 use Rattle.script_code.specs.Tree.{term_of}
 use Rattle.script_code.specs.Instructions.{tests}
@@ -13,7 +13,24 @@ use Rattle.script_lowering.specs.HeadsInside.{HeadsAs, is_isolated}
 use Rattle.script_lowering.proofs.Lines.{IsWritten}
 use Rattle.script_lowering.proofs.Blocks.{through_more, step_back}
 use Rattle.script_lowering.proofs.Statements.{code_in, while_written, block_written, else_written, answered, ok_of, not_loop, left_is}
+use Rattle.script_lowering.specs.Known.{makes_new}
+use Rattle.script_lowering.proofs.Known.{stmt_at, new_there, stmt_back}
 use Rattle.script_lowering.proofs.block.+block.Goals as goal
+
+pub block-pass-requires : goal.block-pass-requires
+block-pass-requires t c =
+    let d = c.args.plan.now.directory in
+    let body = c.args.block.now in
+    let x = c.stmt-item.result in
+    let here = scope_through c.args.scope.now (map view_stmt (take c.loop-stmt.stmt-index body)) in
+    subst (λ (y : ScopeView). makes_new y (view_stmt x) ≡ true) (sym c.loop-stmt.invariant) (new_there d here (view_stmt x) (stmt_at d c.args.scope.now body c.loop-stmt.stmt-index x c.loop-stmt-test.true c.stmt-item.is c.requires))
+
+pub block-statement-requires : goal.block-statement-requires
+block-statement-requires t c =
+    let i = c.loop-left.left - 1 in
+    let next : i + 1 ≡ c.loop-left.left = omega arith in
+    let lt : i < length c.args.block.now = omega arith in
+    (search (rules, the_lemmas), stmt_back c.args.plan.now.directory c.args.scope.now c.loop-left.scope c.pass_back.new.scope c.args.block.now c.loop-left.left i c.index-block-left.result next lt c.index-block-left.is c.loop-left.invariant.standing c.pass_back.ensures c.requires)
 
 pub block-loop-stmt-preserved : goal.block-loop-stmt-preserved
 block-loop-stmt-preserved t c =
