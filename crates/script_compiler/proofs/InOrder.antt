@@ -1,7 +1,9 @@
 -- Where the names of a script are in order, there are few actors, the method of each root is declared, and what is compiled is known.
-use Rattle.std.proofs.Common.{◌≡◌, ◌≤◌, ◌++◌, ℕ, suc, Bool, true, ◌&&◌, nat_le, List, [], ◌∷◌, length, None, ap, refl, sym, subst, ◌∙◌, add-one, arith}
+use Rattle.std.proofs.Common.{◌≡◌, ◌<◌, ◌≤◌, ◌+◌, ◌++◌, ℕ, suc, map, drop, get_or, drop-cons, Bool, true, ◌&&◌, nat_le, List, [], ◌∷◌, length, None, ap, refl, sym, subst, ◌∙◌, add-one, arith}
 use Rattle.swift_types.specs.declared.limits.TheConstants.{ACTORS, TASKS}
-use Rattle.script_grammar.specs.Tree.{MethodTree, ActorTree, DeclTree, RootTree, Executes, Binds, Acts, Roots, block_tree}
+use Rattle.script_grammar.specs.declared.declaration.Method.{Method}
+use Rattle.std.proofs.lemmas.Bool.{and_parts}
+use Rattle.script_grammar.specs.Tree.{view_method, MethodTree, ActorTree, DeclTree, RootTree, Executes, Binds, Acts, Roots, block_tree}
 use Rattle.script_names.specs.declared.error.NameErrorKind.TheVariants.{TooMany}
 use Rattle.script_names.specs.Directory.{DirectoryView, directory_of, actors_in}
 use Rattle.script_names.specs.Scope.{fields_alone}
@@ -89,3 +91,14 @@ decls_are_known d seen at (Roots r ∷ xs) e = decls_are_known d (seen_after see
 
 pub names_are_known : (xs : List DeclTree) → names_error xs ≡ None → (invariants_known (directory_of xs) xs ≡ true) × (all_methods_known (directory_of xs) 0 xs ≡ true)
 names_are_known xs e = decls_are_known (directory_of xs) (record { places = []; locals = []; roots = []; executors = 0; actors = 0 }) 0 xs e
+
+-- the next of some methods, and those after it
+pub methods_next : (d : DirectoryView) (k : ℕ) (ms : List Method) (i : ℕ) (m : Method) → i < length ms → m ≡ get_or ms i m → methods_known d k (map view_method (drop i ms)) ≡ true
+    → (method_known d k (view_method m) ≡ true) × (methods_known d k (map view_method (drop (i + 1) ms)) ≡ true)
+methods_next d k ms i m h is known =
+    let here : drop i ms ≡ get_or ms i m ∷ drop (suc i) ms = drop-cons ms i m h in
+    let split : methods_known d k (map view_method (drop i ms)) ≡ (method_known d k (view_method m) && methods_known d k (map view_method (drop (i + 1) ms))) =
+    ap (λ (xs : List Method). methods_known d k (map view_method xs)) here
+    ∙ ap (λ (x : Method). method_known d k (view_method x) && methods_known d k (map view_method (drop (suc i) ms))) (sym is)
+    ∙ ap (λ (n : ℕ). method_known d k (view_method m) && methods_known d k (map view_method (drop n ms))) (sym (add-one i)) in
+    and_parts (method_known d k (view_method m)) (methods_known d k (map view_method (drop (i + 1) ms))) (sym split ∙ known)
