@@ -1,12 +1,14 @@
 //! The grammar of scripts: the trees of scripts, and which tokens spell which tree.
 //!
-//! This crate has types and definitions alone. `script_parser` finds the tree that tokens spell.
+//! This crate has types, definitions and a law alone. `script_parser` finds the tree that tokens spell.
 #![tactic(auto)]
 
 // Declarations.
 mod declaration;
 // Expressions, calls, and what is waited for.
 mod expression;
+// What holds of the definitions.
+pub mod laws;
 // Which parts may stand where.
 mod region;
 // Statements and blocks.

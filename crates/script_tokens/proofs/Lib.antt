@@ -3,3 +3,4 @@ pub mod Numbers
 pub mod Reading
 pub mod Texts
 pub mod Unique
+pub mod Few
