@@ -1,6 +1,6 @@
 //! The checkpoint of an executor.
 
-ghost use Rattle.std.specs.Prelude.{◌≡◌, [], ◌++◌, ◌<◌, drop, length, map, slice_index_or, take, IfOk, OnOk, OnErr};
+ghost use Rattle.std.specs.Prelude.{◌≡◌, [], ◌++◌, ◌<◌, ◌^◌, drop, length, map, slice_index_or, take, IfOk, OnOk, OnErr};
 ghost use Rattle.script_code.specs.Seen.{rows_of};
 ghost use Rattle.swift_journal.specs.Checkpoints.{folded_of};
 
@@ -38,7 +38,7 @@ impl Drop for Checkpoint {
 }
 
 impl Model for Checkpoint {
-    ghost use Rattle.std.specs.Prelude.{◌≤◌, drop, length, take};
+    ghost use Rattle.std.specs.Prelude.{◌≤◌, ◌<◌, ◌^◌, drop, length, take};
     ghost use Rattle.script_code.specs.Seen.{rows_of};
     ghost use Rattle.swift_journal.specs.Checkpoints.{CheckpointRoomView};
 
@@ -46,7 +46,7 @@ impl Model for Checkpoint {
 
     ghost view = { λ c. record { view = record { fields = rows_of c.fields.items; folded = take c.count c.turns }; room = drop c.count c.turns } };
 
-    ghost invariant = { λ c. c.count ≤ length c.turns };
+    ghost invariant = { λ c. (c.count ≤ length c.turns) × (c.count < 2 ^ 63) };
 }
 
 impl Checkpoint {
@@ -99,7 +99,8 @@ impl Checkpoint {
 
     /// How many turns were folded.
     pub fn len(&self) -> usize
-        ensures { result ≡ length self.now.view.folded }
+        ensures len { result ≡ length self.now.view.folded }
+        ensures limit { length self.now.view.folded < 2 ^ 63 }
     {
         self.count
     }

@@ -1,6 +1,6 @@
 //! The journal of an executor.
 
-ghost use Rattle.std.specs.Prelude.{◌≡◌, ℤ, List, [], ◌∷◌, ◌++◌, ◌-◌, ◌<◌, length, take, slice_index_or, IfOk, IsTrue, OnOk, OnErr};
+ghost use Rattle.std.specs.Prelude.{◌≡◌, ℤ, List, [], ◌∷◌, ◌++◌, ◌-◌, ◌<◌, ◌^◌, length, take, slice_index_or, IfOk, IsTrue, OnOk, OnErr};
 ghost use Rattle.swift_journal.specs.JournalInside.{record_of};
 ghost use Rattle.swift_journal.specs.declared.stored.StoredEffect.{StoredEffect};
 
@@ -74,7 +74,8 @@ impl Journal {
 
     /// How many turns there are.
     pub fn len(&self) -> usize
-        ensures { result ≡ length self.now }
+        ensures len { result ≡ length self.now }
+        ensures limit { length self.now < 2 ^ 63 }
     {
         self.heads.len()
     }

@@ -1,6 +1,6 @@
 //! Turns that are kept for a checkpoint.
 
-ghost use Rattle.std.specs.Prelude.{◌≡◌, [], ◌∷◌, ◌++◌, ◌+◌, ◌<◌, drop, length, take, slice_index_or, IfOk, OnOk, OnErr};
+ghost use Rattle.std.specs.Prelude.{◌≡◌, [], ◌∷◌, ◌++◌, ◌+◌, ◌<◌, ◌^◌, drop, length, take, slice_index_or, IfOk, OnOk, OnErr};
 ghost use Rattle.swift_journal.specs.CheckpointInside.{after_kind, after_of as after_in, next_effect, next_start};
 
 use crate::brief::BriefExit;
@@ -54,7 +54,8 @@ impl FoldedTurns {
     }
 
     pub fn len(&self) -> usize
-        ensures { result ≡ length self.now }
+        ensures len { result ≡ length self.now }
+        ensures limit { length self.now < 2 ^ 63 }
     {
         self.heads.len()
     }

@@ -1,6 +1,6 @@
 //! Turns, and executors.
 
-ghost use Rattle.std.specs.Prelude.{◌≡◌, ◌++◌, OnOk, codes, slice_get};
+ghost use Rattle.std.specs.Prelude.{◌≡◌, ◌<◌, ◌^◌, ◌++◌, OnOk, codes, slice_get};
 ghost use Rattle.swift_report.specs.Text.{folded_count, method_text};
 ghost use Rattle.swift_json.specs.Json.{comma, env_json, executor_json, executors_json, exit_json, flag_json, heading_json, kind_json, kind_word, pinned_json, listed_json, pending_json, resume_and_exit_json, run_json, turn_json, turns_json, value_json};
 
@@ -135,18 +135,18 @@ fn listed(
     turn(out, script, place, entry)
 }
 
-// The turns of a journal, whose places begin at this number. No turn has a place past `usize::MAX`.
+// The turns of a journal, whose places begin at this number.
 fn turns(
     out: &mut Vec<u8>,
     script: &Script,
     first: usize,
     journal: &Journal,
 ) -> Result<(), AllocError>
+    requires { first < 2 ^ 63 }
     ensures { OnOk result (out.new.items ≡ out.old.items ++ turns_json script.now first first journal.now) }
 {
     for place in 0..journal.len() {
-        let at = first.checked_add(place).ok_or(AllocError)?;
-        listed(out, script, first, at, &line_at(journal, place))?;
+        listed(out, script, first, first + place, &line_at(journal, place))?;
     }
     Ok(())
 }
@@ -206,9 +206,10 @@ fn executor(
     folded: usize,
     journal: &Journal,
 ) -> Result<(), AllocError>
+    requires { folded < 2 ^ 63 }
     ensures { OnOk result (out.new.items ≡ out.old.items ++ executor_json script.now place folded journal.now) }
 {
-    let all = folded.checked_add(journal.len()).ok_or(AllocError)?;
+    let all = folded + journal.len();
     heading(out, script, place, all)?;
     labelled(out, b",\"folded\":", folded)?;
     say(out, b",\"records\":[")?;
@@ -224,6 +225,7 @@ fn listed_executor(
     folded: usize,
     journal: &Journal,
 ) -> Result<(), AllocError>
+    requires { folded < 2 ^ 63 }
     ensures { OnOk result (out.new.items ≡ out.old.items ++ (comma 0 place ++ executor_json script.now place folded journal.now)) }
 {
     comma(out, 0, place)?;
@@ -232,7 +234,8 @@ fn listed_executor(
 
 // How many turns of the executor at a place were folded.
 fn folded_at(checkpoints: &[Checkpoint], place: usize) -> usize
-    ensures { result ≡ folded_count (slice_get checkpoints.now place) }
+    ensures count { result ≡ folded_count (slice_get checkpoints.now place) }
+    ensures limit { result < 2 ^ 63 }
 {
     match checkpoints.get(place) {
         Some(checkpoint) => checkpoint.len(),

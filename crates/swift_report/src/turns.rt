@@ -1,6 +1,6 @@
 //! Lines of turns, and of executors.
 
-ghost use Rattle.std.specs.Prelude.{◌≡◌, ◌++◌, OnOk, slice_get};
+ghost use Rattle.std.specs.Prelude.{◌≡◌, ◌<◌, ◌^◌, ◌++◌, OnOk, slice_get};
 ghost use Rattle.swift_report.specs.Text.{method_text, exit_text, flag_text, env_text, run_text, resume_and_exit_text, turn_text, turns_text, kind_text, heading_text, folded_text, executor_text, executors_text, folded_count};
 
 use crate::append::number;
@@ -100,18 +100,18 @@ fn turn(out: &mut Vec<u8>, script: &Script, place: usize, entry: &Line) -> Resul
     out.extend_from_slice(b"\n")
 }
 
-// The lines of the turns of a journal, whose places begin at this number. No turn has a place past `usize::MAX`.
+// The lines of the turns of a journal, whose places begin at this number.
 fn turns(
     out: &mut Vec<u8>,
     script: &Script,
     first: usize,
     journal: &Journal,
 ) -> Result<(), AllocError>
+    requires { first < 2 ^ 63 }
     ensures { OnOk result (out.new.items ≡ out.old.items ++ turns_text script.now first journal.now) }
 {
     for place in 0..journal.len() {
-        let at = first.checked_add(place).ok_or(AllocError)?;
-        turn(out, script, at, &line_at(journal, place))?;
+        turn(out, script, first + place, &line_at(journal, place))?;
     }
     Ok(())
 }
@@ -167,9 +167,10 @@ fn executor(
     folded: usize,
     journal: &Journal,
 ) -> Result<(), AllocError>
+    requires { folded < 2 ^ 63 }
     ensures { OnOk result (out.new.items ≡ out.old.items ++ executor_text script.now place folded journal.now) }
 {
-    let all = folded.checked_add(journal.len()).ok_or(AllocError)?;
+    let all = folded + journal.len();
     heading(out, script, place, all)?;
     folded_line(out, folded)?;
     turns(out, script, folded, journal)
@@ -177,7 +178,8 @@ fn executor(
 
 // How many turns of the executor at a place were folded.
 fn folded_at(checkpoints: &[Checkpoint], place: usize) -> usize
-    ensures { result ≡ folded_count (slice_get checkpoints.now place) }
+    ensures count { result ≡ folded_count (slice_get checkpoints.now place) }
+    ensures limit { result < 2 ^ 63 }
 {
     match checkpoints.get(place) {
         Some(checkpoint) => checkpoint.len(),

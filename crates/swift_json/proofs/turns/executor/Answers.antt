@@ -1,4 +1,4 @@
-use Rattle.std.proofs.Common.{◌≡◌, ℕ, ◌+◌, ◌++◌, length, ap, sym, refl, ◌∙◌, append_assoc, rules}
+use Rattle.std.proofs.Common.{◌≡◌, ℕ, ◌+◌, ◌++◌, length, ap, sym, refl, ◌∙◌, append_assoc}
 use Rattle.std.specs.Prelude.{codes, decimal}
 use Rattle.swift_json.specs.Json.{heading_json, turns_json}
 use Rattle.swift_json.proofs.Joined.{six_joined}
@@ -8,7 +8,7 @@ pub returns : goal.returns
 returns c =
     let p = c.args.script.now in
     let j = c.args.journal.now in
-    let all : c.in_ok-all.all ≡ c.args.folded + length j = search rules in
+    let all : c.args.folded + c.len.result ≡ c.args.folded + length j = ap (λ n. c.args.folded + n) c.len.ensures.len in
     let x1 = c.heading.new.out.items in
     six_joined c.say-2.result
     c.args.out.now.items x1 (x1 ++ codes ",\"folded\":") c.labelled.new.out.items c.say.new.out.items c.turns.new.out.items c.say-2.new.out.items

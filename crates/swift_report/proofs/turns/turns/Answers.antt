@@ -1,12 +1,11 @@
-use Rattle.std.proofs.Common.{◌≡◌, ◌+◌, ◌<◌, length, rules}
+use Rattle.std.proofs.Common.{◌+◌, ◌<◌, length, refl, rules}
 use Rattle.swift_report.proofs.Places.{turns_more}
 use Rattle.swift_report.proofs.turns.turns.Goals as goal
 
 pub loop-place-preserved : goal.loop-place-preserved
 loop-place-preserved c =
     let lt : c.loop-place.place < length c.args.journal.now = search rules in
-    let place : c.in_ok-at.at ≡ c.args.first + c.loop-place.place = search rules in
     record {
-      text = turns_more c.args.script.now c.args.first c.loop-place.place c.in_ok-at.at c.args.journal.now c.line_at.result c.loop-place.out.items c.turn.new.out.items _ lt place c.line_at.ensures c.in_ok-turn.ensures c.loop-place.invariant.text;
+      text = turns_more c.args.script.now c.args.first c.loop-place.place (c.args.first + c.loop-place.place) c.args.journal.now c.line_at.result c.loop-place.out.items c.turn.new.out.items _ lt refl c.line_at.ensures c.in_ok-turn.ensures c.loop-place.invariant.text;
       end = c.loop-place.invariant.end;
     }

@@ -1,4 +1,4 @@
-use Rattle.std.proofs.Common.{◌≡◌, length, rules, ◌∙◌}
+use Rattle.std.proofs.Common.{◌≡◌, ◌<◌, ◌^◌, length, arith, rules, ◌∙◌}
 use Rattle.swift_journal.proofs.FoldedStay.{folded_count}
 use Rattle.swift_journal.proofs.turns.FoldedTurns.len.Goals as goal
 
@@ -6,4 +6,6 @@ pub returns : goal.returns
 returns c =
     let t = c.self.inside in
     let size : c.len.result ≡ length t.heads.items = search rules in
-    size ∙ folded_count t.heads.items t.words.items t.effects.items c.args.self.now c.self.view_is
+    let same : c.len.result ≡ length c.args.self.now = size ∙ folded_count t.heads.items t.words.items t.effects.items c.args.self.now c.self.view_is in
+    let small : c.len.result < 2 ^ 63 = search rules in
+    record { len = same; limit = omega (arith, small, same) }
