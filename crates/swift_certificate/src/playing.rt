@@ -15,7 +15,7 @@ use std::alloc::{AllocError, Global};
 use std::mem;
 use swift_interpreter::{Effect, Exit, Frame};
 use swift_journal::{Checkpoint, Folded, Journal, Record};
-use swift_turn::{Body, replay_turn};
+use swift_turn::{Body, TurnOutcome, replay_turn};
 use swift_types::{Env, TaskId};
 
 /// What is done with the turns of journals.
@@ -157,7 +157,14 @@ fn play(
     } = ready;
     let frame = body.frame()?;
     let fields = mem::replace(&mut row.fields, Vec::new(alloc));
-    let Ok((fields, effects, exit)) = replay_turn(&mut body, fields, resume, env) else {
+    let Ok(
+        TurnOutcome {
+            fields,
+            effects,
+            exit,
+        },
+    ) = replay_turn(&mut body, fields, resume, env)
+    else {
         return Err(AllocError);
     };
     row.fields = fields;

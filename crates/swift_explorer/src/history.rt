@@ -35,7 +35,7 @@ use swift_log::EventLog;
 use swift_report::Report;
 use swift_script::Script;
 use swift_tasks::{Book, BookFault};
-use swift_turn::{Body, replay_turn};
+use swift_turn::{Body, TurnOutcome, replay_turn};
 use swift_types::{Ending, Env, ExecId, Fault, RootId, TaskId};
 
 /// Whether a step could be done.
@@ -243,7 +243,13 @@ impl SearchedHistory {
         };
         let before = frame_before(&self.journals, place, &ready.body)?;
         let fields = mem::replace(&mut self.fields[place], Vec::new(self.alloc));
-        let Ok((fields, effects, exit)) = replay_turn(&mut ready.body, fields, ready.resume, env)
+        let Ok(
+            TurnOutcome {
+                fields,
+                effects,
+                exit,
+            },
+        ) = replay_turn(&mut ready.body, fields, ready.resume, env)
         else {
             return Err(AllocError);
         };

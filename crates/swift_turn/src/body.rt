@@ -14,6 +14,7 @@ ghost use Rattle.swift_turn.specs.Body.{AdvancesTo, BeginsFrame, BeginsToWait, C
 ghost use Rattle.swift_undo.specs.Rows.{AreSpared};
 
 use crate::opening::{copy_of, opening_of};
+use crate::outcome::TurnOutcome;
 use crate::outer::{begin_over, unbind_all};
 use crate::phase::Phase;
 use crate::stack::Stack;
@@ -309,11 +310,9 @@ impl Body {
     /// Leaves the turn that was polled: the fields after it, its effects in order, and how it ended. Where the poll ran
     /// out of memory, the fields are those that were entered, and the body is as it was before it was entered. For a turn that was
     /// polled (`is_polled`).
-    pub fn leave(
-        &mut self,
-    ) -> Result<(Vec<Vec<i64>>, Vec<Effect>, Exit), (Vec<Vec<i64>>, AllocError)>
+    pub fn leave(&mut self) -> Result<TurnOutcome, (Vec<Vec<i64>>, AllocError)>
         requires { IsPolled self.old.phase }
-        ensures ok { IfOk result (λ r. Hands self.old.phase (rows_of r.0.items) (effect_views r.1.items) (exit_view r.2)) }
+        ensures ok { IfOk result (λ r. Hands self.old.phase (rows_of r.fields.items) (effect_views r.effects.items) (exit_view r.exit)) }
         ensures err { IfErr result (λ e. self.old.phase ≡ out_of_memory (rows_of e.0.items)) }
         ensures rest { self.new ≡ at_rest self.old }
     {
@@ -322,7 +321,11 @@ impl Body {
         match mem::replace(&mut inside.phase, Phase::Idle) {
             Phase::Played(exit) => {
                 let effects = mem::replace(&mut inside.turn.effects, Vec::new(inside.alloc));
-                Ok((fields, effects, exit))
+                Ok(TurnOutcome {
+                    fields,
+                    effects,
+                    exit,
+                })
             }
             Phase::OutOfMemory => Err((fields, AllocError)),
             _ => unreachable!(),

@@ -7,6 +7,8 @@ mod body;
 pub mod laws;
 // Frames that begin, and copies of frames.
 mod opening;
+// What a turn leaves.
+mod outcome;
 // The bindings of callers.
 mod outer;
 // Where a body is with its turn.
@@ -19,5 +21,6 @@ mod step;
 mod whole;
 
 pub use body::Body;
+pub use outcome::TurnOutcome;
 pub use step::Step;
 pub use whole::{play_turn, play_turn_from, replay_turn, run_turn};

@@ -12,6 +12,7 @@ ghost use Rattle.swift_undo.specs.Laws.{AllHold};
 ghost use Rattle.swift_undo.specs.Rows.{HaveRows};
 
 use crate::body::Body;
+use crate::outcome::TurnOutcome;
 use futures::Future;
 use futures::task::Context;
 use std::alloc::AllocError;
@@ -29,19 +30,19 @@ pub fn run_turn(
     fields: Vec<Vec<i64>>,
     resume: Resume,
     env: Env,
-) -> Result<(Vec<Vec<i64>>, Vec<Effect>, Exit), (Vec<Vec<i64>>, AllocError)>
+) -> Result<TurnOutcome, (Vec<Vec<i64>>, AllocError)>
     requires { IsRunning body.old }
     // The theorem: what the three calls give is the kept turn of the frame that runs, and the body stands for it.
     ensures turn { IfOk result (λ r. Polls body.old.script body.old.task.outer body.old.task.frames (entered (rows_of fields.items) resume env)
-        body.new.task.frames (left (rows_of r.0.items) (effect_views r.1.items) (exit_view r.2))) }
+        body.new.task.frames (left (rows_of r.fields.items) (effect_views r.effects.items) (exit_view r.exit))) }
     ensures rest { OnOk result (body.new ≡ record body.old { task = record body.old.task { frames = body.new.task.frames }; phase = idle; waker = body.new.waker }) }
     // The turn was polled. Where it waits, the waker of the task that is polled lies in the slot of the body's source, unless none could
     // be made.
-    ensures waits { IfOk result (λ r. Registers (exit_view r.2) → (cx.new.lacks_waker ≡ true) ⊎ (body.new.waker ≡ Some (polled_in cx.old))) }
+    ensures waits { IfOk result (λ r. Registers (exit_view r.exit) → (cx.new.lacks_waker ≡ true) ⊎ (body.new.waker ≡ Some (polled_in cx.old))) }
     // Else, where the task goes on, the next poll is asked for.
-    ensures yields { IfOk result (λ r. ending_if (callers_of body.old.task.frames) (exit_view r.2) ≡ None → (Registers (exit_view r.2) → ⊥) → cx.new.is_woken ≡ true) }
+    ensures yields { IfOk result (λ r. ending_if (callers_of body.old.task.frames) (exit_view r.exit) ≡ None → (Registers (exit_view r.exit) → ⊥) → cx.new.is_woken ≡ true) }
     // A waker lies there only where the turn waits.
-    ensures slot { IfOk result (λ r. IsSome body.new.waker → Registers (exit_view r.2)) }
+    ensures slot { IfOk result (λ r. IsSome body.new.waker → Registers (exit_view r.exit)) }
     ensures back { IfErr result (λ e. rows_of e.0.items ≡ rows_of fields.items) }
     ensures err { OnErr result ((body.new ≡ body.old) ⊎ (body.new ≡ at_rest body.old)) }
     ensures kept { Keeps cx.old cx.new }
@@ -139,10 +140,10 @@ pub fn replay_turn(
     fields: Vec<Vec<i64>>,
     resume: Resume,
     env: Env,
-) -> Result<(Vec<Vec<i64>>, Vec<Effect>, Exit), (Vec<Vec<i64>>, AllocError)>
+) -> Result<TurnOutcome, (Vec<Vec<i64>>, AllocError)>
     requires { IsRunning body.old }
     ensures turn { IfOk result (λ r. Polls body.old.script body.old.task.outer body.old.task.frames (entered (rows_of fields.items) resume env)
-        body.new.task.frames (left (rows_of r.0.items) (effect_views r.1.items) (exit_view r.2))) }
+        body.new.task.frames (left (rows_of r.fields.items) (effect_views r.effects.items) (exit_view r.exit))) }
     ensures rest { OnOk result (body.new ≡ record body.old { task = record body.old.task { frames = body.new.task.frames }; phase = idle }) }
     ensures back { IfErr result (λ e. rows_of e.0.items ≡ rows_of fields.items) }
     ensures err { OnErr result ((body.new ≡ body.old) ⊎ (body.new ≡ at_rest body.old)) }

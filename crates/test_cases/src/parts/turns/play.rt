@@ -7,9 +7,9 @@ use futures::Future;
 use futures::task::{Context, Doorbell, Solo};
 use std::alloc::{AllocError, AllocGlobal};
 use std::random::RandomSource;
-use swift_interpreter::{Effect, Exit};
+use swift_interpreter::Exit;
 use swift_script::Script;
-use swift_turn::{Body, Step, run_turn};
+use swift_turn::{Body, Step, TurnOutcome, run_turn};
 use swift_types::limits::TURNS;
 use swift_types::{Env, Resume};
 
@@ -21,9 +21,6 @@ pub enum How {
     /// By those that enter, poll and leave it.
     Parts,
 }
-
-// What a turn leaves: the fields, its effects, and its exit.
-type TurnLeft = (Vec<Vec<i64>>, Vec<Effect>, Exit);
 
 /// One turn. None where it can't be run.
 pub fn run<R: RandomSource + AllocGlobal>(
@@ -60,7 +57,15 @@ fn one(
         ran => ran,
     };
     match ran {
-        Ok(Some((fields, effects, exit))) => {
+        Ok(
+            Some(
+                TurnOutcome {
+                    fields,
+                    effects,
+                    exit,
+                },
+            ),
+        ) => {
             tell::left(out, script, &fields, &effects, &exit)?;
             return Ok(Some((fields, exit)));
         }
@@ -78,7 +83,7 @@ fn ran(
     fields: Vec<Vec<i64>>,
     resume: Resume,
     env: Env,
-) -> Result<Option<TurnLeft>, Vec<Vec<i64>>> {
+) -> Result<Option<TurnOutcome>, Vec<Vec<i64>>> {
     if !body.is_running() {
         return Ok(None);
     }
@@ -95,7 +100,7 @@ fn ran(
 }
 
 // Polls a turn that is entered, and takes what it left; none where it was not polled.
-fn polled(cx: &mut Context<'_>, body: &mut Body) -> Result<Option<TurnLeft>, Vec<Vec<i64>>> {
+fn polled(cx: &mut Context<'_>, body: &mut Body) -> Result<Option<TurnOutcome>, Vec<Vec<i64>>> {
     let _ = body.poll(cx);
     if !body.is_polled() {
         return Ok(None);

@@ -13,7 +13,7 @@ use std::random::RandomSource;
 use std::sync::Arc;
 use swift_interpreter::{Exit, Frame};
 use swift_script::Script;
-use swift_turn::Body;
+use swift_turn::{Body, TurnOutcome};
 
 /// A task, the exit of its last turn, and the frame that was copied last.
 #[derive(Drop)]
@@ -157,7 +157,13 @@ fn leave(script: &Script, task: &mut Task, out: &mut String) -> Result<(), Alloc
         return out.push_str("not possible");
     }
     match task.body.leave() {
-        Ok((fields, effects, exit)) => {
+        Ok(
+            TurnOutcome {
+                fields,
+                effects,
+                exit,
+            },
+        ) => {
             let told = tell::left(out, script, &fields, &effects, &exit);
             task.exit = Some(exit);
             told
