@@ -1,4 +1,5 @@
 pub mod Feeds
+pub mod Few
 pub mod Numbers
 pub mod Reading
 pub mod Texts

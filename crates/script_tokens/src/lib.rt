@@ -29,7 +29,7 @@ mod token;
 mod word;
 
 pub use keyword::Keyword;
-pub use laws::{one_list_of_lines, one_reading};
+pub use laws::{few_tokens, one_list_of_lines, one_reading};
 pub use list::Tokens;
 pub use mark::Mark;
 pub use read::tokens;
