@@ -1,2 +1,3 @@
 pub mod Tree
 pub mod Grammar
+pub mod Size
