@@ -9,3 +9,4 @@ pub mod NamesAnywhere
 pub mod NamesAgain
 pub mod Facts
 pub mod Finishing
+pub mod Short

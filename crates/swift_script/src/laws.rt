@@ -1,10 +1,13 @@
 //! Laws of scripts. They call nothing: each is its contract.
 
-ghost use Rattle.std.specs.Prelude.{◌≡◌, ◌<◌, ℕ, List, IsTrue, length};
+ghost use Rattle.std.specs.Prelude.{◌≡◌, ◌<◌, ◌≤◌, ℕ, List, IsTrue, length};
+ghost use Rattle.swift_types.specs.declared.limits.TheConstants.{BYTES};
+ghost use Rattle.script_grammar.specs.Size.{script_size};
+ghost use Rattle.script_grammar.specs.Tree.{DeclTree};
 ghost use Rattle.script_code.specs.Value.{holds};
 ghost use Rattle.script_printing.specs.Script.{ScriptView};
 ghost use Rattle.script_printing.specs.Printed.{printed};
-ghost use Rattle.swift_script.specs.Accepted.{Spells, IsAccepted, WasAccepted};
+ghost use Rattle.swift_script.specs.Accepted.{IsPlain, Spells, SpellsDecls, WasAccepted};
 ghost use Rattle.swift_script.specs.Scripts.{actor_count, actor_invariant, actor_executor, executor_start};
 
 /// A law: a text spells at most one script, whatever the limits.
@@ -21,4 +24,11 @@ pub fn one_printed_form()
 /// script that is accepted.
 pub fn invariants_hold_at_the_start()
     ensures { (s : ScriptView) (actor : ℕ) → WasAccepted s → actor < actor_count s → IsTrue (holds (actor_invariant s actor) (executor_start s (actor_executor s actor))) }
+{}
+
+/// A law: a script is no larger than the text that spells it, whatever the limit of nesting, and so no larger than a text
+/// may be long.
+pub fn scripts_are_short()
+    ensures text { (limit : ℕ) (text : List ℕ) (decls : List DeclTree) → SpellsDecls limit text decls → script_size decls ≤ length text }
+    ensures bytes { (limit : ℕ) (text : List ℕ) (decls : List DeclTree) → IsPlain text → SpellsDecls limit text decls → script_size decls ≤ BYTES }
 {}
