@@ -10,3 +10,4 @@ pub mod InOrder
 pub mod CallsNamed
 pub mod CallsThere
 pub mod MethodsFit
+pub mod Small

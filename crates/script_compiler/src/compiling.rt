@@ -1,7 +1,9 @@
 //! From declarations to what a run needs.
 
-ghost use Rattle.std.specs.Prelude.{◌≡◌, None, map, IfOk};
+ghost use Rattle.std.specs.Prelude.{◌≡◌, ◌≤◌, None, map, IfOk};
+ghost use Rattle.swift_types.specs.declared.limits.TheConstants.{BYTES};
 ghost use Rattle.script_grammar.specs.Tree.{view_decl};
+ghost use Rattle.script_grammar.specs.Size.{script_size};
 ghost use Rattle.script_names.specs.Directory.{directory_of};
 ghost use Rattle.script_names.specs.Rules.{names_error};
 ghost use Rattle.script_lowering.specs.Plan.{plan_of};
@@ -23,6 +25,7 @@ use std::alloc::{AllocError, Global};
 fn by_plan(alloc: Global, plan: &Plan, decls: &[Decl]) -> Result<Compiled, AllocError>
     requires plan { plan.now ≡ plan_of (map view_decl decls.now) }
     requires names { names_error (map view_decl decls.now) ≡ None }
+    requires size { script_size (map view_decl decls.now) ≤ BYTES }
     ensures { IfOk result (λ c. IsCompiled c (compiled_by plan.now (script_in (map view_decl decls.now)))) }
 {
     let actors = compile_actors(alloc, plan, decls)?;
@@ -40,7 +43,7 @@ fn by_plan(alloc: Global, plan: &Plan, decls: &[Decl]) -> Result<Compiled, Alloc
 }
 
 /// What a run needs of a script, from what it declares and its declarations in text order (our own). `Err` says that there
-/// was no memory, or that something is numbered past 32 bits.
+/// was no memory.
 ///
 /// Time and memory are linear in the declarations and all within them, and beside that in the pairs of executors and
 /// actors, of which there are 128 and 64 at most.
@@ -49,6 +52,8 @@ pub fn compile(alloc: Global, declared: Declared, decls: &[Decl]) -> Result<Comp
     requires declared { declared ≡ directory_of (map view_decl decls.now) }
     // Its names are in order, as `script_names::check` finds.
     requires names { names_error (map view_decl decls.now) ≡ None }
+    // They are no larger than a script may be, so all of it has numbers of 32 bits.
+    requires size { script_size (map view_decl decls.now) ≤ BYTES }
     ensures { IfOk result (λ c. IsCompiled c (compiled_of (script_in (map view_decl decls.now)))) }
 {
     let plan = Plan::of(alloc, declared, decls)?;

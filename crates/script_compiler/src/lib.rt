@@ -16,8 +16,6 @@ mod executors;
 pub mod laws;
 // Methods.
 mod methods;
-// Counts of 32 bits.
-mod number;
 // Roots and task locals.
 mod roots;
 // What fields start with, and the invariants at the start.

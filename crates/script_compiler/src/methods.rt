@@ -2,8 +2,9 @@
 
 ghost use Rattle.std.specs.Prelude.{◌≡◌, true, ◌≤◌, ◌++◌, List, map, length, IfOk, OnOk};
 ghost use Rattle.std.specs.List.{AllZip};
-ghost use Rattle.swift_types.specs.declared.limits.TheConstants.{ACTORS};
+ghost use Rattle.swift_types.specs.declared.limits.TheConstants.{ACTORS, BYTES};
 ghost use Rattle.script_grammar.specs.Tree.{view_method, view_decl};
+ghost use Rattle.script_grammar.specs.Size.{method_size, methods_size, decl_size, script_size};
 ghost use Rattle.script_printing.specs.Script.{script_in};
 ghost use Rattle.script_compiler.specs.Compiled.{MethodView, method_of, methods_from};
 ghost use Rattle.script_compiler.specs.IsCompiled.{IsMethod};
@@ -11,7 +12,6 @@ ghost use Rattle.script_compiler.specs.MembersInside.{methods_here, number_after
 ghost use Rattle.script_compiler.specs.NamesInside.{method_known, methods_known, declared_methods_known, all_methods_known};
 
 use crate::compiled::CompiledMethod;
-use crate::number::to_u32;
 use script_grammar::{Decl, Method};
 use script_lowering::{Plan, lower};
 use std::alloc::{AllocError, Global};
@@ -23,11 +23,12 @@ fn compile_method(
     actor: ActorId,
     method: &Method,
 ) -> Result<CompiledMethod, AllocError>
-    requires { method_known plan.now.directory actor.0 (view_method method.now) ≡ true }
+    requires known { method_known plan.now.directory actor.0 (view_method method.now) ≡ true }
+    requires size { method_size (view_method method.now) ≤ BYTES }
     ensures { IfOk result (λ m. IsMethod m (method_of plan.now actor.0 (view_method method.now))) }
 {
     let name = Vec::from_slice(alloc, &method.name.text)?;
-    let params = to_u32(method.params.len())?;
+    let params = method.params.len() as u32;
     let lowered = lower(alloc, plan, actor.0 as usize, &method.params, &method.body)?;
     Ok(CompiledMethod {
         name,
@@ -47,7 +48,8 @@ fn add_methods(
     methods: &[Method],
     all: &mut Vec<CompiledMethod>,
 ) -> Result<(), AllocError>
-    requires { methods_known plan.now.directory actor.0 (map view_method methods.now) ≡ true }
+    requires known { methods_known plan.now.directory actor.0 (map view_method methods.now) ≡ true }
+    requires size { methods_size (map view_method methods.now) ≤ BYTES }
     ensures { OnOk result ((done : List MethodView) → AllZip IsMethod all.old.items done → AllZip IsMethod all.new.items (done ++ map (method_of plan.now actor.0) (map view_method methods.now))) }
 {
     for method in methods {
@@ -66,6 +68,7 @@ fn add_declared(
 ) -> Result<ActorId, AllocError>
     requires few { number_after actor.0 (view_decl decl.now) ≤ ACTORS }
     requires known { declared_methods_known plan.now.directory actor.0 (view_decl decl.now) ≡ true }
+    requires size { decl_size (view_decl decl.now) ≤ BYTES }
     ensures methods { OnOk result ((done : List MethodView) → AllZip IsMethod all.old.items done → AllZip IsMethod all.new.items (done ++ methods_here plan.now actor.0 (view_decl decl.now))) }
     ensures number { IfOk result (λ next. next.0 ≡ number_after actor.0 (view_decl decl.now)) }
 {
@@ -86,6 +89,7 @@ pub(crate) fn compile_methods(
 ) -> Result<Vec<CompiledMethod>, AllocError>
     requires few { length (script_in (map view_decl decls.now)).actors ≤ ACTORS }
     requires known { all_methods_known plan.now.directory 0 (map view_decl decls.now) ≡ true }
+    requires size { script_size (map view_decl decls.now) ≤ BYTES }
     ensures { IfOk result (λ v. AllZip IsMethod v.items (methods_from plan.now 0 (script_in (map view_decl decls.now)).actors)) }
 {
     let mut methods = Vec::new(alloc);

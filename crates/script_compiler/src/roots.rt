@@ -1,6 +1,7 @@
 //! Roots and task locals.
 
-ghost use Rattle.std.specs.Prelude.{◌≡◌, true, map, IfOk};
+ghost use Rattle.std.specs.Prelude.{◌≡◌, ◌≤◌, true, length, map, IfOk};
+ghost use Rattle.swift_types.specs.declared.limits.TheConstants.{BYTES};
 ghost use Rattle.script_grammar.specs.Tree.{view_local, view_root, view_decl};
 ghost use Rattle.script_names.specs.Directory.{has_method, method_place};
 ghost use Rattle.script_printing.specs.Script.{script_in};
@@ -9,7 +10,6 @@ ghost use Rattle.script_compiler.specs.IsCompiled.{local_view, root_view};
 ghost use Rattle.script_compiler.specs.RootsInside.{has_root_method, have_root_methods};
 
 use crate::compiled::{CompiledLocal, CompiledRoot};
-use crate::number::to_u32;
 use script_grammar::{Decl, Local, Root};
 use script_lowering::Plan;
 use script_names::Declared;
@@ -50,13 +50,14 @@ fn method_of(
     actor: &[u8],
     method: &[u8],
 ) -> Result<MethodId, AllocError>
-    requires { has_method declared.now actor.now method.now ≡ true }
+    requires has { has_method declared.now actor.now method.now ≡ true }
+    requires few { length declared.now.methods ≤ BYTES }
     ensures { IfOk result (λ m. m.0 ≡ method_place declared.now actor.now method.now) }
 {
     let Some(place) = declared.method(alloc, actor, method)? else {
         unreachable!()
     };
-    Ok(MethodId(to_u32(place)?))
+    Ok(MethodId(place as u32))
 }
 
 fn compile_root(alloc: Global, plan: &Plan, root: &Root) -> Result<CompiledRoot, AllocError>

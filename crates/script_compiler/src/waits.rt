@@ -1,6 +1,7 @@
 //! Roots that wait for themselves or for later ones.
 
-ghost use Rattle.std.specs.Prelude.{◌≡◌, ℕ, ◌++◌, ◌<◌, ◌≤◌, All, map, IfOk, IfSome, IfNone, OnOk};
+ghost use Rattle.std.specs.Prelude.{◌≡◌, ℕ, ◌++◌, ◌<◌, ◌≤◌, All, length, map, IfOk, IfSome, IfNone, OnOk};
+ghost use Rattle.swift_types.specs.declared.limits.TheConstants.{BYTES};
 ghost use Rattle.script_waits.specs.Waits.{WaitsForLater, NoneBefore, NoneWaits};
 ghost use Rattle.script_code.specs.Tree.{wanted_of};
 ghost use Rattle.script_compiler.specs.Compiled.{CompiledView};
@@ -9,7 +10,6 @@ ghost use Rattle.script_compiler.specs.Waiting.{method_wanted, root_wanted, edge
 ghost use Rattle.script_compiler.specs.ActsInside.{operation_of, made_if, made_along, made_through};
 
 use crate::compiled::{Compiled, CompiledMethod, CompiledRoot};
-use crate::number::to_u32;
 use script_code::{Act, CompiledAwait, Instruction};
 use script_waits::{CallEdge, RootWait, first_waiting};
 use std::alloc::{AllocError, Global};
@@ -97,6 +97,7 @@ fn add_method(
 }
 
 fn named_by(alloc: Global, methods: &[CompiledMethod]) -> Result<CallsAndWaits, AllocError>
+    requires { length methods.now ≤ BYTES }
     ensures edges { IfOk result (λ n. n.edges.items ≡ made_through edges_made 0 methods.now) }
     ensures waits { IfOk result (λ n. n.waits.items ≡ made_through waits_made 0 methods.now) }
 {
@@ -105,7 +106,7 @@ fn named_by(alloc: Global, methods: &[CompiledMethod]) -> Result<CallsAndWaits, 
         waits: Vec::new(alloc),
     };
     for (k, method) in methods.iter().enumerate() {
-        add_method(&mut named, to_u32(k)?, &method.instructions)?;
+        add_method(&mut named, k as u32, &method.instructions)?;
     }
     Ok(named)
 }
@@ -160,11 +161,13 @@ fn past_roots(methods: &[u32], least: usize) -> usize
 
 /// The place of the first root that waits for itself or for a later root: where its method, or one that it leads to by
 /// calls, spawns, detaches and adds, has an `await task` of such a root, whether that is reached or not (our own). `Err`
-/// says that there was no memory, or that a method is numbered past 32 bits.
+/// says that there was no memory.
 ///
 /// Time and memory are linear in the instructions and the roots. A method that is not there, which no checked script
 /// names, is taken as one without instructions.
 pub fn first_waiting_root(alloc: Global, compiled: &Compiled) -> Result<Option<usize>, AllocError>
+    // There are no more methods than a script may have bytes, so they have numbers of 32 bits.
+    requires { length compiled.now.methods.items ≤ BYTES }
     ensures found { IfOk result (λ first. (v : CompiledView) → IsCompiled compiled.now v → IfSome first (WaitsForLater (edges_of v) (waits_of v) (root_methods v))) }
     ensures first { IfOk result (λ first. (v : CompiledView) → IsCompiled compiled.now v → IfSome first (NoneBefore (edges_of v) (waits_of v) (root_methods v))) }
     ensures none { IfOk result (λ first. (v : CompiledView) → IsCompiled compiled.now v → IfNone first (NoneWaits (edges_of v) (waits_of v) (root_methods v))) }

@@ -18,3 +18,4 @@ pub mod BlockHandles
 pub mod Known
 pub mod WholeScripts
 pub mod InOrder
+pub mod Room

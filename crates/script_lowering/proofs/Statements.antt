@@ -1,10 +1,12 @@
 -- Statements with blocks of their own.
-use Rattle.std.proofs.Common.{rules, ◌≡◌, ℕ, false, List, [], ◌∷◌, ◌++◌, length, map, take, refl, sym, ap, subst, ◌∙◌}
+use Rattle.std.proofs.Common.{rules, ◌≡◌, ℕ, suc, ◌+◌, true, false, ◌&&◌, List, [], ◌∷◌, ◌++◌, length, map, take, refl, sym, ap, subst, ◌∙◌}
 use Rattle.std.specs.Prelude.{OnOk, IfOk, Result, Ok, Err, slice_set}
+use Rattle.std.proofs.lemmas.Bool.{and_parts}
 use Rattle.std.proofs.Math.Seq.{take-length, take-append_seam}
 use Rattle.std.specs.Global.{Vec}
 use Rattle.script_grammar.specs.Tree.{ExprTree, HeadTree, BlockTree, block_tree, view, view_head, view_stmt}
 use Rattle.script_grammar.specs.Tree as tree
+use Rattle.script_grammar.specs.Size.{stmt_size, block_size}
 use Rattle.script_grammar.specs.declared.expression.Expr.{Expr}
 use Rattle.script_grammar.specs.declared.statement.Head.{Head}
 use Rattle.script_grammar.specs.declared.statement.Head.TheVariants as head
@@ -16,10 +18,12 @@ use Rattle.script_code.specs.declared.instruction.Act.{Act}
 use Rattle.script_code.specs.declared.instruction.Instruction.{Instruction}
 use Rattle.script_names.specs.declared.scope.NameKind.TheVariants as kind
 use Rattle.script_names.specs.declared.scope.Outside.{Outside}
+use Rattle.script_names.specs.Directory.{DirectoryView}
 use Rattle.script_names.specs.Scope.{ScopeView}
 use Rattle.script_names.specs.Rules.{scope_within}
 use Rattle.script_lowering.specs.Plan.{PlanView}
 use Rattle.script_lowering.specs.Lowered.{lowered, headed_code, stmt_code, block_code}
+use Rattle.script_lowering.specs.Known.{expression_known, stmt_known, block_known}
 use Rattle.script_lowering.specs.StandingInside.{outside_of, left}
 use Rattle.script_lowering.specs.HeadsInside.{is_isolated, is_loop}
 use Rattle.script_lowering.proofs.Lines.{IsWritten, choice_lines, choice_start, loop_lines, loop_start}
@@ -30,6 +34,26 @@ view-Block h b = search (rules, the_lemmas)
 
 view-IfElse : (e : Expr) (a b : Vec Stmt) → view_stmt (IfElse e a b) ≡ tree.IfElse (view e) (block_tree (map view_stmt a.items)) (block_tree (map view_stmt b.items))
 view-IfElse e a b = search (rules, the_lemmas)
+
+-- the sizes of statements with blocks
+pub headed_size : (x : Stmt) (h : Head) (b : Vec Stmt) (body : List Stmt) → x ≡ Block h b → body ≡ b.items → stmt_size (view_stmt x) ≡ suc (block_size (block_tree (map view_stmt body)))
+headed_size x h b body is same = ap stmt_size (ap view_stmt is ∙ view-Block h b) ∙ ap (λ (ss : List Stmt). suc (block_size (block_tree (map view_stmt ss)))) (sym same)
+
+pub else_size : (x : Stmt) (e : Expr) (a b : Vec Stmt) (held failed : List Stmt) → x ≡ IfElse e a b → held ≡ a.items → failed ≡ b.items
+    → stmt_size (view_stmt x) ≡ suc (block_size (block_tree (map view_stmt held)) + block_size (block_tree (map view_stmt failed)))
+else_size x e a b held failed is same same' =
+    ap stmt_size (ap view_stmt is ∙ view-IfElse e a b)
+    ∙ ap (λ (ss : List Stmt). suc (block_size (block_tree (map view_stmt ss)) + block_size (block_tree (map view_stmt b.items)))) (sym same)
+    ∙ ap (λ (ss : List Stmt). suc (block_size (block_tree (map view_stmt held)) + block_size (block_tree (map view_stmt ss)))) (sym same')
+
+-- all that the first block of a test names is known
+pub held_known : (d : DirectoryView) (s : ScopeView) (x : Stmt) (e : Expr) (a b : Vec Stmt) (held : List Stmt) → x ≡ IfElse e a b → held ≡ a.items
+    → stmt_known d s (view_stmt x) ≡ true → block_known d s (block_tree (map view_stmt held)) ≡ true
+held_known d s x e a b held is same known =
+    let whole = sym (ap (stmt_known d s) (ap view_stmt is ∙ view-IfElse e a b)) ∙ known in
+    let blocks = (and_parts (expression_known d (view e)) (block_known d s (block_tree (map view_stmt a.items)) && block_known d s (block_tree (map view_stmt b.items))) whole).1 in
+    ap (λ (ss : List Stmt). block_known d s (block_tree (map view_stmt ss))) same
+    ∙ (and_parts (block_known d s (block_tree (map view_stmt a.items))) (block_known d s (block_tree (map view_stmt b.items))) blocks).0
 
 -- the code of a block
 abbrev pub code_in : PlanView → ScopeView → List Stmt → Code

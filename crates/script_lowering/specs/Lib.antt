@@ -10,3 +10,5 @@ pub mod Places
 pub mod Calls
 pub mod Handles
 pub mod Methods
+pub mod Few
+pub mod RoomInside

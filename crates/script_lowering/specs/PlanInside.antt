@@ -3,6 +3,8 @@ use Rattle.std.specs.Prelude.{ℕ, ◌≤◌, Bool, true, ◌&&◌, Option, Some
 use Rattle.swift_types.specs.declared.limits.TheConstants.{ACTORS}
 use Rattle.script_grammar.specs.Tree.{DeclTree, Acts}
 use Rattle.script_names.specs.Texts.{is_among}
+use Rattle.script_names.specs.Directory.{DirectoryView}
+use Rattle.script_lowering.specs.Few.{HasFewNames}
 use Rattle.script_lowering.specs.Plan.{AreActorPlaces}
 
 -- an actor that names an executor names one of these
@@ -16,7 +18,8 @@ have_executors executors [] = true
 have_executors executors (Acts a ∷ xs) = has_executor executors a.executor && have_executors executors xs
 have_executors executors (_ ∷ xs) = have_executors executors xs
 
--- There are as few actors as a script may have, and each has its place among those of its executor.
-pub record IsSmallPlan (executors places : List ℕ) : Type 0 where
+-- A script declares few names, its actors are as few as it may have, and each has its place among those of its executor.
+pub record IsSmallPlan (d : DirectoryView) (executors places : List ℕ) : Type 0 where
+  pub names : HasFewNames d
   pub are : AreActorPlaces executors places
   pub few : length executors ≤ ACTORS

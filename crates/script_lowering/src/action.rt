@@ -1,12 +1,13 @@
 //! Statements without a block. Each of these functions writes the instructions of its part after those that are there,
 //! and answers the number of the one that it begins with.
 
-ghost use Rattle.std.specs.Prelude.{◌≡◌, true, ◌++◌, length, map, IfOk, OnOk};
+ghost use Rattle.std.specs.Prelude.{◌≡◌, ◌≤◌, ◌+◌, true, ◌++◌, length, map, IfOk, OnOk};
 ghost use Rattle.script_grammar.specs.Tree.{view_wait, view_value, view_make, view_action};
 ghost use Rattle.script_code.specs.Tree.{term_of, act, end};
 ghost use Rattle.script_code.specs.Layout.{meaning_of, entry, written};
 ghost use Rattle.script_lowering.specs.Lowered.{wait_to, set_at, value_to, make_to, action_code};
 ghost use Rattle.script_lowering.specs.Known.{wait_known, value_known, make_known, action_known};
+ghost use Rattle.script_lowering.specs.RoomInside.{greatest};
 
 use crate::call::{call, lower_awaited, lower_cancelled};
 use crate::expression::{expression, expression_if, place};
@@ -27,7 +28,8 @@ fn wait(
     wait: &Wait,
     next: u32,
 ) -> Result<u32, AllocError>
-    requires { wait_known plan.now.directory scope.now (view_wait wait.now) ≡ true }
+    requires known { wait_known plan.now.directory scope.now (view_wait wait.now) ≡ true }
+    requires room { length instructions.old.items + 1 ≤ greatest }
     ensures lines { OnOk result (map meaning_of instructions.new.items ≡ map meaning_of instructions.old.items ++ written (wait_to plan.now scope.now place (view_wait wait.now)) (length instructions.old.items) next) }
     ensures start { IfOk result (λ n. n ≡ entry (wait_to plan.now scope.now place (view_wait wait.now)) (length instructions.old.items) next) }
 {
@@ -43,6 +45,7 @@ fn write_set(
     formula: Formula,
     next: u32,
 ) -> Result<u32, AllocError>
+    requires { length instructions.old.items ≤ greatest }
     ensures lines { OnOk result (map meaning_of instructions.new.items ≡ map meaning_of instructions.old.items ++ written (act (set_at place (term_of formula)) end) (length instructions.old.items) next) }
     ensures start { IfOk result (λ n. n ≡ entry (act (set_at place (term_of formula)) end) (length instructions.old.items) next) }
 {
@@ -63,7 +66,8 @@ fn assignment(
     value: &Value,
     next: u32,
 ) -> Result<u32, AllocError>
-    requires { value_known plan.now.directory scope.now (view_value value.now) ≡ true }
+    requires known { value_known plan.now.directory scope.now (view_value value.now) ≡ true }
+    requires room { length instructions.old.items + 1 ≤ greatest }
     ensures lines { OnOk result (map meaning_of instructions.new.items ≡ map meaning_of instructions.old.items ++ written (value_to plan.now scope.now place (view_value value.now)) (length instructions.old.items) next) }
     ensures start { IfOk result (λ n. n ≡ entry (value_to plan.now scope.now place (view_value value.now)) (length instructions.old.items) next) }
 {
@@ -86,7 +90,8 @@ fn make(
     make: &Make,
     next: u32,
 ) -> Result<u32, AllocError>
-    requires { make_known plan.now.directory scope.now (view_make make.now) ≡ true }
+    requires known { make_known plan.now.directory scope.now (view_make make.now) ≡ true }
+    requires room { length instructions.old.items ≤ greatest }
     ensures lines { OnOk result (map meaning_of instructions.new.items ≡ map meaning_of instructions.old.items ++ written (act (make_to plan.now scope.now handle (view_make make.now)) end) (length instructions.old.items) next) }
     ensures start { IfOk result (λ n. n ≡ entry (act (make_to plan.now scope.now handle (view_make make.now)) end) (length instructions.old.items) next) }
 {
@@ -118,7 +123,8 @@ pub(crate) fn action(
     action: &Action,
     next: u32,
 ) -> Result<u32, AllocError>
-    requires { action_known plan.now.directory scope.now (view_action action.now) ≡ true }
+    requires known { action_known plan.now.directory scope.now (view_action action.now) ≡ true }
+    requires room { length instructions.old.items + 1 ≤ greatest }
     ensures lines { OnOk result (map meaning_of instructions.new.items ≡ map meaning_of instructions.old.items ++ written (action_code plan.now scope.now (view_action action.now)) (length instructions.old.items) next) }
     ensures start { IfOk result (λ n. n ≡ entry (action_code plan.now scope.now (view_action action.now)) (length instructions.old.items) next) }
 {
@@ -132,7 +138,7 @@ pub(crate) fn action(
             make(alloc, plan, scope, instructions, handle, made, next)
         }
         Action::Assign(name, value) => {
-            let place = place(plan, scope, &name.text)?;
+            let place = place(plan, scope, &name.text);
             assignment(alloc, plan, scope, instructions, place, value, next)
         }
         Action::Await(awaited) => wait(alloc, plan, scope, instructions, None, awaited, next),
@@ -149,7 +155,7 @@ pub(crate) fn action(
             write(instructions, act, next)
         }
         Action::Cancel(name) => {
-            let cancelled = lower_cancelled(scope, &name.text)?;
+            let cancelled = lower_cancelled(scope, &name.text);
             write(instructions, Act::Cancel(cancelled), next)
         }
         Action::Return(expr) => {

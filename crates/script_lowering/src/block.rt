@@ -1,13 +1,15 @@
 //! Blocks and their statements, which are written from their ends on: so each instruction is written after those that
 //! follow it.
 
-ghost use Rattle.std.specs.Prelude.{◌≡◌, true, ◌++◌, length, map, IfOk, OnOk};
+ghost use Rattle.std.specs.Prelude.{◌≡◌, ◌≤◌, ◌<◌, ◌+◌, ◌*◌, true, ◌++◌, length, map, IfOk, OnOk};
 ghost use Rattle.script_grammar.specs.Tree.{view_head, view_stmt, block_tree};
+ghost use Rattle.script_grammar.specs.Size.{stmt_size, block_size};
 ghost use Rattle.script_names.specs.Scope.{ScopeView};
 ghost use Rattle.script_names.specs.Rules.{scope_after, scope_within};
 ghost use Rattle.script_code.specs.Layout.{meaning_of, entry, written};
 ghost use Rattle.script_lowering.specs.Lowered.{stmt_code, block_code};
 ghost use Rattle.script_lowering.specs.Known.{makes_new, opens_known, head_known, stmt_known, block_known};
+ghost use Rattle.script_lowering.specs.RoomInside.{greatest};
 ghost use Rattle.script_lowering.specs.StandingInside.{scope_through};
 ghost use Rattle.script_lowering.specs.HeadsInside.{foot, HeadsAs, is_isolated};
 
@@ -24,7 +26,8 @@ use std::alloc::{AllocError, Global};
 
 // After a statement what it makes stands.
 fn pass(alloc: Global, scope: &mut StandingNames<'_>, stmt: &Stmt) -> Result<(), AllocError>
-    requires { makes_new scope.old (view_stmt stmt.now) ≡ true }
+    requires new { makes_new scope.old (view_stmt stmt.now) ≡ true }
+    requires room { length scope.old.kinds < greatest }
     ensures { OnOk result (scope.new ≡ scope_after scope.old (view_stmt stmt.now)) }
 {
     match stmt {
@@ -46,7 +49,8 @@ fn pass_back(scope: &mut StandingNames<'_>, stmt: &Stmt)
 
 // What stands in a block, by its head.
 fn enter(alloc: Global, scope: &mut StandingNames<'_>, head: &Head) -> Result<(), AllocError>
-    requires { opens_known scope.old (view_head head.now) ≡ true }
+    requires known { opens_known scope.old (view_head head.now) ≡ true }
+    requires room { length scope.old.kinds < greatest }
     ensures { OnOk result (scope.new ≡ scope_within scope.old (view_head head.now)) }
 {
     match head {
@@ -54,7 +58,7 @@ fn enter(alloc: Global, scope: &mut StandingNames<'_>, head: &Head) -> Result<()
         Head::Bind(_, _) => scope.bind(),
         Head::Group(name) => scope.add(alloc, &name.text, NameKind::Group)?,
         Head::Assume(name) => {
-            let actor = declared(scope.declared().actor(&name.text))?;
+            let actor = declared(scope.declared().actor(&name.text));
             scope.assume(actor as usize);
         }
     }
@@ -62,16 +66,16 @@ fn enter(alloc: Global, scope: &mut StandingNames<'_>, head: &Head) -> Result<()
 }
 
 // Whether an `assume` names an actor of another executor, so that its block is not run.
-fn is_isolated(plan: &Plan, scope: &StandingNames<'_>, head: &Head) -> Result<bool, AllocError>
+fn is_isolated(plan: &Plan, scope: &StandingNames<'_>, head: &Head) -> bool
     requires { opens_known scope.now (view_head head.now) ≡ true }
-    ensures { IfOk result (λ b. b ≡ is_isolated plan.now scope.now (view_head head.now)) }
+    ensures { result ≡ is_isolated plan.now scope.now (view_head head.now) }
 {
     match head {
         Head::Assume(name) => {
-            let actor = declared(scope.declared().actor(&name.text))?;
-            Ok(plan.executor(actor as usize) != plan.executor(scope.actor()))
+            let actor = declared(scope.declared().actor(&name.text));
+            plan.executor(actor as usize) != plan.executor(scope.actor())
         }
-        Head::If(_) | Head::While(_) | Head::Bind(_, _) | Head::Group(_) => Ok(false),
+        Head::If(_) | Head::While(_) | Head::Bind(_, _) | Head::Group(_) => false,
     }
 }
 
@@ -81,6 +85,7 @@ fn write_foot(
     head: &Head,
     next: u32,
 ) -> Result<u32, AllocError>
+    requires { length instructions.old.items ≤ greatest }
     ensures lines { OnOk result (map meaning_of instructions.new.items ≡ map meaning_of instructions.old.items ++ written (foot (view_head head.now)) (length instructions.old.items) next) }
     ensures start { IfOk result (λ n. n ≡ entry (foot (view_head head.now)) (length instructions.old.items) next) }
 {
@@ -104,7 +109,7 @@ fn head_act(
     match head {
         Head::If(test) | Head::While(test) => Ok(Act::Test(expression(alloc, plan, scope, test)?)),
         Head::Bind(name, set_to) => {
-            let (local, _) = plan.local(&name.text)?;
+            let (local, _) = plan.local(&name.text);
             Ok(Act::Bind(local, expression(alloc, plan, scope, set_to)?))
         }
         Head::Group(_) => Ok(Act::Open(scope.counts().handles)),
@@ -122,7 +127,8 @@ fn statement(
     stmt: &Stmt,
     next: u32,
 ) -> Result<u32, AllocError>
-    requires { stmt_known plan.now.directory scope.old (view_stmt stmt.now) ≡ true }
+    requires known { stmt_known plan.now.directory scope.old (view_stmt stmt.now) ≡ true }
+    requires room { length scope.old.kinds + (length instructions.old.items + 2 * stmt_size (view_stmt stmt.now)) ≤ greatest }
     ensures lines { OnOk result (map meaning_of instructions.new.items ≡ map meaning_of instructions.old.items ++ written (stmt_code plan.now scope.old (view_stmt stmt.now)) (length instructions.old.items) next) }
     ensures start { IfOk result (λ n. n ≡ entry (stmt_code plan.now scope.old (view_stmt stmt.now)) (length instructions.old.items) next) }
     ensures scope { OnOk result (scope.new ≡ scope.old) }
@@ -138,7 +144,7 @@ fn statement(
                 Ok(here)
             }
             _ => {
-                if is_isolated(plan, scope, head)? {
+                if is_isolated(plan, scope, head) {
                     return write(instructions, Act::Isolated, next);
                 }
                 let outside = scope.outside();
@@ -170,7 +176,8 @@ pub(crate) fn block(
     block: &[Stmt],
     next: u32,
 ) -> Result<u32, AllocError>
-    requires { block_known plan.now.directory scope.old (block_tree (map view_stmt block.now)) ≡ true }
+    requires known { block_known plan.now.directory scope.old (block_tree (map view_stmt block.now)) ≡ true }
+    requires room { length scope.old.kinds + (length instructions.old.items + 2 * block_size (block_tree (map view_stmt block.now))) ≤ greatest }
     ensures lines { OnOk result (map meaning_of instructions.new.items ≡ map meaning_of instructions.old.items ++ written (block_code plan.now scope.old (block_tree (map view_stmt block.now))) (length instructions.old.items) next) }
     ensures start { IfOk result (λ n. n ≡ entry (block_code plan.now scope.old (block_tree (map view_stmt block.now))) (length instructions.old.items) next) }
     ensures scope { OnOk result (scope.new ≡ scope.old) }

@@ -31,27 +31,27 @@ pub(crate) fn call(
     let (actor, method) = (&call.actor.text, &call.method.text);
     let script = scope.declared();
     Ok(script_code::CompiledCall {
-        actor: ActorId(declared(script.actor(actor))?),
-        method: MethodId(declared(script.method(alloc, actor, method)?)?),
+        actor: ActorId(declared(script.actor(actor))),
+        method: MethodId(declared(script.method(alloc, actor, method)?)),
         args: expressions(alloc, plan, scope, &call.args)?,
     })
 }
 
-fn root(scope: &StandingNames<'_>, name: &[u8]) -> Result<RootId, AllocError>
+fn root(scope: &StandingNames<'_>, name: &[u8]) -> RootId
     requires { is_among scope.now.directory.roots name.now ≡ true }
-    ensures { IfOk result (λ r. r.0 ≡ place_of scope.now.directory.roots name.now) }
+    ensures { result.0 ≡ place_of scope.now.directory.roots name.now }
 {
-    Ok(RootId(declared(scope.declared().root(name))?))
+    RootId(declared(scope.declared().root(name)))
 }
 
 // A name after `task` is the task variable of that name, or else the root.
-fn task(scope: &StandingNames<'_>, name: &[u8]) -> Result<script_code::CompiledAwait, AllocError>
+fn task(scope: &StandingNames<'_>, name: &[u8]) -> script_code::CompiledAwait
     requires { task_known scope.now name.now (meaning_of scope.now name.now) ≡ true }
-    ensures { IfOk result (λ w. wanted_said w ≡ task_named scope.now name.now (meaning_of scope.now name.now)) }
+    ensures { wanted_said result ≡ task_named scope.now name.now (meaning_of scope.now name.now) }
 {
     match scope.meaning(name) {
-        Some(NameKind::Task) => Ok(script_code::CompiledAwait::Task(scope.handle_place(name))),
-        _ => Ok(script_code::CompiledAwait::Root(root(scope, name)?)),
+        Some(NameKind::Task) => script_code::CompiledAwait::Task(scope.handle_place(name)),
+        _ => script_code::CompiledAwait::Root(root(scope, name)),
     }
 }
 
@@ -69,22 +69,19 @@ pub(crate) fn lower_awaited(
         Awaited::Call(awaited) => Ok(script_code::CompiledAwait::Call(call(
             alloc, plan, scope, awaited,
         )?)),
-        Awaited::Task(name) => task(scope, &name.text),
+        Awaited::Task(name) => Ok(task(scope, &name.text)),
         Awaited::Next(name) => Ok(script_code::CompiledAwait::Next(scope.handle_place(&name.text))),
     }
 }
 
 /// A name after `cancel` is the task variable or the group of that name, or else the root.
-pub(crate) fn lower_cancelled(
-    scope: &StandingNames<'_>,
-    name: &[u8],
-) -> Result<Cancelled, AllocError>
+pub(crate) fn lower_cancelled(scope: &StandingNames<'_>, name: &[u8]) -> Cancelled
     requires { cancelled_known scope.now name.now (meaning_of scope.now name.now) ≡ true }
-    ensures { IfOk result (λ k. k ≡ cancelled_named scope.now name.now (meaning_of scope.now name.now)) }
+    ensures { result ≡ cancelled_named scope.now name.now (meaning_of scope.now name.now) }
 {
     match scope.meaning(name) {
-        Some(NameKind::Task) => Ok(Cancelled::Task(scope.handle_place(name))),
-        Some(NameKind::Group) => Ok(Cancelled::Group(scope.handle_place(name))),
-        _ => Ok(Cancelled::Root(root(scope, name)?)),
+        Some(NameKind::Task) => Cancelled::Task(scope.handle_place(name)),
+        Some(NameKind::Group) => Cancelled::Group(scope.handle_place(name)),
+        _ => Cancelled::Root(root(scope, name)),
     }
 }

@@ -1,13 +1,13 @@
 //! How many numbers and handles stand.
 
-ghost use Rattle.std.specs.Prelude.{◌≡◌, map, IfOk};
+ghost use Rattle.std.specs.Prelude.{◌≡◌, ◌≤◌, ◌<◌, ◌+◌, map};
 ghost use Rattle.script_grammar.specs.Tree.{view_head, view_stmt, block_tree};
+ghost use Rattle.script_grammar.specs.Size.{stmt_size, block_size};
 ghost use Rattle.script_lowering.specs.Counts.{counted, greater, counts_after, counts_within, most_in, most_of};
+ghost use Rattle.script_lowering.specs.RoomInside.{greatest};
 
-use crate::number::sum;
 use script_grammar::{Action, Head, Stmt};
 use script_names::NameKind;
-use std::alloc::AllocError;
 
 /// How many numbers and how many handles stand: the places of the next ones. Parameters and variables hold numbers; task
 /// variables and groups are handles.
@@ -20,20 +20,21 @@ pub struct PlaceCounts {
 }
 
 /// One name more.
-pub(crate) fn count_name(counts: PlaceCounts, kind: NameKind) -> Result<PlaceCounts, AllocError>
-    ensures { IfOk result (λ c. c ≡ counted counts kind) }
+pub(crate) fn count_name(counts: PlaceCounts, kind: NameKind) -> PlaceCounts
+    requires { counts.numbers + counts.handles < greatest }
+    ensures { result ≡ counted counts kind }
 {
     let PlaceCounts { numbers, handles } = counts;
     match kind {
-        NameKind::Field => Ok(counts),
-        NameKind::Number => Ok(PlaceCounts {
-            numbers: sum(numbers, 1)?,
+        NameKind::Field => counts,
+        NameKind::Number => PlaceCounts {
+            numbers: numbers + 1,
             handles,
-        }),
-        NameKind::Task | NameKind::Group => Ok(PlaceCounts {
+        },
+        NameKind::Task | NameKind::Group => PlaceCounts {
             numbers,
-            handles: sum(handles, 1)?,
-        }),
+            handles: handles + 1,
+        },
     }
 }
 
@@ -46,43 +47,45 @@ fn greater(a: PlaceCounts, b: PlaceCounts) -> PlaceCounts
     }
 }
 
-fn counts_after(counts: PlaceCounts, stmt: &Stmt) -> Result<PlaceCounts, AllocError>
-    ensures { IfOk result (λ c. c ≡ counts_after counts (view_stmt stmt.now)) }
+fn counts_after(counts: PlaceCounts, stmt: &Stmt) -> PlaceCounts
+    requires { counts.numbers + counts.handles < greatest }
+    ensures { result ≡ counts_after counts (view_stmt stmt.now) }
 {
     match stmt {
         Stmt::Do(Action::Let(_, _)) => count_name(counts, NameKind::Number),
         Stmt::Do(Action::LetTask(_, _)) => count_name(counts, NameKind::Task),
-        _ => Ok(counts),
+        _ => counts,
     }
 }
 
-fn counts_within(counts: PlaceCounts, head: &Head) -> Result<PlaceCounts, AllocError>
-    ensures { IfOk result (λ c. c ≡ counts_within counts (view_head head.now)) }
+fn counts_within(counts: PlaceCounts, head: &Head) -> PlaceCounts
+    requires { counts.numbers + counts.handles < greatest }
+    ensures { result ≡ counts_within counts (view_head head.now) }
 {
     match head {
         Head::Group(_) => count_name(counts, NameKind::Group),
-        _ => Ok(counts),
+        _ => counts,
     }
 }
 
 #[cycle(most)]
-fn most_in(counts: PlaceCounts, stmt: &Stmt) -> Result<PlaceCounts, AllocError>
-    ensures { IfOk result (λ c. c ≡ most_in counts (view_stmt stmt.now)) }
+fn most_in(counts: PlaceCounts, stmt: &Stmt) -> PlaceCounts
+    requires { counts.numbers + (counts.handles + stmt_size (view_stmt stmt.now)) ≤ greatest }
+    ensures { result ≡ most_in counts (view_stmt stmt.now) }
 {
     match stmt {
         Stmt::Do(_) => counts_after(counts, stmt),
-        Stmt::Block(head, body) => most_of(counts_within(counts, head)?, body),
-        Stmt::IfElse(_, held, failed) => {
-            Ok(greater(most_of(counts, held)?, most_of(counts, failed)?))
-        }
+        Stmt::Block(head, body) => most_of(counts_within(counts, head), body),
+        Stmt::IfElse(_, held, failed) => greater(most_of(counts, held), most_of(counts, failed)),
     }
 }
 
 /// How many numbers and handles there are at most in the statements of a block, where there are `counts` before it, in time
 /// linear in the statements and in all within them.
 #[cycle(most)]
-pub(crate) fn most_of(counts: PlaceCounts, block: &[Stmt]) -> Result<PlaceCounts, AllocError>
-    ensures { IfOk result (λ c. c ≡ most_of counts (block_tree (map view_stmt block.now))) }
+pub(crate) fn most_of(counts: PlaceCounts, block: &[Stmt]) -> PlaceCounts
+    requires { counts.numbers + (counts.handles + block_size (block_tree (map view_stmt block.now))) ≤ greatest }
+    ensures { result ≡ most_of counts (block_tree (map view_stmt block.now)) }
 {
     let mut most = PlaceCounts {
         numbers: 0,
@@ -90,8 +93,8 @@ pub(crate) fn most_of(counts: PlaceCounts, block: &[Stmt]) -> Result<PlaceCounts
     };
     let mut standing = counts;
     for stmt in block {
-        most = greater(most, most_in(standing, stmt)?);
-        standing = counts_after(standing, stmt)?;
+        most = greater(most, most_in(standing, stmt));
+        standing = counts_after(standing, stmt);
     }
-    Ok(greater(most, standing))
+    greater(most, standing)
 }

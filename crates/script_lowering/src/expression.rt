@@ -7,7 +7,6 @@ ghost use Rattle.script_code.specs.Tree.{local as local_term, term_of, terms_of,
 ghost use Rattle.script_lowering.specs.Lowered.{default_of, place_named, lowered, lowered_if};
 ghost use Rattle.script_lowering.specs.Known.{expression_known, expressions_known, optional_known};
 
-use crate::number::to_u32;
 use crate::plan::Plan;
 use crate::standing::StandingNames;
 use script_code::{FieldPlace, Formula, NumberPlace};
@@ -17,39 +16,35 @@ use std::alloc::{AllocError, Global};
 /// The field of that name, or else the variable, found by hashes. A name that stands nowhere is taken as the variable
 /// after the last.
 #[tactic(auto, unfolding(crate::specs::Lowered::place_named))]
-pub(crate) fn place(
-    plan: &Plan,
-    scope: &StandingNames<'_>,
-    name: &[u8],
-) -> Result<NumberPlace, AllocError>
-    ensures { IfOk result (λ p. p ≡ place_named plan.now scope.now name.now) }
+pub(crate) fn place(plan: &Plan, scope: &StandingNames<'_>, name: &[u8]) -> NumberPlace
+    ensures { result ≡ place_named plan.now scope.now name.now }
 {
     match scope.field(name) {
-        Some(field) => Ok(NumberPlace::Field(FieldPlace {
+        Some(field) => NumberPlace::Field(FieldPlace {
             actor: plan.actor_place(scope.actor()),
-            field: to_u32(field)?,
-        })),
-        None => Ok(NumberPlace::Variable(scope.number_place(name))),
+            field: field as u32,
+        }),
+        None => NumberPlace::Variable(scope.number_place(name)),
     }
 }
 
 // What the place of a name holds.
-fn lower_name(plan: &Plan, scope: &StandingNames<'_>, name: &[u8]) -> Result<Formula, AllocError>
-    ensures { IfOk result (λ f. term_of f ≡ lowered plan.now scope.now (Named name.now)) }
+fn lower_name(plan: &Plan, scope: &StandingNames<'_>, name: &[u8]) -> Formula
+    ensures { term_of result ≡ lowered plan.now scope.now (Named name.now) }
 {
-    match place(plan, scope, name)? {
-        NumberPlace::Variable(k) => Ok(Formula::Variable(k)),
-        NumberPlace::Field(k) => Ok(Formula::Field(k)),
+    match place(plan, scope, name) {
+        NumberPlace::Variable(k) => Formula::Variable(k),
+        NumberPlace::Field(k) => Formula::Field(k),
     }
 }
 
 // What is read of a task local that is declared.
-fn local(plan: &Plan, name: &[u8]) -> Result<Formula, AllocError>
+fn local(plan: &Plan, name: &[u8]) -> Formula
     requires { is_among plan.now.directory.locals name.now ≡ true }
-    ensures { IfOk result (λ f. term_of f ≡ local_term (place_of plan.now.directory.locals name.now) (default_of plan.now name.now)) }
+    ensures { term_of result ≡ local_term (place_of plan.now.directory.locals name.now) (default_of plan.now name.now) }
 {
-    let (local, default) = plan.local(name)?;
-    Ok(Formula::Local(local, default))
+    let (local, default) = plan.local(name);
+    Formula::Local(local, default)
 }
 
 /// An expression with places for its names, in time linear in its size.
@@ -64,8 +59,8 @@ pub(crate) fn expression(
 {
     match expr {
         Expr::Number(n) => Ok(Formula::Number(*n)),
-        Expr::Name(name) => lower_name(plan, scope, &name.text),
-        Expr::Local(name) => local(plan, &name.text),
+        Expr::Name(name) => Ok(lower_name(plan, scope, &name.text)),
+        Expr::Local(name) => Ok(local(plan, &name.text)),
         Expr::Priority => Ok(Formula::Priority),
         Expr::Cancelled => Ok(Formula::Cancelled),
         Expr::Negate(operand) => {

@@ -1,9 +1,9 @@
 //! Instructions, one by one.
 
-ghost use Rattle.std.specs.Prelude.{◌≡◌, ◌++◌, ◌∷◌, [], length, map, IfOk, OnOk};
+ghost use Rattle.std.specs.Prelude.{◌≡◌, ◌≤◌, ◌++◌, ◌∷◌, [], length, map, IfOk, OnOk};
 ghost use Rattle.script_code.specs.Layout.{meaning_of};
+ghost use Rattle.script_lowering.specs.RoomInside.{greatest};
 
-use crate::number::to_u32;
 use script_code::{Act, Instruction, push_instruction};
 use std::alloc::AllocError;
 
@@ -13,6 +13,7 @@ pub(crate) fn write(
     act: Act,
     next: u32,
 ) -> Result<u32, AllocError>
+    requires { length instructions.old.items ≤ greatest }
     ensures lines { OnOk result (map meaning_of instructions.new.items ≡ map meaning_of instructions.old.items ++ meaning_of (record { act = act; next = next; other = next }) ∷ []) }
     ensures number { IfOk result (λ n. n ≡ length instructions.old.items) }
 {
@@ -26,10 +27,11 @@ pub(crate) fn write_test(
     next: u32,
     other: u32,
 ) -> Result<u32, AllocError>
+    requires { length instructions.old.items ≤ greatest }
     ensures lines { OnOk result (map meaning_of instructions.new.items ≡ map meaning_of instructions.old.items ++ meaning_of (record { act = act; next = next; other = other }) ∷ []) }
     ensures number { IfOk result (λ n. n ≡ length instructions.old.items) }
 {
-    let number = to_u32(instructions.len())?;
+    let number = instructions.len() as u32;
     push_instruction(instructions, act, next, other)?;
     Ok(number)
 }

@@ -17,7 +17,7 @@ mod instruction;
 pub mod laws;
 // Whole methods, and invariants.
 mod method;
-// Counts of 32 bits.
+// Numbers of names.
 mod number;
 // What lowering knows of a whole script.
 mod plan;

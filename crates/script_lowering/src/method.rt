@@ -1,7 +1,9 @@
 //! Whole methods, and invariants.
 
-ghost use Rattle.std.specs.Prelude.{◌≡◌, true, map, IfOk, OnOk};
+ghost use Rattle.std.specs.Prelude.{◌≡◌, ◌≤◌, ◌<◌, ◌+◌, ◌*◌, true, length, map, IfOk, OnOk};
+ghost use Rattle.swift_types.specs.declared.limits.TheConstants.{BYTES};
 ghost use Rattle.script_grammar.specs.Tree.{text_of, view, view_stmt, block_tree};
+ghost use Rattle.script_grammar.specs.Size.{block_size};
 ghost use Rattle.script_names.specs.Scope.{fields_alone};
 ghost use Rattle.script_names.specs.Rules.{with_parameters};
 ghost use Rattle.script_code.specs.Tree.{term_of};
@@ -10,6 +12,7 @@ ghost use Rattle.script_code.specs.Layout.{code_at};
 ghost use Rattle.script_lowering.specs.Counts.{counts_of, most_of};
 ghost use Rattle.script_lowering.specs.Lowered.{lowered, block_code};
 ghost use Rattle.script_lowering.specs.Known.{expression_known, block_known, parameters_new};
+ghost use Rattle.script_lowering.specs.RoomInside.{greatest};
 
 use crate::block::block;
 use crate::counts::most_of;
@@ -35,7 +38,7 @@ pub struct Lowered {
 }
 
 /// The instructions of a method of the actor at a place, from what its names stand for (our own). `Err` says that there was
-/// no memory, or that an instruction or a place is numbered past 32 bits.
+/// no memory.
 ///
 /// Time and memory are linear in the statements.
 pub fn lower(
@@ -48,6 +51,8 @@ pub fn lower(
     // Its parameters are new, and all that its body names is known, as it is where names are in order.
     requires parameters { parameters_new (fields_alone plan.now.directory actor) (map text_of params.now) ≡ true }
     requires body { block_known plan.now.directory (with_parameters (fields_alone plan.now.directory actor) (map text_of params.now)) (block_tree (map view_stmt body.now)) ≡ true }
+    // It is no larger than a script may be, so its places and instructions have numbers of 32 bits.
+    requires size { length params.now + block_size (block_tree (map view_stmt body.now)) ≤ BYTES }
     // To follow the instructions from instruction 0 on is to do the statements.
     ensures stands { let code = block_code plan.now (with_parameters (fields_alone plan.now.directory actor) (map text_of params.now)) (block_tree (map view_stmt body.now)) in
         IfOk result (λ l. FollowsCode l.instructions.items code (code_at code)) }
@@ -57,7 +62,7 @@ pub fn lower(
 {
     let mut scope = StandingNames::fields_alone(alloc, plan.declared(), actor);
     parameters(alloc, &mut scope, params)?;
-    let most = most_of(scope.counts(), body)?;
+    let most = most_of(scope.counts(), body);
     let instructions = instructions(alloc, plan, &mut scope, body)?;
     Ok(Lowered {
         instructions,
@@ -82,7 +87,8 @@ fn parameters(
     scope: &mut StandingNames<'_>,
     params: &[Name],
 ) -> Result<(), AllocError>
-    requires { parameters_new scope.old (map text_of params.now) ≡ true }
+    requires new { parameters_new scope.old (map text_of params.now) ≡ true }
+    requires room { length scope.old.kinds + length params.now ≤ greatest }
     ensures { OnOk result (scope.new ≡ with_parameters scope.old (map text_of params.now)) }
 {
     for param in params {
@@ -98,7 +104,8 @@ fn instructions(
     scope: &mut StandingNames<'_>,
     body: &[Stmt],
 ) -> Result<Vec<Instruction>, AllocError>
-    requires { block_known plan.now.directory scope.old (block_tree (map view_stmt body.now)) ≡ true }
+    requires known { block_known plan.now.directory scope.old (block_tree (map view_stmt body.now)) ≡ true }
+    requires room { length scope.old.kinds + 2 * block_size (block_tree (map view_stmt body.now)) < greatest }
     ensures { let code = block_code plan.now scope.old (block_tree (map view_stmt body.now)) in
         IfOk result (λ v. FollowsCode v.items code (code_at code)) }
 {

@@ -1,11 +1,13 @@
 //! What lowering knows of a whole script.
 
 ghost use Rattle.std.specs.Prelude.{◌≡◌, ◌==◌, ◌+◌, ◌<◌, ◌≤◌, ℕ, pos, true, None, ◌∷◌, ◌++◌, [], Some, length, map, option_copied, slice_get, unwrap_or, count_by, List, IfOk};
-ghost use Rattle.swift_types.specs.declared.limits.TheConstants.{ACTORS, EXECUTORS};
+ghost use Rattle.swift_types.specs.declared.limits.TheConstants.{ACTORS, BYTES, EXECUTORS};
 ghost use Rattle.script_grammar.specs.Tree.{text_if, view_decl};
+ghost use Rattle.script_grammar.specs.Size.{script_size};
 ghost use Rattle.script_names.specs.Texts.{is_among, place_of};
 ghost use Rattle.script_names.specs.Directory.{directory_of, executors_in, actors_in};
 ghost use Rattle.script_names.specs.Rules.{names_error};
+ghost use Rattle.script_lowering.specs.Few.{HasFewNames};
 ghost use Rattle.script_lowering.specs.Plan.{AreActorPlaces, defaults_in, on_executor, executors_from, plan_of, executor_at, actor_place_in, actor_place_of};
 ghost use Rattle.script_lowering.specs.PlanInside.{has_executor, have_executors};
 ghost use Rattle.script_lowering.specs.Lowered.{default_of};
@@ -49,7 +51,7 @@ impl Model for Plan {
 
     ghost view = { λ p. record { directory = p.declared; defaults = p.defaults.items; executors = p.executors.items } };
 
-    ghost invariant = { λ p. IsSmallPlan p.executors.items p.actor_places.items };
+    ghost invariant = { λ p. IsSmallPlan p.declared p.executors.items p.actor_places.items };
 }
 
 impl Plan {
@@ -60,6 +62,8 @@ impl Plan {
         requires declared { declared ≡ directory_of (map view_decl decls.now) }
         // Their names are in order, so there are few of them, and each executor that is named is declared.
         requires names { names_error (map view_decl decls.now) ≡ None }
+        // They are no larger than a script may be, so all that they declare has numbers of 32 bits.
+        requires size { script_size (map view_decl decls.now) ≤ BYTES }
         ensures { IfOk result (λ p. p ≡ plan_of (map view_decl decls.now)) }
     {
         let (defaults, executors, actor_places) = places(alloc, &declared, decls)?;
@@ -73,7 +77,8 @@ impl Plan {
 
     /// What the script declares.
     pub fn declared(&self) -> &Declared
-        ensures { result.now ≡ self.now.directory }
+        ensures directory { result.now ≡ self.now.directory }
+        ensures few { HasFewNames result.now }
     {
         &self.declared
     }
@@ -98,14 +103,14 @@ impl Plan {
 
     /// A task local that is declared, and its default.
     #[tactic(auto, unfolding(crate::specs::Lowered::default_of))]
-    pub(crate) fn local(&self, name: &[u8]) -> Result<(LocalId, i64), AllocError>
+    pub(crate) fn local(&self, name: &[u8]) -> (LocalId, i64)
         requires { is_among self.now.directory.locals name.now ≡ true }
-        ensures number { IfOk result (λ l. l.0.0 ≡ place_of self.now.directory.locals name.now) }
-        ensures default { IfOk result (λ l. l.1 ≡ default_of self.now name.now) }
+        ensures number { result.0.0 ≡ place_of self.now.directory.locals name.now }
+        ensures default { result.1 ≡ default_of self.now name.now }
     {
-        let place = declared(self.declared.local(name))?;
+        let place = declared(self.declared.local(name));
         let default = self.defaults.get(place as usize).copied().unwrap_or(0);
-        Ok((LocalId(place), default))
+        (LocalId(place), default)
     }
 }
 
@@ -117,6 +122,8 @@ fn places(
 ) -> Result<(Vec<i64>, Vec<u32>, Vec<u32>), AllocError>
     requires declared { declared.now ≡ directory_of (map view_decl decls.now) }
     requires names { names_error (map view_decl decls.now) ≡ None }
+    requires size { script_size (map view_decl decls.now) ≤ BYTES }
+    ensures names { IfOk result (λ p. HasFewNames declared.now) }
     ensures defaults { IfOk result (λ p. p.0.items ≡ defaults_in (map view_decl decls.now)) }
     ensures executors { IfOk result (λ p. p.1.items ≡ (plan_of (map view_decl decls.now)).executors) }
     ensures few { IfOk result (λ p. length p.1.items ≤ ACTORS) }

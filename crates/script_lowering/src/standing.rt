@@ -1,11 +1,14 @@
 //! What stands at a place of a method, with the place of each name.
 
-ghost use Rattle.std.specs.Prelude.{◌≡◌, None, is_some, length, take, ℕ, List, IfSome, OnOk};
+ghost use Rattle.std.specs.Prelude.{◌≡◌, ◌≤◌, ◌<◌, None, is_some, length, take, ℕ, List, IfSome, OnOk};
+ghost use Rattle.swift_types.specs.declared.limits.TheConstants.{BYTES};
 ghost use Rattle.script_names.specs.Texts.{is_among, place_of};
 ghost use Rattle.script_names.specs.Directory.{fields_at};
 ghost use Rattle.script_names.specs.Scope.{fields_alone, with_standing, meaning_of, ScopeView};
 ghost use Rattle.script_lowering.specs.Counts.{counts_of};
+ghost use Rattle.script_lowering.specs.Few.{HasFewNames};
 ghost use Rattle.script_lowering.specs.Lowered.{numbers_in, handles_in, number_place, handle_place};
+ghost use Rattle.script_lowering.specs.RoomInside.{greatest};
 ghost use Rattle.script_lowering.specs.StandingInside.{outside_of, left};
 
 use crate::counts::{PlaceCounts, count_name};
@@ -34,15 +37,15 @@ impl Drop for StandingNames<'_> {
 }
 
 impl<'a> Model for StandingNames<'a> {
-    ghost use Rattle.std.specs.Prelude.{◌≡◌, length};
     ghost use Rattle.script_names.specs.Scope.{ScopeView};
-    ghost use Rattle.script_lowering.specs.Counts.{AreCounts};
+    ghost use Rattle.script_lowering.specs.RoomInside.{greatest};
+    ghost use Rattle.script_lowering.specs.StandingInside.{IsCounted};
 
     ghost Value = { ScopeView };
 
     ghost view = { λ s. s.scope };
 
-    ghost invariant = { λ s. AreCounts s.scope.kinds s.counts.items s.here };
+    ghost invariant = { λ s. IsCounted s.scope s.counts.items s.here };
 }
 
 impl<'a> StandingNames<'a> {
@@ -52,6 +55,7 @@ impl<'a> StandingNames<'a> {
         declared: &'a Declared,
         actor: usize,
     ) -> StandingNames<'a>
+        requires { HasFewNames declared.now }
         ensures { result ≡ fields_alone declared.now actor }
     {
         StandingNames {
@@ -66,7 +70,8 @@ impl<'a> StandingNames<'a> {
 
     /// What the script declares.
     pub(crate) fn declared(&self) -> &'a Declared
-        ensures { result.now ≡ self.now.directory }
+        ensures directory { result.now ≡ self.now.directory }
+        ensures few { HasFewNames result.now }
     {
         self.scope.declared()
     }
@@ -89,6 +94,7 @@ impl<'a> StandingNames<'a> {
     pub(crate) fn field(&self, name: &[u8]) -> Option<usize>
         ensures found { is_some result ≡ is_among (fields_at self.now.directory self.now.actor) name.now }
         ensures place { IfSome result (λ n. n ≡ place_of (fields_at self.now.directory self.now.actor) name.now) }
+        ensures few { IfSome result (λ n. n ≤ BYTES) }
     {
         match self.scope.declared().fields(self.scope.actor()) {
             Some(fields) => fields.place(name),
@@ -131,10 +137,11 @@ impl<'a> StandingNames<'a> {
         name: &[u8],
         kind: NameKind,
     ) -> Result<(), AllocError>
-        requires { meaning_of self.old name.now ≡ None }
+        requires new { meaning_of self.old name.now ≡ None }
+        requires room { length self.old.kinds < greatest }
         ensures { OnOk result (self.new ≡ with_standing self.old name.now kind) }
     {
-        let here = count_name(self.here, kind)?;
+        let here = count_name(self.here, kind);
         self.counts.push(self.here)?;
         match self.scope.add(alloc, name, kind) {
             Ok(()) => {

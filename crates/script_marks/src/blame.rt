@@ -11,7 +11,6 @@ use crate::place::{Failure, first_failure};
 use crate::span::{Span, token_span};
 use std::alloc::{AllocError, Global};
 use swift_script::ScriptFaultKind;
-use swift_types::limits::BYTES;
 
 fn text_byte(byte: u8) -> bool
     ensures { result ≡ is_text_byte byte }
@@ -44,15 +43,10 @@ pub fn blamed(alloc: Global, text: &[u8], kind: ScriptFaultKind) -> Result<Optio
     match kind {
         ScriptFaultKind::NotText => Ok(stray_byte(text)),
         ScriptFaultKind::Memory => Ok(None),
-        _ => {
-            if text.len() > BYTES {
-                return Ok(None);
-            }
-            match first_failure(alloc, text)? {
-                Some(found) => Ok(span_of(text, kind, found)),
-                None => Ok(None),
-            }
-        }
+        _ => match first_failure(alloc, text)? {
+            Some(found) => Ok(span_of(text, kind, found)),
+            None => Ok(None),
+        },
     }
 }
 

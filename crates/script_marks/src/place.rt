@@ -1,8 +1,10 @@
 //! At which token a text is refused.
 
-ghost use Rattle.std.specs.Prelude.{◌≡◌, ◌≤◌, ◌+◌, ◌-◌, ℕ, List, None, IfOk, IfSome, map};
+ghost use Rattle.std.specs.Prelude.{◌≡◌, ◌≤◌, ◌+◌, ◌-◌, ℕ, List, None, IfOk, IfSome, length, map};
+ghost use Rattle.swift_types.specs.declared.limits.TheConstants.{BYTES};
 ghost use Rattle.script_grammar.specs.Tree.{view_decl};
 ghost use Rattle.script_grammar.specs.Grammar.{IsScript};
+ghost use Rattle.script_grammar.specs.Size.{script_size};
 ghost use Rattle.script_names.specs.Directory.{directory_of};
 ghost use Rattle.script_names.specs.Rules.{names_error};
 ghost use Rattle.script_parser.specs.declared.limits.TheConstants.{NESTING};
@@ -24,6 +26,7 @@ use script_parser::{Kind, ParseFault, ReadError, parse};
 use script_tokens::{Token, tokens};
 use std::alloc::{AllocError, Global};
 use swift_script::ScriptFaultKind;
+use swift_types::limits::BYTES;
 
 /// For which cause a text is refused, and at which token (our own).
 #[derive(Clone, Copy)]
@@ -34,15 +37,19 @@ pub struct Failure {
     pub place: usize,
 }
 
-/// For which cause and at which token a text is refused, if it is refused at a token. The length of the text and bytes outside text
-/// are not looked at. Linear in the text.
+/// For which cause and at which token a text is refused, if it is refused at a token; none for a text that is too long. Bytes outside
+/// text are not looked at. Linear in the text.
 ///
 /// # Errors
 ///
 /// `AllocError` where there is no memory to read the text once more.
 pub fn first_failure(alloc: Global, text: &[u8]) -> Result<Option<Failure>, AllocError>
-    ensures { IfOk result (λ found. IfSome found (λ f. FailsAt f.kind text.now f.place)) }
+    ensures fails { IfOk result (λ found. IfSome found (λ f. FailsAt f.kind text.now f.place)) }
+    ensures short { IfOk result (λ found. IfSome found (λ f. length text.now ≤ BYTES)) }
 {
+    if text.len() > BYTES {
+        return Ok(None);
+    }
     let found = tokens(alloc, text)?;
     match parse(alloc, &found.tokens) {
         Ok(decls) => in_names(alloc, Seed::of(text), &found.tokens, &decls),
@@ -79,7 +86,8 @@ fn in_names(
     tokens: &[Token],
     decls: &[Decl],
 ) -> Result<Option<Failure>, AllocError>
-    requires { IsScript NESTING (map piece tokens.now) (map view_decl decls.now) }
+    requires spelled { IsScript NESTING (map piece tokens.now) (map view_decl decls.now) }
+    requires size { script_size (map view_decl decls.now) ≤ BYTES }
     ensures { (text : List ℕ) → Lexes text (map piece tokens.now) → IfOk result (λ found. IfSome found (λ f. FailsAt f.kind text f.place)) }
 {
     match check(alloc, seed, decls) {
@@ -135,6 +143,7 @@ fn in_parts(
     requires spelled { IsScript NESTING (map piece tokens.now) (map view_decl decls.now) }
     requires names { names_error (map view_decl decls.now) ≡ None }
     requires directory { declared ≡ directory_of (map view_decl decls.now) }
+    requires size { script_size (map view_decl decls.now) ≤ BYTES }
     ensures { (text : List ℕ) → Lexes text (map piece tokens.now) → IfOk result (λ found. IfSome found (λ f. FailsAt f.kind text f.place)) }
 {
     let compiled = compile(alloc, declared, decls)?;
@@ -182,6 +191,7 @@ fn waiting_root(
 ) -> Result<Option<usize>, AllocError>
     requires spelled { IsScript NESTING (map piece tokens.now) (map view_decl decls.now) }
     requires compiled { IsCompiled compiled.now (parts_of (script_in (map view_decl decls.now))) }
+    requires size { script_size (map view_decl decls.now) ≤ BYTES }
     ensures { (text : List ℕ) → Lexes text (map piece tokens.now) → IfOk result (λ found. IfSome found (RootFailsAt text)) }
 {
     // The clauses alone speak of the declarations.

@@ -1,17 +1,24 @@
 -- What is known where a script is finished, or refused for a root that waits.
-use Rattle.std.proofs.Common.{◌≡◌, ℕ, Option, Some, None, List, map, sym, ap, subst, ◌∙◌}
+use Rattle.std.proofs.Common.{◌≡◌, ◌≤◌, ℕ, length, Option, Some, None, List, map, sym, ap, subst, ◌∙◌}
 use Rattle.std.specs.Prelude.{IfSome, IfNone}
+use Rattle.swift_types.specs.declared.limits.TheConstants.{BYTES}
 use Rattle.script_tokens.specs.Pieces.{TokenView, piece}
 use Rattle.script_tokens.specs.declared.list.Tokens.{Tokens}
 use Rattle.script_tokens.specs.declared.token.Token.{Token}
 use Rattle.script_tokens.proofs.Unique.{unique}
 use Rattle.script_grammar.specs.Grammar.{IsScript}
 use Rattle.script_parser.specs.declared.limits.TheConstants.{NESTING}
-use Rattle.script_printing.specs.Script.{ScriptView}
+use Rattle.script_printing.specs.Script.{ScriptView, script_in}
+use Rattle.script_compiler.specs.declared.compiled.Compiled.{Compiled}
+use Rattle.script_compiler.specs.Compiled.{plan_in}
+use Rattle.script_compiler.specs.IsCompiled.{IsCompiled}
+use Rattle.script_compiler.proofs.Small.{methods_are_few}
 use Rattle.swift_script.specs.Accepted.{IsAccepted, first_false, RootWaits, NoRootWaits}
 use Rattle.swift_script.specs.BrokenInside.{IsFirstWaiting, NoneEarlier}
 use Rattle.swift_script.specs.FaultLines.{is_root, place_of, RootStandsOn}
 use Rattle.swift_script.specs.SpelledInside.{pieces_of, AreKept, IsNamed, HasNamesInOrder, line_in}
+use Rattle.swift_script.specs.Scripts.{parts_of}
+use Rattle.swift_script.proofs.Short.{within_limit}
 use Rattle.swift_script.proofs.Refusing.{kept_line}
 
 pub none_waits : (s : ScriptView) (o : Option ℕ) → o ≡ None → IfNone o (NoRootWaits s) → NoRootWaits s
@@ -60,3 +67,9 @@ accepted text s t same n starts waits = record {
   starts = ap first_false same ∙ starts;
   waits = subst NoRootWaits (sym same) waits;
 }
+
+-- a script that a short text spells has few methods
+pub few_methods : (text : List ℕ) (s : ScriptView) (m : Compiled) → HasNamesInOrder text s → IsCompiled m (parts_of s) → length m.methods.items ≤ BYTES
+unfolding parts_of
+few_methods text s m n is =
+    methods_are_few m (plan_in (script_in n.decls)) n.decls (subst (λ (t : ScriptView). IsCompiled m (parts_of t)) n.is is) (within_limit NESTING text n.decls n.plain n.spelled)

@@ -1,6 +1,7 @@
 //! The rules that are looked at once a script is compiled: on invariants, and on roots that wait.
 
-ghost use Rattle.std.specs.Prelude.{◌≡◌, ℕ, List, None, map, IfOk, IfSome, IfNone};
+ghost use Rattle.std.specs.Prelude.{◌≡◌, ◌≤◌, ℕ, List, None, length, map, IfOk, IfSome, IfNone};
+ghost use Rattle.swift_types.specs.declared.limits.TheConstants.{BYTES};
 ghost use Rattle.script_grammar.specs.Tree.{view_actor};
 ghost use Rattle.script_compiler.specs.IsCompiled.{IsCompiled};
 ghost use Rattle.swift_script.specs.Accepted.{first_false, NoRootWaits};
@@ -53,7 +54,8 @@ pub(crate) fn first_broken(
     declarations: &Declarations,
     compiled: &Compiled,
 ) -> Result<Option<BrokenRule>, AllocError>
-    requires { IsCompiled compiled.now (parts_of (tree_of declarations.now)) }
+    requires compiled { IsCompiled compiled.now (parts_of (tree_of declarations.now)) }
+    requires few { length compiled.now.methods.items ≤ BYTES }
     ensures broken { IfOk result (λ found. IfSome found (IsBroken (tree_of declarations.now))) }
     ensures starts { IfOk result (λ found. IfNone found (first_false (tree_of declarations.now) ≡ None)) }
     ensures waits { IfOk result (λ found. IfNone found (NoRootWaits (tree_of declarations.now))) }

@@ -34,6 +34,7 @@ compile_methods-requires c =
     let decls = map view_decl c.args.decls.now in
     record {
       few = few_actors decls c.requires.names;
+      size = c.requires.size;
       known = ap (λ (p : PlanView). all_methods_known p.directory 0 decls) c.requires.plan ∙ (names_are_known decls c.requires.names).1;
     }
 

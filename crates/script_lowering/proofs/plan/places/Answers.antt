@@ -4,6 +4,7 @@ use Rattle.script_names.specs.Directory.{DirectoryView, directory_of}
 use Rattle.script_lowering.specs.Plan.{executors_from}
 use Rattle.script_lowering.specs.PlanInside.{have_executors}
 use Rattle.script_lowering.proofs.InOrder.{same_executors, executors_are_few, actors_are_few, each_has_its_executor}
+use Rattle.script_lowering.proofs.Room.{few_names}
 use Rattle.script_lowering.proofs.plan.places.Goals as goal
 
 pub executors-requires-clause-declared : goal.executors-requires-clause-declared
@@ -42,3 +43,6 @@ returns-clause-few c =
     let decls = map view_decl c.args.decls.now in
     let few = actors_are_few (directory_of decls) decls c.requires.names in
     omega (arith, few, c.in_ok-executors.ensures.as_many)
+
+pub returns-clause-names : goal.returns-clause-names
+returns-clause-names c = few_names c.args.declared.now (map view_decl c.args.decls.now) c.requires.declared c.requires.names c.requires.size

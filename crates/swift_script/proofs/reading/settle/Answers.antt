@@ -1,6 +1,9 @@
 use Rattle.swift_script.specs.ScriptInvariant.{tree_of}
-use Rattle.swift_script.proofs.Finishing.{named_again}
+use Rattle.swift_script.proofs.Finishing.{few_methods, named_again}
 use Rattle.swift_script.proofs.reading.settle.Goals as goal
+
+pub first_broken-requires-clause-few : goal.first_broken-requires-clause-few
+first_broken-requires-clause-few c = few_methods c.args.text.now (tree_of c.args.declarations.now) c.args.compiled.now c.requires.named c.requires.compiled
 
 pub returns-clause-refused : goal.returns-clause-refused
 returns-clause-refused c =
