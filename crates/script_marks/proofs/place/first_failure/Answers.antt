@@ -10,5 +10,11 @@ use Rattle.script_marks.proofs.place.first_failure.Goals as goal
 
 pub in_names-requires-clause-size : goal.in_names-requires-clause-size
 in_names-requires-clause-size c =
-    omega (arith, c.if-text-gt-BYTES.false, few_tokens c.in_ok-found.ensures.tokens, script_short c.in-Ok.ensures.found,
-    ap (λ (ts : List Token). length (map piece ts)) c.deref.ensures.value, ap (λ (ds : List Decl). script_size (map view_decl ds)) c.deref-in-Ok-2.ensures.value)
+    omega (
+      arith,
+      c.if-text-gt-BYTES.false,
+      few_tokens c.in_ok-found.ensures.tokens,
+      script_short c.in-Ok.ensures.found,
+      ap (λ (ts : List Token). length (map piece ts)) c.deref.ensures.value,
+      ap (λ (ds : List Decl). script_size (map view_decl ds)) c.deref-in-Ok-2.ensures.value,
+    )
