@@ -84,6 +84,10 @@ after_run (Nothing left) d = d
 abbrev pub FoundFree : List ℕ → List ℕ → ℕ → ℕ → Type 0
 FoundFree old new pending n = new ≡ n ∷ 2 * pending ∷ old
 
+-- One step more found that a worker held the state.
+abbrev pub FoundRunning : List ℕ → List ℕ → Type 0
+FoundRunning old new = (n : ℕ) × (new ≡ n ∷ old) × (n % 2 ≡ 1)
+
 -- whether jobs were left, by the word that the end of a turn found, and by that which the visit found that gave the state back unused
 abbrev pub HasLeft : VisitOutcome → ℕ → Type 0
 HasLeft (Turn task left) n = (left ≡ More) ↔ (1 < n / 2)
@@ -94,7 +98,7 @@ HasLeft (Nothing left) n = (left ≡ More) ↔ (0 < n / 2)
 -- pending.
 abbrev pub HasFound : VisitOutcome → List ℕ → List ℕ → Type 0
 HasFound (Turn task left) old new = (pending n : ℕ) × FoundFree old new pending n × (0 < pending) × HasLeft (Turn task left) n
-HasFound Busy old new = (n : ℕ) × (new ≡ n ∷ old) × (n % 2 ≡ 1)
+HasFound Busy old new = FoundRunning old new
 HasFound (Nothing left) old new = (pending n : ℕ) × FoundFree old new pending n × HasLeft (Nothing left) n
 
 -- of a refused visit: a worker that may not run the executor makes no step, and any other got the state, where a job was pending
@@ -140,9 +144,10 @@ abbrev pub chosen_task : Option ChosenView → Option TaskId
 chosen_task None = None
 chosen_task (Some c) = Some c.job.task
 
--- What came behind other jobs is what the end of a turn of this task has made: a turn that an executor of this script has
--- journalled, and that a book of an equal script has taken. It is some such book, since that of a run is under a lock. So this says that
--- nothing else came; that all of this turn's jobs came it does not say: another turn of the task may make none.
+-- What came behind other jobs is what the end of some turn of this task makes: a turn that some state of an executor of this script
+-- journals, and that some book of an equal script takes. Nothing ties it to the turn that was run, since states and books are where other
+-- threads may change them. So it says that no other jobs came, and not that all of that turn's came: each task meets it with no new
+-- job at all, since some turn of it makes none.
 pub record IsMadeBy (script : ScriptView) (task : Option TaskId) (jobs jobs' : List JobFacts) : Type 0 where
   pub old : ExecStateView
   pub new : ExecStateView

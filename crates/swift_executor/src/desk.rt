@@ -1,13 +1,14 @@
 //! A thread's right to send jobs to an executor, and to run it.
 
-ghost use Rattle.std.specs.Prelude.{◌≡◌};
-ghost use Rattle.swift_executor.specs.Exec.{IsDeskOf, kept_desk, other_desk};
+ghost use Rattle.std.specs.Prelude.{◌≡◌, ◌*◌, ◌∷◌};
+ghost use Rattle.swift_executor.specs.Exec.{FoundRunning, IsDeskOf, has_found, kept_desk, other_desk, site_of, state_name};
+ghost use Rattle.swift_word.specs.Begun.{IfRun, OnBusy};
 
 use crate::exec::Exec;
 use crate::resting::Resting;
 use std::marker::Model;
 use swift_inbox::Pass;
-use swift_word::WordSeat;
+use swift_word::{Begun, WordSeat};
 
 /// A thread's right to send jobs to one executor, and to run a turn there. An executor is made with its first desk, and each
 /// further one is split from another. A desk may go to another thread, and can't be shared: each of its steps changes what
@@ -46,6 +47,32 @@ impl Model for Desk {
     ghost invariant = { λ d. IfSome d.pass.site (λ site. d.seat.name ≡ Some (state_name site d.pass.inbox)) × (d.seat.holding ≡ None) };
 }
 
+/// The desk by which an executor was closed. No call takes it. In a clause it is the desk that it was, with what its last step found.
+pub struct ClosedDesk {
+    pub(crate) seat: WordSeat<Resting>,
+    pub(crate) pass: Pass,
+}
+
+impl Drop for ClosedDesk {
+    fn drop(self) {
+        let ClosedDesk { seat, pass } = self;
+        drop(seat);
+        drop(pass);
+    }
+}
+
+impl Model for ClosedDesk {
+    ghost use Rattle.std.specs.Coded.{codes};
+    ghost use Rattle.swift_script.specs.Codes.{expression_code, statement_code, block_code};
+    ghost use Rattle.swift_executor.specs.Exec.{DeskView};
+
+    ghost Value = { DeskView };
+
+    ghost coded = { Prim.hlevel (codes, expression_code, statement_code (block_code (Prim.hlevel (codes, expression_code)) (Prim.hlevel (codes, expression_code)))) };
+
+    ghost view = { λ d. record { word = d.seat.word; inbox = d.pass.inbox; site = d.pass.site; sent = d.pass.pushed; finished = d.seat.finished; allowance = d.seat.allowance; found = d.seat.found } };
+}
+
 impl Desk {
     /// How many jobs may still be sent by it, from 0 to 2^60.
     pub fn allowance(&self) -> u64
@@ -64,5 +91,18 @@ impl Desk {
         let seat = self.seat.split(&exec.word);
         let pass = self.pass.split(&exec.inbox);
         Desk { seat, pass }
+    }
+
+    // Takes the state of the executor, where no desk holds it, by a last step of this one.
+    pub(crate) fn begin_last(self, exec: &Exec) -> (ClosedDesk, Begun<Resting>)
+        requires { IsDeskOf exec.now self }
+        ensures run { IfRun result.1 (λ pending _. result.0 ≡ has_found (2 * pending ∷ self.found) self) }
+        ensures name { IfRun result.1 (λ _ state. state_name (site_of state.seat.lock state.state) state.taker.inbox ≡ state_name exec.now.inbox.site exec.now.inbox.id) }
+        ensures desk { OnBusy result.1 (result.0 ≡ has_found result.0.found self) }
+        ensures busy { OnBusy result.1 (FoundRunning self.found result.0.found) }
+    {
+        let Desk { mut seat, pass } = self;
+        let begun = exec.word.begin(&mut seat);
+        (ClosedDesk { seat, pass }, begun)
     }
 }

@@ -1,15 +1,15 @@
 //! A serial executor that threads share, and what is left of it.
 
-ghost use Rattle.std.specs.Prelude.{◌≡◌, ◌<◌, ◌↔◌, [], None, Some, IfOk, IfErr, IfSome, IfNone, OnOk, OnErr};
+ghost use Rattle.std.specs.Prelude.{◌≡◌, ◌<◌, ◌*◌, ◌↔◌, [], ◌∷◌, None, Some, IfOk, IfErr, IfSome, IfNone, OnOk, OnErr};
 ghost use Rattle.std.specs.Arc.{arc_value};
 ghost use Rattle.swift_inbox.specs.Site.{CanRunAt};
-ghost use Rattle.swift_executor.specs.Exec.{IsDeskOf, IsLeft, first_desk, has_sent, site_of};
+ghost use Rattle.swift_executor.specs.Exec.{FoundRunning, IsDeskOf, IsLeft, first_desk, has_found, has_sent, site_of};
 ghost use Rattle.swift_executor.specs.Seats.{IsOpened, KeepsOrder};
 ghost use Rattle.swift_known.specs.Views.{at_rest};
 ghost use Rattle.swift_executor.specs.State.{new_executor};
 ghost use Rattle.swift_word.specs.Seat.{newest};
 
-use crate::desk::Desk;
+use crate::desk::{ClosedDesk, Desk};
 use crate::fault::ExecFault;
 use crate::gate::{Gate, Moment};
 use crate::laws::{new_has_taken_none, new_knows_no_turn};
@@ -25,7 +25,7 @@ use swift_shared_book::BookSeat;
 use swift_ticket::TicketedJob;
 use swift_turn::Body;
 use swift_types::ExecId;
-use swift_word::{BeforeCount, Word};
+use swift_word::{BeforeCount, Begun, Word};
 
 /// A serial executor (SE-0392): its state behind a status word, and its inbox. Any number of threads share it by reference; each
 /// sends jobs and runs turns with a `Desk` of its own. One turn runs at a time, since a worker takes the state out of the
@@ -93,7 +93,7 @@ impl Model for Exec {
 
 /// What is left of an executor.
 pub struct Closed {
-    /// How many jobs were counted and not run.
+    /// How many jobs were counted and not run: by the step that took the state, where it comes.
     pub pending: u64,
     /// Its state, with the taker of its jobs, and the seat by which it took the book; none where a desk held it.
     pub state: Option<(ExecState, Taker, BookSeat)>,
@@ -102,6 +102,8 @@ pub struct Closed {
     /// Whether each turn has begun once the last root was there, and while no other was under way. Not known, and false, where a turn was
     /// put back once it had begun, or no state comes.
     pub is_orderly: bool,
+    /// The desk by which it was closed. In a clause it has what that step found.
+    pub desk: ClosedDesk,
 }
 
 // The first state of an executor, with no job.
@@ -232,17 +234,24 @@ impl Exec {
         }
     }
 
-    /// Gives the executor up. The state comes where no desk holds it, with no job chosen, and the seat whose account has its turns; and
-    /// what was in the inbox comes out through the taker that lay in the state. So of each job that ever came out of the inbox it is
-    /// known where it is: among these, or ready or journalled. The tickets of these jobs are given up. Where a desk still holds the
-    /// state, since a visit never came to its end, it holds the taker too: then nothing comes, and what is in the inbox is spent. It
-    /// takes no memory. It waits only for a thread that stands between two steps of a call of its own.
-    pub fn close<R: Wait>(self, rt: &R) -> Closed
+    /// Gives the executor up, by `desk`, one of its desks. One step on the word takes the state where no desk holds it. Then the state
+    /// comes, with no job chosen, and the seat whose account has its turns; `pending` is how many jobs that step found pending; and what
+    /// was in the inbox comes out through the taker that lay in the state. So of each job that ever came out of the inbox it is known
+    /// where it is: among these, or ready or journalled. The tickets of these jobs are given up. Where the step finds that a desk holds
+    /// the state, since a visit never came to its end, that desk holds the taker too: then nothing comes, and what is in the inbox is
+    /// spent. It takes no memory. It waits only for a thread that stands between two steps of a call of its own.
+    pub fn close<R: Wait>(self, rt: &R, desk: Desk) -> Closed
+        requires desk { IsDeskOf self desk }
         ensures state { IfSome result.state (λ s. IsLeft self.inbox s.1 s.2 s.0 result.inbox.items) }
         ensures none { IfNone result.state (result.inbox.items ≡ []) }
         // Where its turns have begun in order, none is under way, by the seat's account.
         ensures order { IfSome result.state (λ s. KeepsOrder result.is_orderly at_rest s.2) }
+        // The desk makes one step: one that finds no desk at the state, and how many jobs are pending; or one that finds a desk there.
+        ensures desk { result.desk ≡ has_found result.desk.found desk }
+        ensures pending { IfSome result.state (λ s. result.desk.found ≡ 2 * result.pending ∷ desk.found) }
+        ensures held { IfNone result.state (FoundRunning desk.found result.desk.found) }
     {
+        let (desk, begun) = desk.begin_last(&self);
         let Exec {
             word,
             inbox,
@@ -250,8 +259,9 @@ impl Exec {
             spare,
         } = self;
         let list = spare.into_list();
-        match word.close() {
-            (pending, Some(resting)) => {
+        let (pending, _) = word.close();
+        match begun {
+            Begun::Run(pending, resting) => {
                 let (state, taker, seat, is_orderly) = resting.into_parts();
                 let (inbox, taker) = inbox.drain(rt, taker, list);
                 Closed {
@@ -259,13 +269,15 @@ impl Exec {
                     state: Some((state, taker, seat)),
                     inbox,
                     is_orderly,
+                    desk,
                 }
             }
-            (pending, None) => Closed {
+            Begun::Busy => Closed {
                 pending,
                 state: None,
                 inbox: list,
                 is_orderly: false,
+                desk,
             },
         }
     }

@@ -43,7 +43,7 @@ mod exec;
 // A visit of a worker.
 mod run;
 
-pub use desk::Desk;
+pub use desk::{ClosedDesk, Desk};
 pub use exec::{Closed, Exec};
 pub use fault::ExecFault;
 pub use gate::{Gate, Moment, Open};

@@ -1,6 +1,7 @@
 -- Executors and their desks, by place.
 use Rattle.std.proofs.Common.{◌≡◌, ℕ, zero, suc, ◌+◌, ◌<◌, Some, List, [], ◌∷◌, ◌++◌, length, get_or, refl, sym, subst, ap, ◌∙◌, arith, length-append}
 use Rattle.std.specs.Prelude.{Option, slice_get, slice_set, take, unwrap_or}
+use Rattle.std.specs.List.{zip}
 use Rattle.std.proofs.lemmas.Option.{none-some, same_Some, slice_get_read}
 use Rattle.swift_job.specs.Job.{JobView}
 use Rattle.swift_turn.specs.Body.{BodyView}
@@ -124,3 +125,22 @@ hand_push b execs (x ∷ xs) h are is = (are.0, hand_push b execs xs h are.1 is)
 -- a job that may be sent to an executor of this site may be sent to the executor
 pub can_run : (e : ExecView) (s : SiteView) (t : TicketedJobView) → e.inbox.site ≡ s → CanRunAt s t → CanRunAt e.inbox.site t
 can_run e s t is can = subst (λ (x : SiteView). CanRunAt x t) (sym is) can
+
+zip_at : (execs : List ExecView) (desks : List DeskView) (k : ℕ) (e : ExecView) (d : DeskView) → k < length (zip execs desks) → (e, d) ≡ get_or (zip execs desks) k (e, d) → (slice_get execs k ≡ Some e) × (slice_get desks k ≡ Some d)
+zip_at [] desks k e d lt at = absurd (omega (arith, lt))
+zip_at (x ∷ xs) [] k e d lt at = absurd (omega (arith, lt))
+zip_at (x ∷ xs) (y ∷ ys) zero e d lt at = (ap (λ (p : ExecView × DeskView). Some p.0) (sym at), ap (λ (p : ExecView × DeskView). Some p.1) (sym at))
+zip_at (x ∷ xs) (y ∷ ys) (suc k) e d lt at = zip_at xs ys k e d (omega (arith, lt)) at
+
+-- an executor and a desk that stand side by side: the executor is at its place, and the desk is of it
+pub pair_at : (b : BookLockView) (execs : List ExecView) (desks : List DeskView) (k : ℕ) (e : ExecView) (d : DeskView) → AreAtSites b execs → AreDesksOf execs desks → k < length (zip execs desks) → (e, d) ≡ get_or (zip execs desks) k (e, d)
+    → (e.inbox.site ≡ place_of b k) × IsDeskOf e d
+pair_at b execs desks k e d sites are lt at =
+    let both = zip_at execs desks k e d lt at in
+    (sites k e both.0, are.each k e d both.0 both.1)
+
+-- as many pairs as executors
+pub pairs_length : (execs : List ExecView) (desks : List DeskView) → length desks ≡ length execs → length (zip execs desks) ≡ length execs
+pairs_length [] desks many = refl
+pairs_length (x ∷ xs) [] many = absurd (omega (arith, many))
+pairs_length (x ∷ xs) (y ∷ ys) many = ap suc (pairs_length xs ys (omega (arith, many)))

@@ -6,11 +6,11 @@ ghost use Rattle.swift_events.specs.Events.{tasks_of};
 ghost use Rattle.swift_history.specs.Histories.{IsLegal};
 ghost use Rattle.swift_history.specs.Orderly.{IsOrderlyLegal};
 ghost use Rattle.swift_certificate.specs.Reports.{report_view};
-ghost use Rattle.swift_executor.specs.Exec.{site_of};
+ghost use Rattle.swift_executor.specs.Exec.{IsDeskOf, site_of};
 ghost use Rattle.swift_executor.specs.Seats.{IsSeatFor, orders_of};
 ghost use Rattle.swift_known.specs.Views.{at_rest};
 ghost use Rattle.swift_shared_book.specs.Shared.{IsSeatOf};
-ghost use Rattle.swift_workers.specs.CrewInside.{AreAtSites};
+ghost use Rattle.swift_workers.specs.CrewInside.{AreAtSites, AreDesksOf};
 ghost use Rattle.swift_workers.specs.Leaves.{AreEndings, AreReplayed, IsEnding, KeepInvariants};
 ghost use Rattle.swift_workers.specs.PartsInside.{AreParts};
 
@@ -19,7 +19,7 @@ use std::alloc::Global;
 use std::sync::Wait;
 use swift_course::laws::{runs_are_legal, runs_are_orderly};
 use swift_events::Origin;
-use swift_executor::{Closed, Exec, ExecState};
+use swift_executor::{Closed, Desk, Exec, ExecState};
 use swift_job::spend_all;
 use swift_journal::{Checkpoint, Journal};
 use swift_log::EventLog;
@@ -145,7 +145,8 @@ impl Parts {
 
 // The state of an executor whose jobs have all been run, and the seat that knows its turns. A job that was counted and not run, or that
 // still lies in the inbox, is left. Where a turn was put back once it had begun, the run was given up.
-fn close<R: Wait>(rt: &R, exec: Exec) -> Result<(ExecState, BookSeat), Halt>
+fn close<R: Wait>(rt: &R, exec: Exec, desk: Desk) -> Result<(ExecState, BookSeat), Halt>
+    requires desk { IsDeskOf exec desk }
     ensures site { IfOk result (λ r. site_of r.1.lock r.0 ≡ exec.inbox.site) }
     ensures free { IfOk result (λ r. r.0.chosen ≡ None) }
     ensures seat { IfOk result (λ r. IsSeatFor r.0 r.1) }
@@ -156,7 +157,8 @@ fn close<R: Wait>(rt: &R, exec: Exec) -> Result<(ExecState, BookSeat), Halt>
         state,
         inbox,
         is_orderly,
-    } = exec.close(rt);
+        desk: _,
+    } = exec.close(rt, desk);
     let is_left = pending > 0 || !inbox.is_empty() || !is_orderly;
     spend_all(inbox);
     let Some((state, _taker, seat)) = state else {
@@ -197,15 +199,17 @@ fn note_state(
     Ok(())
 }
 
-// Closes the executors, in order, and gathers their seats in the one that adds roots.
+// Closes the executors, in order, each by its desk, and gathers their seats in the one that adds roots.
 fn parts_of<R: Wait>(
     rt: &R,
     alloc: Global,
     book: &BookLock,
     seat: &mut BookSeat,
     execs: Vec<Exec>,
+    desks: Vec<Desk>,
 ) -> Result<Parts, Halt>
     requires sites { AreAtSites book.now execs.items }
+    requires desks { AreDesksOf execs.items desks.items }
     requires seat { IsSeatOf book.now seat.old }
     ensures seat { IsSeatOf book.now seat.new }
     ensures maker { seat.new.knows.maker ≡ seat.old.knows.maker }
@@ -216,26 +220,28 @@ fn parts_of<R: Wait>(
         checkpoints: Vec::new(alloc),
         fields: Vec::new(alloc),
     };
-    for exec in execs {
-        let (state, own) = close(rt, exec)?;
+    for (exec, desk) in execs.into_iter().zip(desks) {
+        let (state, own) = close(rt, exec, desk)?;
         note_state(&mut parts, book, seat, state, own)?;
     }
     Ok(parts)
 }
 
-/// The report of a run that was played, or was given up, by the seat that has opened all accounts and added all roots. It is legal, and
-/// its blocks are in order: the seats of the executors, gathered in that one, and the book say so, and no turn is followed again. A book that was not given back is
-/// `Unfinished`.
+/// The report of a run that was played, or was given up, by the seat that has opened all accounts and added all roots; the executors are
+/// closed by these desks. It is legal, and its blocks are in order: the seats of the executors, gathered in that one, and the book say so,
+/// and no turn is followed again. A book that was not given back is `Unfinished`.
 pub fn report_of<R: Wait>(
     rt: &R,
     alloc: Global,
     script: &Script,
     execs: Vec<Exec>,
+    desks: Vec<Desk>,
     book: BookLock,
     mut seat: BookSeat,
     played: Result<(), Halt>,
 ) -> Result<Report, Halt>
     requires sites { AreAtSites book execs.items }
+    requires desks { AreDesksOf execs.items desks.items }
     requires many { length execs.items ≡ executor_count script.now }
     requires script { book.script ≡ script.now }
     requires seat { IsSeatOf book seat }
@@ -253,7 +259,7 @@ pub fn report_of<R: Wait>(
     played?;
     runs_are_legal();
     runs_are_orderly();
-    let parts = parts_of(rt, alloc, &book, &mut seat, execs)?;
+    let parts = parts_of(rt, alloc, &book, &mut seat, execs, desks)?;
     let Some(book) = book.close(seat) else {
         return Err(Halt::Unfinished);
     };

@@ -13,7 +13,7 @@ ghost use Rattle.swift_workers.specs.declared.fault.RunFault.TheVariants.{Illega
 ghost use Rattle.swift_workers.specs.CrewInside.{AreAtSites, AreHandsOf, AreOthers, IsHandOf};
 ghost use Rattle.swift_workers.specs.Leaves.{AreEndings, AreReplayed, KeepInvariants};
 
-use crate::crew::{Crew, Hand, open_all, others_of};
+use crate::crew::{Crew, Hand, open_all, others_of, split_all};
 use crate::fault::{Halt, RunFault};
 use crate::leave::report_of;
 use crate::sending::{add_roots, send_all};
@@ -98,6 +98,7 @@ where
     let (book, mut seat) = shared_book(alloc, script)?;
     let (execs, mut desks) = open_all(alloc, script, workers, &book, &mut seat)?;
     let others = others_of(alloc, &execs, &mut desks, workers, &book, &mut seat)?;
+    let closers = split_all(alloc, &execs, &mut desks)?;
     let first = Hand {
         worker: 0,
         desks,
@@ -109,7 +110,7 @@ where
     let played = play(
         rt, alloc, script, &execs, first, others, &book, &mut seat, workers, gate,
     );
-    report_of(rt, alloc, script, execs, book, seat, played)
+    report_of(rt, alloc, script, execs, closers, book, seat, played)
 }
 
 // A book without tasks, as threads share it, and its first seat.

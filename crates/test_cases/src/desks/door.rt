@@ -1,6 +1,6 @@
 //! An executor, with a right to use it.
 
-ghost use Rattle.std.specs.Prelude.{IsTrue, ◌≡◌, Some, IfErr, IfOk};
+ghost use Rattle.std.specs.Prelude.{IsTrue, ◌≡◌, Some, IfErr, IfOk, IfSome};
 ghost use Rattle.std.specs.Arc.{arc_value};
 ghost use Rattle.swift_inbox.specs.Site.{CanRunAt};
 ghost use Rattle.swift_executor.specs.Exec.{IsBookOf, IsDeskOf};
@@ -130,13 +130,16 @@ impl Door {
         ran
     }
 
-    // The executor, where no other desk of it is left.
-    pub(crate) fn into_exec(self) -> Option<Exec> {
+    // The executor and the desk, where no other desk of it is left.
+    pub(crate) fn into_exec(self) -> Option<(Exec, Desk)>
+        ensures { IfSome result (λ r. IsDeskOf r.0 r.1) }
+    {
         let Door {
             exec,
-            desk: _,
+            desk,
             book: _,
         } = self;
-        Arc::into_inner(exec)
+        let exec = Arc::into_inner(exec)?;
+        Some((exec, desk))
     }
 }

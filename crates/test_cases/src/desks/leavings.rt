@@ -62,12 +62,14 @@ impl Leavings {
 
     /// Closes an executor with the last of its desks. None where it has another, or a desk holds it.
     pub fn close<R: Wait>(&mut self, rt: &R, door: Door) -> Option<Left> {
+        let (exec, desk) = door.into_exec()?;
         let Closed {
             pending,
             state,
             inbox,
             is_orderly: _,
-        } = door.into_exec()?.close(rt);
+            desk: _,
+        } = exec.close(rt, desk);
         let inbox = Jobs { list: inbox };
         let (state, _taker, _seat) = state?;
         let ready = self.add(state);
