@@ -1,5 +1,5 @@
 -- A search that has gone on from each history which it has kept has found each outcome.
-use Rattle.std.proofs.Common.{◌≡◌, ◌⊎◌, ◌<◌, ℕ, ℤ, zero, suc, List, [], ◌∷◌, ◌++◌, append_assoc, append-nil, length, refl, sym, subst, ap, ap₂, ◌∙◌, arith, inl, inr}
+use Rattle.std.proofs.Common.{◌≡◌, ◌⊎◌, ◌<◌, ◌≤◌, ℕ, ℤ, zero, suc, List, [], ◌∷◌, ◌++◌, append_assoc, append-nil, length, refl, sym, subst, ap, ap₂, ◌∙◌, arith, inl, inr}
 use Rattle.std.specs.Prelude.{IsTrue, None, Option, slice_index_or, unwrap_or, Contains}
 use Rattle.std.specs.Arc.{arc_value}
 use Rattle.std.proofs.lemmas.Option.{slice_get_within}
@@ -17,12 +17,11 @@ use Rattle.swift_explorer.specs.declared.moves.Move.{Move}
 use Rattle.swift_explorer.specs.declared.outcome.RunOutcome.{RunOutcome}
 use Rattle.swift_explorer.specs.declared.history.SearchedHistory.{SearchedHistory}
 use Rattle.swift_explorer.specs.declared.search.Search.{Search}
-use Rattle.swift_explorer.specs.Outcomes.{Tells}
+use Rattle.swift_explorer.specs.Outcomes.{HasEachOutcome, NeverBreaks, Tells}
 use Rattle.swift_explorer.specs.Steps.{AreSteps, IsBroken}
 use Rattle.swift_explorer.specs.HistoryInside.{IsHistory, IsPath}
-use Rattle.swift_explorer.specs.SearchInside.{HasGrown, HasLike, Keeps, IsExpanded, IsExpandedAt, LeadsTo, paths_of}
+use Rattle.swift_explorer.specs.SearchInside.{HasGoneOn, HasLike, IsExpanded, IsExpandedAt, IsSound, Keeps, LeadsTo, paths_of}
 use Rattle.swift_explorer.proofs.Ended.{starts_at}
-use Rattle.swift_explorer.proofs.Growing.{like_grown}
 use Rattle.swift_explorer.proofs.KnownEnds.{same_list}
 use Rattle.swift_explorer.proofs.Nodes.{paths_length}
 use Rattle.swift_explorer.proofs.Trying.{like_too, other_block}
@@ -47,12 +46,22 @@ no_steps [] is = refl
 no_steps (b ∷ bs) is = absurd is
 
 -- the history in which nothing has happened was kept
-pub first_like : (script : ScriptView) (s z x : Search) (history : SearchedHistory) → arc_value s.script ≡ script → IsPath script [] history → Keeps s z history → HasGrown z x → IsTrue x.is_complete
-    → HasLike script (paths_of x.nodes.items) []
-first_like script s z x history own p keeps grown is =
+first_like : (script : ScriptView) (s z : Search) (history : SearchedHistory) → arc_value s.script ≡ script → IsPath script [] history → Keeps s z history → IsTrue z.is_complete → HasLike script (paths_of z.nodes.items) []
+first_like script s z history own p keeps is =
     let h = subst (λ (sc : ScriptView). IsHistory sc p.blocks history) (sym own) p.is in
-    let like = keeps.kept (grown.complete is) p.blocks h in
-    like_grown script z x [] grown (subst (λ (sc : ScriptView). HasLike sc (paths_of z.nodes.items) []) own (subst (HasLike (arc_value s.script) (paths_of z.nodes.items)) (no_steps p.blocks p.steps) like))
+    let like = keeps.kept is p.blocks h in
+    subst (λ (sc : ScriptView). HasLike sc (paths_of z.nodes.items) []) own (subst (HasLike (arc_value s.script) (paths_of z.nodes.items)) (no_steps p.blocks p.steps) like)
+
+-- a search that has kept it has gone on from none
+pub gone_none : (script : ScriptView) (s z : Search) (history : SearchedHistory) → arc_value s.script ≡ script → IsPath script [] history → Keeps s z history → HasGoneOn (arc_value z.script) z 0
+gone_none script s z history own p keeps =
+    let same : arc_value z.script ≡ script = ap arc_value keeps.grown.script ∙ own in
+    subst (λ (sc : ScriptView). HasGoneOn sc z 0) (sym same) (record {
+      sound = subst (λ (sc : ScriptView). IsSound sc z) own keeps.sound;
+      first = first_like script s z history own p keeps;
+      within = omega arith;
+      expanded = λ _ place low. absurd (omega (arith, low));
+    })
 
 module _ (script : ScriptView) (x : Search) (first : HasLike script (paths_of x.nodes.items) []) (each : (place : ℕ) → place < length x.nodes.items → IsExpandedAt script x place) (on : ActorsHaveExecutors script) where
   expanded_at : (bs : List Block) (like : HasLike script (paths_of x.nodes.items) bs) → (path : List Move) × LeadsTo script path like.others × IsExpanded script x path
@@ -90,12 +99,23 @@ module _ (script : ScriptView) (x : Search) (first : HasLike script (paths_of x.
     walked : HasLike script (paths_of x.nodes.items) orderly.legal.blocks × ((b : Block) → Contains orderly.legal.blocks b → x.broken ≡ None → IsBroken b → ⊥)
     walked = walk orderly.legal.blocks [] tt (subst (λ (cps : List CheckpointView). AllStand script cps [] orderly.legal.blocks) cps_are orderly.legal.stand) orderly.orderly made_is.none first
 
-    pub has_outcome : (o : RunOutcome) × Contains x.outcomes.items o × Tells o report
+    has_outcome : (o : RunOutcome) × Contains x.outcomes.items o × Tells o report
     has_outcome =
         let like = walked.0 in
         let at = expanded_at orderly.legal.blocks like in
         let of : IsOutcome script (state_of script (starts script) orderly.legal.blocks) report = subst (λ (cps : List CheckpointView). IsOutcome script (state_of script cps orderly.legal.blocks) report) cps_are made_is.outcome in
         at.2.ends like.others at.1 report (record { outcome = outcome_too script (starts script) report orderly.legal.blocks like.others like.alike of; many = orderly.legal.executors.2 })
 
-    pub breaks_none : x.broken ≡ None → (b : Block) → Contains orderly.legal.blocks b → IsBroken b → ⊥
+    breaks_none : x.broken ≡ None → (b : Block) → Contains orderly.legal.blocks b → IsBroken b → ⊥
     breaks_none whole b has breaks = walked.1 b has whole breaks
+
+-- a search that has gone on from each history that it has kept, and left none out, has found all
+module _ (x : Search) (next : ℕ) (gone : HasGoneOn (arc_value x.script) x next) (last : length x.nodes.items ≤ next) (is : IsTrue x.is_complete) where
+  each_kept : (place : ℕ) → place < length x.nodes.items → IsExpandedAt (arc_value x.script) x place
+  each_kept place low = gone.expanded is place (omega (arith, low, last))
+
+  pub has_each : HasEachOutcome (arc_value x.script) x.outcomes.items
+  has_each = λ on report orderly folds. has_outcome (arc_value x.script) x (gone.first is) each_kept on report orderly folds
+
+  pub never_breaks : x.broken ≡ None → NeverBreaks (arc_value x.script)
+  never_breaks whole = λ on report orderly folds. breaks_none (arc_value x.script) x (gone.first is) each_kept on report orderly folds whole

@@ -1,11 +1,15 @@
 -- What a search has found stays as it goes on.
-use Rattle.std.proofs.Common.{ℕ, false, List, refl, ◌∙◌}
+use Rattle.std.proofs.Common.{◌<◌, ◌≤◌, ℕ, zero, suc, ◌+◌, false, List, [], length, refl, sym, subst, arith, inl, inr, ◌∙◌}
+use Rattle.std.specs.Prelude.{IsTrue}
 use Rattle.std.proofs.lemmas.Bool.{false≢true}
+use Rattle.std.proofs.lemmas.Option.{slice_get_within}
 use Rattle.swift_script.specs.Scripts.{ScriptView}
 use Rattle.swift_history.specs.Histories.{Block}
 use Rattle.swift_explorer.specs.declared.moves.Move.{Move}
 use Rattle.swift_explorer.specs.declared.search.Search.{Search}
-use Rattle.swift_explorer.specs.SearchInside.{HasGrown, HasLike, IsExpandedAt, IsKept, IsSound, StepWasTried, WasTried, paths_of}
+use Rattle.swift_explorer.specs.SearchInside.{HasGoneOn, HasGrown, HasLike, IsExpandedAt, IsKept, IsSound, StepWasTried, WasTried, paths_of}
+use Rattle.swift_explorer.proofs.Ended.{lt_or}
+use Rattle.swift_explorer.proofs.Nodes.{path_there, paths_length}
 
 pub grown_none : (x : Search) → HasGrown x x
 grown_none x = record { script = refl; limit = refl; paths = λ i path at. at; outcomes = λ o has. has; broken = λ none. none; complete = λ is. is }
@@ -55,6 +59,32 @@ expanded_grown script x y place grown is = (
     tried = λ blocks b leads may. tried_grown script x y blocks b grown (is.2.tried blocks b leads may);
   },
 )
+
+-- a search loses no history that it has kept
+
+below_grown : (x y : Search) (n : ℕ) → HasGrown x y → n ≤ length x.nodes.items → n ≤ length y.nodes.items
+below_grown x y zero grown le = omega arith
+below_grown x y (suc n) grown le =
+    let at = path_there x.nodes.items n (omega (arith, le)) in
+    let within = slice_get_within (paths_of y.nodes.items) n at.0 (grown.paths n at.0 at.1) in
+    let many = paths_length y.nodes.items in
+    omega (arith, within, many)
+
+pub nodes_grown : (x y : Search) → HasGrown x y → length x.nodes.items ≤ length y.nodes.items
+nodes_grown x y grown = below_grown x y (length x.nodes.items) grown (omega arith)
+
+-- a search that has gone on from one history more
+pub gone_one : (script : ScriptView) (x y : Search) (next : ℕ) → HasGoneOn script x next → next < length x.nodes.items → HasGrown x y → IsSound script y → (IsTrue y.is_complete → IsExpandedAt script y next)
+    → HasGoneOn script y (next + 1)
+gone_one script x y next gone lt grown sound expanded = record {
+  sound = sound;
+  first = λ is. like_grown script x y [] grown (gone.first (grown.complete is));
+  within = (let more = nodes_grown x y grown in omega (arith, lt, more));
+  expanded = λ is place low. elim (lt_or place next low) [
+    | inl before ↦ expanded_grown script x y place grown (gone.expanded (grown.complete is) place before)
+    | inr here ↦ subst (IsExpandedAt script y) (sym here) (expanded is)
+  ];
+}
 
 -- a search that leaves a history out
 

@@ -1,5 +1,6 @@
 pub mod Steps
 pub mod Outcomes
+pub mod Explorations
 pub mod HistoryInside
 pub mod SearchInside
 pub mod KeysInside

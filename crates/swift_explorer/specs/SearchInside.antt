@@ -117,6 +117,14 @@ pub record IsExpanded (script : ScriptView) (x : Search) (path : List Move) : Ty
 abbrev pub IsExpandedAt : ScriptView → Search → ℕ → Type 0
 IsExpandedAt script x place = (path : List Move) × (slice_get (paths_of x.nodes.items) place ≡ Some path) × IsExpanded script x path
 
+-- A search is sound, and has gone on from the kept histories before a place; where it is complete, it has kept one that leads as the one
+-- in which nothing has happened.
+pub record HasGoneOn (script : ScriptView) (x : Search) (next : ℕ) : Type 0 where
+  pub sound : IsSound script x
+  pub first : IsTrue x.is_complete → HasLike script (paths_of x.nodes.items) []
+  pub within : next ≤ length x.nodes.items
+  pub expanded : IsTrue x.is_complete → (place : ℕ) → place < next → IsExpandedAt script x place
+
 -- A history was kept: the search has grown, is sound still, and where it is complete, has a history that leads alike.
 pub record Keeps (old new : Search) (history : SearchedHistory) : Type 0 where
   pub grown : HasGrown old new

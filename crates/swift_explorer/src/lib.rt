@@ -1,6 +1,8 @@
 //! Outcomes that some order of turns of a script leads to.
 #![tactic(auto)]
 
+// A search that is made in parts.
+mod exploration;
 // What is left of tasks to do, as numbers.
 mod frames;
 // One history, followed from its beginning.
@@ -18,8 +20,8 @@ mod text;
 // What the next turn of each task begins with.
 mod waiting;
 
+pub use exploration::{Exploration, FoundOutcomes, explore};
 pub use moves::Move;
 pub use outcome::RunOutcome;
 pub use schedule::schedule_report;
-pub use search::{FoundOutcomes, explore};
 pub use text::found_text;

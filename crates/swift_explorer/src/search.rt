@@ -1,14 +1,14 @@
 //! The search.
 
-ghost use Rattle.std.specs.Prelude.{◌≡◌, ◌<◌, ℕ, List, [], ◌∷◌, ◌++◌, All, Contains, IfOk, IfSome, IsTrue, None, OnOk, Some, is_some, length, slice_get, true};
+ghost use Rattle.std.specs.Prelude.{◌≡◌, ◌<◌, ◌+◌, ℕ, List, [], ◌∷◌, ◌++◌, All, Contains, IfOk, IfSome, IsTrue, None, OnOk, Some, is_some, length, min, slice_get, true};
 ghost use Rattle.std.specs.Arc.{arc_value};
 ghost use Rattle.swift_history.specs.Histories.{Block, ReportView};
-ghost use Rattle.swift_explorer.specs.Outcomes.{HasEachOutcome, IfReached, IsBrokenAfter, IsOutcomeOf, NeverBreaks, Tells};
+ghost use Rattle.swift_explorer.specs.Outcomes.{IfReached, IsBrokenAfter, IsOutcomeOf, Tells};
 ghost use Rattle.swift_explorer.specs.declared.outcome.RunOutcome.{RunOutcome};
 ghost use Rattle.swift_explorer.specs.HistoryInside.{IsPath, WasDone};
 ghost use Rattle.swift_explorer.specs.EndsInside.{HasEnd, IsKnownEnd};
 ghost use Rattle.swift_explorer.specs.KeysInside.{IsKeyOf, outcome_bytes, end_numbers};
-ghost use Rattle.swift_explorer.specs.SearchInside.{GoOn, HasGrown, IsAhead, IsExpandedAt, IsFollowedBy, IsNoted, IsSound, Keeps, MayGoOn, StepWasTried, path_after, paths_of};
+ghost use Rattle.swift_explorer.specs.SearchInside.{GoOn, HasGoneOn, HasGrown, IsAhead, IsExpandedAt, IsFollowedBy, IsNoted, IsSound, Keeps, MayGoOn, StepWasTried, path_after, paths_of};
 ghost use Rattle.swift_keys.specs.Numbers.{list_numbers};
 
 use crate::history::{Followed, SearchedHistory};
@@ -24,37 +24,26 @@ use swift_types::Ending;
 
 // A history that was kept: one step after another that was.
 #[derive(Clone, Copy)]
-struct Node {
+pub(crate) struct Node {
     before: usize,
     step: Move,
 }
 
-/// What a search has found.
+// A search, and what it has found so far.
 #[derive(Drop)]
-pub struct FoundOutcomes {
-    /// The outcomes, each one once, those with the shortest schedules first.
-    pub outcomes: Vec<RunOutcome>,
-    /// The steps to a turn that was undone since it would have broken an invariant, the fewest that were found.
-    pub broken: Option<Vec<Move>>,
-    /// How many histories were kept.
-    pub states: usize,
-    /// Whether each step after each history that was kept was tried, and no history was left out for the limit.
-    pub is_complete: bool,
-}
-
-#[derive(Drop)]
-struct Search {
-    alloc: Global,
-    script: Arc<Script>,
-    limit: usize,
-    nodes: Vec<Node>,
+pub(crate) struct Search {
+    pub(crate) alloc: Global,
+    pub(crate) script: Arc<Script>,
+    pub(crate) limit: usize,
+    pub(crate) nodes: Vec<Node>,
     // A key for each node.
-    keys: Names,
-    outcomes: Vec<RunOutcome>,
+    pub(crate) keys: Names,
+    pub(crate) outcomes: Vec<RunOutcome>,
     // A key for each outcome.
-    ends: Names,
-    broken: Option<Vec<Move>>,
-    is_complete: bool,
+    pub(crate) ends: Names,
+    pub(crate) broken: Option<Vec<Move>>,
+    // Whether no history was left out, and each step after those that it has gone on from was tried.
+    pub(crate) is_complete: bool,
 }
 
 // The steps to a node.
@@ -165,9 +154,15 @@ fn look_ahead(
 }
 
 impl Search {
-    fn new(alloc: Global, script: &Arc<Script>, limit: usize) -> Result<Search, AllocError>
+    // A search that has kept no history yet.
+    pub(crate) fn new(
+        alloc: Global,
+        script: &Arc<Script>,
+        limit: usize,
+    ) -> Result<Search, AllocError>
         ensures none { IfOk result (λ x. x.nodes.items ≡ []) }
         ensures script { IfOk result (λ x. arc_value x.script ≡ arc_value script.now) }
+        ensures limit { IfOk result (λ x. x.limit ≡ limit) }
         ensures sound { IfOk result (IsSound (arc_value script.now)) }
     {
         Ok(Search {
@@ -184,7 +179,7 @@ impl Search {
     }
 
     // Keeps a history, where none is kept that goes on alike.
-    fn keep(
+    pub(crate) fn keep(
         &mut self,
         history: SearchedHistory,
         before: usize,
@@ -343,69 +338,21 @@ impl Search {
         }
     }
 
-    // Goes on from each history that is kept.
-    fn go_through(&mut self) -> Result<(), AllocError>
-        requires { IsSound (arc_value self.old.script) self.old }
+    // Goes on from the history at a place and from those after it, from `more` at most. The place after the last of these.
+    pub(crate) fn go_through(&mut self, from: usize, more: usize) -> Result<usize, AllocError>
+        requires { HasGoneOn (arc_value self.old.script) self.old from }
         ensures grown { OnOk result (HasGrown self.old self.new) }
-        ensures sound { OnOk result (IsSound (arc_value self.old.script) self.new) }
-        ensures expanded { OnOk result (IsTrue self.new.is_complete → (place : ℕ) → place < length self.new.nodes.items → IsExpandedAt (arc_value self.old.script) self.new place) }
+        ensures gone_on { IfOk result (HasGoneOn (arc_value self.new.script) self.new) }
+        ensures far { IfOk result (λ next. next ≡ min (from + more) (length self.new.nodes.items)) }
     {
-        for place in 0..self.limit {
-            if place >= self.nodes.len() {
-                return Ok(());
+        let mut next = from;
+        for _ in 0..more {
+            if next >= self.nodes.len() {
+                return Ok(next);
             }
-            self.expand(place)?;
+            self.expand(next)?;
+            next += 1;
         }
-        Ok(())
+        Ok(next)
     }
-}
-
-/// Searches the histories of a script from the one in which nothing has happened, and keeps at most `limit`: one of those whose keys are
-/// the same, since they go on alike. From each that it keeps it tries each step that is in order: roots are added in text order, then
-/// turns begin, each only at an executor that has none under way.
-///
-/// What it finds is so: each outcome is that of a legal report, which a history in order has made by the steps of its schedule; and a
-/// turn that it says breaks an invariant does so after these steps. Where `is_complete` says that no history was left out, it is all, of
-/// a script whose actors have executors: some outcome has the endings and the fields of each legal report that a history in order has
-/// made and in which no executor has folded turns, and where no broken turn was found, none of such a history breaks an invariant.
-///
-/// An executor takes any of its jobs: the list has outcomes of orders that priorities, arrival and `fifo` would not give (SE-0304 calls
-/// priorities hints; of a `fifo` executor it has more than can happen).
-///
-/// Each history is followed from its beginning for each step after it, so the time is that of the histories times their turns.
-///
-/// # Errors
-///
-/// `AllocError` where no memory was left.
-pub fn explore(
-    alloc: Global,
-    script: &Arc<Script>,
-    limit: usize,
-) -> Result<FoundOutcomes, AllocError>
-    ensures outcomes { IfOk result (λ found. All (IsOutcomeOf (arc_value script.now)) found.outcomes.items) }
-    ensures broken { IfOk result (λ found. IfSome found.broken (λ schedule. IsBrokenAfter (arc_value script.now) schedule.items)) }
-    ensures all { IfOk result (λ found. IsTrue found.is_complete → HasEachOutcome (arc_value script.now) found.outcomes.items) }
-    ensures unbroken { IfOk result (λ found. IsTrue found.is_complete → found.broken ≡ None → NeverBreaks (arc_value script.now)) }
-{
-    let mut search = Search::new(alloc, script, limit)?;
-    let first = SearchedHistory::new(alloc, script)?;
-    search.keep(first, 0, Move::Add)?;
-    search.go_through()?;
-    let Search {
-        alloc: _,
-        script: _,
-        limit: _,
-        nodes,
-        keys: _,
-        outcomes,
-        ends: _,
-        broken,
-        is_complete,
-    } = search;
-    Ok(FoundOutcomes {
-        outcomes,
-        broken,
-        states: nodes.len(),
-        is_complete,
-    })
 }

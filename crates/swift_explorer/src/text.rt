@@ -1,8 +1,8 @@
 //! What a search has found, as a text.
 
+use crate::exploration::FoundOutcomes;
 use crate::moves::Move;
 use crate::outcome::RunOutcome;
-use crate::search::FoundOutcomes;
 use itoa::Buffer;
 use std::alloc::{AllocError, Global};
 use swift_log::EventLog;

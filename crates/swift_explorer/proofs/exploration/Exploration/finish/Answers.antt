@@ -1,0 +1,30 @@
+use Rattle.std.proofs.Common.{◌≡◌, ◌≤◌, ◌∙◌, ℕ, true, leb, length, vec_len, sym, subst, ap, arith}
+use Rattle.std.proofs.lemmas.Bool.{false≢true, leb-true}
+use Rattle.swift_script.specs.Scripts.{ScriptView}
+use Rattle.swift_explorer.specs.declared.search.Search.{Search}
+use Rattle.swift_explorer.specs.Explorations.{ExplorationView}
+use Rattle.swift_explorer.specs.Outcomes.{HasEachOutcome, NeverBreaks}
+use Rattle.swift_explorer.proofs.Complete.{has_each, never_breaks}
+use Rattle.swift_explorer.proofs.exploration.Exploration.finish.Goals.{then-is_complete, else-is_complete}
+use Rattle.swift_explorer.proofs.exploration.Exploration.finish.Goals as goal
+
+last_of : (states : ℕ) (x : Search) (next : ℕ) → states ≡ vec_len x.nodes → leb states next ≡ true → length x.nodes.items ≤ next
+last_of states x next many is = let low = leb-true states next is in omega (arith, low, many)
+
+pub returns-clause-all : goal.returns-clause-all
+returns-clause-all c = λ is.
+    (let x = c.self.inside.search in
+    let same = ap (λ (v : ExplorationView). v.script) c.self.view_is in
+    elim c.if-is_complete.branch [
+      | then-is_complete w ↦ subst (λ (s : ScriptView). HasEachOutcome s x.outcomes.items) same (has_each x c.self.inside.next c.self.invariant (last_of c.len-states.result x c.self.inside.next c.len-states.ensures (sym w.result-is ∙ is)) w.if-is_complete.true)
+      | else-is_complete w ↦ absurd (false≢true (sym w.if-is_complete.false ∙ sym w.result-is ∙ is))
+    ])
+
+pub returns-clause-unbroken : goal.returns-clause-unbroken
+returns-clause-unbroken c = λ is whole.
+    (let x = c.self.inside.search in
+    let same = ap (λ (v : ExplorationView). v.script) c.self.view_is in
+    elim c.if-is_complete.branch [
+      | then-is_complete w ↦ subst NeverBreaks same (never_breaks x c.self.inside.next c.self.invariant (last_of c.len-states.result x c.self.inside.next c.len-states.ensures (sym w.result-is ∙ is)) w.if-is_complete.true whole)
+      | else-is_complete w ↦ absurd (false≢true (sym w.if-is_complete.false ∙ sym w.result-is ∙ is))
+    ])

@@ -1,0 +1,174 @@
+//! A search that is made in parts.
+
+ghost use Rattle.std.specs.Prelude.{◌≡◌, ◌≤◌, ◌+◌, ◌-◌, ◌↔◌, All, IfOk, IfSome, IsTrue, None, length, min};
+ghost use Rattle.std.specs.Arc.{arc_value};
+ghost use Rattle.swift_explorer.specs.Outcomes.{HasEachOutcome, IsBrokenAfter, IsOutcomeOf, NeverBreaks};
+
+use crate::history::SearchedHistory;
+use crate::moves::Move;
+use crate::outcome::RunOutcome;
+use crate::search::Search;
+use std::alloc::{AllocError, Global};
+use std::marker::Model;
+use std::sync::Arc;
+use swift_script::Script;
+
+/// What a search has found.
+#[derive(Drop)]
+pub struct FoundOutcomes {
+    /// The outcomes, each one once, those with the shortest schedules first.
+    pub outcomes: Vec<RunOutcome>,
+    /// The steps to a turn that was undone since it would have broken an invariant, the fewest that were found.
+    pub broken: Option<Vec<Move>>,
+    /// How many histories were kept.
+    pub states: usize,
+    /// Whether each step after each history that was kept was tried, and no history was left out for the limit.
+    pub is_complete: bool,
+}
+
+/// A search of the histories of a script that is made in parts, so that a caller can say between them how far it is (our own). `explore`
+/// says what is searched; this finds the same, in the same order.
+#[derive(Drop)]
+pub struct Exploration {
+    search: Search,
+    // It has gone on from the histories before this one.
+    next: usize,
+}
+
+impl Model for Exploration {
+    ghost use Rattle.std.specs.Prelude.{length};
+    ghost use Rattle.std.specs.Arc.{arc_value};
+    ghost use Rattle.std.specs.Coded.{codes};
+    ghost use Rattle.swift_script.specs.Codes.{expression_code, statement_code, block_code};
+    ghost use Rattle.swift_explorer.specs.Explorations.{ExplorationView};
+    ghost use Rattle.swift_explorer.specs.SearchInside.{HasGoneOn};
+
+    ghost Value = { ExplorationView };
+
+    ghost coded = { Prim.hlevel (codes, expression_code, statement_code (block_code (Prim.hlevel (codes, expression_code)) (Prim.hlevel (codes, expression_code)))) };
+
+    ghost view = { λ x. record { script = arc_value x.search.script; limit = x.search.limit; kept = length x.search.nodes.items; gone_on = x.next; outcomes = length x.search.outcomes.items } };
+
+    ghost invariant = { λ x. HasGoneOn (arc_value x.search.script) x.search x.next };
+}
+
+impl Exploration {
+    /// A search of the histories of a script, of which at most `limit` are kept. It has gone on from none yet.
+    ///
+    /// # Errors
+    ///
+    /// `AllocError` where no memory was left.
+    pub fn new(alloc: Global, script: &Arc<Script>, limit: usize) -> Result<Exploration, AllocError>
+        ensures script { IfOk result (λ x. x.script ≡ arc_value script.now) }
+        ensures limit { IfOk result (λ x. x.limit ≡ limit) }
+        ensures gone_on { IfOk result (λ x. x.gone_on ≡ 0) }
+    {
+        let mut search = Search::new(alloc, script, limit)?;
+        let first = SearchedHistory::new(alloc, script)?;
+        search.keep(first, 0, Move::Add)?;
+        Ok(Exploration { search, next: 0 })
+    }
+
+    /// Goes on from `more` more of the histories that are kept, or from all where there are fewer.
+    ///
+    /// # Errors
+    ///
+    /// `AllocError` where no memory was left. The search is given up then.
+    pub fn advance(self, more: usize) -> Result<Exploration, AllocError>
+        ensures script { IfOk result (λ x. x.script ≡ self.script) }
+        ensures limit { IfOk result (λ x. x.limit ≡ self.limit) }
+        ensures kept { IfOk result (λ x. self.kept ≤ x.kept) }
+        ensures gone_on { IfOk result (λ x. x.gone_on ≡ min (self.gone_on + more) x.kept) }
+    {
+        let Exploration { mut search, next } = self;
+        let next = search.go_through(next, more)?;
+        Ok(Exploration { search, next })
+    }
+
+    /// From how many histories it has gone on.
+    pub fn gone_on(&self) -> usize
+        ensures { result ≡ self.now.gone_on }
+    {
+        self.next
+    }
+
+    /// From how many of the histories that it has kept it has still to go on. Where it goes on, it may keep others.
+    pub fn to_go(&self) -> usize
+        ensures to_go { result ≡ self.now.kept - self.now.gone_on }
+        ensures kept { self.now.gone_on ≤ self.now.kept }
+        ensures limit { self.now.kept ≤ self.now.limit }
+    {
+        self.search.nodes.len() - self.next
+    }
+
+    /// How many outcomes it has found so far.
+    pub fn outcomes(&self) -> usize
+        ensures { result ≡ self.now.outcomes }
+    {
+        self.search.outcomes.len()
+    }
+
+    /// What it has found. This is complete only where the search has gone on from all that it has kept.
+    pub fn finish(self) -> FoundOutcomes
+        ensures outcomes { All (IsOutcomeOf self.script) result.outcomes.items }
+        ensures broken { IfSome result.broken (λ schedule. IsBrokenAfter self.script schedule.items) }
+        ensures all { IsTrue result.is_complete → HasEachOutcome self.script result.outcomes.items }
+        ensures unbroken { IsTrue result.is_complete → result.broken ≡ None → NeverBreaks self.script }
+        ensures gone_on { IsTrue result.is_complete → self.gone_on ≡ self.kept }
+        ensures states { result.states ≡ self.kept }
+        ensures counted { length result.outcomes.items ≡ self.outcomes }
+    {
+        let Exploration { search, next } = self;
+        let Search {
+            alloc: _,
+            script: _,
+            limit: _,
+            nodes,
+            keys: _,
+            outcomes,
+            ends: _,
+            broken,
+            is_complete,
+        } = search;
+        let states = nodes.len();
+        FoundOutcomes {
+            outcomes,
+            broken,
+            states,
+            is_complete: is_complete && next >= states,
+        }
+    }
+}
+
+/// Searches the histories of a script from the one in which nothing has happened, and keeps at most `limit`: one of those whose keys are
+/// the same, since they go on alike. From each that it keeps it tries each step that is in order: roots are added in text order, then
+/// turns begin, each only at an executor that has none under way.
+///
+/// What it finds is so: each outcome is that of a legal report, which a history in order has made by the steps of its schedule; and a
+/// turn that it says breaks an invariant does so after these steps. Where `is_complete` says that no history was left out, it is all, of
+/// a script whose actors have executors: some outcome has the endings and the fields of each legal report that a history in order has
+/// made and in which no executor has folded turns, and where no broken turn was found, none of such a history breaks an invariant.
+///
+/// An executor takes any of its jobs: the list has outcomes of orders that priorities, arrival and `fifo` would not give (SE-0304 calls
+/// priorities hints; of a `fifo` executor it has more than can happen).
+///
+/// Each history is followed from its beginning for each step after it, so the time is that of the histories times their turns.
+/// `Exploration` makes the same search in parts.
+///
+/// # Errors
+///
+/// `AllocError` where no memory was left.
+pub fn explore(
+    alloc: Global,
+    script: &Arc<Script>,
+    limit: usize,
+) -> Result<FoundOutcomes, AllocError>
+    ensures outcomes { IfOk result (λ found. All (IsOutcomeOf (arc_value script.now)) found.outcomes.items) }
+    ensures broken { IfOk result (λ found. IfSome found.broken (λ schedule. IsBrokenAfter (arc_value script.now) schedule.items)) }
+    ensures all { IfOk result (λ found. IsTrue found.is_complete → HasEachOutcome (arc_value script.now) found.outcomes.items) }
+    ensures unbroken { IfOk result (λ found. IsTrue found.is_complete → found.broken ≡ None → NeverBreaks (arc_value script.now)) }
+{
+    let begun = Exploration::new(alloc, script, limit)?;
+    let ended = begun.advance(limit)?;
+    Ok(ended.finish())
+}
