@@ -1,18 +1,57 @@
 //! Outcomes of orders of turns.
 
-use std::alloc::Global;
+ghost use Rattle.std.specs.Prelude.{◌≡◌, All, IfOk, IfSome, IsTrue, None};
+ghost use Rattle.std.specs.Arc.{arc_value};
+ghost use Rattle.swift_explorer.specs.Outcomes.{HasEachOutcome, IsBrokenAfter, IsOutcomeOf, NeverBreaks};
+
+use std::alloc::{AllocError, Global};
 use std::sync::Arc;
 use swift_certificate::legal;
-use swift_explorer::{Move, RunOutcome, explore, found_text, schedule_report};
+use swift_explorer::{Exploration, FoundOutcomes, Move, RunOutcome, found_text, schedule_report};
 use swift_report::report_text;
 use swift_script::{Script, read};
 use swift_tool::ToolFault;
 use swift_workers::RunFault;
 
-/// What a search of the histories of a script has found, of which at most `limit` are kept.
-pub fn outcomes_text(alloc: Global, text: &[u8], limit: u32) -> Result<Vec<u8>, ToolFault> {
+// Each time that a search has gone on from this many histories more, it says how far it is: a small script takes a second for them.
+const PART: usize = 8_192;
+
+// Says on standard error how far a search is. The search goes on where that fails: its list is what was asked for.
+fn say_progress(rt: &HostRuntime, search: &Exploration) {
+    let outcomes = search.outcomes();
+    let noun = if outcomes == 1 { "outcome" } else { "outcomes" };
+    let _ = eprintln!(rt;
+        "nuchapay: {} states searched, {} to go, {outcomes} {noun} so far",
+        search.gone_on(),
+        search.to_go(),
+    );
+}
+
+// What `explore` finds, and how far it is now and then.
+fn search_all(
+    rt: &HostRuntime,
+    script: &Arc<Script>,
+    limit: usize,
+) -> Result<FoundOutcomes, AllocError>
+    ensures outcomes { IfOk result (λ found. All (IsOutcomeOf (arc_value script.now)) found.outcomes.items) }
+    ensures broken { IfOk result (λ found. IfSome found.broken (λ schedule. IsBrokenAfter (arc_value script.now) schedule.items)) }
+    ensures all { IfOk result (λ found. IsTrue found.is_complete → HasEachOutcome (arc_value script.now) found.outcomes.items) }
+    ensures unbroken { IfOk result (λ found. IsTrue found.is_complete → found.broken ≡ None → NeverBreaks (arc_value script.now)) }
+{
+    let mut search = Exploration::new(rt.alloc(), script, limit)?.advance(PART)?;
+    'parts: while search.to_go() > 0 {
+        say_progress(rt, &search);
+        search = search.advance(PART)?;
+    }
+    Ok(search.finish())
+}
+
+/// What a search of the histories of a script has found, of which at most `limit` are kept. How far it is, it says on standard error now
+/// and then.
+pub fn outcomes_text(rt: &HostRuntime, text: &[u8], limit: u32) -> Result<Vec<u8>, ToolFault> {
+    let alloc = rt.alloc();
     let script = Arc::new(alloc, read(alloc, text)?)?;
-    let found = explore(alloc, &script, limit as usize)?;
+    let found = search_all(rt, &script, limit as usize)?;
     let said = found_text(alloc, &script, &found)?;
     Ok(said)
 }
@@ -50,13 +89,14 @@ fn outcome_at(outcomes: &[RunOutcome], number: u32) -> Option<&RunOutcome> {
 /// Searches as `outcomes_text` does, and runs the schedule of one of the outcomes again, by its number from 1. Its report is followed by
 /// `legal` before it is printed.
 pub fn rerun_text(
-    alloc: Global,
+    rt: &HostRuntime,
     text: &[u8],
     limit: u32,
     outcome: u32,
 ) -> Result<Rerun, ToolFault> {
+    let alloc = rt.alloc();
     let script = Arc::new(alloc, read(alloc, text)?)?;
-    let found = explore(alloc, &script, limit as usize)?;
+    let found = search_all(rt, &script, limit as usize)?;
     match outcome_at(&found.outcomes, outcome) {
         Some(outcome) => Ok(Rerun::Report(legal_text(alloc, &script, &outcome.schedule)?)),
         None => Ok(Rerun::Nowhere(found.outcomes.len())),

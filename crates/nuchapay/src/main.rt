@@ -123,11 +123,7 @@ where
             limit,
             outcome,
         } => match script(host, source) {
-            Ok(text) => say_rerun(
-                host,
-                outcome,
-                rerun_text(host.alloc(), &text, limit, outcome),
-            ),
+            Ok(text) => say_rerun(host, outcome, rerun_text(host, &text, limit, outcome)),
             Err(error) => unread(host, source, error),
         },
         Request::Explain(topic) => tell(host, write_page(host, topic)),
@@ -221,7 +217,7 @@ fn write_swift(rt: &HostRuntime, text: &[u8]) -> Result<bool, ToolFault> {
 }
 
 fn write_outcomes(rt: &HostRuntime, text: &[u8], limit: u32) -> Result<bool, ToolFault> {
-    let said = outcomes_text(rt.alloc(), text, limit)?;
+    let said = outcomes_text(rt, text, limit)?;
     write_out(rt, &said)
 }
 
