@@ -18,7 +18,8 @@ returns-clause-follows c =
     let k = c.in-Some-executor_of.place in
     let seen = λ (rows : Vec (Vec ℤ Global) Global). rows_of rows.items in
     let old = c.replace-fields.result in
-    let new = c.in-Ok.field-0.fields in
+    let outcome = c.in-Ok.field-0 in
+    let new = outcome.fields in
     let lt : k < length x.fields.items = omega (arith, c.if-place-len.false, c.len.ensures) in
     let in_used : k < length x.used.items = omega (arith, c.if-place-len-2.false, c.len-else-place-len.ensures) in
     let long : c.len.result ≡ length x.fields.items = omega (arith, c.len.ensures) in
@@ -29,7 +30,7 @@ returns-clause-follows c =
     let ran : body ≡ record was.body { task = record was.body.task { frames = body.task.frames }; phase = idle } = c.in-Ok.ensures.rest in
     let rest = ran ∙ ap (λ (p : PhaseView). record was.body { task = record was.body.task { frames = body.task.frames }; phase = p }) (sym (ap (λ (b : BodyView). b.phase) ran)) in
     if_done c.apply.result _ _ (λ f applies blocks h.
-    run_step (arc_value x.script) blocks x _ c.apply.new.self c.args.task c.in-Some-take.ready k c.in-Some.env (seen old) (seen new) c.replay_turn.new.body (effect_views c.in-Ok.field-0.effects.items) (exit_view c.in-Ok.field-0.exit) f
+    run_step (arc_value x.script) blocks x _ c.apply.new.self c.args.task c.in-Some-take.ready k c.in-Some.env (seen old) (seen new) c.replay_turn.new.body (effect_views outcome.effects.items) (exit_view outcome.exit) f
     h (sym c.take.ensures.found ∙ c.in-Some-take.is) c.take.ensures.rest c.in-Some.ensures.some c.in-Some-executor_of.ensures.runs
     (rows_here seen x.fields.items k old there) (rows_set seen x.fields.items _ k new c.replace-fields.new.dest lt refl) (rows_many seen x.fields.items _ k new c.replace-fields.new.dest refl)
     c.in-Ok.ensures.turn rest refl refl refl in_used refl applies)
