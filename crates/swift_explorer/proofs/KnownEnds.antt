@@ -14,7 +14,7 @@ use Rattle.swift_history.specs.TurnEnds.{WaitingTaskView}
 use Rattle.swift_course.specs.Course.{standing}
 use Rattle.swift_digest.proofs.Answers.{life_of_is, tasks_of_is}
 use Rattle.swift_explorer.specs.declared.waiting.Ready.{Ready}
-use Rattle.swift_explorer.specs.EndsInside.{IsEndedAs, IsReportOf, SomeGoesOn}
+use Rattle.swift_explorer.specs.EndsInside.{IsEndedAs, IsReportAfter, SomeGoesOn}
 use Rattle.swift_explorer.specs.HistoryInside.{AreEnded, IsLed}
 
 pub same_list : {A : Type 0} (xs ys : List A) → length xs ≡ length ys → ((i : ℕ) (x y : A) → slice_get xs i ≡ Some x → slice_get ys i ≡ Some y → x ≡ y) → xs ≡ ys
@@ -30,7 +30,7 @@ one_end : (log : List Event) (t : ℕ) (x y : Origin × Ending) → IsEndedAs lo
 one_end log t x y is also =
     ap₂ (λ (a : Origin) (b : Ending). (a, b)) (of_some (life_of t log).origin x.0 y.0 is.0 also.0) (of_some (life_of t log).ending x.1 y.1 is.1 also.1)
 
-module _ (script : ScriptView) (bs : List Block) (log : List Event) (log_is : log ≡ (standing script bs).log) (report : ReportView) (of : IsReportOf script bs report) where
+module _ (script : ScriptView) (bs : List Block) (log : List Event) (log_is : log ≡ (standing script bs).log) (report : ReportView) (of : IsReportAfter script bs report) where
   many : length report.endings ≡ tasks_of (root_count script) log
   many = of.outcome.tasks ∙ sym (tasks_of_is (root_count script) (standing script bs).log) ∙ ap (tasks_of (root_count script)) (sym log_is)
 

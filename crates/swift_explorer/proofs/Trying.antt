@@ -21,7 +21,7 @@ use Rattle.swift_explorer.specs.declared.history.Followed.TheVariants.{Yes}
 use Rattle.swift_explorer.specs.declared.search.Search.{Search}
 use Rattle.swift_explorer.specs.Steps.{IsBroken}
 use Rattle.swift_explorer.specs.HistoryInside.{GoesOn, HasEachMove, IsHistory, IsMoveOf, IsPath}
-use Rattle.swift_explorer.specs.EndsInside.{HasEnd, IsKnownEnd, IsReportOf}
+use Rattle.swift_explorer.specs.EndsInside.{HasEnd, IsKnownEnd, IsReportAfter}
 use Rattle.swift_explorer.specs.SearchInside.{HasLike, IsAhead, IsExpanded, IsFollowedBy, LeadsTo, MayFollow, StepWasTried, paths_of}
 use Rattle.swift_explorer.proofs.Keeping.{path_leads}
 use Rattle.swift_explorer.proofs.SameMoves.{broken_too, move_of_step, move_too, same_move, same_path}
@@ -124,7 +124,7 @@ ahead_is script path moves known x own p each ends =
       ends = subst (λ (s : ScriptView). IsKnownEnd s p.blocks known) own (ends p.blocks h);
     }
 
-report_too : (script : ScriptView) (blocks others : List Block) (report : ReportView) → LeadAlike script (starts script) blocks others → IsReportOf script blocks report → IsReportOf script others report
+report_too : (script : ScriptView) (blocks others : List Block) (report : ReportView) → LeadAlike script (starts script) blocks others → IsReportAfter script blocks report → IsReportAfter script others report
 report_too script blocks others report alike is = record { outcome = outcome_too script (starts script) report blocks others alike is.outcome; many = is.many }
 
 -- a search that has tried each step after a path, and has its end, has gone on from it

@@ -22,16 +22,16 @@ abbrev pub SomeGoesOn : List Event → ℕ → Type 0
 SomeGoesOn log tasks = (t : ℕ) × (t < tasks) × ((x : Origin × Ending) → IsEndedAs log t x → ⊥)
 
 -- a report says where these blocks lead
-pub record IsReportOf (script : ScriptView) (blocks : List Block) (report : ReportView) : Type 0 where
+pub record IsReportAfter (script : ScriptView) (blocks : List Block) (report : ReportView) : Type 0 where
   pub outcome : IsOutcome script (state_of script (starts script) blocks) report
   pub many : length report.fields ≡ executor_count script
 
 -- what is known of the end of these blocks is so
 abbrev pub IsKnownEnd : ScriptView → List Block → End → Type 0
-IsKnownEnd script blocks NotYet = (report : ReportView) → IsReportOf script blocks report → ⊥
+IsKnownEnd script blocks NotYet = (report : ReportView) → IsReportAfter script blocks report → ⊥
 IsKnownEnd script blocks Unknown = Unit {0}
-IsKnownEnd script blocks (Reached outcome) = (report : ReportView) → IsReportOf script blocks report → Tells outcome report
+IsKnownEnd script blocks (Reached outcome) = (report : ReportView) → IsReportAfter script blocks report → Tells outcome report
 
 -- where a report says where these blocks lead, one of the outcomes tells of it
 abbrev pub HasEnd : ScriptView → List RunOutcome → List Block → Type 0
-HasEnd script outcomes blocks = (report : ReportView) → IsReportOf script blocks report → (o : RunOutcome) × Contains outcomes o × Tells o report
+HasEnd script outcomes blocks = (report : ReportView) → IsReportAfter script blocks report → (o : RunOutcome) × Contains outcomes o × Tells o report
