@@ -5,8 +5,9 @@
 
 Edits of different functions of a crate are planted together, in a copy of it, and judged by one check, which says of each function whether
 it is proved. An edit is named FUNCTION__WHAT.edit; it is refused where a function of that name, in a file that it changes, is not proved.
-One that changes anything but code is tried alone. Where edits that are planted together do not compile, each half of them is tried. The
-crates below are proved first, and the crate itself, unless rt check or rt lib has done so in this tree.
+Where all that the prover says of it is that the proof names what the edited function does not have, the verdict says so: perhaps another
+proof would pass. One that changes anything but code is tried alone. Where edits that are planted together do not compile, each half of them
+is tried. The crates below are proved first, and the crate itself, unless rt check or rt lib has done so in this tree.
 """
 import argparse
 import fnmatch
@@ -26,6 +27,8 @@ import prove
 KIT = os.path.dirname(subprocess.run(["rt", "doc"], capture_output=True, text=True, check=True).stdout.strip())
 # How many are planted together at most.
 MANY = 24
+# What the prover says of a proof that names a fact or a goal which the function does not have.
+FORM = re.compile(r"has no field `|has no `[^`]*` that can be named from here")
 
 
 class Edit:
@@ -94,6 +97,15 @@ def words_of(name):
     return words + ["--antt-project", f"{KIT}/rattle/logic/antt-project.json", "--logic-built", f"{KIT}/logic_built", "--links", f"{name}="]
 
 
+def refused(said, function):
+    """The verdict on an edit of a function that is not proved, by what the prover said of it."""
+    if re.search(rf"(?m)^fn \S*\b{re.escape(function)}>?: .*`search` did not prove", said):
+        return "refused"
+    errors = re.findall(r"(?m)^\S*/([^/\n]+)/Answers\.antt:\d+:\d+: error: (.*(?:\n  .*)*)", said)
+    own = [text for name, text in errors if name == function]
+    return "refused, perhaps by the form of its proof alone" if own and all(FORM.search(text) for text in own) else "refused"
+
+
 class Crate:
     def __init__(self, name, room):
         self.name, self.folder, self.room = name, os.path.join(TOP, "crates", name), room
@@ -130,12 +142,12 @@ class Crate:
             first = next((line for line in said.split("\n") if "error" in line), "the prover gave no verdict")
             return {edits[0]: f"BAD EDIT: {first[:160]}"}
         if len(edits) == 1:
-            return {edits[0]: "refused" if "\nlogic=not-proved" in said else "NOT REFUSED"}
+            return {edits[0]: refused(said, edits[0].function) if "\nlogic=not-proved" in said else "NOT REFUSED"}
         # Of a function that only calls one that is not proved nothing is known: its edit is tried alone.
         unproved, calls = set(), set()
         for name, why in re.findall(r"(?m)^fn (\S+): ((?:not proved|no proof|could not tell).*)", said):
             (calls if re.match("no proof: it calls|not proved; it calls", why) else unproved).add(name.rsplit("::", 1)[-1].strip("<>"))
-        found = {edit: "refused" if edit.function in unproved else "NOT REFUSED" for edit in edits}
+        found = {edit: refused(said, edit.function) if edit.function in unproved else "NOT REFUSED" for edit in edits}
         for edit in edits:
             if edit.function in calls - unproved:
                 found |= self.judge([edit])
@@ -175,7 +187,7 @@ def tried(name, edits):
             for edit, verdict in verdicts.items():
                 if verdict == "NOT REFUSED" and len(found) > 1:
                     verdict = crate.judge([edit])[edit]
-                bad += verdict != "refused"
+                bad += not verdict.startswith("refused")
                 print(f"{name}/{edit.name}: {verdict}", flush=True)
         print(f"{name}: {len(edits)} edits in {len(lists)} lists, {time.monotonic() - began:.0f} s", flush=True)
     return bad
