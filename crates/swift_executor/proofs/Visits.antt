@@ -61,6 +61,20 @@ module _ (given : List ℕ) (old new : ExecStateView) where
     same_known F seat (Ok None) some none err was = none_knows log old new seat was free (none log levels)
     same_known F seat (Err fault) some none err was = lacked_knows log old new seat was free (err.1 log levels)
 
+    pub picks_by : (r : Result (Option TaskId) ExecFault) → SomeIs r → IfOk r (λ picked. IfSome picked (λ task. Chooses log old new task))
+    picks_by (Ok (Some task)) some = some log levels
+    picks_by (Ok None) some = tt
+    picks_by (Err fault) some = tt
+
+    pub none_by : (r : Result (Option TaskId) ExecFault) → NoneIs r → IfOk r (λ picked. IfNone picked (HasNone log old new))
+    none_by (Ok (Some task)) none = tt
+    none_by (Ok None) none = none log levels
+    none_by (Err fault) none = tt
+
+    pub lacks_by : (F : ExecFault → Type 0) (r : Result (Option TaskId) ExecFault) → FaultIs F r → IfErr r (λ fault. LacksTask log old new)
+    lacks_by F (Ok picked) err = tt
+    lacks_by F (Err fault) err = err.1 log levels
+
     pub is_picked : (r : Result (Option TaskId) ExecFault) → SomeIs r → IfOk r (λ picked. IfSome picked (λ task. HasChosen new (λ c. IsPicked c.stage) × (chosen_task new.chosen ≡ Some task)))
     is_picked (Ok (Some task)) some =
         let h = some log levels in

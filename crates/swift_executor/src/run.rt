@@ -14,7 +14,7 @@ ghost use Rattle.swift_executor.specs.Seats.{IsSeatFor, KeepsOrder, orders_of};
 ghost use Rattle.swift_known.specs.Views.{at_rest, under_way};
 ghost use Rattle.swift_shared_book.specs.Shared.{BookSeatView, IsAsTaken, IsSeatOf, seat_of};
 ghost use Rattle.swift_word.specs.Seat.{ended, last_found, left};
-ghost use Rattle.swift_executor.specs.State.{HasChosen, IsBegun, IsPicked, IsPlayed};
+ghost use Rattle.swift_executor.specs.State.{Chooses, HasChosen, HasNone, IsBegun, IsPicked, IsPlayed, LacksTask};
 
 use crate::desk::Desk;
 use crate::exec::Exec;
@@ -113,6 +113,10 @@ fn choose_one(state: &mut ExecState, book: &mut Book) -> Result<Option<TaskId>, 
     ensures known { (seat : BookSeatView) → IsSeatFor state.old seat → IsSeatFor state.new seat }
     ensures taken { (taken : List JobFacts) → HasTaken taken state.old → HasTaken taken state.new }
     ensures some { IfOk result (λ picked. IfSome picked (λ task. HasChosen state.new (λ c. IsPicked c.stage) × (chosen_task state.new.chosen ≡ Some task))) }
+    // It goes by the levels of this book.
+    ensures picks { IfOk result (λ picked. IfSome picked (λ task. Chooses book.old.log state.old state.new task)) }
+    ensures empty { IfOk result (λ picked. IfNone picked (HasNone book.old.log state.old state.new)) }
+    ensures lacks { IfErr result (λ fault. LacksTask book.old.log state.old state.new) }
     ensures none { IfOk result (λ picked. IfNone picked (state.new.chosen ≡ None)) }
     ensures free { OnErr result (state.new.chosen ≡ None) }
     ensures err { IfErr result IsRunFault }

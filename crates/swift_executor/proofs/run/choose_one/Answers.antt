@@ -1,4 +1,4 @@
-use Rattle.swift_executor.proofs.Visits.{is_free, is_none, is_picked, same_known, same_site, same_taken}
+use Rattle.swift_executor.proofs.Visits.{is_free, is_none, is_picked, lacks_by, none_by, picks_by, same_known, same_site, same_taken}
 use Rattle.swift_executor.proofs.run.choose_one.Goals as goal
 
 pub returns-clause-same : goal.returns-clause-same
@@ -18,3 +18,12 @@ returns-clause-none c = is_none _ _ _ _ c.levels.ensures.levels c.requires.free 
 
 pub returns-clause-free : goal.returns-clause-free
 returns-clause-free c = is_free _ _ _ _ c.levels.ensures.levels c.requires.free _ c.choose.result c.choose.ensures.err
+
+pub returns-clause-picks : goal.returns-clause-picks
+returns-clause-picks c = picks_by _ _ _ _ c.levels.ensures.levels c.requires.free c.choose.result c.choose.ensures.some
+
+pub returns-clause-empty : goal.returns-clause-empty
+returns-clause-empty c = none_by _ _ _ _ c.levels.ensures.levels c.requires.free c.choose.result c.choose.ensures.none
+
+pub returns-clause-lacks : goal.returns-clause-lacks
+returns-clause-lacks c = lacks_by _ _ _ _ c.levels.ensures.levels c.requires.free _ c.choose.result c.choose.ensures.err
