@@ -18,9 +18,11 @@ use swift_types::{Env, Resume, TaskId};
 /// What the log says of each task, how many of them are open, and the room that is reserved for their turns.
 #[derive(Drop)]
 pub(crate) struct Lives {
-    lives: Vec<Life>,
-    open_tasks: usize,
+    // First, since it lies in a ledger right behind the room of the log: each turn writes both, and workers that take turns pass on one
+    // line of the cache less.
     reserved: u32,
+    open_tasks: usize,
+    lives: Vec<Life>,
 }
 
 /// One for a task that is open.

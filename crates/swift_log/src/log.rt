@@ -13,9 +13,10 @@ use swift_events::Event;
 /// that has ended, or of what it threw. In a clause it is the list of the events, and how many more are sure to find memory.
 #[derive(Drop)]
 pub struct EventLog {
-    entries: Vec<LogEntry>,
     // The numbers that events say, in order.
     numbers: Vec<i64>,
+    // Beside the room, since each event changes both.
+    entries: Vec<LogEntry>,
     // How many more events find memory for sure.
     room: usize,
 }
