@@ -1,8 +1,9 @@
 //! A run that is followed along its log.
 
-ghost use Rattle.std.specs.Prelude.{◌≡◌, ◌<◌, [], IfOk, IfSome, IsTrue, Some, false, length};
+ghost use Rattle.std.specs.Prelude.{◌≡◌, ℕ, ◌<◌, [], ◌∷◌, ◌++◌, IfOk, IfSome, IsTrue, Some, false, length};
 ghost use Rattle.script_code.specs.Seen.{rows_of};
 ghost use Rattle.std.specs.Arc.{arc_value};
+ghost use Rattle.swift_types.specs.declared.env.Env.{Env};
 ghost use Rattle.swift_events.specs.declared.life.JobStage.TheVariants.{Begun};
 ghost use Rattle.swift_events.specs.Lives.{life_of};
 ghost use Rattle.swift_turn.specs.Body.{IsRunning};
@@ -146,10 +147,11 @@ impl Replay {
         }
     }
 
-    // The next turn of a task begins.
+    // The next turn of a task begins, and the second book writes so.
     fn begin(&mut self, report: &Report, task: TaskId) -> Result<bool, AllocError>
         requires { IsReplay (arc_value self.old.script) (report_view report.now) self.old }
         ensures script { self.new.script ≡ self.old.script }
+        ensures begun { IfOk result (λ goes_on. IsTrue goes_on → (number : ℕ) × (env : Env) × (self.new.book.log ≡ self.old.book.log ++ Event.Begin task number env ∷ [])) }
         ensures follows { IfOk result (λ goes_on. IsTrue goes_on → IsReplay (arc_value self.old.script) (report_view report.now) self.new) }
     {
         let _ = report;
