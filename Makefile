@@ -31,6 +31,10 @@ test:
 prove:
 	@tools/prove.py
 
+# Tries those planted bugs of the table in docs/THEOREMS.md that the gate does not try as must-fail edits, over what `rt ci` has left.
+planted:
+	@tools/mutants.py --table
+
 # Tries the planted bugs, those that the gate leaves out too: make mutants CRATES="swift_turn script_names" (all), those of them whose names
 # match: EDITS="advance__* poll__*" (all).
 EDITS = *
@@ -88,4 +92,4 @@ cases:
 bench: $(PROGRAM) $(CASES)
 	@python3 bench/run.py
 
-.PHONY: try run test prove mutants examples limits pages marks reports swift install refusals links believe cases bench
+.PHONY: try run test prove planted mutants examples limits pages marks reports swift install refusals links believe cases bench

@@ -2,6 +2,7 @@
 """Tries the planted bugs in crates/NAME/mutants/ and must-fail/: the prover has to refuse each.
 
     tools/mutants.py [--edits PATTERN..] [NAME..]       of these crates (all), those whose names match (all)
+    tools/mutants.py --table                            those that the gate tries, by the table of planted bugs in docs/THEOREMS.md
 
 Edits of different functions of a crate are planted together, in a copy of it, and judged by one check, which says of each function whether
 it is proved. An edit is named FUNCTION__WHAT.edit; it is refused where a function of that name, in a file that it changes, is not proved.
@@ -9,8 +10,12 @@ Where all that the prover says of it is that the proof names what the edited fun
 proof would pass. One that changes anything but code is tried alone. Where edits that are planted together do not compile, or a definition
 does not read, each half of them is tried. The crates below are proved first, and the crate itself, unless rt check or rt lib has done so
 in this tree.
+
+Of each row of the table that names none in must-fail/, which `rt ci` tries, it is the first. These are judged over the libraries that
+`rt ci` has left in this tree, by checks of the functions that they change and of what these call.
 """
 import argparse
+import concurrent.futures
 import fnmatch
 import os
 import re
@@ -25,6 +30,7 @@ TOP = os.path.dirname(os.path.dirname(os.path.abspath(__file__)))
 sys.path.insert(0, os.path.join(TOP, "tools"))
 import prove
 
+TABLE = os.path.join(TOP, "docs", "THEOREMS.md")
 KIT = os.path.dirname(subprocess.run(["rt", "doc"], capture_output=True, text=True, check=True).stdout.strip())
 # How many are planted together at most.
 MANY = 24
@@ -53,6 +59,35 @@ class Edit:
 
     def is_code(self):
         return all(file.startswith("src/") for file, _, _ in self.pairs) and not any("laws.rt" in file for file, _, _ in self.pairs)
+
+
+def path_of(folder, edit):
+    """The function that an edit is of, as the prover names it, without the crate: the last of its name before what the edit changes, or else
+    the only one of its name in another file."""
+    changed, old, _ = edit.pairs[0]
+    found = []
+    for at, _, files in os.walk(os.path.join(folder, "src")):
+        for file in (os.path.join(at, it) for it in files):
+            with open(file, encoding="utf8") as text:
+                lines = text.read().split("\n")
+            for here, line in enumerate(lines):
+                if re.match(rf"\s*(pub(\([a-z]+\))? )?(const )?(unsafe )?fn {re.escape(edit.function)}\b", line):
+                    found.append((os.path.relpath(file, folder), here, lines))
+    own = [it for it in found if it[0] == changed]
+    if own:
+        place = next((at for at, line in enumerate(own[0][2]) if old.strip() in line), 0)
+        file, here, lines = max((it for it in own if it[1] <= place), key=lambda it: it[1], default=own[0])
+    elif len(found) == 1:
+        file, here, lines = found[0]
+    else:
+        return edit.function
+    path = [it for it in file[len("src/") : -len(".rt")].split("/") if it not in ("lib", "main")]
+    if lines[here].startswith(" "):
+        # Of a method it names the module of the type, wherever the method stands: the end of the name is enough.
+        impl = next(line for line in reversed(lines[:here]) if line.startswith("impl"))
+        trait, kind = re.match(r"impl(?: ([A-Z]\w*)(?:<.*>)? for)? ([A-Z]\w*)", re.sub(r"^impl<.*?>+ (?=[A-Z])", "impl ", impl)).groups()
+        path = [kind + (trait or "")]
+    return "::".join([*path, edit.function])
 
 
 def planted(folder, edits):
@@ -117,17 +152,19 @@ def refused(said, function):
 
 
 class Crate:
-    def __init__(self, name, room):
-        self.name, self.folder, self.room = name, os.path.join(TOP, "crates", name), room
+    """A crate whose edits are tried: all of it is checked, over what was kept of an earlier check, or only the functions that change."""
+
+    def __init__(self, name, room, only):
+        self.name, self.folder, self.room, self.only = name, os.path.join(TOP, "crates", name), room, only
         self.kept = os.path.join(room, "kept")
         seed = os.path.join(self.folder, "out/incremental")
-        if os.path.isdir(seed):
+        if os.path.isdir(seed) and not only:
             shutil.copytree(seed, self.kept)
         self.root = "src/lib.rt" if os.path.exists(os.path.join(self.folder, "src/lib.rt")) else "src/main.rt"
         self.words = words_of(name)
 
-    def check(self, texts):
-        """What the prover says of the crate with these files in place of its own."""
+    def check(self, texts, edits):
+        """What the prover says of the crate with these files, which have these edits, in place of its own."""
         copy = os.path.join(self.room, "crate")
         shutil.rmtree(copy, ignore_errors=True)
         for part in ("src", "specs", "proofs"):
@@ -137,6 +174,8 @@ class Crate:
             with open(os.path.join(copy, file), "w", encoding="utf8") as out:
                 out.write(text)
         words = [f"{KIT}/bin/rattle", "check", "--crate-name", self.name, self.root, *self.words, "--jobs", "1", "--incremental", self.kept]
+        for edit in edits if self.only else []:
+            words += ["--only", path_of(self.folder, edit)]
         how = {"stdout": subprocess.PIPE, "stderr": subprocess.STDOUT, "text": True, "errors": "replace"}
         return subprocess.run(words, cwd=copy, check=False, **how).stdout
 
@@ -145,15 +184,16 @@ class Crate:
         texts = planted(self.folder, edits)
         if texts is None:
             return {edits[0]: "BAD EDIT: its text does not stand there once"} if len(edits) == 1 else self.halves(edits)
-        said = self.check(texts)
+        said = self.check(texts, edits)
         rejected = REJECTED.search(said)
-        if rejected or not re.search(r"(?m)^logic=(proved|not-proved)", said):
+        if rejected or not re.search(r"(?m)^(logic=(proved|not-proved)|only=)", said):
             if len(edits) > 1:
                 return self.halves(edits)
             first = next((line for line in said.split("\n") if "error" in line), "the prover gave no verdict")
             return {edits[0]: f"BAD EDIT: {(rejected.group() if rejected else first)[:160]}"}
         if len(edits) == 1:
-            return {edits[0]: refused(said, edits[0].function) if "\nlogic=not-proved" in said else "NOT REFUSED"}
+            whole = re.search(r"(?m)^(?:logic=proved|only=(\d+) proved=\1$)", said)
+            return {edits[0]: "NOT REFUSED" if whole else refused(said, edits[0].function)}
         # Of a function that only calls one that is not proved nothing is known: its edit is tried alone.
         unproved, calls = set(), set()
         for name, why in re.findall(r"(?m)^fn (\S+): ((?:not proved|no proof|could not tell).*)", said):
@@ -181,17 +221,21 @@ def edits_of(name, patterns):
     return found
 
 
-def tried(name, edits):
-    """Tries the edits of a crate. How many were not refused."""
+def prove_first(name):
+    """Proves a crate and those below it, unless that was done in this tree."""
     logs = os.path.join(TOP, "out", "prove")
     os.makedirs(logs, exist_ok=True)
     for below in prove.in_order(prove.graph(), [name]):
         status, _ = prove.prove(below, logs, prove.JOBS)
         if status:
             sys.exit(f"{below} is not proved: see out/prove/{below}.log")
+
+
+def tried(name, edits, only=False):
+    """Tries the edits of a crate. How many were not refused."""
     bad = 0
     with tempfile.TemporaryDirectory() as room:
-        crate = Crate(name, room)
+        crate = Crate(name, room, only)
         lists = together(crate.folder, edits)
         began = time.monotonic()
         for found in lists:
@@ -206,16 +250,45 @@ def tried(name, edits):
     return bad
 
 
+def of_table():
+    """The edits that the gate tries by the table, by their crates: the first of each row that names none in must-fail/."""
+    found = {}
+    with open(TABLE, encoding="utf8") as lines:
+        for row in lines:
+            named = re.findall(r"\(\.\./crates/(\w+)/(must-fail|mutants)/(\w+)\.edit\)", row)
+            if row.startswith("|") and named and all(kind == "mutants" for _, kind, _ in named):
+                crate, _, edit = named[0]
+                found.setdefault(crate, []).append(edit)
+    return {crate: edits_of(crate, names) for crate, names in found.items()}
+
+
+def table():
+    """Tries the edits that the table names, two crates at a time. How many were not refused."""
+    found = of_table()
+    print(f"trying {sum(map(len, found.values()))} planted bugs of {len(found)} crates, each by a check of what it changes", flush=True)
+    for below in prove.in_order(prove.graph(), list(found)):
+        if below not in found and not os.path.exists(f"{TOP}/crates/{below}/out/rlib/{below}.rlib"):
+            sys.exit(f"there is no library of {below} in this tree: run rt ci first")
+    with concurrent.futures.ThreadPoolExecutor(min(2, os.cpu_count() or 1)) as pool:
+        return sum(pool.map(lambda name: tried(name, found[name], True), found))
+
+
 def main():
     words = argparse.ArgumentParser(description="Tries planted bugs.")
     words.add_argument("names", nargs="*", metavar="NAME")
     words.add_argument("--edits", nargs="+", default=["*"])
+    words.add_argument("--table", action="store_true")
     given = words.parse_args()
+    if given.table:
+        bad = table()
+        print(f"{bad} planted bugs of the table were not refused")
+        sys.exit(1 if bad else 0)
     names = given.names or [name for name in prove.graph() if edits_of(name, ["*"])]
     bad = 0
     for name in names:
         edits = edits_of(name, given.edits)
         if edits:
+            prove_first(name)
             bad += tried(name, edits)
     print(f"{bad} edits were not refused")
     sys.exit(1 if bad else 0)
