@@ -6,8 +6,9 @@
 Edits of different functions of a crate are planted together, in a copy of it, and judged by one check, which says of each function whether
 it is proved. An edit is named FUNCTION__WHAT.edit; it is refused where a function of that name, in a file that it changes, is not proved.
 Where all that the prover says of it is that the proof names what the edited function does not have, the verdict says so: perhaps another
-proof would pass. One that changes anything but code is tried alone. Where edits that are planted together do not compile, each half of them
-is tried. The crates below are proved first, and the crate itself, unless rt check or rt lib has done so in this tree.
+proof would pass. One that changes anything but code is tried alone. Where edits that are planted together do not compile, or a definition
+does not read, each half of them is tried. The crates below are proved first, and the crate itself, unless rt check or rt lib has done so
+in this tree.
 """
 import argparse
 import fnmatch
@@ -29,6 +30,8 @@ KIT = os.path.dirname(subprocess.run(["rt", "doc"], capture_output=True, text=Tr
 MANY = 24
 # What the prover says of a proof that names a fact or a goal which the function does not have.
 FORM = re.compile(r"has no field `|has no `[^`]*` that can be named from here")
+# What it says of a definition or a clause that does not read, as where it names what is not in scope.
+REJECTED = re.compile(r"(?m)^(?:\./)?specs/\S*:\d+:\d+: error: .*|its contract rests on `[^`]*`, which antt did not admit")
 
 
 class Edit:
@@ -136,11 +139,12 @@ class Crate:
         if texts is None:
             return {edits[0]: "BAD EDIT: its text does not stand there once"} if len(edits) == 1 else self.halves(edits)
         said = self.check(texts)
-        if not re.search(r"(?m)^logic=(proved|not-proved)", said):
+        rejected = REJECTED.search(said)
+        if rejected or not re.search(r"(?m)^logic=(proved|not-proved)", said):
             if len(edits) > 1:
                 return self.halves(edits)
             first = next((line for line in said.split("\n") if "error" in line), "the prover gave no verdict")
-            return {edits[0]: f"BAD EDIT: {first[:160]}"}
+            return {edits[0]: f"BAD EDIT: {(rejected.group() if rejected else first)[:160]}"}
         if len(edits) == 1:
             return {edits[0]: refused(said, edits[0].function) if "\nlogic=not-proved" in said else "NOT REFUSED"}
         # Of a function that only calls one that is not proved nothing is known: its edit is tried alone.
