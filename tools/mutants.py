@@ -100,12 +100,19 @@ def words_of(name):
     return words + ["--antt-project", f"{KIT}/rattle/logic/antt-project.json", "--logic-built", f"{KIT}/logic_built", "--links", f"{name}="]
 
 
+def errors_in(said):
+    """What the prover says is wrong in the answers of each function."""
+    errors = {}
+    for name, text in re.findall(r"(?m)^\S*/([^/\n]+)/Answers\.antt:\d+:\d+: error: (.*(?:\n  .*)*)", said):
+        errors.setdefault(name, []).append(text)
+    return errors
+
+
 def refused(said, function):
     """The verdict on an edit of a function that is not proved, by what the prover said of it."""
     if re.search(rf"(?m)^fn \S*\b{re.escape(function)}>?: .*`search` did not prove", said):
         return "refused"
-    errors = re.findall(r"(?m)^\S*/([^/\n]+)/Answers\.antt:\d+:\d+: error: (.*(?:\n  .*)*)", said)
-    own = [text for name, text in errors if name == function]
+    own = errors_in(said).get(function)
     return "refused, perhaps by the form of its proof alone" if own and all(FORM.search(text) for text in own) else "refused"
 
 
@@ -151,6 +158,8 @@ class Crate:
         unproved, calls = set(), set()
         for name, why in re.findall(r"(?m)^fn (\S+): ((?:not proved|no proof|could not tell).*)", said):
             (calls if re.match("no proof: it calls|not proved; it calls", why) else unproved).add(name.rsplit("::", 1)[-1].strip("<>"))
+        # But where its own answers are wrong, that is its own edit.
+        unproved |= {name for name, errors in errors_in(said).items() if not all("not admitted" in text for text in errors)}
         found = {edit: refused(said, edit.function) if edit.function in unproved else "NOT REFUSED" for edit in edits}
         for edit in edits:
             if edit.function in calls - unproved:
