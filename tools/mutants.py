@@ -101,9 +101,9 @@ def words_of(name):
 
 
 def errors_in(said):
-    """What the prover says is wrong in the answers of each function."""
+    """What the prover says is wrong in the answers and the invariants of each function."""
     errors = {}
-    for name, text in re.findall(r"(?m)^\S*/([^/\n]+)/Answers\.antt:\d+:\d+: error: (.*(?:\n  .*)*)", said):
+    for name, text in re.findall(r"(?m)^\S*/([^/\n]+)/(?:Answers|Invariants)\.antt:\d+:\d+: error: (.*(?:\n  .*)*)", said):
         errors.setdefault(name, []).append(text)
     return errors
 
@@ -158,7 +158,7 @@ class Crate:
         unproved, calls = set(), set()
         for name, why in re.findall(r"(?m)^fn (\S+): ((?:not proved|no proof|could not tell).*)", said):
             (calls if re.match("no proof: it calls|not proved; it calls", why) else unproved).add(name.rsplit("::", 1)[-1].strip("<>"))
-        # But where its own answers are wrong, that is its own edit.
+        # But where its own answers or invariants are wrong, that is its own edit.
         unproved |= {name for name, errors in errors_in(said).items() if not all("not admitted" in text for text in errors)}
         found = {edit: refused(said, edit.function) if edit.function in unproved else "NOT REFUSED" for edit in edits}
         for edit in edits:
