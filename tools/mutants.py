@@ -11,7 +11,7 @@ proof would pass. One that changes anything but code is tried alone. Where edits
 does not read, each half of them is tried. The crates below are proved first, and the crate itself, unless rt check or rt lib has done so
 in this tree.
 
-Of each row of the table that names none in must-fail/, which `rt ci` tries, it is the first. These are judged over the libraries that
+Of each row of the first table there that names none in must-fail/, which `rt ci` tries, it is the first. These are judged over the libraries that
 `rt ci` has left in this tree, by checks of the functions that they change and of what these call.
 """
 import argparse
@@ -251,14 +251,15 @@ def tried(name, edits, only=False):
 
 
 def of_table():
-    """The edits that the gate tries by the table, by their crates: the first of each row that names none in must-fail/."""
+    """The edits that the gate tries by the first table, by their crates: the first of each row that names none in must-fail/."""
     found = {}
-    with open(TABLE, encoding="utf8") as lines:
-        for row in lines:
-            named = re.findall(r"\(\.\./crates/(\w+)/(must-fail|mutants)/(\w+)\.edit\)", row)
-            if row.startswith("|") and named and all(kind == "mutants" for _, kind, _ in named):
-                crate, _, edit = named[0]
-                found.setdefault(crate, []).append(edit)
+    with open(TABLE, encoding="utf8") as text:
+        section = text.read().split("\n## Planted bugs\n")[1].split("\n#")[0]
+    for row in section.split("\n"):
+        named = re.findall(r"\(\.\./crates/(\w+)/(must-fail|mutants)/(\w+)\.edit\)", row)
+        if named and all(kind == "mutants" for _, kind, _ in named):
+            crate, _, edit = named[0]
+            found.setdefault(crate, []).append(edit)
     return {crate: edits_of(crate, names) for crate, names in found.items()}
 
 
