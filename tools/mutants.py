@@ -11,8 +11,8 @@ proof would pass. One that changes anything but code is tried alone. Where edits
 does not read, each half of them is tried. The crates below are proved first, and the crate itself, unless rt check or rt lib has done so
 in this tree.
 
-Of each row of the first table there that names none in must-fail/, which `rt ci` tries, it is the first. These are judged over the libraries that
-`rt ci` has left in this tree, by checks of the functions that they change and of what these call.
+With --table they are the first of each row of the first table there that names none in must-fail/, which `rt ci` tries. They are judged
+over the libraries that `rt ci` has left in this tree, by checks of the functions that they change and of what these call.
 """
 import argparse
 import concurrent.futures
