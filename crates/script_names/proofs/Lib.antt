@@ -4,3 +4,4 @@ pub mod Shared
 pub mod Known
 pub mod LeftOut
 pub mod Fails
+pub mod Few

@@ -143,6 +143,15 @@ past_decl (Binds l) at = suc at
 past_decl (Acts a) at = past_actor a at
 past_decl (Roots r) at = suc (suc (suc at))
 
+-- how many names come up to the end of declarations, where `at` come before them
+abbrev pub past_decls : List DeclTree → ℕ → ℕ
+past_decls [] at = at
+past_decls (x ∷ xs) at = past_decls xs (past_decl x at)
+
+-- how many names a script has: those that are declared, and each where it is used
+abbrev pub names_in : List DeclTree → ℕ
+names_in decls = past_decls decls 0
+
 -- A name that is read or set is a field or a number.
 abbrev pub number_fault : Option NameKind → Option NameErrorKind
 number_fault None = Some Unknown

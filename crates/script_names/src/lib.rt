@@ -37,7 +37,7 @@ mod texts;
 pub use declarations::check;
 pub use directory::Declared;
 pub use error::{CheckError, NameError, NameErrorKind};
-pub use laws::names_errors_are_complete;
+pub use laws::{names_are_few, names_errors_are_complete};
 pub use scope::{NameKind, Outside, Scope};
 pub use seed::Seed;
 pub use texts::Names;
