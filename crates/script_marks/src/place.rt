@@ -6,7 +6,7 @@ ghost use Rattle.script_grammar.specs.Tree.{view_decl};
 ghost use Rattle.script_grammar.specs.Grammar.{IsScript};
 ghost use Rattle.script_grammar.specs.Size.{script_size};
 ghost use Rattle.script_names.specs.Directory.{directory_of};
-ghost use Rattle.script_names.specs.Rules.{names_error};
+ghost use Rattle.script_names.specs.Rules.{names_in, names_error};
 ghost use Rattle.script_parser.specs.declared.limits.TheConstants.{NESTING};
 ghost use Rattle.script_printing.specs.Script.{script_in};
 ghost use Rattle.script_tokens.specs.Lexes.{Lexes};
@@ -88,6 +88,7 @@ fn in_names(
 ) -> Result<Option<Failure>, AllocError>
     requires spelled { IsScript NESTING (map piece tokens.now) (map view_decl decls.now) }
     requires size { script_size (map view_decl decls.now) ≤ BYTES }
+    requires few { names_in (map view_decl decls.now) ≤ BYTES }
     ensures { (text : List ℕ) → Lexes text (map piece tokens.now) → IfOk result (λ found. IfSome found (λ f. FailsAt f.kind text f.place)) }
 {
     match check(alloc, seed, decls) {

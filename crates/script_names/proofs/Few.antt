@@ -1,5 +1,5 @@
 -- A script has no more names than tokens.
-use Rattle.std.proofs.Common.{ℕ, ◌≤◌, ◌+◌, suc, None, Some, Option, List, [], ◌∷◌, ◌++◌, length, ap, arith, length-append}
+use Rattle.std.proofs.Common.{ℕ, ◌≤◌, ◌+◌, suc, Option, List, [], ◌∷◌, ◌++◌, length, ap, arith, length-append}
 use Rattle.script_tokens.specs.declared.mark.Mark.TheVariants as mark
 use Rattle.script_tokens.specs.declared.keyword.Keyword.TheVariants as key
 use Rattle.script_tokens.specs.Pieces.{TokenView, Key, Sign}

@@ -4,4 +4,6 @@ pub mod Shared
 pub mod Known
 pub mod LeftOut
 pub mod Fails
+pub mod Grows
 pub mod Few
+pub mod Parts

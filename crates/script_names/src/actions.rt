@@ -1,6 +1,7 @@
 //! Names inside statements without a block.
 
-ghost use Rattle.std.specs.Prelude.{◌≡◌, None, suc, IfOk, OnOk};
+ghost use Rattle.std.specs.Prelude.{◌≡◌, ◌<◌, ◌≤◌, None, suc, IfOk, OnOk};
+ghost use Rattle.swift_types.specs.declared.limits.TheConstants.{BYTES};
 ghost use Rattle.script_grammar.specs.Tree.{Do, text_of, view_action};
 ghost use Rattle.script_names.specs.Scope.{meaning_of};
 ghost use Rattle.script_names.specs.Rules.{at_name, new_fault, group_fault, bind_fault, or_else, past_action, action_error, scope_after};
@@ -16,6 +17,7 @@ use std::alloc::Global;
 
 /// A new name does not stand there yet.
 pub(crate) fn new_name(scope: &Scope<'_>, at: u32, name: &Name) -> Result<u32, CheckError>
+    requires { at < BYTES }
     ensures finds { Finds result (at_name at (new_fault (meaning_of scope.now (text_of name.now)))) }
     ensures after { IfOk result (λ n. n ≡ suc at) }
     ensures new { OnOk result (meaning_of scope.now (text_of name.now) ≡ None) }
@@ -34,12 +36,14 @@ fn add_fault(scope: &Scope<'_>, group: &Name) -> Option<NameErrorKind>
 }
 
 /// The names of a statement without a block are in order. A variable that it makes stands after it.
+#[tactic(auto, using(crate::proofs::Grows::value_grows, crate::proofs::Grows::make_grows))]
 pub(crate) fn action(
     alloc: Global,
     scope: &mut Scope<'_>,
     at: u32,
     action: &Action,
 ) -> Result<u32, CheckError>
+    requires { past_action (view_action action.now) at ≤ BYTES }
     ensures finds { Finds result (action_error scope.old at (view_action action.now)) }
     ensures after { IfOk result (λ n. n ≡ past_action (view_action action.now) at) }
     ensures scope { OnOk result (scope.new ≡ scope_after scope.old (Do (view_action action.now))) }

@@ -1,6 +1,7 @@
 //! Names inside actors.
 
-ghost use Rattle.std.specs.Prelude.{◌≡◌, [], map, suc, IfOk, OnOk};
+ghost use Rattle.std.specs.Prelude.{◌≡◌, ◌≤◌, [], map, suc, IfOk, OnOk};
+ghost use Rattle.swift_types.specs.declared.limits.TheConstants.{BYTES};
 ghost use Rattle.script_grammar.specs.Tree.{text_of, text_if, view_if, view_field, view_method, view_actor, Acts};
 ghost use Rattle.script_names.specs.Scope.{fields_alone};
 ghost use Rattle.script_names.specs.Rules.{past_names, past_name_if, past_method, past_methods, past_fields, past_if, past_actor, repeat_error, parameters_error, with_parameters, method_error, methods_error, fields_error, on_error, optional_error, actor_error, seen_after};
@@ -27,6 +28,7 @@ fn parameters(
     at: u32,
     params: &[Name],
 ) -> Result<u32, CheckError>
+    requires { past_names (map text_of params.now) at ≤ BYTES }
     ensures finds { Finds result (parameters_error scope.old at (map text_of params.now)) }
     ensures after { IfOk result (λ n. n ≡ past_names (map text_of params.now) at) }
     ensures scope { OnOk result (scope.new ≡ with_parameters scope.old (map text_of params.now)) }
@@ -39,6 +41,7 @@ fn parameters(
     Ok(at)
 }
 
+#[tactic(auto, using(crate::proofs::Grows::block_grows))]
 fn method(
     alloc: Global,
     declared: &Declared,
@@ -47,6 +50,7 @@ fn method(
     at: u32,
     method: &Method,
 ) -> Result<u32, CheckError>
+    requires { past_method (view_method method.now) at ≤ BYTES }
     ensures finds { Finds result (method_error (fields_alone declared.now actor) seen.now at (view_method method.now)) }
     ensures after { IfOk result (λ n. n ≡ past_method (view_method method.now) at) }
 {
@@ -64,6 +68,7 @@ fn methods(
     at: u32,
     methods: &[Method],
 ) -> Result<u32, CheckError>
+    requires { past_methods (map view_method methods.now) at ≤ BYTES }
     ensures finds { Finds result (methods_error (fields_alone declared.now actor) [] at (map view_method methods.now)) }
     ensures after { IfOk result (λ n. n ≡ past_methods (map view_method methods.now) at) }
 {
@@ -78,6 +83,7 @@ fn methods(
 
 // The fields of an actor are distinct.
 fn fields(alloc: Global, seed: Seed, at: u32, fields: &[Field]) -> Result<u32, CheckError>
+    requires { past_fields (map view_field fields.now) at ≤ BYTES }
     ensures finds { Finds result (fields_error [] at (map view_field fields.now)) }
     ensures after { IfOk result (λ n. n ≡ past_fields (map view_field fields.now) at) }
 {
@@ -92,6 +98,7 @@ fn fields(alloc: Global, seed: Seed, at: u32, fields: &[Field]) -> Result<u32, C
 
 // An actor runs on an executor that is declared.
 fn on(declared: &Declared, at: u32, executor: &Option<Name>) -> Result<u32, CheckError>
+    requires { past_name_if (text_if executor.now) at ≤ BYTES }
     ensures finds { Finds result (on_error declared.now at (text_if executor.now)) }
     ensures after { IfOk result (λ n. n ≡ past_name_if (text_if executor.now) at) }
 {
@@ -109,6 +116,7 @@ fn invariant(
     at: u32,
     test: &Option<Expr>,
 ) -> Result<u32, CheckError>
+    requires { past_if (view_if test.now) at ≤ BYTES }
     ensures finds { Finds result (optional_error (fields_alone declared.now actor) at (view_if test.now)) }
     ensures after { IfOk result (λ n. n ≡ past_if (view_if test.now) at) }
 {
@@ -117,6 +125,7 @@ fn invariant(
 }
 
 /// Actors are distinct, also from executors, and not too many. An invariant names fields alone.
+#[tactic(auto, using(crate::proofs::Grows::name_if_grows, crate::proofs::Grows::fields_grow, crate::proofs::Grows::if_grows, crate::proofs::Grows::methods_grow))]
 pub(crate) fn actor(
     alloc: Global,
     declared: &Declared,
@@ -124,6 +133,7 @@ pub(crate) fn actor(
     at: u32,
     actor: &Actor,
 ) -> Result<u32, CheckError>
+    requires { past_actor (view_actor actor.now) at ≤ BYTES }
     ensures finds { Finds result (actor_error declared.now seen.old at (view_actor actor.now)) }
     ensures after { IfOk result (λ n. n ≡ past_actor (view_actor actor.now) at) }
     ensures seen { OnOk result (seen.new ≡ seen_after seen.old (Acts (view_actor actor.now))) }

@@ -1,6 +1,7 @@
 //! Names inside blocks, and what stands in each.
 
-ghost use Rattle.std.specs.Prelude.{◌≡◌, suc, map, IfOk, OnOk};
+ghost use Rattle.std.specs.Prelude.{◌≡◌, ◌<◌, ◌≤◌, suc, map, IfOk, OnOk};
+ghost use Rattle.swift_types.specs.declared.limits.TheConstants.{BYTES};
 ghost use Rattle.script_grammar.specs.Tree.{Assume, text_of, view_head, view_stmt, block_tree};
 ghost use Rattle.script_names.specs.Rules.{at_name, assume_fault, past_head, past_stmt, past_block, head_error, stmt_error, block_error, scope_within, scope_after};
 ghost use Rattle.script_names.specs.Finds.{Finds};
@@ -17,6 +18,7 @@ use std::alloc::Global;
 // place of those of the actor before. It takes time linear in those fields or in the names of the method that are new
 // since the last `assume` of that actor, whichever are fewer.
 fn assume(scope: &mut Scope<'_>, at: u32, actor: &Name) -> Result<u32, CheckError>
+    requires { at < BYTES }
     ensures finds { Finds result (at_name at (assume_fault scope.old (text_of actor.now))) }
     ensures after { IfOk result (λ n. n ≡ suc at) }
     ensures within { OnOk result (scope.new ≡ scope_within scope.old (Assume (text_of actor.now))) }
@@ -32,6 +34,7 @@ fn assume(scope: &mut Scope<'_>, at: u32, actor: &Name) -> Result<u32, CheckErro
 
 // The names of a block's head are in order. From then on stands what stands in the block.
 fn head(alloc: Global, scope: &mut Scope<'_>, at: u32, head: &Head) -> Result<u32, CheckError>
+    requires { past_head (view_head head.now) at ≤ BYTES }
     ensures finds { Finds result (head_error scope.old at (view_head head.now)) }
     ensures after { IfOk result (λ n. n ≡ past_head (view_head head.now) at) }
     ensures within { OnOk result (scope.new ≡ scope_within scope.old (view_head head.now)) }
@@ -57,6 +60,7 @@ fn head(alloc: Global, scope: &mut Scope<'_>, at: u32, head: &Head) -> Result<u3
 // The names of a statement are in order. What it makes stands after it.
 #[cycle(block)]
 fn statement(alloc: Global, scope: &mut Scope<'_>, at: u32, stmt: &Stmt) -> Result<u32, CheckError>
+    requires { past_stmt (view_stmt stmt.now) at ≤ BYTES }
     ensures finds { Finds result (stmt_error scope.old at (view_stmt stmt.now)) }
     ensures after { IfOk result (λ n. n ≡ past_stmt (view_stmt stmt.now) at) }
     ensures scope { OnOk result (scope.new ≡ scope_after scope.old (view_stmt stmt.now)) }
@@ -86,6 +90,7 @@ pub(crate) fn block(
     at: u32,
     block: &[Stmt],
 ) -> Result<u32, CheckError>
+    requires { past_block (block_tree (map view_stmt block.now)) at ≤ BYTES }
     ensures finds { Finds result (block_error scope.old at (block_tree (map view_stmt block.now))) }
     ensures after { IfOk result (λ n. n ≡ past_block (block_tree (map view_stmt block.now)) at) }
     ensures scope { OnOk result (scope.new ≡ scope.old) }

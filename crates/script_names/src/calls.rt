@@ -1,6 +1,7 @@
 //! Names inside calls, waits and tasks that are made.
 
-ghost use Rattle.std.specs.Prelude.{◌≡◌, suc, IfOk};
+ghost use Rattle.std.specs.Prelude.{◌≡◌, ◌≤◌, suc, IfOk};
+ghost use Rattle.swift_types.specs.declared.limits.TheConstants.{BYTES};
 ghost use Rattle.script_grammar.specs.Tree.{text_of, view_call, view_awaited, view_wait, view_value, view_make};
 ghost use Rattle.script_names.specs.Rules.{past_call, past_awaited, past_wait, past_value, past_make, target_error, call_error, awaited_error, wait_error, value_error, make_error};
 ghost use Rattle.script_names.specs.Finds.{Finds};
@@ -23,6 +24,7 @@ pub(crate) fn target(
     method: &Name,
     count: usize,
 ) -> Result<u32, CheckError>
+    requires { suc (suc at) ≤ BYTES }
     ensures finds { Finds result (target_error declared.now at (text_of actor.now) (text_of method.now) count) }
     ensures after { IfOk result (λ n. n ≡ suc (suc at)) }
 {
@@ -42,6 +44,7 @@ pub(crate) fn call(
     at: u32,
     call: &Call,
 ) -> Result<u32, CheckError>
+    requires { past_call (view_call call.now) at ≤ BYTES }
     ensures finds { Finds result (call_error scope.now at (view_call call.now)) }
     ensures after { IfOk result (λ n. n ≡ past_call (view_call call.now) at) }
 {
@@ -63,6 +66,7 @@ fn check_awaited(
     at: u32,
     awaited: &Awaited,
 ) -> Result<u32, CheckError>
+    requires { past_awaited (view_awaited awaited.now) at ≤ BYTES }
     ensures finds { Finds result (awaited_error scope.now at (view_awaited awaited.now)) }
     ensures after { IfOk result (λ n. n ≡ past_awaited (view_awaited awaited.now) at) }
 {
@@ -83,6 +87,7 @@ pub(crate) fn wait(
     at: u32,
     wait: &Wait,
 ) -> Result<u32, CheckError>
+    requires { past_wait (view_wait wait.now) at ≤ BYTES }
     ensures finds { Finds result (wait_error scope.now at (view_wait wait.now)) }
     ensures after { IfOk result (λ n. n ≡ past_wait (view_wait wait.now) at) }
 {
@@ -97,6 +102,7 @@ pub(crate) fn value(
     at: u32,
     value: &Value,
 ) -> Result<u32, CheckError>
+    requires { past_value (view_value value.now) at ≤ BYTES }
     ensures finds { Finds result (value_error scope.now at (view_value value.now)) }
     ensures after { IfOk result (λ n. n ≡ past_value (view_value value.now) at) }
 {
@@ -113,6 +119,7 @@ pub(crate) fn make(
     at: u32,
     make: &Make,
 ) -> Result<u32, CheckError>
+    requires { past_make (view_make make.now) at ≤ BYTES }
     ensures finds { Finds result (make_error scope.now at (view_make make.now)) }
     ensures after { IfOk result (λ n. n ≡ past_make (view_make make.now) at) }
 {

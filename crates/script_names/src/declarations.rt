@@ -1,9 +1,10 @@
 //! Names of declarations, and whole scripts.
 
-ghost use Rattle.std.specs.Prelude.{◌≡◌, [], map, suc, IfOk, OnOk};
+ghost use Rattle.std.specs.Prelude.{◌≡◌, ◌<◌, ◌≤◌, [], map, suc, IfOk, OnOk};
+ghost use Rattle.swift_types.specs.declared.limits.TheConstants.{BYTES};
 ghost use Rattle.script_grammar.specs.Tree.{view_executor, view_local, view_root, view_decl, Executes, Binds, Roots};
 ghost use Rattle.script_names.specs.Directory.{directory_of};
-ghost use Rattle.script_names.specs.Rules.{past_decl, kind_error, executor_error, root_error, repeat_error, decl_error, seen_after, declarations_error, names_error};
+ghost use Rattle.script_names.specs.Rules.{past_decl, names_in, kind_error, executor_error, root_error, repeat_error, decl_error, seen_after, declarations_error, names_error};
 ghost use Rattle.script_names.specs.Finds.{Finds};
 
 use crate::actors::actor;
@@ -20,6 +21,7 @@ use swift_types::limits::{EXECUTORS, TASKS, WORKERS};
 
 // A worker's number is below the greatest number of workers.
 fn kind(at: u32, kind: ExecutorKind) -> Result<u32, CheckError>
+    requires { at < BYTES }
     ensures finds { Finds result (kind_error at kind) }
     ensures after { IfOk result (λ n. n ≡ suc at) }
 {
@@ -37,6 +39,7 @@ fn executor(
     at: u32,
     executor: &Executor,
 ) -> Result<u32, CheckError>
+    requires { at < BYTES }
     ensures finds { Finds result (executor_error seen.old at (view_executor executor.now)) }
     ensures after { IfOk result (λ n. n ≡ suc at) }
     ensures seen { OnOk result (seen.new ≡ seen_after seen.old (Executes (view_executor executor.now))) }
@@ -52,6 +55,7 @@ fn executor(
 
 // Task locals are distinct.
 fn local(alloc: Global, seen: &mut SeenNames, at: u32, local: &Local) -> Result<u32, CheckError>
+    requires { at < BYTES }
     ensures finds { Finds result (repeat_error seen.old.locals at (view_local local.now).name) }
     ensures after { IfOk result (λ n. n ≡ suc at) }
     ensures seen { OnOk result (seen.new ≡ seen_after seen.old (Binds (view_local local.now))) }
@@ -69,6 +73,7 @@ fn root(
     at: u32,
     root: &Root,
 ) -> Result<u32, CheckError>
+    requires { past_decl (Roots (view_root root.now)) at ≤ BYTES }
     ensures finds { Finds result (root_error declared.now seen.old at (view_root root.now)) }
     ensures after { IfOk result (λ n. n ≡ past_decl (Roots (view_root root.now)) at) }
     ensures seen { OnOk result (seen.new ≡ seen_after seen.old (Roots (view_root root.now))) }
@@ -96,6 +101,7 @@ fn declaration(
     at: u32,
     decl: &Decl,
 ) -> Result<u32, CheckError>
+    requires { past_decl (view_decl decl.now) at ≤ BYTES }
     ensures finds { Finds result (decl_error declared.now seen.old at (view_decl decl.now)) }
     ensures after { IfOk result (λ n. n ≡ past_decl (view_decl decl.now) at) }
     ensures seen { OnOk result (seen.new ≡ seen_after seen.old (view_decl decl.now)) }
@@ -109,6 +115,7 @@ fn declaration(
 }
 
 fn declarations(alloc: Global, declared: &Declared, decls: &[Decl]) -> Result<(), CheckError>
+    requires { names_in (map view_decl decls.now) ≤ BYTES }
     ensures { Finds result (declarations_error declared.now (record { places = []; locals = []; roots = []; executors = 0; actors = 0 }) 0 (map view_decl decls.now)) }
 {
     let mut seen = SeenNames::nothing(alloc, declared.seed());
@@ -128,6 +135,8 @@ fn declarations(alloc: Global, declared: &Declared, decls: &[Decl]) -> Result<()
 /// inside a `bind`, the actor or the method of a call, and for a wrong number of arguments the method. For the number
 /// after `pinned` it stands at the executor's name. The rules are our own.
 pub fn check(alloc: Global, seed: Seed, decls: &[Decl]) -> Result<Declared, CheckError>
+    // They have no more names than a text may have bytes, so each is counted in 32 bits.
+    requires few { names_in (map view_decl decls.now) ≤ BYTES }
     // It is the first error, with its place, and there is none where it answers Ok, unless memory runs out.
     ensures finds { Finds result (names_error (map view_decl decls.now)) }
     // What is handed out is what the script declares.

@@ -1,6 +1,7 @@
 //! Names inside expressions.
 
-ghost use Rattle.std.specs.Prelude.{◌≡◌, map, IfOk};
+ghost use Rattle.std.specs.Prelude.{◌≡◌, ◌≤◌, map, IfOk};
+ghost use Rattle.swift_types.specs.declared.limits.TheConstants.{BYTES};
 ghost use Rattle.script_grammar.specs.Tree.{view, view_if};
 ghost use Rattle.script_names.specs.Rules.{past, past_all, past_if, expression_error, expressions_error, optional_error};
 ghost use Rattle.script_names.specs.Finds.{Finds};
@@ -13,6 +14,7 @@ use script_grammar::Expr;
 /// Each name of an expression stands there, as a field or a number. The answer is how many names stand before what
 /// follows the expression.
 pub(crate) fn expression(scope: &Scope<'_>, at: u32, expr: &Expr) -> Result<u32, CheckError>
+    requires { past (view expr.now) at ≤ BYTES }
     ensures finds { Finds result (expression_error scope.now at (view expr.now)) }
     ensures after { IfOk result (λ n. n ≡ past (view expr.now) at) }
 {
@@ -33,6 +35,7 @@ pub(crate) fn expression(scope: &Scope<'_>, at: u32, expr: &Expr) -> Result<u32,
 
 /// Each of these expressions is in order.
 pub(crate) fn expressions(scope: &Scope<'_>, at: u32, exprs: &[Expr]) -> Result<u32, CheckError>
+    requires { past_all (map view exprs.now) at ≤ BYTES }
     ensures finds { Finds result (expressions_error scope.now at (map view exprs.now)) }
     ensures after { IfOk result (λ n. n ≡ past_all (map view exprs.now) at) }
 {
@@ -45,6 +48,7 @@ pub(crate) fn expressions(scope: &Scope<'_>, at: u32, exprs: &[Expr]) -> Result<
 
 /// The expression is in order, if there is one.
 pub(crate) fn optional(scope: &Scope<'_>, at: u32, expr: &Option<Expr>) -> Result<u32, CheckError>
+    requires { past_if (view_if expr.now) at ≤ BYTES }
     ensures finds { Finds result (optional_error scope.now at (view_if expr.now)) }
     ensures after { IfOk result (λ n. n ≡ past_if (view_if expr.now) at) }
 {

@@ -1,6 +1,7 @@
 //! What is wrong with a name, by what stands under it.
 
-ghost use Rattle.std.specs.Prelude.{◌≡◌, suc, is_some, if◌then◌else◌, IfOk};
+ghost use Rattle.std.specs.Prelude.{◌≡◌, ◌<◌, suc, is_some, if◌then◌else◌, IfOk};
+ghost use Rattle.swift_types.specs.declared.limits.TheConstants.{BYTES};
 ghost use Rattle.script_names.specs.declared.error.NameErrorKind.TheVariants.{Unknown};
 ghost use Rattle.script_names.specs.Rules.{at_name, number_fault, group_fault, root_fault, task_fault, cancel_fault, new_fault, where_so};
 ghost use Rattle.script_names.specs.Finds.{Finds};
@@ -8,26 +9,15 @@ ghost use Rattle.script_names.specs.Finds.{Finds};
 use crate::error::{CheckError, NameErrorKind};
 use crate::scope::NameKind;
 
-/// How many names stand before what follows a name. The trees of more names than a `u32` counts don't fit into memory,
-/// so the answer is then the one for a growth that was refused.
-pub(crate) fn next(at: u32) -> Result<u32, CheckError>
-    ensures finds { Finds result None }
-    ensures after { IfOk result (λ n. n ≡ suc at) }
-{
-    match at.checked_add(1) {
-        Some(after) => Ok(after),
-        None => Err(CheckError::Memory),
-    }
-}
-
 /// The error at a name, if something is wrong with it, and else how many names stand before what follows it.
 pub(crate) fn at_name(at: u32, fault: Option<NameErrorKind>) -> Result<u32, CheckError>
+    requires { at < BYTES }
     ensures finds { Finds result (at_name at fault) }
     ensures after { IfOk result (λ n. n ≡ suc at) }
 {
     match fault {
         Some(kind) => Err(CheckError::at(kind, at)),
-        None => next(at),
+        None => Ok(at + 1),
     }
 }
 

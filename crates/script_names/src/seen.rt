@@ -1,6 +1,7 @@
 //! What stands before a declaration.
 
-ghost use Rattle.std.specs.Prelude.{◌≡◌, [], suc, IfOk};
+ghost use Rattle.std.specs.Prelude.{◌≡◌, ◌<◌, [], suc, IfOk};
+ghost use Rattle.swift_types.specs.declared.limits.TheConstants.{BYTES};
 ghost use Rattle.script_grammar.specs.Tree.{text_of};
 ghost use Rattle.script_names.specs.Rules.{repeat_error};
 ghost use Rattle.script_names.specs.Finds.{Finds};
@@ -63,6 +64,7 @@ impl SeenNames {
 
 /// The name is none of those.
 pub(crate) fn unless_seen(seen: &Names, at: u32, name: &Name) -> Result<u32, CheckError>
+    requires { at < BYTES }
     ensures finds { Finds result (repeat_error seen.now at (text_of name.now)) }
     ensures after { IfOk result (λ n. n ≡ suc at) }
 {

@@ -4,6 +4,7 @@ ghost use Rattle.std.specs.Prelude.{◌≡◌, ◌<◌, ◌≤◌, ℕ, List, Is
 ghost use Rattle.swift_types.specs.declared.limits.TheConstants.{BYTES};
 ghost use Rattle.script_grammar.specs.Size.{script_size};
 ghost use Rattle.script_grammar.specs.Tree.{DeclTree};
+ghost use Rattle.script_names.specs.Rules.{names_in};
 ghost use Rattle.script_code.specs.Value.{holds};
 ghost use Rattle.script_printing.specs.Script.{ScriptView};
 ghost use Rattle.script_printing.specs.Printed.{printed};
@@ -31,4 +32,11 @@ pub fn invariants_hold_at_the_start()
 pub fn scripts_are_short()
     ensures text { (limit : ℕ) (text : List ℕ) (decls : List DeclTree) → SpellsDecls limit text decls → script_size decls ≤ length text }
     ensures bytes { (limit : ℕ) (text : List ℕ) (decls : List DeclTree) → IsPlain text → SpellsDecls limit text decls → script_size decls ≤ BYTES }
+{}
+
+/// A law: a script has no more names than the text that spells it has bytes, whatever the limit of nesting, and so no more
+/// than a text may have bytes.
+pub fn names_are_few()
+    ensures text { (limit : ℕ) (text : List ℕ) (decls : List DeclTree) → SpellsDecls limit text decls → names_in decls ≤ length text }
+    ensures bytes { (limit : ℕ) (text : List ℕ) (decls : List DeclTree) → IsPlain text → SpellsDecls limit text decls → names_in decls ≤ BYTES }
 {}

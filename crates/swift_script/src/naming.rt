@@ -1,9 +1,10 @@
 //! The rules on names and counts.
 
-ghost use Rattle.std.specs.Prelude.{◌≡◌, ℕ, List, None, map, IfOk, IfErr};
+ghost use Rattle.std.specs.Prelude.{◌≡◌, ◌≤◌, ℕ, List, None, map, IfOk, IfErr};
+ghost use Rattle.swift_types.specs.declared.limits.TheConstants.{BYTES};
 ghost use Rattle.script_grammar.specs.Tree.{view_decl};
 ghost use Rattle.script_names.specs.Directory.{directory_of};
-ghost use Rattle.script_names.specs.Rules.{names_error};
+ghost use Rattle.script_names.specs.Rules.{names_in, names_error};
 ghost use Rattle.swift_script.specs.FaultLines.{IsAtItsLine, past_name};
 ghost use Rattle.swift_script.specs.Refuses.{Refuses};
 ghost use Rattle.swift_script.specs.SpelledInside.{IsSpelled, names_kind, check_kind, check_line};
@@ -23,6 +24,7 @@ pub(crate) fn check_names(
     decls: &[Decl],
     tokens: &Tokens,
 ) -> Result<Declared, ScriptFault>
+    requires { names_in (map view_decl decls.now) ≤ BYTES }
     ensures names { IfOk result (λ d. names_error (map view_decl decls.now) ≡ None) }
     ensures directory { IfOk result (λ d. d ≡ directory_of (map view_decl decls.now)) }
     ensures refused { (text : List ℕ) → IsSpelled text (map view_decl decls.now) tokens.now → IfErr result (λ e. Refuses e.kind text) }

@@ -1,6 +1,14 @@
-use Rattle.std.proofs.Common.{arith}
+use Rattle.std.proofs.Common.{suc, ap, arith}
 use Rattle.std.proofs.lemmas.Grind.{common_steps}
+use Rattle.script_grammar.specs.declared.statement.Action.{Action}
+use Rattle.script_grammar.specs.Tree.{view_action, view_call}
+use Rattle.script_names.specs.Rules.{past_action}
+use Rattle.script_names.proofs.Grows.{call_grows}
 use Rattle.script_names.proofs.actions.action.Goals as goal
+
+pub at_name-requires-in-Add : goal.at_name-requires-in-Add
+at_name-requires-in-Add c =
+    omega (arith, c.requires, ap (λ (a : Action). past_action (view_action a) c.args.at) c.in-Add.is, call_grows (view_call c.in-Add.child.call) (suc c.args.at))
 
 pub returns-in-Return-clause-finds : goal.returns-in-Return-clause-finds
 returns-in-Return-clause-finds c = grind (arith, common_steps)

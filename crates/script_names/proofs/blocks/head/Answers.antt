@@ -1,6 +1,14 @@
-use Rattle.std.proofs.Common.{arith}
+use Rattle.std.proofs.Common.{suc, ap, arith}
 use Rattle.std.proofs.lemmas.Grind.{common_steps}
+use Rattle.script_grammar.specs.declared.statement.Head.{Head}
+use Rattle.script_grammar.specs.Tree.{view, view_head}
+use Rattle.script_names.specs.Rules.{past_head}
+use Rattle.script_names.proofs.Grows.{grows}
 use Rattle.script_names.proofs.blocks.head.Goals as goal
+
+pub at_name-requires : goal.at_name-requires
+at_name-requires c =
+    omega (arith, c.requires, ap (λ (h : Head). past_head (view_head h) c.args.at) c.in-Bind.is, grows (view c.in-Bind.set_to) (suc c.args.at))
 
 pub returns-in-If-clause-finds : goal.returns-in-If-clause-finds
 returns-in-If-clause-finds c = grind (arith, common_steps)

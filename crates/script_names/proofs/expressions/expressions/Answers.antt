@@ -1,7 +1,9 @@
-use Rattle.std.proofs.Common.{map, sym, ◌∙◌, arith}
+use Rattle.std.proofs.Common.{◌≡◌, suc, List, drop, map, sym, ◌∙◌, arith}
 use Rattle.std.proofs.lemmas.List.{at_drop_all}
 use Rattle.script_grammar.specs.Tree.{view}
-use Rattle.script_names.specs.Rules.{expressions_error, past_all}
+use Rattle.script_names.specs.Rules.{expressions_error, past, past_all}
+use Rattle.script_grammar.specs.declared.expression.Expr.{Expr}
+use Rattle.script_names.proofs.Grows.{all_grow, from_next}
 use Rattle.script_names.proofs.expressions.expressions.Goals as goal
 
 pub returns-clause-finds : goal.returns-clause-finds
@@ -11,3 +13,11 @@ returns-clause-finds c =
 pub returns-clause-after : goal.returns-clause-after
 returns-clause-after c =
     sym (at_drop_all (λ es. past_all (map view es) c.loop-expr.at) c.args.exprs.now c.loop-expr.expr-index (omega (arith, c.loop-expr-test.false))) ∙ c.loop-expr.invariant.1
+
+pub expression-requires : goal.expression-requires
+expression-requires c =
+    let x = c.expr-item.result in
+    let xs = c.args.exprs.now in
+    let i = c.loop-expr.expr-index in
+    let here = from_next (λ (ys : List Expr). past_all (map view ys) c.loop-expr.at ≡ past_all (map view xs) c.args.at) xs i x c.loop-expr-test.true c.expr-item.is c.loop-expr.invariant.1 in
+    omega (arith, c.requires, here, all_grow (map view (drop (suc i) xs)) (past (view x) c.loop-expr.at))
