@@ -1,7 +1,8 @@
 -- A list of levels: filled from the first task on, and which events leave it as it is.
-use Rattle.std.proofs.Common.{◌≡◌, ℕ, zero, suc, ◌<◌, ◌≤◌, List, [], ◌∷◌, ◌++◌, length, get_or, refl, sym, ◌∙◌, ap, arith, subst, inl, inr, length-append}
+use Rattle.std.proofs.Common.{◌≡◌, ℕ, zero, suc, ◌<◌, ◌≤◌, List, [], ◌∷◌, ◌++◌, length, take, take_all, get_or, refl, sym, ◌∙◌, ap, arith, subst, inl, inr, length-append}
 use Rattle.std.specs.Prelude.{slice_index_or, Option, Some, None, IsSome, is_some}
 use Rattle.std.proofs.lemmas.Bool.{cases_lt, false≢true}
+use Rattle.std.proofs.lemmas.List.{take-append-le}
 use Rattle.swift_types.specs.Priority.{rank}
 use Rattle.swift_types.specs.declared.id.TaskId.{TaskId}
 use Rattle.swift_types.specs.declared.priority.Priority.{Priority}
@@ -14,7 +15,7 @@ use Rattle.swift_events.specs.Lives.{life_of, origin_in}
 use Rattle.swift_events.specs.Relations.{link_in, links_of}
 use Rattle.swift_events.proofs.LogLemmas.{origin-push, links_of-push_some, links_of-push_none}
 use Rattle.swift_ledger.specs.Ledgers.{IsMade}
-use Rattle.swift_ledger.specs.Levels.{IsLevel, AreLevels}
+use Rattle.swift_ledger.specs.Levels.{IsLevel, AreLevels, HaveStayed}
 use Rattle.swift_ledger.proofs.LinkLemmas.{made_known}
 use Rattle.swift_ledger.proofs.WaitLemmas.{priority_stays}
 
@@ -95,3 +96,15 @@ levels_at_wait log u t l m ls u_made t_made u_level t_level le are =
       each = λ x. level_at_wait log u t waiter.0 awaited.0 waiter.1 awaited.1 urgent x (slice_index_or ls x.0 0) (are.each x);
       few = are.few;
     }
+
+-- nothing has changed since all events
+pub stayed_now : (log : List Event) (n : ℕ) → length log ≤ n → HaveStayed log n
+stayed_now log n all k most levels are = subst (λ (es : List Event). AreLevels es levels) (take_all k log (omega (arith, all, most))) are
+
+-- one more event, by which no level changes
+pub stayed_on : (log : List Event) (e : Event) (n : ℕ) → ((levels : List ℕ) → AreLevels log levels → AreLevels (log ++ e ∷ []) levels) → HaveStayed log n → HaveStayed (log ++ e ∷ []) n
+stayed_on log e n stays stayed k most levels are = elim (cases_lt (length log) k) [
+  | inl past ↦ (let sum = length-append log (e ∷ []) in
+      subst (λ (es : List Event). AreLevels es levels) (take_all k (log ++ e ∷ []) (omega (arith, past, sum))) are)
+  | inr within ↦ stays levels (stayed k most levels (subst (λ (es : List Event). AreLevels es levels) (take-append-le k log (e ∷ []) (omega (arith, within))) are))
+]

@@ -36,7 +36,7 @@ use Rattle.swift_ledger.proofs.FlagLemmas.{flags_same}
 use Rattle.swift_ledger.proofs.ListLemmas.{kept_same}
 use Rattle.swift_ledger.proofs.RelativeLemmas.{own_same, waiter_same}
 use Rattle.swift_ledger.proofs.GroupSteps.{plain-step}
-use Rattle.swift_ledger.proofs.LevelLemmas.{levels_stay}
+use Rattle.swift_ledger.proofs.LevelLemmas.{levels_stay, stayed_on}
 
 abbrev pub is_of_turn : Event → Bool
 is_of_turn (Begin t n env) = true
@@ -111,6 +111,7 @@ indexes_stay a l roots log e form can turn are now = record {
 pub keeps_levels : (l : Levels) (log : List Event) (e : Event) → is_of_turn e ≡ true → KeepsLevels l log → KeepsLevels l (log ++ e ∷ [])
 keeps_levels l log e turn keeps = record {
   fresh = λ fresh. levels_stay log e l.levels.items (no_link e turn) (keeps.fresh fresh);
+  since = stayed_on log e l.changed (λ levels are. levels_stay log e levels (no_link e turn) are) keeps.since;
   room = keeps.room;
 }
 

@@ -1,5 +1,5 @@
 -- The priorities of all tasks in one list, a byte for each (our own).
-use Rattle.std.specs.Prelude.{◌≡◌, ℕ, suc, ◌≤◌, ◌⊎◌, None, List, length, slice_index_or}
+use Rattle.std.specs.Prelude.{◌≡◌, ℕ, suc, ◌≤◌, ◌⊎◌, None, List, length, slice_index_or, take}
 use Rattle.swift_types.specs.Priority.{rank}
 use Rattle.swift_types.specs.declared.id.TaskId.{TaskId}
 use Rattle.swift_types.specs.declared.limits.TheConstants.{TASKS}
@@ -17,3 +17,7 @@ IsLevel log t l = (((life_of t.0 log).origin ≡ None) × (l ≡ 0)) ⊎ ((p : P
 pub record AreLevels (log : List Event) (levels : List ℕ) : Type 0 where
   pub each : (t : TaskId) → IsLevel log t (slice_index_or levels t.0 0)
   pub few : length levels ≤ TASKS
+
+-- the levels are as they were when the log had this many events, or more
+abbrev pub HaveStayed : List Event → ℕ → Type 0
+HaveStayed log n = (k : ℕ) → n ≤ k → (levels : List ℕ) → AreLevels (take k log) levels → AreLevels log levels

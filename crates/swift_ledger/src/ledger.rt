@@ -13,7 +13,7 @@ ghost use Rattle.swift_events.specs.Lives.{life_of, room_held};
 ghost use Rattle.swift_events.specs.Relations.{own_tasks, waiters_of, opened_by, is_open_group, is_cancelled, is_cancelled_group, group_of, parent_of, links_of};
 ghost use Rattle.swift_events.specs.Room.{IsEnv, open_of, reserved_of, room_of};
 ghost use Rattle.swift_ledger.specs.Ledgers.{CanNote, IsMade};
-ghost use Rattle.swift_ledger.specs.Levels.{AreLevels};
+ghost use Rattle.swift_ledger.specs.Levels.{AreLevels, HaveStayed};
 
 use crate::indexes::Indexes;
 use crate::levels::Levels;
@@ -140,6 +140,13 @@ impl Ledger {
         let tasks = self.indexes.lives.len();
         self.levels.refresh(&self.indexes.waits, &self.log, tasks);
         self.levels.as_slice()
+    }
+
+    /// How many events there were when a level may have changed last. Who has seen the levels since then has seen those of now (our own).
+    pub fn levels_changed(&self) -> usize
+        ensures { HaveStayed self.now.log result }
+    {
+        self.levels.changed()
     }
 
     /// What a turn of the task is given, if it begins now.

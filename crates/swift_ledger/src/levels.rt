@@ -21,17 +21,20 @@ use swift_types::limits::TASKS;
 #[derive(Drop)]
 pub(crate) struct Levels {
     levels: Vec<u8>,
-    // Whether a level may have changed since then.
+    // How many events there were when a level may have changed last.
+    changed: usize,
+    // Whether a level may have changed since the list was filled.
     stale: bool,
 }
 
 impl Levels {
     /// Not filled yet, with room for each task that a run may have.
     pub(crate) fn new(alloc: Global) -> Result<Levels, AllocError>
-        ensures { IfOk result (λ l. (log : List Event) → KeepsLevels l log) }
+        ensures { IfOk result (λ l. KeepsLevels l []) }
     {
         Ok(Levels {
             levels: Vec::with_capacity(alloc, TASKS)?,
+            changed: 0,
             stale: true,
         })
     }
@@ -43,8 +46,10 @@ impl Levels {
         requires fits { CanNote roots log.now.events event }
         ensures { KeepsLevels self.new (log.now.events ++ event ∷ []) }
     {
+        let events = log.len();
         if may_change(waits, roots, log, event) {
             self.stale = true;
+            self.changed = events + 1;
         }
     }
 
@@ -61,6 +66,13 @@ impl Levels {
             fill_from(&mut self.levels, waits, log, tasks);
             self.stale = false;
         }
+    }
+
+    /// How many events there were when a level may have changed last.
+    pub(crate) fn changed(&self) -> usize
+        ensures { result ≡ self.now.changed }
+    {
+        self.changed
     }
 
     /// The list, as it was last filled.

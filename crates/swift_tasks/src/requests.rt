@@ -10,7 +10,7 @@ ghost use Rattle.swift_types.specs.declared.id.TaskId.{TaskId};
 ghost use Rattle.swift_types.specs.declared.priority.Priority.{Priority};
 ghost use Rattle.swift_script.specs.Scripts.{ScriptView, root_count};
 ghost use Rattle.swift_ledger.specs.Ledgers.{IsMade};
-ghost use Rattle.swift_ledger.specs.Levels.{AreLevels};
+ghost use Rattle.swift_ledger.specs.Levels.{AreLevels, HaveStayed};
 ghost use Rattle.swift_events.specs.Lives.{life_of};
 ghost use Rattle.swift_escalation.specs.Waits.{IsPriority};
 ghost use Rattle.swift_events.specs.Relations.{links_of};
@@ -114,6 +114,13 @@ impl Book {
         ensures levels { AreLevels self.old.log result.now }
     {
         self.ledger.levels()
+    }
+
+    /// How many events there were when a level may have changed last (`Ledger::levels_changed`).
+    pub fn levels_changed(&self) -> usize
+        ensures { HaveStayed self.now.log result }
+    {
+        self.ledger.levels_changed()
     }
 
     fn are_made(&self, tasks: &[TaskId]) -> bool

@@ -2,6 +2,7 @@ use Rattle.std.proofs.Common.{◌<◌, subst, sym, arith}
 use Rattle.swift_log.specs.Logs.{LogView}
 use Rattle.swift_ledger.specs.WellFormedInside.{IsWellFormed}
 use Rattle.swift_ledger.specs.IndexesInside.{AreIndexes, HasSpare}
+use Rattle.swift_ledger.specs.LevelsInside.{KeepsLevels}
 use Rattle.swift_ledger.specs.declared.indexes.Indexes.{Indexes}
 use Rattle.swift_ledger.proofs.FormLemmas.{form_none}
 use Rattle.swift_ledger.proofs.ledger.Ledger.new.Goals as goal
@@ -22,5 +23,5 @@ invariant_of-result c = record {
   form = subst (λ (l : LogView). IsWellFormed c.args.roots l.events) (sym c.new.ensures) (form_none c.args.roots c.requires);
   indexes = subst (λ (l : LogView). AreIndexes c.in_ok-new.field-0 c.args.roots l.events) (sym c.new.ensures) c.in_ok-new.ensures;
   indexes_room = subst (λ (l : LogView). HasSpare c.in_ok-new.field-0 l.room) (sym c.new.ensures) (none_spare c.in_ok-new.field-0);
-  levels = c.in_ok-new-2.ensures c.new.result.events;
+  levels = subst (λ (l : LogView). KeepsLevels c.in_ok-new-2.field-0 l.events) (sym c.new.ensures) c.in_ok-new-2.ensures;
 }
