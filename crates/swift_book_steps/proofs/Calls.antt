@@ -78,8 +78,8 @@ begin_keeps v a k rest env b b' j accounts tickets job on may env_is is =
     let given : IsEnv (root_count b.script) (task k.job.task) b.log env = subst (λ (x : JobFacts). IsEnv (root_count b.script) (task x.task) b.log env) (sym job) env_is in
     let on_own : job_executor b.script (Some k.job) ≡ Some a.executor = subst (λ (x : JobFacts). job_executor b.script (Some x) ≡ Some a.executor) (sym job) on in
     let gives = turn_begun v (facts_of b) a k rest env accounts tickets on_own own given in
-    subst (λ (x : BookView). MayGive v (facts_of b) (facts_of x) (knowing_begin there k rest env v)) (sym is)
-    (subst (λ (x : JobFacts). MayGive v (facts_of b) (with_begin (facts_of b) x env) (knowing_begin there k rest env v)) job gives)
+    subst (λ (x : BookView). MayGive v (facts_of b) (facts_of x) (knowing_begin b.log there k rest env v)) (sym is)
+    (subst (λ (x : JobFacts). MayGive v (facts_of b) (with_begin (facts_of b) x env) (knowing_begin b.log there k rest env v)) job gives)
 
 -- a turn that is applied
 

@@ -39,7 +39,7 @@ abbrev pub BegunTurnsKeep : Type 0
 BegunTurnsKeep = (v : BookKnown) (a : Account) (k : Ticket) (rest : List Ticket) (env : Env) (b b' : BookView) (j : JobView BodyView) → v.accounts ≡ a ∷ [] → v.tickets ≡ k ∷ rest → k.job ≡ job_facts j
     → job_executor b.script (Some (job_facts j)) ≡ Some a.executor
     → refusal_of_begin b.script b.log j ≡ None → IsEnv (root_count b.script) j.task b.log env → b' ≡ record b { log = b.log ++ Begin j.task j.number env ∷ [] }
-    → MayGive v (facts_of b) (facts_of b') (knowing_begin (has_last_root b.script b.log) k rest env v)
+    → MayGive v (facts_of b) (facts_of b') (knowing_begin b.log (has_last_root b.script b.log) k rest env v)
 
 -- a job as it was before the turn of its frame
 abbrev pub before_of : JobView BodyView → FrameView → List FrameView → JobFacts

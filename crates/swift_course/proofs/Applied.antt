@@ -1,12 +1,16 @@
 -- A turn that is applied keeps the rule.
 use Rattle.std.proofs.Common.{◌≡◌, ◌≢◌, ◌⊎◌, ℕ, ℤ, ◌+◌, ◌≤◌, ◌<◌, ◌==◌, true, List, [], ◌∷◌, ◌++◌, map, set, count_by, if◌then◌else◌, refl, sym, ap, ◌∙◌, subst, arith, inl, inr}
 use Rattle.std.specs.Prelude.{All, Option, Some, None, IfSome, is_some, sum_by}
+use Rattle.std.proofs.lemmas.List.{append-nil}
 use Rattle.std.proofs.lemmas.List.Elements.{All-append, All-cons, All-head, All-nil, All-tail}
 use Rattle.swift_types.specs.declared.env.Env.{Env}
-use Rattle.swift_script.specs.Scripts.{executor_count, executor_start, root_count}
+use Rattle.swift_types.specs.declared.priority.Priority.{Priority}
+use Rattle.swift_script.specs.Scripts.{ScriptView, executor_count, executor_start, root_count}
 use Rattle.swift_interpreter.specs.Frames.{FrameView}
-use Rattle.swift_turn.specs.Body.{HasFirst, advanced, callers_of}
+use Rattle.swift_interpreter.specs.Turn.{EffectView, ExitView}
+use Rattle.swift_turn.specs.Body.{Advanced, HasFirst, advanced, callers_of}
 use Rattle.swift_events.specs.declared.event.Event.{Event}
+use Rattle.swift_events.specs.declared.event.Event.TheVariants.{Apply}
 use Rattle.swift_events.specs.declared.life.JobStage.TheVariants.{Begun}
 use Rattle.swift_events.specs.declared.life.Origin.{Origin}
 use Rattle.swift_events.specs.Events.{tasks_of}
@@ -15,15 +19,15 @@ use Rattle.swift_journal.specs.Records.{RecordView}
 use Rattle.swift_journal.specs.Replay.{IsLawfulRecord, replay}
 use Rattle.swift_history.specs.Checks.{counters, fits_turn, is_begun, is_current}
 use Rattle.swift_history.specs.Histories.{ran, RecordStands, Standing, after_block, at_first, begun_priority, fields_of, folded_in, frames_applied, job_applied, left_as, record_in, records_of, root_in, taken, with_jobs}
-use Rattle.swift_history.specs.TurnEnds.{WaitingTaskView, JobFacts, TurnEnd, turn_end}
+use Rattle.swift_history.specs.TurnEnds.{WaitingTaskView, JobFacts, TurnEnd, effect_events, exit_events, gives, log_after, task, turn_end}
 use Rattle.swift_history.specs.Orderly.{IsOrderly, frames_executor, job_executor}
-use Rattle.swift_course.specs.Course.{HasUnderWay, IsGiven, IsIn, IsOwned, IsUnderWay, SaysOrder, is_for, one_if, ways, standing, starts, tickets_in, waits}
+use Rattle.swift_course.specs.Course.{HasUnderWay, IsFront, IsGiven, IsIn, IsOwned, IsUnderWay, SaysOrder, is_for, one_if, ways, standing, starts, tickets_in, waits}
 use Rattle.swift_course.specs.Steps.{IsTurn, TurnsMayBeApplied, end_of, knowing_turn, order_applied, with_record}
 use Rattle.swift_known.specs.Views.{Account, BookFacts, BookKnown, Ticket, TurnOrder, fresh}
 use Rattle.swift_course.proofs.Begun.{TurnKeeps, turn_keeps}
 use Rattle.swift_course.proofs.Blocks.{after_push, allowed_push, filter_none, filter_some, stand_push}
 use Rattle.swift_course.proofs.Lists.{count_append, count_cons, equal, if_some, no_one, one, total_set, unequal}
-use Rattle.swift_course.proofs.Order.{applied_has, changed_at, changed_else, ordered_applied, ordered_before, orders_changed, own_changed}
+use Rattle.swift_course.proofs.Order.{applied_has, changed_at, changed_else, front_goes_on, ordered_applied, ordered_before, orders_changed, own_changed}
 use Rattle.swift_course.proofs.Seats.{given_fresh, other_counts, others, others_and, rest_counts, seats_after, tickets_stay}
 use Rattle.swift_course.proofs.Stages.{stage_of}
 use Rattle.swift_course.proofs.Starts.{start_fields}
@@ -159,6 +163,24 @@ under_way_is facts s a k r given turn = (
   ap is_begun (subst (λ (o : Option Env). IfSome o (λ env. (life_of k.job.task s.log).stage ≡ Some (Begun env))) turn.begun given.begun),
 )
 
+-- what a turn leaves goes on from the log that it has found
+effects_go_on : (es : List EffectView) (roots t : ℕ) (own : Priority) (log : List Event) → IsFront log (log_after roots t own log es)
+effects_go_on [] roots t own log = ([], sym (append-nil log))
+effects_go_on (e ∷ es) roots t own log =
+    let events = effect_events roots t own log e in
+    front_goes_on log (log ++ events) (log_after roots t own (log ++ events) es) (events, refl) (effects_go_on es roots t own (log ++ events))
+
+turn_goes_on : (script : ScriptView) (log : List Event) (held : List (Option WaitingTaskView)) (t n : ℕ) (own : Priority) (effects : List EffectView) (exit : ExitView) (after : Advanced)
+    → IsFront log (turn_end script log held t n own effects exit after).log
+turn_goes_on script log held t n own effects exit after =
+    let e = turn_end script log held t n own effects exit after in
+    let start = log ++ Apply (task t) n ∷ [] in
+    let done = log_after (root_count script) t own start effects in
+    let events = exit_events t done exit after.step in
+    front_goes_on log start e.log (Apply (task t) n ∷ [], refl)
+    (front_goes_on start done e.log (effects_go_on effects (root_count script) t own start)
+    (front_goes_on done (done ++ events) e.log (events, refl) (gives e.jobs, refl)))
+
 pub turn_applied_is : TurnsMayBeApplied
 turn_applied_is v taken a k rest r one_account is turn views seat c at =
     let script = taken.script in
@@ -176,8 +198,9 @@ turn_applied_is v taken a k rest r one_account is turn views seat c at =
     let own : IsGiven s k = All-head (IsGiven s) k rest tickets in
     let known : IsIn bs a = All-head (IsIn bs) a [] (subst (All (IsIn bs)) one_account right.accounts) in
     let mine : IsOwned c.owner c.maker.executors seat a = All-head (IsOwned c.owner c.maker.executors seat) a [] (subst (All (IsOwned c.owner c.maker.executors seat)) one_account right.owns) in
-    let says : SaysOrder c.order a = All-head (SaysOrder c.order) a [] (subst (All (SaysOrder c.order)) one_account (c.orders seat v at)) in
+    let says : SaysOrder taken.log c.order a = All-head (SaysOrder taken.log c.order) a [] (subst (All (SaysOrder taken.log c.order)) one_account (c.orders seat v at)) in
     let keeps : (y : ℕ) → TurnKeeps (root_count script) j.task y taken.log e = (λ y. turn_keeps script taken.log taken.held j.task j.number y _ r.effects r.exit _) in
+    let on : IsFront taken.log e.log = turn_goes_on script taken.log taken.held j.task j.number _ r.effects r.exit _ in
     let order : ℕ → TurnOrder = changed_at x order_applied c.order in
     let within : x < executor_count script = (let lt = mine.1 in let few = c.few in omega (arith, lt, few)) in
     let push : standing script bs' ≡ after_turn taken s j r = after_push script (at_first script) bs b ∙ block_leads taken s a k r c.log_is c.held_is own turn in
@@ -224,8 +247,8 @@ turn_applied_is v taken a k rest r one_account is turn views seat c at =
         under_way = λ i. subst (λ (z : Standing). HasUnderWay script z i (order i)) (sym push)
             (applied_has script taken.log s j.task x e c.order c.log_is keeps (under_way_is taken s a k r own turn) c.under_way i);
         unopened = λ i le. changed_else x order_applied c.order i (λ same. (let lt = mine.1 in omega (arith, same, lt, le))) ∙ c.unopened i le;
-        orders = orders_changed x order_applied c.order c.owner c.maker.executors views seat w c.orders (λ i u at'. (c.seats i u at').owns) mine.0
-            (own_changed order_applied c.order a (with_record r a) says refl refl);
+        orders = orders_changed taken.log e.log x order_applied c.order c.owner c.maker.executors views seat w c.orders (λ i u at'. (c.seats i u at').owns) mine.0 on
+            (own_changed taken.log e.log order_applied c.order a (with_record r a) says refl refl (front_goes_on a.seen taken.log e.log says.1 on));
         orderly = λ all. allowed_push (IsOrderly script) bs b (c.orderly (ordered_before x order_applied c.order (ordered_applied (c.order x)) all)) tt;
         single = still_single taken views views' o j e counts;
         unadded = λ y le few. still_none taken views views' o j e counts y (c.unadded y le few) (inl (omega (arith, few)));

@@ -47,7 +47,7 @@ turn_begun v taken a k rest env one_account is on current env_is views seat c at
     let bs' = bs ++ b ∷ [] in
     let there = has_last_root script taken.log in
     let x = a.executor in
-    let w = knowing_begin there k rest env v in
+    let w = knowing_begin taken.log there k rest env v in
     let begins = order_begun there in
     let order : ℕ → TurnOrder = changed_at x begins c.order in
     let k' : Ticket = record { job = j; begun = Some env } in
@@ -57,7 +57,7 @@ turn_begun v taken a k rest env one_account is on current env_is views seat c at
     let own : IsGiven s k = All-head (IsGiven s) k rest mine in
     let mine_too : IsOwned c.owner c.maker.executors seat a = All-head (IsOwned c.owner c.maker.executors seat) a [] (subst (All (IsOwned c.owner c.maker.executors seat)) one_account right.owns) in
     let known : IsIn bs a = All-head (IsIn bs) a [] (subst (All (IsIn bs)) one_account right.accounts) in
-    let says : SaysOrder c.order a = All-head (SaysOrder c.order) a [] (subst (All (SaysOrder c.order)) one_account (c.orders seat v at)) in
+    let says : SaysOrder taken.log c.order a = All-head (SaysOrder taken.log c.order) a [] (subst (All (SaysOrder taken.log c.order)) one_account (c.orders seat v at)) in
     let on_own : job_executor script (s.jobs j.task) ≡ Some x = ap (job_executor script) own.job ∙ on in
     let both : ((e : ℕ) → IsOrdered (order e)) → (there ≡ true) × (c.order x ≡ at_rest) = (λ all. ordered_begun there (c.order x) (subst IsOrdered (changed_there x begins c.order x refl) (all x))) in
     let sum : (x : ℕ) → sum_by (tickets_in x) (set views seat w) ≡ sum_by (tickets_in x) views =
@@ -94,8 +94,8 @@ turn_begun v taken a k rest env one_account is on current env_is views seat c at
         order = order;
         under_way = λ e. subst (λ (z : Standing). HasUnderWay script z e (order e)) (sym push) (begin_has script s j.task j.number x env there c.order on_own c.under_way e);
         unopened = λ e le. changed_else x begins c.order e (λ same. (let lt = mine_too.1 in omega (arith, same, lt, le))) ∙ c.unopened e le;
-        orders = orders_changed x begins c.order c.owner c.maker.executors views seat w c.orders (λ i u at'. (c.seats i u at').owns) mine_too.0
-            (subst (λ (xs : List Account). All (SaysOrder order) (map (with_turn_begun there) xs)) (sym one_account) (own_changed begins c.order a (with_turn_begun there a) says refl refl));
+        orders = orders_changed taken.log (taken.log ++ Begin (task j.task) j.number env ∷ []) x begins c.order c.owner c.maker.executors views seat w c.orders (λ i u at'. (c.seats i u at').owns) mine_too.0 (Begin (task j.task) j.number env ∷ [], refl)
+            (subst (λ (xs : List Account). All (SaysOrder (taken.log ++ Begin (task j.task) j.number env ∷ []) order) (map (with_turn_begun taken.log there) xs)) (sym one_account) (own_changed taken.log (taken.log ++ Begin (task j.task) j.number env ∷ []) begins c.order a (with_turn_begun taken.log there a) says refl refl (Begin (task j.task) j.number env ∷ [], refl)));
         orderly = λ all. allowed_push (IsOrderly script) bs b (c.orderly (ordered_before x begins c.order (λ is'. ordered_is (both all).1) all))
             (begin_orderly script bs j.task j.number x c.maker.roots env taken.log c.log_is c.there (both all).0 on_own (subst (HasUnderWay script s x) (both all).1 (c.under_way x)));
         single = λ x. (let was = c.single x in let now = sum x in omega (arith, was, now));
@@ -104,10 +104,10 @@ turn_begun v taken a k rest env one_account is on current env_is views seat c at
         seats = seats_after script bs bs' c.owner c.maker c.maker c.maker_seat views seat w c.seats
             (record {
               script_is = right.script_is;
-              accounts = subst (λ (xs : List Account). All (IsIn bs') (map (with_turn_begun there) xs)) (sym one_account)
-                  (All-cons (IsIn bs') (with_turn_begun there a) [] (known ∙ sym (filter_none (record_in x) bs b refl)) (All-nil (IsIn bs')));
-              owns = subst (λ (xs : List Account). All (IsOwned c.owner c.maker.executors seat) (map (with_turn_begun there) xs)) (sym one_account)
-                  (All-cons (IsOwned c.owner c.maker.executors seat) (with_turn_begun there a) [] mine_too (All-nil (IsOwned c.owner c.maker.executors seat)));
+              accounts = subst (λ (xs : List Account). All (IsIn bs') (map (with_turn_begun taken.log there) xs)) (sym one_account)
+                  (All-cons (IsIn bs') (with_turn_begun taken.log there a) [] (known ∙ sym (filter_none (record_in x) bs b refl)) (All-nil (IsIn bs')));
+              owns = subst (λ (xs : List Account). All (IsOwned c.owner c.maker.executors seat) (map (with_turn_begun taken.log there) xs)) (sym one_account)
+                  (All-cons (IsOwned c.owner c.maker.executors seat) (with_turn_begun taken.log there a) [] mine_too (All-nil (IsOwned c.owner c.maker.executors seat)));
               tickets = All-cons (IsGiven (standing script bs')) k' rest
                   (subst (λ (z : Standing). IsGiven z k') (sym push) (record { job = own.job; begun = begin_stage s.log (task j.task) j.number env }))
                   (stay rest (λ x. rest_counts views seat v rest x at) (All-tail (IsGiven s) k rest mine));

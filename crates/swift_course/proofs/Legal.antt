@@ -65,7 +65,7 @@ module _ (facts : BookFacts) (v : BookKnown) (report : ReportView) (h : HasHisto
   left_of : (e : ℕ) (journal : List RecordView) (checkpoint : CheckpointView) (fields : List (List ℤ)) → slice_get report.journals e ≡ Some journal → slice_get report.checkpoints e ≡ Some checkpoint → slice_get report.fields e ≡ Some fields
       → IsAccountedFor facts.script v e journal checkpoint fields → HasLeft facts report h.blocks e
   left_of e journal checkpoint fields journal_at checkpoint_is fields_at is =
-      let account : Account = record { executor = e; records = is.past ++ journal; order = is.order } in
+      let account : Account = record { executor = e; records = is.past ++ journal; order = is.order; seen = is.seen } in
       let known : IsIn h.blocks account = All-contains (IsIn h.blocks) v.accounts account h.accounts is.account in
       let own : checkpoint_at report.checkpoints e ≡ checkpoint = ap (λ (o : Option CheckpointView). unwrap_or o no_checkpoint) checkpoint_is in
       record {
@@ -159,8 +159,8 @@ report_is_orderly facts v report h all r rest =
     let past = past_of report in
     let ordered : (e : ℕ) → e < executor_count script → IsOrdered (h.order e) =
     (λ e lt. let x = rest e lt in
-    let says : SaysOrder h.order x.0 = All-contains (SaysOrder h.order) v.accounts x.0 h.orders x.1 in
-    let is = ap h.order (sym x.2) ∙ sym says ∙ x.3 in
+    let says : SaysOrder facts.log h.order x.0 = All-contains (SaysOrder facts.log h.order) v.accounts x.0 h.orders x.1 in
+    let is = ap h.order (sym x.2) ∙ sym says.0 ∙ x.3 in
     subst IsOrdered (sym is) tt)
     in
     let orderly : AllAllowed (IsOrderly script) [] h.blocks =

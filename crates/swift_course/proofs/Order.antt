@@ -18,11 +18,11 @@ use Rattle.swift_history.specs.Checks.{is_begun}
 use Rattle.swift_history.specs.Histories.{Block, added, begun, Standing, after_block, taken, with_jobs}
 use Rattle.swift_history.specs.Orderly.{IsOrderly, has_last_of, job_executor}
 use Rattle.swift_history.specs.TurnEnds.{TurnEnd, gives, root_events, root_job, task}
-use Rattle.swift_course.specs.Course.{HasUnderWay, IsOrdered, IsOwned, IsUnderWay, SaysOrder, standing}
+use Rattle.swift_course.specs.Course.{HasUnderWay, IsFront, IsOrdered, IsOwned, IsUnderWay, SaysOrder, standing}
 use Rattle.swift_course.specs.Steps.{order_applied, order_begun}
 use Rattle.swift_known.specs.Views.{Account, BookKnown, TurnOrder, at_rest, under_way, unordered}
 use Rattle.swift_course.proofs.Begun.{TurnKeeps}
-use Rattle.swift_course.proofs.Lists.{all_both, at_set, equal, same_one, unequal}
+use Rattle.swift_course.proofs.Lists.{all_both, all_each, at_set, equal, same_one, unequal}
 use Rattle.swift_course.proofs.Waking.{jobs_stay}
 
 -- the order of one executor changes
@@ -37,28 +37,35 @@ changed_else x f order e apart = ap (λ b. if b then f (order e) else order e) (
 
 -- what accounts say, after a step of a seat
 
-pub orders_kept : (order : ℕ → TurnOrder) (views : List BookKnown) (seat : ℕ) (w : BookKnown) → ((j : ℕ) (u : BookKnown) → get_elem? views j ≡ some u → All (SaysOrder order) u.accounts) → All (SaysOrder order) w.accounts
-    → (j : ℕ) (u : BookKnown) → get_elem? (set views seat w) j ≡ some u → All (SaysOrder order) u.accounts
-orders_kept order views seat w says own j u there = elim (at_set views seat j w u there) [
-  | inl y ↦ subst (λ (x : BookKnown). All (SaysOrder order) x.accounts) y.1 own
+pub orders_kept : (log : List Event) (order : ℕ → TurnOrder) (views : List BookKnown) (seat : ℕ) (w : BookKnown) → ((j : ℕ) (u : BookKnown) → get_elem? views j ≡ some u → All (SaysOrder log order) u.accounts) → All (SaysOrder log order) w.accounts
+    → (j : ℕ) (u : BookKnown) → get_elem? (set views seat w) j ≡ some u → All (SaysOrder log order) u.accounts
+orders_kept log order views seat w says own j u there = elim (at_set views seat j w u there) [
+  | inl y ↦ subst (λ (x : BookKnown). All (SaysOrder log order) x.accounts) y.1 own
   | inr y ↦ says j u y.1
 ]
 
-pub orders_changed : (x : ℕ) (f : TurnOrder → TurnOrder) (order : ℕ → TurnOrder) (owner : ℕ → ℕ) (n : ℕ) (views : List BookKnown) (seat : ℕ) (w : BookKnown)
-    → ((j : ℕ) (u : BookKnown) → get_elem? views j ≡ some u → All (SaysOrder order) u.accounts) → ((j : ℕ) (u : BookKnown) → get_elem? views j ≡ some u → All (IsOwned owner n j) u.accounts)
-    → owner x ≡ seat → All (SaysOrder (changed_at x f order)) w.accounts
-    → (j : ℕ) (u : BookKnown) → get_elem? (set views seat w) j ≡ some u → All (SaysOrder (changed_at x f order)) u.accounts
-orders_changed x f order owner n views seat w says owns mine own j u there = elim (at_set views seat j w u there) [
-  | inl y ↦ subst (λ (k : BookKnown). All (SaysOrder (changed_at x f order)) k.accounts) y.1 own
-  | inr y ↦ all_both (SaysOrder order) (IsOwned owner n j) (SaysOrder (changed_at x f order)) u.accounts
-      (λ a is owned. is ∙ sym (changed_else x f order a.executor (λ same. y.0 (sym owned.0 ∙ ap owner same ∙ mine)))) (says j u y.1) (owns j u y.1)
+-- a log that goes on still begins as it did
+pub front_goes_on : (front log log' : List Event) → IsFront front log → IsFront log log' → IsFront front log'
+front_goes_on front log log' is on = (is.0 ++ on.0, on.1 ∙ ap (λ (es : List Event). es ++ on.0) is.1 ∙ append_assoc front is.0 on.0)
+
+pub orders_go_on : (log log' : List Event) (order : ℕ → TurnOrder) (accounts : List Account) → IsFront log log' → All (SaysOrder log order) accounts → All (SaysOrder log' order) accounts
+orders_go_on log log' order accounts on says = all_each (SaysOrder log order) (SaysOrder log' order) accounts (λ a is. (is.0, front_goes_on a.seen log log' is.1 on)) says
+
+pub orders_changed : (log log' : List Event) (x : ℕ) (f : TurnOrder → TurnOrder) (order : ℕ → TurnOrder) (owner : ℕ → ℕ) (n : ℕ) (views : List BookKnown) (seat : ℕ) (w : BookKnown)
+    → ((j : ℕ) (u : BookKnown) → get_elem? views j ≡ some u → All (SaysOrder log order) u.accounts) → ((j : ℕ) (u : BookKnown) → get_elem? views j ≡ some u → All (IsOwned owner n j) u.accounts)
+    → owner x ≡ seat → IsFront log log' → All (SaysOrder log' (changed_at x f order)) w.accounts
+    → (j : ℕ) (u : BookKnown) → get_elem? (set views seat w) j ≡ some u → All (SaysOrder log' (changed_at x f order)) u.accounts
+orders_changed log log' x f order owner n views seat w says owns mine on own j u there = elim (at_set views seat j w u there) [
+  | inl y ↦ subst (λ (k : BookKnown). All (SaysOrder log' (changed_at x f order)) k.accounts) y.1 own
+  | inr y ↦ all_both (SaysOrder log order) (IsOwned owner n j) (SaysOrder log' (changed_at x f order)) u.accounts
+      (λ a is owned. (is.0 ∙ sym (changed_else x f order a.executor (λ same. y.0 (sym owned.0 ∙ ap owner same ∙ mine))), front_goes_on a.seen log log' is.1 on)) (says j u y.1) (owns j u y.1)
 ]
 
 -- the one account of a seat whose executor's order changes
-pub own_changed : (f : TurnOrder → TurnOrder) (order : ℕ → TurnOrder) (a a' : Account) → SaysOrder order a → a'.executor ≡ a.executor → a'.order ≡ f a.order → All (SaysOrder (changed_at a.executor f order)) (a' ∷ [])
-own_changed f order a a' says same is =
-    All-cons (SaysOrder (changed_at a.executor f order)) a' []
-    (is ∙ ap f says ∙ ap (λ e. f (order e)) (sym same) ∙ sym (changed_there a.executor f order a'.executor same)) (All-nil (SaysOrder (changed_at a.executor f order)))
+pub own_changed : (log log' : List Event) (f : TurnOrder → TurnOrder) (order : ℕ → TurnOrder) (a a' : Account) → SaysOrder log order a → a'.executor ≡ a.executor → a'.order ≡ f a.order → IsFront a'.seen log' → All (SaysOrder log' (changed_at a.executor f order)) (a' ∷ [])
+own_changed log log' f order a a' says same is front =
+    All-cons (SaysOrder log' (changed_at a.executor f order)) a' []
+    (is ∙ ap f says.0 ∙ ap (λ e. f (order e)) (sym same) ∙ sym (changed_there a.executor f order a'.executor same), front) (All-nil (SaysOrder log' (changed_at a.executor f order)))
 
 -- what is under way on an executor stays so, where nothing else gets so
 

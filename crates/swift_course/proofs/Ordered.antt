@@ -33,7 +33,7 @@ reordered facts views seat v tickets c at moved =
     let right : SeatIsRight facts.script c.blocks c.owner c.maker c.maker_seat seat v' =
     record { script_is = s.script_is; accounts = s.accounts; owns = s.owns; tickets = All-permutation (IsGiven (standing facts.script c.blocks)) v.tickets tickets moved s.tickets; maker_is = s.maker_is }
     in
-    course_with facts views (set views seat v') c c.maker c.maker_seat c.owner same refl (omega arith) c.few (orders_kept c.order views seat v' c.orders (c.orders seat v at))
+    course_with facts views (set views seat v') c c.maker c.maker_seat c.owner same refl (omega arith) c.few (orders_kept facts.log c.order views seat v' c.orders (c.orders seat v at))
     (λ j u there. elim (at_set views seat j v' u there) [
       | inl y ↦ subst (λ (i : ℕ). SeatIsRight facts.script c.blocks c.owner c.maker c.maker_seat i u) (sym y.0) (subst (SeatIsRight facts.script c.blocks c.owner c.maker c.maker_seat seat) y.1 right)
       | inr y ↦ c.seats j u y.1

@@ -23,7 +23,7 @@ pub record SameWays (facts : BookFacts) (views views' : List BookKnown) : Type 0
 
 -- the rule, with other seats, of the same history
 pub course_with : (facts : BookFacts) (views views' : List BookKnown) (c : IsCourse facts views) (maker : Maker) (maker_seat : ℕ) (owner : ℕ → ℕ) → SameWays facts views views' → maker.roots ≡ c.maker.roots → c.maker.executors ≤ maker.executors → maker.executors ≤ executor_count facts.script
-    → ((seat : ℕ) (v : BookKnown) → get_elem? views' seat ≡ some v → All (SaysOrder c.order) v.accounts)
+    → ((seat : ℕ) (v : BookKnown) → get_elem? views' seat ≡ some v → All (SaysOrder facts.log c.order) v.accounts)
     → ((seat : ℕ) (v : BookKnown) → get_elem? views' seat ≡ some v → SeatIsRight facts.script c.blocks owner maker maker_seat seat v) → IsCourse facts views'
 course_with facts views views' c maker maker_seat owner same roots more few orders seats = record {
   blocks = c.blocks;
@@ -61,8 +61,8 @@ first_right script zero u at = subst (SeatIsRight script [] (λ e. 0) (record { 
     (record { script_is = refl; accounts = All-nil (IsIn []); owns = All-nil (IsOwned (λ e. 0) 0 0); tickets = All-nil (IsGiven (standing script [])); maker_is = (refl, refl) })
 first_right script (suc j) u at = absurd (some-ne-none u (sym at))
 
-first_says : (script : ScriptView) (j : ℕ) (u : BookKnown) → get_elem? (first_view script ∷ []) j ≡ some u → All (SaysOrder (λ e. at_rest)) u.accounts
-first_says script zero u at = subst (λ (x : BookKnown). All (SaysOrder (λ e. at_rest)) x.accounts) (some-injective (first_view script) u at) (All-nil (SaysOrder (λ e. at_rest)))
+first_says : (script : ScriptView) (j : ℕ) (u : BookKnown) → get_elem? (first_view script ∷ []) j ≡ some u → All (SaysOrder [] (λ e. at_rest)) u.accounts
+first_says script zero u at = subst (λ (x : BookKnown). All (SaysOrder [] (λ e. at_rest)) x.accounts) (some-injective (first_view script) u at) (All-nil (SaysOrder [] (λ e. at_rest)))
 first_says script (suc j) u at = absurd (some-ne-none u (sym at))
 
 pub run_begins : RunsBegin
@@ -126,11 +126,11 @@ book_stays v taken views seat c at = (v, subst (IsCourse taken) (sym (set_again 
 
 -- one seat more
 
-says_push : (order : ℕ → TurnOrder) (views : List BookKnown) (w : BookKnown) → ((j : ℕ) (u : BookKnown) → get_elem? views j ≡ some u → All (SaysOrder order) u.accounts) → All (SaysOrder order) w.accounts
-    → (j : ℕ) (u : BookKnown) → get_elem? (views ++ w ∷ []) j ≡ some u → All (SaysOrder order) u.accounts
-says_push order views w says own j u there = elim (at_push views w u j there) [
+says_push : (log : List Event) (order : ℕ → TurnOrder) (views : List BookKnown) (w : BookKnown) → ((j : ℕ) (u : BookKnown) → get_elem? views j ≡ some u → All (SaysOrder log order) u.accounts) → All (SaysOrder log order) w.accounts
+    → (j : ℕ) (u : BookKnown) → get_elem? (views ++ w ∷ []) j ≡ some u → All (SaysOrder log order) u.accounts
+says_push log order views w says own j u there = elim (at_push views w u j there) [
   | inl x ↦ says j u x
-  | inr x ↦ subst (λ (k : BookKnown). All (SaysOrder order) k.accounts) x.1 own
+  | inr x ↦ subst (λ (k : BookKnown). All (SaysOrder log order) k.accounts) x.1 own
 ]
 
 -- tickets get a seat
@@ -155,7 +155,7 @@ tickets_part v n facts views seat c at =
     (λ j. record { script_is = s.script_is; accounts = All-nil (IsIn c.blocks); owns = All-nil (IsOwned c.owner c.maker.executors j); tickets = All-take given n v.tickets s.tickets; maker_is = tt })
     in
     course_with facts views (front ++ right ∷ []) c c.maker c.maker_seat c.owner same refl (omega arith) c.few
-    (says_push c.order front right (orders_kept c.order views seat left c.orders (c.orders seat v at)) (All-nil (SaysOrder c.order)))
+    (says_push facts.log c.order front right (orders_kept facts.log c.order views seat left c.orders (c.orders seat v at)) (All-nil (SaysOrder facts.log c.order)))
     (λ j u there. elim (at_push front right u j there) [
       | inl x ↦ elim (at_set views seat j left u x) [
         | inl y ↦ subst (λ (i : ℕ). SeatIsRight facts.script c.blocks c.owner c.maker c.maker_seat i u) (sym y.0) (subst (SeatIsRight facts.script c.blocks c.owner c.maker c.maker_seat seat) y.1 left_right)
@@ -211,7 +211,7 @@ open_next facts views seat v c at makes maker_seat lt =
       maker_is = subst (λ (o : Option Maker). IfSome (one_more o) (λ m. (m ≡ maker) × (seat ≡ seat))) (sym makes) (refl, refl);
     }
     in
-    let a : Account = record { executor = number_of v.maker; records = []; order = at_rest } in
+    let a : Account = record { executor = number_of v.maker; records = []; order = at_rest; seen = [] } in
     let right_right : SeatIsRight facts.script c.blocks owner maker seat l right =
     record {
       script_is = s.script_is;
@@ -222,8 +222,8 @@ open_next facts views seat v c at makes maker_seat lt =
     }
     in
     course_with facts views (front ++ right ∷ []) c maker seat owner same refl (omega arith) (omega (arith, lt))
-    (says_push c.order front right (orders_kept c.order views seat left c.orders (c.orders seat v at))
-    (All-cons (SaysOrder c.order) a [] (sym (c.unopened (number_of v.maker) (omega (arith, number)))) (All-nil (SaysOrder c.order))))
+    (says_push facts.log c.order front right (orders_kept facts.log c.order views seat left c.orders (c.orders seat v at))
+    (All-cons (SaysOrder facts.log c.order) a [] (sym (c.unopened (number_of v.maker) (omega (arith, number))), (facts.log, refl)) (All-nil (SaysOrder facts.log c.order))))
     (λ j u there. elim (at_push front right u j there) [
       | inl x ↦ elim (at_set views seat j left u x) [
         | inl y ↦ subst (λ (i : ℕ). SeatIsRight facts.script c.blocks owner maker seat i u) (sym y.0) (subst (SeatIsRight facts.script c.blocks owner maker seat seat) y.1 left_right)
@@ -280,8 +280,8 @@ seat_gathers v w facts views seat other c at apart at' =
     record { script_is = tt; accounts = All-nil (IsIn c.blocks); owns = All-nil (IsOwned owner n other); tickets = All-nil given; maker_is = tt }
     in
     course_with facts views (set front other no_view) c c.maker c.maker_seat owner same refl (omega arith) c.few
-    (orders_kept c.order front other no_view
-    (orders_kept c.order views seat both c.orders (All-append (SaysOrder c.order) v.accounts w.accounts (c.orders seat v at) (c.orders other w (sym (set_else views seat other both apart) ∙ at')))) (All-nil (SaysOrder c.order)))
+    (orders_kept facts.log c.order front other no_view
+    (orders_kept facts.log c.order views seat both c.orders (All-append (SaysOrder facts.log c.order) v.accounts w.accounts (c.orders seat v at) (c.orders other w (sym (set_else views seat other both apart) ∙ at')))) (All-nil (SaysOrder facts.log c.order)))
     (λ j u there. elim (at_set front other j no_view u there) [
       | inl x ↦ subst (λ (i : ℕ). SeatIsRight facts.script c.blocks owner c.maker c.maker_seat i u) (sym x.0) (subst (SeatIsRight facts.script c.blocks owner c.maker c.maker_seat other) x.1 spent_right)
       | inr x ↦ elim (at_set views seat j both u x.1) [

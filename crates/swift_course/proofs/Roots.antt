@@ -13,12 +13,12 @@ use Rattle.swift_events.specs.Lives.{life_of}
 use Rattle.swift_history.specs.Histories.{added, Standing, after_block, at_first, folded_in, record_in, root_in}
 use Rattle.swift_history.specs.TurnEnds.{root_events, root_job}
 use Rattle.swift_history.specs.Orderly.{IsOrderly}
-use Rattle.swift_course.specs.Course.{HasUnderWay, IsCourse, IsGiven, IsIn, is_for, one_if, ways, standing, starts, tickets_in}
+use Rattle.swift_course.specs.Course.{HasUnderWay, IsCourse, IsGiven, IsIn, SaysOrder, is_for, one_if, ways, standing, starts, tickets_in}
 use Rattle.swift_course.specs.Steps.{RootsMayBeAdded, knowing_root, with_root}
-use Rattle.swift_known.specs.Views.{BookFacts, Maker, BookKnown, Ticket, fresh}
+use Rattle.swift_known.specs.Views.{Account, BookFacts, Maker, BookKnown, Ticket, fresh}
 use Rattle.swift_course.proofs.Blocks.{after_push, allowed_push, filter_none, filter_some, range_next, stand_push}
 use Rattle.swift_course.proofs.Lists.{all_each, count_append, count_cons, equal, if_some, no_one, one, total_most, total_set, unequal}
-use Rattle.swift_course.proofs.Order.{orders_kept, root_has, root_orderly, root_there}
+use Rattle.swift_course.proofs.Order.{orders_go_on, orders_kept, root_has, root_orderly, root_there}
 use Rattle.swift_course.proofs.Seats.{given_fresh, seats_after, tickets_stay}
 use Rattle.swift_course.proofs.Stages.{AreSilent, stage_stays, tasks_stay}
 
@@ -86,7 +86,8 @@ add_next v taken views seat c at makes maker_seat lt unborn =
       order = c.order;
       under_way = λ e. subst (λ (z : Standing). HasUnderWay script z e (c.order e)) (sym push) (root_has script s r c.order c.under_way e);
       unopened = c.unopened;
-      orders = orders_kept c.order views seat w c.orders (c.orders seat v at);
+      orders = (let log' = taken.log ++ root_events script r in let on : (accounts : List Account) → All (SaysOrder taken.log c.order) accounts → All (SaysOrder log' c.order) accounts = (λ accounts. orders_go_on taken.log log' c.order accounts (root_events script r, refl)) in
+          orders_kept log' c.order views seat w (λ j u at'. on u.accounts (c.orders j u at')) (on v.accounts (c.orders seat v at)));
       orderly = λ all. allowed_push (IsOrderly script) bs b (c.orderly all) (root_orderly script bs r taken.log c.log_is within c.there);
       roots = filter_some root_in bs b r refl ∙ ap (λ (xs : List ℕ). xs ++ r ∷ []) c.roots ∙ range_next r;
       single = λ x. elim (cases_eq x r) [

@@ -27,10 +27,10 @@ abbrev log : Env → List Event
 log env = Root (task 0) Medium ∷ Give (task 0) 0 resume.Start ∷ Root (task 1) Medium ∷ Wait (task 1) (task 0) ∷ Begin (task 0) 0 env ∷ []
 
 abbrev account : Account
-account = record { executor = 0; records = []; order = under_way }
+account = record { executor = 0; records = []; order = under_way; seen = Root (task 0) Medium ∷ [] }
 
 abbrev rested : Account
-rested = record account { order = at_rest }
+rested = record account { order = at_rest; seen = [] }
 
 abbrev seat : FrameView → Option Env → BookKnown
 seat p begun = record no_view { accounts = account ∷ []; tickets = record { job = job p; begun = begun } ∷ [] }
@@ -39,10 +39,10 @@ seat p begun = record no_view { accounts = account ∷ []; tickets = record { jo
 begins : (s : ScriptView) (p : FrameView) (env : Env) →
     let facts : BookFacts = record { script = s; log = Root (task 0) Medium ∷ []; held = None ∷ [] } in
     (with_begin facts (job p) env ≡ record { script = s; log = Root (task 0) Medium ∷ Begin (task 0) 0 env ∷ []; held = None ∷ [] })
-    × (knowing_begin true (fresh (job p)) [] env (record (seat p None) { accounts = rested ∷ [] }) ≡ seat p (Some env))
+    × (knowing_begin facts.log true (fresh (job p)) [] env (record (seat p None) { accounts = rested ∷ [] }) ≡ seat p (Some env))
     × (has_last_of 1 facts.log ≡ true) × (has_last_of 2 facts.log ≡ false)
-    × ((knowing_begin false (fresh (job p)) [] env (seat p None)).accounts ≡ record account { order = unordered } ∷ [])
-    × ((knowing_begin true (fresh (job p)) [] env (seat p None)).accounts ≡ record account { order = unordered } ∷ [])
+    × ((knowing_begin facts.log false (fresh (job p)) [] env (seat p None)).accounts ≡ record account { order = unordered } ∷ [])
+    × ((knowing_begin facts.log true (fresh (job p)) [] env (seat p None)).accounts ≡ record account { order = unordered } ∷ [])
 unfolding life
 begins s p env = (refl, refl, refl, refl, refl, refl)
 
@@ -53,7 +53,7 @@ ends : (s : ScriptView) (p : FrameView) (env : Env) (h : WaitingTaskView) (v : �
     let r = turn p env (returning v) None in
     let next : JobFacts = record { task = 1; number = 1; resume = resume.Value v; frames = h.frames } in
     (with_turn facts (job p) r ≡ record { script = s; log = log env ++ Apply (task 0) 0 ∷ End (task 0) (ending.Value v) ∷ Give (task 1) 1 (resume.Value v) ∷ []; held = None ∷ None ∷ [] })
-    × (knowing_turn facts account k [] r (seat p (Some env)) ≡ record no_view { accounts = record { executor = 0; records = r ∷ []; order = at_rest } ∷ []; tickets = fresh next ∷ [] })
+    × (knowing_turn facts account k [] r (seat p (Some env)) ≡ record no_view { accounts = record { executor = 0; records = r ∷ []; order = at_rest; seen = account.seen } ∷ []; tickets = fresh next ∷ [] })
     × (ways 0 facts (seat p (Some env) ∷ []) ≡ 1) × (ways 1 facts (seat p (Some env) ∷ []) ≡ 1)
     × (ways 0 (with_turn facts (job p) r) (knowing_turn facts account k [] r (seat p (Some env)) ∷ []) ≡ 0)
     × (ways 1 (with_turn facts (job p) r) (knowing_turn facts account k [] r (seat p (Some env)) ∷ []) ≡ 1)
@@ -66,6 +66,6 @@ yields : (s : ScriptView) (p q : FrameView) (env : Env) →
     let r = turn p env yielding (Some q) in
     let next : JobFacts = record { task = 0; number = 1; resume = resume.Go; frames = record { frames = q ∷ []; outer = [] } } in
     (with_turn facts (job p) r ≡ record { script = s; log = facts.log ++ Apply (task 0) 0 ∷ Give (task 0) 1 resume.Go ∷ []; held = None ∷ [] })
-    × (knowing_turn facts account (record { job = job p; begun = Some env }) [] r (seat p (Some env)) ≡ record no_view { accounts = record { executor = 0; records = r ∷ []; order = at_rest } ∷ []; tickets = fresh next ∷ [] })
+    × (knowing_turn facts account (record { job = job p; begun = Some env }) [] r (seat p (Some env)) ≡ record no_view { accounts = record { executor = 0; records = r ∷ []; order = at_rest; seen = account.seen } ∷ []; tickets = fresh next ∷ [] })
 unfolding life
 yields s p q env = (refl, refl)

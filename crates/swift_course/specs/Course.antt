@@ -1,11 +1,12 @@
 -- The rule of a run that is under way: some history led to the book, and what the seats know of it is true (our own). A run has no
 -- folded block while it goes: which turns a checkpoint has is settled at its end.
-use Rattle.std.specs.Prelude.{◌≡◌, ℕ, ◌+◌, ◌<◌, ◌≤◌, ◌==◌, nat_lt, Bool, true, is_some, Option, Some, None, IfSome, List, [], All, count_by, sum_by, map, slice_index_or, cond}
+use Rattle.std.specs.Prelude.{◌≡◌, ℕ, ◌+◌, ◌<◌, ◌≤◌, ◌==◌, nat_lt, Bool, true, is_some, Option, Some, None, IfSome, List, [], ◌++◌, All, count_by, sum_by, map, slice_index_or, cond}
 use Rattle.std.specs.List.{range_with_len}
 use mathlib.Core.Option.{some}
 use lib.ListN.{get_elem?}
 use Rattle.swift_script.specs.Scripts.{ScriptView, executor_count, executor_start, root_count}
 use Rattle.swift_events.specs.declared.life.JobStage.TheVariants.{Begun}
+use Rattle.swift_events.specs.declared.event.Event.{Event}
 use Rattle.swift_events.specs.Events.{tasks_of}
 use Rattle.swift_events.specs.Lives.{life_of}
 use Rattle.swift_journal.specs.Checkpoints.{CheckpointView}
@@ -50,9 +51,13 @@ abbrev pub IsOrdered : TurnOrder → Type 0
 IsOrdered unordered = ⊥
 IsOrdered _ = Unit {0}
 
--- the account says how the turns of its executor have begun
-abbrev pub SaysOrder : (ℕ → TurnOrder) → Account → Type 0
-SaysOrder order a = a.order ≡ order a.executor
+-- the log begins with these events
+abbrev pub IsFront : List Event → List Event → Type 0
+IsFront front log = (rest : List Event) × (log ≡ front ++ rest)
+
+-- the account says how the turns of its executor have begun, and the log goes on from what it was when the last of them has
+abbrev pub SaysOrder : List Event → (ℕ → TurnOrder) → Account → Type 0
+SaysOrder log order a = (a.order ≡ order a.executor) × IsFront a.seen log
 
 -- The history gives the ticket's job to its task, and where the turn has begun, it is under way in this environment.
 pub record IsGiven (s : Standing) (k : Ticket) : Type 0 where
@@ -107,7 +112,7 @@ pub record IsCourse (facts : BookFacts) (views : List BookKnown) : Type 0 where
   pub order : ℕ → TurnOrder
   pub under_way : (e : ℕ) → HasUnderWay facts.script (standing facts.script blocks) e (order e)
   pub unopened : (e : ℕ) → maker.executors ≤ e → order e ≡ at_rest
-  pub orders : (seat : ℕ) (v : BookKnown) → get_elem? views seat ≡ some v → All (SaysOrder order) v.accounts
+  pub orders : (seat : ℕ) (v : BookKnown) → get_elem? views seat ≡ some v → All (SaysOrder facts.log order) v.accounts
   pub orderly : ((e : ℕ) → IsOrdered (order e)) → AllAllowed (IsOrderly facts.script) [] blocks
   -- A task can go on in one way at most: it has a ticket, or waits; and in none where it was not made.
   pub single : (t : ℕ) → ways t facts views ≤ 1

@@ -5,6 +5,7 @@ use mathlib.Core.Option.{some}
 use lib.ListN.{get_elem?}
 use Rattle.swift_types.specs.declared.outcome.Ending.{Ending}
 use Rattle.swift_script.specs.Scripts.{ScriptView, executor_count, executor_start, root_count}
+use Rattle.swift_events.specs.declared.event.Event.{Event}
 use Rattle.swift_events.specs.declared.life.Origin.{Origin}
 use Rattle.swift_events.specs.Events.{tasks_of}
 use Rattle.swift_events.specs.Lives.{life_of}
@@ -31,7 +32,7 @@ pub record HasHistory (v : BookKnown) (facts : BookFacts) : Type 0 where
   pub none_else : IfSome v.maker (λ m. (e : ℕ) → m.executors ≤ e → records_of e blocks ≡ [])
   pub roots : IfSome v.maker (λ m. roots_of blocks ≡ range_with_len 0 m.roots)
   pub order : ℕ → TurnOrder
-  pub orders : All (SaysOrder order) v.accounts
+  pub orders : All (SaysOrder facts.log order) v.accounts
   pub orderly : IfSome v.maker (λ m. ((e : ℕ) → e < m.executors → IsOrdered (order e)) → AllAllowed (IsOrderly facts.script) [] blocks)
 
 -- what a seat learns of what it takes
@@ -47,7 +48,8 @@ SeatsLearn = (v : BookKnown) (facts : BookFacts) (views : List BookKnown) (seat 
 pub record IsAccountedFor (script : ScriptView) (v : BookKnown) (e : ℕ) (journal : List RecordView) (checkpoint : CheckpointView) (fields : List (List ℤ)) : Type 0 where
   pub past : List RecordView
   pub order : TurnOrder
-  pub account : Contains v.accounts (record { executor = e; records = past ++ journal; order = order })
+  pub seen : List Event
+  pub account : Contains v.accounts (record { executor = e; records = past ++ journal; order = order; seen = seen })
   pub folded : checkpoint.folded ≡ map folded_of past
   pub replayed : checkpoint.fields ≡ replay script (executor_start script e) past
   pub fields_are : fields ≡ replay script checkpoint.fields journal

@@ -64,7 +64,7 @@ maker_left v = record v { maker = one_more v.maker }
 
 -- what the seat of that executor knows: the script and an account without records
 abbrev pub account_parted : BookKnown → BookKnown
-account_parted v = record { script = v.script; accounts = record { executor = number_of v.maker; records = []; order = at_rest } ∷ []; tickets = []; maker = None }
+account_parted v = record { script = v.script; accounts = record { executor = number_of v.maker; records = []; order = at_rest; seen = [] } ∷ []; tickets = []; maker = None }
 
 -- A seat that opens accounts may part off a seat for the next executor of the script.
 abbrev pub AccountsMayBeOpened : Type 0

@@ -5,6 +5,7 @@ use lib.ListN.{get_elem?}
 use Rattle.swift_types.specs.declared.env.Env.{Env}
 use Rattle.swift_script.specs.Scripts.{ScriptView, actor_executor, executor_start, method_actor, root_count}
 use Rattle.swift_turn.specs.Body.{HasFirst, advanced, callers_of}
+use Rattle.swift_events.specs.declared.event.Event.{Event}
 use Rattle.swift_events.specs.declared.event.Event.TheVariants.{Begin}
 use Rattle.swift_events.specs.declared.life.JobStage.TheVariants.{Begun}
 use Rattle.swift_events.specs.Lives.{life_of}
@@ -49,14 +50,14 @@ abbrev pub order_begun : Bool → TurnOrder → TurnOrder
 order_begun true at_rest = under_way
 order_begun _ _ = unordered
 
--- the account once one more turn has begun, where the last root was there or was not
-abbrev pub with_turn_begun : Bool → Account → Account
-with_turn_begun there a = record a { order = order_begun there a.order }
+-- the account once one more turn has begun, where this was the log, and the last root was there or was not
+abbrev pub with_turn_begun : List Event → Bool → Account → Account
+with_turn_begun log there a = record a { order = order_begun there a.order; seen = log }
 
 -- what a seat knows that has begun the turn of ticket `k`, its first: the ticket says in which environment, and its account that a turn
--- has begun, where the last root was `there` or was not
-abbrev pub knowing_begin : Bool → Ticket → List Ticket → Env → BookKnown → BookKnown
-knowing_begin there k rest env v = record v { accounts = map (with_turn_begun there) v.accounts; tickets = record k { begun = Some env } ∷ rest }
+-- has begun, where this was the log, and the last root was `there` or was not
+abbrev pub knowing_begin : List Event → Bool → Ticket → List Ticket → Env → BookKnown → BookKnown
+knowing_begin log there k rest env v = record v { accounts = map (with_turn_begun log there) v.accounts; tickets = record k { begun = Some env } ∷ rest }
 
 -- A seat of one account may begin the turn of its first ticket, which runs on the executor of that account, where it is the task's
 -- current one, in the environment of the log. It may have begun before.
@@ -64,7 +65,7 @@ abbrev pub TurnsMayBegin : Type 0
 TurnsMayBegin = (v : BookKnown) (taken : BookFacts) (a : Account) (k : Ticket) (rest : List Ticket) (env : Env) → v.accounts ≡ a ∷ [] → v.tickets ≡ k ∷ rest
     → job_executor taken.script (Some k.job) ≡ Some a.executor
     → is_current (life_of k.job.task taken.log) k.job.number k.job.resume ≡ true → IsEnv (root_count taken.script) (task k.job.task) taken.log env
-    → MayGive v taken (with_begin taken k.job env) (knowing_begin (has_last_root taken.script taken.log) k rest env v)
+    → MayGive v taken (with_begin taken k.job env) (knowing_begin taken.log (has_last_root taken.script taken.log) k rest env v)
 
 -- a turn is applied
 

@@ -19,11 +19,13 @@ pub data TurnOrder : Type 0 where
   under_way : TurnOrder
   unordered : TurnOrder
 
--- All turns of an executor so far, in order, those that its checkpoint has folded too, and how its turns have begun.
+-- All turns of an executor so far, in order, those that its checkpoint has folded too; how its turns have begun; and the log as it was
+-- just before the last of them has.
 pub record Account : Type 0 where
   pub executor : ℕ
   pub records : List RecordView
   pub order : TurnOrder
+  pub seen : List Event
 
 -- The right to run the turn of a job; where the turn has begun, in which environment.
 pub record Ticket : Type 0 where

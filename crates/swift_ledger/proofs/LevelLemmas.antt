@@ -53,7 +53,7 @@ link_or_origin _ none = refl
 
 level_stays : (log : List Event) (e : Event) (t : TaskId) (l : ℕ) → link_in e ≡ None → IsLevel log t l → IsLevel (log ++ e ∷ []) t l
 level_stays log e t l none (inl unmade) = inl (origin-push t.0 log e (link_or_origin e none) ∙ unmade.0, unmade.1)
-level_stays log e t l none (inr made) = inr (made.0, subst (λ (links : List Link). IsPriority links t made.0) (sym (links_of-push_none log e none)) made.1, made.2)
+level_stays log e t l none (inr made) = inr (made.0, subst (λ (links : List Link). IsPriority links t made.0) (sym (links_of-push_none log e none)) made.1, made.2, ap is_some (origin-push t.0 log e (link_or_origin e none)) ∙ made.3)
 
 -- such an event leaves each level as it is
 pub levels_stay : (log : List Event) (e : Event) (ls : List ℕ) → link_in e ≡ None → AreLevels log ls → AreLevels (log ++ e ∷ []) ls
@@ -80,12 +80,13 @@ level_at_wait log u t p q waiter awaited le x l (inr made) = inr (
   subst (λ (links : List Link). IsPriority links x made.0) (sym (links_of-push_some log (Wait u t) (link.Wait u t) refl))
       (priority_stays (links_of log) u t p q waiter awaited le x made.0 made.1),
   made.2,
+  ap is_some (origin-push x.0 log (Wait u t) refl) ∙ made.3,
 )
 
 -- the priority that a level says
 priority_at : (log : List Event) (t : TaskId) (l : ℕ) → IsMade log t → IsLevel log t l → (p : Priority) × IsPriority (links_of log) t p × (l ≡ suc (rank p))
 priority_at log t l made (inl unmade) = absurd (false≢true (sym (ap is_some unmade.0) ∙ made))
-priority_at log t l made (inr is) = is
+priority_at log t l made (inr is) = (is.0, is.1, is.2)
 
 pub levels_at_wait : (log : List Event) (u t : TaskId) (l m : ℕ) (ls : List ℕ) → IsMade log u → IsMade log t → IsLevel log u l → IsLevel log t m → l ≤ m → AreLevels log ls → AreLevels (log ++ Wait u t ∷ []) ls
 levels_at_wait log u t l m ls u_made t_made u_level t_level le are =

@@ -1,5 +1,5 @@
 -- The priorities of all tasks in one list, a byte for each (our own).
-use Rattle.std.specs.Prelude.{◌≡◌, ℕ, suc, ◌≤◌, ◌⊎◌, None, List, length, slice_index_or, take}
+use Rattle.std.specs.Prelude.{◌≡◌, ℕ, suc, ◌≤◌, ◌⊎◌, None, List, length, slice_index_or, take, IsSome}
 use Rattle.swift_types.specs.Priority.{rank}
 use Rattle.swift_types.specs.declared.id.TaskId.{TaskId}
 use Rattle.swift_types.specs.declared.limits.TheConstants.{TASKS}
@@ -11,7 +11,7 @@ use Rattle.swift_events.specs.Relations.{links_of}
 
 -- the level of a task is one more than the number of its priority, and 0 where the task was not made
 abbrev pub IsLevel : List Event → TaskId → ℕ → Type 0
-IsLevel log t l = (((life_of t.0 log).origin ≡ None) × (l ≡ 0)) ⊎ ((p : Priority) × IsPriority (links_of log) t p × (l ≡ suc (rank p)))
+IsLevel log t l = (((life_of t.0 log).origin ≡ None) × (l ≡ 0)) ⊎ ((p : Priority) × IsPriority (links_of log) t p × (l ≡ suc (rank p)) × IsSome (life_of t.0 log).origin)
 
 -- the level of each task, by its number; one past the end was not made
 pub record AreLevels (log : List Event) (levels : List ℕ) : Type 0 where

@@ -50,22 +50,22 @@ stays held v facts is = subst (λ (h : Option BookFacts). MayGiveBack v h facts 
 -- the turn of a job has begun
 pub begins : (held : Option BookFacts) (v : BookKnown) (script : ScriptView) (b b' : BookView) (j : JobView BodyView) (env : Env) → held ≡ Some (facts_of b) → b.script ≡ script → HasTicket (job_facts j) v.tickets → RunsAtSeat script v (job_facts j)
     → refusal_of_begin b.script b.log j ≡ None → IsEnv (root_count b.script) j.task b.log env → b' ≡ record b { log = b.log ++ Begin j.task j.number env ∷ [] }
-    → MayGiveBack v held (facts_of b') (λ taken. BeginsTicket (has_last_root taken.script taken.log) (job_facts j) env v)
+    → MayGiveBack v held (facts_of b') (λ taken. BeginsTicket taken.log (has_last_root taken.script taken.log) (job_facts j) env v)
 begins held v script b b' j env is of_script has at may env_is ends =
     let k = has.0 in
     let rest = has.1 in
-    let w = knowing_begin (has_last_root b.script b.log) k rest env v in
+    let w = knowing_begin b.log (has_last_root b.script b.log) k rest env v in
     let on : job_executor b.script (Some (job_facts j)) ≡ Some at.0.executor = subst (λ (s : ScriptView). job_executor s (Some (job_facts j)) ≡ Some at.0.executor) (sym of_script) at.2 in
     let give : MayGive v (facts_of b) (facts_of b') w =
     tickets_ordered v (k ∷ rest) (facts_of b) (facts_of b') w has.2 (begin_keeps (record v { tickets = k ∷ rest }) at.0 k rest env b b' j at.1 refl has.3 on may env_is ends)
     in
-    subst (λ (h : Option BookFacts). MayGiveBack v h (facts_of b') (λ taken. BeginsTicket (has_last_root taken.script taken.log) (job_facts j) env v)) (sym is) (w, (k, rest, has.2, has.3, refl), give)
+    subst (λ (h : Option BookFacts). MayGiveBack v h (facts_of b') (λ taken. BeginsTicket taken.log (has_last_root taken.script taken.log) (job_facts j) env v)) (sym is) (w, (k, rest, has.2, has.3, refl), give)
 
-pub names_begun : (job : Option JobFacts) (env : Option Env) (held : Option BookFacts) (v : BookKnown) (given : BookFacts) (j : JobFacts) (e : Env) → job ≡ Some j → env ≡ Some e → MayGiveBack v held given (λ taken. BeginsTicket (has_last_root taken.script taken.log) j e v)
-    → MayGiveBack v held given (λ taken w. IfSome job (λ x. IfSome env (λ y. BeginsTicket (has_last_root taken.script taken.log) x y v w)))
+pub names_begun : (job : Option JobFacts) (env : Option Env) (held : Option BookFacts) (v : BookKnown) (given : BookFacts) (j : JobFacts) (e : Env) → job ≡ Some j → env ≡ Some e → MayGiveBack v held given (λ taken. BeginsTicket taken.log (has_last_root taken.script taken.log) j e v)
+    → MayGiveBack v held given (λ taken w. IfSome job (λ x. IfSome env (λ y. BeginsTicket taken.log (has_last_root taken.script taken.log) x y v w)))
 names_begun job env held v given j e is_job is_env may =
-    subst (λ (o : Option JobFacts). MayGiveBack v held given (λ taken w. IfSome o (λ x. IfSome env (λ y. BeginsTicket (has_last_root taken.script taken.log) x y v w)))) (sym is_job)
-    (subst (λ (o : Option Env). MayGiveBack v held given (λ taken w. IfSome o (λ y. BeginsTicket (has_last_root taken.script taken.log) j y v w))) (sym is_env) may)
+    subst (λ (o : Option JobFacts). MayGiveBack v held given (λ taken w. IfSome o (λ x. IfSome env (λ y. BeginsTicket taken.log (has_last_root taken.script taken.log) x y v w)))) (sym is_job)
+    (subst (λ (o : Option Env). MayGiveBack v held given (λ taken w. IfSome o (λ y. BeginsTicket taken.log (has_last_root taken.script taken.log) j y v w))) (sym is_env) may)
 
 -- a root was added
 abbrev knowing_next : JobFacts → Maker → BookKnown → BookKnown

@@ -5,6 +5,7 @@ use Rattle.swift_types.specs.declared.env.Env.{Env}
 use Rattle.swift_script.specs.Scripts.{ScriptView}
 use Rattle.swift_job.specs.Job.{JobView}
 use Rattle.swift_turn.specs.Body.{BodyView}
+use Rattle.swift_events.specs.declared.event.Event.{Event}
 use Rattle.swift_history.specs.Orderly.{job_executor}
 use Rattle.swift_history.specs.TurnEnds.{JobFacts}
 use Rattle.swift_journal.specs.Records.{RecordView}
@@ -71,9 +72,9 @@ abbrev pub RunsAtSeat : ScriptView → BookKnown → JobFacts → Type 0
 RunsAtSeat script v j = (a : Account) × (v.accounts ≡ a ∷ []) × (job_executor script (Some j) ≡ Some a.executor)
 
 -- The turn of the ticket's job has begun in this environment: the ticket says so, and comes first. The accounts say that one more turn
--- has begun, where the last root was `there` or was not.
-abbrev pub BeginsTicket : Bool → JobFacts → Env → BookKnown → BookKnown → Type 0
-BeginsTicket there j env v w = (k : Ticket) × (rest : List Ticket) × IsPermutation v.tickets (k ∷ rest) × (k.job ≡ j) × (w ≡ knowing_begin there k rest env v)
+-- has begun, where this was the log, and the last root was `there` or was not.
+abbrev pub BeginsTicket : List Event → Bool → JobFacts → Env → BookKnown → BookKnown → Type 0
+BeginsTicket log there j env v w = (k : Ticket) × (rest : List Ticket) × IsPermutation v.tickets (k ∷ rest) × (k.job ≡ j) × (w ≡ knowing_begin log there k rest env v)
 
 -- the newest record of a journal
 abbrev pub newest : List RecordView → Option RecordView

@@ -53,7 +53,7 @@ impl BookLock {
         requires job { job.now.body.script ≡ self.now.script }
         requires ticket { HasTicket (job_facts job.now) taken.seat.knows.tickets }
         requires account { RunsAtSeat self.now.script taken.seat.knows (job_facts job.now) }
-        ensures ok { IfOk result (λ env. BeginsTicket (has_last_root taken.book.value.script taken.book.value.log) (job_facts job.now) env taken.seat.knows seat.new.knows) }
+        ensures ok { IfOk result (λ env. BeginsTicket taken.book.value.log (has_last_root taken.book.value.script taken.book.value.log) (job_facts job.now) env taken.seat.knows seat.new.knows) }
         ensures given { IfOk result (λ env. IsEnv (root_count taken.book.value.script) job.now.task taken.book.value.log env) }
         ensures lock { (seat.new.lock ≡ self.now.id) × (seat.new.here ≡ true) }
         ensures err { OnErr result (seat.new ≡ seat_of self.now taken.seat.knows) }

@@ -31,9 +31,9 @@ impl BookLock {
     )
         requires name { (K.job ≡ Some (job_facts job.now)) × (K.env ≡ Some env) }
         requires lock { given.seat.lock ≡ self.now.id }
-        requires gives { MayGiveBack given.seat.knows given.seat.taken (facts_of given.book.value) (λ taken. BeginsTicket (has_last_root taken.script taken.log) (job_facts job.now) env given.seat.knows) }
+        requires gives { MayGiveBack given.seat.knows given.seat.taken (facts_of given.book.value) (λ taken. BeginsTicket taken.log (has_last_root taken.script taken.log) (job_facts job.now) env given.seat.knows) }
         ensures lock { (seat.new.lock ≡ self.now.id) × (seat.new.here ≡ true) }
-        ensures begun { IfSome given.seat.taken (λ taken. BeginsTicket (has_last_root taken.script taken.log) (job_facts job.now) env given.seat.knows seat.new.knows) }
+        ensures begun { IfSome given.seat.taken (λ taken. BeginsTicket taken.log (has_last_root taken.script taken.log) (job_facts job.now) env given.seat.knows seat.new.knows) }
     {
         let _task = job.task();
         let _env = env;

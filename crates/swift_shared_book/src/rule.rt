@@ -57,7 +57,7 @@ pub struct BookBegins<K> {
 }
 
 impl<K: NamesBegun> UnlockOutcome<BookImage, Known> for BookBegins<K> {
-    ghost then = { λ known taken _ known'. IfSome K.job (λ job. IfSome K.env (λ env. BeginsTicket (has_last_root taken.facts.script taken.facts.log) job env known.view known'.view)) };
+    ghost then = { λ known taken _ known'. IfSome K.job (λ job. IfSome K.env (λ env. BeginsTicket taken.facts.log (has_last_root taken.facts.script taken.facts.log) job env known.view known'.view)) };
 }
 
 /// Names what a seat knows after a turn, in proofs alone: the record of the turn is in its view, and the book does not have it.

@@ -72,11 +72,13 @@ impl BookLock {
         }
     }
 
-    /// Takes the book, and waits until it can; `leave` gives it back. It is of the script of the lock: nothing is compared.
+    /// Takes the book, and waits until it can; `leave` gives it back. It is of the script of the lock: nothing is compared. What the seat
+    /// knows is true of it.
     pub fn lock<R: Wait>(&self, rt: &R, seat: &mut BookSeat) -> OpenBook
         requires { IsSeatOf self.now seat.old }
         ensures script { result.book.value.script ≡ self.now.script }
         ensures seat { result.seat ≡ record { lock = self.now.id; knows = seat.old.knows; taken = Some (facts_of result.book.value) } }
+        ensures knows { Knows seat.old.knows (facts_of result.book.value) }
     {
         let mut taking = seat.take();
         let shelf = self.lock.lock::<Finds, R>(rt, &mut taking);
