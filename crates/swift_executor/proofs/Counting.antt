@@ -3,7 +3,7 @@ use Rattle.std.proofs.Common.{◌≡◌, ◌≢◌, ℕ, ◌+◌, Bool, true, na
 use Rattle.std.proofs.lemmas.Bool.{cases_eq, cases_lt, le-ltb, lt-ltb}
 use Rattle.std.proofs.lemmas.List.{get_or-take, get_or_past}
 use Rattle.swift_types.specs.declared.id.TaskId.{TaskId}
-use Rattle.swift_executor.specs.Ready.{AreHigher, level_at}
+use Rattle.swift_executor.specs.Ready.{AreAtMost, AreHigher, level_at}
 use lib.Pointwise.{pointwise, bytes_decides}
 
 -- the greater of two levels
@@ -54,3 +54,7 @@ none_higher old given is t = elim (cases_lt t.0 (length given)) [
       sym (ap (higher (level_at old t)) e ∙ ap (λ (b : Bool). if b then level_at old t else level_at old t) (le-ltb (level_at old t) (level_at old t) (omega arith)))
   | inr ge ↦ sym (ap (higher (level_at old t)) (get_or_past given t.0 0 ge) ∙ ap (λ (b : Bool). if b then 0 else level_at old t) (le-ltb (level_at old t) 0 (omega arith)))
 ]
+
+-- where none of those that are given is greater, nothing changes
+pub at_most_higher : (old given : List ℕ) → AreAtMost given old → AreHigher old given old
+at_most_higher old given le t = sym (ap (λ (b : Bool). if b then level_at given t else level_at old t) (le-ltb (level_at old t) (level_at given t) (le t)))

@@ -1,11 +1,15 @@
 -- What each call keeps of what the seat of an executor knows.
-use Rattle.std.proofs.Common.{◌≡◌, ℕ, suc, ◌==◌, ℤ, Bool, true, false, if◌then◌else◌, Option, Some, None, IfSome, List, [], ◌∷◌, ◌++◌, length, map, drop, refl, ap, sym, subst, ◌∙◌, append_assoc}
-use Rattle.std.proofs.lemmas.List.{append-nil, map-append}
+use Rattle.std.proofs.Common.{◌≡◌, ℕ, suc, ◌≤◌, ◌==◌, ℤ, Bool, true, false, if◌then◌else◌, Option, Some, None, IfSome, List, [], ◌∷◌, ◌++◌, length, map, take, take_all, drop, replicate, get_or, refl, ap, sym, subst, ◌∙◌, append_assoc, arith, inl, inr}
+use Rattle.std.specs.Prelude.{All, is_some, nat_lt}
+use Rattle.std.proofs.lemmas.Bool.{false≢true}
+use Rattle.std.proofs.lemmas.Bool.Decides.{nat_tests}
+use Rattle.std.proofs.lemmas.List.{append-nil, length-append, map-append, take-append-le}
+use Rattle.std.proofs.lemmas.List.Elements.{All-head}
 use Rattle.std.proofs.lemmas.List.Sorted.{IsPermutation-cons, IsPermutation-map, IsPermutation-refl, IsPermutation-sym, IsPermutation-trans}
 use Rattle.std.specs.List.Sorted.{IsPermutation}
 use Rattle.swift_types.specs.declared.env.Env.{Env}
 use Rattle.swift_types.specs.declared.id.TaskId.{TaskId}
-use Rattle.swift_types.specs.declared.limits.TheConstants.{FOLD}
+use Rattle.swift_types.specs.declared.limits.TheConstants.{FOLD, TASKS}
 use Rattle.swift_types.specs.declared.outcome.Resume.{Resume}
 use Rattle.swift_script.specs.Scripts.{ScriptView, actor_executor, executor_start, method_actor}
 use Rattle.swift_interpreter.specs.Frames.{FrameView}
@@ -17,17 +21,19 @@ use Rattle.swift_journal.specs.Checkpoints.{FoldedView, folded_of, folds}
 use Rattle.swift_journal.specs.Records.{RecordView}
 use Rattle.swift_journal.specs.Replay.{IsLawfulRecord, LawfulGrows, fields_after, replay}
 use Rattle.swift_events.specs.declared.event.Event.{Event}
+use Rattle.swift_ledger.specs.Levels.{AreLevels, HaveStayed, IsLevel}
 use Rattle.swift_history.specs.TurnEnds.{JobFacts}
 use Rattle.swift_history.specs.Jobs.{job_facts}
 use Rattle.swift_history.specs.Orderly.{frames_executor}
 use Rattle.swift_known.specs.Views.{Account, BookKnown, Ticket, TurnOrder, at_rest, fresh}
+use Rattle.swift_course.specs.Course.{IsFront}
 use Rattle.swift_course.specs.Frames.{kept_frame}
 use Rattle.swift_course.specs.Steps.{order_applied, order_begun, with_record, with_turn_begun}
 use Rattle.swift_book_steps.specs.Calls.{IsPlayed}
 use Rattle.swift_shared_book.specs.Shared.{BeginsTicket, BookSeatView, HasPlayed, HasTicket, RunsAtSeat, after_turn, knowing, with_ticket}
 use Rattle.swift_executor.specs.Account.{ready_jobs}
-use Rattle.swift_executor.specs.Ready.{Adds, ReadyJobsView, ready_job}
-use Rattle.swift_executor.specs.Seats.{AccountsFor, AreTicketsAt, AreTicketsOf, IsFirst, IsOpened, IsSeatFor, jobs_of}
+use Rattle.swift_executor.specs.Ready.{Adds, AreAtMost, AreHigher, Forwards, HaveCounted, ReadyJobsView, level_at, ready_job}
+use Rattle.swift_executor.specs.Seats.{AccountsFor, AreTicketsAt, AreTicketsOf, HaveSeen, IsFirst, IsOpened, IsSeatFor, jobs_of, seen_by}
 use Rattle.swift_executor.specs.State.{BelongsTo, Chooses, ChosenView, ExecStateView, HasChosen, HasNone, IsChosen, ExecInvariant, LacksTask, Plays, PutsBack, ChosenStageView, picked, begun, played, before_turn, checkpoint_with, frame_after, journal_with, new_executor, record_by}
 use Rattle.swift_executor.specs.State as state
 use Rattle.swift_executor.proofs.AccountKept.{added, front_less, front_moved, front_more}
@@ -36,7 +42,7 @@ use Rattle.swift_executor.proofs.TurnKept.{recorded}
 
 -- the account is the same, whatever jobs are ready or chosen
 same_account : (s : ExecStateView) (v : BookKnown) (ready : ReadyJobsView BodyView) (chosen : Option ChosenView) (tickets : List Ticket) → AccountsFor s v → AccountsFor (record s { ready = ready; chosen = chosen }) (record v { tickets = tickets })
-same_account s v ready chosen tickets a = record { script_is = a.script_is; past = a.past; order = a.order; accounts = a.accounts; folded = a.folded; replayed = a.replayed }
+same_account s v ready chosen tickets a = record { script_is = a.script_is; past = a.past; order = a.order; seen = a.seen; accounts = a.accounts; folded = a.folded; replayed = a.replayed }
 
 -- the tickets, where no job is chosen, and where this one is
 free_tickets : (s : ExecStateView) (seat : BookSeatView) → IsSeatFor s seat → s.chosen ≡ None → IsPermutation (jobs_of seat.knows.tickets) (ready_jobs s.ready)
@@ -45,18 +51,62 @@ free_tickets s seat is free = subst (λ (o : Option ChosenView). AreTicketsOf s.
 chosen_tickets : (s : ExecStateView) (seat : BookSeatView) (c : ChosenView) → IsSeatFor s seat → s.chosen ≡ Some c → AreTicketsAt s.ready c.job c.stage seat.knows.tickets
 chosen_tickets s seat c is at = subst (λ (o : Option ChosenView). AreTicketsOf s.ready o seat.knows.tickets) at is.tickets
 
+-- the levels that were given stay so, where none falls
+max_is : (a b : ℕ) → a ≤ (if nat_lt a b then b else a)
+max_is a b = grind (arith, nat_tests)
+
+pub higher_rises : (old given new : List ℕ) → AreHigher old given new → AreAtMost old new
+higher_rises old given new higher t = subst (λ (n : ℕ). level_at old t ≤ n) (sym (higher t)) (max_is (level_at old t) (level_at given t))
+
+pub given_at_most : (old given new : List ℕ) → AreHigher old given new → AreAtMost given new
+given_at_most old given new higher t = subst (λ (n : ℕ). level_at given t ≤ n) (sym (higher t)) (max_is_too (level_at old t) (level_at given t))
+  where
+    max_is_too : (a b : ℕ) → b ≤ (if nat_lt a b then b else a)
+    max_is_too a b = grind (arith, nat_tests)
+
+still_counted : (log : List Event) (old new : List ℕ) → AreAtMost old new → HaveCounted log old → HaveCounted log new
+still_counted log old new rises h = (h.0, h.1, λ t. (let a = h.2 t in let b = rises t in omega (arith, a, b)))
+
+same_counted : (log : List Event) (old new : List ℕ) → new ≡ old → HaveCounted log old → HaveCounted log new
+same_counted log old new same h = subst (HaveCounted log) (sym same) h
+
+-- what is added or comes to the front leaves levels and count as they are
+adds_counts : (old : ReadyJobsView BodyView) (job : JobView BodyView) (new : ReadyJobsView BodyView) → Adds old job new → (new.counted ≡ old.counted) × (new.levels ≡ old.levels)
+adds_counts old job new (inl x) = (ap (λ (r : ReadyJobsView BodyView). r.counted) x.2, ap (λ (r : ReadyJobsView BodyView). r.levels) x.2)
+adds_counts old job new (inr x) = (ap (λ (r : ReadyJobsView BodyView). r.counted) x.1, ap (λ (r : ReadyJobsView BodyView). r.levels) x.1)
+
+pub forward_counts : (old : ReadyJobsView BodyView) (task : TaskId) (new : ReadyJobsView BodyView) → Forwards old task new → (new.counted ≡ old.counted) × (new.levels ≡ old.levels)
+forward_counts old task new (inl x) = (ap (λ (r : ReadyJobsView BodyView). r.counted) x.1, ap (λ (r : ReadyJobsView BodyView). r.levels) x.1)
+forward_counts old task new (inr x) = (ap (λ (r : ReadyJobsView BodyView). r.counted) x.7, ap (λ (r : ReadyJobsView BodyView). r.levels) x.7)
+
+-- so do the levels that a seat knows of
+pub seat_levels : (r r' : ReadyJobsView BodyView) (seen : List Event) → r'.counted ≡ r.counted → r'.levels ≡ r.levels → HaveCounted (take r.counted seen) r.levels → HaveCounted (take r'.counted seen) r'.levels
+seat_levels r r' seen same levels h = subst (λ (n : ℕ). HaveCounted (take n seen) r'.levels) (sym same) (same_counted (take r.counted seen) r.levels r'.levels levels h)
+
+seat_seen : (r r' : ReadyJobsView BodyView) (seen : List Event) → r'.counted ≡ r.counted → r.counted ≤ length seen → r'.counted ≤ length seen
+seat_seen r r' seen same le = subst (λ (n : ℕ). n ≤ length seen) (sym same) le
+
 -- an executor that has run no turn
+unmade : (t : TaskId) → IsLevel [] t 0
+unmade t = inl (refl, refl)
+
+none_counted : HaveCounted [] (replicate TASKS 0)
+none_counted = ([], record { each = unmade; few = omega arith }, λ t. omega arith)
+
 pub new_knows : (script : ScriptView) (executor room : ℕ) (seat : BookSeatView) → IsOpened script executor seat → IsSeatFor (new_executor script executor room) seat
 new_knows script executor room seat is = record {
   here = is.0;
-  account = subst (λ (v : BookKnown). AccountsFor (new_executor script executor room) v) (sym is.1) (record { script_is = refl; past = []; order = at_rest; accounts = refl; folded = refl; replayed = refl });
+  account = subst (λ (v : BookKnown). AccountsFor (new_executor script executor room) v) (sym is.1) (record { script_is = refl; past = []; order = at_rest; seen = []; accounts = refl; folded = refl; replayed = refl });
   tickets = subst (λ (v : BookKnown). IsPermutation (jobs_of v.tickets) []) (sym is.1) (IsPermutation-refl []);
+  seen = omega arith;
+  levels = none_counted;
 }
 
 -- a job that is accepted
 pub accepted_knows : (job : JobView BodyView) (old new : ExecStateView) (seat : BookSeatView) → IsSeatFor old seat → old.chosen ≡ None → Adds old.ready job new.ready → new ≡ record old { ready = new.ready }
     → IsSeatFor new (knowing (with_ticket (job_facts job) seat.knows) seat)
 accepted_knows job old new seat is free adds same =
+    let counts = adds_counts old.ready job new.ready adds in
     let tickets = seat.knows.tickets in
     let all = IsPermutation-trans (job_facts job ∷ jobs_of tickets) (job_facts job ∷ ready_jobs old.ready) (ready_jobs new.ready)
     (IsPermutation-cons (job_facts job) (jobs_of tickets) (ready_jobs old.ready) (free_tickets old seat is free)) (added old.ready job new.ready adds) in
@@ -65,6 +115,8 @@ accepted_knows job old new seat is free adds same =
       here = is.here;
       account = same_account old seat.knows new.ready old.chosen (fresh (job_facts job) ∷ tickets) is.account;
       tickets = subst (λ (o : Option ChosenView). AreTicketsOf new.ready o (fresh (job_facts job) ∷ tickets)) (sym free) all;
+      seen = seat_seen old.ready new.ready is.account.seen counts.0 is.seen;
+      levels = seat_levels old.ready new.ready is.account.seen counts.0 counts.1 is.levels;
     })
 
 -- a job that is chosen, one that is not, and none
@@ -78,6 +130,8 @@ chose_knows log task old new seat is free h =
       here = is.here;
       account = same_account old seat.knows ready (Some chosen) seat.knows.tickets is.account;
       tickets = IsPermutation-trans (jobs_of seat.knows.tickets) (ready_jobs old.ready) (job_facts h.job ∷ ready_jobs ready) (free_tickets old seat is free) less;
+      seen = is.seen;
+      levels = still_counted (take old.ready.counted is.account.seen) old.ready.levels new.ready.levels (higher_rises old.ready.levels h.picks.given new.ready.levels h.picks.higher) is.levels;
     })
 
 pub lacked_knows : (log : List Event) (old new : ExecStateView) (seat : BookSeatView) → IsSeatFor old seat → old.chosen ≡ None → LacksTask log old new → IsSeatFor new seat
@@ -89,6 +143,8 @@ lacked_knows log old new seat is free h =
       here = is.here;
       account = same_account old seat.knows ready old.chosen seat.knows.tickets is.account;
       tickets = subst (λ (o : Option ChosenView). AreTicketsOf ready o seat.knows.tickets) (sym free) all;
+      seen = is.seen;
+      levels = still_counted (take old.ready.counted is.account.seen) old.ready.levels new.ready.levels (higher_rises old.ready.levels h.picks.given new.ready.levels h.picks.higher) is.levels;
     })
 
 pub none_knows : (log : List Event) (old new : ExecStateView) (seat : BookSeatView) → IsSeatFor old seat → old.chosen ≡ None → HasNone log old new → IsSeatFor new seat
@@ -98,7 +154,13 @@ none_knows log old new seat is free h =
       here = is.here;
       account = same_account old seat.knows (record old.ready { levels = new.ready.levels }) old.chosen seat.knows.tickets is.account;
       tickets = subst (λ (o : Option ChosenView). AreTicketsOf (record old.ready { levels = new.ready.levels }) o seat.knows.tickets) (sym free) (free_tickets old seat is free);
+      seen = is.seen;
+      levels = still_counted (take old.ready.counted is.account.seen) old.ready.levels new.ready.levels (higher_rises old.ready.levels h.given new.ready.levels h.higher) is.levels;
     })
+
+-- after each of them the levels of the log have been given
+pub chose_counted : (log : List Event) (old new : ExecStateView) (given : List ℕ) → AreLevels log given → AreHigher old.ready.levels given new.ready.levels → HaveCounted log new.ready.levels
+chose_counted log old new given are higher = (given, are, given_at_most old.ready.levels given new.ready.levels higher)
 
 -- a turn that begins: there is a ticket for it, which comes first then
 pub picked_has_ticket : (s : ExecStateView) (seat : BookSeatView) (c : ChosenView) → IsSeatFor s seat → s.chosen ≡ Some c → c.stage ≡ picked → HasTicket (job_facts c.job) seat.knows.tickets
@@ -109,29 +171,41 @@ picked_has_ticket s seat c is at was =
 
 -- the job runs on the executor of the seat's account
 pub picked_runs : (s : ExecStateView) (seat : BookSeatView) (j : JobView BodyView) → IsSeatFor s seat → BelongsTo s.script s.executor j → RunsAtSeat s.script seat.knows (job_facts j)
-picked_runs s seat j is belongs = (record { executor = s.executor; records = is.account.past ++ s.journal; order = is.account.order }, is.account.accounts, first_on s.script s.executor j.body.task.frames belongs.top)
+picked_runs s seat j is belongs = (record { executor = s.executor; records = is.account.past ++ s.journal; order = is.account.order; seen = is.account.seen }, is.account.accounts, first_on s.script s.executor j.body.task.frames belongs.top)
   where
     first_on : (script : ScriptView) (e : ℕ) (fs : List FrameView) → HasFirst fs (λ f. actor_executor script (method_actor script f.method) ≡ e) → frames_executor script fs ≡ Some e
     first_on script e [] on = absurd on
     first_on script e (f ∷ fs) on = ap (λ (x : ℕ). Some x) on
 
+-- what the one account of a seat has seen of the log
+seen_front : (log : List Event) (accounts : List Account) (a : Account) → accounts ≡ a ∷ [] → All (λ x. IsFront x.seen log) accounts → IsFront a.seen log
+seen_front log accounts a one saw = All-head (λ (x : Account). IsFront x.seen log) a [] (subst (All (λ (x : Account). IsFront x.seen log)) one saw)
+
+-- a log that goes on has the same first events
+longer_seen : (n : ℕ) (seen log : List Event) → IsFront seen log → n ≤ length seen → n ≤ length log
+longer_seen n seen log front le = (let sum = ap length front.1 ∙ length-append seen front.0 in omega (arith, sum, le))
+
+pub first_seen : (n : ℕ) (seen log : List Event) → IsFront seen log → n ≤ length seen → take n seen ≡ take n log
+first_seen n seen log front le = sym (ap (take n) front.1 ∙ take-append-le n seen front.0 le)
+
 -- the account, once one more turn has begun there
-begun_account : (s : ExecStateView) (v : BookKnown) (chosen : Option ChosenView) (there : Bool) (tickets : List Ticket) → AccountsFor s v
-    → AccountsFor (record s { chosen = chosen }) (record v { accounts = map (with_turn_begun there) v.accounts; tickets = tickets })
-begun_account s v chosen there tickets a = record { script_is = a.script_is; past = a.past; order = order_begun there a.order; accounts = ap (map (with_turn_begun there)) a.accounts; folded = a.folded; replayed = a.replayed }
+begun_account : (s : ExecStateView) (v : BookKnown) (chosen : Option ChosenView) (log : List Event) (there : Bool) (tickets : List Ticket) → AccountsFor s v
+    → AccountsFor (record s { chosen = chosen }) (record v { accounts = map (with_turn_begun log there) v.accounts; tickets = tickets })
+begun_account s v chosen log there tickets a = record { script_is = a.script_is; past = a.past; order = order_begun there a.order; seen = log; accounts = ap (map (with_turn_begun log there)) a.accounts; folded = a.folded; replayed = a.replayed }
 
 -- what the accounts say then of how turns have begun
-pub orders_begun : (there : Bool) (xs : List Account) → map (λ (a : Account). a.order) (map (with_turn_begun there) xs) ≡ map (order_begun there) (map (λ (a : Account). a.order) xs)
-orders_begun there [] = refl
-orders_begun there (a ∷ xs) = ap (λ (os : List TurnOrder). order_begun there a.order ∷ os) (orders_begun there xs)
+pub orders_begun : (log : List Event) (there : Bool) (xs : List Account) → map (λ (a : Account). a.order) (map (with_turn_begun log there) xs) ≡ map (order_begun there) (map (λ (a : Account). a.order) xs)
+orders_begun log there [] = refl
+orders_begun log there (a ∷ xs) = ap (λ (os : List TurnOrder). order_begun there a.order ∷ os) (orders_begun log there xs)
 
 pub orders_applied : (r : RecordView) (xs : List Account) → map (λ (a : Account). a.order) (map (with_record r) xs) ≡ map order_applied (map (λ (a : Account). a.order) xs)
 orders_applied r [] = refl
 orders_applied r (a ∷ xs) = ap (λ (os : List TurnOrder). order_applied a.order ∷ os) (orders_applied r xs)
 
-pub began_knows : (s : ExecStateView) (c : ChosenView) (there : Bool) (worker : ℕ) (env : Env) (seat seat' : BookSeatView) → IsSeatFor s seat → s.chosen ≡ Some c → c.stage ≡ picked → BeginsTicket there (job_facts c.job) env seat.knows seat'.knows → seat'.here ≡ seat.here
+pub began_knows : (s : ExecStateView) (c : ChosenView) (log : List Event) (there : Bool) (worker : ℕ) (env : Env) (seat seat' : BookSeatView) → IsSeatFor s seat → s.chosen ≡ Some c → c.stage ≡ picked → BeginsTicket log there (job_facts c.job) env seat.knows seat'.knows → HaveSeen log seat.knows → seat'.here ≡ seat.here
     → IsSeatFor (record s { chosen = Some (record c { stage = begun worker env }) }) seat'
-began_knows s c there worker env seat seat' is at was (k, rest, perm, of_job, knows) here =
+began_knows s c log there worker env seat seat' is at was (k, rest, perm, of_job, knows) saw here =
+    let front = seen_front log seat.knows.accounts _ is.account.accounts saw in
     let all = subst (λ (st : ChosenStageView). AreTicketsAt s.ready c.job st seat.knows.tickets) was (chosen_tickets s seat c is at) in
     let images = IsPermutation-trans (k.job ∷ jobs_of rest) (jobs_of seat.knows.tickets) (job_facts c.job ∷ ready_jobs s.ready)
     (IsPermutation-sym (jobs_of seat.knows.tickets) (k.job ∷ jobs_of rest) (IsPermutation-map (λ (x : Ticket). x.job) seat.knows.tickets (k ∷ rest) perm)) all in
@@ -140,8 +214,10 @@ began_knows s c there worker env seat seat' is at was (k, rest, perm, of_job, kn
     let chosen : ChosenView = record c { stage = begun worker env } in
     record {
       here = here ∙ is.here;
-      account = subst (λ (x : BookKnown). AccountsFor (record s { chosen = Some chosen }) x) (sym knows) (begun_account s seat.knows (Some chosen) there (first ∷ rest) is.account);
+      account = subst (λ (x : BookKnown). AccountsFor (record s { chosen = Some chosen }) x) (sym knows) (begun_account s seat.knows (Some chosen) log there (first ∷ rest) is.account);
       tickets = subst (λ (x : BookKnown). IsFirst s.ready (job_facts c.job) env x.tickets) (sym knows) (first, rest, refl, of_job, refl, others);
+      seen = longer_seen s.ready.counted is.account.seen log front is.seen;
+      levels = subst (λ (es : List Event). HaveCounted es s.ready.levels) (first_seen s.ready.counted is.account.seen log front is.seen) is.levels;
     }
 
 -- a turn that is played
@@ -155,6 +231,8 @@ played_knows old new seat is (c, at, h) =
       here = is.here;
       account = same_account old seat.knows old.ready (Some chosen) seat.knows.tickets is.account;
       tickets = subst (λ (j : JobFacts). IsFirst old.ready j h.env seat.knows.tickets) (sym h.same_job) has;
+      seen = is.seen;
+      levels = is.levels;
     })
 
 -- the chosen job is ready again
@@ -179,6 +257,8 @@ back_knows old new seat is (c, at, h) =
       here = is.here;
       account = same_account old seat.knows ready None seat.knows.tickets is.account;
       tickets = IsPermutation-trans (jobs_of seat.knows.tickets) (j ∷ ready_jobs old.ready) (ready_jobs ready) all more;
+      seen = is.seen;
+      levels = is.levels;
     })
 
 -- the frame after a turn is the one that a record keeps
@@ -223,7 +303,7 @@ module _ (s : ExecStateView) (seat : BookSeatView) (c : ChosenView) (worker : �
       let fields = all_replayed s seat.knows a is in
       let rec = recorded s.script s.executor s.fields rows j worker env frame effects exit chosen.belongs plays in
       let has = frame_first s.script frame j.body.task.outer s.fields rows j.resume env effects exit j.body.task.frames plays.1 in
-      let account : Account = record { executor = s.executor; records = a.past ++ s.journal; order = a.order } in
+      let account : Account = record { executor = s.executor; records = a.past ++ s.journal; order = a.order; seen = a.seen } in
       let plays_is : IsPlayed s.script account t.0 j r =
       record {
         was = t.3;
@@ -241,15 +321,21 @@ module _ (s : ExecStateView) (seat : BookSeatView) (c : ChosenView) (worker : �
       record { account = account; ticket = t.0; rest = t.1; accounts = a.accounts; tickets = t.2; plays = plays_is }
 
   -- once it is journalled, the account has its record
-  pub turned_knows : (ready' : ReadyJobsView BodyView) → ((script : ScriptView) (fields : List (List ℤ)) (rs : List RecordView) (r : RecordView) → LawfulGrows script fields rs r) → IsPermutation (ready_jobs s.ready) (ready_jobs ready')
+  pub turned_knows : (ready' : ReadyJobsView BodyView) → ((script : ScriptView) (fields : List (List ℤ)) (rs : List RecordView) (r : RecordView) → LawfulGrows script fields rs r) → IsPermutation (ready_jobs s.ready) (ready_jobs ready') → (ready'.counted ≡ s.ready.counted) × (ready'.levels ≡ s.ready.levels)
       → let r = record_by c.job worker env frame effects exit in
       IsSeatFor (record s { ready = ready'; chosen = None; journal = journal_with s.journal r; checkpoint = checkpoint_with s.checkpoint s.journal r rows; fields = rows }) (knowing (after_turn r seat.knows) seat)
-  turned_knows ready' grows moved =
+  turned_knows ready' grows moved counts =
       let r = record_by c.job worker env frame effects exit in
       let t = first_ticket in
       let rest : drop 1 seat.knows.tickets ≡ t.1 = ap (drop 1) t.2 in
       let tickets = subst (λ (ks : List Ticket). IsPermutation (jobs_of ks) (ready_jobs ready')) (sym rest) (IsPermutation-trans (jobs_of t.1) (ready_jobs s.ready) (ready_jobs ready') t.5 moved) in
-      record { here = known.here; account = by (suc (length s.journal) == FOLD); tickets = tickets }
+      record {
+        here = known.here;
+        account = by (suc (length s.journal) == FOLD);
+        tickets = tickets;
+        seen = seat_seen s.ready ready' a.seen counts.0 known.seen;
+        levels = seat_levels s.ready ready' a.seen counts.0 counts.1 known.levels;
+      }
     where
       r : RecordView
       r = record_by c.job worker env frame effects exit
@@ -265,8 +351,8 @@ module _ (s : ExecStateView) (seat : BookSeatView) (c : ChosenView) (worker : �
           let rec = recorded s.script s.executor s.fields rows c.job worker env frame effects exit chosen.belongs plays in
           rec.fields_are ∙ ap (λ (fs : List (List ℤ)). fields_after s.script fs r) is.replayed ∙ sym (grows s.script s.checkpoint.fields s.journal r).replayed
 
-      accounts : (records : List RecordView) → (a.past ++ s.journal) ++ r ∷ [] ≡ records → map (with_record r) seat.knows.accounts ≡ record { executor = s.executor; records = records; order = order_applied a.order } ∷ []
-      accounts records are = ap (map (with_record r)) a.accounts ∙ ap (λ (rs : List RecordView). record { executor = s.executor; records = rs; order = order_applied a.order } ∷ []) are
+      accounts : (records : List RecordView) → (a.past ++ s.journal) ++ r ∷ [] ≡ records → map (with_record r) seat.knows.accounts ≡ record { executor = s.executor; records = records; order = order_applied a.order; seen = a.seen } ∷ []
+      accounts records are = ap (map (with_record r)) a.accounts ∙ ap (λ (rs : List RecordView). record { executor = s.executor; records = rs; order = order_applied a.order; seen = a.seen } ∷ []) are
 
       by : (b : Bool) → AccountsFor (record s { ready = ready'; chosen = None; journal = if b then [] else (s.journal ++ r ∷ []); checkpoint = if b then folds s.checkpoint (s.journal ++ r ∷ []) rows else s.checkpoint; fields = rows }) (after_turn r seat.knows)
       by true =
@@ -275,6 +361,7 @@ module _ (s : ExecStateView) (seat : BookSeatView) (c : ChosenView) (worker : �
             script_is = a.script_is;
             past = past;
             order = order_applied a.order;
+            seen = a.seen;
             accounts = accounts (past ++ []) (append_assoc a.past s.journal (r ∷ []) ∙ sym (append-nil past));
             folded = ap (λ (fs : List FoldedView). fs ++ map folded_of (s.journal ++ r ∷ [])) a.folded ∙ sym (map-append folded_of a.past (s.journal ++ r ∷ []));
             replayed = after ∙ ap (λ (fs : List (List ℤ)). replay s.script fs (s.journal ++ r ∷ [])) a.replayed ∙ sym (replay-append s.script start a.past (s.journal ++ r ∷ []));
@@ -283,7 +370,53 @@ module _ (s : ExecStateView) (seat : BookSeatView) (c : ChosenView) (worker : �
         script_is = a.script_is;
         past = a.past;
         order = order_applied a.order;
+        seen = a.seen;
         accounts = accounts (a.past ++ (s.journal ++ r ∷ [])) (append_assoc a.past s.journal (r ∷ []));
         folded = a.folded;
         replayed = a.replayed;
       }
+
+-- the levels that a book gives, where none has changed since they were given last
+one_level : (log : List Event) (t : TaskId) (l m : ℕ) → IsLevel log t l → IsLevel log t m → l ≡ m
+one_level log t l m (inl a) (inl b) = a.1 ∙ sym b.1
+one_level log t l m (inl a) (inr b) = absurd (false≢true (sym (ap is_some a.0) ∙ b.3))
+one_level log t l m (inr a) (inl b) = absurd (false≢true (sym (ap is_some b.0) ∙ a.3))
+one_level log t l m (inr a) (inr b) =
+    let up = b.1.greatest a.1.given.0 a.1.given.1 a.0 a.1.given.2 a.1.given.3 in
+    let down = a.1.greatest b.1.given.0 b.1.given.1 b.0 b.1.given.2 b.1.given.3 in
+    omega (arith, up, down, a.2, b.2)
+
+pub stayed_counted : (s : ExecStateView) (seat : BookSeatView) (log : List Event) (n : ℕ) (given : List ℕ) → IsSeatFor s seat → HaveSeen log seat.knows → HaveStayed log n → AreLevels log given → n ≤ s.ready.counted → AreAtMost given s.ready.levels
+stayed_counted s seat log n given is saw stayed are le t =
+    let front = seen_front log seat.knows.accounts _ is.account.accounts saw in
+    let was = is.levels in
+    let then_ : AreLevels (take s.ready.counted log) was.0 = subst (λ (es : List Event). AreLevels es was.0) (first_seen s.ready.counted is.account.seen log front is.seen) was.1 in
+    let now = stayed s.ready.counted le was.0 then_ in
+    subst (λ (l : ℕ). l ≤ level_at s.ready.levels t) (one_level log t (level_at was.0 t) (level_at given t) (now.each t) (are.each t)) (was.2 t)
+
+-- the levels of the log that the account has seen have been given
+counted_at : (r : ReadyJobsView BodyView) (j : JobView BodyView) (n : ℕ) (stage : ChosenStageView) (tickets : List Ticket) → AreTicketsAt r j stage tickets → AreTicketsAt (record r { counted = n }) j stage tickets
+counted_at r j n picked tickets are = are
+counted_at r j n (begun worker env) tickets are = are
+counted_at r j n (played worker env frame fields effects exit) tickets are = are
+
+counted_tickets : (r : ReadyJobsView BodyView) (n : ℕ) (chosen : Option ChosenView) (tickets : List Ticket) → AreTicketsOf r chosen tickets → AreTicketsOf (record r { counted = n }) chosen tickets
+counted_tickets r n None tickets are = are
+counted_tickets r n (Some c) tickets are = counted_at r c.job n c.stage tickets are
+
+seen_last : (log : List Event) (accounts : List Account) (a : Account) → accounts ≡ a ∷ [] → map (λ (x : Account). x.seen) accounts ≡ log ∷ [] → a.seen ≡ log
+seen_last log accounts a one saw = ap (λ (xs : List (List Event)). get_or xs 0 []) (sym (ap (map (λ (x : Account). x.seen)) one) ∙ saw)
+
+pub counted_knows : (s : ExecStateView) (seat : BookSeatView) (log : List Event) (n : ℕ) → IsSeatFor s seat → seen_by seat.knows ≡ log ∷ [] → n ≡ length log → HaveCounted log s.ready.levels
+    → IsSeatFor (record s { ready = record s.ready { counted = n } }) seat
+counted_knows s seat log n is saw all counted =
+    let seen = seen_last log seat.knows.accounts _ is.account.accounts saw in
+    let long : n ≡ length is.account.seen = all ∙ ap length (sym seen) in
+    let whole : take n is.account.seen ≡ log = take_all n is.account.seen (omega (arith, long)) ∙ seen in
+    record {
+      here = is.here;
+      account = same_account s seat.knows (record s.ready { counted = n }) s.chosen seat.knows.tickets is.account;
+      tickets = counted_tickets s.ready n s.chosen seat.knows.tickets is.tickets;
+      seen = omega (arith, long);
+      levels = subst (λ (es : List Event). HaveCounted es s.ready.levels) (sym whole) counted;
+    }

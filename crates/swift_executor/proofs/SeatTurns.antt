@@ -20,7 +20,7 @@ use Rattle.swift_executor.specs.declared.chosen.PlayedTurn.{PlayedTurn}
 use Rattle.swift_executor.specs.declared.chosen.ChosenStage.{ChosenStage}
 use Rattle.swift_executor.specs.declared.chosen.ChosenStage.TheVariants.{Picked, Begun, Played as PlayedStage}
 use Rattle.swift_executor.proofs.AccountKept.{forwarded}
-use Rattle.swift_executor.proofs.SeatKept.{has_played, turned_knows}
+use Rattle.swift_executor.proofs.SeatKept.{forward_counts, has_played, turned_knows}
 
 newest_push : (rs : List RecordView) (r : RecordView) → newest (rs ++ r ∷ []) ≡ Some r
 newest_push [] r = refl
@@ -76,6 +76,6 @@ applied s new p arrival stage job j1 seat seat' r book book' jobs jobs' grows is
     let c = chosen_view p arrival stage job in
     let own : RecordView = record_by job h.worker h.env h.frame h.effects h.exit in
     let of_turn : r ≡ own = same_Some r own (sym one ∙ newest_is p stage job s.journal j1 was wrote ∙ ap (record_at job) h.was) in
-    let here = turned_knows s seat c h.worker h.env h.frame h.fields h.effects h.exit is at h.was known new.ready grows (forwarded s.ready job.task new.ready h.forwards) in
+    let here = turned_knows s seat c h.worker h.env h.frame h.fields h.effects h.exit is at h.was known new.ready grows (forwarded s.ready job.task new.ready h.forwards) (forward_counts s.ready job.task new.ready h.forwards) in
     let there : IsSeatFor new (knowing (after_turn own seat.knows) seat) = subst (λ (v : ExecStateView). IsSeatFor v (knowing (after_turn own seat.knows) seat)) (sym h.same) here in
     subst (λ (x : BookSeatView). IsSeatFor new x) (sym same) (subst (λ (x : RecordView). IsSeatFor new (knowing (after_turn x seat.knows) seat)) (sym of_turn) there)

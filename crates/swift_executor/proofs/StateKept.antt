@@ -230,3 +230,27 @@ pub same_task : (stage : ChosenStageView) (j : JobView BodyView) → (before_tur
 same_task picked j = refl
 same_task (begun worker env) j = refl
 same_task (played worker env frame rows effects exit) j = refl
+
+-- the levels of all tasks were given when there were so many events
+same_chosen : (s : ExecStateView) (n : ℕ) (chosen : Option ChosenView) → IfSome chosen (IsChosen s) → IfSome chosen (IsChosen (record s { ready = record s.ready { counted = n } }))
+same_chosen s n None is = tt
+same_chosen s n (Some c) is = record {
+  belongs = is.belongs;
+  restorable = record { room = is.restorable.room; below = is.restorable.below; apart = is.restorable.apart; clear = is.restorable.clear };
+  plays = is.plays;
+}
+
+pub counted_keeps : (s : ExecStateView) (n : ℕ) → ExecInvariant s → ExecInvariant (record s { ready = record s.ready { counted = n } })
+counted_keeps s n is = record {
+  past = is.past;
+  lawful = is.lawful;
+  replayed = is.replayed;
+  runs = is.runs;
+  kept = is.kept;
+  counted = is.counted;
+  few = is.few;
+  front = is.front;
+  behind = is.behind;
+  led = is.led;
+  chosen = same_chosen s n s.chosen is.chosen;
+}

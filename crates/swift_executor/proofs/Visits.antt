@@ -11,15 +11,16 @@ use Rattle.swift_inbox.specs.Inbox.{InboxView, TakerView, has_taken}
 use Rattle.swift_job.specs.Job.{JobView}
 use Rattle.swift_history.specs.Jobs.{job_facts}
 use Rattle.swift_turn.specs.Body.{BodyView}
-use Rattle.swift_known.specs.Views.{TurnOrder, at_rest, under_way}
+use Rattle.swift_known.specs.Views.{BookFacts, BookKnown, TurnOrder, at_rest, under_way}
+use Rattle.swift_course.specs.Reports.{Knows}
 use Rattle.swift_course.specs.Steps.{order_begun}
 use Rattle.swift_executor.specs.Exec.{IsAt, chosen_task, site_of}
-use Rattle.swift_executor.specs.Ready.{Adds}
+use Rattle.swift_executor.specs.Ready.{Adds, HaveCounted}
 use Rattle.swift_executor.specs.State.{Chooses, ExecStateView, HasChosen, HasNone, IsPicked, LacksTask}
-use Rattle.swift_executor.specs.Seats.{IsSeatFor}
+use Rattle.swift_executor.specs.Seats.{HaveSeen, IsSeatFor}
 use Rattle.swift_shared_book.specs.Shared.{BookLockView, BookSeatView, IsSeatOf, knowing, seat_of, with_ticket}
 use Rattle.swift_executor.proofs.AccountKept.{accepted, chose, had_none, lacked}
-use Rattle.swift_executor.proofs.SeatKept.{accepted_knows, chose_knows, lacked_knows, none_knows}
+use Rattle.swift_executor.proofs.SeatKept.{accepted_knows, chose_counted, chose_knows, lacked_knows, none_knows}
 
 -- what holds after each answer holds
 pub either : {A E : Type 0} (r : Result A E) (P : Type 0) → OnOk r P → OnErr r P → P
@@ -61,6 +62,11 @@ module _ (given : List ℕ) (old new : ExecStateView) where
     same_known F seat (Ok None) some none err was = none_knows log old new seat was free (none log levels)
     same_known F seat (Err fault) some none err was = lacked_knows log old new seat was free (err.1 log levels)
 
+    pub has_counted : (F : ExecFault → Type 0) (r : Result (Option TaskId) ExecFault) → SomeIs r → NoneIs r → FaultIs F r → HaveCounted log new.ready.levels
+    has_counted F (Ok (Some task)) some none err = (let p = (some log levels).picks in chose_counted log old new p.given p.levels p.higher)
+    has_counted F (Ok None) some none err = (let h = none log levels in chose_counted log old new h.given h.levels h.higher)
+    has_counted F (Err fault) some none err = (let p = (err.1 log levels).picks in chose_counted log old new p.given p.levels p.higher)
+
     pub picks_by : (r : Result (Option TaskId) ExecFault) → SomeIs r → IfOk r (λ picked. IfSome picked (λ task. Chooses log old new task))
     picks_by (Ok (Some task)) some = some log levels
     picks_by (Ok None) some = tt
@@ -99,6 +105,10 @@ begun_in_order there orders is rest = ap (map (order_begun there)) rest ∙ ap (
 -- a seat that was taken and given back as it was is the same
 pub same_seat : (b : BookLockView) (s : BookSeatView) → IsSeatOf b s → seat_of b s.knows ≡ s
 same_seat b s is = ap (λ (id : TableId). record { lock = id; here = true; knows = s.knows }) (sym is.0) ∙ ap (λ (h : Bool). record s { here = h }) (sym is.1)
+
+-- what a seat knows of the book says what its accounts have seen of the log
+pub seen_of : (v : BookKnown) (facts : BookFacts) → Knows v facts → HaveSeen facts.log v
+seen_of v facts knows k d lt = (knows.1.orders k d lt).1
 
 -- a job that was taken out of the inbox is ready, and the seat has its ticket
 pub accepted_at : (i : InboxView) (t t1 t2 : TakerView) (seat seat' : BookSeatView) (s s' : ExecStateView) (sent job : JobView BodyView) → IsAt i t seat s → s.chosen ≡ None → t2 ≡ has_taken t1 sent → t1 ≡ t → job ≡ sent

@@ -102,15 +102,15 @@ abbrev pub StageIsBegun : ChosenStage → Type 0
 StageIsBegun (stage.Begun worker env) = Unit {0}
 StageIsBegun _ = ⊥
 
--- some book of this script has begun its turn on a worker, where the last root was `there` or was not, and its ticket says so and comes
--- first
-pub record BeginsShared (script : ScriptView) (there : Bool) (worker : ℕ) (old new : Chosen) (knows knows' : BookKnown) (j : JobView BodyView) : Type 0 where
+-- some book of this script has begun its turn on a worker, where this was the log, and the last root was `there` or was not; and its
+-- ticket says so and comes first
+pub record BeginsShared (script : ScriptView) (log : List Event) (there : Bool) (worker : ℕ) (old new : Chosen) (knows knows' : BookKnown) (j : JobView BodyView) : Type 0 where
   pub book : BookView
   pub book_of : book.script ≡ script
   pub env : Env
   pub given : IsEnv (root_count book.script) j.task book.log env
   pub new_is : new ≡ record old { stage = stage.Begun worker env }
-  pub ticket : BeginsTicket there (job_facts j) env knows knows'
+  pub ticket : BeginsTicket log there (job_facts j) env knows knows'
 
 -- its turn was played on these fields, and has left this
 pub record PlaysJob (rows : List (List ℤ)) (old new : Chosen) (p : PlayedTurn) (j : JobView BodyView) : Type 0 where

@@ -6,6 +6,8 @@ use Rattle.swift_types.specs.declared.id.TaskId.{TaskId}
 use Rattle.swift_types.specs.declared.priority.Priority.{Priority}
 use Rattle.swift_types.specs.declared.priority.Priority.TheVariants.{Background, Low, Medium, High}
 use Rattle.swift_job.specs.Job.{JobView}
+use Rattle.swift_events.specs.declared.event.Event.{Event}
+use Rattle.swift_ledger.specs.Levels.{AreLevels}
 
 -- a job that is ready, with the number of its arrival
 pub record ReadyJob (B : Type 0) : Type 0 where
@@ -13,14 +15,15 @@ pub record ReadyJob (B : Type 0) : Type 0 where
   pub arrival : ℕ
 
 -- The jobs that are ready: in front at most one of each task, in no order that means anything, and behind those whose task has
--- one in front or chosen, the oldest first; the room for all; how many ever came to the front; and of each task the greatest
--- level that a book has given.
+-- one in front or chosen, the oldest first; the room for all; how many ever came to the front; of each task the greatest level that
+-- a book has given; and how many events there were when those of all tasks were given last.
 pub record ReadyJobsView (B : Type 0) : Type 0 where
   pub front : List (ReadyJob B)
   pub behind : List (JobView B)
   pub room : ℕ
   pub arrived : ℕ
   pub levels : List ℕ
+  pub counted : ℕ
 
 -- the job as one that is ready, with the number of its arrival
 abbrev pub ready_job : {B : Type 0} → JobView B → ℕ → ReadyJob B
@@ -85,3 +88,11 @@ Forwards {B} r task new =
 -- each level becomes the greater of itself and the one that is given
 abbrev pub AreHigher : List ℕ → List ℕ → List ℕ → Type 0
 AreHigher old given new = (t : TaskId) → level_at new t ≡ (if nat_lt (level_at old t) (level_at given t) then level_at given t else level_at old t)
+
+-- none of these levels is greater than the task's other one
+abbrev pub AreAtMost : List ℕ → List ℕ → Type 0
+AreAtMost given levels = (t : TaskId) → level_at given t ≤ level_at levels t
+
+-- the levels of this log have been given
+abbrev pub HaveCounted : List Event → List ℕ → Type 0
+HaveCounted log levels = (given : List ℕ) × AreLevels log given × AreAtMost given levels

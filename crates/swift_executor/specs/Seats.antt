@@ -1,8 +1,9 @@
 -- What the seat of an executor knows: the turns that the executor has run, and the tickets of its jobs (our own).
-use Rattle.std.specs.Prelude.{◌≡◌, ℕ, Bool, true, Option, Some, None, List, [], ◌∷◌, ◌++◌, map}
+use Rattle.std.specs.Prelude.{◌≡◌, ℕ, ◌≤◌, Bool, true, Option, Some, None, List, [], ◌∷◌, ◌++◌, length, map, take, All}
 use Rattle.std.specs.List.Sorted.{IsPermutation}
 use Rattle.swift_types.specs.declared.env.Env.{Env}
 use Rattle.swift_script.specs.Scripts.{ScriptView, executor_start}
+use Rattle.swift_events.specs.declared.event.Event.{Event}
 use Rattle.swift_job.specs.Job.{JobView}
 use Rattle.swift_turn.specs.Body.{BodyView}
 use Rattle.swift_journal.specs.Checkpoints.{folded_of}
@@ -10,10 +11,11 @@ use Rattle.swift_journal.specs.Records.{RecordView}
 use Rattle.swift_journal.specs.Replay.{replay}
 use Rattle.swift_history.specs.TurnEnds.{JobFacts}
 use Rattle.swift_history.specs.Jobs.{job_facts}
+use Rattle.swift_course.specs.Course.{IsFront}
 use Rattle.swift_known.specs.Views.{Account, BookKnown, Ticket, TurnOrder, at_rest}
 use Rattle.swift_shared_book.specs.Shared.{BookSeatView}
 use Rattle.swift_executor.specs.Account.{ready_jobs}
-use Rattle.swift_executor.specs.Ready.{ReadyJobsView}
+use Rattle.swift_executor.specs.Ready.{HaveCounted, ReadyJobsView}
 use Rattle.swift_executor.specs.State.{ChosenView, ExecStateView, ChosenStageView, picked, begun, played, before_turn}
 
 -- the jobs of tickets
@@ -25,7 +27,8 @@ pub record AccountsFor (s : ExecStateView) (v : BookKnown) : Type 0 where
   pub script_is : v.script ≡ Some s.script
   pub past : List RecordView
   pub order : TurnOrder
-  pub accounts : v.accounts ≡ record { executor = s.executor; records = past ++ s.journal; order = order } ∷ []
+  pub seen : List Event
+  pub accounts : v.accounts ≡ record { executor = s.executor; records = past ++ s.journal; order = order; seen = seen } ∷ []
   pub folded : s.checkpoint.folded ≡ map folded_of past
   pub replayed : s.checkpoint.fields ≡ replay s.script (executor_start s.script s.executor) past
 
@@ -45,11 +48,14 @@ AreTicketsOf r None tickets = IsPermutation (jobs_of tickets) (ready_jobs r)
 AreTicketsOf r (Some c) tickets = AreTicketsAt r c.job c.stage tickets
 
 -- The seat is that of the executor: it is there, its account has the executor's turns, and it has the tickets of the executor's
--- jobs, each once.
+-- jobs, each once. What the account has seen of the log has as many events as were there when the levels of all tasks were given
+-- last, or more, and those are the levels that were given.
 pub record IsSeatFor (s : ExecStateView) (seat : BookSeatView) : Type 0 where
   pub here : seat.here ≡ true
   pub account : AccountsFor s seat.knows
   pub tickets : AreTicketsOf s.ready s.chosen seat.knows.tickets
+  pub seen : s.ready.counted ≤ length account.seen
+  pub levels : HaveCounted (take s.ready.counted account.seen) s.ready.levels
 
 -- what the accounts of a seat say of how turns have begun
 abbrev pub orders_of : BookKnown → List TurnOrder
@@ -59,9 +65,17 @@ orders_of v = map (λ a. a.order) v.accounts
 abbrev pub KeepsOrder : Bool → TurnOrder → BookSeatView → Type 0
 KeepsOrder is_orderly order seat = is_orderly ≡ true → orders_of seat.knows ≡ order ∷ []
 
+-- the log goes on from what the accounts of a seat have seen of it
+abbrev pub HaveSeen : List Event → BookKnown → Type 0
+HaveSeen log v = All (λ a. IsFront a.seen log) v.accounts
+
+-- what the accounts of a seat have seen of the log
+abbrev pub seen_by : BookKnown → List (List Event)
+seen_by v = map (λ a. a.seen) v.accounts
+
 -- what the seat of an executor knows that has run no turn and has no job
 abbrev pub opened_view : ScriptView → ℕ → BookKnown
-opened_view script executor = record { script = Some script; accounts = record { executor = executor; records = []; order = at_rest } ∷ []; tickets = []; maker = None }
+opened_view script executor = record { script = Some script; accounts = record { executor = executor; records = []; order = at_rest; seen = [] } ∷ []; tickets = []; maker = None }
 
 -- the seat is there, and knows what that of an executor does that has run no turn and has no job
 abbrev pub IsOpened : ScriptView → ℕ → BookSeatView → Type 0

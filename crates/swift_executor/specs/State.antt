@@ -116,7 +116,7 @@ abbrev pub new_executor : ScriptView → ℕ → ℕ → ExecStateView
 new_executor script executor room = record {
   script = script;
   executor = executor;
-  ready = record { front = []; behind = []; room = room; arrived = 0; levels = replicate TASKS 0 };
+  ready = record { front = []; behind = []; room = room; arrived = 0; levels = replicate TASKS 0; counted = 0 };
   chosen = None;
   journal = [];
   checkpoint = record { fields = executor_start script executor; folded = [] };

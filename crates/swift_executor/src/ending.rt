@@ -1,6 +1,6 @@
 //! A turn that begins, and one that ends, where threads share the book.
 
-ghost use Rattle.std.specs.Prelude.{◌≡◌, true, None, Some, map, IfErr, IfOk, OnErr, OnOk};
+ghost use Rattle.std.specs.Prelude.{◌≡◌, [], ◌∷◌, true, None, Some, map, IfErr, IfOk, OnErr, OnOk};
 ghost use Rattle.std.specs.List.{AllByRecursion};
 ghost use Rattle.swift_interpreter.specs.Frames.{effect_views};
 ghost use Rattle.swift_interpreter.specs.TurnStates.{exit_view};
@@ -13,7 +13,7 @@ ghost use Rattle.swift_turn.specs.Body.{IsRunning};
 ghost use Rattle.swift_journal.specs.Records.{RecordView};
 ghost use Rattle.swift_executor.specs.Exec.{IsRunFault};
 ghost use Rattle.swift_executor.specs.PlayingInside.{BeginsShared, HasJob, IsTaken};
-ghost use Rattle.swift_executor.specs.Seats.{IsSeatFor, orders_of};
+ghost use Rattle.swift_executor.specs.Seats.{HaveSeen, IsSeatFor, orders_of, seen_by};
 ghost use Rattle.swift_executor.specs.State.{BeginsTurn, EndsTurn, HasChosen, IsPicked, IsPlayed, PutsBack};
 
 use crate::chosen::{Chosen, ChosenStage, PlayedTurn};
@@ -41,7 +41,7 @@ fn begin_locked(
 ) -> Result<(), BookFault>
     requires untouched { IsAsTaken book.now taken.seat taken.book.value }
     requires job { HasJob chosen.old.job (λ j. (j.body.script ≡ book.now.script) × HasTicket (job_facts j) taken.seat.knows.tickets × RunsAtSeat book.now.script taken.seat.knows (job_facts j)) }
-    ensures ok { OnOk result (HasJob chosen.old.job (BeginsShared book.now.script (has_last_root taken.book.value.script taken.book.value.log) worker chosen.old chosen.new taken.seat.knows seat.new.knows)) }
+    ensures ok { OnOk result (HasJob chosen.old.job (BeginsShared book.now.script taken.book.value.log (has_last_root taken.book.value.script taken.book.value.log) worker chosen.old chosen.new taken.seat.knows seat.new.knows)) }
     ensures seat { (seat.new.lock ≡ book.now.id) × (seat.new.here ≡ true) }
     ensures err { OnErr result ((chosen.new ≡ chosen.old) × (seat.new ≡ seat_of book.now taken.seat.knows)) }
 {
@@ -128,10 +128,12 @@ impl ExecState {
         requires seat { IsSeatOf book.now (seat_of book.now taken.seat.knows) }
         requires script { book.now.script ≡ self.old.script }
         requires known { IsSeatFor self.old (seat_of book.now taken.seat.knows) }
+        requires front { HaveSeen taken.book.value.log taken.seat.knows }
         ensures seat { IsSeatOf book.now seat.new }
         ensures known { IsSeatFor self.new seat.new }
         ensures ok { OnOk result (BeginsTurn worker self.old self.new) }
         ensures order { OnOk result (orders_of seat.new.knows ≡ map (order_begun (has_last_root taken.book.value.script taken.book.value.log)) (orders_of taken.seat.knows)) }
+        ensures seen { OnOk result (seen_by seat.new.knows ≡ taken.book.value.log ∷ []) }
         ensures back { OnErr result (HasChosen self.old (PutsBack self.old self.new)) }
         ensures same { OnErr result (seat.new ≡ seat_of book.now taken.seat.knows) }
         ensures refused { IfErr result IsRunFault }

@@ -1,8 +1,8 @@
 //! Jobs that come, and the one that is picked.
 
-ghost use Rattle.std.specs.Prelude.{◌≡◌, List, None, nat_lt, IfOk, IfErr, IfSome, IfNone};
+ghost use Rattle.std.specs.Prelude.{◌≡◌, ◌≤◌, List, None, nat_lt, IfOk, IfErr, IfSome, IfNone};
 ghost use Rattle.swift_events.specs.declared.event.Event.{Event};
-ghost use Rattle.swift_executor.specs.Ready.{Adds, HasRoom, level_at};
+ghost use Rattle.swift_executor.specs.Ready.{Adds, AreAtMost, HasRoom, level_at};
 ghost use Rattle.swift_executor.specs.State.{BelongsTo, Chooses, HasNone, LacksTask, takes_by_arrival};
 ghost use Rattle.swift_ledger.specs.Levels.{AreLevels};
 
@@ -41,7 +41,23 @@ impl ExecState {
         ensures none { IfOk result (λ picked. IfNone picked ((log : List Event) → AreLevels log given.now → HasNone log self.old self.new)) }
         ensures err { IfErr result (λ fault. (fault ≡ ExecFault.Refused BookFault.Unknown) × ((log : List Event) → AreLevels log given.now → LacksTask log self.old self.new)) }
     {
-        self.ready.count(given);
+        self.choose_since(given, None)
+    }
+
+    /// `choose`, in constant time where no level has changed since the levels of all tasks were given last (`ReadyJobs::count_since`).
+    pub(crate) fn choose_since(
+        &mut self,
+        given: &[u8],
+        changed: Option<usize>,
+    ) -> Result<Option<TaskId>, ExecFault>
+        requires stayed { IfSome changed (λ n. n ≤ self.old.ready.counted → AreAtMost given.now self.old.ready.levels) }
+        requires free { self.old.chosen ≡ None }
+        requires levels { (log : List Event) × AreLevels log given.now }
+        ensures some { IfOk result (λ picked. IfSome picked (λ task. (log : List Event) → AreLevels log given.now → Chooses log self.old self.new task)) }
+        ensures none { IfOk result (λ picked. IfNone picked ((log : List Event) → AreLevels log given.now → HasNone log self.old self.new)) }
+        ensures err { IfErr result (λ fault. (fault ≡ ExecFault.Refused BookFault.Unknown) × ((log : List Event) → AreLevels log given.now → LacksTask log self.old self.new)) }
+    {
+        self.ready.count_since(given, changed);
         let by_arrival = takes_by_arrival(self.home.script().executor_kind(self.home.executor()));
         let Some((job, arrival)) = self.ready.take(by_arrival) else {
             return Ok(None);
@@ -53,6 +69,13 @@ impl ExecState {
         }
         self.chosen.pick(job, arrival);
         Ok(Some(task))
+    }
+
+    /// The levels of all tasks were given when there were this many events.
+    pub(crate) fn counts_from(&mut self, events: usize)
+        ensures { self.new ≡ record self.old { ready = record self.old.ready { counted = events } } }
+    {
+        self.ready.counts_from(events);
     }
 }
 

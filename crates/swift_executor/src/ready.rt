@@ -6,7 +6,7 @@ ghost use Rattle.swift_types.specs.declared.id.TaskId.{TaskId};
 ghost use Rattle.swift_types.specs.declared.limits.TheConstants.{TASKS};
 ghost use Rattle.swift_queue.specs.Queue.{IsRestorable, TakesFirst};
 ghost use Rattle.swift_executor.specs.ReadyInside.{Comes, HasTaskAt};
-ghost use Rattle.swift_executor.specs.Ready.{Adds, AreHigher, CanRestore, ComesFirst, Forwards, HasRoom, IsClear, level_at, priority_of, ready_job, tasks_in, times};
+ghost use Rattle.swift_executor.specs.Ready.{Adds, AreAtMost, AreHigher, CanRestore, ComesFirst, Forwards, HasRoom, IsClear, level_at, priority_of, ready_job, tasks_in, times};
 
 use crate::tasks::ReadyTasks;
 use std::alloc::{AllocError, Global};
@@ -27,6 +27,8 @@ pub struct ReadyJobs<B> {
     tasks: ReadyTasks,
     // The greatest level that a book gave, by the number of the task.
     levels: Vec<u8>,
+    // How many events there were when the levels of all tasks were given last.
+    counted: usize,
 }
 
 impl<B> Model for ReadyJobs<B> {
@@ -37,7 +39,7 @@ impl<B> Model for ReadyJobs<B> {
     ghost use Rattle.std.specs.Prelude.{map};
     ghost use Rattle.swift_executor.specs.ReadyInside.{ReadyInvariant, job_of};
 
-    ghost view = { λ r. record { front = map job_of r.queue.jobs; behind = r.behind.items; room = r.queue.room; arrived = r.queue.arrived; levels = r.levels.items } };
+    ghost view = { λ r. record { front = map job_of r.queue.jobs; behind = r.behind.items; room = r.queue.room; arrived = r.queue.arrived; levels = r.levels.items; counted = r.counted } };
 
     ghost invariant = { ReadyInvariant };
 }
@@ -76,7 +78,7 @@ fn take_from<B>(queue: &mut Queue<B>, by_arrival: bool) -> Option<(Job<B>, u64)>
 impl<B> ReadyJobs<B> {
     /// No job, with room for this many.
     pub fn with_room(alloc: Global, room: usize) -> Result<ReadyJobs<B>, AllocError>
-        ensures { IfOk result (λ r. r ≡ record { front = []; behind = []; room = room; arrived = 0; levels = replicate TASKS 0 }) }
+        ensures { IfOk result (λ r. r ≡ record { front = []; behind = []; room = room; arrived = 0; levels = replicate TASKS 0; counted = 0 }) }
     {
         let tasks = ReadyTasks::with_room(alloc, room)?;
         let levels = vec![in alloc; 0; TASKS]?;
@@ -87,6 +89,7 @@ impl<B> ReadyJobs<B> {
                 behind,
                 tasks,
                 levels,
+                counted: 0,
             }),
             Err(fault) => {
                 queue.close();
@@ -155,6 +158,30 @@ impl<B> ReadyJobs<B> {
             return;
         }
         self.count_each(given);
+    }
+
+    /// `count`, which takes constant time where no level has changed since the levels of all tasks were given last: where the last change
+    /// was at the event `changed` of the log or before, and not after. None where that is not known.
+    pub fn count_since(&mut self, given: &[u8], changed: Option<usize>)
+        requires few { length given.now ≤ TASKS }
+        requires stayed { IfSome changed (λ n. n ≤ self.old.counted → AreAtMost given.now self.old.levels) }
+        ensures front { IsPermutation self.old.front self.new.front }
+        ensures levels { AreHigher self.old.levels given.now self.new.levels }
+        ensures rest { self.new ≡ record self.old { front = self.new.front; levels = self.new.levels } }
+    {
+        if let Some(changed) = changed {
+            if changed <= self.counted {
+                return;
+            }
+        }
+        self.count(given);
+    }
+
+    /// The levels of all tasks were given when there were this many events.
+    pub fn counts_from(&mut self, events: usize)
+        ensures { self.new ≡ record self.old { counted = events } }
+    {
+        self.counted = events;
     }
 
     // Raises the level of each task to the one given, where that is greater, task by task.
@@ -234,6 +261,7 @@ impl<B> ReadyJobs<B> {
             behind,
             tasks: _,
             levels: _,
+            counted: _,
         } = self;
         empty_into(queue, behind)
     }

@@ -1,16 +1,18 @@
 //! A visit of a worker to an executor.
 
-ghost use Rattle.std.specs.Prelude.{◌≡◌, ◌<◌, ◌/◌, ◌↔◌, ◌⊎◌, List, None, Some, Err, false, map, IfOk, IfErr, IfSome, IfNone, IsSome, IsSomeAnd, OnOk, OnErr};
+ghost use Rattle.std.specs.Prelude.{◌≡◌, ◌<◌, ◌∷◌, [], length, ◌/◌, ◌↔◌, ◌⊎◌, List, None, Some, Err, false, map, IfOk, IfErr, IfSome, IfNone, IsSome, IsSomeAnd, OnOk, OnErr};
 ghost use Rattle.std.specs.List.{AllByRecursion};
 ghost use Rattle.futures.specs.Task.{Keeps};
 ghost use Rattle.swift_script.specs.Scripts.{executor_kind};
+ghost use Rattle.swift_events.specs.declared.event.Event.{Event};
 ghost use Rattle.swift_tasks.specs.Books.{IsJobOf};
 ghost use Rattle.atomic_table.specs.Seated.{TableId};
 ghost use Rattle.swift_history.specs.Jobs.{job_facts};
 ghost use Rattle.swift_history.specs.TurnEnds.{JobFacts};
 ghost use Rattle.swift_executor.specs.Account.{HasTaken};
 ghost use Rattle.swift_executor.specs.Exec.{HasFound, HasLeft, HasTried, IfNoTurn, IfTurn, IsMadeBy, chosen_task, IsAt, IsBookOf, IsDeskOf, IsRunFault, IsSeatAt, after_run, has_found, may_run, seat_after, site_of};
-ghost use Rattle.swift_executor.specs.Seats.{IsSeatFor, KeepsOrder, orders_of};
+ghost use Rattle.swift_executor.specs.Ready.{HaveCounted};
+ghost use Rattle.swift_executor.specs.Seats.{HaveSeen, IsSeatFor, KeepsOrder, orders_of, seen_by};
 ghost use Rattle.swift_known.specs.Views.{at_rest, under_way};
 ghost use Rattle.swift_shared_book.specs.Shared.{BookSeatView, IsAsTaken, IsSeatOf, seat_of};
 ghost use Rattle.swift_word.specs.Seat.{ended, last_found, left};
@@ -101,6 +103,7 @@ fn take_book<R: Wait>(rt: &R, held: &mut TakenState, book: &BookLock) -> OpenBoo
     ensures known { IsSeatFor held.new.state (seat_of book.now result.seat.knows) }
     ensures same { (held.new.taker ≡ held.old.taker) × (held.new.state ≡ held.old.state) }
     ensures order { (held.new.is_orderly ≡ held.old.is_orderly) × (result.seat.knows ≡ held.old.seat.knows) }
+    ensures front { HaveSeen result.book.value.log result.seat.knows }
 {
     book.lock(rt, &mut held.seat)
 }
@@ -108,6 +111,7 @@ fn take_book<R: Wait>(rt: &R, held: &mut TakenState, book: &BookLock) -> OpenBoo
 // Chooses the job that runs next, by the levels of a book.
 fn choose_one(state: &mut ExecState, book: &mut Book) -> Result<Option<TaskId>, ExecFault>
     requires free { state.old.chosen ≡ None }
+    requires seat { (seat : BookSeatView) × IsSeatFor state.old seat × HaveSeen book.old.log seat.knows }
     ensures book { book.new ≡ book.old }
     ensures same { (lock : TableId) → site_of lock state.new ≡ site_of lock state.old }
     ensures known { (seat : BookSeatView) → IsSeatFor state.old seat → IsSeatFor state.new seat }
@@ -117,11 +121,23 @@ fn choose_one(state: &mut ExecState, book: &mut Book) -> Result<Option<TaskId>, 
     ensures picks { IfOk result (λ picked. IfSome picked (λ task. Chooses book.old.log state.old state.new task)) }
     ensures empty { IfOk result (λ picked. IfNone picked (HasNone book.old.log state.old state.new)) }
     ensures lacks { IfErr result (λ fault. LacksTask book.old.log state.old state.new) }
+    ensures counted { HaveCounted book.old.log state.new.ready.levels }
     ensures none { IfOk result (λ picked. IfNone picked (state.new.chosen ≡ None)) }
     ensures free { OnErr result (state.new.chosen ≡ None) }
     ensures err { IfErr result IsRunFault }
 {
-    state.choose(book.levels())
+    let changed = book.levels_changed();
+    state.choose_since(book.levels(), Some(changed))
+}
+
+// The levels of all tasks were given when there were this many events, which are the log that the seat's account has seen.
+fn note_counted(state: &mut ExecState, events: usize)
+    ensures same { (lock : TableId) → site_of lock state.new ≡ site_of lock state.old }
+    ensures chosen { state.new.chosen ≡ state.old.chosen }
+    ensures taken { (taken : List JobFacts) → HasTaken taken state.old → HasTaken taken state.new }
+    ensures known { (seat : BookSeatView) (log : List Event) → IsSeatFor state.old seat → seen_by seat.knows ≡ log ∷ [] → events ≡ length log → HaveCounted log state.old.ready.levels → IsSeatFor state.new seat }
+{
+    state.counts_from(events);
 }
 
 // Begins the turn of the chosen job in a book that was taken, and gives the book back. It begins in order where the last root is there
@@ -137,6 +153,8 @@ fn start_one(
     requires seat { IsSeatOf book.now (seat_of book.now taken.seat.knows) }
     requires script { book.now.script ≡ held.old.state.script }
     requires known { IsSeatFor held.old.state (seat_of book.now taken.seat.knows) }
+    requires front { HaveSeen taken.book.value.log taken.seat.knows }
+    requires counted { HaveCounted taken.book.value.log held.old.state.ready.levels }
     requires order { KeepsOrder held.old.is_orderly at_rest (seat_of book.now taken.seat.knows) }
     ensures same { (held.new.taker ≡ held.old.taker) × (site_of book.now.id held.new.state ≡ site_of book.now.id held.old.state) }
     ensures seat { IsSeatOf book.now held.new.seat }
@@ -151,7 +169,10 @@ fn start_one(
     start_loses_none();
     refusal_loses_none();
     held.is_orderly = held.state.stays_orderly(held.is_orderly, &taken.book);
-    held.state.start_locked(worker, book, &mut held.seat, taken)
+    let events = taken.book.log().len();
+    held.state.start_locked(worker, book, &mut held.seat, taken)?;
+    note_counted(&mut held.state, events);
+    Ok(())
 }
 
 // Chooses the job that runs next, and begins its turn, by one lock of the book. None where no job is ready.

@@ -50,7 +50,7 @@ accounted_more : (p : ScriptView) (v w : BookKnown) (e : ℕ) (journal : List Re
 accounted_more p v w e journal c fields is = record {
   past = is.past;
   order = is.order;
-  account = Contains-append_left v.accounts w.accounts (record { executor = e; records = is.past ++ journal; order = is.order }) is.account;
+  account = Contains-append_left v.accounts w.accounts (record { executor = e; records = is.past ++ journal; order = is.order; seen = is.seen }) is.account;
   folded = is.folded;
   replayed = is.replayed;
   fields_are = is.fields_are;
@@ -71,7 +71,7 @@ only_one a = (0, omega arith, refl)
 -- The account of an executor's seat says what is left of the executor, once it is gathered.
 accounted_new : (v w : BookKnown) (s : ExecStateView) → AccountsFor s w → s.fields ≡ replay s.script s.checkpoint.fields s.journal → IsAccountedFor s.script (gathered v w) s.executor s.journal s.checkpoint s.fields
 accounted_new v w s are replayed =
-    let a : Account = record { executor = s.executor; records = are.past ++ s.journal; order = are.order } in
+    let a : Account = record { executor = s.executor; records = are.past ++ s.journal; order = are.order; seen = are.seen } in
     record {
       past = are.past;
       order = are.order;
@@ -86,7 +86,7 @@ rest_more : (v w : BookKnown) (s : ExecStateView) (many : ℕ) → AreAtRest man
 rest_more v w s many all are is rest e lt = elim (lt_or e many) [
   | inl less ↦ let x = all e less in (x.0, Contains-append_left v.accounts w.accounts x.0 x.1, x.2, x.3)
   | inr last ↦
-      let a : Account = record { executor = s.executor; records = are.past ++ s.journal; order = are.order } in
+      let a : Account = record { executor = s.executor; records = are.past ++ s.journal; order = are.order; seen = are.seen } in
       let own : are.order ≡ at_rest = first_one are.order at_rest (sym (ap (map (λ (b : Account). b.order)) are.accounts) ∙ rest) in
       (a, Contains-append_right v.accounts w.accounts a (subst (λ (accounts : List Account). Contains accounts a) (sym are.accounts) (only_one a)), omega (arith, is, last, lt), own)
 ]

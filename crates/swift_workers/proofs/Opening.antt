@@ -28,7 +28,7 @@ opened_next s t u n same next = next ∙ ap (λ (x : BookSeatView). knowing (mak
 pub opened_account : (b : BookLockView) (s t own : BookSeatView) (n : ℕ) (p : ScriptView) → IsSeatOf b s → b.script ≡ p → OpenedFrom s n t → own ≡ seat_of b (account_parted t.knows) → IsOpened p n own
 opened_account b s t own n p is script same parted =
     let known : s.knows.script ≡ Some p = is.2 ∙ ap (λ (x : ScriptView). Some x) script in
-    let view : Option ScriptView → BookKnown = λ o. record { script = o; accounts = record { executor = n; records = []; order = at_rest } ∷ []; tickets = []; maker = None } in
+    let view : Option ScriptView → BookKnown = λ o. record { script = o; accounts = record { executor = n; records = []; order = at_rest; seen = [] } ∷ []; tickets = []; maker = None } in
     (ap (λ (x : BookSeatView). x.here) parted, ap (λ (x : BookSeatView). x.knows) parted ∙ ap (λ (x : BookSeatView). account_parted x.knows) same ∙ ap view known)
 
 -- what the seat is after a root more

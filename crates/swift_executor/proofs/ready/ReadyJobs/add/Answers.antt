@@ -15,7 +15,7 @@ pub add-requires : goal.add-requires
 add-requires g c =
     let x = c.self.inside in
     let v = c.self.invariant in
-    let inside : HasRoom (record { front = map job_of x.queue.jobs; behind = x.behind.items; room = x.queue.room; arrived = x.queue.arrived; levels = x.levels.items }) 0 =
+    let inside : HasRoom (record { front = map job_of x.queue.jobs; behind = x.behind.items; room = x.queue.room; arrived = x.queue.arrived; levels = x.levels.items; counted = x.counted }) 0 =
     subst (λ (r : ReadyJobsView g.row.B.Denot). HasRoom r 0) (sym c.self.view_is) c.requires in
     let len = length-map x.queue.jobs job_of in
     let lt = inside.room in
@@ -27,7 +27,7 @@ pub invariant_of-self : goal.invariant_of-self
 invariant_of-self g c =
     let x = c.self.inside in
     let v = c.self.invariant in
-    let inside : HasRoom (record { front = map job_of x.queue.jobs; behind = x.behind.items; room = x.queue.room; arrived = x.queue.arrived; levels = x.levels.items }) 0 =
+    let inside : HasRoom (record { front = map job_of x.queue.jobs; behind = x.behind.items; room = x.queue.room; arrived = x.queue.arrived; levels = x.levels.items; counted = x.counted }) 0 =
     subst (λ (r : ReadyJobsView g.row.B.Denot). HasRoom r 0) (sym c.self.view_is) c.requires in
     let len = length-map x.queue.jobs job_of in
     let lt = inside.room in
@@ -56,7 +56,7 @@ pub invariant_of-self-else-holds : goal.invariant_of-self-else-holds
 invariant_of-self-else-holds g c =
     let x = c.self.inside in
     let v = c.self.invariant in
-    let inside : HasRoom (record { front = map job_of x.queue.jobs; behind = x.behind.items; room = x.queue.room; arrived = x.queue.arrived; levels = x.levels.items }) 0 =
+    let inside : HasRoom (record { front = map job_of x.queue.jobs; behind = x.behind.items; room = x.queue.room; arrived = x.queue.arrived; levels = x.levels.items; counted = x.counted }) 0 =
     subst (λ (r : ReadyJobsView g.row.B.Denot). HasRoom r 0) (sym c.self.view_is) c.requires in
     let len = length-map x.queue.jobs job_of in
     let lt = inside.room in
@@ -85,8 +85,8 @@ invariant_of-self-else-holds g c =
 pub returns-then-holds : goal.returns-then-holds
 returns-then-holds g c =
     let x = c.self.inside in
-    let old : ReadyJobsView g.row.B.Denot = record { front = map job_of x.queue.jobs; behind = x.behind.items; room = x.queue.room; arrived = x.queue.arrived; levels = x.levels.items } in
-    let new : ReadyJobsView g.row.B.Denot = record { front = map job_of x.queue.jobs; behind = c.push_reserved.new.self.items; room = x.queue.room; arrived = x.queue.arrived; levels = x.levels.items } in
+    let old : ReadyJobsView g.row.B.Denot = record { front = map job_of x.queue.jobs; behind = x.behind.items; room = x.queue.room; arrived = x.queue.arrived; levels = x.levels.items; counted = x.counted } in
+    let new : ReadyJobsView g.row.B.Denot = record { front = map job_of x.queue.jobs; behind = c.push_reserved.new.self.items; room = x.queue.room; arrived = x.queue.arrived; levels = x.levels.items; counted = x.counted } in
     subst (λ (r : ReadyJobsView g.row.B.Denot). Adds r c.args.job new) c.self.view_is (inr (
       λ clear. absurd (true≢false (sym c.if-holds.true ∙ c.holds.ensures.1 (all_unmap (λ (y : ReadyJob g.row.B.Denot). y.job.task ≢ c.task-task.result) job_of x.queue.jobs (subst (λ (t : TaskId). IsClear old.front t) (sym c.task-task.ensures) clear)))),
       ap (λ (js : List (JobView g.row.B.Denot)). record old { behind = js }) c.push_reserved.ensures.items,
@@ -95,8 +95,8 @@ returns-then-holds g c =
 pub returns-else-holds : goal.returns-else-holds
 returns-else-holds g c =
     let x = c.self.inside in
-    let old : ReadyJobsView g.row.B.Denot = record { front = map job_of x.queue.jobs; behind = x.behind.items; room = x.queue.room; arrived = x.queue.arrived; levels = x.levels.items } in
-    let new : ReadyJobsView g.row.B.Denot = record { front = map job_of c.put.new.self.jobs; behind = x.behind.items; room = c.put.new.self.room; arrived = c.put.new.self.arrived; levels = x.levels.items } in
+    let old : ReadyJobsView g.row.B.Denot = record { front = map job_of x.queue.jobs; behind = x.behind.items; room = x.queue.room; arrived = x.queue.arrived; levels = x.levels.items; counted = x.counted } in
+    let new : ReadyJobsView g.row.B.Denot = record { front = map job_of c.put.new.self.jobs; behind = x.behind.items; room = c.put.new.self.room; arrived = c.put.new.self.arrived; levels = x.levels.items; counted = x.counted } in
     let w = waiting c.args.job c.priority_of-priority.result x.queue.arrived in
     subst (λ (r : ReadyJobsView g.row.B.Denot). Adds r c.args.job new) c.self.view_is (inl (
       subst (λ (t : TaskId). IsClear old.front t) c.task-task.ensures (All-map (λ y. y.job.task ≢ c.task-task.result) job_of x.queue.jobs (c.holds.ensures.0 c.if-holds.false)),

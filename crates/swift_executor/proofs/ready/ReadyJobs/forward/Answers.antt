@@ -72,8 +72,8 @@ returns g c =
     ∙ ap (λ (js : List (JobView g.row.B.Denot)). (get_or js c.in-Some.place c.remove-job.result).task) (sym c.deref.ensures.value)
     ∙ here.task_is c.remove-job.result in
     let w = waiting c.remove-job.result c.priority_of-priority.result x.queue.arrived in
-    let old : ReadyJobsView g.row.B.Denot = record { front = map job_of x.queue.jobs; behind = x.behind.items; room = x.queue.room; arrived = x.queue.arrived; levels = x.levels.items } in
-    let new : ReadyJobsView g.row.B.Denot = record { front = map job_of c.put.new.self.jobs; behind = c.remove-job.new.self.items; room = c.put.new.self.room; arrived = c.put.new.self.arrived; levels = x.levels.items } in
+    let old : ReadyJobsView g.row.B.Denot = record { front = map job_of x.queue.jobs; behind = x.behind.items; room = x.queue.room; arrived = x.queue.arrived; levels = x.levels.items; counted = x.counted } in
+    let new : ReadyJobsView g.row.B.Denot = record { front = map job_of c.put.new.self.jobs; behind = c.remove-job.new.self.items; room = c.put.new.self.room; arrived = c.put.new.self.arrived; levels = x.levels.items; counted = x.counted } in
     subst (λ (r : ReadyJobsView g.row.B.Denot). Forwards r c.args.task new) c.self.view_is (inr (
       take c.in-Some.place x.behind.items,
       drop (suc c.in-Some.place) x.behind.items,

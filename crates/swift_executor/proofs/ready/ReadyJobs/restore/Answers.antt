@@ -13,7 +13,7 @@ pub add-requires : goal.add-requires
 add-requires g c =
     let x = c.self.inside in
     let v = c.self.invariant in
-    let can : CanRestore (record { front = map job_of x.queue.jobs; behind = x.behind.items; room = x.queue.room; arrived = x.queue.arrived; levels = x.levels.items }) c.args.job.task c.args.arrival =
+    let can : CanRestore (record { front = map job_of x.queue.jobs; behind = x.behind.items; room = x.queue.room; arrived = x.queue.arrived; levels = x.levels.items; counted = x.counted }) c.args.job.task c.args.arrival =
     subst (λ (r : ReadyJobsView g.row.B.Denot). CanRestore r c.args.job.task c.args.arrival) (sym c.self.view_is) c.requires in
     let len = length-map x.queue.jobs job_of in
     let lt = can.room in
@@ -24,7 +24,7 @@ add-requires g c =
 pub restore-requires : goal.restore-requires
 restore-requires g c =
     let x = c.self.inside in
-    let can : CanRestore (record { front = map job_of x.queue.jobs; behind = x.behind.items; room = x.queue.room; arrived = x.queue.arrived; levels = x.levels.items }) c.args.job.task c.args.arrival =
+    let can : CanRestore (record { front = map job_of x.queue.jobs; behind = x.behind.items; room = x.queue.room; arrived = x.queue.arrived; levels = x.levels.items; counted = x.counted }) c.args.job.task c.args.arrival =
     subst (λ (r : ReadyJobsView g.row.B.Denot). CanRestore r c.args.job.task c.args.arrival) (sym c.self.view_is) c.requires in
     let len = length-map x.queue.jobs job_of in
     let lt = can.room in (
@@ -41,7 +41,7 @@ pub invariant_of-self : goal.invariant_of-self
 invariant_of-self g c =
     let x = c.self.inside in
     let v = c.self.invariant in
-    let can : CanRestore (record { front = map job_of x.queue.jobs; behind = x.behind.items; room = x.queue.room; arrived = x.queue.arrived; levels = x.levels.items }) c.args.job.task c.args.arrival =
+    let can : CanRestore (record { front = map job_of x.queue.jobs; behind = x.behind.items; room = x.queue.room; arrived = x.queue.arrived; levels = x.levels.items; counted = x.counted }) c.args.job.task c.args.arrival =
     subst (λ (r : ReadyJobsView g.row.B.Denot). CanRestore r c.args.job.task c.args.arrival) (sym c.self.view_is) c.requires in
     let len = length-map x.queue.jobs job_of in
     let lt = can.room in

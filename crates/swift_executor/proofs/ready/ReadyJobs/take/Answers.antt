@@ -15,7 +15,7 @@ pub invariant_of-self : goal.invariant_of-self
 invariant_of-self g c =
     let x = c.self.inside in
     let same = c.in_default.ensures.none.1 in
-    subst (λ (q : QueueView g.row.B.Denot). ReadyInvariant (record { queue = q; behind = x.behind; tasks = x.tasks; levels = x.levels })) (sym same) c.self.invariant
+    subst (λ (q : QueueView g.row.B.Denot). ReadyInvariant (record { queue = q; behind = x.behind; tasks = x.tasks; levels = x.levels; counted = x.counted })) (sym same) c.self.invariant
 
 pub remove-requires : goal.remove-requires
 remove-requires g c =

@@ -11,9 +11,9 @@ use Rattle.swift_executor.proofs.ready.ReadyJobs.with_room.Goals as goal
 pub returns-in-Ok : goal.returns-in-Ok
 returns-in-Ok g c =
     let levels = c.in_ok-levels.levels.items in
-    ap (λ (q : QueueView g.row.B.Denot). record { front = map job_of q.jobs; behind = c.in-Ok.behind.items; room = q.room; arrived = q.arrived; levels = levels }) c.in_ok-queue.ensures
-    ∙ ap (λ (js : List (JobView g.row.B.Denot)). record { front = []; behind = js; room = c.args.room; arrived = 0; levels = levels }) c.in-Ok.ensures.items
-    ∙ ap (λ (ls : List ℕ). record { front = []; behind = []; room = c.args.room; arrived = 0; levels = ls }) (c.in_ok-levels.ensures.items_if_clones_equal (λ y is. is))
+    ap (λ (q : QueueView g.row.B.Denot). record { front = map job_of q.jobs; behind = c.in-Ok.behind.items; room = q.room; arrived = q.arrived; levels = levels; counted = 0 }) c.in_ok-queue.ensures
+    ∙ ap (λ (js : List (JobView g.row.B.Denot)). record { front = []; behind = js; room = c.args.room; arrived = 0; levels = levels; counted = 0 }) c.in-Ok.ensures.items
+    ∙ ap (λ (ls : List ℕ). record { front = []; behind = []; room = c.args.room; arrived = 0; levels = ls; counted = 0 }) (c.in_ok-levels.ensures.items_if_clones_equal (λ y is. is))
 
 pub invariant_of-result : goal.invariant_of-result
 invariant_of-result g c =

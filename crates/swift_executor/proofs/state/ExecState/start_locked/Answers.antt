@@ -1,12 +1,14 @@
-use Rattle.std.proofs.Common.{◌≡◌, Some, Option, IfSome, ◌++◌, ◌∷◌, [], refl, ap, sym, subst, ◌∙◌}
+use Rattle.std.proofs.Common.{◌≡◌, List, map, Some, Option, IfSome, ◌++◌, ◌∷◌, [], refl, ap, sym, subst, ◌∙◌}
 use Rattle.std.proofs.lemmas.Option.{same_Some}
 use Rattle.swift_events.specs.declared.event.Event.TheVariants.{Begin as Begins_event}
 use Rattle.swift_tasks.specs.Books.{BookView}
-use Rattle.swift_known.specs.Views.{BookKnown}
+use Rattle.swift_known.specs.Views.{Account, BookKnown}
 use Rattle.swift_script.specs.Scripts.{ScriptView}
+use Rattle.swift_course.specs.Steps.{with_turn_begun}
 use Rattle.swift_history.specs.Jobs.{job_facts}
+use Rattle.swift_history.specs.Orderly.{has_last_root}
 use Rattle.swift_shared_book.specs.Shared.{RunsAtSeat, seat_of}
-use Rattle.swift_executor.specs.Seats.{IsSeatFor, orders_of}
+use Rattle.swift_executor.specs.Seats.{IsSeatFor, orders_of, seen_by}
 use Rattle.swift_executor.specs.State.{BeginsTurn, ChosenView, ExecStateView, HasChosen, IsChosen, ExecInvariant, IsPicked, PutsBack, begun}
 use Rattle.swift_executor.specs.StateInside.{chosen_at, chosen_of, chosen_view}
 use Rattle.swift_executor.specs.declared.chosen.Chosen.{Chosen}
@@ -83,7 +85,7 @@ returns-in-Ok-clause-known c =
     let new : chosen_of x.played c.begin_locked.new.chosen ≡ Some (record chosen { stage = begun c.args.worker h.2.env }) =
     ap (chosen_of x.played) h.2.new_is ∙ ap (chosen_at x.played x.chosen.arrival (Begun c.args.worker h.2.env)) h.1 in
     subst (λ (o : Option ChosenView). IsSeatFor (record s { chosen = o }) c.begin_locked.new.seat) (sym new)
-    (began_knows s chosen _ c.args.worker h.2.env seat c.begin_locked.new.seat known at (stage_picked chosen.stage was) h.2.ticket c.in-Ok.ensures.seat.1)
+    (began_knows s chosen _ _ c.args.worker h.2.env seat c.begin_locked.new.seat known at (stage_picked chosen.stage was) h.2.ticket c.requires.front c.in-Ok.ensures.seat.1)
 
 pub returns-in-Ok-clause-ok : goal.returns-in-Ok-clause-ok
 returns-in-Ok-clause-ok c =
@@ -134,4 +136,9 @@ returns-in-Err-clause-back c =
 pub returns-in-Ok-clause-order : goal.returns-in-Ok-clause-order
 returns-in-Ok-clause-order c =
     let t = c.in-Ok.ensures.ok.2.ticket in
-    ap (λ (v : BookKnown). orders_of v) t.4 ∙ orders_begun _ c.args.taken.seat.knows.accounts
+    ap (λ (v : BookKnown). orders_of v) t.4 ∙ orders_begun _ _ c.args.taken.seat.knows.accounts
+
+pub returns-in-Ok-clause-seen : goal.returns-in-Ok-clause-seen
+returns-in-Ok-clause-seen c =
+    let t = c.in-Ok.ensures.ok.2.ticket in
+    ap (λ (v : BookKnown). seen_by v) t.4 ∙ ap (λ (xs : List Account). map (λ (a : Account). a.seen) (map (with_turn_begun c.args.taken.book.value.log (has_last_root c.args.taken.book.value.script c.args.taken.book.value.log)) xs)) c.requires.known.account.accounts
