@@ -170,7 +170,8 @@ fn start_one(
     refusal_loses_none();
     held.is_orderly = held.state.stays_orderly(held.is_orderly, &taken.book);
     let events = taken.book.log().len();
-    held.state.start_locked(worker, book, &mut held.seat, taken)?;
+    held.state
+        .start_locked(worker, book, &mut held.seat, taken)?;
     note_counted(&mut held.state, events);
     Ok(())
 }
