@@ -164,11 +164,11 @@ under_way_is facts s a k r given turn = (
 )
 
 -- what a turn leaves goes on from the log that it has found
-effects_go_on : (es : List EffectView) (roots t : ℕ) (own : Priority) (log : List Event) → IsFront log (log_after roots t own log es)
-effects_go_on [] roots t own log = ([], sym (append-nil log))
-effects_go_on (e ∷ es) roots t own log =
-    let events = effect_events roots t own log e in
-    front_goes_on log (log ++ events) (log_after roots t own (log ++ events) es) (events, refl) (effects_go_on es roots t own (log ++ events))
+effects_go_on : (es : List EffectView) (n t : ℕ) (own : Priority) (log : List Event) → IsFront log (log_after n t own log es)
+effects_go_on [] n t own log = ([], sym (append-nil log))
+effects_go_on (e ∷ es) n t own log =
+    let events = effect_events n t own log e in
+    front_goes_on log (log ++ events) (log_after n t own (log ++ events) es) (events, refl) (effects_go_on es n t own (log ++ events))
 
 turn_goes_on : (script : ScriptView) (log : List Event) (held : List (Option WaitingTaskView)) (t n : ℕ) (own : Priority) (effects : List EffectView) (exit : ExitView) (after : Advanced)
     → IsFront log (turn_end script log held t n own effects exit after).log

@@ -7,6 +7,7 @@ use Rattle.std.proofs.lemmas.List.Sums.{sum_by-take-drop, sum_by_push}
 use mathlib.Core.Option.{some, some-injective, some-ne-none}
 use lib.ListN.{get_elem?}
 use Rattle.swift_script.specs.Scripts.{ScriptView, executor_count, root_count}
+use Rattle.swift_events.specs.declared.event.Event.{Event}
 use Rattle.swift_history.specs.Histories.{Block, records_of, roots_of}
 use Rattle.swift_history.specs.Orderly.{AllAllowed, IsOrderly}
 use Rattle.swift_course.specs.Course.{IsCourse, IsGiven, IsIn, IsOrdered, IsOwned, SaysOrder, SeatIsRight, is_for, one_if, standing, tickets_in, waits}
