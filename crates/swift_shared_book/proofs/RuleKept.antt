@@ -143,6 +143,20 @@ applies None held v script b b' newest effects exit before after is of_script pl
 applies (Some j) held v script b b' newest effects exit before after is of_script played may ends same =
     job_applies held v b b' newest effects exit before after j is (subst (λ (s : ScriptView). IsPlayedIn s v newest effects exit j) (sym of_script) played) may ends same
 
+-- the end of the turn, by the jobs as they were and as they are
+pub ends_shown : (place : Option (JobView BodyView)) (script : ScriptView) (b b' : BookView) (effects : List EffectView) (exit : ExitView) (before after old new : List (JobView BodyView)) → b.script ≡ script → b'.script ≡ b.script → before ≡ old → after ≡ new
+    → IsSomeAnd place (λ j. IsEndOf b (map job_facts before) j effects exit b'.log b'.held (map job_facts after))
+    → IsSomeAnd place (λ j. (x : BookView) × (x' : BookView) × (x.script ≡ script) × (x'.script ≡ x.script) × IsEndOf x (map job_facts old) j effects exit x'.log x'.held (map job_facts new))
+ends_shown None script b b' effects exit before after old new of_script same was now ends = absurd ends
+ends_shown (Some j) script b b' effects exit before after old new of_script same was now ends = (
+  b,
+  b',
+  of_script,
+  same,
+  subst (λ (l : List (JobView BodyView)). IsEndOf b (map job_facts old) j effects exit b'.log b'.held (map job_facts l)) now
+      (subst (λ (l : List (JobView BodyView)). IsEndOf b (map job_facts l) j effects exit b'.log b'.held (map job_facts after)) was ends),
+)
+
 -- the jobs of a list, after a turn that made some more
 
 pub jobs_made : (place : Option (JobView BodyView)) (b b' : BookView) (effects : List EffectView) (exit : ExitView) (before after : List (JobView BodyView))

@@ -1,4 +1,4 @@
-use Rattle.std.proofs.Common.{◌≡◌, ℕ, Some, List, length, drop, map, refl, sym, ap, ◌∙◌, subst, arith, rules}
+use Rattle.std.proofs.Common.{◌≡◌, ℕ, Bool, Some, List, length, drop, map, refl, sym, ap, ◌∙◌, subst, arith, rules}
 use Rattle.std.specs.Prelude.{IsSomeAnd, vec_len}
 use Rattle.swift_interpreter.specs.Frames.{effect_views}
 use Rattle.swift_interpreter.specs.TurnStates.{exit_view}
@@ -9,9 +9,10 @@ use Rattle.swift_course.specs.Seats.{gathered}
 use Rattle.swift_tasks.specs.Books.{BookView}
 use Rattle.swift_history.specs.Jobs.{job_facts}
 use Rattle.swift_book_steps.specs.Calls.{facts_of}
-use Rattle.swift_shared_book.specs.Shared.{OpenSeatView, newest, tickets_view}
+use Rattle.swift_shared_book.specs.Shared.{OpenSeatView, TicketedJobsView, newest, tickets_view}
+use Rattle.swift_shared_book.specs.SharedInside.{oldest_first}
 use Rattle.swift_shared_book.specs.StepsInside.{MayGiveBack, knowing_record}
-use Rattle.swift_shared_book.proofs.RuleKept.{IsPlayedIn, applies, jobs_made, no_fewer, tickets_after}
+use Rattle.swift_shared_book.proofs.RuleKept.{IsPlayedIn, applies, ends_shown, jobs_made, no_fewer, tickets_after}
 use Rattle.swift_shared_book.proofs.Shapes.{has_tickets}
 use Rattle.swift_shared_book.proofs.shared.BookLock.apply.Goals as goal
 
@@ -59,3 +60,11 @@ invariant_of-jobs g c =
     has_tickets c.give_turn.new.tickets c.args.self.now (tickets_view script c.jobs_from-made.result.now) c.jobs.inside.seat.knows script old c.jobs_from-made.result.now before after c.turn.new.is_reversed c.give_turn.ensures.tickets refl
     (c.jobs.invariant.2 ∙ ap (tickets_view old) (sym c.turn.ensures.jobs))
     (ap (λ (l : List (JobView BodyView)). gathered (tickets_view script l) (tickets_view old before)) made ∙ tickets_after script old before after m.0 m.1) c.turn.ensures.way
+
+pub returns-in-Ok-clause-ok : goal.returns-in-Ok-clause-ok
+returns-in-Ok-clause-ok g c =
+    let b = c.deref_mut.result.now in
+    let same : c.lock-taken.result.book.value ≡ b = sym c.deref_mut.ensures.value in
+    ends_shown c.args.place.now c.args.self.now.script b c.apply_in.new.self (effect_views c.args.effects.now) (exit_view c.args.exit.now) c.turn.new.jobs.items c.apply_in.new.jobs.items c.args.jobs.now.jobs
+    (oldest_first c.turn.new.is_reversed c.apply_in.new.jobs.items) (ap (λ (x : BookView). x.script) (sym same) ∙ c.lock-taken.ensures.script) c.in-Ok.ensures.script (c.turn.ensures.jobs ∙ ap (λ (t : TicketedJobsView). t.jobs) c.jobs.view_is)
+    (sym (ap (λ (w : Bool). oldest_first w c.apply_in.new.jobs.items) c.turn.ensures.way)) c.in-Ok.ensures.ok
