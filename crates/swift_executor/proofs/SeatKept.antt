@@ -21,6 +21,7 @@ use Rattle.swift_journal.specs.Checkpoints.{FoldedView, folded_of, folds}
 use Rattle.swift_journal.specs.Records.{RecordView}
 use Rattle.swift_journal.specs.Replay.{IsLawfulRecord, LawfulGrows, fields_after, replay}
 use Rattle.swift_events.specs.declared.event.Event.{Event}
+use Rattle.swift_events.specs.Lives.{life}
 use Rattle.swift_ledger.specs.Levels.{AreLevels, HaveStayed, IsLevel}
 use Rattle.swift_history.specs.TurnEnds.{JobFacts}
 use Rattle.swift_history.specs.Jobs.{job_facts}
@@ -41,7 +42,7 @@ use Rattle.swift_executor.proofs.Cancelled.{has_image, same_others}
 use Rattle.swift_executor.proofs.TurnKept.{recorded}
 
 -- the account is the same, whatever jobs are ready or chosen
-same_account : (s : ExecStateView) (v : BookKnown) (ready : ReadyJobsView BodyView) (chosen : Option ChosenView) (tickets : List Ticket) → AccountsFor s v → AccountsFor (record s { ready = ready; chosen = chosen }) (record v { tickets = tickets })
+abbrev same_account : (s : ExecStateView) (v : BookKnown) (ready : ReadyJobsView BodyView) (chosen : Option ChosenView) (tickets : List Ticket) → AccountsFor s v → AccountsFor (record s { ready = ready; chosen = chosen }) (record v { tickets = tickets })
 same_account s v ready chosen tickets a = record { script_is = a.script_is; past = a.past; order = a.order; seen = a.seen; accounts = a.accounts; folded = a.folded; replayed = a.replayed }
 
 -- the tickets, where no job is chosen, and where this one is
@@ -88,6 +89,7 @@ seat_seen r r' seen same le = subst (λ (n : ℕ). n ≤ length seen) (sym same)
 
 -- an executor that has run no turn
 unmade : (t : TaskId) → IsLevel [] t 0
+unfolding life
 unmade t = inl (refl, refl)
 
 none_counted : HaveCounted [] (replicate TASKS 0)
@@ -188,11 +190,6 @@ longer_seen n seen log front le = (let sum = ap length front.1 ∙ length-append
 pub first_seen : (n : ℕ) (seen log : List Event) → IsFront seen log → n ≤ length seen → take n seen ≡ take n log
 first_seen n seen log front le = sym (ap (take n) front.1 ∙ take-append-le n seen front.0 le)
 
--- the account, once one more turn has begun there
-begun_account : (s : ExecStateView) (v : BookKnown) (chosen : Option ChosenView) (log : List Event) (there : Bool) (tickets : List Ticket) → AccountsFor s v
-    → AccountsFor (record s { chosen = chosen }) (record v { accounts = map (with_turn_begun log there) v.accounts; tickets = tickets })
-begun_account s v chosen log there tickets a = record { script_is = a.script_is; past = a.past; order = order_begun there a.order; seen = log; accounts = ap (map (with_turn_begun log there)) a.accounts; folded = a.folded; replayed = a.replayed }
-
 -- what the accounts say then of how turns have begun
 pub orders_begun : (log : List Event) (there : Bool) (xs : List Account) → map (λ (a : Account). a.order) (map (with_turn_begun log there) xs) ≡ map (order_begun there) (map (λ (a : Account). a.order) xs)
 orders_begun log there [] = refl
@@ -214,7 +211,15 @@ began_knows s c log there worker env seat seat' is at was (k, rest, perm, of_job
     let chosen : ChosenView = record c { stage = begun worker env } in
     record {
       here = here ∙ is.here;
-      account = subst (λ (x : BookKnown). AccountsFor (record s { chosen = Some chosen }) x) (sym knows) (begun_account s seat.knows (Some chosen) log there (first ∷ rest) is.account);
+      account = record {
+        script_is = ap (λ (x : BookKnown). x.script) knows ∙ is.account.script_is;
+        past = is.account.past;
+        order = order_begun there is.account.order;
+        seen = log;
+        accounts = ap (λ (x : BookKnown). x.accounts) knows ∙ ap (map (with_turn_begun log there)) is.account.accounts;
+        folded = is.account.folded;
+        replayed = is.account.replayed;
+      };
       tickets = subst (λ (x : BookKnown). IsFirst s.ready (job_facts c.job) env x.tickets) (sym knows) (first, rest, refl, of_job, refl, others);
       seen = longer_seen s.ready.counted is.account.seen log front is.seen;
       levels = subst (λ (es : List Event). HaveCounted es s.ready.levels) (first_seen s.ready.counted is.account.seen log front is.seen) is.levels;
@@ -329,12 +334,13 @@ module _ (s : ExecStateView) (seat : BookSeatView) (c : ChosenView) (worker : �
       let t = first_ticket in
       let rest : drop 1 seat.knows.tickets ≡ t.1 = ap (drop 1) t.2 in
       let tickets = subst (λ (ks : List Ticket). IsPermutation (jobs_of ks) (ready_jobs ready')) (sym rest) (IsPermutation-trans (jobs_of t.1) (ready_jobs s.ready) (ready_jobs ready') t.5 moved) in
+      let kept = by (suc (length s.journal) == FOLD) in
       record {
         here = known.here;
-        account = by (suc (length s.journal) == FOLD);
+        account = kept.0;
         tickets = tickets;
-        seen = seat_seen s.ready ready' a.seen counts.0 known.seen;
-        levels = seat_levels s.ready ready' a.seen counts.0 counts.1 known.levels;
+        seen = subst (λ (es : List Event). ready'.counted ≤ length es) (sym kept.1) (seat_seen s.ready ready' a.seen counts.0 known.seen);
+        levels = subst (λ (es : List Event). HaveCounted (take ready'.counted es) ready'.levels) (sym kept.1) (seat_levels s.ready ready' a.seen counts.0 counts.1 known.levels);
       }
     where
       r : RecordView
@@ -354,27 +360,32 @@ module _ (s : ExecStateView) (seat : BookSeatView) (c : ChosenView) (worker : �
       accounts : (records : List RecordView) → (a.past ++ s.journal) ++ r ∷ [] ≡ records → map (with_record r) seat.knows.accounts ≡ record { executor = s.executor; records = records; order = order_applied a.order; seen = a.seen } ∷ []
       accounts records are = ap (map (with_record r)) a.accounts ∙ ap (λ (rs : List RecordView). record { executor = s.executor; records = rs; order = order_applied a.order; seen = a.seen } ∷ []) are
 
-      by : (b : Bool) → AccountsFor (record s { ready = ready'; chosen = None; journal = if b then [] else (s.journal ++ r ∷ []); checkpoint = if b then folds s.checkpoint (s.journal ++ r ∷ []) rows else s.checkpoint; fields = rows }) (after_turn r seat.knows)
+      by : (b : Bool) → (x : AccountsFor (record s { ready = ready'; chosen = None; journal = if b then [] else (s.journal ++ r ∷ []); checkpoint = if b then folds s.checkpoint (s.journal ++ r ∷ []) rows else s.checkpoint; fields = rows }) (after_turn r seat.knows)) × (x.seen ≡ a.seen)
       by true =
-          let past = a.past ++ (s.journal ++ r ∷ []) in
-          record {
-            script_is = a.script_is;
-            past = past;
-            order = order_applied a.order;
-            seen = a.seen;
-            accounts = accounts (past ++ []) (append_assoc a.past s.journal (r ∷ []) ∙ sym (append-nil past));
-            folded = ap (λ (fs : List FoldedView). fs ++ map folded_of (s.journal ++ r ∷ [])) a.folded ∙ sym (map-append folded_of a.past (s.journal ++ r ∷ []));
-            replayed = after ∙ ap (λ (fs : List (List ℤ)). replay s.script fs (s.journal ++ r ∷ [])) a.replayed ∙ sym (replay-append s.script start a.past (s.journal ++ r ∷ []));
-          }
-      by false = record {
-        script_is = a.script_is;
-        past = a.past;
-        order = order_applied a.order;
-        seen = a.seen;
-        accounts = accounts (a.past ++ (s.journal ++ r ∷ [])) (append_assoc a.past s.journal (r ∷ []));
-        folded = a.folded;
-        replayed = a.replayed;
-      }
+          let past = a.past ++ (s.journal ++ r ∷ []) in (
+            record {
+              script_is = a.script_is;
+              past = past;
+              order = order_applied a.order;
+              seen = a.seen;
+              accounts = accounts (past ++ []) (append_assoc a.past s.journal (r ∷ []) ∙ sym (append-nil past));
+              folded = ap (λ (fs : List FoldedView). fs ++ map folded_of (s.journal ++ r ∷ [])) a.folded ∙ sym (map-append folded_of a.past (s.journal ++ r ∷ []));
+              replayed = after ∙ ap (λ (fs : List (List ℤ)). replay s.script fs (s.journal ++ r ∷ [])) a.replayed ∙ sym (replay-append s.script start a.past (s.journal ++ r ∷ []));
+            },
+            refl,
+          )
+      by false = (
+        record {
+          script_is = a.script_is;
+          past = a.past;
+          order = order_applied a.order;
+          seen = a.seen;
+          accounts = accounts (a.past ++ (s.journal ++ r ∷ [])) (append_assoc a.past s.journal (r ∷ []));
+          folded = a.folded;
+          replayed = a.replayed;
+        },
+        refl,
+      )
 
 -- the levels that a book gives, where none has changed since they were given last
 one_level : (log : List Event) (t : TaskId) (l m : ℕ) → IsLevel log t l → IsLevel log t m → l ≡ m

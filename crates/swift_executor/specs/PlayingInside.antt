@@ -16,6 +16,7 @@ use Rattle.swift_journal.specs.Checkpoints.{CheckpointRoomView, folded_of, folds
 use Rattle.swift_journal.specs.Records.{RecordView}
 use Rattle.swift_executor.specs.declared.chosen.Chosen.{Chosen}
 use Rattle.swift_executor.specs.declared.chosen.PlayedTurn.{PlayedTurn}
+use Rattle.swift_events.specs.declared.event.Event.{Event}
 use Rattle.swift_events.specs.declared.event.Event.TheVariants.{Begin}
 use Rattle.swift_events.specs.Room.{IsEnv}
 use Rattle.swift_executor.specs.declared.chosen.ChosenStage.{ChosenStage}

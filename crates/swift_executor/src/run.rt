@@ -170,10 +170,13 @@ fn start_one(
     refusal_loses_none();
     held.is_orderly = held.state.stays_orderly(held.is_orderly, &taken.book);
     let events = taken.book.log().len();
-    held.state
-        .start_locked(worker, book, &mut held.seat, taken)?;
-    note_counted(&mut held.state, events);
-    Ok(())
+    match held.state.start_locked(worker, book, &mut held.seat, taken) {
+        Ok(()) => {
+            note_counted(&mut held.state, events);
+            Ok(())
+        }
+        Err(fault) => Err(fault),
+    }
 }
 
 // Chooses the job that runs next, and begins its turn, by one lock of the book. None where no job is ready.

@@ -1,18 +1,24 @@
-use Rattle.std.proofs.Common.{◌≡◌, subst, rules}
+use Rattle.std.proofs.Common.{sym, subst, rules}
 use Rattle.swift_tasks.specs.Books.{BookView}
 use Rattle.swift_shared_book.specs.Shared.{seat_of}
 use Rattle.swift_executor.specs.Ready.{HaveCounted}
-use Rattle.swift_executor.specs.Seats.{HaveSeen}
+use Rattle.swift_executor.specs.Seats.{HaveSeen, IsSeatFor}
 use Rattle.swift_executor.proofs.run.begin_one.Goals as goal
 
 pub start_one-begun-requires-clause-known : goal.start_one-begun-requires-clause-known
 start_one-begun-requires-clause-known g c = c.choose_one.ensures.known _ c.take_book-taken.ensures.known
 
 pub choose_one-requires-clause-seat : goal.choose_one-requires-clause-seat
-choose_one-requires-clause-seat g c = (seat_of c.args.book.now c.take_book-taken.result.seat.knows, c.take_book-taken.ensures.known, subst (λ (b : BookView). HaveSeen b.log c.take_book-taken.result.seat.knows) (search rules) c.take_book-taken.ensures.front)
+choose_one-requires-clause-seat g c = (seat_of c.args.book.now c.take_book-taken.result.seat.knows, c.take_book-taken.ensures.known, subst (λ (b : BookView). HaveSeen b.log c.take_book-taken.result.seat.knows) {x = c.take_book-taken.result.book.value} {y = c.deref_mut.result.now} (search rules) c.take_book-taken.ensures.front)
 
 pub start_one-begun-requires-clause-counted : goal.start_one-begun-requires-clause-counted
-start_one-begun-requires-clause-counted g c = subst (λ (b : BookView). HaveCounted b.log c.choose_one.new.state.ready.levels) (search rules) c.choose_one.ensures.counted
+start_one-begun-requires-clause-counted g c = subst (λ (b : BookView). HaveCounted b.log c.choose_one.new.state.ready.levels) (sym c.choose_one.ensures.book) c.choose_one.ensures.counted
 
 pub start_one-begun-requires-clause-front : goal.start_one-begun-requires-clause-front
-start_one-begun-requires-clause-front g c = subst (λ (b : BookView). HaveSeen b.log c.take_book-taken.result.seat.knows) (search rules) c.take_book-taken.ensures.front
+start_one-begun-requires-clause-front g c = subst (λ (b : BookView). HaveSeen b.log c.take_book-taken.result.seat.knows) {x = c.take_book-taken.result.book.value} {y = c.choose_one.new.book} (search rules) c.take_book-taken.ensures.front
+
+pub returns-in-Ok-None-clause-known : goal.returns-in-Ok-None-clause-known
+returns-in-Ok-None-clause-known g c = subst (λ s. IsSeatFor c.choose_one.new.state s) (sym c.leave.ensures) (c.choose_one.ensures.known _ c.take_book-taken.ensures.known)
+
+pub returns-in-Err-clause-known : goal.returns-in-Err-clause-known
+returns-in-Err-clause-known g c = subst (λ s. IsSeatFor c.choose_one.new.state s) (sym c.leave-in-Err.ensures) (c.choose_one.ensures.known _ c.take_book-taken.ensures.known)

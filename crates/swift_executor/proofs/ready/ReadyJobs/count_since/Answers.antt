@@ -1,5 +1,10 @@
+use Rattle.std.proofs.Common.{ℕ, ◌≤◌, Option, IfSome, subst}
+use Rattle.swift_executor.specs.Ready.{AreAtMost, ReadyJobsView}
 use Rattle.swift_executor.proofs.Counting.{at_most_higher}
 use Rattle.swift_executor.proofs.ready.ReadyJobs.count_since.Goals as goal
 
-pub returns-then-le-clause-levels : goal.returns-then-le-clause-levels
-returns-then-le-clause-levels g c = at_most_higher _ _ (c.requires.stayed c.if-le.true)
+pub returns-then-changed-self-clause-levels : goal.returns-then-changed-self-clause-levels
+returns-then-changed-self-clause-levels g c =
+    let stayed = subst (λ (o : Option ℕ). IfSome o (λ n. n ≤ c.args.self.now.counted → AreAtMost c.args.given.now c.args.self.now.levels)) c.in-Some.is c.requires.stayed in
+    let le = subst (λ (r : ReadyJobsView g.row.B.Denot). c.in-Some.changed ≤ r.counted) c.self.view_is c.if-changed-self.true in
+    at_most_higher _ _ (stayed le)
