@@ -71,3 +71,9 @@ returns-in_ok-keep-in-Ok-Broken-clause-tried c =
     (let grown = subst (HasGrown s) (sym c.note_broken.ensures.rest) (grown_breaks s z.broken some) in
     step_tried script z path c.args.step h f by (λ blocks of. like_grown script s z blocks grown (keeps.kept (grown.complete is) blocks of)) (λ none. absurd (is_not_none z.broken some none))))
     c.note_broken.ensures.noted
+
+pub note_broken-requires-clause-broken : goal.note_broken-requires-clause-broken
+note_broken-requires-clause-broken c =
+    let steps = c.args.path.now ++ c.args.step ∷ [] in
+    let own : arc_value c.keep-in-Ok-Broken.new.self.script ≡ arc_value c.args.self.now.script = ap arc_value c.in_ok-keep-in-Ok-Broken.ensures.keeps.grown.script in
+    subst (λ (s : ScriptView). IsBrokenAfter s steps) (sym own) (subst (λ (s : ScriptView). IsBrokenAfter s steps) c.in_ok-history.ensures.script (c.in-Ok-Broken.ensures.broken c.in-Ok-Broken.field-0-is))
