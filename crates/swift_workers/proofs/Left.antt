@@ -50,6 +50,7 @@ accounted_more : (p : ScriptView) (v w : BookKnown) (e : ℕ) (journal : List Re
 accounted_more p v w e journal c fields is = record {
   past = is.past;
   order = is.order;
+  seen = is.seen;
   account = Contains-append_left v.accounts w.accounts (record { executor = e; records = is.past ++ journal; order = is.order; seen = is.seen }) is.account;
   folded = is.folded;
   replayed = is.replayed;
@@ -75,6 +76,7 @@ accounted_new v w s are replayed =
     record {
       past = are.past;
       order = are.order;
+      seen = are.seen;
       account = Contains-append_right v.accounts w.accounts a (subst (λ (accounts : List Account). Contains accounts a) (sym are.accounts) (only_one a));
       folded = are.folded;
       replayed = are.replayed;
