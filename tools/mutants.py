@@ -42,7 +42,9 @@ CALLS = re.compile(r"no proof: (in `\S+`, of this cycle of calls: )?it calls|not
 # A function in a cycle of calls, which has one proof.
 CYCLE = re.compile(r"#\[cycle\((\w+)\)\]\n(?:\s*#\[.*\n)*.*?\bfn (\w+)")
 # What it says of a definition or a clause that does not read, as where it names what is not in scope.
-REJECTED = re.compile(r"(?m)^(?:\./)?specs/\S*:\d+:\d+: error: .*|its contract rests on `[^`]*`, which antt did not admit")
+REJECTED = re.compile(
+    r"(?m)^(?:\./)?specs/\S*:\d+:\d+: error: .*|its contract rests on `[^`]*`, which antt did not admit|antt did not admit its contract"
+)
 
 
 class Edit:
