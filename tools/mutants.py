@@ -207,13 +207,14 @@ class Crate:
             first = next((line for line in said.split("\n") if "error" in line), "the prover gave no verdict")
             return {edits[0]: f"BAD EDIT: {(rejected.group() if rejected else first)[:160]}"}
         # Of a function that only calls one that is not proved nothing is known: its edit is tried alone.
-        unproved, calls = set(), set()
-        for name, why in re.findall(r"(?m)^fn (\S+): ((?:not proved|no proof|could not tell).*)", said):
-            (calls if CALLS.match(why) else unproved).add(name.rsplit("::", 1)[-1].strip("<>"))
+        lines = re.findall(r"(?m)^fn (?:\S+::)?(\w+)>?: ((?:not proved|no proof|could not tell).*)", said)
+        calls = {name for name, why in lines if CALLS.match(why)}
         # But where its own answers or invariants are wrong, that is its own edit.
+        unproved = {name for name, why in lines if not CALLS.match(why)}
         unproved |= {name for name, errors in errors_in(said).items() if not all("not admitted" in text for text in errors)}
-        # Where one is not proved that no edit changes, as over libraries of other code, nothing is known of any.
-        others = sorted(unproved.difference(*(edit.changes for edit in edits))) if edits[0].is_code() else []
+        # Where one is not proved that calls none such and that no edit changes, as over libraries of other code, nothing is known of any.
+        others = sorted({name for name, why in lines if "it calls" not in why}.difference(*(edit.changes for edit in edits)))
+        others = others if edits[0].is_code() else []
         if others and len(edits) > 1:
             return self.halves(edits)
         if others:
