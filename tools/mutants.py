@@ -64,7 +64,7 @@ class Edit:
                     old = text
                 elif kind == "new" or line.startswith("new:"):
                     self.pairs.append((file, old, text))
-        self.changes = {self.function}
+        self.changes = {self.function, f"+{self.function}"}
         for file, old, _ in self.pairs:
             with open(os.path.join(os.path.dirname(path), "..", file), encoding="utf8") as text:
                 whole = text.read()
@@ -158,11 +158,12 @@ def errors_in(said):
     return errors
 
 
-def refused(said, function):
+def refused(said, edit):
     """The verdict on an edit of a function that is not proved, by what the prover said of it."""
-    if re.search(rf"(?m)^fn \S*\b{re.escape(function)}>?: .*`search` did not prove", said):
+    if re.search(rf"(?m)^fn \S*\b{re.escape(edit.function)}>?: .*`search` did not prove", said):
         return "refused"
-    own = errors_in(said).get(function)
+    errors = errors_in(said)
+    own = [text for name in edit.changes if name == edit.function or name.startswith("+") for text in errors.get(name, [])]
     return "refused, perhaps by the form of its proof alone" if own and all(FORM.search(text) for text in own) else "refused"
 
 
@@ -224,8 +225,8 @@ class Crate:
         if len(edits) == 1 and edits[0].is_code() and edits[0].function not in unproved:
             return {edits[0]: f"BAD EDIT: {edits[0].function} only calls what is not proved"}
         if len(edits) == 1:
-            return {edits[0]: refused(said, edits[0].function)}
-        found = {edit: refused(said, edit.function) if edit.function in unproved else "NOT REFUSED" for edit in edits}
+            return {edits[0]: refused(said, edits[0])}
+        found = {edit: refused(said, edit) if edit.function in unproved else "NOT REFUSED" for edit in edits}
         for edit in edits:
             if edit.function in calls - unproved:
                 found |= self.judge([edit])
