@@ -8,8 +8,9 @@ Edits of different functions of a crate are planted together, in a copy of it, a
 it is proved. An edit is named FUNCTION__WHAT.edit; it is refused where a function of that name, in a file that it changes, is not proved.
 Where all that the prover says of it is that the proof names what the edited function does not have, the verdict says so: perhaps another
 proof would pass. One that changes anything but code is tried alone. Where edits that are planted together do not compile, or a definition
-does not read, each half of them is tried. The crates below are proved first, and the crate itself, unless rt check or rt lib has done so
-in this tree.
+does not read, each half of them is tried. Where a function is not proved that none of them changes, and not for what it calls alone, no
+verdict is given, since the libraries may be those of other code. The crates below are proved first, and the crate itself, unless rt check
+or rt lib has done so in this tree.
 
 With --table they are the first of each row of the first table there that names none in must-fail/, which `rt ci` tries. They are judged
 over the libraries that `rt ci` has left in this tree, by checks of the functions that they change and of what these call.
@@ -36,12 +37,19 @@ KIT = os.path.dirname(subprocess.run(["rt", "doc"], capture_output=True, text=Tr
 MANY = 24
 # What the prover says of a proof that names a fact or a goal which the function does not have.
 FORM = re.compile(r"has no field `|has no `[^`]*` that can be named from here")
+# What it says of a function that calls one that is not proved, or is in a cycle of calls with one that does.
+CALLS = re.compile(r"no proof: (in `\S+`, of this cycle of calls: )?it calls|not proved; it calls")
+# A function in a cycle of calls, which has one proof.
+CYCLE = re.compile(r"#\[cycle\((\w+)\)\]\n(?:\s*#\[.*\n)*.*?\bfn (\w+)")
 # What it says of a definition or a clause that does not read, as where it names what is not in scope.
-REJECTED = re.compile(r"(?m)^(?:\./)?specs/\S*:\d+:\d+: error: .*|its contract rests on `[^`]*`, which antt did not admit")
+REJECTED = re.compile(
+    r"(?m)^(?:\./)?specs/\S*:\d+:\d+: error: .*|its contract rests on `[^`]*`, which antt did not admit|antt did not admit its contract"
+)
 
 
 class Edit:
-    """A planted bug: its name, the function that it is in, and of each file what stands there and what comes in its place."""
+    """A planted bug: its name, the function that it is in, and of each file what stands there and what comes in its place. Also the
+    functions that it changes, those in a cycle of calls with them, and the cycle as the prover names its proof."""
 
     def __init__(self, path):
         self.name = os.path.basename(path)[: -len(".edit")]
@@ -56,6 +64,13 @@ class Edit:
                     old = text
                 elif kind == "new" or line.startswith("new:"):
                     self.pairs.append((file, old, text))
+        self.changes = {self.function, f"+{self.function}"}
+        for file, old, _ in self.pairs:
+            with open(os.path.join(os.path.dirname(path), "..", file), encoding="utf8") as text:
+                whole = text.read()
+            self.changes.update(re.findall(r"\bfn (\w+)", whole[: whole.find(old) + len(old)])[-1:])
+            cycles = {cycle for cycle, function in CYCLE.findall(whole) if function in self.changes}
+            self.changes.update(it for cycle, function in CYCLE.findall(whole) if cycle in cycles for it in (function, f"+{cycle}"))
 
     def is_code(self):
         return all(file.startswith("src/") for file, _, _ in self.pairs) and not any("laws.rt" in file for file, _, _ in self.pairs)
@@ -109,7 +124,7 @@ def together(folder, edits):
     lists = []
     for edit in edits:
         for found in lists:
-            apart = len(found) < MANY and all(other.function != edit.function for other in found)
+            apart = len(found) < MANY and all(other.changes.isdisjoint(edit.changes) for other in found)
             if edit.is_code() and found[0].is_code() and apart and planted(folder, [*found, edit]) is not None:
                 found.append(edit)
                 break
@@ -143,11 +158,12 @@ def errors_in(said):
     return errors
 
 
-def refused(said, function):
+def refused(said, edit):
     """The verdict on an edit of a function that is not proved, by what the prover said of it."""
-    if re.search(rf"(?m)^fn \S*\b{re.escape(function)}>?: .*`search` did not prove", said):
+    if re.search(rf"(?m)^fn \S*\b{re.escape(edit.function)}>?: .*`search` did not prove", said):
         return "refused"
-    own = errors_in(said).get(function)
+    errors = errors_in(said)
+    own = [text for name in edit.changes if name == edit.function or name.startswith("+") for text in errors.get(name, [])]
     return "refused, perhaps by the form of its proof alone" if own and all(FORM.search(text) for text in own) else "refused"
 
 
@@ -191,16 +207,26 @@ class Crate:
                 return self.halves(edits)
             first = next((line for line in said.split("\n") if "error" in line), "the prover gave no verdict")
             return {edits[0]: f"BAD EDIT: {(rejected.group() if rejected else first)[:160]}"}
-        if len(edits) == 1:
-            whole = re.search(r"(?m)^(?:logic=proved|only=(\d+) proved=\1$)", said)
-            return {edits[0]: "NOT REFUSED" if whole else refused(said, edits[0].function)}
         # Of a function that only calls one that is not proved nothing is known: its edit is tried alone.
-        unproved, calls = set(), set()
-        for name, why in re.findall(r"(?m)^fn (\S+): ((?:not proved|no proof|could not tell).*)", said):
-            (calls if re.match("no proof: it calls|not proved; it calls", why) else unproved).add(name.rsplit("::", 1)[-1].strip("<>"))
+        lines = re.findall(r"(?m)^fn (?:\S+::)?(\w+)>?: ((?:not proved|no proof|could not tell).*)", said)
+        calls = {name for name, why in lines if CALLS.match(why)}
         # But where its own answers or invariants are wrong, that is its own edit.
+        unproved = {name for name, why in lines if not CALLS.match(why)}
         unproved |= {name for name, errors in errors_in(said).items() if not all("not admitted" in text for text in errors)}
-        found = {edit: refused(said, edit.function) if edit.function in unproved else "NOT REFUSED" for edit in edits}
+        # Where one is not proved that calls none such and that no edit changes, as over libraries of other code, nothing is known of any.
+        others = sorted({name for name, why in lines if "it calls" not in why}.difference(*(edit.changes for edit in edits)))
+        others = others if edits[0].is_code() else []
+        if others and len(edits) > 1:
+            return self.halves(edits)
+        if others:
+            return {edits[0]: f"BAD EDIT: {others[0]}, which it does not change, is not proved"}
+        if len(edits) == 1 and re.search(r"(?m)^(?:logic=proved|only=(\d+) proved=\1$)", said):
+            return {edits[0]: "NOT REFUSED"}
+        if len(edits) == 1 and edits[0].is_code() and edits[0].function not in unproved:
+            return {edits[0]: f"BAD EDIT: {edits[0].function} only calls what is not proved"}
+        if len(edits) == 1:
+            return {edits[0]: refused(said, edits[0])}
+        found = {edit: refused(said, edit) if edit.function in unproved else "NOT REFUSED" for edit in edits}
         for edit in edits:
             if edit.function in calls - unproved:
                 found |= self.judge([edit])
