@@ -100,8 +100,9 @@ def path_of(folder, edit):
     if lines[here].startswith(" "):
         # Of a method it names the module of the type, wherever the method stands: the end of the name is enough.
         impl = next(line for line in reversed(lines[:here]) if line.startswith("impl"))
-        trait, kind = re.match(r"impl(?: ([A-Z]\w*)(?:<.*>)? for)? ([A-Z]\w*)", re.sub(r"^impl<.*?>+ (?=[A-Z])", "impl ", impl)).groups()
-        path = [kind + (trait or "")]
+        impl = re.sub(r"^impl<.*?>+ (?=[A-Z])", "impl ", impl)
+        trait, of, kind = re.match(r"impl(?: ([A-Z]\w*)(?:<([A-Z]\w*)?.*>)? for)? ([A-Z]\w*)", impl).groups()
+        path = [kind + (trait or "") + (of or "")]
     return "::".join([*path, edit.function])
 
 
