@@ -39,6 +39,8 @@ MANY = 24
 FORM = re.compile(r"has no field `|has no `[^`]*` that can be named from here")
 # What it says of a function that calls one that is not proved, or is in a cycle of calls with one that does.
 CALLS = re.compile(r"no proof: (in `\S+`, of this cycle of calls: )?it calls|not proved; it calls")
+# A function that is not proved, or the one that a closure stands in, and why.
+LINE = re.compile(r"(?m)^fn (?:\S*::fn::|(?!\S*::fn::)(?:\S+::)?)(\w+)\S*: ((?:not proved|no proof|could not tell).*)")
 # A function in a cycle of calls, which has one proof.
 CYCLE = re.compile(r"#\[cycle\((\w+)\)\]\n(?:\s*#\[.*\n)*.*?\bfn (\w+)")
 # What it says of a definition or a clause that does not read, as where it names what is not in scope.
@@ -209,7 +211,7 @@ class Crate:
             first = next((line for line in said.split("\n") if "error" in line), "the prover gave no verdict")
             return {edits[0]: f"BAD EDIT: {(rejected.group() if rejected else first)[:160]}"}
         # Of a function that only calls one that is not proved nothing is known: its edit is tried alone.
-        lines = re.findall(r"(?m)^fn (?:\S+::)?(\w+)>?: ((?:not proved|no proof|could not tell).*)", said)
+        lines = LINE.findall(said)
         calls = {name for name, why in lines if CALLS.match(why)}
         # But where its own answers or invariants are wrong, that is its own edit.
         unproved = {name for name, why in lines if not CALLS.match(why)}
