@@ -103,8 +103,8 @@ def path_of(folder, edit):
         # Of a method it names the module of the type, wherever the method stands: the end of the name is enough.
         impl = next(line for line in reversed(lines[:here]) if line.startswith("impl"))
         impl = re.sub(r"^impl<.*?>+ (?=[A-Z])", "impl ", impl)
-        trait, of, kind = re.match(r"impl(?: ([A-Z]\w*)(?:<([A-Z]\w*)?.*>)? for)? ([A-Z]\w*)", impl).groups()
-        path = [kind + (trait or "") + (of or "")]
+        trait, of, kind = re.match(r"impl(?: ([A-Z]\w*)(?:<([A-Z]\w*)?.*>)? for)? (\w+)", impl).groups()
+        path = [kind[0].upper() + kind[1:] + (trait or "") + (of or "")]
     return "::".join([*path, edit.function])
 
 
