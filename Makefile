@@ -4,8 +4,8 @@ DAILY = crates/nuchapay/out/nuchapay
 CASES = crates/test_cases/out/test_cases
 SOURCES = $(shell find crates -name out -prune -o \( -name '*.rt' -o -name '*.antt' \) -print)
 
-# Runs scripts without a proof: make try SCRIPTS="examples/account.actors examples/group.actors" ARGS="--workers 4". Status 0 also where a
-# script was refused or a task ended with a fault.
+# Runs scripts without a proof: make try SCRIPTS="examples/account.actors examples/group.actors" ARGS="--workers 4". Status 0, whatever comes
+# of it.
 SCRIPTS = $(SCRIPT)
 try:
 	@tools/try.py $(SCRIPTS) -- $(ARGS) || true
@@ -19,7 +19,7 @@ $(eval $(call program,swiftrun))
 $(eval $(call program,nuchapay,-- --version))
 $(eval $(call program,test_cases))
 
-# Runs a script with the proved program. Status 0 also where the script was refused or a task ended with a fault.
+# Runs a script with the proved program. Status 0 once that is built, whatever comes of the script.
 run: $(PROGRAM)
 	@if [ -r $(SCRIPT) ]; then $(PROGRAM) $(ARGS) < $(SCRIPT) || true; else echo 'make run: $(SCRIPT) cannot be read' >&2; fi
 
@@ -31,7 +31,8 @@ test:
 prove:
 	@tools/prove.py
 
-# Tries those planted bugs of the table in docs/THEOREMS.md that the gate does not try as must-fail edits, over what `rt ci` has left.
+# Tries the first edit of each row of the first table of planted bugs in docs/THEOREMS.md that has none in must-fail/, over what `rt ci` has
+# left.
 planted:
 	@tools/mutants.py --table
 
@@ -80,7 +81,7 @@ refusals: $(CASES) $(DAILY)
 links:
 	@tools/links.py
 
-# Whether the README says how many definitions the text of a run rests on.
+# Whether the README says how many definitions the text of a run rests on, and whether files of specs/ that only proofs use are named so.
 believe:
 	@tools/believe.py --check && echo "the README says on how many definitions the text of a run rests"
 

@@ -203,8 +203,7 @@ def growth(times):
 
 
 def split():
-    """Where the instructions of a turn go: what each call takes with all that it calls. The workers' loop and the certificate stand
-    beside each other."""
+    """Where the instructions of a turn go: what each call takes with all that it calls."""
     if not shutil.which("valgrind"):
         print("No valgrind on this machine: no split of a turn.\n")
         return
@@ -266,7 +265,7 @@ def main():
     scripts.write()
     program = swift_program()
     print(f"Best of {times}, of reading the best of {2 * times + 1}. Seconds are those of a whole process of `swiftrun`, above those of one that has nothing")
-    print("to read and to run: it reads, runs, certifies and writes. `quiet s` is with `--quiet`, which leaves the journals' text out. `B/turn` is the")
+    print("to read and to run: it reads, runs and writes. `quiet s` is with `--quiet`, which leaves the journals' text out. `B/turn` is the")
     print("peak of that above that of nothing. `Erlang s` is one scheduler, and `Swift s` Swift's own runtime with a thread for each core; neither")
     print("keeps a journal or undoes a turn. `processor s` are of all threads, of a whole process. `4 processes apart` is how many")
     print("times as much four runs of one worker do at once as one does alone: what the machine gives to threads that share nothing. A script that is")

@@ -283,11 +283,11 @@ def actor(number, methods):
 SCRIPTS = {
     # Each task yields 990 times; 1,000 jobs are ready at a time.
     "spin": (COUNTER + roots(1000, "Counter.spin(990)"), None),
-    # The same, with 16 jobs ready at each of 64 executors.
     # The same turns of a short text, by tasks that are made while it runs.
     "spin_spawned": (SPAWNED, None),
     # The same beside 63 other actors of the executor.
     "shared64": (shared(), None),
+    # The turns of `spin`, with 16 jobs ready at each of 64 executors.
     "sixteen": (sixteen(), None),
     # A group of 900 children, by a task that takes 964 turns.
     "group": (GROUP + roots(1, "Group.parent()"), None),

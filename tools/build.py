@@ -4,8 +4,8 @@
     tools/build.py NAME [WORD..]
 
 It leaves crates/NAME/out/NAME. Where each crate has work of an earlier proof (out/incremental), they are proved over that, one
-after the other, and the program is run once with these words. Else `rt ci` proves them from nothing, each on as many cores as are
-free, in a copy of what they need. What the prover writes goes to out/prove/. Status 0 where every crate is proved and the program is
+after the other, and the program is run once with these words. Else `rt ci` proves those that have not passed on this machine
+before, each on as many cores as are free, in a copy of what they need. What the prover writes goes to out/prove/. Status 0 where every crate is proved and the program is
 built.
 """
 import os

@@ -5,9 +5,10 @@ cd "$(dirname "$0")/.."
 edits=$(ls crates/*/must-fail/*.edit | wc -l)
 crates=$(ls -d crates/*/src | wc -l)
 cat <<TXT
-This proves $crates crates from nothing, tries $edits planted bugs and those that the table in docs/THEOREMS.md names, which the prover has
-to refuse, runs all tests and programs, the examples, and cases of the test program once for each of a sample of their allocations, with that
-one refused. It takes more than an hour on four cores, two of which it uses at a time, more on fewer, and prints little until its end.
+This proves those of $crates crates that have not passed on this machine before, tries $edits planted bugs and one of each other row of the table
+in docs/THEOREMS.md, which the prover has to refuse, runs all tests and programs, the examples, and cases of the test program once for each of a
+sample of their allocations, with that one refused. From nothing it takes some 75 minutes on two cores, and no more cores than these; it
+prints little until its end.
 TXT
 log=$(mktemp)
 # One core for each check, and two checks at once at most: more cores or more checks take more processor time, and hardly less

@@ -93,7 +93,7 @@ def statements():
 
 def expressions():
     """An expression of the greatest height, with as many parentheses open as there may be, and a wide one."""
-    deep = "(" * (NESTED - 1) + "1" + "+1)" * (NESTED - 1)
+    deep = "(" * NESTED + "1)" + "+1)" * (NESTED - 1)
 
     def wide(height):
         return "1" if height == 0 else f"({wide(height - 1)}+{wide(height - 1)})"
@@ -284,7 +284,7 @@ def main():
             done = subprocess.run(words, input=text, capture_output=True, check=False)
             status = 1 if any(" fault " in end for end in script.tasks) else 0
             found = [f"status {done.returncode} and not {status}: {done.stderr.decode().strip()}"] if done.returncode != status else []
-            found += faults(script, done.stdout, workers) if done.stdout else []
+            found += faults(script, done.stdout, workers)
             wrong += bool(found)
             for fault in found:
                 print(f"limits: {name}, {workers} workers: {fault[:300]}")

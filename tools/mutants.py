@@ -5,7 +5,7 @@
     tools/mutants.py --table                            those that the gate tries, by the table of planted bugs in docs/THEOREMS.md
 
 Edits of different functions of a crate are planted together, in a copy of it, and judged by one check, which says of each function whether
-it is proved. An edit is named FUNCTION__WHAT.edit; it is refused where a function of that name, in a file that it changes, is not proved.
+it is proved. An edit is named FUNCTION__WHAT.edit; it is refused where a function of that name is not proved.
 Where all that the prover says of it is that the proof names what the edited function does not have, the verdict says so: perhaps another
 proof would pass. One that changes anything but code is tried alone. Where edits that are planted together do not compile, or a definition
 does not read, each half of them is tried. Where a function is not proved that none of them changes, and not for what it calls alone, no

@@ -3,7 +3,7 @@
 
     tools/reports.py NUCHAPAY
 
-Each script of the examples that runs without arguments is run twice, on one worker: with its report as text, and as JSON. The text is made
+Each script of the examples is run twice, without its arguments, on one worker: with its report as text, and as JSON. The text is made
 again from what json.loads reads, and has to be the same, with the same status; so with --quiet. Status 0 where all agree.
 """
 import json

@@ -11,7 +11,7 @@ that of those that runs of this repository can have. Where there are more than S
 the second list, or with what `nuchapay run --quiet` printed in 40 runs on 1, 2, 4 and 8 workers, and the row says so.
 
 Swift undoes nothing. So a run in which an invariant did not hold after a turn, or an overflow ended one, is counted apart: it is beside
-the rules from there on. With --table the rows are those of the table in docs/SWIFT.md. Status 1 where a program was not compiled, a run
+the rules from there on. With --table it prints a table, of which that in docs/SWIFT.md is made. Status 1 where a program was not compiled, a run
 did not end, or an outcome is none of those that are allowed.
 """
 from __future__ import annotations
