@@ -31,8 +31,7 @@ test:
 prove:
 	@tools/prove.py
 
-# Tries the first edit of each row of the first table of planted bugs in docs/THEOREMS.md that has none in must-fail/, over what `rt ci` has
-# left.
+# Tries the first edit of each row of the first table of planted bugs in docs/THEOREMS.md, over what `rt ci` has left.
 planted:
 	@tools/mutants.py --table
 

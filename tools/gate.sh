@@ -5,7 +5,7 @@ cd "$(dirname "$0")/.."
 edits=$(ls crates/*/must-fail/*.edit | wc -l)
 crates=$(ls -d crates/*/src | wc -l)
 cat <<TXT
-This proves those of $crates crates that have not passed on this machine before, tries $edits planted bugs and one of each other row of the table
+This proves those of $crates crates that have not passed on this machine before, tries $edits planted bugs of laws and one of each row of the table
 in docs/THEOREMS.md, which the prover has to refuse, runs all tests and programs, the examples, and cases of the test program once for each of a
 sample of their allocations, with that one refused. From nothing it takes some 75 minutes on two cores, and no more cores than these; it
 prints little until its end.
@@ -20,7 +20,6 @@ status=${PIPESTATUS[0]}
 last=$(tail -n 1 "$log")
 passed=$(sed -nE 's/^([0-9]+) passed, ([0-9]+) failed.*/\1/p' <<<"$last")
 failed=$(sed -nE 's/^([0-9]+) passed, ([0-9]+) failed.*/\2/p' <<<"$last")
-rm -f "$log"
 if [ -z "$passed" ]; then exit 1; fi
 [ "$status" -eq 0 ] || [ "$failed" -gt 0 ] || failed=1
 # These run what was just proved. Where it was not, they would prove it once more before they fail.
@@ -29,5 +28,10 @@ if [ "$failed" -gt 0 ]; then steps="links believe cases"; echo "not tried, since
 for step in $steps; do
     if make --no-print-directory "$step"; then passed=$((passed + 1)); else failed=$((failed + 1)); fi
 done
+# What this took over all cores, of which there may be two at work: the second line of `times` is of all that it has called.
+times >"$log"
+spent=$(awk 'NR == 2 { gsub(/[ms]/, " "); print int(($1 * 60 + $2 + $3 * 60 + $4) / 60 + 0.5) }' "$log")
+rm -f "$log"
+echo "It took $spent processor minutes."
 echo "$passed passed, $failed failed"
 [ "$failed" -eq 0 ]

@@ -12,8 +12,8 @@ does not read, each half of them is tried. Where a function is not proved that n
 verdict is given, since the libraries may be those of other code. The crates below are proved first, and the crate itself, unless rt check
 or rt lib has done so in this tree.
 
-With --table they are the first of each row of the first table there that names none in must-fail/, which `rt ci` tries. They are judged
-over the libraries that `rt ci` has left in this tree, by checks of the functions that they change and of what these call.
+With --table they are the first of each row of the first table there, but for rows of edits in must-fail/, which `rt ci` tries. They are
+judged over the libraries that `rt ci` has left in this tree, by checks of the functions that they change and of what these call.
 """
 import argparse
 import concurrent.futures
