@@ -5,8 +5,8 @@
 
 Each refusal of a script, each of a run and each fault of a turn that a table there has is asked for. The table's words have to stand on
 the page: the title and what to do, the cause, when a fault comes and what becomes of the turn. Of a refusal the script on the page has to
-be refused so by `nuchapay check`, and the mended one accepted; of a fault a run of the first has to have a task that ends so, and of the
-mended one all tasks have to end with a value. Where the table gives a whole script, the page has that one. Status 0 where all agrees.
+be refused so by `nuchapay check`, and the fixed one accepted; of a fault a run of the first has to have a task that ends so, and of the
+fixed one all tasks have to end with a value. Where the table gives a whole script, the page has that one. Status 0 where all agrees.
 """
 import os
 import re
@@ -54,7 +54,7 @@ def status(program, words, script):
 
 
 def script_faults(program, page, words, wrong, mark):
-    """What the scripts of a page do otherwise: the first has to end with a status and a mark in the text, the mended one with 0."""
+    """What the scripts of a page do otherwise: the first has to end with a status and a mark in the text, the fixed one with 0."""
     if not page.scripts:
         return
     ended, said = status(program, words, page.scripts[0])
@@ -62,7 +62,7 @@ def script_faults(program, page, words, wrong, mark):
         yield f"its script ends with {ended}: {said!r}"
     ended, said = status(program, words, page.scripts[1])
     if ended:
-        yield f"its mended script ends with {ended}: {said!r}"
+        yield f"its fixed script ends with {ended}: {said!r}"
 
 
 def differ(page, label, wanted):
