@@ -7,7 +7,7 @@ crates=$(ls -d crates/*/src | wc -l)
 cat <<TXT
 This proves those of $crates crates that have not passed on this machine before, tries $edits planted bugs of laws and one of each row of the table
 in docs/THEOREMS.md, which the prover has to refuse, runs all tests and programs, the examples, and cases of the test program once for each of a
-sample of their allocations, with that one refused. From nothing it takes some 75 minutes on two cores, and no more cores than these; it
+sample of their allocations, with that one refused. From nothing it takes 75 to 100 minutes on two cores, and no more cores than these; it
 prints little until its end.
 TXT
 log=$(mktemp)
