@@ -2,9 +2,9 @@
 
 use crate::picture_text::PictureText;
 use crate::pieces::TextPiece;
+use nuchapay_values::{Change, TurnValues};
 use swift_script::Script;
 use swift_types::ExecId;
-use swift_values::{Change, TurnValues};
 
 // A field by its name, and by its actor's where the executor has several.
 fn write_field(out: &mut PictureText, script: &Script, executor: ExecId, change: &Change) {

@@ -12,11 +12,11 @@ use crate::pieces::TextPiece;
 use crate::style::STYLE;
 use crate::text::{begin_text, end_text, write_text};
 use crate::word;
+use nuchapay_values::{TurnValues, turn_values};
 use std::alloc::{AllocError, Global};
 use swift_report::Report;
 use swift_script::Script;
 use swift_types::{ExecId, ExecutorKind};
-use swift_values::{TurnValues, turn_values};
 
 // How many characters of 13 pixels find room before the lanes.
 const IN_GUTTER: usize = 18;

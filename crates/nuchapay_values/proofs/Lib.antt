@@ -1,1 +1,4 @@
 pub mod Annotated
+pub mod Keeping
+pub mod Past
+pub mod Rows

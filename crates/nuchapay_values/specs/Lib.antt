@@ -1,1 +1,4 @@
+pub mod KeepingInside
+pub mod LastTurns
 pub mod Notes
+pub mod Values

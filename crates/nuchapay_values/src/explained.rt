@@ -9,6 +9,7 @@ use crate::printed::{method_text, method_word};
 use crate::report::heading_lines;
 use crate::statement::{NamesAt, write_statement, write_variable};
 use crate::text::Text;
+use crate::values::{Change, Outcome, TurnValues, last_turn, turn_values};
 use crate::words::Words;
 use script_code::Instruction;
 use std::alloc::{AllocError, Global};
@@ -16,7 +17,6 @@ use swift_journal::{Journal, OwnedRecord};
 use swift_report::{Report, report_text};
 use swift_script::Script;
 use swift_types::{ActorId, ExecId, LocalId, TaskId};
-use swift_values::{Change, Outcome, TurnValues, last_turn, turn_values};
 
 /// What is known of a turn (our own).
 #[derive(Drop)]

@@ -1,8 +1,8 @@
 //! Fields as they are after some turns.
 
+use crate::values::Change;
 use script_code::FieldPlace;
 use std::alloc::{AllocError, Global};
-use swift_values::Change;
 
 /// A copy of fields.
 pub fn copy_of(alloc: Global, rows: &[Vec<i64>]) -> Result<Vec<Vec<i64>>, AllocError> {

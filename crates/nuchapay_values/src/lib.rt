@@ -1,4 +1,4 @@
-//! What the turns of a run did to the fields, in words: below each turn of a report, or of one turn with what came before it.
+//! What the turns of a run did to the fields, and that in words: below each turn of a report, or of one turn with what came before it.
 #![tactic(auto)]
 
 // One turn explained.
@@ -23,9 +23,12 @@ mod report;
 mod statement;
 // Texts that are being written.
 mod text;
+// What turns did to the fields.
+mod values;
 // The words of a text.
 mod words;
 
 pub use explained::{Explained, explain_turn};
 pub use notes::write_change;
 pub use report::report_with_values;
+pub use values::{Change, Outcome, TurnValues, last_turn, turn_values};

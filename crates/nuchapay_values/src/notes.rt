@@ -6,10 +6,10 @@ ghost use Rattle.nuchapay_values.specs.Notes.{AppendsNotes, actor_at as actor_am
 use crate::fields::{make, take_back};
 use crate::invariants::{Invariant, false_text};
 use crate::number::number;
+use crate::values::{Change, Outcome, TurnValues};
 use std::alloc::{AllocError, Global};
 use swift_script::Script;
 use swift_types::{ActorId, ExecId};
-use swift_values::{Change, Outcome, TurnValues};
 
 /// The actor at a place of an executor; the first one where there is none.
 pub(crate) fn actor_at(script: &Script, executor: ExecId, place: usize) -> ActorId

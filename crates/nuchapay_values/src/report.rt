@@ -8,13 +8,13 @@ use crate::fields::copy_of;
 use crate::invariants::invariants_of;
 use crate::lines::{copy_line, copy_lines};
 use crate::notes::write_notes;
+use crate::values::turn_values;
 use crate::words::Words;
 use std::alloc::{AllocError, Global};
 use swift_journal::{Checkpoint, Journal};
 use swift_report::{Report, report_text};
 use swift_script::Script;
 use swift_types::ExecId;
-use swift_values::turn_values;
 
 /// How many lines stand before those of the turns of an executor's journal: one, and one more where turns were folded.
 pub(crate) fn heading_lines(checkpoint: &Checkpoint) -> usize {

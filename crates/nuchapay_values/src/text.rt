@@ -2,11 +2,11 @@
 
 use crate::notes::{write_change, write_place};
 use crate::number::number;
+use crate::values::Change;
 use itoa::Integer;
 use std::alloc::{AllocError, Global};
 use swift_script::Script;
 use swift_types::ExecId;
-use swift_values::Change;
 
 /// A text that is being written. Where memory runs out it ends there, and `into_bytes` says so: who writes it asks at the end alone.
 pub(crate) struct Text {

@@ -1,3 +1,0 @@
-pub mod Keeping
-pub mod Past
-pub mod Rows

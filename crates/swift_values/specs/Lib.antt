@@ -1,3 +1,0 @@
-pub mod KeepingInside
-pub mod LastTurns
-pub mod Values
