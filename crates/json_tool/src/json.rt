@@ -7,13 +7,13 @@ ghost use Rattle.swift_tool.specs.declared.fault.ToolFault.TheVariants.{Run};
 ghost use Rattle.swift_tool.specs.Run.{IsCrew, IsRefusal, end_well};
 ghost use Rattle.json_tool.specs.Json.{IsJsonOf, Leaves, WritesJson};
 
+use crate::text::report_json;
 use std::alloc::AllocGlobal;
 use std::io::Write;
 use std::random::RandomSource;
 use std::sync::{Arc, Wait};
 use std::thread::Threads;
 use swift_events::Origin;
-use swift_json::report_json;
 use swift_output::write_all;
 use swift_script::read;
 use swift_tool::ToolFault;

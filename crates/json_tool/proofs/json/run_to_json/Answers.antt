@@ -7,7 +7,7 @@ use Rattle.swift_workers.specs.Leaves.{AreEndings, AreReplayed, KeepInvariants}
 use Rattle.swift_report.specs.Text.{report_text}
 use Rattle.swift_tool.specs.Run.{end_well}
 use Rattle.swift_tool.proofs.Invariants.{invariants_hold}
-use Rattle.swift_json.specs.Json.{report_json}
+use Rattle.json_tool.specs.ReportJson.{report_json}
 use Rattle.json_tool.proofs.json.run_to_json.Goals as goal
 
 pub returns-clause-text : goal.returns-clause-text
