@@ -2,8 +2,8 @@
 use Rattle.std.specs.Prelude.{◌≡◌, ℕ, ◌==◌, Bool, Option, IfSome, List, [], ◌∷◌, codes, decimal, if◌then◌else◌}
 use Rattle.std.specs.List.{concat}
 use Rattle.std.specs.String.{string_bytes}
-use Rattle.script_marks.specs.declared.span.Span.{Span}
-use Rattle.script_marks.specs.Blames.{Blames}
+use Rattle.nuchapay_tool.specs.declared.location.span.Span.{Span}
+use Rattle.nuchapay_tool.specs.Location.Blames.{Blames}
 use Rattle.swift_script.specs.Accepted.{IsAccepted}
 use Rattle.swift_script.specs.FaultLines.{IsAtItsLine}
 use Rattle.swift_script.specs.Refuses.{Refuses}

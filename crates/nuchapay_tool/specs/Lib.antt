@@ -1,6 +1,8 @@
 pub mod Checks
 pub mod Colours
 pub mod InputInside
+pub mod LayoutsInside
+pub mod Location
 pub mod Marks
 pub mod Pages
 pub mod Prints

@@ -6,11 +6,11 @@ ghost use Rattle.swift_script.specs.FaultLines.{IsAtItsLine};
 ghost use Rattle.swift_script.specs.Refuses.{Refuses};
 ghost use Rattle.nuchapay_tool.specs.Checks.{IsRefusedAs, Says, accepted_text, counted};
 
+use crate::location::blamed;
 use crate::mark::mark_of;
 use crate::pages::page_of;
 use crate::refused::refusal;
 use crate::topic::Topic;
-use script_marks::blamed;
 use std::alloc::{AllocError, Global};
 use swift_script::{Script, ScriptFault, read};
 

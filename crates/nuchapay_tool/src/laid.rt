@@ -7,7 +7,7 @@ ghost use Rattle.swift_script.specs.Refuses.{Refuses};
 ghost use Rattle.swift_script.specs.declared.fault.ScriptFaultKind.TheVariants.{Memory};
 ghost use Rattle.nuchapay_tool.specs.Prints.{IsLaidOutOf};
 
-use script_layout::layout;
+use crate::layout::layout;
 use script_tokens::tokens;
 use std::alloc::{AllocError, Global};
 use swift_script::{Script, ScriptFault, ScriptFaultKind, print_script, read};

@@ -1,7 +1,0 @@
-use Rattle.std.proofs.Common.{List}
-use Rattle.script_tokens.specs.declared.token.Token.{Token}
-use Rattle.script_layout.specs.Layouts.{LaysOut}
-use Rattle.script_layout.proofs.text.WrittenLayout.line.Given as goal
-
-abbrev pub invariant-loop : goal.invariant-loop
-invariant-loop l = (ts : List Token) → LaysOut ts l.initial.self.text.items → LaysOut ts l.self.text.items

@@ -1,4 +1,0 @@
-pub mod Blaming
-pub mod Counted
-pub mod Failing
-pub mod Standing

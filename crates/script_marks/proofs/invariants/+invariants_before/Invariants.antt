@@ -1,5 +1,0 @@
-use Rattle.std.proofs.Common.{length}
-use Rattle.script_marks.proofs.invariants.+invariants_before.Given as goal
-
-abbrev pub decreases-invariants_before : goal.decreases-invariants_before
-decreases-invariants_before l = length l.decls.now

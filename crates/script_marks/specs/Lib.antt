@@ -1,4 +1,0 @@
-pub mod Blames
-pub mod Places
-pub mod SoughtInside
-pub mod Spans
