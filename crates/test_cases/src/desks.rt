@@ -16,6 +16,7 @@ mod setting;
 
 pub use booked::Booked;
 pub use door::Door;
+pub(crate) use door::can_run;
 pub use jobs::Jobs;
 pub use leavings::{Leavings, Left};
 pub use poller::Poller;

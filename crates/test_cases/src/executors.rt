@@ -28,6 +28,7 @@ use crate::executors::case::{CasePlan, plan_of, play_on};
 use crate::executors::owned::BookOf;
 use crate::executors::stage::CaseStage;
 use crate::fault::CaseFault;
+use crate::said::Said;
 use crate::states;
 use std::alloc::AllocGlobal;
 use std::marker::Brand;
@@ -35,7 +36,7 @@ use std::random::RandomSource;
 use std::sync::Wait;
 use std::thread::Threads;
 
-/// For how many bytes that a case says there is room. A call whose answer has no room may be made twice.
+/// For how many bytes that a case says there is room at first.
 pub(crate) const ROOM: usize = 8192;
 
 // For how many jobs and desks there is room. A job is given up where it is refused a place beyond these.
@@ -51,18 +52,18 @@ where
     let Some(plan) = plan_of(text) else {
         return Err(CaseFault::Form);
     };
-    let mut said = String::with_capacity(rt.alloc(), ROOM)?;
+    let mut said = Said::with_room(rt.alloc(), ROOM)?;
     let mut played = play_plan(rt, kind, plan, &mut said);
     if played == Err(CaseFault::Granted) {
         said.clear();
         played = play_plan(rt, kind, plan.without_last(), &mut said);
     }
-    out.extend_from_slice(said.as_bytes())?;
+    out.extend_from_slice(said.end()?.as_bytes())?;
     played
 }
 
 // Makes the calls of a case on executors of this kind.
-fn play_plan<R>(rt: &R, kind: &str, plan: CasePlan<'_>, out: &mut String) -> Result<(), CaseFault>
+fn play_plan<R>(rt: &R, kind: &str, plan: CasePlan<'_>, out: &mut Said) -> Result<(), CaseFault>
 where
     R: Wait + RandomSource + AllocGlobal,
 {
@@ -73,7 +74,7 @@ where
 }
 
 // Makes the calls of a case on executors that threads share.
-fn play<R>(rt: &R, plan: CasePlan<'_>, out: &mut String) -> Result<(), CaseFault>
+fn play<R>(rt: &R, plan: CasePlan<'_>, out: &mut Said) -> Result<(), CaseFault>
 where
     R: Wait + RandomSource + AllocGlobal,
 {
@@ -89,7 +90,7 @@ fn play_of<K, R>(
     setting: Setting,
     booked: Booked,
     plan: CasePlan<'_>,
-    out: &mut String,
+    out: &mut Said,
 ) -> Result<(), CaseFault>
 where
     K: BookOf,
@@ -110,8 +111,8 @@ where
     let Some(moment) = title.strip_prefix("at ") else {
         return Err(CaseFault::Form);
     };
-    let mut said = String::new(rt.alloc());
+    let mut said = Said::new(rt.alloc());
     let played = threads::play(rt, moment, &mut said);
-    out.extend_from_slice(said.as_bytes())?;
+    out.extend_from_slice(said.end()?.as_bytes())?;
     played
 }

@@ -148,6 +148,8 @@ mod parts;
 mod reading;
 // Scripts that are run.
 mod running;
+// Texts that are being written.
+mod said;
 // Calls on executors of one thread.
 mod states;
 // How often each answer was given.

@@ -17,6 +17,7 @@ ghost use Rattle.std.specs.Arc.{arc_value};
 use crate::desks::Setting;
 use crate::executors::case::{CasePlan, play_on};
 use crate::fault::CaseFault;
+use crate::said::Said;
 use crate::states::book::Scripted;
 use crate::states::stage::StateStage;
 use std::alloc::AllocGlobal;
@@ -25,7 +26,7 @@ use std::random::RandomSource;
 use std::sync::Wait;
 
 /// Makes the calls of a case on the executors of its script, and writes what each answered.
-pub fn play<R>(rt: &R, plan: CasePlan<'_>, out: &mut String) -> Result<(), CaseFault>
+pub fn play<R>(rt: &R, plan: CasePlan<'_>, out: &mut Said) -> Result<(), CaseFault>
 where
     R: Wait + RandomSource + AllocGlobal,
 {
@@ -38,7 +39,7 @@ fn play_of<K, R>(
     rt: &R,
     setting: Setting,
     plan: CasePlan<'_>,
-    out: &mut String,
+    out: &mut Said,
 ) -> Result<(), CaseFault>
 where
     K: Scripted,

@@ -16,9 +16,9 @@ use swift_word::BeforeCount;
 
 /// An executor, with one of its desks and its book. In a clause it is the lock of its book.
 pub struct Door {
-    exec: Arc<Exec>,
-    desk: Desk,
-    book: Arc<BookLock>,
+    pub(crate) exec: Arc<Exec>,
+    pub(crate) desk: Desk,
+    pub(crate) book: Arc<BookLock>,
 }
 
 impl Drop for Door {
@@ -45,8 +45,8 @@ impl Model for Door {
     ghost invariant = { λ d. IsDeskOf (arc_value d.exec) d.desk × IsBookOf (arc_value d.exec) (arc_value d.book) };
 }
 
-// Whether a job of its book can run at an executor.
-fn can_run(exec: &Exec, job: &TicketedJob) -> bool
+/// Whether a job of its book can run at an executor.
+pub(crate) fn can_run(exec: &Exec, job: &TicketedJob) -> bool
     requires { job.now.book ≡ exec.now.inbox.site.book }
     ensures { IsTrue result → CanRunAt exec.now.inbox.site job.now }
 {

@@ -6,6 +6,7 @@ use crate::desks::door::Door;
 use crate::desks::jobs::Jobs;
 use crate::desks::setting::Setting;
 use crate::fault::CaseFault;
+use crate::said::Said;
 use std::alloc::{AllocError, Global};
 use std::sync::Wait;
 use swift_executor::{Closed, ExecState};
@@ -81,16 +82,9 @@ impl Leavings {
     }
 
     /// Writes a report of the turns and fields, without tasks.
-    pub fn tell(
-        &self,
-        alloc: Global,
-        setting: &Setting,
-        out: &mut String,
-    ) -> Result<(), CaseFault> {
+    pub fn tell(&self, alloc: Global, setting: &Setting, out: &mut Said) -> Result<(), CaseFault> {
         let text = report_text(alloc, &setting.script, &self.report, false)?;
-        match str::from_utf8(&text) {
-            Ok(text) => Ok(out.push_str(text)?),
-            Err(_) => Err(CaseFault::Form),
-        }
+        out.name(&text);
+        Ok(())
     }
 }

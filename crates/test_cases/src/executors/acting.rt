@@ -1,6 +1,7 @@
 //! Calls that a gate makes.
 
 use crate::executors::callee::{Callee, play};
+use crate::said::Said;
 use std::sync::{Mutex, Wait};
 use swift_executor::{Gate, Moment};
 
@@ -11,7 +12,7 @@ pub struct Acting<'a, R: Wait, C: Callee<R>> {
     pub callee: &'a C,
     pub moment: &'a str,
     pub calls: &'a str,
-    pub lines: Mutex<String>,
+    pub lines: Mutex<Said>,
 }
 
 // The name of a moment, whatever executor, worker and task it is of.

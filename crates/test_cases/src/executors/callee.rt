@@ -2,7 +2,7 @@
 
 use crate::executors::call::{CaseCall, call_of};
 use crate::fault::CaseFault;
-use std::fmt::Write;
+use crate::said::Said;
 use swift_executor::{Gate, Open};
 
 /// What the calls of a case are made on. It may be dropped at any time.
@@ -13,18 +13,18 @@ pub trait Callee<R>: Drop {
         rt: &R,
         call: CaseCall,
         gate: &G,
-        out: &mut String,
+        out: &mut Said,
     ) -> Result<(), CaseFault>;
 
     /// Makes a new desk of the executor of this one, which comes behind the others.
     fn split(&mut self, rt: &R, desk: u32) -> Result<(), CaseFault>;
 
     /// Closes the executors: a line for each, and a report.
-    fn close(self, rt: &R, out: &mut String) -> Result<(), CaseFault>;
+    fn close(self, rt: &R, out: &mut Said) -> Result<(), CaseFault>;
 }
 
 /// Makes a call, again where it was refused memory, and writes what it answered.
-pub fn make<R, C, G>(rt: &R, callee: &C, text: &str, count: u32, gate: &G, out: &mut String)
+pub fn make<R, C, G>(rt: &R, callee: &C, text: &str, count: u32, gate: &G, out: &mut Said)
 where
     C: Callee<R>,
     G: Gate,
@@ -38,17 +38,19 @@ where
             return;
         }
     }
-    let _ = out.push_str("not made");
+    out.put("not made")
 }
 
 /// Makes calls, and writes each with its answer on a line of its own, behind these words.
-pub fn play<R, C>(rt: &R, callee: &C, before: &str, calls: &str, count: u32, out: &mut String)
+pub fn play<R, C>(rt: &R, callee: &C, before: &str, calls: &str, count: u32, out: &mut Said)
 where
     C: Callee<R>,
 {
     for text in calls.split("; ") {
-        let _ = write!(out, "{before}{text}: ");
+        out.put(before);
+        out.put(text);
+        out.put(": ");
         make(rt, callee, text, count, &Open, out);
-        let _ = out.push('\n');
+        out.put("\n");
     }
 }

@@ -5,8 +5,8 @@ use crate::executors::acting::Acting;
 use crate::executors::call::{call_of, number};
 use crate::executors::callee::{Callee, make, play as play_calls};
 use crate::fault::CaseFault;
+use crate::said::Said;
 use std::alloc::AllocGlobal;
-use std::fmt::Write;
 use std::sync::{Mutex, Wait};
 use swift_executor::Open;
 
@@ -51,7 +51,7 @@ fn pair_of(words: &str, between: &str) -> Option<(u32, u32)> {
 
 /// Makes these calls, writes each with its answer, and what closing the executors gives. `Granted` where the last one is to be refused
 /// memory, and is not.
-pub fn play_on<R, C>(rt: &R, mut callee: C, lines: &str, out: &mut String) -> Result<(), CaseFault>
+pub fn play_on<R, C>(rt: &R, mut callee: C, lines: &str, out: &mut Said) -> Result<(), CaseFault>
 where
     R: Wait + AllocGlobal,
     C: Callee<R>,
@@ -66,11 +66,12 @@ where
         return callee.close(rt, out);
     }
     drop(callee);
-    Ok(out.push_str("dropped\n")?)
+    out.put("dropped\n");
+    Ok(())
 }
 
 // Closes the executors once this call is refused memory.
-fn close_refused<R, C>(rt: &R, callee: C, call: &str, out: &mut String) -> Result<(), CaseFault>
+fn close_refused<R, C>(rt: &R, callee: C, call: &str, out: &mut Said) -> Result<(), CaseFault>
 where
     C: Callee<R>,
 {
@@ -84,7 +85,7 @@ where
 }
 
 // Makes the calls of these lines.
-fn play_lines<R, C>(rt: &R, callee: &mut C, lines: &str, out: &mut String) -> Result<(), CaseFault>
+fn play_lines<R, C>(rt: &R, callee: &mut C, lines: &str, out: &mut Said) -> Result<(), CaseFault>
 where
     R: Wait + AllocGlobal,
     C: Callee<R>,
@@ -96,7 +97,7 @@ where
 }
 
 // Makes the calls of a line.
-fn play_line<R, C>(rt: &R, callee: &mut C, line: &str, out: &mut String) -> Result<(), CaseFault>
+fn play_line<R, C>(rt: &R, callee: &mut C, line: &str, out: &mut Said) -> Result<(), CaseFault>
 where
     R: Wait + AllocGlobal,
     C: Callee<R>,
@@ -120,7 +121,7 @@ fn play_split<R, C>(
     callee: &mut C,
     line: &str,
     desk: &str,
-    out: &mut String,
+    out: &mut Said,
 ) -> Result<(), CaseFault>
 where
     C: Callee<R>,
@@ -129,7 +130,8 @@ where
         return Err(CaseFault::Form);
     };
     callee.split(rt, desk)?;
-    writeln!(out, "{line}: ok")?;
+    out.put(line);
+    out.put(": ok\n");
     Ok(())
 }
 
@@ -158,7 +160,7 @@ fn play_at<R, C>(
     callee: &C,
     line: &str,
     words: &str,
-    out: &mut String,
+    out: &mut Said,
 ) -> Result<(), CaseFault>
 where
     R: Wait + AllocGlobal,
@@ -172,12 +174,15 @@ where
         callee,
         moment: acts.moment,
         calls: acts.calls,
-        lines: Mutex::new(String::with_capacity(rt.alloc(), ROOM)?),
+        lines: Mutex::new(Said::with_room(rt.alloc(), ROOM)?),
     };
-    let mut answer = String::with_capacity(rt.alloc(), ROOM)?;
+    let mut answer = Said::with_room(rt.alloc(), ROOM)?;
     make(rt, callee, acts.call, 0, &gate, &mut answer);
-    let lines = gate.lines.into_inner();
-    writeln!(out, "{lines}{line}: {answer}")?;
+    out.part(gate.lines.into_inner());
+    out.put(line);
+    out.put(": ");
+    out.part(answer);
+    out.put("\n");
     Ok(())
 }
 
@@ -187,7 +192,7 @@ fn play_range<R, C>(
     callee: &C,
     range: &str,
     calls: &str,
-    out: &mut String,
+    out: &mut Said,
 ) -> Result<(), CaseFault>
 where
     R: AllocGlobal,
@@ -196,11 +201,13 @@ where
     let Some((first, last)) = pair_of(range, " to ") else {
         return Err(CaseFault::Form);
     };
-    let mut lines = String::with_capacity(rt.alloc(), ROOM)?;
+    let mut lines = Said::with_room(rt.alloc(), ROOM)?;
     for count in first..=last {
         lines.clear();
         play_calls(rt, callee, "  ", calls, count, &mut lines);
     }
-    write!(out, "{range}:\n{lines}")?;
+    out.put(range);
+    out.put(":\n");
+    out.part(lines);
     Ok(())
 }

@@ -5,12 +5,12 @@ use crate::executors::owned::BookOf;
 use crate::executors::stage::CaseStage;
 use crate::executors::tell::tell_place;
 use crate::fault::CaseFault;
+use crate::said::Said;
 use std::alloc::{AllocGlobal, Global};
-use std::fmt::Write;
 use std::sync::Wait;
 
 /// Closes the executors of a case, each with the last of its desks: a line for each, and a report.
-pub fn close_all<K, R>(rt: &R, stage: CaseStage<K>, out: &mut String) -> Result<(), CaseFault>
+pub fn close_all<K, R>(rt: &R, stage: CaseStage<K>, out: &mut Said) -> Result<(), CaseFault>
 where
     K: BookOf,
     R: Wait + AllocGlobal,
@@ -33,7 +33,7 @@ fn close_one<R>(
     door: Door,
     number: u32,
     leavings: &mut Leavings,
-    out: &mut String,
+    out: &mut Said,
 ) -> Result<bool, CaseFault>
 where
     R: Wait + AllocGlobal,
@@ -46,15 +46,12 @@ where
 }
 
 /// Writes what the executor of this number has left beside its turns.
-pub fn tell_left(
-    alloc: Global,
-    number: u32,
-    left: &Left,
-    out: &mut String,
-) -> Result<(), CaseFault> {
-    write!(out, "executor {number}: {} pending", left.pending)?;
-    tell_place(alloc, &left.ready.list, "ready", out)?;
-    tell_place(alloc, &left.inbox.list, "in the inbox", out)?;
-    out.push('\n')?;
+pub fn tell_left(alloc: Global, number: u32, left: &Left, out: &mut Said) -> Result<(), CaseFault> {
+    out.number("executor ", i64::from(number));
+    out.count(": ", left.pending);
+    out.put(" pending");
+    tell_place(alloc, &left.ready.list, " ready", out)?;
+    tell_place(alloc, &left.inbox.list, " in the inbox", out)?;
+    out.put("\n");
     Ok(())
 }

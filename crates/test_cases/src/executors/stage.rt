@@ -10,8 +10,8 @@ use crate::executors::owned::{BookOf, OwnBooked, OwnDoor, OwnJob};
 use crate::executors::tell::{tell_back, tell_ending, tell_visit};
 use crate::executors::{DOORS, JOBS};
 use crate::fault::CaseFault;
+use crate::said::Said;
 use std::alloc::{AllocGlobal, Global};
-use std::fmt::Write;
 use std::random::RandomSource;
 use std::sync::{Mutex, Wait};
 use swift_executor::Gate;
@@ -51,13 +51,14 @@ impl<K: BookOf> CaseStage<K> {
     }
 
     // Adds a root. Its job is kept.
-    fn add_root<R>(&self, rt: &R, root: u32, out: &mut String) -> Result<(), CaseFault>
+    fn add_root<R>(&self, rt: &R, root: u32, out: &mut Said) -> Result<(), CaseFault>
     where
         R: Wait + AllocGlobal,
     {
         let job = self.root(rt, root)?;
         keep(&mut self.jobs.lock(rt), job);
-        Ok(out.push_str("ok")?)
+        out.put("ok");
+        Ok(())
     }
 
     // Adds a root: its job.
@@ -77,29 +78,30 @@ impl<K: BookOf> CaseStage<K> {
         rt: &R,
         call: CaseCall,
         gate: &G,
-        out: &mut String,
+        out: &mut Said,
     ) -> Result<(), CaseFault> {
         let Some(door) = self.doors.get(call.second as usize) else {
             return Err(CaseFault::Form);
         };
         let taken = take(&mut self.jobs.lock(rt), TaskId(call.first));
         let Some(job) = taken else {
-            return Ok(out.push_str("no job")?);
+            out.put("no job");
+            return Ok(());
         };
         let sent = door.lock(rt).enqueue(rt, job, gate);
         match sent {
-            Ok(was) => write!(out, "{was:?}")?,
+            Ok(was) => out.debug("", &was),
             Err((job, fault)) => {
                 let number = job.number();
                 keep(&mut self.jobs.lock(rt), job);
-                tell_back(call.first, number, fault, out)?;
+                tell_back(call.first, number, fault, out)
             }
         }
         Ok(())
     }
 
     // A visit of a worker. The jobs that it makes are kept.
-    fn run<R, G>(&self, rt: &R, call: CaseCall, gate: &G, out: &mut String) -> Result<(), CaseFault>
+    fn run<R, G>(&self, rt: &R, call: CaseCall, gate: &G, out: &mut Said) -> Result<(), CaseFault>
     where
         R: Wait + RandomSource + AllocGlobal,
         G: Gate,
@@ -120,12 +122,13 @@ impl<K: BookOf> CaseStage<K> {
     }
 
     // How many jobs may still be sent by a desk.
-    fn allowance<R: Wait>(&self, rt: &R, desk: u32, out: &mut String) -> Result<(), CaseFault> {
+    fn allowance<R: Wait>(&self, rt: &R, desk: u32, out: &mut Said) -> Result<(), CaseFault> {
         let Some(door) = self.doors.get(desk as usize) else {
             return Err(CaseFault::Form);
         };
         let allowance = door.lock(rt).allowance();
-        Ok(write!(out, "{allowance}")?)
+        out.count("", allowance);
+        Ok(())
     }
 }
 
@@ -135,7 +138,7 @@ impl<K: BookOf, R: Wait + RandomSource + AllocGlobal> Callee<R> for CaseStage<K>
         rt: &R,
         call: CaseCall,
         gate: &G,
-        out: &mut String,
+        out: &mut Said,
     ) -> Result<(), CaseFault> {
         match call.verb {
             Verb::Root => self.add_root(rt, call.first, out),
@@ -160,7 +163,7 @@ impl<K: BookOf, R: Wait + RandomSource + AllocGlobal> Callee<R> for CaseStage<K>
         Ok(())
     }
 
-    fn close(self, rt: &R, out: &mut String) -> Result<(), CaseFault> {
+    fn close(self, rt: &R, out: &mut Said) -> Result<(), CaseFault> {
         close_all(rt, self, out)
     }
 }

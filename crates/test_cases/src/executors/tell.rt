@@ -1,45 +1,47 @@
 //! What calls answered.
 
 use crate::fault::CaseFault;
+use crate::said::Said;
 use std::alloc::{AllocError, Global};
-use std::fmt::Write;
 use swift_executor::{ExecFault, VisitOutcome};
 use swift_job::Job;
 use swift_tasks::BookFault;
 use swift_turn::Body;
-use swift_types::{Ending, TaskId};
+use swift_types::Ending;
 
 /// What a call on the book answered.
-pub fn tell_booked(answer: Result<(), BookFault>, out: &mut String) -> Result<(), CaseFault> {
+pub fn tell_booked(answer: Result<(), BookFault>, out: &mut Said) -> Result<(), CaseFault> {
     match answer {
-        Ok(()) => out.push_str("ok")?,
+        Ok(()) => out.put("ok"),
         Err(BookFault::Memory) => return Err(CaseFault::Memory),
-        Err(fault) => write!(out, "{fault}")?,
+        Err(fault) => out.value(&fault),
     }
     Ok(())
 }
 
 /// How a task has ended, if it has.
-pub fn tell_ending(ending: Option<Ending>, out: &mut String) -> Result<(), CaseFault> {
+pub fn tell_ending(ending: Option<Ending>, out: &mut Said) -> Result<(), CaseFault> {
     let Some(ending) = ending else {
         return Err(CaseFault::Form);
     };
-    write!(out, "{ending:?}")?;
+    out.debug("", &ending);
     Ok(())
 }
 
 /// Why the job of this number of a task came back.
-pub fn tell_back(
-    task: u32,
-    number: u32,
-    fault: Option<ExecFault>,
-    out: &mut String,
-) -> Result<(), AllocError> {
+pub fn tell_back(task: u32, number: u32, fault: Option<ExecFault>, out: &mut Said) {
     match fault {
-        None => out.push_str("can't run there")?,
-        Some(fault) => write!(out, "{fault}")?,
+        None => out.put("can't run there"),
+        Some(fault) => out.value(&fault),
     }
-    write!(out, ", t{task}.{number} came back")
+    tell_turn(", t", task, number, out);
+    out.put(" came back")
+}
+
+// A task with the number of a turn, behind a word.
+fn tell_turn(word: &str, task: u32, number: u32, out: &mut Said) {
+    out.number(word, i64::from(task));
+    out.number(".", i64::from(number))
 }
 
 /// A job, or what has one.
@@ -57,36 +59,34 @@ impl HasJob for Job<Body> {
 pub fn tell_visit<J: HasJob>(
     ran: Result<VisitOutcome, ExecFault>,
     jobs: &[J],
-    out: &mut String,
+    out: &mut Said,
 ) -> Result<(), CaseFault> {
     tell_ran(ran, out)?;
-    tell_jobs(jobs, out)?;
+    for made in jobs {
+        tell_job(made.job(), out);
+    }
     Ok(())
 }
 
 // What came of a visit.
-fn tell_ran(ran: Result<VisitOutcome, ExecFault>, out: &mut String) -> Result<(), CaseFault> {
+fn tell_ran(ran: Result<VisitOutcome, ExecFault>, out: &mut Said) -> Result<(), CaseFault> {
     match ran {
-        Ok(VisitOutcome::Turn(TaskId(task), left)) => write!(
-            out,
-            "turn of t{task}, left {left:?}"
-        )?,
-        Ok(VisitOutcome::Busy) => out.push_str("busy")?,
-        Ok(VisitOutcome::Nothing(left)) => write!(out, "nothing, left {left:?}")?,
+        Ok(VisitOutcome::Turn(task, left)) => {
+            out.number("turn of t", i64::from(task.0));
+            out.debug(", left ", &left)
+        }
+        Ok(VisitOutcome::Busy) => out.put("busy"),
+        Ok(VisitOutcome::Nothing(left)) => out.debug("nothing, left ", &left),
         Err(ExecFault::Memory) => return Err(CaseFault::Memory),
-        Err(fault) => write!(out, "{fault}")?,
+        Err(fault) => out.value(&fault),
     }
     Ok(())
 }
 
-// Jobs, in order, and what each begins with.
-fn tell_jobs<J: HasJob>(jobs: &[J], out: &mut String) -> Result<(), AllocError> {
-    for made in jobs {
-        let job = made.job();
-        let (task, number, resume) = (job.task().0, job.number(), job.resume());
-        write!(out, ", job t{task}.{number} {resume:?}")?;
-    }
-    Ok(())
+// A job, and what it begins with.
+fn tell_job(job: &Job<Body>, out: &mut Said) {
+    tell_turn(", job t", job.task().0, job.number(), out);
+    out.debug(" ", &job.resume())
 }
 
 /// Which jobs are somewhere, by the number of their task.
@@ -94,7 +94,7 @@ pub fn tell_place(
     alloc: Global,
     jobs: &[Job<Body>],
     place: &str,
-    out: &mut String,
+    out: &mut Said,
 ) -> Result<(), AllocError> {
     let mut seen = Vec::new(alloc);
     for job in jobs {
@@ -102,7 +102,8 @@ pub fn tell_place(
     }
     seen.sort()?;
     for (task, number) in &seen {
-        write!(out, ", t{task}.{number} {place}")?;
+        tell_turn(", t", *task, *number, out);
+        out.put(place);
     }
     Ok(())
 }

@@ -1,18 +1,19 @@
 //! Two threads on one executor.
 
 ghost use Rattle.std.specs.Prelude.{◌≡◌};
+ghost use Rattle.swift_executor.specs.Exec.{IsBookOf, IsDeskOf};
 
-use crate::desks::{Booked, Door, Leavings, Poller, Setting};
+use crate::desks::{Booked, Door, Leavings, Poller, Setting, can_run};
 use crate::executors::hold::{Hold, Holding};
 use crate::fault::CaseFault;
-use std::alloc::{AllocError, AllocGlobal};
-use std::fmt::Write;
+use crate::said::Said;
+use std::alloc::AllocGlobal;
 use std::random::RandomSource;
 use std::sync::Wait;
 use std::thread;
 use std::thread::Threads;
-use swift_executor::{Gate, Open, VisitOutcome};
-use swift_shared_book::TicketedJobs;
+use swift_executor::{Desk, Exec, Gate, Open, VisitOutcome};
+use swift_shared_book::{BookLock, TicketedJobs};
 use swift_word::BeforeCount;
 
 /// A script of two tasks, each of one turn.
@@ -21,25 +22,41 @@ root a = Acc.take();
 root b = Acc.take();
 ";
 
+/// What the threads of a case share: an executor with its book, and which moment one of them is held at.
+#[derive(Clone, Copy)]
+pub(crate) struct Scene<'a> {
+    exec: &'a Exec,
+    book: &'a BookLock,
+    hold: &'a Hold,
+    moment: &'a str,
+}
+
 // Sends the oldest of these jobs, which are of the executor's book. None where it came back, or there is none.
 fn send<R: Wait, G: Gate>(
     rt: &R,
-    door: &mut Door,
+    scene: Scene<'_>,
+    desk: &mut Desk,
     jobs: &mut TicketedJobs,
     gate: &G,
 ) -> Option<BeforeCount>
-    requires { jobs.old.book ≡ door.old }
+    requires desk { IsDeskOf scene.exec.now desk.old }
+    requires book { IsBookOf scene.exec.now scene.book.now }
+    requires jobs { jobs.old.book ≡ scene.book.now.id }
+    ensures desk { IsDeskOf scene.entry.exec.now desk.new }
     ensures jobs { jobs.new.book ≡ jobs.old.book }
-    ensures door { door.new ≡ door.old }
 {
-    let job = jobs.take_first(door.book())?;
-    door.enqueue(rt, job, gate).ok()
+    let job = jobs.take_first(scene.book)?;
+    if !can_run(scene.exec, &job) {
+        return None;
+    }
+    scene.exec.enqueue(rt, desk, job, gate).ok()
 }
 
 // A visit of a worker, whose turn makes no jobs: none come to these. None where it was refused.
 fn visit<R, G>(
     rt: &R,
-    door: &mut Door,
+    scene: Scene<'_>,
+    desk: &mut Desk,
     mut jobs: TicketedJobs,
     worker: u32,
     gate: &G,
@@ -47,11 +64,18 @@ fn visit<R, G>(
 where
     R: Wait + RandomSource + AllocGlobal,
     G: Gate,
-    requires { jobs.book ≡ door.old }
-    ensures { door.new ≡ door.old }
+    requires desk { IsDeskOf scene.exec.now desk.old }
+    requires book { IsBookOf scene.exec.now scene.book.now }
+    requires jobs { jobs.book ≡ scene.book.now.id }
+    ensures { IsDeskOf scene.entry.exec.now desk.new }
 {
     let poller = Poller::new(rt).ok()?;
-    door.run(rt, worker, &poller, &mut jobs, gate).ok()
+    let mut cx = poller.solo.begin();
+    let ran = scene
+        .exec
+        .run_one(rt, desk, worker, scene.book, &mut cx, &mut jobs, gate);
+    cx.cancel();
+    ran.ok()
 }
 
 // Whether the thread that sends is held, and not the one that visits.
@@ -62,17 +86,20 @@ fn is_sender_held(moment: &str) -> bool {
 // What the thread does that sends the job of task 1.
 fn in_sender<R: Wait>(
     rt: &R,
-    mut door: Door,
+    scene: Scene<'_>,
+    mut desk: Desk,
     mut jobs: TicketedJobs,
-    hold: &Hold,
-    moment: &str,
 ) -> Option<BeforeCount>
-    requires { jobs.book ≡ door }
+    requires desk { IsDeskOf scene.exec.now desk }
+    requires book { IsBookOf scene.exec.now scene.book.now }
+    requires jobs { jobs.book ≡ scene.book.now.id }
 {
+    let (hold, moment) = (scene.hold, scene.moment);
     if !is_sender_held(moment) {
         hold.wait();
     }
-    let was = send(rt, &mut door, &mut jobs, &Holding { hold, moment });
+    let gate = Holding { hold, moment };
+    let was = send(rt, scene, &mut desk, &mut jobs, &gate);
     hold.let_go();
     was
 }
@@ -80,17 +107,20 @@ fn in_sender<R: Wait>(
 // What the thread does that visits.
 fn in_visitor<R: Wait + RandomSource + AllocGlobal>(
     rt: &R,
-    mut door: Door,
+    scene: Scene<'_>,
+    mut desk: Desk,
     made: TicketedJobs,
-    hold: &Hold,
-    moment: &str,
 ) -> Option<VisitOutcome>
-    requires { made.book ≡ door }
+    requires desk { IsDeskOf scene.exec.now desk }
+    requires book { IsBookOf scene.exec.now scene.book.now }
+    requires made { made.book ≡ scene.book.now.id }
 {
+    let (hold, moment) = (scene.hold, scene.moment);
     if is_sender_held(moment) {
         hold.wait();
     }
-    let ran = visit(rt, &mut door, made, 0, &Holding { hold, moment });
+    let gate = Holding { hold, moment };
+    let ran = visit(rt, scene, &mut desk, made, 0, &gate);
     hold.let_go();
     ran
 }
@@ -98,30 +128,82 @@ fn in_visitor<R: Wait + RandomSource + AllocGlobal>(
 // One thread sends the oldest of these jobs by the first desk, and one visits by the second. What they answer.
 fn by_two_threads<R>(
     rt: &R,
-    first: Door,
-    second: Door,
+    scene: Scene<'_>,
+    first: Desk,
+    second: Desk,
     jobs: TicketedJobs,
     made: TicketedJobs,
-    hold: &Hold,
-    moment: &str,
 ) -> (Option<BeforeCount>, Option<VisitOutcome>)
 where
     R: Threads + Wait + Sync + RandomSource + AllocGlobal,
-    requires first { jobs.book ≡ first }
-    requires second { made.book ≡ second }
+    requires first { IsDeskOf scene.exec.now first }
+    requires second { IsDeskOf scene.exec.now second }
+    requires book { IsBookOf scene.exec.now scene.book.now }
+    requires jobs { jobs.book ≡ scene.book.now.id }
+    requires made { made.book ≡ scene.book.now.id }
 {
     thread::join(
         rt,
         move ||
-            requires { jobs.book ≡ first }
-        { in_sender(rt, first, jobs, hold, moment) },
+            requires desk { IsDeskOf scene.exec.now first }
+            requires book { IsBookOf scene.exec.now scene.book.now }
+            requires jobs { jobs.book ≡ scene.book.now.id }
+        { in_sender(rt, scene, first, jobs) },
         move ||
-            requires { made.book ≡ second }
-        { in_visitor(rt, second, made, hold, moment) },
+            requires desk { IsDeskOf scene.exec.now second }
+            requires book { IsBookOf scene.exec.now scene.book.now }
+            requires made { made.book ≡ scene.book.now.id }
+        { in_visitor(rt, scene, second, made) },
     )
 }
 
-// Sends the job of task 0, and has that of task 1 sent and the executor visited by two threads.
+impl Door {
+    // Sends the oldest of these jobs, and has the next one sent and the executor visited by two threads, by desks of their own. What
+    // these answer.
+    fn in_threads<R>(
+        &mut self,
+        rt: &R,
+        mut jobs: TicketedJobs,
+        made: TicketedJobs,
+        hold: &Hold,
+        moment: &str,
+    ) -> (Option<BeforeCount>, Option<VisitOutcome>)
+    where
+        R: Threads + Wait + Sync + RandomSource + AllocGlobal,
+        requires jobs { jobs.book ≡ self.old }
+        requires made { made.book ≡ self.old }
+        ensures { self.new ≡ self.old }
+    {
+        let scene = Scene {
+            exec: &self.exec,
+            book: &self.book,
+            hold,
+            moment,
+        };
+        send(rt, scene, &mut self.desk, &mut jobs, &Open);
+        let first = self.desk.split(scene.exec);
+        let second = self.desk.split(scene.exec);
+        by_two_threads(rt, scene, first, second, jobs, made)
+    }
+
+    // A visit of worker 1.
+    fn visited<R>(&mut self, rt: &R, hold: &Hold, made: TicketedJobs) -> Option<VisitOutcome>
+    where
+        R: Wait + RandomSource + AllocGlobal,
+        requires { made.book ≡ self.old }
+        ensures { self.new ≡ self.old }
+    {
+        let scene = Scene {
+            exec: &self.exec,
+            book: &self.book,
+            hold,
+            moment: "",
+        };
+        visit(rt, scene, &mut self.desk, made, 1, &Open)
+    }
+}
+
+// Has the job of task 0 sent, and that of task 1 sent and the executor visited by two threads. What these answer.
 fn play_roots<R>(
     rt: &R,
     door: &mut Door,
@@ -138,39 +220,32 @@ where
     let mut jobs = booked.no_jobs(rt.alloc());
     booked.add_root(rt, 0, &mut jobs).ok()?;
     booked.add_root(rt, 1, &mut jobs).ok()?;
-    send(rt, door, &mut jobs, &Open);
-    let first = door.split().ok()?;
-    let second = door.split().ok()?;
     let made = booked.no_jobs(rt.alloc());
-    Some(by_two_threads(rt, first, second, jobs, made, hold, moment))
+    Some(door.in_threads(rt, jobs, made, hold, moment))
 }
 
 // The calls of two threads, and the visits of another worker that come then.
-fn play_visits<R>(
-    rt: &R,
-    door: &mut Door,
-    booked: &mut Booked,
-    moment: &str,
-    out: &mut String,
-) -> Result<(), AllocError>
+fn play_visits<R>(rt: &R, door: &mut Door, booked: &mut Booked, moment: &str, out: &mut Said)
 where
     R: Threads + Wait + Sync + RandomSource + AllocGlobal,
     requires { door.old ≡ booked.old }
 {
     let hold = Hold::new();
     let answers = play_roots(rt, door, booked, &hold, moment);
-    let next = visit(rt, door, booked.no_jobs(rt.alloc()), 1, &Open);
-    let last = visit(rt, door, booked.no_jobs(rt.alloc()), 1, &Open);
-    writeln!(out, "  sent and visited: {answers:?}")?;
-    writeln!(out, "  next: {next:?}\n  last: {last:?}")?;
-    if hold.is_too_long() {
-        out.push_str("  too long\n")?;
-    }
-    Ok(())
+    let next = door.visited(rt, &hold, booked.no_jobs(rt.alloc()));
+    let last = door.visited(rt, &hold, booked.no_jobs(rt.alloc()));
+    out.debug("  sent and visited: ", &answers);
+    out.debug("\n  next: ", &next);
+    out.debug("\n  last: ", &last);
+    out.put(if hold.is_too_long() {
+        "\n  too long\n"
+    } else {
+        "\n"
+    })
 }
 
 // Closes the executor with the last of its desks.
-fn close<R>(rt: &R, setting: &Setting, door: Door, out: &mut String) -> Result<(), CaseFault>
+fn close<R>(rt: &R, setting: &Setting, door: Door, out: &mut Said) -> Result<(), CaseFault>
 where
     R: Wait + AllocGlobal,
 {
@@ -179,12 +254,13 @@ where
         Some(left) => left.pending,
         None => return Err(CaseFault::Form),
     };
-    writeln!(out, "  closed: {pending} pending")?;
+    out.count("  closed: ", pending);
+    out.put(" pending\n");
     leavings.tell(rt.alloc(), setting, out)
 }
 
 /// Makes an executor, and a call of each of two threads, of which one is held at this moment.
-pub fn play<R>(rt: &R, moment: &str, out: &mut String) -> Result<(), CaseFault>
+pub fn play<R>(rt: &R, moment: &str, out: &mut Said) -> Result<(), CaseFault>
 where
     R: Threads + Wait + Sync + RandomSource + AllocGlobal,
 {
@@ -192,7 +268,7 @@ where
     let setting = Setting::read(alloc, TEXT)?;
     let mut booked = setting.booked(alloc)?;
     let mut door = booked.open(alloc, 2, 2)?;
-    play_visits(rt, &mut door, &mut booked, moment, out)?;
+    play_visits(rt, &mut door, &mut booked, moment, out);
     drop(booked);
     close(rt, &setting, door, out)
 }

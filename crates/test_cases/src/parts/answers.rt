@@ -1,56 +1,44 @@
 //! What calls answer.
 
-use crate::fault::CaseFault;
 use crate::parts::show;
-use std::alloc::AllocError;
-use std::fmt::Write;
+use crate::said::Said;
 use swift_job::Job;
 use swift_log::EventLog;
 use swift_script::Script;
-use swift_tasks::BookFault;
 use swift_turn::Body;
 use swift_types::Priority;
 
-/// A refusal.
-pub fn refused(out: &mut String, fault: BookFault) -> Result<(), CaseFault> {
-    Ok(write!(out, "{fault}")?)
-}
-
 /// The events from this place on, each a line.
-pub fn told_events(out: &mut String, log: &EventLog, from: usize) -> Result<(), AllocError> {
+pub fn told_events(out: &mut Said, log: &EventLog, from: usize) {
     for place in from..log.len() {
-        out.push_str("\n  ")?;
-        show::event(out, log.event(place))?;
+        out.put("\n  ");
+        show::event(out, log.event(place));
     }
-    Ok(())
 }
 
 /// Jobs, each a line.
-pub fn tell_jobs(out: &mut String, script: &Script, jobs: &[Job<Body>]) -> Result<(), AllocError> {
+pub fn tell_jobs(out: &mut Said, script: &Script, jobs: &[Job<Body>]) {
     for job in jobs {
-        out.push_str("\n  ")?;
-        show::job(out, script, job)?;
+        out.put("\n  ");
+        show::job(out, script, job);
     }
-    Ok(())
 }
 
 /// Priorities, in order.
-pub fn told_priorities(out: &mut String, found: &[Priority]) -> Result<(), CaseFault> {
+pub fn told_priorities(out: &mut Said, found: &[Priority]) {
     let mut between = "";
     for priority in found {
-        out.push_str(between)?;
-        out.push_str(show::priority(*priority))?;
+        out.put(between);
+        out.put(show::priority(*priority));
         between = " ";
     }
-    Ok(())
 }
 
 /// Levels of tasks, in order.
-pub fn told_levels(out: &mut String, levels: &[u8]) -> Result<(), CaseFault> {
+pub fn told_levels(out: &mut Said, levels: &[u8]) {
     let mut between = "";
     for level in levels {
-        write!(out, "{between}{level}")?;
+        out.number(between, i64::from(*level));
         between = " ";
     }
-    Ok(())
 }

@@ -4,15 +4,15 @@ ghost use Rattle.swift_turn.specs.Body.{IsRunning};
 
 use crate::fault::CaseFault;
 use crate::jobs::spend;
-use crate::parts::answers::{refused, tell_jobs, told_events, told_levels, told_priorities};
+use crate::parts::answers::{tell_jobs, told_events, told_levels, told_priorities};
 use crate::parts::calls::Part;
 use crate::parts::done::{TurnDone, done_of};
 use crate::parts::jobs::{keep, made, place_of, take};
 use crate::parts::scripts::Scripts;
 use crate::parts::show;
 use crate::parts::words::{number, task};
+use crate::said::Said;
 use std::alloc::Global;
-use std::fmt::Write;
 use swift_job::{Job, spend_all};
 use swift_tasks::{Book, BookFault};
 use swift_turn::Body;
@@ -44,7 +44,7 @@ impl Tasks {
     }
 
     // Makes a call, with what a turn has done, and writes what it answered.
-    fn call(&mut self, head: &str, done: &[&str], out: &mut String) -> Result<(), CaseFault> {
+    fn call(&mut self, head: &str, done: &[&str], out: &mut Said) -> Result<(), CaseFault> {
         let words: Vec<&str> = head.split(' ').collect(self.alloc)?;
         match *words {
             [call] => self.told(call, out),
@@ -55,15 +55,13 @@ impl Tasks {
     }
 
     // A call without more words.
-    fn told(&mut self, call: &str, out: &mut String) -> Result<(), CaseFault> {
+    fn told(&mut self, call: &str, out: &mut Said) -> Result<(), CaseFault> {
         match call {
             "levels" => told_levels(out, self.book.levels()),
-            "open_tasks" => {
-                let open = self.book.open_tasks();
-                Ok(write!(out, "{open}")?)
-            }
-            _ => Err(CaseFault::Form),
+            "open_tasks" => out.count("", self.book.open_tasks() as u64),
+            _ => return Err(CaseFault::Form),
         }
+        Ok(())
     }
 
     // A call of a root, a task or a job.
@@ -73,15 +71,16 @@ impl Tasks {
         named: u32,
         how: &[&str],
         done: &[&str],
-        out: &mut String,
+        out: &mut Said,
     ) -> Result<(), CaseFault> {
         match call {
-            "root" => self.add_root(RootId(named), out),
-            "cancel" => self.cancel(TaskId(named), out),
-            "ending" => Ok(show::ending(out, self.book.ending(TaskId(named)))?),
-            "origin" => Ok(show::origin(out, self.book.origin(TaskId(named)))?),
-            _ => self.with_job(call, TaskId(named), how, done, out),
+            "root" => return self.add_root(RootId(named), out),
+            "cancel" => told(out, self.book.cancel(TaskId(named))),
+            "ending" => show::ending(out, self.book.ending(TaskId(named))),
+            "origin" => show::origin(out, self.book.origin(TaskId(named))),
+            _ => return self.with_job(call, TaskId(named), how, done, out),
         }
+        Ok(())
     }
 
     // A call of a job.
@@ -91,7 +90,7 @@ impl Tasks {
         named: TaskId,
         how: &[&str],
         done: &[&str],
-        out: &mut String,
+        out: &mut Said,
     ) -> Result<(), CaseFault> {
         match call {
             "begin" => {
@@ -104,36 +103,32 @@ impl Tasks {
         }
     }
 
-    fn cancel(&mut self, named: TaskId, out: &mut String) -> Result<(), CaseFault> {
-        match self.book.cancel(named) {
-            Ok(()) => Ok(out.push_str("ok")?),
-            Err(fault) => refused(out, fault),
-        }
-    }
-
-    fn add_root(&mut self, root: RootId, out: &mut String) -> Result<(), CaseFault> {
+    fn add_root(&mut self, root: RootId, out: &mut Said) -> Result<(), CaseFault> {
         match self.book.add_root(root) {
             Ok(job) => {
-                keep(&mut self.given, job)?;
-                Ok(out.push_str("ok")?)
+                out.put("ok");
+                keep(&mut self.given, job)
             }
-            Err(fault) => refused(out, fault),
+            Err(fault) => {
+                out.value(&fault);
+                Ok(())
+            }
         }
     }
 
     // Begins the turn of a job. Whether it has begun.
-    fn begin(&mut self, named: TaskId, how: &[&str], out: &mut String) -> Result<bool, CaseFault> {
+    fn begin(&mut self, named: TaskId, how: &[&str], out: &mut Said) -> Result<bool, CaseFault> {
         if how.is_empty() {
             let Some(place) = place_of(&self.jobs, named) else {
-                out.push_str("no job")?;
+                out.put("no job");
                 return Ok(false);
             };
-            begun(out, self.book.begin(&self.jobs[place]))
+            Ok(begun(out, self.book.begin(&self.jobs[place])))
         } else {
             let job = made(&self.scripts, named, how)?;
             let answer = self.book.begin(&job);
             spend(job);
-            begun(out, answer)
+            Ok(begun(out, answer))
         }
     }
 
@@ -143,10 +138,10 @@ impl Tasks {
         named: TaskId,
         how: &[&str],
         done: &[&str],
-        out: &mut String,
+        out: &mut Said,
     ) -> Result<(), CaseFault> {
         if self.begin(named, how, out)? {
-            out.push_str(", ")?;
+            out.put(", ");
             self.apply(named, how, done, out)?;
         }
         Ok(())
@@ -158,7 +153,7 @@ impl Tasks {
         named: TaskId,
         how: &[&str],
         done: &[&str],
-        out: &mut String,
+        out: &mut Said,
     ) -> Result<(), CaseFault> {
         let done = done_of(self.alloc, &self.scripts.own, done)?;
         if how.is_empty() {
@@ -173,10 +168,11 @@ impl Tasks {
         &mut self,
         named: TaskId,
         done: TurnDone,
-        out: &mut String,
+        out: &mut Said,
     ) -> Result<(), CaseFault> {
         let Some(job) = take(&mut self.jobs, named) else {
-            return Ok(out.push_str("no job")?);
+            out.put("no job");
+            return Ok(());
         };
         match self.applied(job, done, out)? {
             Some(job) => keep(&mut self.jobs, job),
@@ -190,7 +186,7 @@ impl Tasks {
         named: TaskId,
         how: &[&str],
         done: TurnDone,
-        out: &mut String,
+        out: &mut Said,
     ) -> Result<(), CaseFault> {
         let job = made(&self.scripts, named, how)?;
         let left = match self.applied(job, done, out)? {
@@ -209,7 +205,7 @@ impl Tasks {
         &mut self,
         job: Job<Body>,
         done: TurnDone,
-        out: &mut String,
+        out: &mut Said,
     ) -> Result<Option<Job<Body>>, CaseFault> {
         if !job.body().is_running() {
             spend(job);
@@ -217,20 +213,17 @@ impl Tasks {
         }
         match apply_again(&mut self.book, job, done, &mut self.given) {
             Ok(()) => {
-                out.push_str("ok")?;
+                out.put("ok");
                 Ok(None)
             }
             Err((job, fault)) => {
-                if let Err(fault) = refused(out, fault) {
-                    spend(job);
-                    return Err(fault);
-                }
+                out.value(&fault);
                 Ok(Some(job))
             }
         }
     }
 
-    fn priorities(&self, words: &[&str], out: &mut String) -> Result<(), CaseFault> {
+    fn priorities(&self, words: &[&str], out: &mut Said) -> Result<(), CaseFault> {
         let mut tasks: Vec<TaskId> = Vec::new(self.alloc);
         for word in words {
             tasks.push(task(word)?)?;
@@ -239,12 +232,13 @@ impl Tasks {
         found.resize(tasks.len(), Priority::Background)?;
         match self.book.priorities(&tasks, &mut found) {
             Ok(()) => told_priorities(out, &found),
-            Err(fault) => refused(out, fault),
+            Err(fault) => out.value(&fault),
         }
+        Ok(())
     }
 
     /// Closes the book, and writes how many events it had, and the jobs of the tasks that wait.
-    pub fn close(self, out: &mut String) -> Result<(), CaseFault> {
+    pub fn close(self, out: &mut Said) {
         let Tasks {
             alloc: _,
             scripts,
@@ -253,11 +247,13 @@ impl Tasks {
             given,
         } = self;
         let (log, waiting) = book.close();
-        let told = told_end(out, &scripts, log.len(), jobs.len(), &waiting);
+        out.count("closed: ", log.len() as u64);
+        out.count(" events, ", jobs.len() as u64);
+        out.put(" jobs not applied");
+        tell_jobs(out, &scripts.own, &waiting);
         spend_all(waiting);
         spend_all(jobs);
         spend_all(given);
-        told
     }
 }
 
@@ -268,31 +264,39 @@ impl Part for Tasks {
             return Err(CaseFault::Form);
         };
         let events = self.book.log().len();
-        let mut out = String::new(alloc);
+        let mut out = Said::new(alloc);
         match head.strip_prefix("quiet ") {
             Some(quiet) => self.call(quiet, done, &mut out)?,
             None => {
                 self.call(head, done, &mut out)?;
-                told_events(&mut out, self.book.log(), events)?;
-                tell_jobs(&mut out, &self.scripts.own, &self.given)?;
+                told_events(&mut out, self.book.log(), events);
+                tell_jobs(&mut out, &self.scripts.own, &self.given);
             }
         }
         self.jobs.append(&mut self.given)?;
-        Ok(out)
+        Ok(out.end()?)
     }
 }
 
 // Writes what a turn that has begun is given. Whether it has begun.
-fn begun(out: &mut String, answer: Result<Env, BookFault>) -> Result<bool, CaseFault> {
+fn begun(out: &mut Said, answer: Result<Env, BookFault>) -> bool {
     match answer {
         Ok(env) => {
-            show::env(out, env)?;
-            Ok(true)
+            show::env(out, env);
+            true
         }
         Err(fault) => {
-            refused(out, fault)?;
-            Ok(false)
+            out.value(&fault);
+            false
         }
+    }
+}
+
+// Writes whether a call was refused, and why.
+fn told(out: &mut Said, answer: Result<(), BookFault>) {
+    match answer {
+        Ok(()) => out.put("ok"),
+        Err(fault) => out.value(&fault),
     }
 }
 
@@ -314,15 +318,4 @@ fn apply_again(
         Ok(()) => Ok(()),
         Err((job, _effects, fault)) => Err((job, fault)),
     }
-}
-
-fn told_end(
-    out: &mut String,
-    scripts: &Scripts,
-    events: usize,
-    jobs: usize,
-    waiting: &[Job<Body>],
-) -> Result<(), CaseFault> {
-    write!(out, "closed: {events} events, {jobs} jobs not applied")?;
-    Ok(tell_jobs(out, &scripts.own, waiting)?)
 }

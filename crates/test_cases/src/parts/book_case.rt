@@ -3,6 +3,7 @@
 use crate::fault::CaseFault;
 use crate::parts::book::Tasks;
 use crate::parts::calls::{Form, play};
+use crate::said::Said;
 use std::alloc::Global;
 use std::io::Write;
 
@@ -19,9 +20,9 @@ pub fn play_book(alloc: Global, case: &str, out: &mut Vec<u8>) -> Result<(), Cas
     };
     let mut tasks = Tasks::new(alloc, script)?;
     let played = play(alloc, &mut tasks, CALLS, calls, out);
-    let mut text = String::new(alloc);
-    let closed = tasks.close(&mut text);
+    let mut said = Said::new(alloc);
+    tasks.close(&mut said);
     played?;
-    closed?;
+    let text = said.end()?;
     Ok(writeln!(out, "{text}")?)
 }

@@ -10,6 +10,7 @@
 use crate::fault::CaseFault;
 use crate::parts::calls::Part;
 use crate::parts::words::{number, value as value_of};
+use crate::said::Said;
 use script_code::laws::{written_code_counts, written_code_implements, written_code_joins};
 use script_code::{
     Act, Binding, FieldPlace, Formula, Instruction, Sight, holds, link, push_instruction, renumber,
@@ -150,17 +151,13 @@ fn formula_of(alloc: Global, words: &[&str]) -> Result<Formula, CaseFault> {
     formulas.pop().ok_or(CaseFault::Form)
 }
 
-fn valued(alloc: Global, words: &[&str]) -> Result<String, CaseFault> {
+fn valued(alloc: Global, words: &[&str], out: &mut Said) -> Result<(), CaseFault> {
     let formula = formula_of(alloc, words)?;
-    let seen = seen(alloc, &formula)?;
-    Ok(shown(alloc, seen)?)
-}
-
-fn shown(alloc: Global, seen: Option<i64>) -> Result<String, AllocError> {
-    match seen {
-        Some(value) => format!(in alloc; "{value}"),
-        None => String::from_str(alloc, "overflow"),
+    match seen(alloc, &formula)? {
+        Some(value) => out.number("", value),
+        None => out.put("overflow"),
     }
+    Ok(())
 }
 
 // The end, a place for the test, and the body.
@@ -177,7 +174,7 @@ fn while_code(alloc: Global) -> Result<Vec<Instruction>, AllocError> {
 }
 
 // The followers of each instruction.
-fn while_loop(alloc: Global) -> Result<String, AllocError> {
+fn while_loop(alloc: Global, out: &mut Said) -> Result<(), AllocError> {
     let lines = while_code(alloc)?;
     let mut followers = Vec::new(alloc);
     for line in &lines {
@@ -186,19 +183,25 @@ fn while_loop(alloc: Global) -> Result<String, AllocError> {
     written_code_counts();
     written_code_implements();
     written_code_joins();
-    format!(in alloc; "{followers:?}")
+    out.debug("", &followers);
+    Ok(())
 }
 
 impl Part for FormulasPart {
     fn answer(&mut self, alloc: Global, words: &[&str]) -> Result<String, CaseFault> {
+        let mut out = Said::new(alloc);
         match words {
-            ["value", formula @ ..] => valued(alloc, formula),
-            ["while"] => Ok(while_loop(alloc)?),
+            ["value", formula @ ..] => valued(alloc, formula, &mut out)?,
+            ["while"] => while_loop(alloc, &mut out)?,
             ["no_invariant_holds"] => {
-                let is_so = holds(alloc, None, &[]);
-                Ok(format!(in alloc; "{is_so}")?)
+                out.put(if holds(alloc, None, &[]) {
+                    "true"
+                } else {
+                    "false"
+                })
             }
-            _ => Err(CaseFault::Form),
+            _ => return Err(CaseFault::Form),
         }
+        Ok(out.end()?)
     }
 }

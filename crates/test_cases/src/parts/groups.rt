@@ -4,9 +4,10 @@
 use crate::fault::CaseFault;
 use crate::parts::calls::Part;
 use crate::parts::words::{size, task, value};
-use std::alloc::{AllocError, Global};
+use crate::said::Said;
+use std::alloc::Global;
 use swift_groups::{Close, GroupFault, GroupId, Groups, NextResult};
-use swift_types::{Ending, Fault, TaskId};
+use swift_types::{Ending, Fault};
 
 fn group(word: &str) -> Result<GroupId, CaseFault> {
     Ok(GroupId(size(word)?))
@@ -19,16 +20,21 @@ fn ending_of(word: &str) -> Result<Ending, CaseFault> {
     Ok(Ending::Value(value(word)?))
 }
 
-fn shown(alloc: Global, next: NextResult) -> Result<String, AllocError> {
+fn shown(out: &mut Said, next: NextResult) {
     match next {
-        NextResult::Result(TaskId(task), Ending::Value(value)) => format!(in alloc;
-            "task {task} value {value}"
-        ),
-        NextResult::Result(TaskId(task), Ending::Fault(fault)) => format!(in alloc;
-            "task {task} fault {fault:?}"
-        ),
-        NextResult::Wait => String::from_str(alloc, "wait"),
-        NextResult::Empty => String::from_str(alloc, "empty"),
+        NextResult::Result(task, ended) => {
+            out.number("task ", i64::from(task.0));
+            show_ending(out, ended)
+        }
+        NextResult::Wait => out.put("wait"),
+        NextResult::Empty => out.put("empty"),
+    }
+}
+
+fn show_ending(out: &mut Said, ended: Ending) {
+    match ended {
+        Ending::Value(value) => out.number(" value ", value),
+        Ending::Fault(fault) => out.debug(" fault ", &fault),
     }
 }
 
@@ -79,33 +85,35 @@ fn answered(
     }
 }
 
-fn opened(alloc: Global, opened: Result<GroupId, GroupFault>) -> Result<String, AllocError> {
+fn opened(out: &mut Said, opened: Result<GroupId, GroupFault>) {
     match opened {
-        Ok(GroupId(opened)) => format!(in alloc; "group {opened}"),
-        Err(fault) => format!(in alloc; "{fault}"),
+        Ok(GroupId(opened)) => out.count("group ", opened as u64),
+        Err(fault) => out.value(&fault),
     }
 }
 
-fn next(alloc: Global, next: Result<NextResult, GroupFault>) -> Result<String, AllocError> {
+fn next(out: &mut Said, next: Result<NextResult, GroupFault>) {
     match next {
-        Ok(next) => shown(alloc, next),
-        Err(fault) => format!(in alloc; "{fault}"),
+        Ok(next) => shown(out, next),
+        Err(fault) => out.value(&fault),
     }
 }
 
-fn told(alloc: Global, answer: Result<&str, GroupFault>) -> Result<String, AllocError> {
+fn told(out: &mut Said, answer: Result<&str, GroupFault>) {
     match answer {
-        Ok(word) => String::from_str(alloc, word),
-        Err(fault) => format!(in alloc; "{fault}"),
+        Ok(word) => out.put(word),
+        Err(fault) => out.value(&fault),
     }
 }
 
 impl Part for Groups {
     fn answer(&mut self, alloc: Global, words: &[&str]) -> Result<String, CaseFault> {
+        let mut out = Said::new(alloc);
         match *words {
-            ["open", owner] => Ok(opened(alloc, self.open(task(owner)?))?),
-            ["next", asked] => Ok(next(alloc, self.next(group(asked)?))?),
-            _ => Ok(told(alloc, answered(self, words)?)?),
+            ["open", owner] => opened(&mut out, self.open(task(owner)?)),
+            ["next", asked] => next(&mut out, self.next(group(asked)?)),
+            _ => told(&mut out, answered(self, words)?),
         }
+        Ok(out.end()?)
     }
 }

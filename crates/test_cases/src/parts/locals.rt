@@ -4,6 +4,7 @@
 use crate::fault::CaseFault;
 use crate::parts::calls::Part;
 use crate::parts::words::{number, size, value};
+use crate::said::Said;
 use std::alloc::{AllocError, Global};
 use swift_locals::Bindings;
 use swift_types::LocalId;
@@ -23,10 +24,10 @@ impl LocalsPart {
     }
 }
 
-fn shown(alloc: Global, found: Option<i64>) -> Result<String, AllocError> {
+fn shown(out: &mut Said, found: Option<i64>) {
     match found {
-        Some(value) => format!(in alloc; "{value}"),
-        None => String::from_str(alloc, "none"),
+        Some(value) => out.number("", value),
+        None => out.put("none"),
     }
 }
 
@@ -48,25 +49,17 @@ fn cut(bindings: &mut Bindings, depth: usize) -> Result<(), CaseFault> {
     Ok(())
 }
 
-fn ok(alloc: Global) -> Result<String, CaseFault> {
-    Ok(String::from_str(alloc, "ok")?)
-}
-
 // What a call answers that takes memory.
-fn grown(alloc: Global, done: Result<(), AllocError>) -> Result<String, CaseFault> {
+fn grown(done: Result<(), AllocError>) -> &'static str {
     match done {
-        Ok(()) => ok(alloc),
-        Err(AllocError) => Ok(String::from_str(alloc, "no memory")?),
+        Ok(()) => "ok",
+        Err(AllocError) => "no memory",
     }
 }
 
-fn depth(alloc: Global, bindings: &Bindings) -> Result<String, CaseFault> {
-    let depth = bindings.depth();
-    Ok(format!(in alloc; "{depth}")?)
-}
-
-fn read(alloc: Global, bindings: &Bindings, local: &str) -> Result<String, CaseFault> {
-    Ok(shown(alloc, bindings.read(LocalId(number(local)?)))?)
+fn read(bindings: &Bindings, local: &str, out: &mut Said) -> Result<(), CaseFault> {
+    shown(out, bindings.read(LocalId(number(local)?)));
+    Ok(())
 }
 
 impl LocalsPart {
@@ -76,39 +69,47 @@ impl LocalsPart {
     }
 
     // A call of one word.
-    fn plain(&mut self, alloc: Global, call: &str) -> Result<String, CaseFault> {
+    fn plain(&mut self, call: &str, out: &mut Said) -> Result<(), CaseFault> {
         match call {
-            "unbind" => unbind(&mut self.bindings)?,
-            "copy" => return grown(alloc, self.copy_all()),
-            "depth" => return depth(alloc, &self.bindings),
-            "depth_of_copy" => return depth(alloc, &self.copy),
+            "unbind" => {
+                unbind(&mut self.bindings)?;
+                out.put("ok")
+            }
+            "copy" => out.put(grown(self.copy_all())),
+            "depth" => out.count("", self.bindings.depth() as u64),
+            "depth_of_copy" => out.count("", self.copy.depth() as u64),
             _ => return Err(CaseFault::Form),
         }
-        ok(alloc)
+        Ok(())
     }
 
     // A call with a word more.
-    fn given(&mut self, alloc: Global, call: &str, word: &str) -> Result<String, CaseFault> {
+    fn given(&mut self, call: &str, word: &str, out: &mut Said) -> Result<(), CaseFault> {
         match call {
-            "cut" => cut(&mut self.bindings, size(word)?)?,
-            "read" => return read(alloc, &self.bindings, word),
-            "read_copy" => return read(alloc, &self.copy, word),
-            _ => return Err(CaseFault::Form),
+            "cut" => {
+                cut(&mut self.bindings, size(word)?)?;
+                out.put("ok");
+                Ok(())
+            }
+            "read" => read(&self.bindings, word, out),
+            "read_copy" => read(&self.copy, word, out),
+            _ => Err(CaseFault::Form),
         }
-        ok(alloc)
     }
 }
 
 impl Part for LocalsPart {
     fn answer(&mut self, alloc: Global, words: &[&str]) -> Result<String, CaseFault> {
+        let mut out = Said::new(alloc);
         match *words {
-            [call] => self.plain(alloc, call),
-            [call, word] => self.given(alloc, call, word),
+            [call] => self.plain(call, &mut out)?,
+            [call, word] => self.given(call, word, &mut out)?,
             ["bind", local, bound] => {
                 let (local, bound) = (LocalId(number(local)?), value(bound)?);
-                grown(alloc, self.bindings.bind(local, bound))
+                out.put(grown(self.bindings.bind(local, bound)))
             }
-            _ => Err(CaseFault::Form),
+            _ => return Err(CaseFault::Form),
         }
+        Ok(out.end()?)
     }
 }

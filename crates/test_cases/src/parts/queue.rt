@@ -5,6 +5,7 @@
 use crate::fault::CaseFault;
 use crate::parts::calls::{PLAIN, Part, play};
 use crate::parts::words::{priority_of, size, task};
+use crate::said::Said;
 use std::alloc::{AllocError, Global};
 use std::io::Write;
 use swift_job::Job;
@@ -38,10 +39,13 @@ fn put_back(queue: &mut Queue<u32>, priority: Priority) -> Option<(u32, u64)> {
     Some((task.0, arrival))
 }
 
-fn shown(alloc: Global, found: Option<(u32, u64)>) -> Result<String, AllocError> {
+fn shown(out: &mut Said, found: Option<(u32, u64)>) {
     match found {
-        Some((task, arrival)) => format!(in alloc; "task {task} arrival {arrival}"),
-        None => String::from_str(alloc, "none"),
+        Some((task, arrival)) => {
+            out.number("task ", i64::from(task));
+            out.count(" arrival ", arrival)
+        }
+        None => out.put("none"),
     }
 }
 
@@ -50,38 +54,34 @@ fn yes_or_no(is_so: bool) -> &'static str {
 }
 
 // What a call answers whose answer is a number.
-fn counted(alloc: Global, queue: &Queue<u32>, word: &str) -> Result<String, CaseFault> {
-    let count = match word {
-        "len" => queue.len() as u64,
-        "room" => queue.room() as u64,
-        "arrived" => queue.arrived(),
-        _ => return Err(CaseFault::Form),
-    };
-    Ok(format!(in alloc; "{count}")?)
+fn counted(queue: &Queue<u32>, word: &str) -> Result<u64, CaseFault> {
+    match word {
+        "len" => Ok(queue.len() as u64),
+        "room" => Ok(queue.room() as u64),
+        "arrived" => Ok(queue.arrived()),
+        _ => Err(CaseFault::Form),
+    }
 }
 
 // What a call of one word answers.
-fn plain(alloc: Global, queue: &mut Queue<u32>, call: &str) -> Result<String, CaseFault> {
+fn plain(queue: &mut Queue<u32>, call: &str, out: &mut Said) -> Result<(), CaseFault> {
     match call {
-        "take" => Ok(shown(alloc, told(queue.take()))?),
-        "take_oldest" => Ok(shown(alloc, told(queue.take_oldest()))?),
-        "is_empty" => Ok(String::from_str(alloc, yes_or_no(queue.is_empty()))?),
-        _ => counted(alloc, queue, call),
+        "take" => shown(out, told(queue.take())),
+        "take_oldest" => shown(out, told(queue.take_oldest())),
+        "is_empty" => out.put(yes_or_no(queue.is_empty())),
+        _ => out.count("", counted(queue, call)?),
     }
+    Ok(())
 }
 
 // What a call with a word more answers.
-fn given(
-    alloc: Global,
-    queue: &mut Queue<u32>,
-    call: &str,
-    word: &str,
-) -> Result<String, CaseFault> {
+fn given(queue: &mut Queue<u32>, call: &str, word: &str, out: &mut Said) -> Result<(), CaseFault> {
     match call {
-        "put_back" => Ok(shown(alloc, put_back(queue, priority_of(word)?))?),
-        "holds" => Ok(String::from_str(alloc, yes_or_no(queue.holds(task(word)?)))?),
-        _ => Err(CaseFault::Form),
+        "put_back" => shown(out, put_back(queue, priority_of(word)?)),
+        "holds" => out.put(yes_or_no(queue.holds(task(word)?))),
+        _ => return Err(CaseFault::Form),
     }
+    Ok(())
 }
 
 // What a call on a task's job with a priority answers.
@@ -103,15 +103,16 @@ fn placed(
 
 impl Part for Queue<u32> {
     fn answer(&mut self, alloc: Global, words: &[&str]) -> Result<String, CaseFault> {
+        let mut out = Said::new(alloc);
         match *words {
-            [call] => plain(alloc, self, call),
-            [call, word] => given(alloc, self, call, word),
+            [call] => plain(self, call, &mut out)?,
+            [call, word] => given(self, call, word, &mut out)?,
             [call, named, priority] => {
-                let done = placed(self, call, task(named)?, priority_of(priority)?)?;
-                Ok(String::from_str(alloc, done)?)
+                out.put(placed(self, call, task(named)?, priority_of(priority)?)?)
             }
-            _ => Err(CaseFault::Form),
+            _ => return Err(CaseFault::Form),
         }
+        Ok(out.end()?)
     }
 }
 

@@ -5,6 +5,7 @@
 use crate::fault::CaseFault;
 use crate::parts::calls::Part;
 use crate::parts::words::number;
+use crate::said::Said;
 use script_waits::{CallEdge, RootWait, first_waiting};
 use std::alloc::Global;
 
@@ -64,12 +65,14 @@ fn take(
 
 impl Part for RootsPart {
     fn answer(&mut self, alloc: Global, words: &[&str]) -> Result<String, CaseFault> {
+        let mut out = Said::new(alloc);
         match words {
             ["first_waiting", rest @ ..] => match first_by_words(alloc, rest)? {
-                Some(place) => Ok(format!(in alloc; "root {place}")?),
-                None => Ok(String::from_str(alloc, "none")?),
+                Some(place) => out.count("root ", place as u64),
+                None => out.put("none"),
             },
-            _ => Err(CaseFault::Form),
+            _ => return Err(CaseFault::Form),
         }
+        Ok(out.end()?)
     }
 }

@@ -1,7 +1,6 @@
 //! Events and jobs as text.
 
-use std::alloc::AllocError;
-use std::fmt::Write;
+use crate::said::Said;
 use swift_events::{Event, Origin};
 use swift_interpreter::Frame;
 use swift_job::Job;
@@ -21,89 +20,88 @@ pub fn priority(given: Priority) -> &'static str {
 }
 
 /// A fault, with the word `fault` before it.
-pub fn fault(out: &mut String, raised: Fault) -> Result<(), AllocError> {
-    out.push_str("fault ")?;
+pub fn fault(out: &mut Said, raised: Fault) {
     let word = match raised {
-        Fault::Thrown(value) => return write!(out, "thrown {value}"),
-        Fault::Cancelled => "cancelled",
-        Fault::Invariant => "invariant",
-        Fault::Overflow => "overflow",
-        Fault::Steps => "steps",
-        Fault::Turns => "turns",
-        Fault::Depth => "depth",
-        Fault::Tasks => "tasks",
-        Fault::Empty => "empty",
-        Fault::Isolation => "isolation",
+        Fault::Thrown(value) => return out.number("fault thrown ", value),
+        Fault::Cancelled => "fault cancelled",
+        Fault::Invariant => "fault invariant",
+        Fault::Overflow => "fault overflow",
+        Fault::Steps => "fault steps",
+        Fault::Turns => "fault turns",
+        Fault::Depth => "fault depth",
+        Fault::Tasks => "fault tasks",
+        Fault::Empty => "fault empty",
+        Fault::Isolation => "fault isolation",
     };
-    out.push_str(word)
+    out.put(word)
 }
 
 /// What a turn begins with.
-pub fn resume(out: &mut String, begun: Resume) -> Result<(), AllocError> {
+pub fn resume(out: &mut Said, begun: Resume) {
     match begun {
-        Resume::Start => out.push_str("start"),
-        Resume::Go => out.push_str("go"),
-        Resume::Value(value) => write!(out, "value {value}"),
+        Resume::Start => out.put("start"),
+        Resume::Go => out.put("go"),
+        Resume::Value(value) => out.number("value ", value),
         Resume::Fault(raised) => fault(out, raised),
     }
 }
 
 /// How a task has ended.
-pub fn ending(out: &mut String, ended: Option<Ending>) -> Result<(), AllocError> {
+pub fn ending(out: &mut Said, ended: Option<Ending>) {
     match ended {
-        None => out.push_str("none"),
-        Some(Ending::Value(value)) => write!(out, "value {value}"),
+        None => out.put("none"),
+        Some(Ending::Value(value)) => out.number("value ", value),
         Some(Ending::Fault(raised)) => fault(out, raised),
     }
 }
 
+// A number of a task or a group, behind words.
+fn numbered(out: &mut Said, before: &str, number: u32) {
+    out.number(before, i64::from(number))
+}
+
+// Two numbers, each behind words.
+fn two(out: &mut Said, before: &str, first: u32, between: &str, second: u32) {
+    numbered(out, before, first);
+    numbered(out, between, second)
+}
+
 /// Where a task comes from.
-pub fn origin(out: &mut String, from: Option<Origin>) -> Result<(), AllocError> {
+pub fn origin(out: &mut Said, from: Option<Origin>) {
     match from {
-        None => out.push_str("none"),
-        Some(Origin::Root) => out.push_str("root"),
-        Some(Origin::Child(owner, group)) => {
-            let owner = owner.0;
-            write!(out, "child of t{owner} group {group}")
-        }
-        Some(Origin::Spawned(by)) => {
-            let by = by.0;
-            write!(out, "spawned by t{by}")
-        }
-        Some(Origin::Detached(by)) => {
-            let by = by.0;
-            write!(out, "detached by t{by}")
-        }
+        None => out.put("none"),
+        Some(Origin::Root) => out.put("root"),
+        Some(Origin::Child(owner, group)) => two(out, "child of t", owner.0, " group ", group),
+        Some(Origin::Spawned(by)) => numbered(out, "spawned by t", by.0),
+        Some(Origin::Detached(by)) => numbered(out, "detached by t", by.0),
     }
 }
 
 /// What a turn is given.
-pub fn env(out: &mut String, given: Env) -> Result<(), AllocError> {
-    let urgency = priority(given.priority);
-    let cancelled = u32::from(given.cancelled);
-    let room = given.room;
-    write!(out, "{urgency} {cancelled} {room}")
+pub fn env(out: &mut Said, given: Env) {
+    out.put(priority(given.priority));
+    two(out, " ", u32::from(given.cancelled), " ", given.room)
 }
 
 /// An event.
-pub fn event(out: &mut String, happened: Event) -> Result<(), AllocError> {
+pub fn event(out: &mut Said, happened: Event) {
     match happened {
         Event::Root(..) | Event::Free { .. } | Event::Child { .. } => made(out, happened),
         Event::Begin { .. } | Event::Apply(..) | Event::End(..) | Event::Give { .. } => {
             turn_event(out, happened)
         }
-        Event::CancelTask(TaskId(task)) => write!(out, "cancel t{task}"),
-        Event::Wait(TaskId(task), TaskId(awaited)) => write!(out, "wait t{task} for t{awaited}"),
+        Event::CancelTask(TaskId(task)) => numbered(out, "cancel t", task),
+        Event::Wait(TaskId(task), TaskId(awaited)) => two(out, "wait t", task, " for t", awaited),
         _ => group_event(out, happened),
     }
 }
 
-// A task that is made.
-fn made(out: &mut String, happened: Event) -> Result<(), AllocError> {
-    match happened {
+// A task that is made, and its priority.
+fn made(out: &mut Said, happened: Event) {
+    let own = match happened {
         Event::Root(TaskId(task), own) => {
-            let own = priority(own);
-            write!(out, "root t{task} {own}")
+            numbered(out, "root t", task);
+            own
         }
         Event::Free {
             task: TaskId(task),
@@ -111,9 +109,9 @@ fn made(out: &mut String, happened: Event) -> Result<(), AllocError> {
             priority: own,
             detached,
         } => {
-            let own = priority(own);
-            let word = if detached { "detach" } else { "spawn" };
-            write!(out, "{word} t{task} by t{by} {own}")
+            let word = if detached { "detach t" } else { "spawn t" };
+            two(out, word, task, " by t", by);
+            own
         }
         Event::Child {
             task: TaskId(task),
@@ -121,27 +119,32 @@ fn made(out: &mut String, happened: Event) -> Result<(), AllocError> {
             group,
             priority: own,
         } => {
-            let own = priority(own);
-            write!(out, "child t{task} of t{owner} group {group} {own}")
+            two(out, "child t", task, " of t", owner);
+            numbered(out, " group ", group);
+            own
         }
-        _ => Ok(()),
-    }
+        _ => return,
+    };
+    out.put(" ");
+    out.put(priority(own))
 }
 
 // A task's turns, and its end.
-fn turn_event(out: &mut String, happened: Event) -> Result<(), AllocError> {
+fn turn_event(out: &mut Said, happened: Event) {
     match happened {
         Event::Begin {
             task: TaskId(task),
             turn: number,
             env: given,
         } => {
-            write!(out, "begin t{task}.{number} ")?;
+            two(out, "begin t", task, ".", number);
+            out.put(" ");
             env(out, given)
         }
-        Event::Apply(TaskId(task), number) => write!(out, "apply t{task}.{number}"),
+        Event::Apply(TaskId(task), number) => two(out, "apply t", task, ".", number),
         Event::End(TaskId(task), ended) => {
-            write!(out, "end t{task} ")?;
+            numbered(out, "end t", task);
+            out.put(" ");
             ending(out, Some(ended))
         }
         Event::Give {
@@ -149,70 +152,62 @@ fn turn_event(out: &mut String, happened: Event) -> Result<(), AllocError> {
             turn: number,
             resume: begun,
         } => {
-            write!(out, "give t{task}.{number} ")?;
+            two(out, "give t", task, ".", number);
+            out.put(" ");
             resume(out, begun)
         }
-        _ => Ok(()),
+        _ => {}
     }
 }
 
 // An event of a group.
-fn group_event(out: &mut String, happened: Event) -> Result<(), AllocError> {
+fn group_event(out: &mut Said, happened: Event) {
     let (word, group) = match happened {
-        Event::Open(_, group) => ("open", group),
-        Event::Skip(_, group) => ("skip", group),
-        Event::CancelGroup(_, group) => ("cancel", group),
-        Event::Next(_, group) => ("next", group),
-        Event::Close(_, group) => ("close", group),
-        _ => return Ok(()),
+        Event::Open(_, group) => ("open t", group),
+        Event::Skip(_, group) => ("skip t", group),
+        Event::CancelGroup(_, group) => ("cancel t", group),
+        Event::Next(_, group) => ("next t", group),
+        Event::Close(_, group) => ("close t", group),
+        _ => return,
     };
-    let owner = happened.task().0;
-    write!(out, "{word} t{owner} group {group}")
+    two(out, word, happened.task().0, " group ", group)
 }
 
 /// A job.
-pub fn job(out: &mut String, script: &Script, made: &Job<Body>) -> Result<(), AllocError> {
-    let (task, number) = (made.task().0, made.number());
-    write!(out, "job t{task}.{number} ")?;
-    resume(out, made.resume())?;
-    out.push_str(" in ")?;
+pub fn job(out: &mut Said, script: &Script, made: &Job<Body>) {
+    two(out, "job t", made.task().0, ".", made.number());
+    out.put(" ");
+    resume(out, made.resume());
+    out.put(" in ");
     let body = made.body();
     if !body.is_running() {
-        return out.push_str("no frame");
+        return out.put("no frame");
     }
-    frame(out, script, body.top())?;
+    frame(out, script, body.top());
     bindings(out, script, body.outer())
 }
 
-/// A name of a script.
-pub fn name(out: &mut String, bytes: &[u8]) -> Result<(), AllocError> {
-    for byte in bytes {
-        out.push(char::from(*byte))?;
-    }
-    Ok(())
-}
-
 // The method of a frame, by its name, and its variables.
-fn frame(out: &mut String, script: &Script, top: &Frame) -> Result<(), AllocError> {
+fn frame(out: &mut Said, script: &Script, top: &Frame) {
     if top.method.0 as usize >= script.method_count() {
-        return out.push_str("no method");
+        return out.put("no method");
     }
-    name(out, script.method_name(top.method))?;
-    let variables = top.variables.as_slice();
-    write!(out, " {variables:?}")
+    out.name(script.method_name(top.method));
+    out.debug(" ", &top.variables)
 }
 
 // What is read of each local that is bound, and how many bindings stand.
-fn bindings(out: &mut String, script: &Script, standing: &Bindings) -> Result<(), AllocError> {
+fn bindings(out: &mut Said, script: &Script, standing: &Bindings) {
     let depth = standing.depth();
     if depth == 0 {
-        return Ok(());
+        return;
     }
     for place in 0..script.local_count() {
-        let local = LocalId(u32::try_from(place).unwrap_or(u32::MAX));
-        if let Some(value) = standing.read(local) {
-            write!(out, " {place}={value}")?;
+        let local = u32::try_from(place).unwrap_or(u32::MAX);
+        if let Some(value) = standing.read(LocalId(local)) {
+            numbered(out, " ", local);
+            out.number("=", value);
         }
     }
-    write!(out, " of {depth}")
+    out.count(" of ", depth as u64)
 }

@@ -12,6 +12,7 @@ mod tell;
 use crate::fault::CaseFault;
 use crate::parts::calls::{PLAIN, Part, play};
 use crate::parts::turns::task::{Task, call, start};
+use crate::said::Said;
 use std::alloc::{AllocGlobal, Global};
 use std::random::RandomSource;
 use std::sync::Arc;
@@ -27,17 +28,17 @@ struct TurnCases<'a, R> {
 
 impl<R: RandomSource + AllocGlobal> Part for TurnCases<'_, R> {
     fn answer(&mut self, alloc: Global, words: &[&str]) -> Result<String, CaseFault> {
-        let mut text = String::new(alloc);
+        let mut text = Said::new(alloc);
         match *words {
             ["start", name, ref opening @ ..] => {
                 self.task = start(alloc, &self.script, name, opening, &mut text)?;
             }
             _ => match &mut self.task {
                 Some(task) => call(self.rt, &self.script, task, words, &mut text)?,
-                None => text.push_str("not possible")?,
+                None => text.put("not possible"),
             },
         }
-        Ok(text)
+        Ok(text.end()?)
     }
 }
 

@@ -4,36 +4,37 @@
 use crate::fault::CaseFault;
 use crate::parts::calls::Part;
 use crate::parts::words::{priority_of, size, task};
-use std::alloc::{AllocError, Global};
+use crate::said::Said;
+use std::alloc::Global;
 use swift_escalation::{Waits, WaitsFault};
 use swift_types::{Priority, TaskId};
 
-fn shown(alloc: Global, found: Option<Priority>) -> Result<String, AllocError> {
-    let word = match found {
+fn shown(found: Option<Priority>) -> &'static str {
+    match found {
         None => "none",
         Some(Priority::Background) => "background",
         Some(Priority::Low) => "low",
         Some(Priority::Medium) => "medium",
         Some(Priority::High) => "high",
-    };
-    String::from_str(alloc, word)
+    }
 }
 
 // What a call answers that gives no value.
-fn done(alloc: Global, answer: Result<(), WaitsFault>) -> Result<String, AllocError> {
+fn done(out: &mut Said, answer: Result<(), WaitsFault>) {
     match answer {
-        Ok(()) => String::from_str(alloc, "ok"),
-        Err(fault) => format!(in alloc; "{fault}"),
+        Ok(()) => out.put("ok"),
+        Err(fault) => out.value(&fault),
     }
 }
 
 // A call of one word more.
-fn asked(alloc: Global, waits: &mut Waits, call: &str, word: &str) -> Result<String, CaseFault> {
+fn asked(waits: &mut Waits, call: &str, word: &str, out: &mut Said) -> Result<(), CaseFault> {
     match call {
-        "priority" => Ok(shown(alloc, waits.priority(task(word)?))?),
-        "reserve" => Ok(done(alloc, waits.reserve(size(word)?))?),
-        _ => Err(CaseFault::Form),
+        "priority" => out.put(shown(waits.priority(task(word)?))),
+        "reserve" => done(out, waits.reserve(size(word)?)),
+        _ => return Err(CaseFault::Form),
     }
+    Ok(())
 }
 
 // A call of a task and a word more.
@@ -53,14 +54,16 @@ fn given(
 
 impl Part for Waits {
     fn answer(&mut self, alloc: Global, words: &[&str]) -> Result<String, CaseFault> {
+        let mut out = Said::new(alloc);
         match *words {
-            [call, word] => asked(alloc, self, call, word),
-            [call, named, word] => Ok(done(alloc, given(self, call, task(named)?, word)?)?),
+            [call, word] => asked(self, call, word, &mut out)?,
+            [call, named, word] => done(&mut out, given(self, call, task(named)?, word)?),
             ["add_child", added, parent, own] => {
                 let added = self.add_child(task(added)?, task(parent)?, priority_of(own)?);
-                Ok(done(alloc, added)?)
+                done(&mut out, added)
             }
-            _ => Err(CaseFault::Form),
+            _ => return Err(CaseFault::Form),
         }
+        Ok(out.end()?)
     }
 }

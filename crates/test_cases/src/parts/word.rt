@@ -18,6 +18,7 @@ ghost use Rattle.swift_word.specs.Seat.{IsSeatOf, first_seat};
 use crate::fault::CaseFault;
 use crate::parts::calls::{PLAIN, Part, play};
 use crate::parts::words::size;
+use crate::said::Said;
 use std::alloc::{AllocError, Global};
 use std::io::Write;
 use std::marker::Model;
@@ -95,58 +96,63 @@ impl CaseSeat {
     }
 
     // Counts a job.
-    fn count(&mut self, out: &mut String) -> Result<(), AllocError> {
+    fn count(&mut self, out: &mut Said) {
         match self.word.count(&mut self.seat) {
-            Ok(was) => write!(out, "{was:?}"),
-            Err(Spent) => out.push_str("Spent"),
+            Ok(was) => out.debug("", &was),
+            Err(Spent) => out.put("Spent"),
         }
     }
 
     // Takes the state.
-    fn begin(&mut self, out: &mut String) -> Result<(), CaseFault> {
+    fn begin(&mut self, out: &mut Said) -> Result<(), CaseFault> {
         if self.found.is_some() {
             return Err(CaseFault::Form);
         }
         match self.word.begin(&mut self.seat) {
-            Begun::Busy => Ok(out.push_str("Busy")?),
+            Begun::Busy => out.put("Busy"),
             Begun::Run(pending, Number(state)) => {
                 self.found = Some(pending);
-                Ok(write!(out, "{pending} pending, state {state}")?)
+                out.count("", pending);
+                out.count(" pending, state ", state);
             }
         }
+        Ok(())
     }
 
     // Gives this state back after a turn.
-    fn end(&mut self, state: u64, out: &mut String) -> Result<(), CaseFault> {
+    fn end(&mut self, state: u64, out: &mut Said) -> Result<(), CaseFault> {
         let Some(1..) = self.found else {
             return Err(CaseFault::Form);
         };
         let left = self.word.end(&mut self.seat, Number(state));
         self.found = None;
-        Ok(write!(out, "{left:?}")?)
+        out.debug("", &left);
+        Ok(())
     }
 
     // Gives this state back, and no turn was run.
-    fn leave(&mut self, state: u64, out: &mut String) -> Result<(), CaseFault> {
+    fn leave(&mut self, state: u64, out: &mut Said) -> Result<(), CaseFault> {
         if self.found.is_none() {
             return Err(CaseFault::Form);
         }
         let left = self.word.leave(&mut self.seat, Number(state));
         self.found = None;
-        Ok(write!(out, "{left:?}")?)
+        out.debug("", &left);
+        Ok(())
     }
 
     // A call on this seat but for `split`.
-    fn call(&mut self, verb: &str, state: u64, out: &mut String) -> Result<(), CaseFault> {
+    fn call(&mut self, verb: &str, state: u64, out: &mut Said) -> Result<(), CaseFault> {
         match verb {
-            "allowance" => Ok(write!(out, "{}", self.seat.allowance())?),
-            "holds" => Ok(write!(out, "{}", self.seat.holds())?),
-            "count" => Ok(self.count(out)?),
-            "begin" => self.begin(out),
-            "end" => self.end(state, out),
-            "leave" => self.leave(state, out),
-            _ => Err(CaseFault::Form),
+            "allowance" => out.count("", self.seat.allowance()),
+            "holds" => out.put(if self.seat.holds() { "true" } else { "false" }),
+            "count" => self.count(out),
+            "begin" => return self.begin(out),
+            "end" => return self.end(state, out),
+            "leave" => return self.leave(state, out),
+            _ => return Err(CaseFault::Form),
         }
+        Ok(())
     }
 }
 
@@ -162,7 +168,7 @@ impl WordPart {
         verb: &str,
         place: usize,
         state: u64,
-        out: &mut String,
+        out: &mut Said,
     ) -> Result<(), CaseFault> {
         let Some(seat) = self.seats.get_mut(place) else {
             return Err(CaseFault::Form);
@@ -172,19 +178,20 @@ impl WordPart {
         }
         let new = seat.split()?;
         self.seats.push(new)?;
-        Ok(out.push_str("ok")?)
+        out.put("ok");
+        Ok(())
     }
 }
 
 impl Part for WordPart {
     fn answer(&mut self, alloc: Global, words: &[&str]) -> Result<String, CaseFault> {
-        let mut out = String::new(alloc);
+        let mut out = Said::new(alloc);
         match *words {
             [verb, place] => self.call(verb, size(place)?, 0, &mut out)?,
             [verb, place, state] => self.call(verb, size(place)?, state.parse::<u64>()?, &mut out)?,
             _ => return Err(CaseFault::Form),
         }
-        Ok(out)
+        Ok(out.end()?)
     }
 }
 

@@ -10,10 +10,10 @@ use crate::executors::end::tell_left;
 use crate::executors::tell::{tell_back, tell_booked, tell_ending, tell_visit};
 use crate::executors::{DOORS, JOBS};
 use crate::fault::CaseFault;
+use crate::said::Said;
 use crate::states::book::{OwnBook, Scripted};
 use crate::states::exec::StateExec;
 use std::alloc::{AllocGlobal, Global};
-use std::fmt::Write;
 use std::marker::Model;
 use std::random::RandomSource;
 use std::sync::{Arc, Mutex, Wait};
@@ -105,7 +105,7 @@ impl<K: Scripted> StateStage<K> {
     }
 
     // Adds a root. Its job is kept.
-    fn add_root<R: Wait>(&self, rt: &R, root: u32, out: &mut String) -> Result<(), CaseFault> {
+    fn add_root<R: Wait>(&self, rt: &R, root: u32, out: &mut Said) -> Result<(), CaseFault> {
         let added = self.book.lock(rt).add_root(root);
         let told = match added {
             Ok(job) => {
@@ -123,11 +123,12 @@ impl<K: Scripted> StateStage<K> {
         rt: &R,
         call: CaseCall,
         setting: &Setting,
-        out: &mut String,
+        out: &mut Said,
     ) -> Result<(), CaseFault> {
         let job = setting.job(rt.alloc(), call.first, call.second)?;
         self.jobs.lock(rt).keep(job);
-        Ok(out.push_str("ok")?)
+        out.put("ok");
+        Ok(())
     }
 
     // Sends the oldest job that is kept of a task. It is kept again where it comes back.
@@ -136,7 +137,7 @@ impl<K: Scripted> StateStage<K> {
         rt: &R,
         call: CaseCall,
         gate: &G,
-        out: &mut String,
+        out: &mut Said,
     ) -> Result<(), CaseFault> {
         let Some(desk) = self.desks.get(call.second as usize) else {
             return Err(CaseFault::Form);
@@ -146,21 +147,22 @@ impl<K: Scripted> StateStage<K> {
         };
         let taken = self.jobs.lock(rt).take(TaskId(call.first));
         let Some(job) = taken else {
-            return Ok(out.push_str("no job")?);
+            out.put("no job");
+            return Ok(());
         };
         match exec.enqueue(rt, &desk.allowance, job, gate) {
-            Ok(was) => write!(out, "{was:?}")?,
+            Ok(was) => out.debug("", &was),
             Err((job, fault)) => {
                 let number = job.number();
                 self.jobs.lock(rt).keep(job);
-                tell_back(call.first, number, fault, out)?;
+                tell_back(call.first, number, fault, out)
             }
         }
         Ok(())
     }
 
     // A visit of a worker. The jobs that it makes are kept.
-    fn run<R, G>(&self, rt: &R, call: CaseCall, gate: &G, out: &mut String) -> Result<(), CaseFault>
+    fn run<R, G>(&self, rt: &R, call: CaseCall, gate: &G, out: &mut Said) -> Result<(), CaseFault>
     where
         R: Wait + RandomSource + AllocGlobal,
         G: Gate,
@@ -185,7 +187,7 @@ impl<K: Scripted> StateStage<K> {
         rt: &R,
         call: CaseCall,
         gate: &G,
-        out: &mut String,
+        out: &mut Said,
     ) -> Result<(), CaseFault>
     where
         R: Wait + RandomSource + AllocGlobal,
@@ -208,12 +210,13 @@ impl<K: Scripted> StateStage<K> {
     }
 
     // How many jobs may still be sent by a desk.
-    fn allowance<R: Wait>(&self, rt: &R, desk: u32, out: &mut String) -> Result<(), CaseFault> {
+    fn allowance<R: Wait>(&self, rt: &R, desk: u32, out: &mut Said) -> Result<(), CaseFault> {
         let Some(desk) = self.desks.get(desk as usize) else {
             return Err(CaseFault::Form);
         };
         let allowance = *desk.allowance.lock(rt);
-        Ok(write!(out, "{allowance}")?)
+        out.count("", allowance);
+        Ok(())
     }
 }
 
@@ -223,7 +226,7 @@ impl<K: Scripted, R: Wait + RandomSource + AllocGlobal> Callee<R> for StateStage
         rt: &R,
         call: CaseCall,
         gate: &G,
-        out: &mut String,
+        out: &mut Said,
     ) -> Result<(), CaseFault> {
         match call.verb {
             Verb::Root => self.add_root(rt, call.first, out),
@@ -261,7 +264,7 @@ impl<K: Scripted, R: Wait + RandomSource + AllocGlobal> Callee<R> for StateStage
         Ok(())
     }
 
-    fn close(self, rt: &R, out: &mut String) -> Result<(), CaseFault> {
+    fn close(self, rt: &R, out: &mut Said) -> Result<(), CaseFault> {
         let StateStage {
             setting,
             book: _,
@@ -293,7 +296,7 @@ fn close_one<K: Scripted>(
     exec: StateExec<K>,
     number: u32,
     leavings: &mut Leavings,
-    out: &mut String,
+    out: &mut Said,
 ) -> Result<(), CaseFault> {
     match exec.close(leavings) {
         Some(left) => tell_left(alloc, number, &left, out),

@@ -3,6 +3,7 @@
 use crate::fault::CaseFault;
 use crate::parts::turns::begin::TurnStart;
 use crate::parts::turns::tell;
+use crate::said::Said;
 use futures::Future;
 use futures::task::{Context, Doorbell, Solo};
 use std::alloc::{AllocError, AllocGlobal};
@@ -29,13 +30,13 @@ pub fn run<R: RandomSource + AllocGlobal>(
     body: &mut Body,
     how: How,
     begin: TurnStart,
-    out: &mut String,
+    out: &mut Said,
 ) -> Result<Option<Exit>, CaseFault> {
     let solo = Solo::new(rt, Doorbell::spinning())?;
     let mut cx = solo.begin();
     let ran = one(script, &mut cx, body, how, begin, out);
     cx.cancel();
-    match ran? {
+    match ran {
         Some((_fields, exit)) => Ok(Some(exit)),
         None => Ok(None),
     }
@@ -49,8 +50,8 @@ fn one(
     body: &mut Body,
     how: How,
     begin: TurnStart,
-    out: &mut String,
-) -> Result<Option<(Vec<Vec<i64>>, Exit)>, AllocError> {
+    out: &mut Said,
+) -> Option<(Vec<Vec<i64>>, Exit)> {
     let (resume, env) = (begin.resume, begin.env);
     let ran = match ran(cx, body, how, begin.fields, resume, env) {
         Err(fields) => ran(cx, body, how, fields, resume, env),
@@ -66,13 +67,13 @@ fn one(
                 },
             ),
         ) => {
-            tell::left(out, script, &fields, &effects, &exit)?;
-            return Ok(Some((fields, exit)));
+            tell::left(out, script, &fields, &effects, &exit);
+            return Some((fields, exit));
         }
-        Ok(None) => out.push_str("not possible")?,
-        Err(_) => out.push_str("no memory")?,
+        Ok(None) => out.put("not possible"),
+        Err(_) => out.put("no memory"),
     }
-    Ok(None)
+    None
 }
 
 // What a turn leaves. None where it can't be run, and the fields where it is refused memory.
@@ -117,7 +118,7 @@ pub fn play<R: RandomSource + AllocGlobal>(
     script: &Script,
     body: &mut Body,
     begin: TurnStart,
-    out: &mut String,
+    out: &mut Said,
 ) -> Result<(), CaseFault> {
     let solo = Solo::new(rt, Doorbell::spinning())?;
     let mut cx = solo.begin();
@@ -131,11 +132,11 @@ fn turns(
     cx: &mut Context<'_>,
     body: &mut Body,
     mut begin: TurnStart,
-    out: &mut String,
+    out: &mut Said,
 ) -> Result<(), AllocError> {
     let env = begin.env;
     for _ in 0..TURNS {
-        let Some((fields, exit)) = one(script, cx, body, How::Whole, begin, out)? else {
+        let Some((fields, exit)) = one(script, cx, body, How::Whole, begin, out) else {
             return Ok(());
         };
         let Some(resume) = after(body, &exit, out)? else {
@@ -151,12 +152,12 @@ fn turns(
 }
 
 // What the task's next turn begins with. Where none follows at once, writes what comes next.
-fn after(body: &mut Body, exit: &Exit, out: &mut String) -> Result<Option<Resume>, AllocError> {
-    out.push('\n')?;
+fn after(body: &mut Body, exit: &Exit, out: &mut Said) -> Result<Option<Resume>, AllocError> {
+    out.put("\n");
     match next(body, exit)? {
         Some(Step::Run(_, resume)) => return Ok(Some(resume)),
-        Some(step) => tell::step(out, step)?,
-        None => out.push_str("not possible")?,
+        Some(step) => tell::step(out, step),
+        None => out.put("not possible"),
     }
     Ok(None)
 }

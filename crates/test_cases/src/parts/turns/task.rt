@@ -6,6 +6,7 @@ use crate::parts::show;
 use crate::parts::turns::begin::{TurnStart, change, opening_of, turn_of};
 use crate::parts::turns::play::{How, play, run};
 use crate::parts::turns::tell;
+use crate::said::Said;
 use futures::Future;
 use futures::task::{Doorbell, Poll, Solo};
 use std::alloc::{AllocError, AllocGlobal, Global};
@@ -29,21 +30,21 @@ pub fn start(
     script: &Arc<Script>,
     name: &str,
     words: &[&str],
-    out: &mut String,
+    out: &mut Said,
 ) -> Result<Option<Task>, CaseFault> {
     let Some(method) = method_named(script, None, name) else {
-        out.push_str("no such method")?;
+        out.put("no such method");
         return Ok(None);
     };
     let opening = match opening_of(alloc, words) {
         Ok(opening) => opening,
         Err(CaseFault::Form) => {
-            out.push_str("no such arguments")?;
+            out.put("no such arguments");
             return Ok(None);
         }
         Err(fault) => return Err(fault),
     };
-    out.push_str("started")?;
+    out.put("started");
     let script = Arc::clone(script)?;
     let body = Body::start(alloc, script, method, opening.args, opening.bindings)?;
     Ok(Some(Task {
@@ -59,14 +60,17 @@ pub fn call<R: RandomSource + AllocGlobal>(
     script: &Script,
     task: &mut Task,
     words: &[&str],
-    out: &mut String,
+    out: &mut Said,
 ) -> Result<(), CaseFault> {
     match *words {
         ["put_back", ref changes @ ..] => put_back(task, changes, out),
         [name] => plain(rt, script, task, name, out),
         [name, ref begin @ ..] => match turn_of(rt.alloc(), begin) {
             Ok(begin) => begin_turn(rt, script, task, name, begin, out),
-            Err(CaseFault::Form) => Ok(out.push_str("no such call")?),
+            Err(CaseFault::Form) => {
+                out.put("no such call");
+                Ok(())
+            }
             Err(fault) => Err(fault),
         },
         [] => Err(CaseFault::Form),
@@ -79,15 +83,15 @@ fn plain<R: RandomSource + AllocGlobal>(
     script: &Script,
     task: &mut Task,
     name: &str,
-    out: &mut String,
+    out: &mut Said,
 ) -> Result<(), CaseFault> {
     match name {
         "poll" => return poll(rt, &mut task.body, out),
-        "leave" => leave(script, task, out)?,
+        "leave" => leave(script, task, out),
         "advance" => advance(task, out)?,
-        "actor" => actor(&task.body, out)?,
+        "actor" => actor(&task.body, out),
         "frame" => frame(script, task, out)?,
-        _ => out.push_str("no such call")?,
+        _ => out.put("no such call"),
     }
     Ok(())
 }
@@ -99,32 +103,32 @@ fn begin_turn<R: RandomSource + AllocGlobal>(
     task: &mut Task,
     name: &str,
     begin: TurnStart,
-    out: &mut String,
+    out: &mut Said,
 ) -> Result<(), CaseFault> {
     match name {
-        "enter" => enter(&mut task.body, begin, out)?,
+        "enter" => enter(&mut task.body, begin, out),
         "run_turn" => task.exit = run(rt, script, &mut task.body, How::Whole, begin, out)?,
         "turn" => task.exit = run(rt, script, &mut task.body, How::Parts, begin, out)?,
         "play" => play(rt, script, &mut task.body, begin, out)?,
-        _ => out.push_str("no such call")?,
+        _ => out.put("no such call"),
     }
     Ok(())
 }
 
-fn enter(body: &mut Body, begin: TurnStart, out: &mut String) -> Result<(), AllocError> {
+fn enter(body: &mut Body, begin: TurnStart, out: &mut Said) {
     if !body.is_running() {
-        return out.push_str("not possible");
+        return out.put("not possible");
     }
     match body.enter(begin.fields, begin.resume, begin.env) {
-        Ok(()) => out.push_str("entered"),
-        Err((_, AllocError)) => out.push_str("out of memory"),
+        Ok(()) => out.put("entered"),
+        Err((_, AllocError)) => out.put("out of memory"),
     }
 }
 
 fn poll<R: RandomSource + AllocGlobal>(
     rt: &R,
     body: &mut Body,
-    out: &mut String,
+    out: &mut Said,
 ) -> Result<(), CaseFault> {
     let solo = Solo::new(rt, Doorbell::spinning())?;
     let mut cx = solo.begin();
@@ -132,11 +136,11 @@ fn poll<R: RandomSource + AllocGlobal>(
     cx.end(&polled);
     match polled {
         Poll::Ready(ended) => {
-            out.push_str("ready ")?;
-            show::ending(out, Some(ended))?;
+            out.put("ready ");
+            show::ending(out, Some(ended));
         }
-        Poll::Pending if is_woken(&solo) => out.push_str("pending, has yielded")?,
-        Poll::Pending => out.push_str("pending, waits")?,
+        Poll::Pending if is_woken(&solo) => out.put("pending, has yielded"),
+        Poll::Pending => out.put("pending, waits"),
     }
     Ok(())
 }
@@ -152,9 +156,9 @@ fn is_woken(solo: &Solo) -> bool {
     }
 }
 
-fn leave(script: &Script, task: &mut Task, out: &mut String) -> Result<(), AllocError> {
+fn leave(script: &Script, task: &mut Task, out: &mut Said) {
     if !task.body.is_polled() {
-        return out.push_str("not possible");
+        return out.put("not possible");
     }
     match task.body.leave() {
         Ok(
@@ -164,15 +168,14 @@ fn leave(script: &Script, task: &mut Task, out: &mut String) -> Result<(), Alloc
                 exit,
             },
         ) => {
-            let told = tell::left(out, script, &fields, &effects, &exit);
+            tell::left(out, script, &fields, &effects, &exit);
             task.exit = Some(exit);
-            told
         }
-        Err((_, AllocError)) => out.push_str("out of memory"),
+        Err((_, AllocError)) => out.put("out of memory"),
     }
 }
 
-fn advance(task: &mut Task, out: &mut String) -> Result<(), AllocError> {
+fn advance(task: &mut Task, out: &mut Said) -> Result<(), AllocError> {
     match &task.exit {
         Some(exit) if task.body.is_running() && task.body.can_advance(exit) => {
             // Made again where it is refused memory.
@@ -182,40 +185,47 @@ fn advance(task: &mut Task, out: &mut String) -> Result<(), AllocError> {
             };
             tell::step(out, step)
         }
-        _ => out.push_str("not possible"),
+        _ => out.put("not possible"),
     }
+    Ok(())
 }
 
-fn actor(body: &Body, out: &mut String) -> Result<(), AllocError> {
+fn actor(body: &Body, out: &mut Said) {
     if !body.is_running() {
-        return out.push_str("not possible");
+        return out.put("not possible");
     }
-    let actor = body.actor().0;
-    write!(out, "actor {actor}")
+    out.number("actor ", i64::from(body.actor().0))
 }
 
-fn frame(script: &Script, task: &mut Task, out: &mut String) -> Result<(), AllocError> {
+fn frame(script: &Script, task: &mut Task, out: &mut Said) -> Result<(), AllocError> {
     if !task.body.is_running() {
-        return out.push_str("not possible");
+        out.put("not possible");
+        return Ok(());
     }
     let copy = task.body.frame()?;
-    let told = tell::frame_and_outer(out, script, &copy, task.body.outer());
+    tell::frame_and_outer(out, script, &copy, task.body.outer());
     task.frame = Some(copy);
-    told
+    Ok(())
 }
 
-fn put_back(task: &mut Task, changes: &[&str], out: &mut String) -> Result<(), CaseFault> {
+fn put_back(task: &mut Task, changes: &[&str], out: &mut Said) -> Result<(), CaseFault> {
     let Some(mut copy) = task.frame.take() else {
-        return Ok(out.push_str("not possible")?);
+        out.put("not possible");
+        return Ok(());
     };
     match change(&mut copy, changes) {
-        Ok(()) => {}
-        Err(CaseFault::Form) => return Ok(out.push_str("no such part")?),
+        Ok(()) => put(task, copy, out),
+        Err(CaseFault::Form) => out.put("no such part"),
         Err(fault) => return Err(fault),
     }
+    Ok(())
+}
+
+// Puts a frame back, where that may be done.
+fn put(task: &mut Task, copy: Frame, out: &mut Said) {
     if !task.body.is_running() || !task.body.can_put_back(&copy) {
-        return Ok(out.push_str("not possible")?);
+        return out.put("not possible");
     }
     task.body.put_back(copy);
-    Ok(out.push_str("put back")?)
+    out.put("put back")
 }

@@ -1,9 +1,8 @@
 //! What turns leave, as text.
 
 use crate::parts::show;
+use crate::said::Said;
 use script_code::Binding;
-use std::alloc::AllocError;
-use std::fmt::Write;
 use swift_interpreter::{Effect, Exit, Frame, Invocation, TaskName};
 use swift_locals::Bindings;
 use swift_script::Script;
@@ -12,39 +11,33 @@ use swift_types::{ActorId, LocalId, MethodId, Priority};
 
 /// What a turn gave: the fields, the effects, and the exit.
 pub fn left(
-    out: &mut String,
+    out: &mut Said,
     script: &Script,
-    fields: &[Vec<i64>],
+    fields: &Vec<Vec<i64>>,
     effects: &[Effect],
     exit: &Exit,
-) -> Result<(), AllocError> {
-    write!(out, "{fields:?}, ")?;
+) {
+    out.debug("", fields);
+    out.put(", ");
     if effects.is_empty() {
-        out.push_str("no effects, ")?;
+        out.put("no effects, ");
     }
     for done in effects {
-        effect(out, script, done)?;
-        out.push_str(", ")?;
+        effect(out, script, done);
+        out.put(", ");
     }
     show_exit(out, script, exit)
 }
 
-fn effect(out: &mut String, script: &Script, done: &Effect) -> Result<(), AllocError> {
+fn effect(out: &mut Said, script: &Script, done: &Effect) {
     match done {
         Effect::Spawn {
             invocation: spawned,
             priority: given,
             bindings: standing,
-        } => {
-            out.push_str("spawn ")?;
-            made(out, script, spawned, *given)?;
-            with(out, script, standing)
-        }
-        Effect::Detach(detached, given) => {
-            out.push_str("detach ")?;
-            made(out, script, detached, Some(*given))
-        }
-        Effect::Open => out.push_str("open"),
+        } => made_with(out, script, spawned, *given, standing, "spawn "),
+        Effect::Detach(detached, given) => made(out, script, detached, Some(*given), "detach "),
+        Effect::Open => out.put("open"),
         Effect::Add {
             group,
             unless_cancelled: unless,
@@ -52,185 +45,156 @@ fn effect(out: &mut String, script: &Script, done: &Effect) -> Result<(), AllocE
             priority: given,
             bindings: standing,
         } => {
-            write!(out, "add {group} ")?;
-            out.push_str(if *unless { "unless " } else { "" })?;
-            made(out, script, child, *given)?;
-            with(out, script, standing)
+            let word = if *unless { " unless " } else { " " };
+            out.number("add ", i64::from(*group));
+            made_with(out, script, child, *given, standing, word)
         }
-        Effect::CancelTask(name) => {
-            out.push_str("cancel ")?;
-            task(out, *name)
-        }
-        Effect::CancelGroup(group) => write!(out, "cancel group {group}"),
+        Effect::CancelTask(name) => task(out, "cancel ", *name),
+        Effect::CancelGroup(group) => out.number("cancel group ", i64::from(*group)),
     }
 }
 
-// A task that is made, and the priority that it is given.
-fn made(
-    out: &mut String,
+// A task that is made, and the priority that it is given, behind a word.
+fn made(out: &mut Said, script: &Script, called: &Invocation, given: Option<Priority>, word: &str) {
+    invocation(out, script, called, word);
+    if let Some(given) = given {
+        out.put(" at ");
+        out.put(show::priority(given));
+    }
+}
+
+// The same, and the bindings that it is given, if there are any.
+fn made_with(
+    out: &mut Said,
     script: &Script,
     called: &Invocation,
     given: Option<Priority>,
-) -> Result<(), AllocError> {
-    invocation(out, script, called)?;
-    priority(out, given)
-}
-
-// A method with its arguments.
-fn invocation(out: &mut String, script: &Script, called: &Invocation) -> Result<(), AllocError> {
-    actor(out, script, called.actor)?;
-    out.push('.')?;
-    method(out, script, called.method)?;
-    out.push(' ')?;
-    numbers(out, &called.args)
-}
-
-fn priority(out: &mut String, given: Option<Priority>) -> Result<(), AllocError> {
-    match given {
-        None => Ok(()),
-        Some(given) => {
-            out.push_str(" at ")?;
-            out.push_str(show::priority(given))
-        }
+    standing: &Bindings,
+    word: &str,
+) {
+    made(out, script, called, given, word);
+    if standing.depth() > 0 {
+        out.put(" with ");
+        bindings(out, script, standing);
     }
 }
 
-// The bindings of a task that is made, if it has any.
-fn with(out: &mut String, script: &Script, standing: &Bindings) -> Result<(), AllocError> {
-    if standing.depth() == 0 {
-        return Ok(());
-    }
-    out.push_str(" with ")?;
-    bindings(out, script, standing)
+// A method with its arguments, behind a word.
+fn invocation(out: &mut Said, script: &Script, called: &Invocation, word: &str) {
+    out.put(word);
+    actor(out, script, called.actor);
+    out.put(".");
+    method(out, script, called.method);
+    out.debug(" ", &called.args)
 }
 
 // What is read of each local that is bound, and how many bindings stand.
-fn bindings(out: &mut String, script: &Script, standing: &Bindings) -> Result<(), AllocError> {
-    if standing.depth() == 0 {
-        return out.push_str("none");
+fn bindings(out: &mut Said, script: &Script, standing: &Bindings) {
+    let depth = standing.depth();
+    if depth == 0 {
+        return out.put("none");
     }
     let mut open = "{";
     for place in 0..script.local_count() {
-        let local = LocalId(u32::try_from(place).unwrap_or(u32::MAX));
-        if let Some(value) = standing.read(local) {
-            write!(out, "{open}{place}: {value}")?;
+        let local = u32::try_from(place).unwrap_or(u32::MAX);
+        if let Some(value) = standing.read(LocalId(local)) {
+            out.number(open, i64::from(local));
+            out.number(": ", value);
             open = ", ";
         }
     }
     // No script reads a local that it does not declare.
-    out.push_str(if open == "{" { "{" } else { "" })?;
-    let depth = standing.depth();
-    out.push_str("} of ")?;
-    write!(out, "{depth}")
+    out.put(if open == "{" { "{" } else { "" });
+    out.count("} of ", depth as u64)
 }
 
-// A task, as a frame names it.
-fn task(out: &mut String, name: TaskName) -> Result<(), AllocError> {
+// A task, as a frame names it, behind a word.
+fn task(out: &mut Said, word: &str, name: TaskName) {
+    out.put(word);
     match name {
-        TaskName::Root(root) => {
-            let root = root.0;
-            write!(out, "root {root}")
-        }
-        TaskName::Own(number) => write!(out, "task {number}"),
+        TaskName::Root(root) => out.number("root ", i64::from(root.0)),
+        TaskName::Own(number) => out.number("task ", i64::from(number)),
     }
 }
 
-fn numbers(out: &mut String, list: &[i64]) -> Result<(), AllocError> {
-    write!(out, "{list:?}")
-}
-
-fn show_exit(out: &mut String, script: &Script, exit: &Exit) -> Result<(), AllocError> {
+fn show_exit(out: &mut Said, script: &Script, exit: &Exit) {
     match exit {
-        Exit::Call(called) => {
-            out.push_str("call ")?;
-            invocation(out, script, called)
-        }
-        Exit::Wait(name) => {
-            out.push_str("wait ")?;
-            task(out, *name)
-        }
-        Exit::Next(group) => write!(out, "next {group}"),
-        Exit::Close(group, None) => write!(out, "close {group}"),
+        Exit::Call(called) => invocation(out, script, called, "call "),
+        Exit::Wait(name) => task(out, "wait ", *name),
+        Exit::Next(group) => out.number("next ", i64::from(*group)),
+        Exit::Close(group, None) => out.number("close ", i64::from(*group)),
         Exit::Close(group, Some(pending)) => {
-            write!(out, "close {group} ")?;
+            out.number("close ", i64::from(*group));
+            out.put(" ");
             show::fault(out, *pending)
         }
-        Exit::Yield => out.push_str("yield"),
-        Exit::Return(value) => write!(out, "return {value}"),
+        Exit::Yield => out.put("yield"),
+        Exit::Return(value) => out.number("return ", *value),
         Exit::Fault(left) => show::fault(out, *left),
     }
 }
 
-fn actor(out: &mut String, script: &Script, called: ActorId) -> Result<(), AllocError> {
+fn actor(out: &mut Said, script: &Script, called: ActorId) {
     if called.0 as usize >= script.actor_count() {
-        return out.push_str("?");
+        return out.put("?");
     }
-    show::name(out, script.actor_name(called))
+    out.name(script.actor_name(called))
 }
 
-fn method(out: &mut String, script: &Script, called: MethodId) -> Result<(), AllocError> {
+fn method(out: &mut Said, script: &Script, called: MethodId) {
     if called.0 as usize >= script.method_count() {
-        return out.push_str("?");
+        return out.put("?");
     }
-    show::name(out, script.method_name(called))
+    out.name(script.method_name(called))
 }
 
 /// What comes after a turn.
-pub fn step(out: &mut String, next: Step) -> Result<(), AllocError> {
+pub fn step(out: &mut Said, next: Step) {
     match next {
         Step::Run(actor, with) => {
-            let actor = actor.0;
-            write!(out, "run actor {actor} ")?;
+            out.number("run actor ", i64::from(actor.0));
+            out.put(" ");
             show::resume(out, with)
         }
         Step::Ended(ended) => {
-            out.push_str("ended ")?;
+            out.put("ended ");
             show::ending(out, Some(ended))
         }
-        Step::Await => out.push_str("await"),
+        Step::Await => out.put("await"),
     }
 }
 
 /// A frame, and the bindings that stand outside it.
-pub fn frame_and_outer(
-    out: &mut String,
-    script: &Script,
-    copy: &Frame,
-    outer: &Bindings,
-) -> Result<(), AllocError> {
-    frame(out, script, copy)?;
-    out.push_str(" outer ")?;
+pub fn frame_and_outer(out: &mut Said, script: &Script, copy: &Frame, outer: &Bindings) {
+    frame(out, script, copy);
+    out.put(" outer ");
     bindings(out, script, outer)
 }
 
 // A frame, part by part, without where it is. What is innermost stands last.
-fn frame(out: &mut String, script: &Script, copy: &Frame) -> Result<(), AllocError> {
-    method(out, script, copy.method)?;
-    out.push_str(" vars ")?;
-    numbers(out, &copy.variables)?;
-    let handles = copy.handles.as_slice();
-    write!(out, " handles {handles:?} own ")?;
-    own(out, &copy.own)?;
-    let groups = copy.groups.as_slice();
-    write!(out, " groups {groups:?} pending ")?;
+fn frame(out: &mut Said, script: &Script, copy: &Frame) {
+    method(out, script, copy.method);
+    out.debug(" vars ", &copy.variables);
+    out.debug(" handles ", &copy.handles);
+    out.put(" own ");
+    own(out, &copy.own);
+    out.debug(" groups ", &copy.groups);
+    out.put(" pending ");
     match copy.pending {
-        Some(pending) => show::fault(out, pending)?,
-        None => out.push_str("none")?,
+        Some(pending) => show::fault(out, pending),
+        None => out.put("none"),
     }
-    let (made, opened) = (copy.made, copy.opened);
-    write!(out, " made {made} opened {opened}")
+    out.count(" made ", copy.made);
+    out.count(" opened ", copy.opened)
 }
 
 // The bindings of a frame.
-fn own(out: &mut String, made: &[Binding]) -> Result<(), AllocError> {
-    out.push('[')?;
-    for (place, binding) in made.iter().enumerate() {
-        if place > 0 {
-            out.push_str(", ")?;
-        }
-        let local = binding.local.0;
-        let value = binding.value;
-        write!(out, "{local}: {value}")?;
+fn own(out: &mut Said, made: &[Binding]) {
+    let mut open = "[";
+    for binding in made {
+        out.number(open, i64::from(binding.local.0));
+        out.number(": ", binding.value);
+        open = ", ";
     }
-    out.push(']')
+    out.put(if open == "[" { "[]" } else { "]" })
 }
