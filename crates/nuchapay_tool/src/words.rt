@@ -16,45 +16,63 @@ use swift_types::limits::WORKERS;
 // What each command that reads a script says of its argument.
 const FILE: &str = "The script; standard input where it is - or missing";
 
-fn file<'a>(alloc: Global) -> Arg<'a> {
-    Arg::new(alloc, "file")
-        .value_name("FILE")
-        .help(FILE)
+// A word by its place.
+fn operand<'a>(alloc: Global, name: &'a str, value: &'a str, help: &'a str) -> Arg<'a> {
+    Arg::new(alloc, name)
+        .value_name(value)
+        .help(help)
         .action(ArgAction::Set)
+}
+
+// A word behind `--NAME`.
+fn option<'a>(alloc: Global, name: &'a str, value: &'a str, help: &'a str) -> Arg<'a> {
+    operand(alloc, name, value, help).long(name)
+}
+
+// `--NAME` by itself.
+fn flag<'a>(alloc: Global, name: &'a str, help: &'a str) -> Arg<'a> {
+    Arg::new(alloc, name)
+        .long(name)
+        .help(help)
+        .action(ArgAction::SetTrue)
+}
+
+fn file<'a>(alloc: Global) -> Arg<'a> {
+    operand(alloc, "file", "FILE", FILE)
 }
 
 fn workers<'a>(alloc: Global) -> Arg<'a> {
-    Arg::new(alloc, "workers")
-        .long("workers")
-        .value_name("N")
-        .help("Runs the tasks on N threads, from 1 to 8")
-        .action(ArgAction::Set)
-        .value_parser(value_parser!(u32).range(1..9))
-        .default_value("1")
-}
-
-fn quiet<'a>(alloc: Global) -> Arg<'a> {
-    Arg::new(alloc, "quiet")
-        .long("quiet")
-        .help("Leaves the journals out of the report")
-        .action(ArgAction::SetTrue)
-}
-
-fn values<'a>(alloc: Global) -> Arg<'a> {
-    Arg::new(alloc, "values")
-        .long("values")
-        .help("Says below each turn which fields it changed")
-        .action(ArgAction::SetTrue)
+    option(
+        alloc,
+        "workers",
+        "N",
+        "Runs the tasks on N threads, from 1 to 8",
+    )
+    .value_parser(value_parser!(u32).range(1..9))
+    .default_value("1")
 }
 
 fn report_format<'a>(alloc: Global) -> Arg<'a> {
-    Arg::new(alloc, "format")
-        .long("format")
-        .value_name("FORMAT")
-        .help("Prints the report as text, or as JSON")
-        .action(ArgAction::Set)
-        .value_parser(["text", "json"].as_slice())
-        .default_value("text")
+    option(
+        alloc,
+        "format",
+        "FORMAT",
+        "Prints the report as text, or as JSON",
+    )
+    .value_parser(["text", "json"].as_slice())
+    .default_value("text")
+}
+
+fn picture_format<'a>(alloc: Global) -> Arg<'a> {
+    let help = "A picture, or a trace for Perfetto and chrome://tracing";
+    option(alloc, "format", "FORMAT", help)
+        .value_parser(["svg", "trace"].as_slice())
+        .default_value("svg")
+}
+
+// A command with one example.
+fn named<'a>(alloc: Global, name: &'a str, about: &'a str, example: &'a str) -> Command<'a> {
+    Command::new(alloc, name).about(about).after_help(example)
 }
 
 // The words of a command, with one argument more. In a function of its own, so that this is the one place where something is let go when
@@ -67,133 +85,122 @@ fn with_arg<'a>(
 }
 
 fn run_command<'a>(alloc: Global) -> Result<Command<'a>, AllocError> {
-    let words = Command::new(alloc, "run")
-        .about(
-            "Runs a script, and prints the journal of each executor, how each task ended, and the fields",
-        )
-        .after_help("Example: nuchapay run --workers 4 examples/account.actors")
-        .arg(file(alloc));
+    let words = named(
+        alloc,
+        "run",
+        "Runs a script, and prints the journal of each executor, how each task ended, and the fields",
+        "Example: nuchapay run --workers 4 examples/account.actors",
+    );
+    let words = with_arg(Ok(words), file(alloc));
     let words = with_arg(words, workers(alloc));
-    let words = with_arg(words, quiet(alloc));
-    let words = with_arg(words, values(alloc));
+    let quiet = "Leaves the journals out of the report";
+    let words = with_arg(words, flag(alloc, "quiet", quiet));
+    let values = "Says below each turn which fields it changed";
+    let words = with_arg(words, flag(alloc, "values", values));
     with_arg(words, report_format(alloc))
 }
 
-fn turn<'a>(alloc: Global) -> Arg<'a> {
-    Arg::new(alloc, "turn")
-        .value_name("TURN")
-        .help("The turn, as the journal names it: t1.0 is the first turn of task 1")
-        .action(ArgAction::Set)
-        .required(true)
-}
-
 fn why_command<'a>(alloc: Global) -> Result<Command<'a>, AllocError> {
-    let script = Arg::new(alloc, "file")
-        .value_name("FILE")
-        .help("The script; standard input where it is -")
-        .action(ArgAction::Set)
-        .required(true);
-    let words = Command::new(alloc, "why")
-        .about(
-            "Runs a script, and explains one of its turns: what it began with, what it did to the fields, and who changed them meanwhile",
-        )
-        .after_help("Example: nuchapay why examples/account.actors t1.1")
-        .arg(script);
-    let words = with_arg(words, turn(alloc));
+    let words = named(
+        alloc,
+        "why",
+        "Runs a script, and explains one of its turns: what it began with, what it did to the fields, and who changed them meanwhile",
+        "Example: nuchapay why examples/account.actors t1.1",
+    );
+    let script = "The script; standard input where it is -";
+    let words = with_arg(
+        Ok(words),
+        operand(alloc, "file", "FILE", script).required(true),
+    );
+    let turn = "The turn, as the journal names it: t1.0 is the first turn of task 1";
+    let words = with_arg(words, operand(alloc, "turn", "TURN", turn).required(true));
     with_arg(words, workers(alloc))
 }
 
 fn check_command<'a>(alloc: Global) -> Result<Command<'a>, AllocError> {
-    let colour = Arg::new(alloc, "color")
-        .long("color")
-        .value_name("WHEN")
-        .help("Colours what is said of a refusal: always or never")
-        .action(ArgAction::Set)
-        .default_value("never");
-    let words = Command::new(alloc, "check")
-        .about("Says whether a script is accepted; else why not, where, and what to do")
-        .after_help("Example: nuchapay check examples/account.actors")
-        .arg(file(alloc));
-    with_arg(words, colour)
+    let words = named(
+        alloc,
+        "check",
+        "Says whether a script is accepted; else why not, where, and what to do",
+        "Example: nuchapay check examples/account.actors",
+    );
+    let words = with_arg(Ok(words), file(alloc));
+    let colour = "Colours what is said of a refusal: always or never";
+    with_arg(
+        words,
+        option(alloc, "color", "WHEN", colour).default_value("never"),
+    )
 }
 
 fn explain_command<'a>(alloc: Global) -> Result<Command<'a>, AllocError> {
-    let topic = Arg::new(alloc, "topic")
-        .value_name("TOPIC")
-        .help("The number of a refusal (S1 to S14, N1 to N5), or the word of a fault, as overflow")
-        .action(ArgAction::Set)
-        .required(true);
-    Command::new(alloc, "explain")
-        .about(
-            "Explains a refusal or a fault, with a script for which it comes, and the same one mended",
-        )
-        .after_help("Example: nuchapay explain S7")
-        .arg(topic)
+    let words = named(
+        alloc,
+        "explain",
+        "Explains a refusal or a fault, with a script for which it comes, and the same one mended",
+        "Example: nuchapay explain S7",
+    );
+    let topic =
+        "The number of a refusal (S1 to S14, N1 to N5), or the word of a fault, as overflow";
+    with_arg(
+        Ok(words),
+        operand(alloc, "topic", "TOPIC", topic).required(true),
+    )
 }
 
 fn print_command<'a>(alloc: Global) -> Result<Command<'a>, AllocError> {
-    let pretty = Arg::new(alloc, "pretty")
-        .long("pretty")
-        .help("Lays the script out: indented, one statement on a line")
-        .action(ArgAction::SetTrue);
-    let words = Command::new(alloc, "print")
-        .about(
-            "Prints the printed form of a script, which is the same for texts that spell one script",
-        )
-        .after_help("Example: nuchapay print examples/account.actors")
-        .arg(file(alloc));
-    with_arg(words, pretty)
+    let words = named(
+        alloc,
+        "print",
+        "Prints the printed form of a script, which is the same for texts that spell one script",
+        "Example: nuchapay print examples/account.actors",
+    );
+    let words = with_arg(Ok(words), file(alloc));
+    let pretty = "Lays the script out: indented, one statement on a line";
+    with_arg(words, flag(alloc, "pretty", pretty))
 }
 
 fn show_command<'a>(alloc: Global) -> Result<Command<'a>, AllocError> {
-    let format = Arg::new(alloc, "format")
-        .long("format")
-        .value_name("FORMAT")
-        .help("A picture, or a trace for Perfetto and chrome://tracing")
-        .action(ArgAction::Set)
-        .value_parser(["svg", "trace"].as_slice())
-        .default_value("svg");
-    let words = Command::new(alloc, "show")
-        .about("Runs a script, and shows the run as a picture")
-        .after_help("Example: nuchapay show examples/account.actors > account.svg")
-        .arg(file(alloc));
+    let words = named(
+        alloc,
+        "show",
+        "Runs a script, and shows the run as a picture",
+        "Example: nuchapay show examples/account.actors > account.svg",
+    );
+    let words = with_arg(Ok(words), file(alloc));
     let words = with_arg(words, workers(alloc));
-    with_arg(words, format)
+    with_arg(words, picture_format(alloc))
 }
 
 fn swift_command<'a>(alloc: Global) -> Result<Command<'a>, AllocError> {
-    Command::new(alloc, "swift")
-        .about("Prints a script as a Swift program, for Swift's own runtime")
-        .after_help("Example: nuchapay swift examples/account.actors")
-        .arg(file(alloc))
+    let words = named(
+        alloc,
+        "swift",
+        "Prints a script as a Swift program, for Swift's own runtime",
+        "Example: nuchapay swift examples/account.actors",
+    );
+    with_arg(Ok(words), file(alloc))
 }
 
-fn limit<'a>(alloc: Global) -> Arg<'a> {
-    Arg::new(alloc, "limit")
-        .long("limit")
-        .value_name("N")
-        .help("Keeps at most N states, from 1 to 10000000")
-        .action(ArgAction::Set)
-        .value_parser(value_parser!(u32).range(1..10_000_001))
-        .default_value("100000")
-}
-
-fn schedule<'a>(alloc: Global) -> Arg<'a> {
-    Arg::new(alloc, "schedule")
-        .long("schedule")
-        .value_name("K")
-        .help("Runs the schedule of outcome K again, and prints the whole report")
-        .action(ArgAction::Set)
-        .value_parser(value_parser!(u32).range(1..10_000_001))
+// A number from 1 to 10,000,000.
+fn number<'a>(alloc: Global, name: &'a str, value: &'a str, help: &'a str) -> Arg<'a> {
+    option(alloc, name, value, help).value_parser(value_parser!(u32).range(1..10_000_001))
 }
 
 fn explore_command<'a>(alloc: Global) -> Result<Command<'a>, AllocError> {
-    let words = Command::new(alloc, "explore")
-        .about("Lists outcomes that some order of turns leads to, each with its schedule")
-        .after_help("Example: nuchapay explore examples/races/early_read.actors")
-        .arg(file(alloc));
-    let words = with_arg(words, limit(alloc));
-    with_arg(words, schedule(alloc))
+    let words = named(
+        alloc,
+        "explore",
+        "Lists outcomes that some order of turns leads to, each with its schedule",
+        "Example: nuchapay explore examples/races/early_read.actors",
+    );
+    let words = with_arg(Ok(words), file(alloc));
+    let limit = "Keeps at most N states, from 1 to 10000000";
+    let words = with_arg(
+        words,
+        number(alloc, "limit", "N", limit).default_value("100000"),
+    );
+    let schedule = "Runs the schedule of outcome K again, and prints the whole report";
+    with_arg(words, number(alloc, "schedule", "K", schedule))
 }
 
 // The words that the program takes, with one command more, as `with_arg`.
