@@ -1,6 +1,6 @@
 //! One turn explained.
 
-use crate::fields::{copy_of, make};
+use crate::fields::make;
 use crate::invariants::invariants_of;
 use crate::lines::line_at;
 use crate::names::{Found, find_turn};
@@ -9,7 +9,7 @@ use crate::printed::{method_text, method_word};
 use crate::report::heading_lines;
 use crate::statement::{NamesAt, write_statement, write_variable};
 use crate::text::Text;
-use crate::values::{Change, Outcome, TurnValues, last_turn, turn_values};
+use crate::values::{Change, Outcome, TurnValues, copy_of, last_turn, turn_values};
 use crate::words::Words;
 use script_code::Instruction;
 use std::alloc::{AllocError, Global};

@@ -2,16 +2,6 @@
 
 use crate::values::Change;
 use script_code::FieldPlace;
-use std::alloc::{AllocError, Global};
-
-/// A copy of fields.
-pub fn copy_of(alloc: Global, rows: &[Vec<i64>]) -> Result<Vec<Vec<i64>>, AllocError> {
-    let mut copy = Vec::with_capacity(alloc, rows.len())?;
-    for row in rows {
-        copy.push(Vec::from_slice(alloc, row)?)?;
-    }
-    Ok(copy)
-}
 
 // Sets a field, where it is there.
 fn set_field(fields: &mut [Vec<i64>], actor: usize, field: usize, value: i64) {

@@ -4,11 +4,10 @@ ghost use Rattle.std.specs.Prelude.{◌≤◌, false, length, IfOk};
 ghost use Rattle.swift_report.specs.Text.{report_text as text_of};
 ghost use Rattle.nuchapay_values.specs.Notes.{AppendsAnnotated, IsAnnotated};
 
-use crate::fields::copy_of;
 use crate::invariants::invariants_of;
 use crate::lines::{copy_line, copy_lines};
 use crate::notes::write_notes;
-use crate::values::turn_values;
+use crate::values::{copy_of, turn_values};
 use crate::words::Words;
 use std::alloc::{AllocError, Global};
 use swift_journal::{Checkpoint, Journal};

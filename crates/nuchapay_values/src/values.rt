@@ -17,4 +17,5 @@ mod turns;
 
 pub use change::{Change, Outcome, TurnValues};
 pub use last::last_turn;
+pub(crate) use player::copy_of;
 pub use turns::turn_values;

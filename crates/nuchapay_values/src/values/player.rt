@@ -152,8 +152,8 @@ impl Player {
     }
 }
 
-// A copy of fields.
-fn copy_of(alloc: Global, rows: &[Vec<i64>]) -> Result<Vec<Vec<i64>>, AllocError>
+/// A copy of fields.
+pub(crate) fn copy_of(alloc: Global, rows: &[Vec<i64>]) -> Result<Vec<Vec<i64>>, AllocError>
     ensures { IfOk result (λ copy. rows_of copy.items ≡ rows_of rows.now) }
 {
     let mut copy = Vec::with_capacity(alloc, rows.len())?;
