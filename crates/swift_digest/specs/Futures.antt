@@ -15,11 +15,12 @@ pub record AreAlike (script : ScriptView) (s z : Standing) : Type 0 where
   pub held : held_plans script s.held ≡ held_plans script z.held
   pub jobs : (t : ℕ) → option_map (job_plan script) (s.jobs t) ≡ option_map (job_plan script) (z.jobs t)
 
--- Two histories lead alike: to alike standings, and to the same fields at each executor.
+-- Two histories lead alike: to alike standings, and to the same fields at each executor. This has a direction: `unused`.
 pub record LeadAlike (script : ScriptView) (checkpoints : List CheckpointView) (before others : List Block) : Type 0 where
   pub standing : AreAlike script (after_blocks script (at_first script) before) (after_blocks script (at_first script) others)
   pub fields : (e : ℕ) → fields_of script checkpoints e before ≡ fields_of script checkpoints e others
-  -- an executor that has no record yet has none in the other: only there may a folded turn follow
+  -- an executor without a record in the first has none in the second, which may be without records of more: only there may a folded turn
+  -- follow
   pub unused : (e : ℕ) → records_of e before ≡ [] → records_of e others ≡ []
 
 -- Two blocks are one but for the frame of a recorded turn, whose plan is one.
@@ -33,8 +34,8 @@ AreLike script [] [] = Unit {0}
 AreLike script (b ∷ bs) (c ∷ cs) = IsLike script b c × AreLike script bs cs
 AreLike script _ _ = ⊥
 
--- Of two histories that lead alike, each way in which one goes on is one of the other, up to plans of frames, and they lead alike
--- after it.
+-- Of two histories that lead alike, each way in which the first goes on is one of the second, up to plans of frames, and they lead
+-- alike after it.
 abbrev pub SameFutures : Type 0
 SameFutures = (script : ScriptView) (checkpoints : List CheckpointView) (before others more : List Block)
     → AllStand script checkpoints [] before → AllStand script checkpoints [] others → LeadAlike script checkpoints before others → AllStand script checkpoints before more

@@ -3,8 +3,8 @@
 ghost use Rattle.swift_digest.specs.Futures.{SameFutures, TurnsAreDetermined};
 ghost use Rattle.swift_digest.specs.Explored.{ExploredHasEachOutcome, ExploredHasEachOrderlyOutcome, RepresentedHasEachOutcome};
 
-/// Of two histories that lead to one digest, and to the same waiting tasks, jobs and fields, each way in which one goes on is one of the
-/// other (our own).
+/// Of two histories that lead to one digest, and to the same waiting tasks, jobs and fields, each way in which the first goes on is one of
+/// the second, where no executor that has no record in the first has one in the second (our own).
 pub fn alike_histories_go_on_alike()
     ensures { SameFutures }
 {}

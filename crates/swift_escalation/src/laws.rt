@@ -2,7 +2,7 @@
 
 ghost use Rattle.swift_escalation.specs.Laws.{NeverFalls};
 
-/// A task's priority never falls as events are added (our own; in Swift a raise can end).
+/// A task's priority never falls as events are added (our own).
 pub fn priorities_never_fall()
     ensures { NeverFalls }
 {}

@@ -160,8 +160,8 @@ impl<B> ReadyJobs<B> {
         self.count_each(given);
     }
 
-    /// `count`, which takes constant time where no level has changed since the levels of all tasks were given last: where the last change
-    /// was at the event `changed` of the log or before, and not after. None where that is not known.
+    /// `count`, which takes constant time where no level has changed since the levels of all tasks were given last: where the log had
+    /// `changed` events when one may have changed last, and had no fewer when they were given. None where that is not known.
     pub fn count_since(&mut self, given: &[u8], changed: Option<usize>)
         requires few { length given.now ≤ TASKS }
         requires stayed { IfSome changed (λ n. n ≤ self.old.counted → AreAtMost given.now self.old.levels) }

@@ -12,7 +12,7 @@ pub fn runs_stay_within_room()
     ensures { StaysWithinRoom }
 {}
 
-/// A task's priority never falls along a log (our own; in Swift a raise can end).
+/// A task's priority never falls along a log (our own).
 pub fn priorities_never_fall()
     ensures { PrioritiesNeverFall }
 {

@@ -40,7 +40,7 @@ pub record IsUntouched (before after : TurnStateView) : Type 0 where
   pub own : after.own ≡ []
   pub groups : after.groups ≡ tail before.groups
 
--- an invariant among these holds of the fields
+-- each of these invariants holds of the fields
 abbrev pub AllHold : List Term → List (List ℤ) → Type 0
 AllHold invariants fields = (t : Term) → Contains invariants t → IsTrue (holds (Some t) fields)
 
