@@ -2,10 +2,9 @@
 
 use crate::keyword::Keyword;
 use crate::mark::Mark;
-use smallvec::SmallVec;
 
-/// The bytes of a name. Up to 16 of them lie in the value itself, so that a short name takes no memory of its own.
-pub type NameText = SmallVec<u8, 16>;
+/// The bytes of a name.
+pub type NameText = Vec<u8>;
 
 /// What stands between white space and comments. A name has a copy of its bytes, so a token outlives the text that it
 /// was read from.

@@ -24,7 +24,7 @@ shared_pool_sync : IsSync (shared_pool.the_field).row
 shared_pool_sync = search (plain, pool_send, bell_sync) depth 60 fits 20000
 
 -- jobs with their tickets
-ticketed_jobs_send : IsSend ticketed_jobs.the_row
+pub ticketed_jobs_send : IsSend ticketed_jobs.the_row
 ticketed_jobs_send = search (plain, body_send, book_seat_send) depth 60 fits 20000
 
 pub hand_send : IsSend (hand.the_field).row
