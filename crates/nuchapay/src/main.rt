@@ -17,7 +17,6 @@ mod values;
 use crate::explore::{Rerun, outcomes_text, rerun_text};
 use crate::show::show_run;
 use crate::values::{Said, explained_turn, report_of};
-use json_tool::run_json;
 use nuchapay_tool::{
     Checked, Request, Source, Topic, TurnName, check, explain, page_of, pretty, print, read_input,
     request, translate,
@@ -31,8 +30,8 @@ use std::random::RandomSource;
 use std::sync::Wait;
 use std::thread::Threads;
 use std::{env, io};
-use swift_output::write_all;
-use swift_tool::{ToolFault, run_text, status};
+use swift_report::write_all;
+use swift_tool::{ToolFault, run_json, run_text, status};
 use swift_workers::Open;
 
 fn main(rt: HostRuntime) -> ExitCode {

@@ -8,7 +8,7 @@ use std::io::Write;
 use std::random::RandomSource;
 use std::sync::Wait;
 use std::thread::Threads;
-use swift_output::write_all;
+use swift_report::write_all;
 use swift_tool::ToolFault;
 
 /// Runs a script, and writes the run as a picture in this format. `name` is the script's path. Whether each task ended with a value.

@@ -4,7 +4,7 @@ ghost use Rattle.std.specs.Prelude.{◌≡◌};
 ghost use Rattle.nuchapay_picture.specs.declared.fault.PictureFault.TheVariants.{Device, Memory};
 
 use std::alloc::AllocError;
-use swift_output::Device;
+use swift_report::Device;
 
 /// Why a picture was not written to its end (our own). A prefix of it may have been.
 #[derive(Clone, Copy, Debug, PartialEq, Eq)]

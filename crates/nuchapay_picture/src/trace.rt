@@ -10,7 +10,7 @@ use crate::placed::PlacedTurn;
 use crate::word;
 use std::alloc::Global;
 use std::io::Write;
-use swift_output::write_all;
+use swift_report::write_all;
 use swift_script::Script;
 use swift_types::limits::WORKERS;
 

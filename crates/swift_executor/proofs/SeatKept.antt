@@ -30,7 +30,7 @@ use Rattle.swift_known.specs.Views.{Account, BookKnown, Ticket, TurnOrder, at_re
 use Rattle.swift_course.specs.Course.{IsFront}
 use Rattle.swift_course.specs.Frames.{kept_frame}
 use Rattle.swift_course.specs.Steps.{order_applied, order_begun, with_record, with_turn_begun}
-use Rattle.swift_book_steps.specs.Calls.{IsPlayed}
+use Rattle.swift_shared_book.specs.Calls.{IsPlayed}
 use Rattle.swift_shared_book.specs.Shared.{BeginsTicket, BookSeatView, HasPlayed, HasTicket, RunsAtSeat, after_turn, knowing, with_ticket}
 use Rattle.swift_executor.specs.Account.{ready_jobs}
 use Rattle.swift_executor.specs.Ready.{Adds, AreAtMost, AreHigher, Forwards, HaveCounted, ReadyJobsView, level_at, ready_job}

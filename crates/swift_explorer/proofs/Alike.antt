@@ -22,13 +22,13 @@ use Rattle.swift_digest.specs.Digests.{Digest, digest_of}
 use Rattle.swift_digest.specs.Futures.{LeadAlike}
 use Rattle.swift_digest.specs.Plans.{FramePlan, JobPlan, TaskPlan, WaitingTaskPlan, caller_plan, frame_plans, held_plans, job_plan, plan_of, task_plan}
 use Rattle.swift_digest.proofs.Answers.{tasks_of_is}
-use Rattle.swift_keys.specs.Numbers.{option_numbers, list_numbers, number_numbers, flag_numbers, resume_numbers, origin_numbers, ending_numbers}
-use Rattle.swift_keys.specs.FrameNumbers.{bindings_numbers, fields_numbers, frame_numbers}
-use Rattle.swift_keys.specs.DigestNumbers.{digest_numbers}
-use Rattle.swift_keys.proofs.Bytes.{bytes_read}
-use Rattle.swift_keys.proofs.Codes.{IsCode, peel, pair_code, option_code, list_code, number_code, flag_code, resume_code, origin_code, ending_code}
-use Rattle.swift_keys.proofs.FrameCodes.{bindings_code, fields_code, frame_code}
-use Rattle.swift_keys.proofs.DigestCodes.{digest_read}
+use Rattle.swift_explorer.specs.Numbers.{option_numbers, list_numbers, number_numbers, flag_numbers, resume_numbers, origin_numbers, ending_numbers}
+use Rattle.swift_explorer.specs.FrameNumbers.{bindings_numbers, fields_numbers, frame_numbers}
+use Rattle.swift_explorer.specs.DigestNumbers.{digest_numbers}
+use Rattle.swift_explorer.proofs.Bytes.{bytes_read}
+use Rattle.swift_explorer.proofs.Codes.{IsCode, peel, pair_code, option_code, list_code, number_code, flag_code, resume_code, origin_code, ending_code}
+use Rattle.swift_explorer.proofs.FrameCodes.{bindings_code, fields_code, frame_code}
+use Rattle.swift_explorer.proofs.DigestCodes.{digest_read}
 use Rattle.swift_explorer.specs.declared.waiting.Ready.{Ready}
 use Rattle.swift_explorer.specs.declared.history.SearchedHistory.{SearchedHistory}
 use Rattle.swift_explorer.specs.declared.outcome.RunOutcome.{RunOutcome}

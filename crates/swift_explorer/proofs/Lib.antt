@@ -20,3 +20,10 @@ mod Trying
 mod Noting
 mod KnownEnds
 mod Complete
+pub mod Bytes
+pub mod Codes
+pub mod FrameCodes
+pub mod DigestCodes
+pub mod Within
+pub mod Steps
+pub mod CardSteps

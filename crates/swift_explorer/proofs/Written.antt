@@ -8,9 +8,9 @@ use Rattle.swift_interpreter.specs.Turn.{returning}
 use Rattle.swift_turn.specs.declared.step.Step.{Step}
 use Rattle.swift_turn.specs.Body.{Advanced, AdvancesTo, HasFrames, IfRunning, TaskView}
 use Rattle.swift_history.specs.TurnEnds.{JobFacts}
-use Rattle.swift_keys.specs.Numbers.{flag_numbers, list_numbers, option_numbers, some_numbers}
-use Rattle.swift_keys.specs.FrameNumbers.{fields_numbers}
-use Rattle.swift_keys.proofs.Steps.{two_writes}
+use Rattle.swift_explorer.specs.Numbers.{flag_numbers, list_numbers, option_numbers, some_numbers}
+use Rattle.swift_explorer.specs.FrameNumbers.{fields_numbers}
+use Rattle.swift_explorer.proofs.Steps.{two_writes}
 use Rattle.swift_explorer.specs.KeysInside.{ReadyView, frames_left, job_numbers, ready_numbers, rest_numbers}
 
 -- the next entry of a list is written, and the others are left

@@ -13,10 +13,10 @@ use Rattle.swift_history.specs.Histories.{Block}
 use Rattle.swift_history.specs.TurnEnds.{JobFacts}
 use Rattle.swift_tasks.specs.Books.{jobs_held}
 use Rattle.swift_digest.specs.Digests.{digest_of}
-use Rattle.swift_keys.specs.Numbers.{pair_numbers, option_numbers, list_numbers, number_numbers, flag_numbers, resume_numbers, origin_numbers, ending_numbers}
-use Rattle.swift_keys.specs.FrameNumbers.{bindings_numbers, fields_numbers, frame_numbers}
-use Rattle.swift_keys.specs.DigestNumbers.{IsWritten}
-use Rattle.swift_keys.specs.Bytes.{all_packed}
+use Rattle.swift_explorer.specs.Numbers.{pair_numbers, option_numbers, list_numbers, number_numbers, flag_numbers, resume_numbers, origin_numbers, ending_numbers}
+use Rattle.swift_explorer.specs.FrameNumbers.{bindings_numbers, fields_numbers, frame_numbers}
+use Rattle.swift_explorer.specs.DigestNumbers.{IsWritten}
+use Rattle.swift_explorer.specs.Bytes.{all_packed}
 use Rattle.swift_explorer.specs.declared.waiting.Ready.{Ready}
 use Rattle.swift_explorer.specs.declared.history.SearchedHistory.{SearchedHistory}
 use Rattle.swift_explorer.specs.declared.outcome.RunOutcome.{RunOutcome}

@@ -5,3 +5,9 @@ pub mod HistoryInside
 pub mod SearchInside
 pub mod KeysInside
 pub mod EndsInside
+pub mod Numbers
+pub mod DigestNumbers
+pub mod CardsInside
+pub mod FrameNumbers
+pub mod Laws
+pub mod Bytes

@@ -3,16 +3,16 @@
 ghost use Rattle.std.specs.Prelude.{◌≡◌, ◌++◌, ◌∷◌, map, pos, reverse, OnOk};
 ghost use Rattle.std.specs.Option.{option_map};
 ghost use Rattle.swift_history.specs.Jobs.{job_facts};
-ghost use Rattle.swift_keys.specs.Numbers.{list_numbers, option_numbers};
-ghost use Rattle.swift_keys.specs.FrameNumbers.{frame_numbers};
+ghost use Rattle.swift_explorer.specs.Numbers.{list_numbers, option_numbers};
+ghost use Rattle.swift_explorer.specs.FrameNumbers.{frame_numbers};
 ghost use Rattle.swift_explorer.specs.HistoryInside.{given_view};
 ghost use Rattle.swift_explorer.specs.KeysInside.{frames_left, job_left, job_numbers, ready_numbers, ready_view};
 
+use crate::keys::{put_bindings, put_frame, put_number, put_resume};
 use crate::waiting::Ready;
 use std::alloc::AllocError;
 use swift_interpreter::Exit;
 use swift_job::Job;
-use swift_keys::{put_bindings, put_frame, put_number, put_resume};
 use swift_turn::Body;
 use swift_types::TaskId;
 

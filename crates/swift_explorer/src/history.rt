@@ -20,6 +20,7 @@ ghost use Rattle.swift_explorer.specs.HistoryInside.{Applies, AreEnded, AreFirst
 ghost use Rattle.swift_explorer.specs.KeysInside.{IsNumbered};
 
 use crate::frames::{put_jobs, put_ready};
+use crate::keys::{put_digest, put_fields, put_flags};
 use crate::moves::Move;
 use crate::outcome::{End, RunOutcome};
 use crate::waiting::{Ready, give_all_up, put, put_all, take};
@@ -30,7 +31,6 @@ use swift_events::{Event, Origin};
 use swift_interpreter::{Effect, Exit, Frame};
 use swift_job::Job;
 use swift_journal::{Checkpoint, Journal, Record};
-use swift_keys::{put_digest, put_fields, put_flags};
 use swift_log::EventLog;
 use swift_report::Report;
 use swift_script::Script;

@@ -7,6 +7,8 @@ mod exploration;
 mod frames;
 // One history, followed from its beginning.
 mod history;
+// What decides how a history may go on, as numbers.
+mod keys;
 // Steps of a history.
 mod moves;
 // How a history has ended.
@@ -21,6 +23,7 @@ mod text;
 mod waiting;
 
 pub use exploration::{Exploration, FoundOutcomes, explore};
+pub use keys::laws;
 pub use moves::Move;
 pub use outcome::RunOutcome;
 pub use schedule::schedule_report;

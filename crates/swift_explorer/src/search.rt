@@ -9,16 +9,16 @@ ghost use Rattle.swift_explorer.specs.HistoryInside.{IsPath, WasDone};
 ghost use Rattle.swift_explorer.specs.EndsInside.{HasEnd, IsKnownEnd};
 ghost use Rattle.swift_explorer.specs.KeysInside.{IsKeyOf, outcome_bytes, end_numbers};
 ghost use Rattle.swift_explorer.specs.SearchInside.{GoOn, HasGoneOn, HasGrown, IsAhead, IsExpandedAt, IsFollowedBy, IsNoted, IsSound, Keeps, MayGoOn, StepWasTried, path_after, paths_of};
-ghost use Rattle.swift_keys.specs.Numbers.{list_numbers};
+ghost use Rattle.swift_explorer.specs.Numbers.{list_numbers};
 
 use crate::history::{Followed, SearchedHistory};
+use crate::keys::{pack, put_ending, put_fields, put_origin};
 use crate::moves::Move;
 use crate::outcome::{End, RunOutcome};
 use script_names::{Names, Seed};
 use std::alloc::{AllocError, Global};
 use std::sync::Arc;
 use swift_events::Origin;
-use swift_keys::{pack, put_ending, put_fields, put_origin};
 use swift_script::Script;
 use swift_types::Ending;
 

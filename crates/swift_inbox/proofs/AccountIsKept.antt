@@ -9,7 +9,7 @@ use mathlib.Core.Option.{some, some-injective, some-ne-none}
 use lib.ListN.{get_elem?}
 use Rattle.crossbeam_queue.specs.Fifo.{Pushes, Pops, Forks}
 use Rattle.swift_history.specs.TurnEnds.{JobFacts}
-use Rattle.swift_ticket.specs.Tickets.{TicketedJobView}
+use Rattle.swift_shared_book.specs.Tickets.{TicketedJobView}
 use Rattle.swift_history.specs.Jobs.{job_facts}
 use Rattle.swift_inbox.specs.declared.view.PassKnown.{PassKnown}
 use Rattle.swift_inbox.specs.Site.{SiteView, CanRunAt}

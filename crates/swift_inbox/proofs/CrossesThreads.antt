@@ -31,7 +31,7 @@ use Rattle.futures.proofs.task.waker.Waker.TheSendSync as Waker
 use Rattle.atomic_table.proofs.shared.Seat.TheSendSync as Seat
 use Rattle.atomic_table.proofs.badge.Badge.TheSendSync as Badge
 use Rattle.crossbeam_queue.proofs.array_queue.Slotted.TheSendSync as Slotted
-use Rattle.swift_ticket.specs.contracts.ticketed.TicketedJob as ticketed
+use Rattle.swift_shared_book.specs.contracts.ticketed.TicketedJob as ticketed
 use Rattle.swift_inbox.specs.contracts.inbox.Inbox as inbox
 use Rattle.swift_inbox.specs.contracts.pass.Pass as pass
 use Rattle.swift_inbox.specs.contracts.taker.Taker as taker

@@ -5,7 +5,7 @@ use Rattle.std.specs.List.{flat_map}
 use Rattle.swift_job.specs.Job.{JobView}
 use Rattle.swift_turn.specs.Body.{BodyView}
 use Rattle.swift_history.specs.TurnEnds.{JobFacts}
-use Rattle.swift_ticket.specs.Tickets.{TicketedJobView}
+use Rattle.swift_shared_book.specs.Tickets.{TicketedJobView}
 use Rattle.swift_history.specs.Jobs.{job_facts}
 use Rattle.swift_inbox.specs.declared.view.PassKnown.{PassKnown}
 use Rattle.swift_inbox.specs.Site.{SiteView, CanRunAt}

@@ -3,7 +3,7 @@ use Rattle.std.specs.Prelude.{◌≡◌, ℕ, Option}
 use Rattle.atomic_table.specs.Seated.{TableId}
 use Rattle.swift_script.specs.Scripts.{ScriptView, method_actor, actor_executor}
 use Rattle.swift_turn.specs.Body.{IfRunning, IsRunning}
-use Rattle.swift_ticket.specs.Tickets.{TicketedJobView}
+use Rattle.swift_shared_book.specs.Tickets.{TicketedJobView}
 
 -- an executor of a script, by its number, and the book that gives its jobs, by the book's lock; none where no book does
 pub record SiteView : Type 0 where

@@ -23,7 +23,7 @@ use std::alloc::{AllocError, Global};
 use std::marker::{Brand, Model};
 use std::sync::Wait;
 use swift_job::Job;
-use swift_ticket::TicketedJob;
+use swift_shared_book::TicketedJob;
 use swift_turn::Body;
 
 /// The queue of an inbox.

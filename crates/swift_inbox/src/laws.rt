@@ -4,7 +4,7 @@
 ghost use Rattle.std.specs.Prelude.{◌≡◌, ℕ, true, false, List, [], ◌++◌, map, All, IsPermutation, Some};
 ghost use mathlib.Core.Option.{some};
 ghost use lib.ListN.{get_elem?};
-ghost use Rattle.swift_ticket.specs.Tickets.{TicketedJobView};
+ghost use Rattle.swift_shared_book.specs.Tickets.{TicketedJobView};
 ghost use Rattle.swift_history.specs.Jobs.{job_facts};
 ghost use Rattle.swift_inbox.specs.declared.view.PassKnown.{PassKnown};
 ghost use Rattle.swift_inbox.specs.Site.{SiteView, CanRunAt};
@@ -18,7 +18,7 @@ ghost use Rattle.swift_inbox.specs.contracts.taker.Taker as taker;
 use crate::rule::InboxRule;
 use crate::view::PassKnown;
 use crossbeam_queue::protocol::Protocol;
-use swift_ticket::TicketedJob;
+use swift_shared_book::TicketedJob;
 
 /// What the queue of an inbox keeps between any two steps is the rule (our own).
 pub fn inbox_keeps_its_rule()

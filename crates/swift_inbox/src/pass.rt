@@ -7,7 +7,7 @@ use crate::inbox::Inbox;
 use crate::rule::NewPass;
 use crate::view::PassKnown;
 use std::marker::Model;
-use swift_ticket::TicketedJob;
+use swift_shared_book::TicketedJob;
 
 /// What the queue calls a pass.
 pub(crate) type RawPass = crossbeam_queue::Pass<TicketedJob, PassKnown>;

@@ -3,7 +3,7 @@
 use crate::view::PassKnown;
 use crossbeam_queue::protocol::{Lesson, Outcome, Protocol, Split};
 use std::marker::{Brand, PhantomData};
-use swift_ticket::TicketedJob;
+use swift_shared_book::TicketedJob;
 
 /// The rule.
 pub struct InboxRule;

@@ -8,7 +8,7 @@ ghost use Rattle.swift_inbox.specs.Site.{CanRunAt};
 use std::marker::Model;
 use std::sync::Arc;
 use swift_script::Script;
-use swift_ticket::{BookName, TicketedJob};
+use swift_shared_book::{BookName, TicketedJob};
 use swift_types::ExecId;
 
 /// One executor of a script: where jobs are sent (SE-0392). It also says which book gives its jobs, if any does (our own),

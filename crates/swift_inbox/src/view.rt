@@ -3,7 +3,7 @@
 use crate::site::ExecutorSite;
 use std::collections::LinkedList;
 use std::marker::Model;
-use swift_ticket::TicketedJob;
+use swift_shared_book::TicketedJob;
 
 /// A job that went through a pass: its task, number, resume and frames.
 pub struct NotedJob {

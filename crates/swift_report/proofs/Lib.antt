@@ -2,3 +2,4 @@ pub mod Joined
 pub mod Past
 pub mod Places
 pub mod Rows
+pub mod Written

@@ -1,4 +1,4 @@
-//! What a run leaves: the journal of each executor, how each task ended, and the fields; and its text.
+//! What a run leaves: the journal of each executor, how each task ended, and the fields; its text; and how a text is written to a device.
 #![tactic(auto)]
 
 // Numbers in decimal.
@@ -7,6 +7,8 @@ mod append;
 mod line;
 // Names by the places of journals and fields.
 mod names;
+// A whole text into a writer.
+mod output;
 // Reports.
 mod report;
 // The text of a report.
@@ -16,5 +18,6 @@ mod turns;
 // Faults, resumes and endings in words.
 mod word;
 
+pub use output::{Device, write_all};
 pub use report::Report;
 pub use text::report_text;

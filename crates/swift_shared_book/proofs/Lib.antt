@@ -1,2 +1,3 @@
 pub mod Shapes
 pub mod RuleKept
+pub mod CallsKeep

@@ -28,8 +28,8 @@ use Rattle.swift_course.specs.Steps.{MayGive, end_of, knowing_begin, knowing_tur
 use Rattle.swift_course.proofs.Ordered.{known_ordered, tickets_ordered}
 use Rattle.swift_course.proofs.Parts.{book_stays, run_begins}
 use Rattle.swift_course.proofs.Rule.{gives}
-use Rattle.swift_book_steps.specs.Calls.{facts_of}
-use Rattle.swift_book_steps.proofs.Calls.{apply_keeps, begin_keeps, root_keeps}
+use Rattle.swift_shared_book.specs.Calls.{facts_of}
+use Rattle.swift_shared_book.proofs.CallsKeep.{apply_keeps, begin_keeps, root_keeps}
 use Rattle.swift_shared_book.specs.Shared.{BeginsTicket, HasPlayed, HasTicket, RunsAtSeat, facts_in, tickets_view}
 use Rattle.swift_shared_book.specs.StepsInside.{KnowsRoot, MayGiveBack, knowing_record}
 

@@ -1,3 +1,5 @@
 pub mod Shared
 pub mod StepsInside
 pub mod SharedInside
+pub mod Calls
+pub mod Tickets

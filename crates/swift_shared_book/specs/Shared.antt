@@ -13,7 +13,7 @@ use Rattle.swift_known.specs.Views.{Account, BookFacts, BookKnown, Ticket, fresh
 use Rattle.swift_known.specs.declared.known.BookImage.{BookImage}
 use Rattle.swift_known.specs.declared.known.Known.{Known}
 use Rattle.swift_course.specs.Steps.{knowing_begin, with_record}
-use Rattle.swift_book_steps.specs.Calls.{IsPlayed, facts_of}
+use Rattle.swift_shared_book.specs.Calls.{IsPlayed, facts_of}
 use Rattle.swift_tasks.specs.Books.{BookView}
 use Rattle.swift_history.specs.Jobs.{job_facts}
 

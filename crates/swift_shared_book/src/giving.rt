@@ -4,7 +4,7 @@ ghost use Rattle.std.specs.Prelude.{◌≡◌, true, Some, IfSome, IsSome, map};
 ghost use Rattle.swift_history.specs.Jobs.{job_facts};
 ghost use Rattle.swift_history.specs.Orderly.{has_last_root};
 ghost use Rattle.swift_course.specs.Seats.{gathered};
-ghost use Rattle.swift_book_steps.specs.Calls.{facts_of};
+ghost use Rattle.swift_shared_book.specs.Calls.{facts_of};
 ghost use Rattle.swift_shared_book.specs.Shared.{BeginsTicket, after_turn, newest, seat_of, tickets_view};
 ghost use Rattle.swift_shared_book.specs.StepsInside.{KnowsRoot, MayGiveBack, knowing_record};
 

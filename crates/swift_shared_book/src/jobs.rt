@@ -3,12 +3,12 @@
 ghost use Rattle.std.specs.Prelude.{◌≡◌, ◌↔◌, Some, [], ◌∷◌, IfNone, IfSome, IsTrue, length};
 ghost use Rattle.swift_shared_book.specs.SharedInside.{HasTicketsOf, oldest_first};
 
+use crate::TicketedJob;
 use crate::seat::BookSeat;
 use crate::shared::BookLock;
 use std::alloc::Global;
 use std::marker::Model;
 use swift_job::{Job, spend_all};
-use swift_ticket::TicketedJob;
 use swift_turn::Body;
 
 /// Jobs that the book gave, with their tickets, the oldest first (our own). By its type its seat has just the tickets of its jobs, in

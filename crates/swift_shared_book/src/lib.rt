@@ -1,5 +1,6 @@
 //! The book of a run, as threads share it: a lock with a rule. The rule says that some history of the script led to the book, which
-//! has the turns that the seats of executors know, and gives the jobs whose tickets are out (our own).
+//! has the turns that the seats of executors know, and gives the jobs whose tickets are out. Jobs go to executors with their tickets, each
+//! the right to run its turn (our own).
 #![tactic(auto)]
 
 // The calls of the book under its lock.
@@ -10,6 +11,12 @@ mod giving;
 
 // Jobs with their tickets.
 mod jobs;
+
+/// What the calls of a book keep.
+pub mod laws;
+
+// Which book it is.
+mod name;
 
 // A book that was taken from its lock.
 mod opened;
@@ -26,7 +33,12 @@ mod shared;
 // The book where it lies in its lock.
 mod shelf;
 
+// A job with its ticket.
+mod ticketed;
+
 pub use jobs::TicketedJobs;
+pub use name::BookName;
 pub use opened::{OpenBook, OpenSeat};
 pub use seat::BookSeat;
 pub use shared::BookLock;
+pub use ticketed::TicketedJob;

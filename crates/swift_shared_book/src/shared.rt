@@ -7,9 +7,10 @@ ghost use Rattle.swift_history.specs.Jobs.{job_facts};
 ghost use Rattle.swift_known.specs.Views.{Maker};
 ghost use Rattle.swift_course.specs.Reports.{Knows};
 ghost use Rattle.swift_course.specs.Seats.{account_parted, first_view, gathered, maker_left, some_left, some_parted};
-ghost use Rattle.swift_book_steps.specs.Calls.{facts_of};
+ghost use Rattle.swift_shared_book.specs.Calls.{facts_of};
 ghost use Rattle.swift_shared_book.specs.Shared.{IsSeatOf, knowing, seat_of, with_ticket};
 
+use crate::TicketedJob;
 use crate::jobs::TicketedJobs;
 use crate::opened::{OpenBook, OpenSeat};
 use crate::rule::{BookRule, Finds, Gathers, NamesCount, OpensAccount, PartsTickets, Stays};
@@ -22,7 +23,6 @@ use swift_job::Job;
 use swift_known::known::Known;
 use swift_lock::Lock;
 use swift_tasks::Book;
-use swift_ticket::TicketedJob;
 use swift_turn::Body;
 
 /// The book of a run, as threads share it by reference; each takes it by a `BookSeat` of its own (our own). In a clause it is which

@@ -17,7 +17,7 @@ pub struct Shelf {
 impl Locked for Shelf {
     type Image = BookImage;
 
-    ghost use Rattle.swift_book_steps.specs.Calls.{facts_of};
+    ghost use Rattle.swift_shared_book.specs.Calls.{facts_of};
 
     ghost image = { λ s. record { facts = facts_of s.book.value } };
 }

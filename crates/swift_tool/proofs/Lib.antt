@@ -1,1 +1,5 @@
 pub mod Invariants
+pub mod Joined
+pub mod Past
+pub mod Places
+pub mod Rows

@@ -1,3 +1,5 @@
 pub mod Ended
 pub mod Input
 pub mod Run
+pub mod Json
+pub mod ReportJson

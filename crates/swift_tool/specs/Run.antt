@@ -12,7 +12,7 @@ use Rattle.swift_script.specs.Refuses.{Refuses}
 use Rattle.swift_script.specs.FaultLines.{IsAtItsLine}
 use Rattle.swift_history.specs.Orderly.{IsOrderlyLegal}
 use Rattle.swift_certificate.specs.Reports.{report_view}
-use Rattle.swift_output.specs.Part.{WritesPart}
+use Rattle.swift_report.specs.Part.{WritesPart}
 use Rattle.swift_workers.specs.Leaves.{AreEndings, AreReplayed, EachFrom}
 use Rattle.swift_workers.specs.declared.fault.RunFault.{RunFault}
 use Rattle.swift_workers.specs.declared.fault.RunFault.TheVariants.{Workers, Memory, Unfinished, Illegal, Executor}

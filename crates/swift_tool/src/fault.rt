@@ -6,7 +6,7 @@ ghost use Rattle.swift_tool.specs.Ended.{status_of_fault};
 ghost use Rattle.swift_tool.specs.declared.fault.ToolFault.TheVariants.{Device, Run, Script};
 
 use std::alloc::{AllocError, AllocFailed};
-use swift_output::Device;
+use swift_report::Device;
 use swift_script::ScriptFault;
 use swift_workers::RunFault;
 use thiserror::Error;

@@ -1,4 +1,4 @@
-//! From a script's text to the text of its report, for any program.
+//! From a script's text to its report, as lines or as JSON, for any program.
 #![tactic(auto)]
 
 // How the program ends.
@@ -7,6 +7,8 @@ mod ended;
 mod fault;
 // A script from a device.
 mod input;
+// Reports as JSON.
+mod json;
 // From a script's text to a report's.
 mod run;
 // How a script is run.
@@ -17,6 +19,7 @@ mod words;
 pub use ended::status;
 pub use fault::ToolFault;
 pub use input::read_input;
+pub use json::{report_json, run_json};
 pub use run::run_text;
 pub use settings::Options;
 pub use words::options;

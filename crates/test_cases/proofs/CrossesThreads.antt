@@ -3,17 +3,12 @@
 use denote.Param.Send.{IsSend, IsSync, sendable}
 use denote.Ref.{NamedLft}
 use Rattle.std.proofs.Crossing as Crossing
-use Rattle.swift_inbox.proofs.CrossesThreads.{body_send}
-use Rattle.swift_executor.proofs.CrossesThreads.{book_lock_sync, book_seat_send, exec_sync}
-use Rattle.swift_shared_book.specs.contracts.jobs.TicketedJobs as jobs
+use Rattle.swift_executor.proofs.CrossesThreads.{book_lock_sync, exec_sync}
 use Rattle.test_cases.specs.contracts.executors.hold.Hold as hold
 use Rattle.test_cases.specs.contracts.executors.threads.Scene as scene
 
 -- what is made of types that were shown before
 ruleset plain = (Crossing.crosses, sendable)
-
-pub jobs_send : IsSend jobs.the_row
-jobs_send = search (plain, body_send, book_seat_send) depth 60 fits 20000
 
 hold_sync : IsSync (hold.the_field).row
 hold_sync = search (Crossing.crosses, sendable) depth 60 fits 20000

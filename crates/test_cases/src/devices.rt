@@ -8,7 +8,7 @@ use std::io::{Error, ErrorKind, Read, Write};
 use std::random::RandomSource;
 use std::sync::Wait;
 use std::thread::Threads;
-use swift_output::write_all;
+use swift_report::write_all;
 use swift_tool::{ToolFault, read_input, run_text};
 use swift_workers::Open;
 

@@ -4,7 +4,7 @@ use std::alloc::{AllocError, AllocFailed};
 use std::io;
 use std::io::ErrorKind;
 use std::num::ParseIntError;
-use swift_output::Device;
+use swift_report::Device;
 use swift_script::{ScriptFault, ScriptFaultKind};
 use swift_tasks::BookFault;
 use swift_tool::ToolFault;

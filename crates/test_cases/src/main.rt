@@ -167,7 +167,7 @@ use std::io::Write;
 use std::random::RandomSource;
 use std::sync::Wait;
 use std::thread::Threads;
-use swift_output::write_all;
+use swift_report::write_all;
 
 // For how many bytes of a case's answer there is room. A growth for more is a device's that fails.
 const ROOM: usize = 16384;

@@ -10,8 +10,7 @@ use std::alloc::AllocError;
 use std::marker::Model;
 use std::sync::{Arc, Wait};
 use swift_executor::{Desk, Exec, ExecFault, Gate, VisitOutcome};
-use swift_shared_book::{BookLock, TicketedJobs};
-use swift_ticket::TicketedJob;
+use swift_shared_book::{BookLock, TicketedJob, TicketedJobs};
 use swift_word::BeforeCount;
 
 /// An executor, with one of its desks and its book. In a clause it is the lock of its book.

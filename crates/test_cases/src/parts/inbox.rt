@@ -20,7 +20,7 @@ use swift_inbox::{ExecutorSite, Inbox, Pass, Taker};
 use swift_job::Job;
 use swift_locals::Bindings;
 use swift_script::{Script, read};
-use swift_ticket::TicketedJob;
+use swift_shared_book::TicketedJob;
 use swift_turn::Body;
 use swift_types::{ExecId, Resume, RootId, TaskId};
 

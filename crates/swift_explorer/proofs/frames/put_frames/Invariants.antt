@@ -1,6 +1,6 @@
 use Rattle.std.proofs.Common.{◌≡◌, ◌++◌, length}
-use Rattle.swift_keys.specs.Numbers.{list_numbers}
-use Rattle.swift_keys.specs.FrameNumbers.{frame_numbers}
+use Rattle.swift_explorer.specs.Numbers.{list_numbers}
+use Rattle.swift_explorer.specs.FrameNumbers.{frame_numbers}
 use Rattle.swift_explorer.specs.KeysInside.{frames_left}
 use Rattle.swift_explorer.proofs.frames.put_frames.Given as goal
 

@@ -5,7 +5,7 @@ use Rattle.swift_job.specs.Job.{JobView}
 use Rattle.swift_turn.specs.Body.{BodyView}
 use Rattle.swift_history.specs.Jobs.{job_facts}
 use Rattle.swift_history.specs.TurnEnds.{JobFacts}
-use Rattle.swift_keys.specs.Numbers.{list_numbers}
+use Rattle.swift_explorer.specs.Numbers.{list_numbers}
 use Rattle.swift_explorer.specs.KeysInside.{job_left, job_numbers}
 use Rattle.swift_explorer.proofs.Followed.{view_is}
 use Rattle.swift_explorer.proofs.Written.{last_first, one_more}

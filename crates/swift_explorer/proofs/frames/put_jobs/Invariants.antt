@@ -1,6 +1,6 @@
 use Rattle.std.proofs.Common.{◌≡◌, ◌++◌, map, reverse, vec_len}
 use Rattle.swift_history.specs.Jobs.{job_facts}
-use Rattle.swift_keys.specs.Numbers.{list_numbers}
+use Rattle.swift_explorer.specs.Numbers.{list_numbers}
 use Rattle.swift_explorer.specs.KeysInside.{job_left, job_numbers}
 use Rattle.swift_explorer.proofs.frames.put_jobs.Given as goal
 

@@ -1,8 +1,8 @@
 use Rattle.std.proofs.Common.{rules, ◌≡◌, [], ◌∷◌, ◌++◌, List, Option, map, reverse, ap, sym, ◌∙◌}
 use Rattle.std.specs.Prelude.{pos}
 use Rattle.std.specs.Option.{option_map}
-use Rattle.swift_keys.specs.Numbers.{list_numbers, option_numbers}
-use Rattle.swift_keys.proofs.Steps.{two_writes}
+use Rattle.swift_explorer.specs.Numbers.{list_numbers, option_numbers}
+use Rattle.swift_explorer.proofs.Steps.{two_writes}
 use Rattle.swift_explorer.specs.declared.waiting.Ready.{Ready}
 use Rattle.swift_explorer.specs.KeysInside.{ReadyView, ready_numbers, ready_view}
 use Rattle.swift_explorer.proofs.Written.{last_first, one_more}

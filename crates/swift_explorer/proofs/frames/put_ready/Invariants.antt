@@ -1,6 +1,6 @@
 use Rattle.std.proofs.Common.{◌≡◌, ◌++◌, map, reverse, vec_len}
 use Rattle.std.specs.Option.{option_map}
-use Rattle.swift_keys.specs.Numbers.{list_numbers, option_numbers}
+use Rattle.swift_explorer.specs.Numbers.{list_numbers, option_numbers}
 use Rattle.swift_explorer.specs.KeysInside.{ready_numbers, ready_view}
 use Rattle.swift_explorer.proofs.frames.put_ready.Given as goal
 

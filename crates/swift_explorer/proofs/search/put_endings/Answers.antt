@@ -4,8 +4,8 @@ use Rattle.swift_types.specs.declared.outcome.Ending.{Ending}
 use Rattle.swift_types.specs.declared.outcome.Ending.TheVariants as ending
 use Rattle.swift_events.specs.declared.life.Origin.{Origin}
 use Rattle.swift_events.specs.declared.life.Origin.TheVariants as origin
-use Rattle.swift_keys.specs.Numbers.{ending_numbers, origin_numbers}
-use Rattle.swift_keys.proofs.Steps.{some_all, some_step, two_writes}
+use Rattle.swift_explorer.specs.Numbers.{ending_numbers, origin_numbers}
+use Rattle.swift_explorer.proofs.Steps.{some_all, some_step, two_writes}
 use Rattle.swift_explorer.specs.KeysInside.{end_numbers}
 use Rattle.swift_explorer.proofs.search.put_endings.Goals as goal
 

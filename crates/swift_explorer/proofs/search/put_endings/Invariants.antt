@@ -1,5 +1,5 @@
 use Rattle.std.proofs.Common.{◌≡◌, ◌++◌, take}
-use Rattle.swift_keys.specs.Numbers.{some_numbers}
+use Rattle.swift_explorer.specs.Numbers.{some_numbers}
 use Rattle.swift_explorer.specs.KeysInside.{end_numbers}
 use Rattle.swift_explorer.proofs.search.put_endings.Given as goal
 

@@ -5,7 +5,7 @@ use Rattle.swift_script.specs.Scripts.{ScriptView, executor_count, root_count}
 use Rattle.swift_events.specs.declared.event.Event.{Event}
 use Rattle.swift_events.specs.declared.life.Origin.{Origin}
 use Rattle.swift_known.specs.Views.{Maker}
-use Rattle.swift_book_steps.specs.Calls.{facts_of}
+use Rattle.swift_shared_book.specs.Calls.{facts_of}
 use Rattle.swift_workers.specs.declared.fault.Halt.{Halt}
 use Rattle.swift_workers.specs.Leaves.{AreEndings}
 use Rattle.swift_workers.specs.PartsInside.{AreParts}

@@ -6,9 +6,9 @@ use Rattle.swift_events.specs.declared.event.Event.{Event}
 use Rattle.swift_history.specs.TurnEnds.{JobFacts}
 use Rattle.swift_tasks.specs.Books.{jobs_held}
 use Rattle.swift_digest.specs.Digests.{digest_of}
-use Rattle.swift_keys.specs.Numbers.{flag_numbers, list_numbers}
-use Rattle.swift_keys.specs.FrameNumbers.{fields_numbers}
-use Rattle.swift_keys.specs.DigestNumbers.{IsWritten}
+use Rattle.swift_explorer.specs.Numbers.{flag_numbers, list_numbers}
+use Rattle.swift_explorer.specs.FrameNumbers.{fields_numbers}
+use Rattle.swift_explorer.specs.DigestNumbers.{IsWritten}
 use Rattle.swift_explorer.specs.HistoryInside.{rows_at}
 use Rattle.swift_explorer.specs.KeysInside.{job_left, job_numbers, ready_view, rest_of}
 use Rattle.swift_explorer.proofs.Written.{rest_written}

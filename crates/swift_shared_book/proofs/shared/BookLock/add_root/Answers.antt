@@ -3,7 +3,7 @@ use Rattle.swift_turn.specs.Body.{BodyView}
 use Rattle.swift_job.specs.Job.{JobView}
 use Rattle.swift_known.specs.Views.{BookFacts}
 use Rattle.swift_tasks.specs.Books.{BookView}
-use Rattle.swift_book_steps.specs.Calls.{facts_of}
+use Rattle.swift_shared_book.specs.Calls.{facts_of}
 use Rattle.swift_shared_book.specs.Shared.{BookSeatView, OpenSeatView, tickets_view}
 use Rattle.swift_shared_book.specs.StepsInside.{KnowsRoot}
 use Rattle.swift_shared_book.proofs.RuleKept.{root_parted, roots_at}

@@ -8,7 +8,7 @@ use Rattle.swift_known.specs.Views.{BookKnown}
 use Rattle.swift_course.specs.Seats.{gathered}
 use Rattle.swift_tasks.specs.Books.{BookView}
 use Rattle.swift_history.specs.Jobs.{job_facts}
-use Rattle.swift_book_steps.specs.Calls.{facts_of}
+use Rattle.swift_shared_book.specs.Calls.{facts_of}
 use Rattle.swift_shared_book.specs.Shared.{OpenSeatView, TicketedJobsView, newest, tickets_view}
 use Rattle.swift_shared_book.specs.SharedInside.{oldest_first}
 use Rattle.swift_shared_book.specs.StepsInside.{MayGiveBack, knowing_record}

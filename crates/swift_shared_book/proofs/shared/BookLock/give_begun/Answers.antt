@@ -1,7 +1,7 @@
 use Rattle.std.proofs.Common.{sym, subst, IfSome}
 use Rattle.swift_history.specs.Jobs.{job_facts}
 use Rattle.swift_history.specs.Orderly.{has_last_root}
-use Rattle.swift_book_steps.specs.Calls.{facts_of}
+use Rattle.swift_shared_book.specs.Calls.{facts_of}
 use Rattle.swift_shared_book.specs.Shared.{BeginsTicket, facts_in}
 use Rattle.swift_shared_book.specs.StepsInside.{MayGiveBack}
 use Rattle.swift_shared_book.specs.declared.opened.OpenBook.{OpenBook}

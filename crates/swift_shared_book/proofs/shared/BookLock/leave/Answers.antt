@@ -1,5 +1,5 @@
 use Rattle.std.proofs.Common.{◌≡◌, sym, subst}
-use Rattle.swift_book_steps.specs.Calls.{facts_of}
+use Rattle.swift_shared_book.specs.Calls.{facts_of}
 use Rattle.swift_shared_book.specs.StepsInside.{MayGiveBack}
 use Rattle.swift_shared_book.specs.declared.opened.OpenBook.{OpenBook}
 use Rattle.swift_shared_book.proofs.RuleKept.{stays, unlocks}

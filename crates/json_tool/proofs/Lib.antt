@@ -1,4 +1,0 @@
-pub mod Joined
-pub mod Past
-pub mod Places
-pub mod Rows

@@ -1,5 +1,0 @@
-use Rattle.std.proofs.Common.{length}
-use Rattle.json_tool.proofs.json.+all_ended_well.Given as goal
-
-abbrev pub decreases-all_ended_well : goal.decreases-all_ended_well
-decreases-all_ended_well l = length l.endings.now

@@ -1,5 +1,0 @@
-use Rattle.std.proofs.Common.{length}
-use Rattle.json_tool.proofs.text.+row_among.Given as goal
-
-abbrev pub decreases-row_among : goal.decreases-row_among
-decreases-row_among l = length l.actors.now

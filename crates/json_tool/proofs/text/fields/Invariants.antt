@@ -1,7 +1,0 @@
-use Rattle.std.proofs.Common.{◌≡◌, ◌++◌, ◌-◌}
-use Rattle.swift_script.specs.Scripts.{actor_count}
-use Rattle.json_tool.specs.ReportJson.{fields_json}
-use Rattle.json_tool.proofs.text.fields.Given as goal
-
-abbrev pub invariant-loop-actor : goal.invariant-loop-actor
-invariant-loop-actor l = l.out.items ++ fields_json l.script l.fields l.actor (actor_count l.script - l.actor) ≡ l.initial.out.items ++ fields_json l.script l.fields 0 (actor_count l.script)

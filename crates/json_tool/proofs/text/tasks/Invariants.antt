@@ -1,6 +1,0 @@
-use Rattle.std.proofs.Common.{◌≡◌, ◌++◌, drop}
-use Rattle.json_tool.specs.ReportJson.{tasks_json}
-use Rattle.json_tool.proofs.text.tasks.Given as goal
-
-abbrev pub invariant-loop-number_of : goal.invariant-loop-number_of
-invariant-loop-number_of l = l.out.items ++ tasks_json l.script l.number_of (drop l.number_of l.endings) ≡ l.initial.out.items ++ tasks_json l.script 0 l.endings

@@ -1,6 +1,0 @@
-use Rattle.std.proofs.Common.{◌≡◌, ◌++◌, drop}
-use Rattle.json_tool.specs.ReportJson.{values_json}
-use Rattle.json_tool.proofs.text.values.Given as goal
-
-abbrev pub invariant-loop-place : goal.invariant-loop-place
-invariant-loop-place l = l.out.items ++ values_json l.script l.actor l.place (drop l.place l.values) ≡ l.initial.out.items ++ values_json l.script l.actor 0 l.values

@@ -1,6 +1,0 @@
-use Rattle.std.proofs.Common.{◌≡◌, ◌++◌, drop}
-use Rattle.json_tool.specs.ReportJson.{executors_json}
-use Rattle.json_tool.proofs.turns.executors.Given as goal
-
-abbrev pub invariant-loop-place : goal.invariant-loop-place
-invariant-loop-place l = l.out.items ++ executors_json l.script l.checkpoints l.place (drop l.place l.journals) ≡ l.initial.out.items ++ executors_json l.script l.checkpoints 0 l.journals

@@ -1,9 +1,0 @@
-use Rattle.std.proofs.Common.{◌≡◌, ◌+◌, ◌++◌, drop, length}
-use Rattle.json_tool.specs.ReportJson.{turns_json}
-use Rattle.json_tool.proofs.turns.turns.Given as goal
-
-abbrev pub invariant-loop-place : goal.invariant-loop-place
-invariant-loop-place l = record {
-  text : l.out.items ++ turns_json l.script l.first (l.first + l.place) (drop l.place l.journal) ≡ l.initial.out.items ++ turns_json l.script l.first l.first l.journal;
-  end : l.place-end ≡ length l.journal;
-}

@@ -1,5 +1,0 @@
-use Rattle.swift_course.proofs.Parts.{run_begins}
-use Rattle.swift_book_steps.proofs.laws.empty_books_begin.Goals as goal
-
-pub returns : goal.returns
-returns c = run_begins

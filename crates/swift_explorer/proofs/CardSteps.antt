@@ -1,0 +1,129 @@
+-- One more event of a log is read.
+use Rattle.std.proofs.Common.{◌≡◌, ℕ, ◌+◌, ◌<◌, ◌≤◌, ℤ, Bool, true, false, List, [], ◌∷◌, ◌++◌, length, take, get_or, sym, ◌∙◌, ap, subst, arith, if◌then◌else◌}
+use Rattle.std.specs.Prelude.{◌==◌, ◌||◌}
+use Rattle.std.specs.List.{cons_option}
+use Rattle.std.proofs.lemmas.List.{take_more}
+use Rattle.swift_types.specs.declared.id.TaskId.{TaskId}
+use Rattle.swift_events.specs.declared.event.Event.{Event}
+use Rattle.swift_events.specs.declared.life.Life.{Life}
+use Rattle.swift_events.specs.Events.{task_of, is_made}
+use Rattle.swift_events.specs.Lives.{lived, unborn}
+use Rattle.swift_events.specs.Relations.{own_in, waiter_in, names_task, opens, child_in, ending_among, asks, closes, names_group}
+use Rattle.swift_digest.specs.Digests.{Card as CardView, GroupCard as GroupView, Digest, no_digest, digest_of, noted, card_noted, group_noted, one_if, own_link, said}
+use Rattle.swift_explorer.specs.Numbers.{some_numbers, task_numbers, link_numbers}
+use Rattle.swift_explorer.specs.DigestNumbers.{ended_numbers, card_numbers, group_numbers, IsWithin, other_of, group_end}
+use Rattle.swift_explorer.specs.CardsInside.{IsCard, IsKeyGroup, card_of_parts, group_of_parts}
+use Rattle.swift_explorer.specs.declared.keys.digest.KeyCard.{KeyCard}
+use Rattle.swift_explorer.specs.declared.keys.digest.KeyGroup.{KeyGroup}
+use Rattle.swift_digest.proofs.Cards.{digest_of-push, digest_of-none}
+use Rattle.swift_explorer.proofs.Steps.{some-append}
+use Rattle.swift_explorer.proofs.Within.{within_none, within_more}
+
+pub one_at_most : (b : Bool) → one_if b ≤ 1
+one_at_most true = omega arith
+one_at_most false = omega arith
+
+-- the digest of one more event
+pub digest_more : (log : List Event) (i : ℕ) (d e : Event) → i < length log → get_or log i d ≡ e → digest_of (take (i + 1) log) ≡ noted (digest_of (take i log)) e
+digest_more log i d e low at =
+    ap digest_of (take_more log i d low ∙ ap (λ x. take i log ++ x ∷ []) at) ∙ digest_of-push (take i log) e
+
+pub card_none : (c : KeyCard) (t : ℕ) → c.life ≡ unborn → c.links.items ≡ [] → c.own.items ≡ [] → c.waiters.items ≡ [] → c.named ≡ false → c.opened ≡ 0 → IsCard c ((digest_of []).cards t)
+card_none c t life links own waiters named opened =
+    subst (λ (d : Digest). IsCard c (d.cards t)) (sym digest_of-none) (record { life = life; links = links; own = own; waiters = waiters; named = named; opened = opened })
+
+card_more : (t : ℕ) (d : CardView) (e : Event) (c n : KeyCard) → IsCard c d
+    → n.life ≡ (if task_of e == t then lived c.life e else c.life)
+    → n.links.items ≡ c.links.items ++ some_numbers link_numbers (cons_option (own_link t e) [])
+    → n.own.items ≡ c.own.items ++ some_numbers task_numbers (cons_option (own_in t e) [])
+    → n.waiters.items ≡ c.waiters.items ++ some_numbers task_numbers (cons_option (waiter_in t e) [])
+    → n.named ≡ (c.named || names_task t e)
+    → n.opened ≡ c.opened + one_if (opens t e)
+    → IsCard n (card_noted t d e)
+card_more t d e c n was life links own waiters named opened = record {
+  life = life ∙ ap (λ (l : Life). if task_of e == t then lived l e else l) was.life;
+  links = links ∙ ap (λ l. l ++ some_numbers link_numbers (said (own_link t) e)) was.links ∙ sym (some-append link_numbers d.links (said (own_link t) e));
+  own = own ∙ ap (λ l. l ++ some_numbers task_numbers (said (own_in t) e)) was.own ∙ sym (some-append task_numbers d.own (said (own_in t) e));
+  waiters = waiters ∙ ap (λ l. l ++ some_numbers task_numbers (said (waiter_in t) e)) was.waiters ∙ sym (some-append task_numbers d.waiters (said (waiter_in t) e));
+  named = named ∙ ap (λ b. b || names_task t e) was.named;
+  opened = opened ∙ ap (λ k. k + one_if (opens t e)) was.opened;
+}
+
+pub card_step : (t : ℕ) (log : List Event) (i : ℕ) (d e : Event) (c n : KeyCard) → i < length log → get_or log i d ≡ e → IsCard c ((digest_of (take i log)).cards t)
+    → n.life ≡ (if task_of e == t then lived c.life e else c.life)
+    → n.links.items ≡ c.links.items ++ some_numbers link_numbers (cons_option (own_link t e) [])
+    → n.own.items ≡ c.own.items ++ some_numbers task_numbers (cons_option (own_in t e) [])
+    → n.waiters.items ≡ c.waiters.items ++ some_numbers task_numbers (cons_option (waiter_in t e) [])
+    → n.named ≡ (c.named || names_task t e)
+    → n.opened ≡ c.opened + one_if (opens t e)
+    → IsCard n ((digest_of (take (i + 1) log)).cards t)
+card_step t log i d e c n low at was life links own waiters named opened =
+    subst (λ (x : Digest). IsCard n (x.cards t)) (sym (digest_more log i d e low at)) (card_more t ((digest_of (take i log)).cards t) e c n was life links own waiters named opened)
+
+pub group_none : (c : KeyGroup) (o g : ℕ) → c.children.items ≡ [] → c.added.items ≡ [] → c.ended.items ≡ [] → c.asked ≡ 0 → c.closed ≡ false → c.named ≡ false → IsKeyGroup c ((digest_of []).groups o g)
+group_none c o g children added ended asked closed named =
+    subst (λ (d : Digest). IsKeyGroup c (d.groups o g)) (sym digest_of-none) (record { children = children; added = added; ended = ended; asked = asked; closed = closed; named = named })
+
+group_more : (o g : ℕ) (d : GroupView) (e : Event) (c n : KeyGroup) → IsKeyGroup c d
+    → n.children.items ≡ c.children.items ++ cons_option (child_in o g e) []
+    → n.added.items ≡ c.added.items ++ some_numbers task_numbers (cons_option (child_in o g e) [])
+    → n.ended.items ≡ c.ended.items ++ some_numbers ended_numbers (cons_option (ending_among c.children.items e) [])
+    → n.asked ≡ c.asked + one_if (asks o g e)
+    → n.closed ≡ (c.closed || closes o g e)
+    → n.named ≡ (c.named || names_group o g e)
+    → IsKeyGroup n (group_noted o g d e)
+group_more o g d e c n was children added ended asked closed named = record {
+  children = children ∙ ap (λ l. l ++ said (child_in o g) e) was.children;
+  added = added ∙ ap (λ l. l ++ some_numbers task_numbers (said (child_in o g) e)) was.added ∙ sym (some-append task_numbers d.children (said (child_in o g) e));
+  ended = ended
+      ∙ ap (λ (l : List TaskId). c.ended.items ++ some_numbers ended_numbers (said (ending_among l) e)) was.children
+      ∙ ap (λ l. l ++ some_numbers ended_numbers (said (ending_among d.children) e)) was.ended
+      ∙ sym (some-append ended_numbers d.ended (said (ending_among d.children) e));
+  asked = asked ∙ ap (λ k. k + one_if (asks o g e)) was.asked;
+  closed = closed ∙ ap (λ b. b || closes o g e) was.closed;
+  named = named ∙ ap (λ b. b || names_group o g e) was.named;
+}
+
+pub group_step : (o g : ℕ) (log : List Event) (i : ℕ) (d e : Event) (c n : KeyGroup) → i < length log → get_or log i d ≡ e → IsKeyGroup c ((digest_of (take i log)).groups o g)
+    → n.children.items ≡ c.children.items ++ cons_option (child_in o g e) []
+    → n.added.items ≡ c.added.items ++ some_numbers task_numbers (cons_option (child_in o g e) [])
+    → n.ended.items ≡ c.ended.items ++ some_numbers ended_numbers (cons_option (ending_among c.children.items e) [])
+    → n.asked ≡ c.asked + one_if (asks o g e)
+    → n.closed ≡ (c.closed || closes o g e)
+    → n.named ≡ (c.named || names_group o g e)
+    → IsKeyGroup n ((digest_of (take (i + 1) log)).groups o g)
+group_step o g log i d e c n low at was children added ended asked closed named =
+    subst (λ (x : Digest). IsKeyGroup n (x.groups o g)) (sym (digest_more log i d e low at)) (group_more o g ((digest_of (take i log)).groups o g) e c n was children added ended asked closed named)
+
+pub bounds_none : (n m : ℕ) → n ≡ 0 → m ≡ 0 → IsWithin n m (digest_of [])
+bounds_none n m no_n no_m =
+    subst (λ (d : Digest). IsWithin n m d) (sym digest_of-none) (subst (λ (x : ℕ). IsWithin x m no_digest) (sym no_n) (subst (λ (x : ℕ). IsWithin 0 x no_digest) (sym no_m) within_none))
+
+pub bounds_step : (log : List Event) (i : ℕ) (d e : Event) (n m k l : ℕ) → i < length log → get_or log i d ≡ e → IsWithin n m (digest_of (take i log))
+    → n ≤ k → m ≤ l → task_of e < k → other_of e < k → group_end e ≤ l → IsWithin k l (digest_of (take (i + 1) log))
+bounds_step log i d e n m k l low at was up_n up_m task other group =
+    subst (IsWithin k l) (sym (digest_more log i d e low at)) (within_more n m k l (digest_of (take i log)) e was up_n up_m task other group)
+
+pub made_none : (digest_of []).made ≡ 0
+made_none = ap (λ (d : Digest). d.made) digest_of-none
+
+pub made_step : (log : List Event) (i : ℕ) (d e : Event) (n k : ℕ) → i < length log → get_or log i d ≡ e → n ≡ (digest_of (take i log)).made → k ≡ n + one_if (is_made e) → k ≡ (digest_of (take (i + 1) log)).made
+made_step log i d e n k low at was more =
+    more ∙ ap (λ x. x + one_if (is_made e)) was ∙ sym (ap (λ (x : Digest). x.made) (digest_more log i d e low at))
+
+pub card_written : (c : KeyCard) (d : CardView) → IsCard c d → card_of_parts c.life c.links.items c.own.items c.waiters.items c.named c.opened ≡ card_numbers d
+card_written c d is =
+    ap (λ (x : Life). card_of_parts x c.links.items c.own.items c.waiters.items c.named c.opened) is.life
+    ∙ ap (λ (x : List ℤ). card_of_parts d.life x c.own.items c.waiters.items c.named c.opened) is.links
+    ∙ ap (λ (x : List ℤ). card_of_parts d.life (some_numbers link_numbers d.links) x c.waiters.items c.named c.opened) is.own
+    ∙ ap (λ (x : List ℤ). card_of_parts d.life (some_numbers link_numbers d.links) (some_numbers task_numbers d.own) x c.named c.opened) is.waiters
+    ∙ ap (λ (x : Bool). card_of_parts d.life (some_numbers link_numbers d.links) (some_numbers task_numbers d.own) (some_numbers task_numbers d.waiters) x c.opened) is.named
+    ∙ ap (λ (x : ℕ). card_of_parts d.life (some_numbers link_numbers d.links) (some_numbers task_numbers d.own) (some_numbers task_numbers d.waiters) d.named x) is.opened
+
+pub group_written : (c : KeyGroup) (d : GroupView) → IsKeyGroup c d → group_of_parts c.added.items c.ended.items c.asked c.closed c.named ≡ group_numbers d
+group_written c d is =
+    ap (λ (x : List ℤ). group_of_parts x c.ended.items c.asked c.closed c.named) is.added
+    ∙ ap (λ (x : List ℤ). group_of_parts (some_numbers task_numbers d.children) x c.asked c.closed c.named) is.ended
+    ∙ ap (λ (x : ℕ). group_of_parts (some_numbers task_numbers d.children) (some_numbers ended_numbers d.ended) x c.closed c.named) is.asked
+    ∙ ap (λ (x : Bool). group_of_parts (some_numbers task_numbers d.children) (some_numbers ended_numbers d.ended) d.asked x c.named) is.closed
+    ∙ ap (λ (x : Bool). group_of_parts (some_numbers task_numbers d.children) (some_numbers ended_numbers d.ended) d.asked d.closed x) is.named

@@ -1,0 +1,7 @@
+use Rattle.std.proofs.Common.{◌≡◌, ◌++◌, reverse, take}
+use Rattle.swift_explorer.specs.Numbers.{some_numbers}
+use Rattle.swift_explorer.specs.FrameNumbers.{binding_numbers}
+use Rattle.swift_explorer.proofs.keys.frames.put_bindings.Given as goal
+
+abbrev pub invariant-loop-place : goal.invariant-loop-place
+invariant-loop-place l = l.key.items ≡ l.initial.key.items ++ some_numbers binding_numbers (take l.place (reverse l.bindings))

@@ -1,0 +1,8 @@
+use Rattle.std.proofs.Common.{◌≡◌, ◌++◌, map, take}
+use Rattle.script_code.specs.Seen.{rows_of}
+use Rattle.swift_explorer.specs.Numbers.{some_numbers}
+use Rattle.swift_explorer.specs.FrameNumbers.{rows_numbers}
+use Rattle.swift_explorer.proofs.keys.frames.put_fields.Given as goal
+
+abbrev pub invariant-loop-rows : goal.invariant-loop-rows
+invariant-loop-rows l = l.key.items ≡ l.initial.key.items ++ some_numbers rows_numbers (take l.rows-index (map (λ rows. rows_of rows.items) l.fields))

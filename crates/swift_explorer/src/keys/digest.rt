@@ -1,0 +1,495 @@
+//! What a log says of tasks and groups, as numbers.
+
+ghost use Rattle.std.specs.Prelude.{◌≡◌, ◌+◌, ◌<◌, ◌≤◌, ◌^◌, ◌==◌, ◌||◌, if◌then◌else◌, [], ◌∷◌, ◌++◌, length, pos, IfOk, OnOk};
+ghost use Rattle.std.specs.List.{cons_option};
+ghost use Rattle.swift_events.specs.Events.{is_made, task_of};
+ghost use Rattle.swift_events.specs.Lives.{lived};
+ghost use Rattle.swift_events.specs.Relations.{asks, child_in, closes, ending_among, names_group, names_task, opens, own_in, waiter_in};
+ghost use Rattle.swift_groups.specs.Groups.{is_among};
+ghost use Rattle.swift_explorer.specs.CardsInside.{IsCard, IsKeyGroup, card_of_parts, group_of_parts};
+ghost use Rattle.swift_explorer.specs.DigestNumbers.{IsWithin, IsWritten, card_numbers, ended_numbers, group_end, groups_numbers, head_numbers, other_of};
+ghost use Rattle.swift_digest.specs.Digests.{digest_of, one_if, own_link};
+ghost use Rattle.swift_explorer.specs.Numbers.{each_numbers, link_numbers, some_numbers, task_numbers};
+
+use crate::keys::values::{put_ending, put_flag, put_life, put_link, put_task, put_wide};
+use std::alloc::{AllocError, Global};
+use swift_escalation::PriorityEvent as Link;
+use swift_events::{Event, Life};
+use swift_types::{Ending, TaskId};
+
+// What was read of a task so far. Of lists there are the numbers.
+#[derive(Drop)]
+struct KeyCard {
+    life: Life,
+    links: Vec<i64>,
+    own: Vec<i64>,
+    waiters: Vec<i64>,
+    named: bool,
+    opened: u64,
+}
+
+// What was read of a group so far. Of lists there are the numbers.
+#[derive(Drop)]
+struct KeyGroup {
+    children: Vec<TaskId>,
+    added: Vec<i64>,
+    ended: Vec<i64>,
+    asked: u64,
+    closed: bool,
+    named: bool,
+}
+
+// What one event says of a task or a group.
+
+fn own_link(task: TaskId, event: Event) -> Option<Link>
+    ensures { result ≡ own_link task.0 event }
+{
+    if event.task().0 != task.0 {
+        return None;
+    }
+    match event {
+        Event::Root(task, priority) => Some(Link::Root(task, priority)),
+        Event::Free { task, priority, .. } => Some(Link::Free(task, priority)),
+        Event::Child {
+            task,
+            owner,
+            priority,
+            ..
+        } => Some(Link::Child {
+            task,
+            parent: owner,
+            own: priority,
+        }),
+        Event::Wait(task, awaited) => Some(Link::Wait(task, awaited)),
+        _ => None,
+    }
+}
+
+fn own_in(task: TaskId, event: Event) -> Option<TaskId>
+    ensures { result ≡ own_in task.0 event }
+{
+    match event {
+        Event::Free {
+            task: made,
+            maker: by,
+            ..
+        } => { if by.0 == task.0 { Some(made) } else { None } }
+        _ => None,
+    }
+}
+
+fn waiter_in(task: TaskId, event: Event) -> Option<TaskId>
+    ensures { result ≡ waiter_in task.0 event }
+{
+    match event {
+        Event::Wait(waiter, awaited) => {
+            if awaited.0 == task.0 {
+                Some(waiter)
+            } else {
+                None
+            }
+        }
+        _ => None,
+    }
+}
+
+fn names_task(task: TaskId, event: Event) -> bool
+    ensures { result ≡ names_task task.0 event }
+{
+    match event {
+        Event::CancelTask(named) => named.0 == task.0,
+        _ => false,
+    }
+}
+
+fn opens(task: TaskId, event: Event) -> bool
+    ensures { result ≡ opens task.0 event }
+{
+    match event {
+        Event::Open(owner, _) => owner.0 == task.0,
+        _ => false,
+    }
+}
+
+fn child_in(owner: TaskId, group: u32, event: Event) -> Option<TaskId>
+    ensures { result ≡ child_in owner.0 group event }
+{
+    match event {
+        Event::Child {
+            task: child,
+            owner: by,
+            group: of,
+            ..
+        } => {
+            if by.0 == owner.0 && of == group {
+                Some(child)
+            } else {
+                None
+            }
+        }
+        _ => None,
+    }
+}
+
+fn asks(owner: TaskId, group: u32, event: Event) -> bool
+    ensures { result ≡ asks owner.0 group event }
+{
+    match event {
+        Event::Next(by, of) => by.0 == owner.0 && of == group,
+        _ => false,
+    }
+}
+
+fn closes(owner: TaskId, group: u32, event: Event) -> bool
+    ensures { result ≡ closes owner.0 group event }
+{
+    match event {
+        Event::Close(by, of) => by.0 == owner.0 && of == group,
+        _ => false,
+    }
+}
+
+fn names_group(owner: TaskId, group: u32, event: Event) -> bool
+    ensures { result ≡ names_group owner.0 group event }
+{
+    match event {
+        Event::CancelGroup(by, of) => by.0 == owner.0 && of == group,
+        _ => false,
+    }
+}
+
+fn is_among(children: &[TaskId], task: TaskId) -> bool
+    ensures { result ≡ is_among children.now task }
+{
+    children.iter().any(|child| child.0 == task.0)
+}
+
+fn ending_among(children: &[TaskId], event: Event) -> Option<(TaskId, Ending)>
+    ensures { result ≡ ending_among children.now event }
+{
+    match event {
+        Event::End(task, ending) => {
+            if is_among(children, task) {
+                Some((task, ending))
+            } else {
+                None
+            }
+        }
+        _ => None,
+    }
+}
+
+fn other_of(event: Event) -> TaskId
+    ensures { result.0 ≡ other_of event }
+{
+    match event {
+        Event::Free { maker: by, .. } => by,
+        Event::Child { owner, .. } => owner,
+        Event::Wait(_, awaited) => awaited,
+        _ => event.task(),
+    }
+}
+
+fn group_end(event: Event) -> u64
+    ensures { result ≡ group_end event }
+{
+    match event {
+        Event::Child { group, .. } => u64::from(group) + 1,
+        Event::Next(_, group) => u64::from(group) + 1,
+        Event::Close(_, group) => u64::from(group) + 1,
+        Event::CancelGroup(_, group) => u64::from(group) + 1,
+        _ => 0,
+    }
+}
+
+// What is there once one more event was read.
+
+fn life_noted(life: Life, task: TaskId, event: Event) -> Life
+    ensures { result ≡ (if task_of event == task.0 then lived life event else life) }
+{
+    if event.task().0 == task.0 {
+        life.after(event)
+    } else {
+        life
+    }
+}
+
+fn counted(count: u64, one: bool) -> u64
+    requires { count < 2 ^ 63 }
+    ensures { result ≡ count + one_if one }
+{
+    if one { count + 1 } else { count }
+}
+
+fn put_some_link(numbers: &mut Vec<i64>, link: Option<Link>) -> Result<(), AllocError>
+    ensures { OnOk result (numbers.new.items ≡ numbers.old.items ++ some_numbers link_numbers (cons_option link [])) }
+{
+    match link {
+        None => Ok(()),
+        Some(link) => {
+            numbers.push(1)?;
+            put_link(numbers, link)?;
+            Ok(())
+        }
+    }
+}
+
+fn put_some_task(numbers: &mut Vec<i64>, task: Option<TaskId>) -> Result<(), AllocError>
+    ensures { OnOk result (numbers.new.items ≡ numbers.old.items ++ some_numbers task_numbers (cons_option task [])) }
+{
+    match task {
+        None => Ok(()),
+        Some(task) => {
+            numbers.push(1)?;
+            put_task(numbers, task)?;
+            Ok(())
+        }
+    }
+}
+
+fn put_some_end(numbers: &mut Vec<i64>, end: Option<(TaskId, Ending)>) -> Result<(), AllocError>
+    ensures { OnOk result (numbers.new.items ≡ numbers.old.items ++ some_numbers ended_numbers (cons_option end [])) }
+{
+    match end {
+        None => Ok(()),
+        Some((task, ending)) => {
+            numbers.push(1)?;
+            put_task(numbers, task)?;
+            put_ending(numbers, ending)?;
+            Ok(())
+        }
+    }
+}
+
+fn push_some(tasks: &mut Vec<TaskId>, task: Option<TaskId>) -> Result<(), AllocError>
+    ensures { OnOk result (tasks.new.items ≡ tasks.old.items ++ cons_option task []) }
+{
+    match task {
+        None => Ok(()),
+        Some(task) => {
+            tasks.push(task)?;
+            Ok(())
+        }
+    }
+}
+
+impl KeyCard {
+    fn note(&mut self, task: TaskId, event: Event) -> Result<(), AllocError>
+        requires { self.old.opened < 2 ^ 63 }
+        ensures life { OnOk result (self.new.life ≡ (if task_of event == task.0 then lived self.old.life event else self.old.life)) }
+        ensures links { OnOk result (self.new.links.items ≡ self.old.links.items ++ some_numbers link_numbers (cons_option (own_link task.0 event) [])) }
+        ensures own { OnOk result (self.new.own.items ≡ self.old.own.items ++ some_numbers task_numbers (cons_option (own_in task.0 event) [])) }
+        ensures waiters { OnOk result (self.new.waiters.items ≡ self.old.waiters.items ++ some_numbers task_numbers (cons_option (waiter_in task.0 event) [])) }
+        ensures named { OnOk result (self.new.named ≡ (self.old.named || names_task task.0 event)) }
+        ensures opened { OnOk result (self.new.opened ≡ self.old.opened + one_if (opens task.0 event)) }
+    {
+        self.life = life_noted(self.life, task, event);
+        put_some_link(&mut self.links, own_link(task, event))?;
+        put_some_task(&mut self.own, own_in(task, event))?;
+        put_some_task(&mut self.waiters, waiter_in(task, event))?;
+        self.named = self.named || names_task(task, event);
+        self.opened = counted(self.opened, opens(task, event));
+        Ok(())
+    }
+}
+
+impl KeyGroup {
+    fn note(&mut self, owner: TaskId, group: u32, event: Event) -> Result<(), AllocError>
+        requires { self.old.asked < 2 ^ 63 }
+        ensures children { OnOk result (self.new.children.items ≡ self.old.children.items ++ cons_option (child_in owner.0 group event) []) }
+        ensures added { OnOk result (self.new.added.items ≡ self.old.added.items ++ some_numbers task_numbers (cons_option (child_in owner.0 group event) [])) }
+        ensures ended { OnOk result (self.new.ended.items ≡ self.old.ended.items ++ some_numbers ended_numbers (cons_option (ending_among self.old.children.items event) [])) }
+        ensures asked { OnOk result (self.new.asked ≡ self.old.asked + one_if (asks owner.0 group event)) }
+        ensures closed { OnOk result (self.new.closed ≡ (self.old.closed || closes owner.0 group event)) }
+        ensures named { OnOk result (self.new.named ≡ (self.old.named || names_group owner.0 group event)) }
+    {
+        put_some_end(&mut self.ended, ending_among(&self.children, event))?;
+        let child = child_in(owner, group, event);
+        push_some(&mut self.children, child)?;
+        put_some_task(&mut self.added, child)?;
+        self.asked = counted(self.asked, asks(owner, group, event));
+        self.closed = self.closed || closes(owner, group, event);
+        self.named = self.named || names_group(owner, group, event);
+        Ok(())
+    }
+}
+
+// The card of a task.
+fn card_of(alloc: Global, log: &[Event], task: TaskId) -> Result<KeyCard, AllocError>
+    ensures { IfOk result (λ c. IsCard c ((digest_of log.now).cards task.0)) }
+{
+    let mut card = KeyCard {
+        life: Life::unborn(),
+        links: Vec::new(alloc),
+        own: Vec::new(alloc),
+        waiters: Vec::new(alloc),
+        named: false,
+        opened: 0,
+    };
+    for event in log {
+        card.note(task, *event)?;
+    }
+    Ok(card)
+}
+
+// The card of a group.
+fn group_of(alloc: Global, log: &[Event], owner: TaskId, group: u32) -> Result<KeyGroup, AllocError>
+    ensures { IfOk result (λ c. IsKeyGroup c ((digest_of log.now).groups owner.0 group)) }
+{
+    let mut card = KeyGroup {
+        children: Vec::new(alloc),
+        added: Vec::new(alloc),
+        ended: Vec::new(alloc),
+        asked: 0,
+        closed: false,
+        named: false,
+    };
+    for event in log {
+        card.note(owner, group, *event)?;
+    }
+    Ok(card)
+}
+
+// These numbers, and a 0 after them.
+fn put_closed(key: &mut Vec<i64>, numbers: &[i64]) -> Result<(), AllocError>
+    ensures { OnOk result (key.new.items ≡ key.old.items ++ (numbers.now ++ pos 0 ∷ [])) }
+{
+    key.extend_from_slice(numbers)?;
+    key.push(0)?;
+    Ok(())
+}
+
+fn put_card(key: &mut Vec<i64>, card: &KeyCard) -> Result<(), AllocError>
+    ensures { OnOk result (key.new.items ≡ key.old.items ++ card_of_parts card.now.life card.now.links.items card.now.own.items card.now.waiters.items card.now.named card.now.opened) }
+{
+    put_life(key, card.life)?;
+    put_closed(key, &card.links)?;
+    put_closed(key, &card.own)?;
+    put_closed(key, &card.waiters)?;
+    put_flag(key, card.named)?;
+    put_wide(key, card.opened)?;
+    Ok(())
+}
+
+fn put_group(key: &mut Vec<i64>, card: &KeyGroup) -> Result<(), AllocError>
+    ensures { OnOk result (key.new.items ≡ key.old.items ++ group_of_parts card.now.added.items card.now.ended.items card.now.asked card.now.closed card.now.named) }
+{
+    put_closed(key, &card.added)?;
+    put_closed(key, &card.ended)?;
+    put_wide(key, card.asked)?;
+    put_flag(key, card.closed)?;
+    put_flag(key, card.named)?;
+    Ok(())
+}
+
+// How many tasks and groups a log names, and how many tasks it makes that are no roots.
+#[derive(Clone, Copy)]
+struct Bounds {
+    tasks: u64,
+    groups: u64,
+    made: u64,
+}
+
+impl Bounds {
+    fn note(&mut self, event: Event)
+        requires small { self.old.made < 2 ^ 63 }
+        requires tasks { self.old.tasks ≤ 2 ^ 32 }
+        requires groups { self.old.groups ≤ 2 ^ 32 }
+        ensures task { task_of event < self.new.tasks }
+        ensures other { other_of event < self.new.tasks }
+        ensures group { group_end event ≤ self.new.groups }
+        ensures tasks_grow { self.old.tasks ≤ self.new.tasks }
+        ensures groups_grow { self.old.groups ≤ self.new.groups }
+        ensures tasks_fit { self.new.tasks ≤ 2 ^ 32 }
+        ensures groups_fit { self.new.groups ≤ 2 ^ 32 }
+        ensures made { self.new.made ≡ self.old.made + one_if (is_made event) }
+    {
+        let task = u64::from(event.task().0) + 1;
+        let other = u64::from(other_of(event).0) + 1;
+        self.tasks = self.tasks.max(task).max(other);
+        self.groups = self.groups.max(group_end(event));
+        self.made = counted(self.made, event.makes_task());
+    }
+}
+
+fn bounds_of(log: &[Event]) -> Bounds
+    ensures within { IsWithin result.tasks result.groups (digest_of log.now) }
+    ensures made { result.made ≡ (digest_of log.now).made }
+    ensures tasks { result.tasks ≤ 2 ^ 32 }
+    ensures groups { result.groups ≤ 2 ^ 32 }
+{
+    let mut bounds = Bounds {
+        tasks: 0,
+        groups: 0,
+        made: 0,
+    };
+    for event in log {
+        bounds.note(*event);
+    }
+    bounds
+}
+
+fn put_head(key: &mut Vec<i64>, bounds: Bounds) -> Result<(), AllocError>
+    ensures { OnOk result (key.new.items ≡ key.old.items ++ head_numbers bounds.tasks bounds.groups bounds.made) }
+{
+    put_wide(key, bounds.tasks)?;
+    put_wide(key, bounds.groups)?;
+    put_wide(key, bounds.made)?;
+    Ok(())
+}
+
+fn put_cards(alloc: Global, key: &mut Vec<i64>, log: &[Event], tasks: u64) -> Result<(), AllocError>
+    requires { tasks ≤ 2 ^ 32 }
+    ensures { OnOk result (key.new.items ≡ key.old.items ++ each_numbers card_numbers (digest_of log.now).cards tasks) }
+{
+    for place in 0..tasks {
+        let card = card_of(alloc, log, TaskId(place as u32))?;
+        put_card(key, &card)?;
+    }
+    Ok(())
+}
+
+fn put_groups_of(
+    alloc: Global,
+    key: &mut Vec<i64>,
+    log: &[Event],
+    owner: TaskId,
+    groups: u64,
+) -> Result<(), AllocError>
+    requires { groups ≤ 2 ^ 32 }
+    ensures { OnOk result (key.new.items ≡ key.old.items ++ groups_numbers groups ((digest_of log.now).groups owner.0)) }
+{
+    for place in 0..groups {
+        let card = group_of(alloc, log, owner, place as u32)?;
+        put_group(key, &card)?;
+    }
+    Ok(())
+}
+
+fn put_groups(
+    alloc: Global,
+    key: &mut Vec<i64>,
+    log: &[Event],
+    tasks: u64,
+    groups: u64,
+) -> Result<(), AllocError>
+    requires tasks { tasks ≤ 2 ^ 32 }
+    requires groups { groups ≤ 2 ^ 32 }
+    ensures { OnOk result (key.new.items ≡ key.old.items ++ each_numbers (groups_numbers groups) (digest_of log.now).groups tasks) }
+{
+    for place in 0..tasks {
+        put_groups_of(alloc, key, log, TaskId(place as u32), groups)?;
+    }
+    Ok(())
+}
+
+/// Appends the digest of a log: all of it that decides what may come next. Linear in its length for each task and each group of a task.
+pub fn put_digest(alloc: Global, key: &mut Vec<i64>, log: &[Event]) -> Result<(), AllocError>
+    ensures { OnOk result (IsWritten (digest_of log.now) key.old.items key.new.items) }
+{
+    let bounds = bounds_of(log);
+    put_head(key, bounds)?;
+    put_cards(alloc, key, log, bounds.tasks)?;
+    put_groups(alloc, key, log, bounds.tasks, bounds.groups)?;
+    Ok(())
+}

@@ -1,0 +1,61 @@
+//! Numbers as bytes.
+
+ghost use Rattle.std.specs.Prelude.{◌≡◌, ◌<◌, ◌^◌, ◌++◌, IfOk, OnOk};
+ghost use Rattle.swift_explorer.specs.Bytes.{all_packed, bytes_2, bytes_4, bytes_8, packed};
+
+use std::alloc::{AllocError, Global};
+
+fn put_2(bytes: &mut Vec<u8>, number: u64) -> Result<(), AllocError>
+    requires { number < 2 ^ 16 }
+    ensures { OnOk result (bytes.new.items ≡ bytes.old.items ++ bytes_2 number) }
+{
+    bytes.push((number / 256) as u8)?;
+    bytes.push((number % 256) as u8)?;
+    Ok(())
+}
+
+fn put_4(bytes: &mut Vec<u8>, number: u64) -> Result<(), AllocError>
+    requires { number < 2 ^ 32 }
+    ensures { OnOk result (bytes.new.items ≡ bytes.old.items ++ bytes_4 number) }
+{
+    put_2(bytes, number / 65_536)?;
+    put_2(bytes, number % 65_536)?;
+    Ok(())
+}
+
+fn put_8(bytes: &mut Vec<u8>, number: u64) -> Result<(), AllocError>
+    ensures { OnOk result (bytes.new.items ≡ bytes.old.items ++ bytes_8 number) }
+{
+    put_4(bytes, number / 4_294_967_296)?;
+    put_4(bytes, number % 4_294_967_296)?;
+    Ok(())
+}
+
+// Writes a number.
+fn put(bytes: &mut Vec<u8>, number: i64) -> Result<(), AllocError>
+    ensures { OnOk result (bytes.new.items ≡ bytes.old.items ++ packed number) }
+{
+    if number < 0 {
+        bytes.push(254)?;
+        put_8(bytes, (-(number + 1)) as u64)?;
+        return Ok(());
+    }
+    if number < 253 {
+        bytes.push(number as u8)?;
+        return Ok(());
+    }
+    bytes.push(253)?;
+    put_8(bytes, number as u64)?;
+    Ok(())
+}
+
+/// The bytes of a list of numbers. No other list has the same (`bytes_are_read`).
+pub fn pack(alloc: Global, numbers: &[i64]) -> Result<Vec<u8>, AllocError>
+    ensures { IfOk result (λ bytes. bytes.items ≡ all_packed numbers.now) }
+{
+    let mut bytes = Vec::new(alloc);
+    for number in numbers {
+        put(&mut bytes, *number)?;
+    }
+    Ok(bytes)
+}

@@ -1,6 +1,0 @@
-use Rattle.std.proofs.Common.{◌≡◌, ◌++◌, take}
-use Rattle.swift_keys.specs.Numbers.{some_numbers, number_numbers}
-use Rattle.swift_keys.proofs.frames.put_ids.Given as goal
-
-abbrev pub invariant-loop-id : goal.invariant-loop-id
-invariant-loop-id l = l.key.items ≡ l.initial.key.items ++ some_numbers number_numbers (take l.id-index l.ids)

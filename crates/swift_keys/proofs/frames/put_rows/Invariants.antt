@@ -1,8 +1,0 @@
-use Rattle.std.proofs.Common.{◌≡◌, ◌++◌, take}
-use Rattle.script_code.specs.Seen.{rows_of}
-use Rattle.swift_keys.specs.Numbers.{some_numbers}
-use Rattle.swift_keys.specs.FrameNumbers.{values_numbers}
-use Rattle.swift_keys.proofs.frames.put_rows.Given as goal
-
-abbrev pub invariant-loop-row : goal.invariant-loop-row
-invariant-loop-row l = l.key.items ≡ l.initial.key.items ++ some_numbers values_numbers (take l.row-index (rows_of l.rows))

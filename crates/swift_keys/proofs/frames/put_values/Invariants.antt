@@ -1,6 +1,0 @@
-use Rattle.std.proofs.Common.{◌≡◌, ◌++◌, take}
-use Rattle.swift_keys.specs.Numbers.{some_numbers, value_numbers}
-use Rattle.swift_keys.proofs.frames.put_values.Given as goal
-
-abbrev pub invariant-loop-value : goal.invariant-loop-value
-invariant-loop-value l = l.key.items ≡ l.initial.key.items ++ some_numbers value_numbers (take l.value-index l.values)

@@ -1,0 +1,6 @@
+use Rattle.std.proofs.Common.{◌≡◌, ◌++◌, drop}
+use Rattle.swift_tool.specs.ReportJson.{executors_json}
+use Rattle.swift_tool.proofs.json.turns.executors.Given as goal
+
+abbrev pub invariant-loop-place : goal.invariant-loop-place
+invariant-loop-place l = l.out.items ++ executors_json l.script l.checkpoints l.place (drop l.place l.journals) ≡ l.initial.out.items ++ executors_json l.script l.checkpoints 0 l.journals
