@@ -23,7 +23,7 @@ use Rattle.swift_history.specs.TurnEnds.{WaitingTaskView, JobFacts, TurnEnd, eff
 use Rattle.swift_history.specs.Orderly.{IsOrderly, frames_executor, job_executor}
 use Rattle.swift_course.specs.Course.{HasUnderWay, IsFront, IsGiven, IsIn, IsOwned, IsUnderWay, SaysOrder, is_for, one_if, ways, standing, starts, tickets_in, waits}
 use Rattle.swift_course.specs.Steps.{IsTurn, TurnsMayBeApplied, end_of, knowing_turn, order_applied, with_record}
-use Rattle.swift_known.specs.Views.{Account, BookFacts, BookKnown, Ticket, TurnOrder, fresh}
+use Rattle.swift_course.specs.Views.{Account, BookFacts, BookKnown, Ticket, TurnOrder, fresh}
 use Rattle.swift_course.proofs.Begun.{TurnKeeps, turn_keeps}
 use Rattle.swift_course.proofs.Blocks.{after_push, allowed_push, filter_none, filter_some, stand_push}
 use Rattle.swift_course.proofs.Lists.{count_append, count_cons, equal, if_some, no_one, one, total_set, unequal}

@@ -16,7 +16,7 @@ use Rattle.swift_history.specs.Orderly.{IsOrderly, has_last_root, job_executor}
 use Rattle.swift_history.specs.TurnEnds.{JobFacts, task}
 use Rattle.swift_course.specs.Course.{HasUnderWay, IsGiven, IsIn, IsOrdered, IsOwned, SaysOrder, is_for, one_if, standing, starts, tickets_in}
 use Rattle.swift_course.specs.Steps.{TurnsMayBegin, knowing_begin, order_begun, with_turn_begun}
-use Rattle.swift_known.specs.Views.{Account, Ticket, TurnOrder, at_rest}
+use Rattle.swift_course.specs.Views.{Account, Ticket, TurnOrder, at_rest}
 use Rattle.swift_course.proofs.Begun.{origin_push}
 use Rattle.swift_course.proofs.Blocks.{after_push, allowed_push, filter_none, stand_push}
 use Rattle.swift_course.proofs.Order.{begin_has, begin_orderly, changed_at, changed_else, changed_there, ordered_before, ordered_begun, orders_changed, own_changed}

@@ -17,7 +17,7 @@ use Rattle.swift_history.specs.Histories.{AllStand, Block, added, begun, ran, fo
 use Rattle.swift_history.specs.Histories as history
 use Rattle.swift_history.specs.Orderly.{AllAllowed, IsOrderly, job_executor}
 use Rattle.swift_history.specs.TurnEnds.{JobFacts, task}
-use Rattle.swift_counts.proofs.Left.{may_be_folded}
+use Rattle.swift_course.proofs.Left.{may_be_folded}
 use Rattle.swift_course.specs.Course.{standing}
 use Rattle.swift_course.proofs.Applied.{other_record}
 use Rattle.swift_course.proofs.Blocks.{after_push, filter_none, filter_some, replay_append}

@@ -10,7 +10,7 @@ use Rattle.swift_interpreter.specs.Frames.{FrameView}
 use Rattle.swift_interpreter.specs.Turn.{EffectView, ExitView, Played, calling, waiting, asking_next, closing, yielding, returning, failing}
 use Rattle.swift_turn.specs.Body.{advanced, kept_turn, resumed}
 use Rattle.swift_history.specs.Histories.{left_as, makes_own, opens_group}
-use Rattle.swift_counts.proofs.Turns.{kept_turn_counts}
+use Rattle.swift_course.proofs.CountedTurns.{kept_turn_counts}
 use Rattle.swift_course.specs.Frames.{FramesGoOn, kept_frame}
 
 -- a frame that is left hands its counts on, and nothing else

@@ -12,7 +12,7 @@ use Rattle.swift_history.specs.Histories.{Block, ReportView, Standing, checkpoin
 use Rattle.swift_history.specs.Orderly.{AllAllowed, IsOrderly}
 use Rattle.swift_course.specs.Course.{IsIn, IsOrdered, SaysOrder, starts}
 use Rattle.swift_course.specs.Reports.{HasHistory, IsAccountedFor, IsReportOf, RunsAreLegal, RunsAreOrderly}
-use Rattle.swift_known.specs.Views.{Account, BookFacts, Maker, BookKnown}
+use Rattle.swift_course.specs.Views.{Account, BookFacts, Maker, BookKnown}
 use Rattle.swift_course.proofs.Folding.{GiveFields, Matches, all_match, all_orderly, all_plain, all_stand, nothing_matches, with_folds}
 use Rattle.swift_course.proofs.Lists.{same_one}
 use Rattle.swift_course.proofs.Starts.{many_starts, none_at, start_fields}

@@ -18,3 +18,6 @@ pub mod Folding
 pub mod Legal
 pub mod Frames
 pub mod Rule
+pub mod Steps
+pub mod CountedTurns
+pub mod Left

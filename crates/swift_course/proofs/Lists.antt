@@ -6,7 +6,7 @@ use Rattle.std.proofs.lemmas.List.Sums.{sum_by-cons, sum_by-append, get_or-le-su
 use mathlib.Core.Option.{some, some-injective, some-ne-none}
 use lib.ListN.{get_elem?}
 use Rattle.swift_course.specs.Course.{is_for, one_if}
-use Rattle.swift_known.specs.Views.{Ticket}
+use Rattle.swift_course.specs.Views.{Ticket}
 
 module _ {X : Type 0} where
   pub at_set : (l : List X) (i j : ℕ) (a b : X) → get_elem? (set l i a) j ≡ some b → ((j ≡ i) × (a ≡ b)) ⊎ ((j ≢ i) × (get_elem? l j ≡ some b))

@@ -20,7 +20,7 @@ use Rattle.swift_history.specs.Orderly.{IsOrderly, has_last_of, job_executor}
 use Rattle.swift_history.specs.TurnEnds.{TurnEnd, gives, root_events, root_job, task}
 use Rattle.swift_course.specs.Course.{HasUnderWay, IsFront, IsOrdered, IsOwned, IsUnderWay, SaysOrder, standing}
 use Rattle.swift_course.specs.Steps.{order_applied, order_begun}
-use Rattle.swift_known.specs.Views.{Account, BookKnown, TurnOrder, at_rest, under_way, unordered}
+use Rattle.swift_course.specs.Views.{Account, BookKnown, TurnOrder, at_rest, under_way, unordered}
 use Rattle.swift_course.proofs.Begun.{TurnKeeps}
 use Rattle.swift_course.proofs.Lists.{all_both, all_each, at_set, equal, same_one, unequal}
 use Rattle.swift_course.proofs.Waking.{jobs_stay}

@@ -6,7 +6,7 @@ use mathlib.Core.Option.{some}
 use lib.ListN.{get_elem?}
 use Rattle.swift_course.specs.Course.{IsCourse, IsGiven, SeatIsRight, is_for, one_if, standing, tickets_in}
 use Rattle.swift_course.specs.Steps.{MayGive, TicketsMayBeOrdered}
-use Rattle.swift_known.specs.Views.{BookFacts, BookKnown, Ticket}
+use Rattle.swift_course.specs.Views.{BookFacts, BookKnown, Ticket}
 use Rattle.swift_course.proofs.Lists.{at_set, set_there, total_set}
 use Rattle.swift_course.proofs.Order.{orders_kept}
 use Rattle.swift_course.proofs.Parts.{SameWays, course_with}

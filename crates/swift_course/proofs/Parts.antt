@@ -14,7 +14,7 @@ use Rattle.swift_course.specs.Course.{IsCourse, IsGiven, IsIn, IsOrdered, IsOwne
 use Rattle.swift_course.specs.Reports.{SeatsLearn}
 use Rattle.swift_course.specs.Seats.{AccountsMayBeOpened, RunsBegin, SeatsMayBeGathered, SomeTicketsMayBeParted, TicketsMayBeParted, account_parted, first_view, gathered, maker_left, number_of, one_more, some_left, some_parted}
 use Rattle.swift_course.specs.Steps.{BooksMayStay}
-use Rattle.swift_known.specs.Views.{Account, BookFacts, Maker, BookKnown, Ticket, TurnOrder, at_rest, no_view}
+use Rattle.swift_course.specs.Views.{Account, BookFacts, Maker, BookKnown, Ticket, TurnOrder, at_rest, no_view}
 use Rattle.swift_course.proofs.Lists.{all_each, at_push, at_set, count_append, equal, if_some, set_again, set_else, total_set, unequal}
 use Rattle.swift_course.proofs.Order.{first_has, first_there, orders_kept}
 

@@ -15,7 +15,7 @@ use Rattle.swift_history.specs.TurnEnds.{root_events, root_job}
 use Rattle.swift_history.specs.Orderly.{IsOrderly}
 use Rattle.swift_course.specs.Course.{HasUnderWay, IsCourse, IsGiven, IsIn, SaysOrder, is_for, one_if, ways, standing, starts, tickets_in}
 use Rattle.swift_course.specs.Steps.{RootsMayBeAdded, knowing_root, with_root}
-use Rattle.swift_known.specs.Views.{Account, BookFacts, Maker, BookKnown, Ticket, fresh}
+use Rattle.swift_course.specs.Views.{Account, BookFacts, Maker, BookKnown, Ticket, fresh}
 use Rattle.swift_course.proofs.Blocks.{after_push, allowed_push, filter_none, filter_some, range_next, stand_push}
 use Rattle.swift_course.proofs.Lists.{all_each, count_append, count_cons, equal, if_some, no_one, one, total_most, total_set, unequal}
 use Rattle.swift_course.proofs.Order.{orders_go_on, orders_kept, root_has, root_orderly, root_there}

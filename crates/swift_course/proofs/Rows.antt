@@ -15,7 +15,7 @@ use Rattle.swift_history.specs.Orderly.{has_last_of}
 use Rattle.swift_history.specs.TurnEnds.{WaitingTaskView, JobFacts, task}
 use Rattle.swift_course.specs.Course.{ways}
 use Rattle.swift_course.specs.Steps.{knowing_begin, knowing_turn, with_begin, with_turn}
-use Rattle.swift_known.specs.Views.{Account, BookFacts, BookKnown, Ticket, at_rest, under_way, unordered, no_view, fresh}
+use Rattle.swift_course.specs.Views.{Account, BookFacts, BookKnown, Ticket, at_rest, under_way, unordered, no_view, fresh}
 
 abbrev job : FrameView → JobFacts
 job p = record { task = 0; number = 0; resume = resume.Start; frames = record { frames = p ∷ []; outer = [] } }

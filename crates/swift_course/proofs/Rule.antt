@@ -3,9 +3,9 @@ use Rattle.std.proofs.Common.{◌≡◌, ℕ, zero, suc, List, [], ◌∷◌, �
 use mathlib.Core.Option.{some, some-injective, some-ne-none}
 use lib.ListN.{get_elem?}
 use Rattle.swift_course.specs.Course.{IsCourse}
-use Rattle.swift_known.specs.Views.{BookKnown}
+use Rattle.swift_course.specs.Views.{BookKnown}
 use Rattle.swift_course.proofs.Parts.{seat_learns}
-use Rattle.swift_known.specs.declared.known.Known.{Known}
+use Rattle.swift_course.specs.declared.known.Known.{Known}
 use Rattle.swift_course.specs.Rule.{GivesAreKept, JoinsAreKept, PartsAreKept, SeatsLearnOf, views_of}
 
 at_view : (all : List Known) (seat : ℕ) (v : Known) → get_elem? all seat ≡ some v → get_elem? (views_of all) seat ≡ some v.view

@@ -9,7 +9,7 @@ use Rattle.swift_script.specs.Scripts.{ScriptView}
 use Rattle.swift_history.specs.Histories.{Block, Standing}
 use Rattle.swift_history.specs.TurnEnds.{JobFacts}
 use Rattle.swift_course.specs.Course.{IsGiven, IsIn, IsOwned, SeatIsRight, is_for, one_if, standing, tickets_in}
-use Rattle.swift_known.specs.Views.{Account, Maker, BookKnown, Ticket, fresh}
+use Rattle.swift_course.specs.Views.{Account, Maker, BookKnown, Ticket, fresh}
 use Rattle.swift_course.proofs.Lists.{all_both, at_set, count_cons, count_own, if_some, set_else, set_there, total_most, total_set}
 
 -- tickets stay what they are, where each one does that counts for its task

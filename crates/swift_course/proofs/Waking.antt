@@ -1,5 +1,5 @@
 -- A task that goes on has one job, or waits.
-use Rattle.swift_known.specs.Views.{fresh}
+use Rattle.swift_course.specs.Views.{fresh}
 use Rattle.std.proofs.Common.{◌≡◌, ◌≢◌, ℕ, zero, suc, ◌+◌, ◌≤◌, ◌==◌, Bool, true, false, List, [], ◌∷◌, ◌++◌, get_or, set, replicate, map, count_by, if◌then◌else◌, refl, ap, ◌∙◌, arith, inl, inr}
 use Rattle.std.specs.Prelude.{Option, Some, None, is_some}
 use Rattle.std.specs.List.{AllByRecursion}

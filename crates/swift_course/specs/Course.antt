@@ -14,7 +14,7 @@ use Rattle.swift_history.specs.Histories.{AllStand, Block, Standing, after_block
 use Rattle.swift_history.specs.Checks.{is_begun}
 use Rattle.swift_history.specs.Orderly.{AllAllowed, IsOrderly, job_executor}
 use Rattle.swift_history.specs.TurnEnds.{WaitingTaskView}
-use Rattle.swift_known.specs.Views.{Account, BookFacts, Maker, BookKnown, Ticket, TurnOrder, at_rest, under_way, unordered}
+use Rattle.swift_course.specs.Views.{Account, BookFacts, Maker, BookKnown, Ticket, TurnOrder, at_rest, under_way, unordered}
 
 -- the checkpoint of executor `e` in a run that has not begun: the values that its fields start with, and no turn
 abbrev pub start_of : ScriptView → ℕ → CheckpointView

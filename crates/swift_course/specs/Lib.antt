@@ -4,3 +4,5 @@ pub mod Seats
 pub mod Reports
 pub mod Frames
 pub mod Rule
+pub mod Counts
+pub mod Views

@@ -17,7 +17,7 @@ use Rattle.swift_history.specs.Histories.{AllStand, Block, IsLegal, ReportView, 
 use Rattle.swift_history.specs.Orderly.{AllAllowed, IsOrderly, IsOrderlyLegal}
 use Rattle.swift_history.specs.Histories as history
 use Rattle.swift_course.specs.Course.{IsCourse, IsGiven, IsIn, IsOrdered, SaysOrder, standing, starts}
-use Rattle.swift_known.specs.Views.{Account, BookFacts, BookKnown, TurnOrder, at_rest}
+use Rattle.swift_course.specs.Views.{Account, BookFacts, BookKnown, TurnOrder, at_rest}
 
 -- Some history, which folded no turn, led to the book. It has the records of the seat's accounts and gives the jobs of its tickets.
 -- Where the seat opens accounts and adds roots, no executor past those has a record, and the roots were added in order; and where the

@@ -6,9 +6,9 @@ use Rattle.swift_course.specs.Course.{IsCourse}
 use Rattle.swift_course.specs.Reports.{Knows}
 use Rattle.swift_course.specs.Seats.{MayPart, MayTakeIn}
 use Rattle.swift_course.specs.Steps.{MayGive}
-use Rattle.swift_known.specs.Views.{BookKnown}
-use Rattle.swift_known.specs.declared.known.BookImage.{BookImage}
-use Rattle.swift_known.specs.declared.known.Known.{Known}
+use Rattle.swift_course.specs.Views.{BookKnown}
+use Rattle.swift_course.specs.declared.known.BookImage.{BookImage}
+use Rattle.swift_course.specs.declared.known.Known.{Known}
 
 -- what all seats know
 abbrev pub views_of : List Known → List BookKnown

@@ -4,7 +4,7 @@ use mathlib.Core.Option.{some}
 use lib.ListN.{get_elem?}
 use Rattle.swift_script.specs.Scripts.{ScriptView, executor_count}
 use Rattle.swift_course.specs.Course.{IsCourse}
-use Rattle.swift_known.specs.Views.{BookFacts, Maker, BookKnown, at_rest, no_view, first_facts}
+use Rattle.swift_course.specs.Views.{BookFacts, Maker, BookKnown, at_rest, no_view, first_facts}
 
 -- a seat that knows v may be parted
 abbrev pub MayPart : BookKnown → BookKnown → BookKnown → Type 0

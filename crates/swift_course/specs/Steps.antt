@@ -17,7 +17,7 @@ use Rattle.swift_history.specs.Histories.{begun_priority, left_as}
 use Rattle.swift_history.specs.Orderly.{has_last_root, job_executor}
 use Rattle.swift_history.specs.TurnEnds.{JobFacts, TurnEnd, root_events, root_job, task, turn_end}
 use Rattle.swift_course.specs.Course.{IsCourse}
-use Rattle.swift_known.specs.Views.{Account, BookFacts, Maker, BookKnown, Ticket, TurnOrder, at_rest, under_way, unordered, fresh}
+use Rattle.swift_course.specs.Views.{Account, BookFacts, Maker, BookKnown, Ticket, TurnOrder, at_rest, under_way, unordered, fresh}
 
 -- Whatever else is known, a seat that knows v may give back this for what it took, and knows this then.
 abbrev pub MayGive : BookKnown → BookFacts → BookFacts → BookKnown → Type 0

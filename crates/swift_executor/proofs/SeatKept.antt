@@ -26,7 +26,7 @@ use Rattle.swift_ledger.specs.Levels.{AreLevels, HaveStayed, IsLevel}
 use Rattle.swift_history.specs.TurnEnds.{JobFacts}
 use Rattle.swift_history.specs.Jobs.{job_facts}
 use Rattle.swift_history.specs.Orderly.{frames_executor}
-use Rattle.swift_known.specs.Views.{Account, BookKnown, Ticket, TurnOrder, at_rest, fresh}
+use Rattle.swift_course.specs.Views.{Account, BookKnown, Ticket, TurnOrder, at_rest, fresh}
 use Rattle.swift_course.specs.Course.{IsFront}
 use Rattle.swift_course.specs.Frames.{kept_frame}
 use Rattle.swift_course.specs.Steps.{order_applied, order_begun, with_record, with_turn_begun}

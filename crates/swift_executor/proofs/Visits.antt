@@ -11,7 +11,7 @@ use Rattle.swift_inbox.specs.Inbox.{InboxView, TakerView, has_taken}
 use Rattle.swift_job.specs.Job.{JobView}
 use Rattle.swift_history.specs.Jobs.{job_facts}
 use Rattle.swift_turn.specs.Body.{BodyView}
-use Rattle.swift_known.specs.Views.{BookFacts, BookKnown, TurnOrder, at_rest, under_way}
+use Rattle.swift_course.specs.Views.{BookFacts, BookKnown, TurnOrder, at_rest, under_way}
 use Rattle.swift_course.specs.Reports.{Knows}
 use Rattle.swift_course.specs.Steps.{order_begun}
 use Rattle.swift_executor.specs.Exec.{IsAt, chosen_task, site_of}

@@ -23,7 +23,7 @@ use Rattle.swift_executor.specs.declared.chosen.ChosenStage.{ChosenStage}
 use Rattle.swift_executor.specs.declared.chosen.ChosenStage.TheVariants as stage
 use Rattle.swift_interpreter.specs.Turn.{EffectView, ExitView}
 use Rattle.swift_history.specs.TurnEnds.{JobFacts}
-use Rattle.swift_known.specs.Views.{BookKnown}
+use Rattle.swift_course.specs.Views.{BookKnown}
 use Rattle.swift_script.specs.Scripts.{ScriptView, method_count, root_count}
 use Rattle.swift_shared_book.specs.Shared.{BeginsTicket}
 use Rattle.swift_tasks.specs.Books.{BookView, IsEndOf}

@@ -12,7 +12,7 @@ use Rattle.swift_journal.specs.Replay.{replay}
 use Rattle.swift_history.specs.TurnEnds.{JobFacts}
 use Rattle.swift_history.specs.Jobs.{job_facts}
 use Rattle.swift_course.specs.Course.{IsFront}
-use Rattle.swift_known.specs.Views.{BookKnown, Ticket, TurnOrder, at_rest}
+use Rattle.swift_course.specs.Views.{BookKnown, Ticket, TurnOrder, at_rest}
 use Rattle.swift_shared_book.specs.Shared.{BookSeatView}
 use Rattle.swift_executor.specs.Account.{ready_jobs}
 use Rattle.swift_executor.specs.Ready.{HaveCounted, ReadyJobsView}

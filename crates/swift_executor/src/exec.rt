@@ -5,7 +5,7 @@ ghost use Rattle.std.specs.Arc.{arc_value};
 ghost use Rattle.swift_inbox.specs.Site.{CanRunAt};
 ghost use Rattle.swift_executor.specs.Exec.{FoundRunning, IsDeskOf, IsLeft, first_desk, has_found, has_sent, site_of};
 ghost use Rattle.swift_executor.specs.Seats.{IsOpened, KeepsOrder};
-ghost use Rattle.swift_known.specs.Views.{at_rest};
+ghost use Rattle.swift_course.specs.Views.{at_rest};
 ghost use Rattle.swift_executor.specs.State.{new_executor};
 ghost use Rattle.swift_word.specs.Seat.{newest};
 

@@ -3,7 +3,7 @@
 ghost use Rattle.std.specs.Prelude.{◌≡◌, None};
 ghost use Rattle.swift_executor.specs.Exec.{IsOf};
 ghost use Rattle.swift_executor.specs.Seats.{KeepsOrder};
-ghost use Rattle.swift_known.specs.Views.{at_rest};
+ghost use Rattle.swift_course.specs.Views.{at_rest};
 
 use crate::state::ExecState;
 use crate::state_name::StateName;
@@ -34,7 +34,7 @@ impl Model for Resting {
     ghost use Rattle.swift_script.specs.Codes.{expression_code, statement_code, block_code};
     ghost use Rattle.swift_executor.specs.Exec.{IsOf, RestingView};
     ghost use Rattle.swift_executor.specs.Seats.{KeepsOrder};
-    ghost use Rattle.swift_known.specs.Views.{at_rest};
+    ghost use Rattle.swift_course.specs.Views.{at_rest};
 
     ghost Value = { RestingView };
 

@@ -13,7 +13,7 @@ ghost use Rattle.swift_executor.specs.Account.{HasTaken};
 ghost use Rattle.swift_executor.specs.Exec.{HasFound, HasLeft, HasTried, IfNoTurn, IfTurn, IsMadeBy, chosen_task, IsAt, IsBookOf, IsDeskOf, IsRunFault, IsSeatAt, after_run, has_found, may_run, seat_after, site_of};
 ghost use Rattle.swift_executor.specs.Ready.{HaveCounted};
 ghost use Rattle.swift_executor.specs.Seats.{HaveSeen, IsSeatFor, KeepsOrder, orders_of, seen_by};
-ghost use Rattle.swift_known.specs.Views.{at_rest, under_way};
+ghost use Rattle.swift_course.specs.Views.{at_rest, under_way};
 ghost use Rattle.swift_shared_book.specs.Shared.{BookSeatView, IsAsTaken, IsSeatOf, seat_of};
 ghost use Rattle.swift_word.specs.Seat.{ended, last_found, left};
 ghost use Rattle.swift_executor.specs.State.{Chooses, HasChosen, HasNone, IsBegun, IsPicked, IsPlayed, LacksTask};

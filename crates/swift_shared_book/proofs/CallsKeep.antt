@@ -25,7 +25,7 @@ use Rattle.swift_history.specs.Jobs.{job_facts}
 use Rattle.swift_tasks.specs.Refusals.{fits_begun, refused_unless}
 use Rattle.swift_course.specs.Frames.{kept_frame}
 use Rattle.swift_course.specs.Steps.{IsTurn, MayGive, end_of, knowing_begin, knowing_turn, with_begin, with_turn}
-use Rattle.swift_known.specs.Views.{Account, BookFacts, Ticket, fresh}
+use Rattle.swift_course.specs.Views.{Account, BookFacts, Ticket, fresh}
 use Rattle.swift_course.proofs.Applied.{turn_applied_is}
 use Rattle.swift_course.proofs.Begins.{turn_begun}
 use Rattle.swift_course.proofs.Frames.{frames_go_on}

@@ -18,9 +18,9 @@ use Rattle.swift_lock.specs.Seat.{MayUnlock}
 use Rattle.swift_tasks.specs.Books.{BookView, IsEndOf, empty_book, end_of_turn}
 use Rattle.swift_history.specs.Jobs.{job_facts}
 use Rattle.swift_tasks.specs.Refusals.{refusal_of_apply, refusal_of_begin, refusal_of_root}
-use Rattle.swift_known.specs.Views.{Account, BookFacts, Maker, BookKnown, Ticket, fresh}
-use Rattle.swift_known.specs.declared.known.BookImage.{BookImage}
-use Rattle.swift_known.specs.declared.known.Known.{Known}
+use Rattle.swift_course.specs.Views.{Account, BookFacts, Maker, BookKnown, Ticket, fresh}
+use Rattle.swift_course.specs.declared.known.BookImage.{BookImage}
+use Rattle.swift_course.specs.declared.known.Known.{Known}
 use Rattle.swift_course.specs.Course.{IsCourse}
 use Rattle.swift_course.specs.Rule.{HoldsOf}
 use Rattle.swift_course.specs.Seats.{first_view, gathered, some_parted}

@@ -8,8 +8,8 @@ use Rattle.swift_turn.specs.Body.{BodyView}
 use Rattle.swift_job.specs.Job.{JobView}
 use Rattle.swift_journal.specs.Records.{RecordView}
 use Rattle.swift_history.specs.Jobs.{job_facts}
-use Rattle.swift_known.specs.Views.{Account, BookKnown, Ticket, fresh}
-use Rattle.swift_known.specs.declared.known.Known.{Known}
+use Rattle.swift_course.specs.Views.{Account, BookKnown, Ticket, fresh}
+use Rattle.swift_course.specs.declared.known.Known.{Known}
 use Rattle.swift_course.specs.Seats.{gathered, some_left, some_parted}
 use Rattle.swift_shared_book.specs.Shared.{BookLockView, BookSeatView, after_turn, is_there, seat_of, tickets_view, view_in, with_ticket}
 use Rattle.swift_shared_book.specs.SharedInside.{HasTicketsOf, IsOneAtMost, oldest_first}

@@ -18,7 +18,7 @@ use Rattle.swift_course.specs.Course.{IsCourse}
 use Rattle.swift_course.specs.Frames.{kept_frame}
 use Rattle.swift_course.specs.Seats.{first_view}
 use Rattle.swift_course.specs.Steps.{MayGive, end_of, knowing_begin, knowing_turn}
-use Rattle.swift_known.specs.Views.{Account, BookFacts, Maker, BookKnown, Ticket, fresh}
+use Rattle.swift_course.specs.Views.{Account, BookFacts, Maker, BookKnown, Ticket, fresh}
 
 -- what the lock of a book keeps of it
 abbrev pub facts_of : BookView → BookFacts

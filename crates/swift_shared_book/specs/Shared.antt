@@ -9,9 +9,9 @@ use Rattle.swift_events.specs.declared.event.Event.{Event}
 use Rattle.swift_history.specs.Orderly.{job_executor}
 use Rattle.swift_history.specs.TurnEnds.{JobFacts}
 use Rattle.swift_journal.specs.Records.{RecordView}
-use Rattle.swift_known.specs.Views.{Account, BookFacts, BookKnown, Ticket, fresh, no_view}
-use Rattle.swift_known.specs.declared.known.BookImage.{BookImage}
-use Rattle.swift_known.specs.declared.known.Known.{Known}
+use Rattle.swift_course.specs.Views.{Account, BookFacts, BookKnown, Ticket, fresh, no_view}
+use Rattle.swift_course.specs.declared.known.BookImage.{BookImage}
+use Rattle.swift_course.specs.declared.known.Known.{Known}
 use Rattle.swift_course.specs.Steps.{knowing_begin, with_record}
 use Rattle.swift_shared_book.specs.Calls.{IsPlayed, facts_of}
 use Rattle.swift_tasks.specs.Books.{BookView}

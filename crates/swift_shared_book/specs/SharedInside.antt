@@ -3,7 +3,7 @@ use Rattle.std.specs.Prelude.{◌≡◌, Bool, true, Option, List, [], ◌∷◌
 use Rattle.swift_job.specs.Job.{JobView}
 use Rattle.swift_script.specs.Scripts.{ScriptView}
 use Rattle.swift_turn.specs.Body.{BodyView}
-use Rattle.swift_known.specs.declared.known.Known.{Known}
+use Rattle.swift_course.specs.declared.known.Known.{Known}
 use Rattle.swift_shared_book.specs.Shared.{BookSeatView, tickets_view}
 
 -- a badge of one seat, or of none

@@ -2,7 +2,7 @@
 use Rattle.std.specs.Prelude.{◌≡◌, ◌+◌, Option, Some, None, IfSome, List, ◌∷◌, ◌++◌, map}
 use Rattle.swift_journal.specs.Records.{RecordView}
 use Rattle.swift_history.specs.TurnEnds.{JobFacts, root_job}
-use Rattle.swift_known.specs.Views.{BookFacts, BookKnown, fresh}
+use Rattle.swift_course.specs.Views.{BookFacts, BookKnown, fresh}
 use Rattle.swift_course.specs.Steps.{MayGive}
 use Rattle.swift_shared_book.specs.Shared.{after_turn}
 

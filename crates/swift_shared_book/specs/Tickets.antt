@@ -6,8 +6,8 @@ use Rattle.swift_turn.specs.Body.{BodyView}
 use Rattle.swift_history.specs.TurnEnds.{JobFacts}
 use Rattle.swift_script.specs.Scripts.{ScriptView}
 use Rattle.swift_lock.specs.Seat.{BadgeView}
-use Rattle.swift_known.specs.Views.{BookKnown, fresh}
-use Rattle.swift_known.specs.declared.known.Known.{Known}
+use Rattle.swift_course.specs.Views.{BookKnown, fresh}
+use Rattle.swift_course.specs.declared.known.Known.{Known}
 use Rattle.swift_history.specs.Jobs.{job_facts}
 
 -- what a seat knows that has the ticket of this job alone

@@ -11,7 +11,7 @@ ghost use Rattle.swift_events.specs.Room.{IsEnv};
 ghost use Rattle.swift_journal.specs.Records.{RecordView};
 ghost use Rattle.swift_history.specs.Orderly.{has_last_root};
 ghost use Rattle.swift_history.specs.TurnEnds.{root_job};
-ghost use Rattle.swift_known.specs.Views.{Maker};
+ghost use Rattle.swift_course.specs.Views.{Maker};
 ghost use Rattle.swift_tasks.specs.Books.{BookView, IsEndOf, IsJobOf};
 ghost use Rattle.swift_history.specs.Jobs.{job_facts};
 ghost use Rattle.swift_tasks.specs.Refusals.{IsRefusal, refusal_of_apply, refusal_of_begin, refusal_of_root};

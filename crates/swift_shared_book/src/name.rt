@@ -5,7 +5,7 @@ ghost use Rattle.swift_shared_book.specs.Tickets.{book_of};
 
 use std::marker::Model;
 use std::snapshot::Snapshot;
-use swift_known::known::{BookImage, Known};
+use swift_course::known::{BookImage, Known};
 use swift_lock::Badge;
 
 /// Which book it is, by its lock, or none. It has no bytes: contracts alone see it.

@@ -2,7 +2,7 @@
 
 use crate::shelf::Shelf;
 use std::marker::Model;
-use swift_known::known::Known;
+use swift_course::known::Known;
 use swift_lock::LockSeat;
 use swift_tasks::Book;
 

@@ -4,7 +4,7 @@ ghost use Rattle.std.specs.Prelude.{◌≡◌, ℕ, Option, Some, None, IfSome};
 ghost use Rattle.swift_types.specs.declared.env.Env.{Env};
 ghost use Rattle.swift_history.specs.Orderly.{has_last_root};
 ghost use Rattle.swift_history.specs.TurnEnds.{JobFacts};
-ghost use Rattle.swift_known.specs.Views.{BookKnown, no_view};
+ghost use Rattle.swift_course.specs.Views.{BookKnown, no_view};
 ghost use Rattle.swift_course.specs.Reports.{Knows};
 ghost use Rattle.swift_course.specs.Rule.{HoldsOf};
 ghost use Rattle.swift_course.specs.Seats.{account_parted, first_view, gathered, maker_left, some_left, some_parted};
@@ -12,7 +12,7 @@ ghost use Rattle.swift_shared_book.specs.Shared.{BeginsTicket};
 ghost use Rattle.swift_shared_book.specs.StepsInside.{KnowsRoot};
 
 use std::marker::{Brand, PhantomData};
-use swift_known::known::{BookImage, Known};
+use swift_course::known::{BookImage, Known};
 use swift_lock::{Join, Lesson, LockRule, Split, UnlockOutcome};
 
 /// The rule: some history of the script led to the book, and what each seat knows of it is true.

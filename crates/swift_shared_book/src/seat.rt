@@ -1,13 +1,13 @@
 //! A thread's right to take the book.
 
 ghost use Rattle.std.specs.Prelude.{◌≡◌, true, false, None, Some, [], ◌∷◌};
-ghost use Rattle.swift_known.specs.declared.known.Known.{Known as KnownIs};
+ghost use Rattle.swift_course.specs.declared.known.Known.{Known as KnownIs};
 ghost use Rattle.swift_shared_book.specs.Shared.{BookSeatView};
 
 use crate::BookName;
 use crate::shelf::Shelf;
 use std::marker::Model;
-use swift_known::known::{BookImage, Known};
+use swift_course::known::{BookImage, Known};
 use swift_lock::{Badge, LockSeat};
 
 /// A thread's right to take the book of one run, and what it knows of the run: the turns of its executors, the tickets of jobs that it

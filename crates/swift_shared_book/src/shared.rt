@@ -4,7 +4,7 @@ ghost use Rattle.std.specs.Prelude.{◌≡◌, ℕ, ◌<◌, true, Some, [], IfO
 ghost use Rattle.swift_script.specs.Scripts.{executor_count};
 ghost use Rattle.swift_tasks.specs.Books.{empty_book};
 ghost use Rattle.swift_history.specs.Jobs.{job_facts};
-ghost use Rattle.swift_known.specs.Views.{Maker};
+ghost use Rattle.swift_course.specs.Views.{Maker};
 ghost use Rattle.swift_course.specs.Reports.{Knows};
 ghost use Rattle.swift_course.specs.Seats.{account_parted, first_view, gathered, maker_left, some_left, some_parted};
 ghost use Rattle.swift_shared_book.specs.Calls.{facts_of};
@@ -19,8 +19,8 @@ use crate::shelf::Shelf;
 use std::alloc::{AllocError, Global};
 use std::marker::{Brand, Model};
 use std::sync::Wait;
+use swift_course::known::Known;
 use swift_job::Job;
-use swift_known::known::Known;
 use swift_lock::Lock;
 use swift_tasks::Book;
 use swift_turn::Body;

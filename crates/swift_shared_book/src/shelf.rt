@@ -3,8 +3,8 @@
 ghost use Rattle.std.specs.Prelude.{◌≡◌};
 
 use std::marker::Model;
+use swift_course::known::BookImage;
 use swift_job::spend_all;
-use swift_known::known::BookImage;
 use swift_lock::Locked;
 use swift_tasks::Book;
 

@@ -1,14 +1,14 @@
 //! A job with its ticket.
 
 ghost use Rattle.std.specs.Prelude.{◌≡◌, Option, Some, None, IsSome, [], ◌∷◌};
-ghost use Rattle.swift_known.specs.declared.known.Known.{Known as KnownIs};
+ghost use Rattle.swift_course.specs.declared.known.Known.{Known as KnownIs};
 ghost use Rattle.swift_script.specs.Scripts.{ScriptView};
 ghost use Rattle.swift_shared_book.specs.Tickets.{IsTicketOf, ticket_view};
 ghost use Rattle.swift_history.specs.Jobs.{job_facts};
 
 use std::marker::Model;
+use swift_course::known::{BookImage, Known};
 use swift_job::Job;
-use swift_known::known::{BookImage, Known};
 use swift_lock::Badge;
 use swift_turn::Body;
 

@@ -10,7 +10,7 @@ use Rattle.swift_journal.specs.Records.{RecordView}
 use Rattle.swift_journal.specs.Replay.{replay}
 use Rattle.swift_inbox.specs.Site.{SiteView}
 use Rattle.atomic_table.specs.Seated.{TableId}
-use Rattle.swift_known.specs.Views.{Account, BookKnown, TurnOrder, at_rest}
+use Rattle.swift_course.specs.Views.{Account, BookKnown, TurnOrder, at_rest}
 use Rattle.swift_course.specs.Reports.{AreAtRest, IsAccountedFor}
 use Rattle.swift_course.specs.Seats.{gathered}
 use Rattle.swift_executor.specs.Exec.{site_of}

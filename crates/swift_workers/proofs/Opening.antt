@@ -2,7 +2,7 @@
 use Rattle.std.proofs.Common.{◌≡◌, ℕ, ◌+◌, Option, Some, None, [], ◌∷◌, sym, subst, ap, ◌∙◌}
 use Rattle.std.specs.Prelude.{IfSome}
 use Rattle.swift_script.specs.Scripts.{ScriptView}
-use Rattle.swift_known.specs.Views.{Maker, BookKnown, at_rest}
+use Rattle.swift_course.specs.Views.{Maker, BookKnown, at_rest}
 use Rattle.swift_course.specs.Seats.{account_parted, maker_left}
 use Rattle.swift_shared_book.specs.Shared.{BookLockView, BookSeatView, IsSeatOf, knowing, seat_of}
 use Rattle.swift_executor.specs.Seats.{IsOpened}

@@ -13,7 +13,7 @@ use Rattle.swift_events.specs.declared.event.Event.{Event}
 use Rattle.swift_events.specs.declared.life.Origin.{Origin}
 use Rattle.swift_history.specs.Histories.{IsLegal}
 use Rattle.swift_history.specs.Orderly.{IsOrderlyLegal}
-use Rattle.swift_known.specs.Views.{BookFacts, BookKnown}
+use Rattle.swift_course.specs.Views.{BookFacts, BookKnown}
 use Rattle.swift_course.specs.Reports.{AreAtRest, IsAccountedFor, IsReportOf, Knows, RunsAreLegal, RunsAreOrderly}
 use Rattle.swift_report.specs.declared.report.Report.{Report}
 use Rattle.swift_certificate.specs.Reports.{report_view}

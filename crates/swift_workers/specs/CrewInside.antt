@@ -1,7 +1,7 @@
 -- The executors of a script, and the desks of each worker.
 use Rattle.std.specs.Prelude.{◌≡◌, ℕ, ◌-◌, List, [], Some, length, slice_get}
 use Rattle.std.specs.List.{AllByRecursion}
-use Rattle.swift_known.specs.Views.{BookKnown}
+use Rattle.swift_course.specs.Views.{BookKnown}
 use Rattle.swift_executor.specs.Exec.{ExecView, DeskView, IsDeskOf}
 use Rattle.swift_shared_book.specs.Shared.{BookLockView}
 use Rattle.swift_workers.specs.declared.crew.Hand.{Hand}

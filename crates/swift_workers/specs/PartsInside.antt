@@ -6,7 +6,7 @@ use Rattle.script_code.specs.Seen.{rows_of}
 use Rattle.swift_script.specs.Scripts.{ScriptView}
 use Rattle.swift_journal.specs.Checkpoints.{CheckpointRoomView}
 use Rattle.swift_journal.specs.Records.{RecordView}
-use Rattle.swift_known.specs.Views.{BookKnown}
+use Rattle.swift_course.specs.Views.{BookKnown}
 use Rattle.swift_course.specs.Reports.{AreAtRest, IsAccountedFor}
 use Rattle.swift_workers.specs.declared.leave.Parts.{Parts}
 use Rattle.swift_workers.specs.Leaves.{AreReplayed, KeepInvariants}

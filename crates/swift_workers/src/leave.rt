@@ -8,7 +8,7 @@ ghost use Rattle.swift_history.specs.Orderly.{IsOrderlyLegal};
 ghost use Rattle.swift_certificate.specs.Reports.{report_view};
 ghost use Rattle.swift_executor.specs.Exec.{IsDeskOf, site_of};
 ghost use Rattle.swift_executor.specs.Seats.{IsSeatFor, orders_of};
-ghost use Rattle.swift_known.specs.Views.{at_rest};
+ghost use Rattle.swift_course.specs.Views.{at_rest};
 ghost use Rattle.swift_shared_book.specs.Shared.{IsSeatOf};
 ghost use Rattle.swift_workers.specs.CrewInside.{AreAtSites, AreDesksOf};
 ghost use Rattle.swift_workers.specs.Leaves.{AreEndings, AreReplayed, IsEnding, KeepInvariants};

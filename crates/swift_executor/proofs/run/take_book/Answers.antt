@@ -1,6 +1,6 @@
 use Rattle.std.proofs.Common.{ap, sym, subst, ◌∙◌}
 use Rattle.swift_executor.specs.Seats.{HaveSeen, IsSeatFor}
-use Rattle.swift_known.specs.Views.{BookKnown}
+use Rattle.swift_course.specs.Views.{BookKnown}
 use Rattle.swift_shared_book.specs.Shared.{OpenSeatView, seat_of}
 use Rattle.swift_executor.proofs.Visits.{same_seat, seen_of}
 use Rattle.swift_executor.proofs.run.take_book.Goals as goal

@@ -4,7 +4,7 @@ use Rattle.swift_types.specs.declared.outcome.Ending.{Ending}
 use Rattle.swift_script.specs.Scripts.{ScriptView, executor_count, root_count}
 use Rattle.swift_events.specs.declared.event.Event.{Event}
 use Rattle.swift_events.specs.declared.life.Origin.{Origin}
-use Rattle.swift_known.specs.Views.{Maker}
+use Rattle.swift_course.specs.Views.{Maker}
 use Rattle.swift_shared_book.specs.Calls.{facts_of}
 use Rattle.swift_workers.specs.declared.fault.Halt.{Halt}
 use Rattle.swift_workers.specs.Leaves.{AreEndings}

@@ -2,7 +2,7 @@ use Rattle.std.proofs.Common.{◌≡◌, List, map, Some, Option, IfSome, ◌++�
 use Rattle.std.proofs.lemmas.Option.{same_Some}
 use Rattle.swift_events.specs.declared.event.Event.TheVariants.{Begin as Begins_event}
 use Rattle.swift_tasks.specs.Books.{BookView}
-use Rattle.swift_known.specs.Views.{Account, BookKnown}
+use Rattle.swift_course.specs.Views.{Account, BookKnown}
 use Rattle.swift_script.specs.Scripts.{ScriptView}
 use Rattle.swift_course.specs.Steps.{with_turn_begun}
 use Rattle.swift_history.specs.Jobs.{job_facts}

@@ -1,7 +1,7 @@
 use Rattle.std.proofs.Common.{◌≡◌, Option, Some, List, [], ◌∷◌, ◌++◌, IfSome, sym, ap, ◌∙◌, subst}
 use Rattle.swift_turn.specs.Body.{BodyView}
 use Rattle.swift_job.specs.Job.{JobView}
-use Rattle.swift_known.specs.Views.{BookFacts}
+use Rattle.swift_course.specs.Views.{BookFacts}
 use Rattle.swift_tasks.specs.Books.{BookView}
 use Rattle.swift_shared_book.specs.Calls.{facts_of}
 use Rattle.swift_shared_book.specs.Shared.{BookSeatView, OpenSeatView, tickets_view}

@@ -4,7 +4,7 @@ use Rattle.swift_interpreter.specs.Frames.{effect_views}
 use Rattle.swift_interpreter.specs.TurnStates.{exit_view}
 use Rattle.swift_turn.specs.Body.{BodyView}
 use Rattle.swift_job.specs.Job.{JobView}
-use Rattle.swift_known.specs.Views.{BookKnown}
+use Rattle.swift_course.specs.Views.{BookKnown}
 use Rattle.swift_course.specs.Seats.{gathered}
 use Rattle.swift_tasks.specs.Books.{BookView}
 use Rattle.swift_history.specs.Jobs.{job_facts}

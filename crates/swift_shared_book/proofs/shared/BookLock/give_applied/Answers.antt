@@ -1,5 +1,5 @@
 use Rattle.std.proofs.Common.{◌≡◌, sym, subst}
-use Rattle.swift_known.specs.Views.{BookKnown}
+use Rattle.swift_course.specs.Views.{BookKnown}
 use Rattle.swift_shared_book.specs.Calls.{facts_of}
 use Rattle.swift_shared_book.specs.StepsInside.{MayGiveBack}
 use Rattle.swift_shared_book.specs.declared.opened.OpenBook.{OpenBook}

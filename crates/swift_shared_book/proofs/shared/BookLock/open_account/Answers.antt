@@ -1,8 +1,8 @@
 use Rattle.std.proofs.Common.{◌≡◌, sym, ap, subst}
 use Rattle.swift_lock.specs.Seat.{LockSeatView}
-use Rattle.swift_known.specs.Views.{BookKnown}
-use Rattle.swift_known.specs.declared.known.BookImage.{BookImage}
-use Rattle.swift_known.specs.declared.known.Known.{Known}
+use Rattle.swift_course.specs.Views.{BookKnown}
+use Rattle.swift_course.specs.declared.known.BookImage.{BookImage}
+use Rattle.swift_course.specs.declared.known.Known.{Known}
 use Rattle.swift_course.specs.Seats.{MayPart, account_parted, maker_left}
 use Rattle.swift_course.proofs.Parts.{account_opens}
 use Rattle.swift_course.proofs.Rule.{parts}

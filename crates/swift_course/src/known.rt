@@ -2,7 +2,7 @@
 
 ghost use Rattle.std.specs.Coded.{codes};
 ghost use Rattle.swift_script.specs.Codes.{expression_code, statement_code, block_code};
-ghost use Rattle.swift_known.specs.Views.{BookFacts, BookKnown};
+ghost use Rattle.swift_course.specs.Views.{BookFacts, BookKnown};
 
 use std::marker::Model;
 
