@@ -3,13 +3,10 @@ use Rattle.std.proofs.Common.{◌≡◌, ◌⊎◌, ◌<◌, ℕ, Bool, true, fa
 use Rattle.std.specs.Prelude.{if◌then◌else◌, Some, slice_get, Contains}
 use Rattle.std.specs.declared.alloc.Global.{Global}
 use Rattle.std.specs.Arc.{arc_value}
+use Rattle.std.specs.List.{list_any}
 use Rattle.std.specs.Str.{bytes_eq}
 use Rattle.std.proofs.lemmas.Bool.{false≢true}
 use Rattle.std.proofs.lemmas.List.{length_push}
-use Rattle.std.proofs.lemmas.List.Elements.{Contains-push_cases}
-use Rattle.std.proofs.lemmas.List.Folds.{Any-from_list_any}
-use Rattle.std.proofs.lemmas.Slice.Eq.{bytes_eq-Decides}
-use Rattle.script_names.specs.Texts.{is_among, with_name}
 use Rattle.swift_script.specs.Scripts.{ScriptView}
 use Rattle.swift_explorer.specs.declared.moves.Move.{Move}
 use Rattle.swift_explorer.specs.declared.history.SearchedHistory.{SearchedHistory}
@@ -20,25 +17,15 @@ use Rattle.swift_explorer.specs.KeysInside.{IsKeyOf}
 use Rattle.swift_explorer.specs.SearchInside.{GoOn, HasGrown, IsKept, IsSound, Keeps, LeadsTo, MayGoOn, path_after, paths_of}
 use Rattle.swift_explorer.proofs.Alike.{alike_keys}
 use Rattle.swift_explorer.proofs.Growing.{grown_left, grown_none, kept_grown, sound_left}
+use Rattle.swift_explorer.proofs.KeySets.{among_there}
 use Rattle.swift_explorer.proofs.Nodes.{on_push, path_here, paths_grow}
-
--- keys that are there, and one more
-
-pub among_there : (keys : List (List ℕ)) (key : List ℕ) → is_among keys key ≡ true → Contains keys key
-among_there keys key is =
-    let one = Any-from_list_any (bytes_eq key) keys is in
-    subst (Contains keys) (sym ((bytes_eq-Decides key one.1).0 one.4)) (one.0, one.2, one.3)
-
-pub name_cases : (keys : List (List ℕ)) (key k : List ℕ) → is_among keys key ≡ false → Contains (with_name keys key) k → Contains keys k ⊎ (key ≡ k)
-name_cases keys key k new has =
-    Contains-push_cases keys key k (subst (λ (b : Bool). Contains (if b then keys else keys ++ key ∷ []) k) new has)
 
 -- what is followed leads to its blocks
 pub path_leads : (script : ScriptView) (path : List Move) (x : SearchedHistory) (p : IsPath script path x) → LeadsTo script path p.blocks
 path_leads script path x p = record { steps = p.steps; stand = p.is.led.stand; orderly = p.is.orderly }
 
 -- one that goes on alike was kept before
-pub keeps_known : (x : Search) (history : SearchedHistory) (key : List ℕ) → IsSound (arc_value x.script) x → IsKeyOf history key → is_among x.keys key ≡ true → Keeps x x history
+pub keeps_known : (x : Search) (history : SearchedHistory) (key : List ℕ) → IsSound (arc_value x.script) x → IsKeyOf history key → list_any (bytes_eq key) x.keys ≡ true → Keeps x x history
 keeps_known x history key sound keyed is = record {
   grown = grown_none x;
   sound = sound;
@@ -61,7 +48,7 @@ keeps_none x history sound = record { grown = grown_left x; sound = sound_left (
 -- it is kept
 module _ (x : Search) (history : SearchedHistory) (key : List ℕ) (n : Node) (nodes : Vec Node Global) (keys : List (List ℕ)) (sound : IsSound (arc_value x.script) x) (keyed : IsKeyOf history key)
     (may : MayGoOn (paths_of x.nodes.items) n.before) (p : IsPath (arc_value x.script) (path_after (paths_of x.nodes.items) n.before n.step) history)
-    (nodes_are : nodes.items ≡ x.nodes.items ++ n ∷ []) (keys_are : keys ≡ with_name x.keys key) (new : is_among x.keys key ≡ false) (room : length x.nodes.items < x.limit) where
+    (nodes_are : nodes.items ≡ x.nodes.items ++ n ∷ []) (keys_are : (k : List ℕ) → Contains keys k → Contains x.keys k ⊎ (key ≡ k)) (room : length x.nodes.items < x.limit) where
   abbrev script : ScriptView
   script = arc_value x.script
 
@@ -88,7 +75,7 @@ module _ (x : Search) (history : SearchedHistory) (key : List ℕ) (n : Node) (n
   leads = path_leads script path history p
 
   key_kept : (k : List ℕ) → Contains keys k → IsKept script (paths_of y.nodes.items) k
-  key_kept k has = elim (name_cases x.keys key k new (subst (λ (ks : List (List ℕ)). Contains ks k) keys_are has)) [
+  key_kept k has = elim (keys_are k has) [
     | inl old ↦ kept_grown script x y k grown (sound.keys k old)
     | inr same ↦ subst (IsKept script (paths_of y.nodes.items)) same (record { place = length x.nodes.items; path = path; there = here; blocks = p.blocks; leads = leads; keyed = (history, p.is, keyed) })
   ]

@@ -15,6 +15,7 @@ mod Written
 mod Alike
 mod Nodes
 mod Growing
+mod KeySets
 mod Keeping
 mod Trying
 mod Noting

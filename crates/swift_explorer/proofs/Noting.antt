@@ -1,10 +1,11 @@
 -- An outcome or a broken turn is noted.
-use Rattle.std.proofs.Common.{◌≡◌, ℕ, true, false, List, [], ◌∷◌, ◌++◌, Vec, refl, sym, subst, ap, ◌∙◌, inl, inr}
+use Rattle.std.proofs.Common.{◌≡◌, ◌⊎◌, ℕ, true, false, List, [], ◌∷◌, ◌++◌, Vec, refl, sym, subst, ap, ◌∙◌, inl, inr}
 use Rattle.std.specs.Prelude.{All, Err, IfSome, None, Ok, OnOk, Option, Result, is_some, Contains}
+use Rattle.std.specs.List.{list_any}
+use Rattle.std.specs.Str.{bytes_eq}
 use Rattle.std.specs.declared.alloc.Global.{Global}
 use Rattle.std.proofs.lemmas.Bool.{false≢true}
 use Rattle.std.proofs.lemmas.List.Elements.{Contains-append_left, Contains-push}
-use Rattle.script_names.specs.Texts.{is_among, with_name}
 use Rattle.swift_script.specs.Scripts.{ScriptView}
 use Rattle.swift_history.specs.Histories.{ReportView}
 use Rattle.swift_explorer.specs.declared.moves.Move.{Move}
@@ -14,10 +15,10 @@ use Rattle.swift_explorer.specs.Outcomes.{IsBrokenAfter, IsOutcomeOf, Tells}
 use Rattle.swift_explorer.specs.KeysInside.{outcome_bytes}
 use Rattle.swift_explorer.specs.SearchInside.{HasGrown, IsNoted, IsSound}
 use Rattle.swift_explorer.proofs.Alike.{outcome_read}
-use Rattle.swift_explorer.proofs.Keeping.{among_there, name_cases}
+use Rattle.swift_explorer.proofs.KeySets.{among_there}
 
 -- what one outcome tells of, another one of the same key does
-pub known_tells : (os : List RunOutcome) (ends : List (List ℕ)) (key : List ℕ) (outcome : RunOutcome) → ((k : List ℕ) → Contains ends k → IsNoted os k) → key ≡ outcome_bytes outcome → is_among ends key ≡ true
+pub known_tells : (os : List RunOutcome) (ends : List (List ℕ)) (key : List ℕ) (outcome : RunOutcome) → ((k : List ℕ) → Contains ends k → IsNoted os k) → key ≡ outcome_bytes outcome → list_any (bytes_eq key) ends ≡ true
     → (report : ReportView) → Tells outcome report → (o : RunOutcome) × Contains os o × Tells o report
 known_tells os ends key outcome noted keyed is report tells =
     let one = noted key (among_there ends key is) in
@@ -33,9 +34,9 @@ module _ (os ps : List RunOutcome) (outcome : RunOutcome) (more : ps ≡ os ++ o
   pub is_there : Contains ps outcome
   is_there = subst (λ (l : List RunOutcome). Contains l outcome) (sym more) (Contains-push os outcome)
 
-  pub new_noted : (ends keys : List (List ℕ)) (key : List ℕ) → ((k : List ℕ) → Contains ends k → IsNoted os k) → keys ≡ with_name ends key → is_among ends key ≡ false → key ≡ outcome_bytes outcome
+  pub new_noted : (ends keys : List (List ℕ)) (key : List ℕ) → ((k : List ℕ) → Contains ends k → IsNoted os k) → ((k : List ℕ) → Contains keys k → Contains ends k ⊎ (key ≡ k)) → key ≡ outcome_bytes outcome
       → (k : List ℕ) → Contains keys k → IsNoted ps k
-  new_noted ends keys key noted keys_are new keyed k has = elim (name_cases ends key k new (subst (λ (ks : List (List ℕ)). Contains ks k) keys_are has)) [
+  new_noted ends keys key noted keys_are keyed k has = elim (keys_are k has) [
     | inl old ↦ let one = noted k old in (one.0, stays one.0 one.1, one.2)
     | inr same ↦ (outcome, is_there, sym keyed ∙ same)
   ]

@@ -7,6 +7,8 @@ mod exploration;
 mod frames;
 // One history, followed from its beginning.
 mod history;
+// Keys that are known.
+mod key_set;
 // What decides how a history may go on, as numbers.
 mod keys;
 // Steps of a history.

@@ -12,10 +12,10 @@ ghost use Rattle.swift_explorer.specs.SearchInside.{GoOn, HasGoneOn, HasGrown, I
 ghost use Rattle.swift_explorer.specs.Numbers.{list_numbers};
 
 use crate::history::{Followed, SearchedHistory};
+use crate::key_set::KeySet;
 use crate::keys::{pack, put_ending, put_fields, put_origin};
 use crate::moves::Move;
 use crate::outcome::{End, RunOutcome};
-use script_names::{Names, Seed};
 use std::alloc::{AllocError, Global};
 use std::sync::Arc;
 use swift_events::Origin;
@@ -37,10 +37,10 @@ pub(crate) struct Search {
     pub(crate) limit: usize,
     pub(crate) nodes: Vec<Node>,
     // A key for each node.
-    pub(crate) keys: Names,
+    pub(crate) keys: KeySet,
     pub(crate) outcomes: Vec<RunOutcome>,
     // A key for each outcome.
-    pub(crate) ends: Names,
+    pub(crate) ends: KeySet,
     pub(crate) broken: Option<Vec<Move>>,
     // Whether no history was left out, and each step after those that it has gone on from was tried.
     pub(crate) is_complete: bool,
@@ -170,9 +170,9 @@ impl Search {
             script: Arc::clone(script)?,
             limit,
             nodes: Vec::new(alloc),
-            keys: Names::new(alloc, Seed::of(b"")),
+            keys: KeySet::new(alloc),
             outcomes: Vec::new(alloc),
-            ends: Names::new(alloc, Seed::of(b"")),
+            ends: KeySet::new(alloc),
             broken: None,
             is_complete: true,
         })
@@ -198,7 +198,7 @@ impl Search {
             self.is_complete = false;
             return Ok(());
         }
-        self.keys.add(self.alloc, &key)?;
+        self.keys.add(key)?;
         self.nodes.push(Node { before, step })?;
         Ok(())
     }
@@ -260,7 +260,7 @@ impl Search {
         if self.ends.contains(&key) {
             return Ok(());
         }
-        self.ends.add(self.alloc, &key)?;
+        self.ends.add(key)?;
         self.outcomes.push(outcome)?;
         Ok(())
     }

@@ -1,5 +1,6 @@
 use Rattle.std.proofs.Common.{rules, ◌≡◌, ◌<◌, length, true, false, arith}
-use Rattle.script_names.specs.Texts.{is_among, with_name}
+use Rattle.std.specs.List.{list_any}
+use Rattle.std.specs.Str.{bytes_eq}
 use Rattle.swift_explorer.specs.declared.search.Node.{Node}
 use Rattle.swift_explorer.proofs.Keeping.{keeps_known, keeps_new, keeps_none}
 use Rattle.swift_explorer.proofs.search.Search.keep.Goals as goal
@@ -8,7 +9,7 @@ pub returns-then-contains : goal.returns-then-contains
 returns-then-contains c =
     let x = c.args.self.now in
     let key = c.in_ok-key.key.items in
-    let among : is_among x.keys key ≡ true = search rules in
+    let among : list_any (bytes_eq key) x.keys ≡ true = search rules in
     record { keeps = keeps_known x c.args.history key c.requires.sound c.in_ok-key.ensures among }
 
 pub returns-then-len-self : goal.returns-then-len-self
@@ -19,7 +20,5 @@ returns c =
     let x = c.args.self.now in
     let key = c.in_ok-key.key.items in
     let n : Node = record { before = c.args.before; step = c.args.step } in
-    let new : is_among x.keys key ≡ false = search rules in
-    let keys : c.add.new.self ≡ with_name x.keys key = search rules in
     let room : length x.nodes.items < x.limit = omega (arith, c.if-len-self.false, c.len.ensures) in
-    record { keeps = keeps_new x c.args.history key n c.push.new.self c.add.new.self c.requires.sound c.in_ok-key.ensures c.requires.before c.requires.path c.in_ok-push.ensures.items keys new room }
+    record { keeps = keeps_new x c.args.history key n c.push.new.self c.add.new.self c.requires.sound c.in_ok-key.ensures c.requires.before c.requires.path c.in_ok-push.ensures.items (λ k has. (c.in_ok-add.ensures.ok k).0 has) room }

@@ -1,5 +1,6 @@
 use Rattle.std.proofs.Common.{rules, ◌≡◌, true, false}
-use Rattle.script_names.specs.Texts.{is_among, with_name}
+use Rattle.std.specs.List.{list_any}
+use Rattle.std.specs.Str.{bytes_eq}
 use Rattle.swift_explorer.proofs.Noting.{is_there, known_tells, new_noted}
 use Rattle.swift_explorer.proofs.search.Search.note_outcome.Goals as goal
 
@@ -7,16 +8,14 @@ pub returns-then-contains-clause-noted : goal.returns-then-contains-clause-noted
 returns-then-contains-clause-noted c =
     let x = c.args.self.now in
     let key = c.in_ok-key.key.items in
-    let among : is_among x.ends key ≡ true = search rules in
+    let among : list_any (bytes_eq key) x.ends ≡ true = search rules in
     known_tells x.outcomes.items x.ends key c.args.outcome c.requires.ends c.in_ok-key.ensures among
 
 pub returns-clause-ends : goal.returns-clause-ends
 returns-clause-ends c =
     let x = c.args.self.now in
     let key = c.in_ok-key.key.items in
-    let new : is_among x.ends key ≡ false = search rules in
-    let keys : c.add.new.self ≡ with_name x.ends key = search rules in
-    new_noted x.outcomes.items c.push.new.self.items c.args.outcome c.in_ok-push.ensures.items x.ends c.add.new.self key c.requires.ends keys new c.in_ok-key.ensures
+    new_noted x.outcomes.items c.push.new.self.items c.args.outcome c.in_ok-push.ensures.items x.ends c.add.new.self key c.requires.ends (λ k has. (c.in_ok-add.ensures.ok k).0 has) c.in_ok-key.ensures
 
 pub returns-clause-noted : goal.returns-clause-noted
 returns-clause-noted c = λ report tells. (c.args.outcome, is_there c.args.self.now.outcomes.items c.push.new.self.items c.args.outcome c.in_ok-push.ensures.items, tells)

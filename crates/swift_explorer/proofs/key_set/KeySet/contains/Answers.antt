@@ -1,0 +1,8 @@
+use Rattle.std.proofs.Common.{ap, ◌∙◌}
+use Rattle.std.specs.List.{list_any}
+use Rattle.std.specs.Str.{bytes_eq}
+use Rattle.swift_explorer.proofs.KeySets.{any_bytes}
+use Rattle.swift_explorer.proofs.key_set.KeySet.contains.Goals as goal
+
+pub returns : goal.returns
+returns c = c.contains.ensures ∙ any_bytes c.args.key.now c.self.inside.set.keys ∙ ap (list_any (bytes_eq c.args.key.now)) c.self.view_is
