@@ -5,7 +5,7 @@ use Rattle.script_grammar.specs.Tree.{MethodTree, ActorTree, DeclTree, Executes,
 use Rattle.script_names.specs.Texts.{is_among, place_of}
 use Rattle.script_names.specs.Methods.{method_key}
 use Rattle.script_names.specs.Directory.{DirectoryView, with_method, with_methods, with_actor, with_names, with_decl, with_decls, nothing_declared, directory_of, executors_in}
-use Rattle.script_lowering.specs.Plan.{PlanView, plan_of, defaults_in, executors_from, on_executor}
+use Rattle.script_compiler.specs.Plan.{PlanView, plan_of, defaults_in, executors_from, on_executor}
 use Rattle.script_printing.specs.Script.{ScriptView, declarations_of, script_in}
 use Rattle.script_printing.proofs.ByKind.{script_again}
 use Rattle.script_compiler.specs.Compiled.{plan_in}

@@ -17,8 +17,8 @@ use Rattle.script_code.specs.Tree as code
 use Rattle.script_code.specs.Tree.{Term, CallTarget, Wanted, Operation, Code, followed, end, act, choice, loop}
 use Rattle.script_code.specs.declared.instruction.NumberPlace.{NumberPlace}
 use Rattle.script_code.specs.declared.instruction.NumberPlace.TheVariants.{Variable, Field}
-use Rattle.script_lowering.specs.Plan.{PlanView}
-use Rattle.script_lowering.specs.Lowered.{lowered, lowered_if, numbers_in, handles_in, place_named, target_of, task_named, wanted_of, wait_to, set_at, value_to, make_to, action_code, headed_code, stmt_code, block_code}
+use Rattle.script_compiler.specs.Plan.{PlanView}
+use Rattle.script_compiler.specs.Lowered.{lowered, lowered_if, numbers_in, handles_in, place_named, target_of, task_named, wanted_of, wait_to, set_at, value_to, make_to, action_code, headed_code, stmt_code, block_code}
 use Rattle.script_compiler.specs.Waiting.{operations_in}
 use Rattle.script_compiler.specs.Calls.{target_wanted, target_in}
 use Rattle.script_compiler.proofs.Membership.{Has, has_left, has_right, has_cases}

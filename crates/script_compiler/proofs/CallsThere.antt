@@ -18,8 +18,8 @@ use Rattle.script_names.specs.Directory.{DirectoryView, key_of, has_method, meth
 use Rattle.script_names.specs.Scope.{ScopeView, fields_alone, with_standing}
 use Rattle.script_names.specs.Rules.{SeenView, earlier, at_name, where_so, with_parameters, repeat_error, parameters_error, block_error, past_names, past_method, past_decl, past_if, past_fields, past_name_if, fields_error, on_error, optional_error, method_error, methods_error, actor_error, root_error, target_error, seen_after, declarations_error, names_error}
 use Rattle.script_names.proofs.LeftOut.{nothing_left_out}
-use Rattle.script_lowering.specs.Plan.{PlanView, plan_of}
-use Rattle.script_lowering.specs.Lowered.{block_code}
+use Rattle.script_compiler.specs.Plan.{PlanView, plan_of}
+use Rattle.script_compiler.specs.Lowered.{block_code}
 use Rattle.script_printing.specs.Script.{script_in}
 use Rattle.script_compiler.specs.Compiled.{MethodView, RootView, method_of, methods_from, root_of, compiled_by}
 use Rattle.script_compiler.specs.Waiting.{operations_in}

@@ -3,7 +3,7 @@ use Rattle.std.proofs.Common.{◌≡◌, ℕ, suc, ◌+◌, Option, Some, List, 
 use Rattle.std.specs.Prelude.{◌==◌, if◌then◌else◌, All}
 use Rattle.std.proofs.lemmas.List.{length-map}
 use Rattle.script_grammar.specs.Tree.{ExecutorTree, ActorTree}
-use Rattle.script_lowering.specs.Plan.{PlanView, executor_at}
+use Rattle.script_compiler.specs.Plan.{PlanView, executor_at}
 use denote.Bor.{Bor}
 use Rattle.script_code.specs.declared.formula.Formula.{Formula}
 use Rattle.script_code.specs.Tree.{Term, term_of, terms_of}

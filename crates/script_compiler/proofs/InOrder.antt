@@ -8,12 +8,12 @@ use Rattle.script_names.specs.declared.error.NameErrorKind.TheVariants.{TooMany}
 use Rattle.script_names.specs.Directory.{DirectoryView, directory_of, actors_in}
 use Rattle.script_names.specs.Scope.{fields_alone}
 use Rattle.script_names.specs.Rules.{SeenView, at_name, where_so, past_name_if, past_names, past_fields, past_if, past_method, repeat_error, parameters_error, with_parameters, optional_error, method_error, methods_error, fields_error, on_error, actor_error, root_error, decl_error, past_decl, seen_after, declarations_error, names_error}
-use Rattle.script_lowering.proofs.Clear.{earlier_none}
-use Rattle.script_lowering.proofs.Callable.{has_and_fits}
-use Rattle.script_lowering.proofs.InOrder.{actors_are_few}
-use Rattle.script_lowering.specs.Known.{optional_known, block_known, parameters_new}
-use Rattle.script_lowering.proofs.Known.{optional, block, parameters}
-use Rattle.script_lowering.proofs.WholeScripts.{parameters_directory}
+use Rattle.script_compiler.proofs.Clear.{earlier_none}
+use Rattle.script_compiler.proofs.Callable.{has_and_fits}
+use Rattle.script_compiler.proofs.LoweredInOrder.{actors_are_few}
+use Rattle.script_compiler.specs.Known.{optional_known, block_known, parameters_new}
+use Rattle.script_compiler.proofs.Known.{optional, block, parameters}
+use Rattle.script_compiler.proofs.WholeScripts.{parameters_directory}
 use Rattle.script_printing.specs.Script.{script_in}
 use Rattle.script_compiler.specs.RootsInside.{has_root_method, have_root_methods}
 use Rattle.script_compiler.specs.MembersInside.{number_after}

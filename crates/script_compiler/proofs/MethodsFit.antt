@@ -4,9 +4,9 @@ use Rattle.std.specs.List.{AllByRecursion}
 use Rattle.script_grammar.specs.Tree.{MethodTree, DeclTree, Executes, Binds, Acts, Roots}
 use Rattle.script_names.specs.Rules.{names_error}
 use Rattle.script_printing.specs.Script.{script_in}
-use Rattle.script_lowering.specs.Plan.{PlanView, plan_of}
-use Rattle.script_lowering.specs.Methods.{CodeFits, ScriptFits}
-use Rattle.script_lowering.proofs.WholeScripts.{script_fits}
+use Rattle.script_compiler.specs.Plan.{PlanView, plan_of}
+use Rattle.script_compiler.specs.Methods.{CodeFits, ScriptFits}
+use Rattle.script_compiler.proofs.WholeScripts.{script_fits}
 use Rattle.script_compiler.specs.Compiled.{MethodView, method_of, methods_from, compiled_by}
 use Rattle.script_compiler.specs.Fits.{IsFitting, MethodsFit, CheckedMethods}
 use Rattle.script_compiler.proofs.Membership.{Has, has_cases, has_contained}

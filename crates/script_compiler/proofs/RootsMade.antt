@@ -2,7 +2,7 @@
 use Rattle.std.proofs.Common.{◌≡◌, ℕ, ℤ, List, ap, ◌∙◌}
 use Rattle.script_grammar.specs.Tree.{RootTree}
 use Rattle.script_names.specs.Directory.{DirectoryView, method_place}
-use Rattle.script_lowering.specs.Plan.{PlanView}
+use Rattle.script_compiler.specs.Plan.{PlanView}
 use Rattle.script_compiler.specs.Compiled.{RootView, root_of}
 
 pub root_made : (p : PlanView) (r : RootTree) (d : DirectoryView) (actor method name : List ℕ) (args : List ℤ) (k : ℕ)

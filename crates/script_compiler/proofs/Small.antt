@@ -7,8 +7,8 @@ use Rattle.script_grammar.specs.declared.declaration.Method.{Method}
 use Rattle.script_grammar.specs.Tree.{view_method, DeclTree, Executes, Binds, Acts, Roots}
 use Rattle.script_grammar.specs.Size.{method_size, methods_size, script_size}
 use Rattle.script_printing.specs.Script.{script_in}
-use Rattle.script_lowering.specs.Plan.{PlanView}
-use Rattle.script_lowering.proofs.Room.{few_in}
+use Rattle.script_compiler.specs.Plan.{PlanView}
+use Rattle.script_compiler.proofs.Room.{few_in}
 use Rattle.script_compiler.specs.declared.compiled.Compiled.{Compiled}
 use Rattle.script_compiler.specs.Compiled.{method_of, methods_from, compiled_by}
 use Rattle.script_compiler.specs.IsCompiled.{IsCompiled}

@@ -8,7 +8,7 @@ use Rattle.swift_types.specs.declared.id.ActorId.{ActorId}
 use Rattle.script_grammar.specs.Tree.{MethodTree, DeclTree, Executes, Binds, Acts, Roots, view_method, view_decl}
 use Rattle.script_grammar.specs.declared.declaration.Method.{Method}
 use Rattle.script_grammar.specs.declared.declaration.Decl.{Decl}
-use Rattle.script_lowering.specs.Plan.{PlanView, executor_at}
+use Rattle.script_compiler.specs.Plan.{PlanView, executor_at}
 use Rattle.script_printing.specs.Script.{script_in}
 use Rattle.script_compiler.specs.declared.compiled.CompiledMethod.{CompiledMethod}
 use Rattle.script_compiler.specs.Compiled.{MethodView, method_of, methods_from}

@@ -2,10 +2,10 @@
 use Rattle.std.proofs.Common.{◌≡◌, ℕ, suc, inl, inr, Option, Some, None, Result, Ok, Err, List, [], ◌∷◌, ◌++◌, refl, sym, ap, ◌∙◌, subst}
 use Rattle.std.specs.Prelude.{Contains, map, IfSome, IfNone, IfOk}
 use Rattle.std.specs.List.{AllZip, flat_map}
-use Rattle.script_waits.specs.declared.first.CallEdge.{CallEdge}
-use Rattle.script_waits.specs.declared.first.RootWait.{RootWait}
-use Rattle.script_waits.specs.Waits.{Leads, WaitsForLater, NoneBefore, NoneWaits}
-use Rattle.script_waits.specs.Waits.Leads.{here, on}
+use Rattle.script_compiler.specs.declared.waits.first.CallEdge.{CallEdge}
+use Rattle.script_compiler.specs.declared.waits.first.RootWait.{RootWait}
+use Rattle.script_compiler.specs.Waits.{Leads, WaitsForLater, NoneBefore, NoneWaits}
+use Rattle.script_compiler.specs.Waits.Leads.{here, on}
 use Rattle.script_code.specs.Tree.{Operation}
 use Rattle.script_code.specs.declared.instruction.Instruction.{Instruction}
 use Rattle.script_compiler.specs.declared.compiled.CompiledMethod.{CompiledMethod}

@@ -9,12 +9,12 @@ use Rattle.script_names.specs.Directory.{method_place}
 use Rattle.script_names.specs.Scope.{ScopeView, fields_alone}
 use Rattle.script_names.specs.Rules.{with_parameters}
 use Rattle.script_code.specs.Tree.{Term, Code}
-use Rattle.script_lowering.specs.Plan.{PlanView, plan_of, executor_at}
-use Rattle.script_lowering.specs.Lowered.{lowered_if, block_code}
-use Rattle.script_lowering.specs.Counts.{counts_of, most_of}
-use Rattle.script_lowering.specs.declared.counts.PlaceCounts.{PlaceCounts}
+use Rattle.script_compiler.specs.Plan.{PlanView, plan_of, executor_at}
+use Rattle.script_compiler.specs.Lowered.{lowered_if, block_code}
+use Rattle.script_compiler.specs.Counts.{counts_of, most_of}
+use Rattle.script_compiler.specs.declared.lowering.counts.PlaceCounts.{PlaceCounts}
 use Rattle.script_printing.specs.Script.{ScriptView, declarations_of}
-use Rattle.script_lowering.specs.Methods.{method_scope, places_in}
+use Rattle.script_compiler.specs.Methods.{method_scope, places_in}
 
 -- An executor has a name, a kind, and the numbers of its actors, in text order.
 pub record ExecutorView : Type 0 where

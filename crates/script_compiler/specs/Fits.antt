@@ -3,8 +3,8 @@ use Rattle.std.specs.Prelude.{◌≡◌, ℕ, None, List, Contains}
 use Rattle.script_grammar.specs.Tree.{DeclTree}
 use Rattle.script_names.specs.Rules.{names_error}
 use Rattle.script_printing.specs.Script.{script_in}
-use Rattle.script_lowering.specs.Handles.{none_held, HandlesMatch}
-use Rattle.script_lowering.specs.Places.{PlacesBelow}
+use Rattle.script_compiler.specs.Handles.{none_held, HandlesMatch}
+use Rattle.script_compiler.specs.Places.{PlacesBelow}
 use Rattle.script_compiler.specs.Compiled.{MethodView, CompiledView, compiled_of}
 
 -- A method's code names numbers and handles that the method has a place for. It uses each handle as what was kept there last, a task or

@@ -2,7 +2,7 @@
 -- name these.
 use Rattle.std.specs.Prelude.{ℕ, zero, suc, ◌+◌, ◌==◌, List, map, [], ◌∷◌, if◌then◌else◌}
 use Rattle.script_grammar.specs.Tree.{ExecutorTree, DeclTree, Acts}
-use Rattle.script_lowering.specs.Plan.{PlanView, executor_at}
+use Rattle.script_compiler.specs.Plan.{PlanView, executor_at}
 use Rattle.script_compiler.specs.Compiled.{ExecutorView, MethodView, method_of}
 
 -- of as many actors as the last number says, from number k on, the numbers of those that run on executor e

@@ -4,7 +4,7 @@ use Rattle.script_grammar.specs.Tree.{MethodTree, DeclTree, Acts, block_tree}
 use Rattle.script_names.specs.Directory.{DirectoryView}
 use Rattle.script_names.specs.Scope.{fields_alone}
 use Rattle.script_names.specs.Rules.{with_parameters}
-use Rattle.script_lowering.specs.Known.{optional_known, block_known, parameters_new}
+use Rattle.script_compiler.specs.Known.{optional_known, block_known, parameters_new}
 use Rattle.script_compiler.specs.MembersInside.{number_after}
 
 -- The parameters of a method of the actor at place k are new, and all that its body names is known.

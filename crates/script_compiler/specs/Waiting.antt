@@ -2,8 +2,8 @@
 -- reached or not. (Own.)
 use Rattle.std.specs.Prelude.{ℕ, suc, Option, Some, None, List, [], ◌∷◌, ◌++◌, map}
 use Rattle.std.specs.List.{flat_map}
-use Rattle.script_waits.specs.declared.first.CallEdge.{CallEdge}
-use Rattle.script_waits.specs.declared.first.RootWait.{RootWait}
+use Rattle.script_compiler.specs.declared.waits.first.CallEdge.{CallEdge}
+use Rattle.script_compiler.specs.declared.waits.first.RootWait.{RootWait}
 use Rattle.script_code.specs.Tree as code
 use Rattle.script_code.specs.Tree.{Wanted, Operation, Code, end, act, choice, loop}
 use Rattle.script_compiler.specs.Compiled.{MethodView, CompiledView}

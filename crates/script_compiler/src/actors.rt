@@ -4,17 +4,17 @@ ghost use Rattle.std.specs.Prelude.{◌≡◌, true, map, IfOk};
 ghost use Rattle.script_grammar.specs.Tree.{view_field, view_actor, view_decl, view_if};
 ghost use Rattle.script_names.specs.Scope.{fields_alone};
 ghost use Rattle.script_code.specs.Tree.{term_if};
-ghost use Rattle.script_lowering.specs.Lowered.{lowered_if};
-ghost use Rattle.script_lowering.specs.Known.{optional_known};
+ghost use Rattle.script_compiler.specs.Lowered.{lowered_if};
+ghost use Rattle.script_compiler.specs.Known.{optional_known};
 ghost use Rattle.script_printing.specs.Script.{script_in};
 ghost use Rattle.script_compiler.specs.Compiled.{actor_of, actors_from};
 ghost use Rattle.script_compiler.specs.IsCompiled.{field_view, actor_view};
 ghost use Rattle.script_compiler.specs.NamesInside.{invariants_known};
 
 use crate::compiled::{CompiledActor, CompiledField};
+use crate::lowering::{Plan, formula};
 use script_code::Formula;
 use script_grammar::{Actor, Decl, Expr, Field};
-use script_lowering::{Plan, formula};
 use std::alloc::{AllocError, Global};
 use swift_types::ExecId;
 

@@ -12,9 +12,9 @@ ghost use Rattle.script_compiler.specs.MembersInside.{members_below, executors_b
 
 use crate::compiled::{CompiledActor, CompiledExecutor};
 use crate::copy::copy_formula;
+use crate::lowering::Plan;
 use script_code::Formula;
 use script_grammar::Decl;
-use script_lowering::Plan;
 use std::alloc::{AllocError, Global};
 use swift_types::{ActorId, ExecutorKind};
 

@@ -14,6 +14,8 @@ mod copy;
 mod executors;
 // What holds of the definitions.
 pub mod laws;
+// From the tree of a method to its instructions.
+pub mod lowering;
 // Methods.
 mod methods;
 // Roots and task locals.
@@ -21,7 +23,7 @@ mod roots;
 // What fields start with, and the invariants at the start.
 mod start;
 // Roots that wait for themselves or for later ones.
-mod waits;
+pub mod waits;
 
 pub use compiled::{
     Compiled, CompiledActor, CompiledExecutor, CompiledField, CompiledLocal, CompiledMethod,

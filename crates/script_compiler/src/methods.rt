@@ -12,8 +12,8 @@ ghost use Rattle.script_compiler.specs.MembersInside.{methods_here, number_after
 ghost use Rattle.script_compiler.specs.NamesInside.{method_known, methods_known, declared_methods_known, all_methods_known};
 
 use crate::compiled::CompiledMethod;
+use crate::lowering::{Plan, lower};
 use script_grammar::{Decl, Method};
-use script_lowering::{Plan, lower};
 use std::alloc::{AllocError, Global};
 use swift_types::ActorId;
 

@@ -10,8 +10,8 @@ ghost use Rattle.script_compiler.specs.IsCompiled.{local_view, root_view};
 ghost use Rattle.script_compiler.specs.RootsInside.{has_root_method, have_root_methods};
 
 use crate::compiled::{CompiledLocal, CompiledRoot};
+use crate::lowering::Plan;
 use script_grammar::{Decl, Local, Root};
-use script_lowering::Plan;
 use script_names::Declared;
 use std::alloc::{AllocError, Global};
 use swift_types::MethodId;

@@ -2,16 +2,24 @@
 
 ghost use Rattle.std.specs.Prelude.{◌≡◌, ℕ, ◌++◌, ◌<◌, ◌≤◌, All, length, map, IfOk, IfSome, IfNone, OnOk};
 ghost use Rattle.swift_types.specs.declared.limits.TheConstants.{BYTES};
-ghost use Rattle.script_waits.specs.Waits.{WaitsForLater, NoneBefore, NoneWaits};
+ghost use Rattle.script_compiler.specs.Waits.{WaitsForLater, NoneBefore, NoneWaits};
 ghost use Rattle.script_code.specs.Tree.{wanted_of};
 ghost use Rattle.script_compiler.specs.Compiled.{CompiledView};
 ghost use Rattle.script_compiler.specs.IsCompiled.{root_view, IsCompiled};
 ghost use Rattle.script_compiler.specs.Waiting.{method_wanted, root_wanted, edge_to, wait_for, edges_made, waits_made, edges_of, waits_of, root_methods};
 ghost use Rattle.script_compiler.specs.ActsInside.{operation_of, made_if, made_along, made_through};
 
+// The first root that waits for itself or for a later one. This and the next two know nothing of scripts: methods and roots are
+// numbers.
+mod first;
+// Lists of methods, by number.
+mod lists;
+// The methods that lead to a wait.
+mod marks;
+
 use crate::compiled::{Compiled, CompiledMethod, CompiledRoot};
+pub use first::{CallEdge, RootWait, first_waiting};
 use script_code::{Act, CompiledAwait, Instruction};
-use script_waits::{CallEdge, RootWait, first_waiting};
 use std::alloc::{AllocError, Global};
 
 // What the methods call and wait for.

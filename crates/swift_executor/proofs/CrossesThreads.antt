@@ -12,7 +12,7 @@ use Rattle.futures.proofs.task.source.Source.TheSendSync as Source
 use Rattle.futures.proofs.task.waker.Waker.TheSendSync as Waker
 use Rattle.swift_journal.proofs.journal.Journal.TheSendSync as Journal
 use Rattle.swift_journal.proofs.checkpoint.Checkpoint.TheSendSync as Checkpoint
-use Rattle.swift_inbox.proofs.CrossesThreads.{body_send, inbox_sync, pass_send, script_send, script_sync, taker_send}
+use Rattle.swift_executor.proofs.InboxCrossesThreads.{body_send, inbox_sync, pass_send, script_send, script_sync, taker_send}
 use Rattle.swift_executor.proofs.tasks.ReadyTasks.TheSendSync as ReadyTasks
 use Rattle.swift_interpreter.proofs.saved.SavedRows.TheSendSync as SavedRows
 use Rattle.swift_executor.specs.contracts.fields.Fields as fields
@@ -30,7 +30,7 @@ use Rattle.swift_word.proofs.word.Word.TheSendSync as Word
 use Rattle.swift_ledger.proofs.ledger.Ledger.TheSendSync as Ledger
 use Rattle.swift_tasks.specs.contracts.held.WaitingTask as waiting
 use Rattle.swift_tasks.specs.contracts.book.Book as book
-use Rattle.swift_lock.proofs.lock.Lock.TheSendSync as Lock
+use Rattle.swift_shared_book.proofs.lock.Lock.TheSendSync as Lock
 use Rattle.swift_shared_book.specs.contracts.seat.BookSeat as book_seat
 use Rattle.swift_shared_book.specs.contracts.shelf.Shelf as shelf
 use Rattle.swift_shared_book.specs.contracts.shared.BookLock as book_lock

@@ -5,7 +5,7 @@ use Rattle.std.proofs.lemmas.Bool.{eqb-true}
 use Rattle.script_grammar.specs.Tree.{ActorTree, ExecutorTree}
 use Rattle.script_printing.specs.Script.{ScriptView}
 use Rattle.script_code.specs.Tree.{Term}
-use Rattle.script_lowering.specs.Plan.{PlanView, executor_at}
+use Rattle.script_compiler.specs.Plan.{PlanView, executor_at}
 use Rattle.script_compiler.specs.Compiled.{ActorView, compiled_by, actors_from, executors_from, members_from, members_of, members_if, own_executors, term_list, invariant_if, invariants_among, executor_invariants}
 
 there : {X : Type 0} (y : X) (xs : List X) (x : X) → Contains xs x → Contains (y ∷ xs) x

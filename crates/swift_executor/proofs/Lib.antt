@@ -17,3 +17,14 @@ pub mod SeatTurns
 pub mod InvariantsOfActors
 pub mod StartInvariants
 pub mod Spared
+pub mod AccountIsKept
+pub mod InboxCrossesThreads
+pub mod PairsInAnyOrder
+pub mod PlaceByArrival
+pub mod OneListOfAll
+pub mod EditedListIsList
+pub mod FirstIsPicked
+pub mod RaiseChangesOne
+pub mod QueueStaysOrderly
+pub mod ArrivalsStayRight
+pub mod ListsJustMade

@@ -12,8 +12,8 @@ use Rattle.swift_types.specs.Priority.{rank}
 use Rattle.swift_types.specs.declared.id.TaskId.{TaskId}
 use Rattle.swift_types.specs.declared.priority.Priority.{Priority}
 use Rattle.swift_job.specs.Job.{JobView}
-use Rattle.swift_queue.specs.Picks.{raised}
-use Rattle.swift_queue.specs.declared.waiting.Waiting.{Waiting}
+use Rattle.swift_executor.specs.Picks.{raised}
+use Rattle.swift_executor.specs.declared.queue.waiting.Waiting.{Waiting}
 use Rattle.swift_executor.specs.Ready.{ComesFirst, ReadyJob, level_at, priority_of, times}
 use Rattle.swift_executor.specs.ReadyInside.{AreCounted, Comes, job_of, task_in, task_of}
 

@@ -7,7 +7,7 @@ use Rattle.swift_history.specs.TurnEnds.{JobFacts}
 use Rattle.swift_ledger.specs.Levels.{AreLevels}
 use Rattle.swift_executor.specs.declared.fault.ExecFault.{ExecFault}
 use Rattle.swift_executor.specs.Account.{HasTaken}
-use Rattle.swift_inbox.specs.Inbox.{InboxView, TakerView, has_taken}
+use Rattle.swift_executor.specs.Inbox.{InboxView, TakerView, has_taken}
 use Rattle.swift_job.specs.Job.{JobView}
 use Rattle.swift_history.specs.Jobs.{job_facts}
 use Rattle.swift_turn.specs.Body.{BodyView}

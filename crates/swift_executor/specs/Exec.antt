@@ -5,8 +5,8 @@ use Rattle.atomic_table.specs.Seated.{TableId}
 use Rattle.swift_types.specs.declared.executor_kind.ExecutorKind.{ExecutorKind}
 use Rattle.swift_types.specs.declared.executor_kind.ExecutorKind.TheVariants as kind
 use Rattle.swift_history.specs.TurnEnds.{JobFacts}
-use Rattle.swift_inbox.specs.Inbox.{InboxView, TakerView}
-use Rattle.swift_inbox.specs.Site.{SiteView}
+use Rattle.swift_executor.specs.Inbox.{InboxView, TakerView}
+use Rattle.swift_executor.specs.Site.{SiteView}
 use Rattle.swift_job.specs.Job.{JobView}
 use Rattle.swift_script.specs.Scripts.{ScriptView}
 use Rattle.swift_shared_book.specs.Shared.{BookLockView, BookSeatView}

@@ -10,3 +10,9 @@ pub mod Seats
 pub mod State
 pub mod StateInside
 pub mod TasksInside
+pub mod Inbox
+pub mod Rule
+pub mod Site
+pub mod Picks
+pub mod Queue
+pub mod QueueInside

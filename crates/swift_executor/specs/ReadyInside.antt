@@ -2,9 +2,9 @@
 use Rattle.std.specs.Prelude.{Bool, true, false, ◌≡◌, ℕ, ◌+◌, ◌<◌, ◌≤◌, ◌^◌, List, ◌++◌, length, map, slice_index_or, All, vec_capacity}
 use Rattle.swift_types.specs.declared.id.TaskId.{TaskId}
 use Rattle.swift_job.specs.Job.{JobView}
-use Rattle.swift_queue.specs.Picks.{IsOlder, PicksFirst}
+use Rattle.swift_executor.specs.Picks.{IsOlder, PicksFirst}
 use Rattle.swift_types.specs.declared.limits.TheConstants.{TASKS}
-use Rattle.swift_queue.specs.declared.waiting.Waiting.{Waiting}
+use Rattle.swift_executor.specs.declared.queue.waiting.Waiting.{Waiting}
 use Rattle.swift_executor.specs.declared.ready.ReadyJobs.TheInside.{Inside}
 use Rattle.swift_executor.specs.Ready.{ReadyJob, level_at, priority_of, times}
 

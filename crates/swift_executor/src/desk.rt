@@ -5,9 +5,9 @@ ghost use Rattle.swift_executor.specs.Exec.{FoundRunning, IsDeskOf, has_found, k
 ghost use Rattle.swift_word.specs.Begun.{IfRun, OnBusy};
 
 use crate::exec::Exec;
+use crate::inbox::Pass;
 use crate::resting::Resting;
 use std::marker::Model;
-use swift_inbox::Pass;
 use swift_word::{Begun, WordSeat};
 
 /// A thread's right to send jobs to one executor, and to run a turn there. An executor is made with its first desk, and each

@@ -2,7 +2,7 @@
 
 ghost use Rattle.std.specs.Prelude.{◌≡◌, ◌<◌, ◌*◌, ◌↔◌, [], ◌∷◌, None, Some, IfOk, IfErr, IfSome, IfNone, OnOk, OnErr};
 ghost use Rattle.std.specs.Arc.{arc_value};
-ghost use Rattle.swift_inbox.specs.Site.{CanRunAt};
+ghost use Rattle.swift_executor.specs.Site.{CanRunAt};
 ghost use Rattle.swift_executor.specs.Exec.{FoundRunning, IsDeskOf, IsLeft, first_desk, has_found, has_sent, site_of};
 ghost use Rattle.swift_executor.specs.Seats.{IsOpened, KeepsOrder};
 ghost use Rattle.swift_course.specs.Views.{at_rest};
@@ -12,13 +12,13 @@ ghost use Rattle.swift_word.specs.Seat.{newest};
 use crate::desk::{ClosedDesk, Desk};
 use crate::fault::ExecFault;
 use crate::gate::{Gate, Moment};
+use crate::inbox::{ExecutorSite, Inbox, Taker};
 use crate::laws::{new_has_taken_none, new_knows_no_turn};
 use crate::resting::{Resting, TakenState, spend_held};
 use crate::state::ExecState;
 use std::alloc::{AllocError, Global};
 use std::marker::Model;
 use std::sync::{Arc, Wait};
-use swift_inbox::{ExecutorSite, Inbox, Taker};
 use swift_job::{Job, spend_all};
 use swift_script::Script;
 use swift_shared_book::{BookSeat, TicketedJob};

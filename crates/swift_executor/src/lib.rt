@@ -28,6 +28,11 @@ mod ending;
 // The account of an executor.
 pub mod laws;
 
+// Jobs that were sent and not yet taken.
+pub mod inbox;
+// The run queue of the jobs that are ready.
+pub mod queue;
+
 // What a gate is told of a run.
 mod gate;
 // The name of a state.

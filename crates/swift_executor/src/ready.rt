@@ -4,15 +4,15 @@ ghost use Rattle.std.specs.Prelude.{◌≡◌, ◌≢◌, ◌+◌, ◌<◌, ◌�
 ghost use Rattle.std.specs.List.Sorted.{IsPermutation};
 ghost use Rattle.swift_types.specs.declared.id.TaskId.{TaskId};
 ghost use Rattle.swift_types.specs.declared.limits.TheConstants.{TASKS};
-ghost use Rattle.swift_queue.specs.Queue.{IsRestorable, TakesFirst};
+ghost use Rattle.swift_executor.specs.Queue.{IsRestorable, TakesFirst};
 ghost use Rattle.swift_executor.specs.ReadyInside.{Comes, HasTaskAt};
 ghost use Rattle.swift_executor.specs.Ready.{Adds, AreAtMost, AreHigher, CanRestore, ComesFirst, Forwards, HasRoom, IsClear, level_at, priority_of, ready_job, tasks_in, times};
 
+use crate::queue::Queue;
 use crate::tasks::ReadyTasks;
 use std::alloc::{AllocError, Global};
 use std::marker::Model;
 use swift_job::Job;
-use swift_queue::Queue;
 use swift_types::limits::TASKS;
 use swift_types::{Priority, TaskId};
 

@@ -5,10 +5,10 @@ ghost use Rattle.swift_executor.specs.Exec.{IsOf};
 ghost use Rattle.swift_executor.specs.Seats.{KeepsOrder};
 ghost use Rattle.swift_course.specs.Views.{at_rest};
 
+use crate::inbox::Taker;
 use crate::state::ExecState;
 use crate::state_name::StateName;
 use std::marker::Model;
-use swift_inbox::Taker;
 use swift_job::spend_all;
 use swift_shared_book::BookSeat;
 use swift_word::Named;

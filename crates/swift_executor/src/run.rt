@@ -22,6 +22,7 @@ use crate::desk::Desk;
 use crate::exec::Exec;
 use crate::fault::ExecFault;
 use crate::gate::{Gate, Moment};
+use crate::inbox::Inbox;
 use crate::laws::{
     accept_knows_its_ticket, accept_takes_one, play_loses_none, refusal_loses_none,
     start_loses_none,
@@ -31,7 +32,6 @@ use crate::resting::{Resting, TakenState};
 use crate::state::ExecState;
 use futures::task::Context;
 use std::sync::Wait;
-use swift_inbox::Inbox;
 use swift_shared_book::{BookLock, OpenBook, TicketedJobs};
 use swift_tasks::Book;
 use swift_types::{ExecId, ExecutorKind, TaskId};

@@ -2,8 +2,8 @@
 
 ghost use Rattle.atomic_table.specs.Seated.{TableId, table_id_coded};
 
+use crate::inbox::ExecutorSite;
 use std::marker::Model;
-use swift_inbox::ExecutorSite;
 
 /// Which inbox it is. No value of it is made.
 pub struct InboxName {

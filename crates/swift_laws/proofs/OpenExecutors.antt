@@ -9,7 +9,7 @@ use Rattle.script_names.specs.Directory.{DirectoryView, directory_of, executors_
 use Rattle.script_names.specs.declared.error.NameErrorKind.TheVariants.{Unknown}
 use Rattle.script_names.specs.Rules.{SeenView, at_name, on_error, repeat_error, decl_error, declarations_error, names_error, seen_after, past_decl}
 use Rattle.script_names.proofs.LeftOut.{nothing_left_out}
-use Rattle.script_lowering.specs.Plan.{PlanView, on_executor, executors_from}
+use Rattle.script_compiler.specs.Plan.{PlanView, on_executor, executors_from}
 use Rattle.script_printing.specs.Script.{ScriptView, script_in}
 use Rattle.script_compiler.specs.Compiled.{plan_in, own_executor, own_executors, executors_from as views_from, actors_from, methods_from}
 use Rattle.script_compiler.proofs.ByKinds.{same_plan}

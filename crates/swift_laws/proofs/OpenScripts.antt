@@ -18,10 +18,10 @@ use Rattle.script_code.specs.declared.instruction.NumberPlace.{NumberPlace}
 use Rattle.script_code.specs.declared.instruction.NumberPlace.TheVariants.{Variable, Field}
 use Rattle.script_code.specs.Tree as code
 use Rattle.script_code.specs.Tree.{Term, Operation, Code, end, act, followed}
-use Rattle.script_lowering.specs.Plan.{PlanView}
-use Rattle.script_lowering.specs.Lowered.{numbers_in, handles_in, place_named, set_at, value_to, make_to, action_code, headed_code, stmt_code, block_code}
+use Rattle.script_compiler.specs.Plan.{PlanView}
+use Rattle.script_compiler.specs.Lowered.{numbers_in, handles_in, place_named, set_at, value_to, make_to, action_code, headed_code, stmt_code, block_code}
 use Rattle.script_compiler.specs.Compiled.{MethodView, plan_in, method_of, methods_from}
-use Rattle.script_lowering.specs.Methods.{method_scope}
+use Rattle.script_compiler.specs.Methods.{method_scope}
 use Rattle.swift_script.specs.Scripts.{parts_of, no_method}
 use Rattle.swift_script.specs.Accepted.{WasAccepted}
 use Rattle.swift_laws.specs.Accepted.{after_operation, LeadsTo, ClosesGroups}

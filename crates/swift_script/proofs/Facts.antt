@@ -12,7 +12,7 @@ use Rattle.script_names.specs.Methods.{method_key}
 use Rattle.script_names.specs.Directory.{DirectoryView, key_of, has_method, method_place, arity_of, directory_of, methods_from as keys_from, params_in, declared_in}
 use Rattle.script_names.specs.Rules.{at_name, target_error, names_error}
 use Rattle.script_names.proofs.LeftOut.{nothing_left_out}
-use Rattle.script_lowering.specs.Plan.{PlanView}
+use Rattle.script_compiler.specs.Plan.{PlanView}
 use Rattle.script_printing.specs.Script.{ScriptView, script_in}
 use Rattle.script_compiler.specs.Calls.{CallsAreThere}
 use Rattle.script_compiler.specs.Compiled.{MethodView, RootView, compiled_of, plan_in, own_executor, own_executors, executors_from, actors_from, method_of, methods_from, root_of}

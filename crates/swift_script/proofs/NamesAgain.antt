@@ -13,7 +13,7 @@ use Rattle.script_names.specs.Texts.{is_among}
 use Rattle.script_names.specs.Directory.{DirectoryView, directory_of}
 use Rattle.script_names.specs.Rules.{SeenView, at_name, where_so, kind_error, repeat_error, target_error, decl_error, declarations_error, names_error, past_decl, seen_after}
 use Rattle.script_printing.specs.Script.{ScriptView, declarations_of, script_in}
-use Rattle.script_lowering.specs.Plan.{PlanView}
+use Rattle.script_compiler.specs.Plan.{PlanView}
 use Rattle.script_compiler.proofs.ByKinds.{same_plan}
 use Rattle.swift_script.proofs.NamesAnywhere.{earlier_parts, earlier_none, executor_kind, target, inside_error, inside}
 

@@ -11,7 +11,7 @@ use Rattle.script_printing.specs.Script.{ScriptView, script_in}
 use Rattle.script_compiler.specs.Starts.{first_false_from}
 use Rattle.script_compiler.specs.Waiting.{edges_of, waits_of, root_methods}
 use Rattle.script_parser.specs.declared.limits.TheConstants.{NESTING}
-use Rattle.script_waits.specs.Waits.{WaitsForLater, NoneWaits}
+use Rattle.script_compiler.specs.Waits.{WaitsForLater, NoneWaits}
 use Rattle.swift_script.specs.Scripts.{parts_of}
 
 -- A text spells declarations, in text order, within a limit of nesting.

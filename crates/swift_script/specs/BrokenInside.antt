@@ -1,6 +1,6 @@
 -- Which rule a compiled script breaks. No public clause names these words.
 use Rattle.std.specs.Prelude.{◌≡◌, ℕ, Some, None}
-use Rattle.script_waits.specs.Waits.{NoneBefore}
+use Rattle.script_compiler.specs.Waits.{NoneBefore}
 use Rattle.script_compiler.specs.Waiting.{edges_of, waits_of, root_methods}
 use Rattle.script_printing.specs.Script.{ScriptView}
 use Rattle.swift_script.specs.declared.start.BrokenRule.{BrokenRule}

@@ -1,3 +1,6 @@
 pub mod Shapes
 pub mod RuleKept
 pub mod CallsKeep
+pub mod LockCalls
+pub mod LockLaws
+pub mod LockSteps

@@ -14,7 +14,7 @@ use Rattle.swift_events.specs.Room.{IsEnv}
 use Rattle.swift_journal.specs.Records.{RecordView}
 use Rattle.swift_history.specs.Orderly.{has_last_root, job_executor}
 use Rattle.swift_history.specs.TurnEnds.{JobFacts, root_events, root_job}
-use Rattle.swift_lock.specs.Seat.{MayUnlock}
+use Rattle.swift_shared_book.specs.LockSeat.{MayUnlock}
 use Rattle.swift_tasks.specs.Books.{BookView, IsEndOf, empty_book, end_of_turn}
 use Rattle.swift_history.specs.Jobs.{job_facts}
 use Rattle.swift_tasks.specs.Refusals.{refusal_of_apply, refusal_of_begin, refusal_of_root}

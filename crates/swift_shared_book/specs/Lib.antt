@@ -3,3 +3,6 @@ pub mod StepsInside
 pub mod SharedInside
 pub mod Calls
 pub mod Tickets
+pub mod LockRule
+pub mod LockSeat
+pub mod LockStepsInside

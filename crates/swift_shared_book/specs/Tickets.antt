@@ -5,7 +5,7 @@ use Rattle.swift_job.specs.Job.{JobView}
 use Rattle.swift_turn.specs.Body.{BodyView}
 use Rattle.swift_history.specs.TurnEnds.{JobFacts}
 use Rattle.swift_script.specs.Scripts.{ScriptView}
-use Rattle.swift_lock.specs.Seat.{BadgeView}
+use Rattle.swift_shared_book.specs.LockSeat.{BadgeView}
 use Rattle.swift_course.specs.Views.{BookKnown, fresh}
 use Rattle.swift_course.specs.declared.known.Known.{Known}
 use Rattle.swift_history.specs.Jobs.{job_facts}

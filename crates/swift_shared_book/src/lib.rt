@@ -15,6 +15,9 @@ mod jobs;
 /// What the calls of a book keep.
 pub mod laws;
 
+// A lock under a rule.
+pub mod lock;
+
 // Which book it is.
 mod name;
 

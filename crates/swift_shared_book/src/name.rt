@@ -3,10 +3,10 @@
 ghost use Rattle.std.specs.Prelude.{◌≡◌, None};
 ghost use Rattle.swift_shared_book.specs.Tickets.{book_of};
 
+use crate::lock::Badge;
 use std::marker::Model;
 use std::snapshot::Snapshot;
 use swift_course::known::{BookImage, Known};
-use swift_lock::Badge;
 
 /// Which book it is, by its lock, or none. It has no bytes: contracts alone see it.
 #[derive(Drop)]

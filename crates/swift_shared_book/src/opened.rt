@@ -1,9 +1,9 @@
 //! A book that was taken from its lock.
 
+use crate::lock::LockSeat;
 use crate::shelf::Shelf;
 use std::marker::Model;
 use swift_course::known::Known;
-use swift_lock::LockSeat;
 use swift_tasks::Book;
 
 /// A book that was taken from its lock. It can't be dropped: a call of the lock gives it back.

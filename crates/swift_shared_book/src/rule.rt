@@ -11,9 +11,9 @@ ghost use Rattle.swift_course.specs.Seats.{account_parted, first_view, gathered,
 ghost use Rattle.swift_shared_book.specs.Shared.{BeginsTicket};
 ghost use Rattle.swift_shared_book.specs.StepsInside.{KnowsRoot};
 
+use crate::lock::{Join, Lesson, LockRule, Split, UnlockOutcome};
 use std::marker::{Brand, PhantomData};
 use swift_course::known::{BookImage, Known};
-use swift_lock::{Join, Lesson, LockRule, Split, UnlockOutcome};
 
 /// The rule: some history of the script led to the book, and what each seat knows of it is true.
 pub struct BookRule;

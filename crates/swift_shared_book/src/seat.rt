@@ -5,10 +5,10 @@ ghost use Rattle.swift_course.specs.declared.known.Known.{Known as KnownIs};
 ghost use Rattle.swift_shared_book.specs.Shared.{BookSeatView};
 
 use crate::BookName;
+use crate::lock::{Badge, LockSeat};
 use crate::shelf::Shelf;
 use std::marker::Model;
 use swift_course::known::{BookImage, Known};
-use swift_lock::{Badge, LockSeat};
 
 /// A thread's right to take the book of one run, and what it knows of the run: the turns of its executors, the tickets of jobs that it
 /// has, and for one seat of a lock, how many executors and roots there are (our own). A lock is made with its first seat, and each

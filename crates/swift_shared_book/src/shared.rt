@@ -12,6 +12,7 @@ ghost use Rattle.swift_shared_book.specs.Shared.{IsSeatOf, knowing, seat_of, wit
 
 use crate::TicketedJob;
 use crate::jobs::TicketedJobs;
+use crate::lock::Lock;
 use crate::opened::{OpenBook, OpenSeat};
 use crate::rule::{BookRule, Finds, Gathers, NamesCount, OpensAccount, PartsTickets, Stays};
 use crate::seat::BookSeat;
@@ -21,7 +22,6 @@ use std::marker::{Brand, Model};
 use std::sync::Wait;
 use swift_course::known::Known;
 use swift_job::Job;
-use swift_lock::Lock;
 use swift_tasks::Book;
 use swift_turn::Body;
 

@@ -2,10 +2,10 @@
 
 ghost use Rattle.std.specs.Prelude.{◌≡◌};
 
+use crate::lock::Locked;
 use std::marker::Model;
 use swift_course::known::BookImage;
 use swift_job::spend_all;
-use swift_lock::Locked;
 use swift_tasks::Book;
 
 /// A book that threads share, while none has taken it. It lies in a box, so that the lock moves one pointer. Where it is

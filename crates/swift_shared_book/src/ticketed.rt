@@ -6,10 +6,10 @@ ghost use Rattle.swift_script.specs.Scripts.{ScriptView};
 ghost use Rattle.swift_shared_book.specs.Tickets.{IsTicketOf, ticket_view};
 ghost use Rattle.swift_history.specs.Jobs.{job_facts};
 
+use crate::lock::Badge;
 use std::marker::Model;
 use swift_course::known::{BookImage, Known};
 use swift_job::Job;
-use swift_lock::Badge;
 use swift_turn::Body;
 
 /// A job on its way to an executor, with its ticket: the right to run its turn, once, which the lock of a book gives with the job

@@ -2,7 +2,7 @@
 use denote.Param.Send.{IsSend, IsSync, sendable}
 use denote.Ref.{NamedLft}
 use Rattle.std.proofs.Crossing as Crossing
-use Rattle.swift_inbox.proofs.CrossesThreads.{body_send, script_sync}
+use Rattle.swift_executor.proofs.InboxCrossesThreads.{body_send, script_sync}
 use Rattle.swift_executor.proofs.CrossesThreads.{book_lock_sync, book_seat_send, desk_send, exec_sync}
 use Rattle.swift_shared_book.specs.contracts.jobs.TicketedJobs as ticketed_jobs
 use Rattle.swift_workers.specs.contracts.crew.Crew as crew

@@ -6,7 +6,7 @@ use Rattle.std.proofs.lemmas.Option.{none-some, same_Some, slice_get_read}
 use Rattle.swift_job.specs.Job.{JobView}
 use Rattle.swift_turn.specs.Body.{BodyView}
 use Rattle.swift_shared_book.specs.Tickets.{TicketedJobView}
-use Rattle.swift_inbox.specs.Site.{CanRunAt, SiteView}
+use Rattle.swift_executor.specs.Site.{CanRunAt, SiteView}
 use Rattle.swift_executor.specs.Exec.{ExecView, DeskView, IsBookOf, IsDeskOf, after_run, has_found, has_sent}
 use Rattle.swift_executor.specs.declared.ran.VisitOutcome.{VisitOutcome}
 use Rattle.swift_executor.specs.declared.ran.VisitOutcome.TheVariants.{Turn, Busy, Nothing}

@@ -8,7 +8,7 @@ use Rattle.swift_script.specs.Scripts.{ScriptView}
 use Rattle.swift_journal.specs.Checkpoints.{CheckpointRoomView, CheckpointView}
 use Rattle.swift_journal.specs.Records.{RecordView}
 use Rattle.swift_journal.specs.Replay.{replay}
-use Rattle.swift_inbox.specs.Site.{SiteView}
+use Rattle.swift_executor.specs.Site.{SiteView}
 use Rattle.atomic_table.specs.Seated.{TableId}
 use Rattle.swift_course.specs.Views.{Account, BookKnown, TurnOrder, at_rest}
 use Rattle.swift_course.specs.Reports.{AreAtRest, IsAccountedFor}

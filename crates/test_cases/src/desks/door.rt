@@ -2,7 +2,7 @@
 
 ghost use Rattle.std.specs.Prelude.{IsTrue, ◌≡◌, Some, IfErr, IfOk, IfSome};
 ghost use Rattle.std.specs.Arc.{arc_value};
-ghost use Rattle.swift_inbox.specs.Site.{CanRunAt};
+ghost use Rattle.swift_executor.specs.Site.{CanRunAt};
 ghost use Rattle.swift_executor.specs.Exec.{IsBookOf, IsDeskOf};
 
 use crate::desks::poller::Poller;

@@ -6,8 +6,8 @@
 ghost use Rattle.std.specs.Prelude.{◌≡◌, IfOk, None};
 ghost use Rattle.std.specs.Arc.{arc_value};
 ghost use Rattle.swift_turn.specs.Body.{IsRunning};
-ghost use Rattle.swift_inbox.specs.Inbox.{IsPassOf, IsTakerOf, new_pass, new_taker};
-ghost use Rattle.swift_inbox.specs.Site.{CanRunAt};
+ghost use Rattle.swift_executor.specs.Inbox.{IsPassOf, IsTakerOf, new_pass, new_taker};
+ghost use Rattle.swift_executor.specs.Site.{CanRunAt};
 
 use crate::fault::CaseFault;
 use crate::parts::words::{number, size};
@@ -16,7 +16,7 @@ use std::io::Write;
 use std::sync::{Arc, Wait};
 use std::thread;
 use std::thread::Threads;
-use swift_inbox::{ExecutorSite, Inbox, Pass, Taker};
+use swift_executor::inbox::{ExecutorSite, Inbox, Pass, Taker};
 use swift_job::Job;
 use swift_locals::Bindings;
 use swift_script::{Script, read};

@@ -8,8 +8,8 @@ use crate::parts::words::{priority_of, size, task};
 use crate::said::Said;
 use std::alloc::{AllocError, Global};
 use std::io::Write;
+use swift_executor::queue::Queue;
 use swift_job::Job;
-use swift_queue::Queue;
 use swift_types::{Priority, Resume, TaskId};
 
 // Puts a job of a task, where that may be done.

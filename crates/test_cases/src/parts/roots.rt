@@ -6,7 +6,7 @@ use crate::fault::CaseFault;
 use crate::parts::calls::Part;
 use crate::parts::words::number;
 use crate::said::Said;
-use script_waits::{CallEdge, RootWait, first_waiting};
+use script_compiler::waits::{CallEdge, RootWait, first_waiting};
 use std::alloc::Global;
 
 /// How many methods there are.

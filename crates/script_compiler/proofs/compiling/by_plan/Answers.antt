@@ -2,7 +2,7 @@ use Rattle.std.proofs.Common.{◌++◌, ◌∙◌, map, length, ap, arith}
 use Rattle.std.proofs.lemmas.List.{length-map}
 use Rattle.script_grammar.specs.Tree.{view_decl}
 use Rattle.script_printing.specs.Script.{script_in}
-use Rattle.script_lowering.specs.Plan.{PlanView}
+use Rattle.script_compiler.specs.Plan.{PlanView}
 use Rattle.script_compiler.specs.Compiled.{own_executors}
 use Rattle.script_compiler.specs.IsCompiled.{actor_view}
 use Rattle.script_compiler.specs.RootsInside.{have_root_methods}

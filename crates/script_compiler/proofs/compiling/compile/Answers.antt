@@ -1,7 +1,7 @@
 use Rattle.std.proofs.Common.{map, subst, ◌∙◌}
 use Rattle.std.specs.Prelude.{IfOk}
 use Rattle.script_grammar.specs.Tree.{view_decl}
-use Rattle.script_lowering.specs.Plan.{PlanView}
+use Rattle.script_compiler.specs.Plan.{PlanView}
 use Rattle.script_printing.specs.Script.{script_in}
 use Rattle.script_compiler.specs.Compiled.{compiled_by}
 use Rattle.script_compiler.specs.IsCompiled.{IsCompiled}

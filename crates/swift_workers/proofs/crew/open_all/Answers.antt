@@ -2,7 +2,7 @@ use Rattle.std.proofs.Common.{rules, ◌≡◌, ◌<◌, ℕ, List, [], ◌∷�
 use Rattle.std.specs.Arc.{arc_value}
 use Rattle.atomic_table.specs.Seated.{TableId}
 use Rattle.swift_script.specs.Scripts.{ScriptView, executor_count}
-use Rattle.swift_inbox.specs.Site.{SiteView}
+use Rattle.swift_executor.specs.Site.{SiteView}
 use Rattle.swift_executor.specs.Exec.{ExecView, DeskView, IsDeskOf}
 use Rattle.swift_workers.specs.CrewInside.{AreAtSites, AreDesksOf}
 use Rattle.swift_workers.proofs.Desks.{desk_push, place_of, site_push}

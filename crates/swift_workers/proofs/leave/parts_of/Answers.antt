@@ -4,7 +4,7 @@ use Rattle.std.proofs.lemmas.Iterator.Adapters.{YieldsList-from_vec}
 use Rattle.std.proofs.lemmas.Iterator.Consumers.{YieldsList-at, YieldsList-end, YieldsList-turn}
 use Rattle.std.proofs.lemmas.Option.{same_Some}
 use Rattle.atomic_table.specs.Seated.{TableId}
-use Rattle.swift_inbox.specs.Site.{SiteView}
+use Rattle.swift_executor.specs.Site.{SiteView}
 use Rattle.swift_executor.specs.Exec.{site_of}
 use Rattle.swift_executor.specs.State.{ExecStateView}
 use Rattle.swift_shared_book.specs.Shared.{BookLockView}

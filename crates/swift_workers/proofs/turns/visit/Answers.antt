@@ -4,7 +4,7 @@ use Rattle.swift_job.specs.Job.{JobView}
 use Rattle.swift_script.specs.Scripts.{ScriptView}
 use Rattle.swift_turn.specs.Body.{BodyView}
 use Rattle.swift_tasks.specs.Books.{IsJobOf}
-use Rattle.swift_inbox.specs.Site.{SiteView}
+use Rattle.swift_executor.specs.Site.{SiteView}
 use Rattle.swift_executor.specs.Exec.{ExecView, IsBookOf, IsDeskOf}
 use Rattle.swift_workers.proofs.Desks.{book_at, desk_at, desk_ran, desk_set, desk_tried, site_at}
 use Rattle.swift_workers.proofs.turns.visit.Goals as goal

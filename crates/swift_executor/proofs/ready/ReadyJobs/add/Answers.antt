@@ -5,7 +5,7 @@ use Rattle.std.proofs.lemmas.List.Sorted.{IsPermutation-map, length_permutation}
 use Rattle.std.specs.List.Sorted.{IsPermutation}
 use Rattle.swift_types.specs.declared.id.TaskId.{TaskId}
 use Rattle.swift_job.specs.Job.{JobView}
-use Rattle.swift_queue.specs.Queue.{waiting}
+use Rattle.swift_executor.specs.Queue.{waiting}
 use Rattle.swift_executor.specs.Ready.{Adds, HasRoom, IsClear, ReadyJobsView, ReadyJob, level_at, priority_of, times}
 use Rattle.swift_executor.specs.ReadyInside.{job_of, task_in, task_of}
 use Rattle.swift_executor.proofs.ReadyKept.{all_unmap, counted_add, tasks_add, tasks_behind}

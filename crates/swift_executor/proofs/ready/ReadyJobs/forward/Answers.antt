@@ -4,7 +4,7 @@ use Rattle.std.specs.List.{All}
 use Rattle.std.specs.List.Sorted.{IsPermutation}
 use Rattle.swift_types.specs.declared.id.TaskId.{TaskId}
 use Rattle.swift_job.specs.Job.{JobView}
-use Rattle.swift_queue.specs.Queue.{waiting}
+use Rattle.swift_executor.specs.Queue.{waiting}
 use Rattle.swift_executor.specs.Ready.{Forwards, IsClear, ReadyJobsView, ReadyJob, level_at, priority_of}
 use Rattle.swift_executor.specs.ReadyInside.{job_of}
 use Rattle.swift_executor.proofs.ReadyKept.{all_unmap, counted_add, parted, tasks_forward}

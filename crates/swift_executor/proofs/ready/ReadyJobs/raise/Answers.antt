@@ -3,7 +3,7 @@ use Rattle.std.proofs.lemmas.List.{get_or_default}
 use Rattle.std.specs.List.Sorted.{IsPermutation}
 use Rattle.swift_types.specs.declared.id.TaskId.{TaskId}
 use Rattle.swift_types.specs.declared.priority.Priority.{Priority}
-use Rattle.swift_queue.specs.Picks.{raised}
+use Rattle.swift_executor.specs.Picks.{raised}
 use Rattle.swift_executor.specs.Ready.{ReadyJobsView, ReadyJob, level_at, priority_of, times}
 use Rattle.swift_executor.specs.ReadyInside.{job_of, task_in, task_of}
 use Rattle.swift_executor.proofs.ReadyKept.{counted_raise, raised_seen, raised_tasks, seen_perm, times_perm}

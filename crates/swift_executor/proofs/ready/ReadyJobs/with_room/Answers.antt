@@ -1,7 +1,7 @@
 use Rattle.std.proofs.Common.{◌≡◌, ℕ, List, [], ◌++◌, length, map, sym, subst, ap, ◌∙◌, arith}
 use Rattle.swift_job.specs.Job.{JobView}
-use Rattle.swift_queue.specs.Queue.{QueueView}
-use Rattle.swift_queue.specs.declared.waiting.Waiting.{Waiting}
+use Rattle.swift_executor.specs.Queue.{QueueView}
+use Rattle.swift_executor.specs.declared.queue.waiting.Waiting.{Waiting}
 use Rattle.std.proofs.lemmas.List.{length-replicate}
 use Rattle.swift_types.specs.declared.limits.TheConstants.{TASKS}
 use Rattle.swift_executor.specs.Ready.{times}

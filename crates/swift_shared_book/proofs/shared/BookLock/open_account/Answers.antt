@@ -1,5 +1,5 @@
 use Rattle.std.proofs.Common.{◌≡◌, sym, ap, subst}
-use Rattle.swift_lock.specs.Seat.{LockSeatView}
+use Rattle.swift_shared_book.specs.LockSeat.{LockSeatView}
 use Rattle.swift_course.specs.Views.{BookKnown}
 use Rattle.swift_course.specs.declared.known.BookImage.{BookImage}
 use Rattle.swift_course.specs.declared.known.Known.{Known}

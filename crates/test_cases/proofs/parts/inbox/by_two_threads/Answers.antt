@@ -1,5 +1,5 @@
 use denote.Param.Send.{sendable}
-use Rattle.swift_inbox.proofs.CrossesThreads.{inbox_sync, pass_send, taker_send}
+use Rattle.swift_executor.proofs.InboxCrossesThreads.{inbox_sync, pass_send, taker_send}
 use Rattle.test_cases.proofs.parts.inbox.by_two_threads.Goals as goal
 
 pub join-requires-send-F : goal.join-requires-send-F

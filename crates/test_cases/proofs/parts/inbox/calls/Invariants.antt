@@ -1,4 +1,4 @@
-use Rattle.swift_inbox.specs.Inbox.{IsPassOf, IsTakerOf}
+use Rattle.swift_executor.specs.Inbox.{IsPassOf, IsTakerOf}
 use Rattle.test_cases.proofs.parts.inbox.calls.Given as goal
 
 abbrev pub invariant-loop-line : goal.invariant-loop-line

@@ -1,5 +1,5 @@
-use Rattle.swift_inbox.specs.Inbox.{IsPassOf}
-use Rattle.swift_inbox.specs.Site.{CanRunAt}
+use Rattle.swift_executor.specs.Inbox.{IsPassOf}
+use Rattle.swift_executor.specs.Site.{CanRunAt}
 use Rattle.test_cases.proofs.parts.inbox.put_at_last.Given as goal
 
 abbrev pub invariant-loop : goal.invariant-loop

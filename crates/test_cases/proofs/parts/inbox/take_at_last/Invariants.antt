@@ -1,4 +1,4 @@
-use Rattle.swift_inbox.specs.Inbox.{IsTakerOf}
+use Rattle.swift_executor.specs.Inbox.{IsTakerOf}
 use Rattle.test_cases.proofs.parts.inbox.take_at_last.Given as goal
 
 abbrev pub invariant-loop : goal.invariant-loop

@@ -1,0 +1,13 @@
+use Rattle.std.proofs.Common.{◌≡◌, ◌≤◌, ◌+◌, true, length, drop, map}
+use Rattle.script_grammar.specs.Tree.{text_of}
+use Rattle.script_names.specs.Rules.{with_parameters}
+use Rattle.script_compiler.specs.Known.{parameters_new}
+use Rattle.script_compiler.specs.RoomInside.{greatest}
+use Rattle.script_compiler.proofs.lowering.method.parameters.Given as goal
+
+abbrev pub invariant-loop-param : goal.invariant-loop-param
+invariant-loop-param l = record {
+  scope : with_parameters l.scope (map text_of (drop l.param-index l.params)) ≡ with_parameters l.initial.scope (map text_of l.params);
+  room : length l.scope.kinds + length (drop l.param-index l.params) ≤ greatest;
+  rest : parameters_new l.scope (map text_of (drop l.param-index l.params)) ≡ true;
+}

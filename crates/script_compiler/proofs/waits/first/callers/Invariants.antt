@@ -1,0 +1,7 @@
+use Rattle.std.proofs.Common.{take}
+use Rattle.script_compiler.specs.FirstInside.{Calls}
+use Rattle.script_compiler.specs.ListsInside.{AreListsOf}
+use Rattle.script_compiler.proofs.waits.first.callers.Given as goal
+
+abbrev pub invariant-loop-edge : goal.invariant-loop-edge
+invariant-loop-edge l = AreListsOf (Calls (take l.edge-index l.edges)) l.methods l.callers

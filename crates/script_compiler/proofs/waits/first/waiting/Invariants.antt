@@ -1,0 +1,7 @@
+use Rattle.std.proofs.Common.{◌+◌, length, take}
+use Rattle.script_compiler.specs.FirstInside.{WaitsInPlace}
+use Rattle.script_compiler.specs.ListsInside.{AreListsOf}
+use Rattle.script_compiler.proofs.waits.first.waiting.Given as goal
+
+abbrev pub invariant-loop-wait : goal.invariant-loop-wait
+invariant-loop-wait l = AreListsOf (WaitsInPlace (take l.wait-index l.waits) (length l.roots)) (length l.roots + 1) l.waiting

@@ -1,0 +1,113 @@
+//! Expressions, with places for their names.
+
+ghost use Rattle.std.specs.Prelude.{◌≡◌, true, map, IfOk};
+ghost use Rattle.script_grammar.specs.Tree.{Named, view, view_if};
+ghost use Rattle.script_names.specs.Texts.{is_among, place_of};
+ghost use Rattle.script_code.specs.Tree.{local as local_term, term_of, terms_of, term_if};
+ghost use Rattle.script_compiler.specs.Lowered.{default_of, place_named, lowered, lowered_if};
+ghost use Rattle.script_compiler.specs.Known.{expression_known, expressions_known, optional_known};
+
+use crate::lowering::plan::Plan;
+use crate::lowering::standing::StandingNames;
+use script_code::{FieldPlace, Formula, NumberPlace};
+use script_grammar::Expr;
+use std::alloc::{AllocError, Global};
+
+/// The field of that name, or else the variable, found by hashes. A name that stands nowhere is taken as the variable
+/// after the last.
+#[tactic(auto, unfolding(crate::specs::Lowered::place_named))]
+pub(crate) fn place(plan: &Plan, scope: &StandingNames<'_>, name: &[u8]) -> NumberPlace
+    ensures { result ≡ place_named plan.now scope.now name.now }
+{
+    match scope.field(name) {
+        Some(field) => NumberPlace::Field(FieldPlace {
+            actor: plan.actor_place(scope.actor()),
+            field: field as u32,
+        }),
+        None => NumberPlace::Variable(scope.number_place(name)),
+    }
+}
+
+// What the place of a name holds.
+fn lower_name(plan: &Plan, scope: &StandingNames<'_>, name: &[u8]) -> Formula
+    ensures { term_of result ≡ lowered plan.now scope.now (Named name.now) }
+{
+    match place(plan, scope, name) {
+        NumberPlace::Variable(k) => Formula::Variable(k),
+        NumberPlace::Field(k) => Formula::Field(k),
+    }
+}
+
+// What is read of a task local that is declared.
+fn local(plan: &Plan, name: &[u8]) -> Formula
+    requires { is_among plan.now.directory.locals name.now ≡ true }
+    ensures { term_of result ≡ local_term (place_of plan.now.directory.locals name.now) (default_of plan.now name.now) }
+{
+    let (local, default) = plan.local(name);
+    Formula::Local(local, default)
+}
+
+/// An expression with places for its names, in time linear in its size.
+pub(crate) fn expression(
+    alloc: Global,
+    plan: &Plan,
+    scope: &StandingNames<'_>,
+    expr: &Expr,
+) -> Result<Formula, AllocError>
+    requires { expression_known plan.now.directory (view expr.now) ≡ true }
+    ensures { IfOk result (λ f. term_of f ≡ lowered plan.now scope.now (view expr.now)) }
+{
+    match expr {
+        Expr::Number(n) => Ok(Formula::Number(*n)),
+        Expr::Name(name) => Ok(lower_name(plan, scope, &name.text)),
+        Expr::Local(name) => Ok(local(plan, &name.text)),
+        Expr::Priority => Ok(Formula::Priority),
+        Expr::Cancelled => Ok(Formula::Cancelled),
+        Expr::Negate(operand) => {
+            let operand = expression(alloc, plan, scope, operand)?;
+            Ok(Formula::Negate(Box::new(alloc, operand)?))
+        }
+        Expr::Not(operand) => {
+            let operand = expression(alloc, plan, scope, operand)?;
+            Ok(Formula::Not(Box::new(alloc, operand)?))
+        }
+        Expr::Binary(operator, left, right) => {
+            let left = expression(alloc, plan, scope, left)?;
+            let right = expression(alloc, plan, scope, right)?;
+            Ok(Formula::Binary(*operator, Box::new(alloc, left)?, Box::new(alloc, right)?))
+        }
+    }
+}
+
+/// Each of some expressions, in order.
+pub(crate) fn expressions(
+    alloc: Global,
+    plan: &Plan,
+    scope: &StandingNames<'_>,
+    exprs: &[Expr],
+) -> Result<Vec<Formula>, AllocError>
+    requires { expressions_known plan.now.directory (map view exprs.now) ≡ true }
+    ensures { IfOk result (λ v. terms_of v.items ≡ map (lowered plan.now scope.now) (map view exprs.now)) }
+{
+    let mut formulas = Vec::with_capacity(alloc, exprs.len())?;
+    for expr in exprs {
+        formulas.push(expression(alloc, plan, scope, expr)?)?;
+    }
+    Ok(formulas)
+}
+
+/// An expression, if there is one.
+pub(crate) fn expression_if(
+    alloc: Global,
+    plan: &Plan,
+    scope: &StandingNames<'_>,
+    expr: &Option<Expr>,
+) -> Result<Option<Formula>, AllocError>
+    requires { optional_known plan.now.directory (view_if expr.now) ≡ true }
+    ensures { IfOk result (λ f. term_if f ≡ lowered_if plan.now scope.now (view_if expr.now)) }
+{
+    match expr {
+        Some(expr) => Ok(Some(expression(alloc, plan, scope, expr)?)),
+        None => Ok(None),
+    }
+}

@@ -1,0 +1,239 @@
+//! What lowering knows of a whole script.
+
+ghost use Rattle.std.specs.Prelude.{◌≡◌, ◌==◌, ◌+◌, ◌<◌, ◌≤◌, ℕ, pos, true, None, ◌∷◌, ◌++◌, [], Some, length, map, option_copied, slice_get, unwrap_or, count_by, List, IfOk};
+ghost use Rattle.swift_types.specs.declared.limits.TheConstants.{ACTORS, BYTES, EXECUTORS};
+ghost use Rattle.script_grammar.specs.Tree.{text_if, view_decl};
+ghost use Rattle.script_grammar.specs.Size.{script_size};
+ghost use Rattle.script_names.specs.Texts.{is_among, place_of};
+ghost use Rattle.script_names.specs.Directory.{directory_of, executors_in, actors_in};
+ghost use Rattle.script_names.specs.Rules.{names_error};
+ghost use Rattle.script_compiler.specs.Few.{HasFewNames};
+ghost use Rattle.script_compiler.specs.Plan.{AreActorPlaces, defaults_in, on_executor, executors_from, plan_of, executor_at, actor_place_in, actor_place_of};
+ghost use Rattle.script_compiler.specs.PlanInside.{has_executor, have_executors};
+ghost use Rattle.script_compiler.specs.Lowered.{default_of};
+
+use crate::lowering::number::declared;
+use script_grammar::{Decl, Name};
+use script_names::Declared;
+use std::alloc::{AllocError, Global};
+use std::marker::Model;
+use swift_types::LocalId;
+
+/// What lowering knows of a whole script: what it declares, the defaults of its task locals, and for each actor its
+/// executor and its place among the actors of that executor.
+pub struct Plan {
+    declared: Declared,
+    defaults: Vec<i64>,
+    executors: Vec<u32>,
+    actor_places: Vec<u32>,
+}
+
+impl Drop for Plan {
+    fn drop(self) {
+        let Plan {
+            declared,
+            defaults,
+            executors,
+            actor_places,
+        } = self;
+        drop(declared);
+        drop(defaults);
+        drop(executors);
+        drop(actor_places);
+    }
+}
+
+impl Model for Plan {
+    ghost use Rattle.script_compiler.specs.Plan.{PlanView};
+    ghost use Rattle.script_compiler.specs.PlanInside.{IsSmallPlan};
+
+    ghost Value = { PlanView };
+
+    ghost view = { λ p. record { directory = p.declared; defaults = p.defaults.items; executors = p.executors.items } };
+
+    ghost invariant = { λ p. IsSmallPlan p.declared p.executors.items p.actor_places.items };
+}
+
+impl Plan {
+    /// The plan of a script, from what it declares. Linear in the declarations, and for these places in the pairs of actors,
+    /// of which there are 64 at most. `Err` says that there was no memory.
+    pub fn of(alloc: Global, declared: Declared, decls: &[Decl]) -> Result<Plan, AllocError>
+        // These are the declarations of the same script.
+        requires declared { declared ≡ directory_of (map view_decl decls.now) }
+        // Their names are in order, so there are few of them, and each executor that is named is declared.
+        requires names { names_error (map view_decl decls.now) ≡ None }
+        // They are no larger than a script may be, so all that they declare has numbers of 32 bits.
+        requires size { script_size (map view_decl decls.now) ≤ BYTES }
+        ensures { IfOk result (λ p. p ≡ plan_of (map view_decl decls.now)) }
+    {
+        let (defaults, executors, actor_places) = places(alloc, &declared, decls)?;
+        Ok(Plan {
+            declared,
+            defaults,
+            executors,
+            actor_places,
+        })
+    }
+
+    /// What the script declares.
+    pub fn declared(&self) -> &Declared
+        ensures directory { result.now ≡ self.now.directory }
+        ensures few { HasFewNames result.now }
+    {
+        &self.declared
+    }
+
+    /// The executor of the actor at a place, or 0 where there is no such actor.
+    pub fn executor(&self, actor: usize) -> u32
+        ensures { result ≡ executor_at self.now actor }
+    {
+        executor_at(&self.executors, actor)
+    }
+
+    /// The place of an actor among those of its executor, in constant time. One that is not there would come after all those of
+    /// executor 0.
+    pub fn actor_place(&self, actor: usize) -> u32
+        ensures { result ≡ actor_place_of self.now actor }
+    {
+        match self.actor_places.get(actor) {
+            Some(place) => *place,
+            None => actor_place_in(&self.executors, actor) as u32,
+        }
+    }
+
+    /// A task local that is declared, and its default.
+    #[tactic(auto, unfolding(crate::specs::Lowered::default_of))]
+    pub(crate) fn local(&self, name: &[u8]) -> (LocalId, i64)
+        requires { is_among self.now.directory.locals name.now ≡ true }
+        ensures number { result.0.0 ≡ place_of self.now.directory.locals name.now }
+        ensures default { result.1 ≡ default_of self.now name.now }
+    {
+        let place = declared(self.declared.local(name));
+        let default = self.defaults.get(place as usize).copied().unwrap_or(0);
+        (LocalId(place), default)
+    }
+}
+
+// The defaults of the task locals, and of each actor its executor and its place there.
+fn places(
+    alloc: Global,
+    declared: &Declared,
+    decls: &[Decl],
+) -> Result<(Vec<i64>, Vec<u32>, Vec<u32>), AllocError>
+    requires declared { declared.now ≡ directory_of (map view_decl decls.now) }
+    requires names { names_error (map view_decl decls.now) ≡ None }
+    requires size { script_size (map view_decl decls.now) ≤ BYTES }
+    ensures names { IfOk result (λ p. HasFewNames declared.now) }
+    ensures defaults { IfOk result (λ p. p.0.items ≡ defaults_in (map view_decl decls.now)) }
+    ensures executors { IfOk result (λ p. p.1.items ≡ (plan_of (map view_decl decls.now)).executors) }
+    ensures few { IfOk result (λ p. length p.1.items ≤ ACTORS) }
+    ensures actor_places { IfOk result (λ p. AreActorPlaces p.1.items p.2.items) }
+{
+    let defaults = defaults(alloc, decls)?;
+    let executors = executors(alloc, declared, decls)?;
+    let actor_places = actor_places(alloc, &executors)?;
+    Ok((defaults, executors, actor_places))
+}
+
+fn defaults(alloc: Global, decls: &[Decl]) -> Result<Vec<i64>, AllocError>
+    ensures { IfOk result (λ v. v.items ≡ defaults_in (map view_decl decls.now)) }
+{
+    let mut defaults = Vec::new(alloc);
+    for decl in decls {
+        match decl {
+            Decl::Local(local) => defaults.push(local.default)?,
+            Decl::Executor(_) | Decl::Actor(_) | Decl::Root(_) => {}
+        }
+    }
+    Ok(defaults)
+}
+
+// How many executors are declared.
+fn executor_count(decls: &[Decl]) -> u32
+    requires { length (executors_in (map view_decl decls.now)) ≤ EXECUTORS }
+    ensures { result ≡ length (executors_in (map view_decl decls.now)) }
+{
+    let mut count = 0;
+    for decl in decls {
+        match decl {
+            Decl::Executor(_) => count += 1,
+            Decl::Local(_) | Decl::Actor(_) | Decl::Root(_) => {}
+        }
+    }
+    count
+}
+
+// The executor of each actor. Those without one have their own, after the declared ones.
+fn executors(alloc: Global, declared: &Declared, decls: &[Decl]) -> Result<Vec<u32>, AllocError>
+    requires declared { declared.now.executors ≡ executors_in (map view_decl decls.now) }
+    requires have { have_executors declared.now.executors (map view_decl decls.now) ≡ true }
+    requires executors { length (executors_in (map view_decl decls.now)) ≤ EXECUTORS }
+    requires actors { length (actors_in (map view_decl decls.now)) ≤ ACTORS }
+    ensures executors { IfOk result (λ v. v.items ≡ executors_from declared.now.executors (length declared.now.executors) (map view_decl decls.now)) }
+    ensures as_many { IfOk result (λ v. length v.items ≡ length (actors_in (map view_decl decls.now))) }
+{
+    let mut executors = Vec::new(alloc);
+    let mut own = executor_count(decls);
+    for decl in decls {
+        match decl {
+            Decl::Actor(actor) => {
+                let (executor, next) = executor_on(declared, own, &actor.executor);
+                executors.push(executor)?;
+                own = next;
+            }
+            Decl::Executor(_) | Decl::Local(_) | Decl::Root(_) => {}
+        }
+    }
+    Ok(executors)
+}
+
+// An actor's executor, and the number that the next actor's own executor has.
+fn executor_on(declared: &Declared, own: u32, on: &Option<Name>) -> (u32, u32)
+    requires has { has_executor declared.now.executors (text_if on.now) ≡ true }
+    requires executors { length declared.now.executors ≤ EXECUTORS }
+    requires own { own < EXECUTORS + ACTORS }
+    ensures executor { (others : ℕ → List ℕ) → on_executor declared.now.executors own (text_if on.now) others ≡ result.0 ∷ others result.1 }
+    ensures next { result.1 ≤ own + 1 }
+{
+    match on {
+        None => (own, own + 1),
+        Some(name) => match declared.executor(&name.text) {
+            Some(place) => (place as u32, own),
+            None => unreachable!(),
+        },
+    }
+}
+
+fn actor_places(alloc: Global, executors: &[u32]) -> Result<Vec<u32>, AllocError>
+    requires { length executors.now ≤ ACTORS }
+    ensures { IfOk result (λ v. AreActorPlaces executors.now v.items) }
+{
+    let mut actor_places = Vec::new(alloc);
+    for actor in 0..executors.len() {
+        actor_places.push(actor_place_in(executors, actor) as u32)?;
+    }
+    Ok(actor_places)
+}
+
+// The executor of the actor at a place, or 0 where there is no such actor.
+fn executor_at(executors: &[u32], actor: usize) -> u32
+    ensures { result ≡ unwrap_or (slice_get executors.now actor) 0 }
+{
+    executors.get(actor).copied().unwrap_or(0)
+}
+
+// How often an executor stands among others.
+fn count_of(executors: &[u32], own: u32) -> usize
+    ensures count { result ≡ count_by (λ e. e == own) executors.now }
+    ensures most { result ≤ length executors.now }
+{
+    executors.iter().filter(|e| **e == own).count()
+}
+
+fn actor_place_in(executors: &[u32], actor: usize) -> usize
+    ensures place { result ≡ actor_place_in executors.now actor }
+    ensures most { result ≤ length executors.now }
+{
+    let own = executor_at(executors, actor);
+    count_of(&executors[..actor.min(executors.len())], own)
+}

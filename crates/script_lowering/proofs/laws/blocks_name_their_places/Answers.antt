@@ -1,5 +1,0 @@
-use Rattle.script_lowering.proofs.BlockPlaces.{block_places}
-use Rattle.script_lowering.proofs.laws.blocks_name_their_places.Goals as goal
-
-pub returns : goal.returns
-returns c = block_places

@@ -1,6 +1,0 @@
-use Rattle.script_lowering.proofs.Callable.{method_found}
-use Rattle.script_lowering.proofs.Parameters.{as_many_parameters}
-use Rattle.script_lowering.proofs.laws.methods_have_places.Goals as goal
-
-pub returns : goal.returns
-returns c = record { key = method_found; params = as_many_parameters }

@@ -1,7 +1,0 @@
-use Rattle.std.proofs.Common.{◌≡◌, ◌++◌, drop, map}
-use Rattle.script_grammar.specs.Tree.{view_decl}
-use Rattle.script_lowering.specs.Plan.{defaults_in}
-use Rattle.script_lowering.proofs.plan.defaults.Given as goal
-
-abbrev pub invariant-loop-decl : goal.invariant-loop-decl
-invariant-loop-decl l = l.defaults.items ++ defaults_in (map view_decl (drop l.decl-index l.decls)) ≡ defaults_in (map view_decl l.decls)

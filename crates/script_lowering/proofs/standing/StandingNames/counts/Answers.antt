@@ -1,8 +1,0 @@
-use Rattle.std.proofs.Common.{ap, ◌∙◌}
-use Rattle.script_names.specs.Scope.{ScopeView}
-use Rattle.script_lowering.specs.Counts.{counts_of}
-use Rattle.script_lowering.proofs.Counting.{here_is}
-use Rattle.script_lowering.proofs.standing.StandingNames.counts.Goals as goal
-
-pub returns : goal.returns
-returns c = here_is c.self.inside.scope.kinds c.self.inside.counts.items c.self.inside.here c.self.invariant.are ∙ ap (λ (s : ScopeView). counts_of s.kinds) c.self.view_is

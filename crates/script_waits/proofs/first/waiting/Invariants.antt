@@ -1,7 +1,0 @@
-use Rattle.std.proofs.Common.{◌+◌, length, take}
-use Rattle.script_waits.specs.FirstInside.{WaitsInPlace}
-use Rattle.script_waits.specs.ListsInside.{AreListsOf}
-use Rattle.script_waits.proofs.first.waiting.Given as goal
-
-abbrev pub invariant-loop-wait : goal.invariant-loop-wait
-invariant-loop-wait l = AreListsOf (WaitsInPlace (take l.wait-index l.waits) (length l.roots)) (length l.roots + 1) l.waiting

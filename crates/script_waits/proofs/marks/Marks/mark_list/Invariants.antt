@@ -1,9 +1,0 @@
-use Rattle.script_waits.specs.ListsInside.{end_of}
-use Rattle.script_waits.proofs.Walk.{IsWalk}
-use Rattle.script_waits.proofs.marks.Marks.mark_list.Given as goal
-
-abbrev pub invariant-loop-next : goal.invariant-loop-next
-invariant-loop-next l = IsWalk l.lists l.list l.next l.initial.self l.self
-
-abbrev pub decreases-loop-next : goal.decreases-loop-next
-decreases-loop-next l = end_of l.next

@@ -1,9 +1,0 @@
-use Rattle.script_waits.specs.MarksInside.{left_of}
-use Rattle.script_waits.proofs.Spread.{IsSpreading}
-use Rattle.script_waits.proofs.marks.Marks.spread.Given as goal
-
-abbrev pub invariant-loop-method : goal.invariant-loop-method
-invariant-loop-method l = IsSpreading l.callers l.initial.self l.self
-
-abbrev pub decreases-loop-method : goal.decreases-loop-method
-decreases-loop-method l = left_of l.self

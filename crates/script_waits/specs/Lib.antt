@@ -1,4 +1,0 @@
-pub mod Waits
-pub mod ListsInside
-pub mod MarksInside
-pub mod FirstInside

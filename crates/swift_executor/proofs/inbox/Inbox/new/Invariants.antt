@@ -1,0 +1,5 @@
+use Rattle.std.proofs.Common.{Some}
+use Rattle.swift_executor.proofs.inbox.Inbox.new.Given as goal
+
+abbrev pub ghosts-make_placed : goal.ghosts-make_placed
+ghosts-make_placed a = record { site = Some a.site.now }

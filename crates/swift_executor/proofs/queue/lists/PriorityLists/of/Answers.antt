@@ -1,0 +1,12 @@
+use Rattle.std.proofs.Common.{List, ap}
+use Rattle.std.proofs.lemmas.List.{nil_from_length}
+use Rattle.swift_executor.specs.declared.queue.waiting.Waiting.{Waiting}
+use Rattle.swift_executor.specs.QueueInside.Lists.{jobs_of}
+use Rattle.swift_executor.specs.QueueInside.PriorityLists.{PriorityListsView}
+use Rattle.swift_executor.proofs.FirstIsPicked.{empty_none}
+use Rattle.swift_executor.proofs.queue.lists.PriorityLists.of.Goals as goal
+
+pub returns : goal.returns
+returns g c =
+    let with_jobs : List (Waiting g.row.B.Denot) → PriorityListsView g.row.B.Denot = λ jobs. record { jobs = jobs; room = c.args.room } in
+    ap with_jobs (nil_from_length (jobs_of c.args.lists) (empty_none c.args.lists c.requires.empty))

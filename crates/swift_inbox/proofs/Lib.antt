@@ -1,2 +1,0 @@
-pub mod AccountIsKept
-pub mod CrossesThreads

@@ -1,6 +1,0 @@
-use Rattle.std.proofs.Common.{rules}
-use Rattle.swift_inbox.proofs.AccountIsKept.{puts}
-use Rattle.swift_inbox.proofs.inbox.Inbox.put.Goals as goal
-
-pub push_as-requires-clause-rule : goal.push_as-requires-clause-rule
-push_as-requires-clause-rule g c = (puts _ _ _ c.args.self.now.site _ (search rules) (search rules) (search rules), λ _ _ _ _. tt)

@@ -1,5 +1,0 @@
-use Rattle.swift_inbox.proofs.AccountIsKept.{each_can_run}
-use Rattle.swift_inbox.proofs.laws.each_inside_can_run.Goals as goal
-
-pub returns : goal.returns
-returns c = each_can_run

@@ -1,6 +1,0 @@
-use Rattle.std.proofs.Common.{rules}
-use Rattle.swift_inbox.proofs.AccountIsKept.{splits}
-use Rattle.swift_inbox.proofs.pass.Pass.split.Goals as goal
-
-pub another-raw-requires-clause-rule : goal.another-raw-requires-clause-rule
-another-raw-requires-clause-rule c = splits _ _ c.args.inbox.now.site (search rules)

@@ -1,3 +1,0 @@
-pub mod Inbox
-pub mod Rule
-pub mod Site

@@ -1,3 +1,0 @@
-pub mod LockCalls
-pub mod LockLaws
-pub mod LockSteps

@@ -1,5 +1,0 @@
-use Rattle.swift_lock.proofs.LockLaws.{one_seat_holds}
-use Rattle.swift_lock.proofs.laws.one_seat_holds.Goals as goal
-
-pub returns : goal.returns
-returns g c s k a b v w = one_seat_holds g.T.Locked.image g.P.LockRule.holds s k a b v w

@@ -1,3 +1,0 @@
-pub mod Rule
-pub mod Seat
-pub mod StepsInside

@@ -1,3 +1,0 @@
-pub mod Picks
-pub mod Queue
-pub mod Inside
