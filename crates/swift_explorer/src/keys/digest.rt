@@ -11,7 +11,9 @@ ghost use Rattle.swift_explorer.specs.DigestNumbers.{IsWithin, IsWritten, card_n
 ghost use Rattle.swift_digest.specs.Digests.{digest_of, one_if, own_link};
 ghost use Rattle.swift_explorer.specs.Numbers.{each_numbers, link_numbers, some_numbers, task_numbers};
 
-use crate::keys::values::{put_ending, put_flag, put_life, put_link, put_task, put_wide};
+use crate::keys::values::{
+    put_ending, put_flag, put_life, put_link, put_task, put_value, put_wide,
+};
 use std::alloc::{AllocError, Global};
 use swift_escalation::PriorityEvent as Link;
 use swift_events::{Event, Life};
@@ -227,9 +229,8 @@ fn put_some_link(numbers: &mut Vec<i64>, link: Option<Link>) -> Result<(), Alloc
     match link {
         None => Ok(()),
         Some(link) => {
-            numbers.push(1)?;
-            put_link(numbers, link)?;
-            Ok(())
+            put_value(numbers, 1)?;
+            put_link(numbers, link)
         }
     }
 }
@@ -240,9 +241,8 @@ fn put_some_task(numbers: &mut Vec<i64>, task: Option<TaskId>) -> Result<(), All
     match task {
         None => Ok(()),
         Some(task) => {
-            numbers.push(1)?;
-            put_task(numbers, task)?;
-            Ok(())
+            put_value(numbers, 1)?;
+            put_task(numbers, task)
         }
     }
 }
@@ -253,10 +253,9 @@ fn put_some_end(numbers: &mut Vec<i64>, end: Option<(TaskId, Ending)>) -> Result
     match end {
         None => Ok(()),
         Some((task, ending)) => {
-            numbers.push(1)?;
+            put_value(numbers, 1)?;
             put_task(numbers, task)?;
-            put_ending(numbers, ending)?;
-            Ok(())
+            put_ending(numbers, ending)
         }
     }
 }
@@ -367,8 +366,7 @@ fn put_card(key: &mut Vec<i64>, card: &KeyCard) -> Result<(), AllocError>
     put_closed(key, &card.own)?;
     put_closed(key, &card.waiters)?;
     put_flag(key, card.named)?;
-    put_wide(key, card.opened)?;
-    Ok(())
+    put_wide(key, card.opened)
 }
 
 fn put_group(key: &mut Vec<i64>, card: &KeyGroup) -> Result<(), AllocError>
@@ -378,8 +376,7 @@ fn put_group(key: &mut Vec<i64>, card: &KeyGroup) -> Result<(), AllocError>
     put_closed(key, &card.ended)?;
     put_wide(key, card.asked)?;
     put_flag(key, card.closed)?;
-    put_flag(key, card.named)?;
-    Ok(())
+    put_flag(key, card.named)
 }
 
 // How many tasks and groups a log names, and how many tasks it makes that are no roots.
@@ -434,8 +431,7 @@ fn put_head(key: &mut Vec<i64>, bounds: Bounds) -> Result<(), AllocError>
 {
     put_wide(key, bounds.tasks)?;
     put_wide(key, bounds.groups)?;
-    put_wide(key, bounds.made)?;
-    Ok(())
+    put_wide(key, bounds.made)
 }
 
 fn put_cards(alloc: Global, key: &mut Vec<i64>, log: &[Event], tasks: u64) -> Result<(), AllocError>

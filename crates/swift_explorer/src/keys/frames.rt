@@ -6,7 +6,7 @@ ghost use Rattle.swift_interpreter.specs.Frames.{frame_view};
 ghost use Rattle.swift_explorer.specs.FrameNumbers.{binding_numbers, bindings_numbers, fields_numbers, frame_numbers, groups_numbers, ids_numbers, rows_numbers, values_numbers};
 ghost use Rattle.swift_explorer.specs.Numbers.{fault_numbers, flag_numbers, list_numbers, option_numbers};
 
-use crate::keys::values::{put_fault, put_flag, put_number, put_wide};
+use crate::keys::values::{put_fault, put_flag, put_number, put_value, put_wide};
 use script_code::Binding;
 use std::alloc::AllocError;
 use swift_interpreter::Frame;
@@ -59,10 +59,9 @@ pub fn put_flags(key: &mut Vec<i64>, flags: &[bool]) -> Result<(), AllocError>
 fn put_binding(key: &mut Vec<i64>, local: LocalId, value: i64) -> Result<(), AllocError>
     ensures { OnOk result (key.new.items ≡ key.old.items ++ (pos 1 ∷ binding_numbers (local.0, value))) }
 {
-    key.push(1)?;
+    put_value(key, 1)?;
     put_number(key, local.0)?;
-    key.push(value)?;
-    Ok(())
+    put_value(key, value)
 }
 
 fn put_own(key: &mut Vec<i64>, own: &[Binding]) -> Result<(), AllocError>
@@ -91,14 +90,10 @@ fn put_fault_if(key: &mut Vec<i64>, fault: Option<Fault>) -> Result<(), AllocErr
     ensures { OnOk result (key.new.items ≡ key.old.items ++ option_numbers fault_numbers fault) }
 {
     match fault {
-        None => {
-            key.push(0)?;
-            Ok(())
-        }
+        None => put_value(key, 0),
         Some(fault) => {
-            key.push(1)?;
-            put_fault(key, fault)?;
-            Ok(())
+            put_value(key, 1)?;
+            put_fault(key, fault)
         }
     }
 }

@@ -19,16 +19,14 @@ fn put_4(bytes: &mut Vec<u8>, number: u64) -> Result<(), AllocError>
     ensures { OnOk result (bytes.new.items ≡ bytes.old.items ++ bytes_4 number) }
 {
     put_2(bytes, number / 65_536)?;
-    put_2(bytes, number % 65_536)?;
-    Ok(())
+    put_2(bytes, number % 65_536)
 }
 
 fn put_8(bytes: &mut Vec<u8>, number: u64) -> Result<(), AllocError>
     ensures { OnOk result (bytes.new.items ≡ bytes.old.items ++ bytes_8 number) }
 {
     put_4(bytes, number / 4_294_967_296)?;
-    put_4(bytes, number % 4_294_967_296)?;
-    Ok(())
+    put_4(bytes, number % 4_294_967_296)
 }
 
 // Writes a number.
@@ -37,16 +35,14 @@ fn put(bytes: &mut Vec<u8>, number: i64) -> Result<(), AllocError>
 {
     if number < 0 {
         bytes.push(254)?;
-        put_8(bytes, (-(number + 1)) as u64)?;
-        return Ok(());
+        return put_8(bytes, (-(number + 1)) as u64);
     }
     if number < 253 {
         bytes.push(number as u8)?;
         return Ok(());
     }
     bytes.push(253)?;
-    put_8(bytes, number as u64)?;
-    Ok(())
+    put_8(bytes, number as u64)
 }
 
 /// The bytes of a list of numbers. No other list has the same (`bytes_are_read`).

@@ -8,24 +8,30 @@ use swift_escalation::PriorityEvent as Link;
 use swift_events::{JobStage, LastJob, Life, Origin};
 use swift_types::{Ending, Env, Fault, Priority, Resume, TaskId};
 
+/// A value.
+pub fn put_value(key: &mut Vec<i64>, value: i64) -> Result<(), AllocError>
+    ensures { OnOk result (key.new.items ≡ key.old.items ++ value ∷ []) }
+{
+    key.push(value)?;
+    Ok(())
+}
+
 /// A flag: 1 or 0.
 pub fn put_flag(key: &mut Vec<i64>, flag: bool) -> Result<(), AllocError>
     ensures { OnOk result (key.new.items ≡ key.old.items ++ flag_numbers flag) }
 {
     if flag {
-        key.push(1)?;
+        put_value(key, 1)
     } else {
-        key.push(0)?;
+        put_value(key, 0)
     }
-    Ok(())
 }
 
 /// A number.
 pub fn put_number(key: &mut Vec<i64>, number: u32) -> Result<(), AllocError>
     ensures { OnOk result (key.new.items ≡ key.old.items ++ pos number ∷ []) }
 {
-    key.push(i64::from(number))?;
-    Ok(())
+    put_value(key, i64::from(number))
 }
 
 /// A number of 64 bits: its halves.
@@ -33,23 +39,20 @@ pub fn put_wide(key: &mut Vec<i64>, number: u64) -> Result<(), AllocError>
     ensures { OnOk result (key.new.items ≡ key.old.items ++ wide_numbers number) }
 {
     put_number(key, (number / 4_294_967_296) as u32)?;
-    put_number(key, (number % 4_294_967_296) as u32)?;
-    Ok(())
+    put_number(key, (number % 4_294_967_296) as u32)
 }
 
 /// A task.
 pub fn put_task(key: &mut Vec<i64>, task: TaskId) -> Result<(), AllocError>
     ensures { OnOk result (key.new.items ≡ key.old.items ++ task_numbers task) }
 {
-    put_number(key, task.0)?;
-    Ok(())
+    put_number(key, task.0)
 }
 
 fn put_priority(key: &mut Vec<i64>, priority: Priority) -> Result<(), AllocError>
     ensures { OnOk result (key.new.items ≡ key.old.items ++ priority_numbers priority) }
 {
-    put_number(key, u32::from(priority.number()))?;
-    Ok(())
+    put_number(key, u32::from(priority.number()))
 }
 
 /// A fault.
@@ -58,46 +61,18 @@ pub fn put_fault(key: &mut Vec<i64>, fault: Fault) -> Result<(), AllocError>
 {
     match fault {
         Fault::Thrown(value) => {
-            key.push(0)?;
-            key.push(value)?;
-            Ok(())
+            put_value(key, 0)?;
+            put_value(key, value)
         }
-        Fault::Cancelled => {
-            key.push(1)?;
-            Ok(())
-        }
-        Fault::Invariant => {
-            key.push(2)?;
-            Ok(())
-        }
-        Fault::Overflow => {
-            key.push(3)?;
-            Ok(())
-        }
-        Fault::Steps => {
-            key.push(4)?;
-            Ok(())
-        }
-        Fault::Turns => {
-            key.push(5)?;
-            Ok(())
-        }
-        Fault::Depth => {
-            key.push(6)?;
-            Ok(())
-        }
-        Fault::Tasks => {
-            key.push(7)?;
-            Ok(())
-        }
-        Fault::Empty => {
-            key.push(8)?;
-            Ok(())
-        }
-        Fault::Isolation => {
-            key.push(9)?;
-            Ok(())
-        }
+        Fault::Cancelled => put_value(key, 1),
+        Fault::Invariant => put_value(key, 2),
+        Fault::Overflow => put_value(key, 3),
+        Fault::Steps => put_value(key, 4),
+        Fault::Turns => put_value(key, 5),
+        Fault::Depth => put_value(key, 6),
+        Fault::Tasks => put_value(key, 7),
+        Fault::Empty => put_value(key, 8),
+        Fault::Isolation => put_value(key, 9),
     }
 }
 
@@ -107,14 +82,12 @@ pub fn put_ending(key: &mut Vec<i64>, ending: Ending) -> Result<(), AllocError>
 {
     match ending {
         Ending::Value(value) => {
-            key.push(0)?;
-            key.push(value)?;
-            Ok(())
+            put_value(key, 0)?;
+            put_value(key, value)
         }
         Ending::Fault(fault) => {
-            key.push(1)?;
-            put_fault(key, fault)?;
-            Ok(())
+            put_value(key, 1)?;
+            put_fault(key, fault)
         }
     }
 }
@@ -124,23 +97,15 @@ pub fn put_resume(key: &mut Vec<i64>, resume: Resume) -> Result<(), AllocError>
     ensures { OnOk result (key.new.items ≡ key.old.items ++ resume_numbers resume) }
 {
     match resume {
-        Resume::Start => {
-            key.push(0)?;
-            Ok(())
-        }
-        Resume::Go => {
-            key.push(1)?;
-            Ok(())
-        }
+        Resume::Start => put_value(key, 0),
+        Resume::Go => put_value(key, 1),
         Resume::Value(value) => {
-            key.push(2)?;
-            key.push(value)?;
-            Ok(())
+            put_value(key, 2)?;
+            put_value(key, value)
         }
         Resume::Fault(fault) => {
-            key.push(3)?;
-            put_fault(key, fault)?;
-            Ok(())
+            put_value(key, 3)?;
+            put_fault(key, fault)
         }
     }
 }
@@ -150,25 +115,19 @@ pub fn put_origin(key: &mut Vec<i64>, origin: Origin) -> Result<(), AllocError>
     ensures { OnOk result (key.new.items ≡ key.old.items ++ origin_numbers origin) }
 {
     match origin {
-        Origin::Root => {
-            key.push(0)?;
-            Ok(())
-        }
+        Origin::Root => put_value(key, 0),
         Origin::Child(owner, group) => {
-            key.push(1)?;
+            put_value(key, 1)?;
             put_number(key, owner.0)?;
-            put_number(key, group)?;
-            Ok(())
+            put_number(key, group)
         }
         Origin::Spawned(by) => {
-            key.push(2)?;
-            put_number(key, by.0)?;
-            Ok(())
+            put_value(key, 2)?;
+            put_number(key, by.0)
         }
         Origin::Detached(by) => {
-            key.push(3)?;
-            put_number(key, by.0)?;
-            Ok(())
+            put_value(key, 3)?;
+            put_number(key, by.0)
         }
     }
 }
@@ -177,14 +136,10 @@ fn put_origin_if(key: &mut Vec<i64>, origin: Option<Origin>) -> Result<(), Alloc
     ensures { OnOk result (key.new.items ≡ key.old.items ++ option_numbers origin_numbers origin) }
 {
     match origin {
-        None => {
-            key.push(0)?;
-            Ok(())
-        }
+        None => put_value(key, 0),
         Some(origin) => {
-            key.push(1)?;
-            put_origin(key, origin)?;
-            Ok(())
+            put_value(key, 1)?;
+            put_origin(key, origin)
         }
     }
 }
@@ -193,15 +148,11 @@ fn put_given_if(key: &mut Vec<i64>, given: Option<LastJob>) -> Result<(), AllocE
     ensures { OnOk result (key.new.items ≡ key.old.items ++ option_numbers given_numbers given) }
 {
     match given {
-        None => {
-            key.push(0)?;
-            Ok(())
-        }
+        None => put_value(key, 0),
         Some(given) => {
-            key.push(1)?;
+            put_value(key, 1)?;
             put_number(key, given.number)?;
-            put_resume(key, given.resume)?;
-            Ok(())
+            put_resume(key, given.resume)
         }
     }
 }
@@ -211,41 +162,30 @@ fn put_env(key: &mut Vec<i64>, env: Env) -> Result<(), AllocError>
 {
     put_priority(key, env.priority)?;
     put_flag(key, env.cancelled)?;
-    put_number(key, env.room)?;
-    Ok(())
+    put_number(key, env.room)
 }
 
 fn put_stage(key: &mut Vec<i64>, stage: JobStage) -> Result<(), AllocError>
     ensures { OnOk result (key.new.items ≡ key.old.items ++ stage_numbers stage) }
 {
     match stage {
-        JobStage::Given => {
-            key.push(0)?;
-            Ok(())
-        }
+        JobStage::Given => put_value(key, 0),
         JobStage::Begun(env) => {
-            key.push(1)?;
-            put_env(key, env)?;
-            Ok(())
+            put_value(key, 1)?;
+            put_env(key, env)
         }
-        JobStage::Applied => {
-            key.push(2)?;
-            Ok(())
-        }
+        JobStage::Applied => put_value(key, 2),
         JobStage::Waits(awaited) => {
-            key.push(3)?;
-            put_number(key, awaited.0)?;
-            Ok(())
+            put_value(key, 3)?;
+            put_number(key, awaited.0)
         }
         JobStage::Asks(group) => {
-            key.push(4)?;
-            put_number(key, group)?;
-            Ok(())
+            put_value(key, 4)?;
+            put_number(key, group)
         }
         JobStage::Closes(group) => {
-            key.push(5)?;
-            put_number(key, group)?;
-            Ok(())
+            put_value(key, 5)?;
+            put_number(key, group)
         }
     }
 }
@@ -254,14 +194,10 @@ fn put_stage_if(key: &mut Vec<i64>, stage: Option<JobStage>) -> Result<(), Alloc
     ensures { OnOk result (key.new.items ≡ key.old.items ++ option_numbers stage_numbers stage) }
 {
     match stage {
-        None => {
-            key.push(0)?;
-            Ok(())
-        }
+        None => put_value(key, 0),
         Some(stage) => {
-            key.push(1)?;
-            put_stage(key, stage)?;
-            Ok(())
+            put_value(key, 1)?;
+            put_stage(key, stage)
         }
     }
 }
@@ -270,14 +206,10 @@ fn put_ending_if(key: &mut Vec<i64>, ending: Option<Ending>) -> Result<(), Alloc
     ensures { OnOk result (key.new.items ≡ key.old.items ++ option_numbers ending_numbers ending) }
 {
     match ending {
-        None => {
-            key.push(0)?;
-            Ok(())
-        }
+        None => put_value(key, 0),
         Some(ending) => {
-            key.push(1)?;
-            put_ending(key, ending)?;
-            Ok(())
+            put_value(key, 1)?;
+            put_ending(key, ending)
         }
     }
 }
@@ -289,8 +221,7 @@ pub fn put_life(key: &mut Vec<i64>, life: Life) -> Result<(), AllocError>
     put_origin_if(key, life.origin)?;
     put_given_if(key, life.given)?;
     put_stage_if(key, life.stage)?;
-    put_ending_if(key, life.ending)?;
-    Ok(())
+    put_ending_if(key, life.ending)
 }
 
 /// A link between tasks.
@@ -299,29 +230,25 @@ pub fn put_link(key: &mut Vec<i64>, link: Link) -> Result<(), AllocError>
 {
     match link {
         Link::Root(task, priority) => {
-            key.push(0)?;
+            put_value(key, 0)?;
             put_number(key, task.0)?;
-            put_priority(key, priority)?;
-            Ok(())
+            put_priority(key, priority)
         }
         Link::Child { task, parent, own } => {
-            key.push(1)?;
+            put_value(key, 1)?;
             put_number(key, task.0)?;
             put_number(key, parent.0)?;
-            put_priority(key, own)?;
-            Ok(())
+            put_priority(key, own)
         }
         Link::Free(task, priority) => {
-            key.push(2)?;
+            put_value(key, 2)?;
             put_number(key, task.0)?;
-            put_priority(key, priority)?;
-            Ok(())
+            put_priority(key, priority)
         }
         Link::Wait(task, awaited) => {
-            key.push(3)?;
+            put_value(key, 3)?;
             put_number(key, task.0)?;
-            put_number(key, awaited.0)?;
-            Ok(())
+            put_number(key, awaited.0)
         }
     }
 }
