@@ -20,7 +20,7 @@ from prove import JOBS, TOP, graph, in_order, prove_all, show
 
 LOGS = os.path.join(TOP, "out", "prove")
 # What a proof of a crate does not read.
-UNREAD = ("out", "must-fail", "mutants")
+UNREAD = ("out", "mutants")
 ENDED = re.compile(r"rt: (\w+) (proved|NOT PROVED)")
 
 

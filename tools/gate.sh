@@ -2,10 +2,9 @@
 # The gate. Its last line is 'N passed, M failed'; status 0 where none failed.
 set -u
 cd "$(dirname "$0")/.."
-edits=$(ls crates/*/must-fail/*.edit | wc -l)
 crates=$(ls -d crates/*/src | wc -l)
 cat <<TXT
-This proves those of $crates crates that have not passed on this machine before, tries $edits planted bugs of laws and one of each row of the table
+This proves those of $crates crates that have not passed on this machine before, tries a planted bug of each row of the table
 in docs/THEOREMS.md, which the prover has to refuse, runs all tests and programs, the examples, and cases of the test program once for each of a
 sample of their allocations, with that one refused. From nothing it took 98 minutes at a slow hour, on the two cores that it
 uses at a time; it prints little until its end.

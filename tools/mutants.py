@@ -1,5 +1,5 @@
 #!/usr/bin/env python3
-"""Tries the planted bugs in crates/NAME/mutants/ and must-fail/: the prover has to refuse each.
+"""Tries the planted bugs in crates/NAME/mutants/: the prover has to refuse each.
 
     tools/mutants.py [--edits PATTERN..] [NAME..]       of these crates (all), those whose names match (all)
     tools/mutants.py --table                            those that the gate tries, by the table of planted bugs in docs/THEOREMS.md
@@ -12,8 +12,7 @@ does not read, each half of them is tried. Where a function is not proved that n
 verdict is given, since the libraries may be those of other code. The crates below are proved first, and the crate itself, unless rt check
 or rt lib has done so in this tree.
 
-With --table they are the first of each row of the first table there, but for rows of edits in must-fail/, which `rt ci` tries. They are
-judged over the libraries that `rt ci` has left in this tree, by checks of the functions that they change and of what these call.
+With --table they are the first of each row of the first table there. They are judged over the libraries that `rt ci` has left in this tree, by checks of the functions that they change and of what these call.
 """
 import argparse
 import concurrent.futures
@@ -241,13 +240,10 @@ class Crate:
 
 
 def edits_of(name, patterns):
-    found = []
-    for kind in ("must-fail", "mutants"):
-        folder = os.path.join(TOP, "crates", name, kind)
-        for file in sorted(os.listdir(folder)) if os.path.isdir(folder) else []:
-            if file.endswith(".edit") and any(fnmatch.fnmatch(file[: -len(".edit")], it) for it in patterns):
-                found.append(Edit(os.path.join(folder, file)))
-    return found
+    folder = os.path.join(TOP, "crates", name, "mutants")
+    files = sorted(os.listdir(folder)) if os.path.isdir(folder) else []
+    names = [it[: -len(".edit")] for it in files if it.endswith(".edit")]
+    return [Edit(os.path.join(folder, f"{it}.edit")) for it in names if any(fnmatch.fnmatch(it, pattern) for pattern in patterns)]
 
 
 def prove_first(name):
@@ -280,15 +276,14 @@ def tried(name, edits, only=False):
 
 
 def of_table():
-    """The edits that the gate tries by the first table, by their crates: the first of each row that names none in must-fail/."""
+    """The edits that the gate tries by the first table, by their crates: the first of each row."""
     found = {}
     with open(TABLE, encoding="utf8") as text:
         section = text.read().split("\n## Planted bugs\n")[1].split("\n#")[0]
     for row in section.split("\n"):
-        named = re.findall(r"\(\.\./crates/(\w+)/(must-fail|mutants)/(\w+)\.edit\)", row)
-        if named and all(kind == "mutants" for _, kind, _ in named):
-            crate, _, edit = named[0]
-            found.setdefault(crate, []).append(edit)
+        named = re.search(r"\(\.\./crates/(\w+)/mutants/(\w+)\.edit\)", row)
+        if named:
+            found.setdefault(named[1], []).append(named[2])
     return {crate: edits_of(crate, names) for crate, names in found.items()}
 
 
