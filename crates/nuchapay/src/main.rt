@@ -17,11 +17,11 @@ mod values;
 use crate::explore::{Rerun, outcomes_text, rerun_text};
 use crate::show::show_run;
 use crate::values::{Said, explained_turn, report_of};
+use nuchapay_runs::Explained;
 use nuchapay_tool::{
     Checked, Request, Source, Topic, TurnName, check, explain, page_of, pretty, print, read_input,
     request, translate,
 };
-use nuchapay_values::Explained;
 use std::alloc::{AllocError, AllocGlobal};
 use std::fs::File;
 use std::io::ErrorKind;

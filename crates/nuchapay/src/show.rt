@@ -1,7 +1,7 @@
 //! A run as a picture.
 
 use crate::values::{all_ended_well, run_text};
-use nuchapay_picture::{PictureFault, picture_of, svg_text, write_trace};
+use nuchapay_runs::picture::{PictureFault, picture_of, svg_text, write_trace};
 use nuchapay_tool::PictureFormat;
 use std::alloc::{AllocError, AllocGlobal};
 use std::io::Write;

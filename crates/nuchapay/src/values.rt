@@ -1,7 +1,7 @@
 //! Runs whose turns are explained.
 
+use nuchapay_runs::{Explained, explain_turn, report_with_values};
 use nuchapay_tool::TurnName;
-use nuchapay_values::{Explained, explain_turn, report_with_values};
 use std::alloc::AllocGlobal;
 use std::random::RandomSource;
 use std::sync::{Arc, Wait};

@@ -5,3 +5,5 @@ pub mod LaidOut
 pub mod Laying
 mod Shown
 pub mod Standing
+pub mod Apart
+pub mod Wrote

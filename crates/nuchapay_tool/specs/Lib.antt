@@ -11,3 +11,6 @@ pub mod Requests
 pub mod Sources
 pub mod Topics
 pub mod Translations
+pub mod Programs
+pub mod Outline
+pub mod Names

@@ -2,9 +2,9 @@
 use Rattle.std.specs.Prelude.{◌≡◌, ℕ, List}
 use Rattle.script_grammar.specs.Tree.{DeclTree}
 use Rattle.script_parser.specs.declared.limits.TheConstants.{NESTING}
-use Rattle.script_swift.specs.declared.program.SwiftProgram.{SwiftProgram}
-use Rattle.script_swift.specs.Outline.{outline, wanted}
-use Rattle.script_swift.specs.Programs.{program_text}
+use Rattle.nuchapay_tool.specs.declared.swift.program.SwiftProgram.{SwiftProgram}
+use Rattle.nuchapay_tool.specs.Outline.{outline, wanted}
+use Rattle.nuchapay_tool.specs.Programs.{program_text}
 use Rattle.swift_script.specs.Accepted.{IsAccepted, SpellsDecls}
 use Rattle.swift_script.specs.Scripts.{ScriptView}
 

@@ -33,7 +33,9 @@ mod run_refusals;
 mod source;
 // What can be explained.
 mod topic;
-// A script as a Swift program.
+// A script's protocol as a Swift program, from its tree.
+pub mod swift;
+// A script as a Swift program, from its text.
 mod translated;
 // The pages of the faults of a turn.
 mod turn_faults;

@@ -8,9 +8,9 @@ ghost use Rattle.swift_script.specs.FaultLines.{IsAtItsLine};
 ghost use Rattle.swift_script.specs.Refuses.{Refuses};
 ghost use Rattle.nuchapay_tool.specs.Translations.{IsSwiftOf};
 
+use crate::swift::{spell, swift_program};
 use script_grammar::Decl;
 use script_parser::{ReadError, parse};
-use script_swift::{spell, swift_program};
 use script_tokens::tokens;
 use std::alloc::{AllocError, Global};
 use swift_script::{ScriptFault, read};

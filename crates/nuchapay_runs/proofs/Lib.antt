@@ -1,0 +1,5 @@
+pub mod Annotated
+pub mod Keeping
+pub mod Past
+pub mod Rows
+pub mod More

@@ -1,0 +1,5 @@
+pub mod KeepingInside
+pub mod LastTurns
+pub mod Notes
+pub mod Values
+pub mod Boxes

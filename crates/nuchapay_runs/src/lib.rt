@@ -1,0 +1,37 @@
+//! What is told of a run: what its turns did to the fields, that in words, below each turn of a report or of one turn with what came before
+//! it, and the run as a picture.
+#![tactic(auto)]
+
+// One turn explained.
+mod explained;
+// Fields as they are after some turns.
+mod fields;
+// The invariants of an executor's actors.
+mod invariants;
+// Lines of a text.
+mod lines;
+// Where a turn stands.
+mod names;
+// What is said of one turn in a report.
+mod notes;
+// Numbers in decimal.
+mod number;
+// A run as a picture.
+pub mod picture;
+// Parts of a printed form.
+mod printed;
+// The report with what is said of each turn.
+mod report;
+// Statements in words.
+mod statement;
+// Texts that are being written.
+mod text;
+// What turns did to the fields.
+mod values;
+// The words of a text.
+mod words;
+
+pub use explained::{Explained, explain_turn};
+pub use notes::write_change;
+pub use report::report_with_values;
+pub use values::{Change, Outcome, TurnValues, last_turn, turn_values};

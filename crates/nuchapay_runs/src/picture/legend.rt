@@ -1,0 +1,147 @@
+//! The legend of a picture.
+
+ghost use Rattle.std.specs.Prelude.{◌≤◌};
+
+use crate::picture::layout::Layout;
+use crate::picture::picture_text::PictureText;
+use crate::picture::pieces::TextPiece;
+use crate::picture::text::{begin_text, end_text, write_text};
+use swift_events::Origin;
+use swift_script::Script;
+use swift_types::Ending;
+
+// How many tasks are told at most.
+const TOLD: usize = 48;
+
+// How wide an entry is, how many characters of 12 pixels find room in it, and how tall a row is.
+const WIDE: usize = 300;
+
+const FITTING: usize = 36;
+
+const ROW: usize = 20;
+
+// What is left above the rows of tasks, and what the rows below them take.
+const ABOVE: usize = 26;
+
+const BELOW: usize = 66;
+
+// How many tasks are told.
+fn told(tasks: usize) -> usize {
+    tasks.min(TOLD)
+}
+
+// How many entries stand in a row.
+fn entries(layout: &Layout) -> usize
+    ensures { 1 ≤ result }
+{
+    (layout.width / WIDE).clamp(1, 4)
+}
+
+// How tall the rows of tasks are.
+fn tasks_height(layout: &Layout, tasks: usize) -> usize {
+    told(tasks).div_ceil(entries(layout)).saturating_mul(ROW)
+}
+
+/// How tall the legend is.
+pub(crate) fn legend_height(layout: &Layout, tasks: usize) -> usize {
+    tasks_height(layout, tasks).saturating_add(ABOVE + BELOW)
+}
+
+// The task of a number: its colour, where it comes from, and how it ended.
+fn write_task(
+    out: &mut PictureText,
+    script: &Script,
+    task: usize,
+    ended: (Origin, Ending),
+    at: (usize, usize),
+    line: &mut PictureText,
+) {
+    out.put(&[
+        TextPiece::Text("<rect class=\"c"),
+        TextPiece::Number(task % 12),
+        TextPiece::Text("\" x=\""),
+        TextPiece::Number(at.0),
+        TextPiece::Text("\" y=\""),
+        TextPiece::Number(at.1),
+        TextPiece::Text("\" width=\"14\" height=\"12\" rx=\"3\"/>\n"),
+    ]);
+    line.clear();
+    line.put(&[
+        TextPiece::Text("t"),
+        TextPiece::Number(task),
+        TextPiece::Text(" "),
+    ]);
+    line.origin(script, task, ended.0);
+    line.say(b": ");
+    line.ending(ended.1);
+    let place = (at.0.saturating_add(22), at.1.saturating_add(10));
+    write_text(out, "t", place, line.bytes(), FITTING)
+}
+
+fn write_tasks(
+    out: &mut PictureText,
+    script: &Script,
+    layout: &Layout,
+    endings: &[(Origin, Ending)],
+    top: usize,
+    line: &mut PictureText,
+) {
+    let entries = entries(layout);
+    for (task, ended) in endings.iter().enumerate() {
+        if task >= TOLD {
+            return;
+        }
+        let x = (task % entries).saturating_mul(WIDE).saturating_add(16);
+        let y = (task / entries).saturating_mul(ROW).saturating_add(top);
+        write_task(out, script, task, *ended, (x, y), line);
+    }
+}
+
+// A line of a kind, with what it stands for.
+fn write_sample(out: &mut PictureText, class: &str, word: &str, x: usize, y: usize) {
+    out.put(&[
+        TextPiece::Text("<path class=\""),
+        TextPiece::Text(class),
+        TextPiece::Text(" s8\" d=\"M"),
+        TextPiece::Number(x),
+        TextPiece::Text(","),
+        TextPiece::Number(y.saturating_sub(4)),
+        TextPiece::Text("h40\"/>\n"),
+    ]);
+    begin_text(out, "t", x.saturating_add(48), y);
+    out.say(word.as_bytes());
+    end_text(out)
+}
+
+/// Which colour is which task, and which line stands for what.
+pub(crate) fn write_legend(
+    out: &mut PictureText,
+    script: &Script,
+    layout: &Layout,
+    endings: &[(Origin, Ending)],
+    line: &mut PictureText,
+) {
+    let top = layout.bottom.saturating_add(ABOVE);
+    write_tasks(out, script, layout, endings, top, line);
+    let y = top
+        .saturating_add(tasks_height(layout, endings.len()))
+        .saturating_add(18);
+    write_sample(out, "lg", "goes on", 16, y);
+    write_sample(out, "lc", "call", 160, y);
+    write_sample(out, "lr", "return", 284, y);
+    write_sample(out, "ls", "spawn", 418, y);
+    write_sample(out, "lw", "waits", 548, y);
+    write_sample(out, "lk", "wakes", 678, y);
+    begin_text(out, "t g", 16, y.saturating_add(26));
+    out.say(
+        "p0 to p3: the priority, \u{25b2} where it was raised; c1: the task was cancelled. Below a box: what its turn did and changed.".as_bytes(),
+    );
+    if endings.len() > TOLD {
+        out.put(&[
+            TextPiece::Text(" Not listed: "),
+            TextPiece::Number(endings.len().saturating_sub(TOLD)),
+            TextPiece::Text(" tasks."),
+        ]);
+    }
+    end_text(out)
+}

@@ -1,0 +1,156 @@
+//! Lines from turn to turn.
+
+use crate::picture::Picture;
+use crate::picture::boxes::TurnBox;
+use crate::picture::layout::{Layout, colour, level};
+use crate::picture::links::Link;
+use crate::picture::picture_text::PictureText;
+use crate::picture::pieces::TextPiece;
+use crate::picture::placed::PlacedTurn;
+
+// How the lines of a link are drawn, by their classes.
+fn class_of(link: Link) -> &'static str {
+    match link {
+        Link::Spawn => "ls",
+        Link::Call => "lc",
+        Link::Return => "lr",
+        Link::Goes => "lg",
+        Link::Wake => "lk",
+    }
+}
+
+// The beginning of a line: from the box of a turn up, to the height at which lines to this task run.
+fn begin_line(
+    out: &mut PictureText,
+    layout: &Layout,
+    class: &str,
+    from: (&TurnBox, &PlacedTurn),
+    to: &TurnBox,
+) {
+    let top = layout.box_top(from.0.executor);
+    out.put(&[
+        TextPiece::Text("<path class=\""),
+        TextPiece::Text(class),
+        TextPiece::Text(" s"),
+        TextPiece::Number(colour(to.task)),
+        TextPiece::Text("\" d=\"M"),
+        TextPiece::Number(layout.right(from.1).saturating_sub(12)),
+        TextPiece::Text(","),
+        TextPiece::Number(top),
+        TextPiece::Text("V"),
+        TextPiece::Number(top.saturating_sub(level(to.task))),
+    ])
+}
+
+// The end of a line into the top of a box of the same lane, so far from its left, with a head.
+fn end_above(out: &mut PictureText, layout: &Layout, to: (&TurnBox, &PlacedTurn), along: usize) {
+    let at = layout.left(to.1).saturating_add(along);
+    let top = layout.box_top(to.0.executor);
+    out.put(&[
+        TextPiece::Text("H"),
+        TextPiece::Number(at),
+        TextPiece::Text("V"),
+        TextPiece::Number(top),
+        TextPiece::Text("\"/>\n<path class=\"f"),
+        TextPiece::Number(colour(to.0.task)),
+        TextPiece::Text("\" d=\"M"),
+        TextPiece::Number(at.saturating_sub(4)),
+        TextPiece::Text(","),
+        TextPiece::Number(top.saturating_sub(8)),
+        TextPiece::Text("h8l-4,8z\"/>\n"),
+    ])
+}
+
+// The end of a line into the left side of a box of another lane, with a head.
+fn end_beside(out: &mut PictureText, layout: &Layout, to: (&TurnBox, &PlacedTurn)) {
+    let left = layout.left(to.1);
+    let at = layout.box_top(to.0.executor).saturating_add(12);
+    out.put(&[
+        TextPiece::Text("H"),
+        TextPiece::Number(left.saturating_sub(10)),
+        TextPiece::Text("V"),
+        TextPiece::Number(at),
+        TextPiece::Text("H"),
+        TextPiece::Number(left),
+        TextPiece::Text("\"/>\n<path class=\"f"),
+        TextPiece::Number(colour(to.0.task)),
+        TextPiece::Text("\" d=\"M"),
+        TextPiece::Number(left.saturating_sub(8)),
+        TextPiece::Text(","),
+        TextPiece::Number(at.saturating_sub(4)),
+        TextPiece::Text("v8l8,-4z\"/>\n"),
+    ])
+}
+
+// The line from the box of the turn that made a turn's job.
+fn write_link(
+    out: &mut PictureText,
+    layout: &Layout,
+    maker: (&TurnBox, &PlacedTurn),
+    turn: (&TurnBox, &PlacedTurn),
+) {
+    let link = Link::between(maker.0, turn.0);
+    begin_line(out, layout, class_of(link), maker, turn.0);
+    if maker.0.executor == turn.0.executor {
+        end_above(out, layout, turn, 16)
+    } else {
+        end_beside(out, layout, turn)
+    }
+}
+
+// The line along which a task waited, from its turn before to a turn that another task has woken.
+fn write_wait(
+    out: &mut PictureText,
+    layout: &Layout,
+    before: (&TurnBox, &PlacedTurn),
+    turn: (&TurnBox, &PlacedTurn),
+) {
+    begin_line(out, layout, "lw", before, turn.0);
+    if before.0.executor == turn.0.executor {
+        end_above(out, layout, turn, 32)
+    } else {
+        end_beside(out, layout, turn)
+    }
+}
+
+// The box at a place, where it is shown.
+fn shown_at<'a>(
+    layout: &Layout,
+    picture: &'a Picture,
+    place: Option<usize>,
+) -> Option<(&'a TurnBox, &'a PlacedTurn)> {
+    let found = picture.at(place?)?;
+    if layout.shows(found.1) {
+        Some(found)
+    } else {
+        None
+    }
+}
+
+// The lines to a turn: from the one that made its job, and where that one is of another task, from the one that waited.
+fn write_lines_to(
+    out: &mut PictureText,
+    layout: &Layout,
+    picture: &Picture,
+    turn: &TurnBox,
+    placed: &PlacedTurn,
+) {
+    let Some(maker) = shown_at(layout, picture, placed.maker) else {
+        return;
+    };
+    if maker.0.task != turn.task {
+        if let Some(before) = shown_at(layout, picture, placed.before) {
+            write_wait(out, layout, before, (turn, placed));
+        }
+    }
+    write_link(out, layout, maker, (turn, placed))
+}
+
+/// The lines between the boxes that are shown.
+pub(crate) fn write_lines(out: &mut PictureText, layout: &Layout, picture: &Picture) {
+    for (turn, placed) in picture.boxes.iter().zip(&picture.placed) {
+        if layout.shows(placed) {
+            write_lines_to(out, layout, picture, turn, placed);
+        }
+    }
+}

@@ -1,0 +1,204 @@
+//! Texts that are being written.
+
+use crate::picture::boxes::TurnBox;
+use crate::picture::pieces::{TextPiece, number, say};
+use crate::picture::word;
+use itoa::Integer;
+use std::alloc::{AllocError, Global};
+use swift_events::Origin;
+use swift_journal::BriefExit;
+use swift_script::Script;
+use swift_types::{Ending, MethodId, Resume, RootId};
+
+/// A text that is being written. Where memory runs out it ends there, and `whole` says so: who writes it asks at the end alone.
+pub(crate) struct PictureText {
+    bytes: Vec<u8>,
+    is_cut: bool,
+}
+
+impl Drop for PictureText {
+    fn drop(self) {
+        let PictureText { bytes, is_cut: _ } = self;
+        drop(bytes);
+    }
+}
+
+impl PictureText {
+    /// A text that goes on after these bytes.
+    pub(crate) fn after(bytes: Vec<u8>) -> PictureText {
+        PictureText {
+            bytes,
+            is_cut: false,
+        }
+    }
+
+    /// Nothing.
+    pub(crate) fn new(alloc: Global) -> PictureText {
+        PictureText::after(Vec::new(alloc))
+    }
+
+    /// The text, if there was memory for all of it.
+    pub(crate) fn into_bytes(self) -> Result<Vec<u8>, AllocError> {
+        let PictureText { bytes, is_cut } = self;
+        if is_cut { Err(AllocError) } else { Ok(bytes) }
+    }
+
+    /// What is written so far.
+    pub(crate) fn bytes(&self) -> &[u8] {
+        &self.bytes
+    }
+
+    /// Whether there was memory for all of it.
+    pub(crate) fn whole(&self) -> Result<(), AllocError> {
+        if self.is_cut { Err(AllocError) } else { Ok(()) }
+    }
+
+    /// Begins anew, unless memory ran out.
+    pub(crate) fn clear(&mut self) {
+        self.bytes.clear();
+    }
+
+    /// What was done beside this text: where it ran out of memory, the text ends here.
+    pub(crate) fn need(&mut self, done: Result<(), AllocError>) {
+        if done.is_err() {
+            self.is_cut = true;
+        }
+    }
+
+    /// Goes on with these bytes.
+    pub(crate) fn say(&mut self, words: &[u8]) {
+        if !self.is_cut {
+            let done = say(&mut self.bytes, words);
+            self.need(done);
+        }
+    }
+
+    /// Goes on with a number in decimal.
+    pub(crate) fn number<I: Integer>(&mut self, value: I) {
+        if !self.is_cut {
+            let done = number(&mut self.bytes, value);
+            self.need(done);
+        }
+    }
+
+    /// Goes on with pieces, one after the other.
+    pub(crate) fn put(&mut self, pieces: &[TextPiece<'_>]) {
+        for piece in pieces {
+            match *piece {
+                TextPiece::Text(text) => self.say(text.as_bytes()),
+                TextPiece::Name(name) => self.say(name),
+                TextPiece::Number(value) => self.number(value),
+            }
+        }
+    }
+
+    /// Goes on with at most `most` bytes of a text, the last two of which are dots where some are left out.
+    pub(crate) fn fitting(&mut self, text: &[u8], most: usize) {
+        if text.len() <= most {
+            return self.say(text);
+        }
+        let (head, _) = text.split_at(most.saturating_sub(2));
+        self.say(head);
+        self.say(b"..")
+    }
+
+    /// Goes on with the last part of a file's path as XML wants it: a control character is a question mark.
+    pub(crate) fn file_name(&mut self, path: &str) {
+        for byte in last_part(path.as_bytes()) {
+            match *byte {
+                b'<' => self.say(b"&lt;"),
+                b'&' => self.say(b"&amp;"),
+                0..32 => self.say(b"?"),
+                other => self.say(&[other]),
+            }
+        }
+    }
+
+    /// Goes on with what a turn began with.
+    pub(crate) fn resume(&mut self, resume: Resume) {
+        if !self.is_cut {
+            let done = word::resume(&mut self.bytes, resume);
+            self.need(done);
+        }
+    }
+
+    /// Goes on with how a turn ended.
+    pub(crate) fn exit(&mut self, script: &Script, exit: BriefExit) {
+        if !self.is_cut {
+            let done = word::exit(&mut self.bytes, script, exit);
+            self.need(done);
+        }
+    }
+
+    /// Goes on with how a task ended.
+    pub(crate) fn ending(&mut self, ending: Ending) {
+        if !self.is_cut {
+            let done = word::ending(&mut self.bytes, ending);
+            self.need(done);
+        }
+    }
+
+    /// Goes on with a method by its names, that of its actor first.
+    pub(crate) fn method(&mut self, script: &Script, method: MethodId) {
+        if !self.is_cut {
+            let done = word::method(&mut self.bytes, script, method);
+            self.need(done);
+        }
+    }
+
+    /// Goes on with where the task of this number comes from.
+    pub(crate) fn origin(&mut self, script: &Script, task: usize, origin: Origin) {
+        match origin {
+            Origin::Root => {
+                let name = match u32::try_from(task) {
+                    Ok(root) => script.root_name(RootId(root)),
+                    Err(_) => &[],
+                };
+                self.put(&[TextPiece::Text("root "), TextPiece::Name(name)])
+            }
+            Origin::Child(owner, _) => self.put(&[
+                TextPiece::Text("child t"),
+                TextPiece::Number(owner.0 as usize),
+            ]),
+            Origin::Spawned(by) => self.put(&[
+                TextPiece::Text("spawned t"),
+                TextPiece::Number(by.0 as usize),
+            ]),
+            Origin::Detached(by) => self.put(&[
+                TextPiece::Text("detached t"),
+                TextPiece::Number(by.0 as usize),
+            ]),
+        }
+    }
+
+    /// Goes on with a turn, by its task and its number there.
+    pub(crate) fn turn(&mut self, turn: &TurnBox) {
+        self.put(&[
+            TextPiece::Text("t"),
+            TextPiece::Number(turn.task.0 as usize),
+            TextPiece::Text("."),
+            TextPiece::Number(turn.number as usize),
+        ])
+    }
+
+    /// Goes on with what a turn was given: its task's priority, and whether the task was cancelled, where it was.
+    pub(crate) fn env(&mut self, turn: &TurnBox) {
+        let cancelled = if turn.env.cancelled { " c1" } else { "" };
+        self.put(&[
+            TextPiece::Text("p"),
+            TextPiece::Number(turn.env.priority.number() as usize),
+            TextPiece::Text(cancelled),
+        ])
+    }
+}
+
+// The last part of a path.
+fn last_part(path: &[u8]) -> &[u8] {
+    let mut from = 0_usize;
+    for (place, byte) in path.iter().enumerate() {
+        if *byte == b'/' {
+            from = place.saturating_add(1);
+        }
+    }
+    path.get(from..).unwrap_or(path)
+}

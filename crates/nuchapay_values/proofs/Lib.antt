@@ -1,4 +1,0 @@
-pub mod Annotated
-pub mod Keeping
-pub mod Past
-pub mod Rows

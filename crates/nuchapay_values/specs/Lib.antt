@@ -1,4 +1,0 @@
-pub mod KeepingInside
-pub mod LastTurns
-pub mod Notes
-pub mod Values

@@ -1,3 +1,0 @@
-pub mod Programs
-pub mod Outline
-pub mod Names
