@@ -1,9 +1,8 @@
 -- A script, a body and an inbox may be shared by threads or go to another. The check looks for this by itself, and gives up at an
 -- enum with as many variants as `Act`, so each type is shown from its parts. Who starts a thread with one of these lists the
 -- lemma that is meant beside `sendable`.
-use denote.Param.Send.{IsSend, IsSync, sendable, enum_send, enum_sync, struct_send, struct_sync, recorded_send, recorded_sync}
+use denote.Param.Send.{IsSend, IsSync, sendable, enum_send, enum_sync, recorded_send, recorded_sync}
 use denote.Enum.Declared as E
-use denote.Struct.Declared as S
 use Rattle.std.proofs.Crossing as Crossing
 use Rattle.script_code.specs.contracts.instruction.Act as act
 use Rattle.script_code.specs.contracts.instruction.Instruction as instruction
@@ -14,11 +13,6 @@ use Rattle.script_compiler.specs.contracts.compiled.CompiledMethod as compiled_m
 use Rattle.script_compiler.specs.contracts.compiled.CompiledActor as compiled_actor
 use Rattle.script_compiler.specs.contracts.compiled.CompiledExecutor as compiled_executor
 use Rattle.script_compiler.specs.contracts.compiled.Compiled as compiled
-use Rattle.script_grammar.specs.contracts.declaration.Method as method
-use Rattle.script_grammar.specs.contracts.declaration.Actor as actor
-use Rattle.script_grammar.proofs.expression.Name.TheSendSync as Name
-use Rattle.script_grammar.proofs.expression.Expr.TheLaws.TheKnot as ExprKnot
-use Rattle.script_grammar.proofs.statement.Stmt.TheLaws.TheKnot as StmtKnot
 use Rattle.swift_script.specs.contracts.script.Script as script
 use Rattle.swift_turn.specs.contracts.body.Body as body
 use Rattle.swift_interpreter.proofs.turn_state.TurnState.TheSendSync as TurnState
@@ -39,9 +33,6 @@ use Rattle.swift_executor.specs.contracts.inbox.site.ExecutorSite as site
 
 -- what the code of a script is made of
 ruleset known = (Crossing.crosses, FormulaKnot.crosses, sendable)
-
--- what the text of a script is made of
-ruleset spelled = (Crossing.crosses, ExprKnot.crosses, StmtKnot.crosses, Name.the_field_send, Name.the_field_sync, sendable)
 
 -- what is made of types that were shown before
 ruleset plain = (Crossing.crosses, sendable)
@@ -144,44 +135,8 @@ compiled_executor_row_send = recorded_send (compiled_executor.the_field).row _ _
 compiled_send : IsSend (compiled.the_field).row
 compiled_send = search (plain, compiled_method_row_send, compiled_actor_row_send, compiled_executor_row_send) depth 60 fits 20000
 
-method_send : IsSend (method.the_field).row
-method_send = struct_send (S.shape method.the_type) (
-  search (plain, Name.the_field_send) depth 60 fits 20000,
-  (
-    search (plain, Name.the_field_send) depth 60 fits 20000,
-    (
-      search spelled depth 60 fits 20000,
-      tt,
-    ),
-  ),
-)
-
-method_row_send : IsSend method.the_row
-method_row_send = recorded_send (method.the_field).row _ _ (method.the_type).to_one method_send
-
-actor_send : IsSend (actor.the_field).row
-actor_send = struct_send (S.shape actor.the_type) (
-  search plain depth 60 fits 20000,
-  (
-    search plain depth 60 fits 20000,
-    (
-      search plain depth 60 fits 20000,
-      (
-        search spelled depth 60 fits 20000,
-        (
-          search (plain, method_row_send) depth 60 fits 20000,
-          tt,
-        ),
-      ),
-    ),
-  ),
-)
-
-actor_row_send : IsSend actor.the_row
-actor_row_send = recorded_send (actor.the_field).row _ _ (actor.the_type).to_one actor_send
-
 pub script_send : IsSend script.the_row
-script_send = search (plain, compiled_send, actor_row_send) depth 60 fits 20000
+script_send = search (plain, compiled_send) depth 60 fits 20000
 
 -- They may be shared by threads.
 
@@ -281,44 +236,8 @@ compiled_executor_row_sync = recorded_sync (compiled_executor.the_field).row _ _
 compiled_sync : IsSync (compiled.the_field).row
 compiled_sync = search (plain, compiled_method_row_sync, compiled_actor_row_sync, compiled_executor_row_sync) depth 60 fits 20000
 
-method_sync : IsSync (method.the_field).row
-method_sync = struct_sync (S.shape method.the_type) (
-  search (plain, Name.the_field_sync) depth 60 fits 20000,
-  (
-    search (plain, Name.the_field_sync) depth 60 fits 20000,
-    (
-      search spelled depth 60 fits 20000,
-      tt,
-    ),
-  ),
-)
-
-method_row_sync : IsSync method.the_row
-method_row_sync = recorded_sync (method.the_field).row _ _ (method.the_type).to_one method_sync
-
-actor_sync : IsSync (actor.the_field).row
-actor_sync = struct_sync (S.shape actor.the_type) (
-  search plain depth 60 fits 20000,
-  (
-    search plain depth 60 fits 20000,
-    (
-      search plain depth 60 fits 20000,
-      (
-        search spelled depth 60 fits 20000,
-        (
-          search (plain, method_row_sync) depth 60 fits 20000,
-          tt,
-        ),
-      ),
-    ),
-  ),
-)
-
-actor_row_sync : IsSync actor.the_row
-actor_row_sync = recorded_sync (actor.the_field).row _ _ (actor.the_type).to_one actor_sync
-
 pub script_sync : IsSync script.the_row
-script_sync = search (plain, compiled_sync, actor_row_sync) depth 60 fits 20000
+script_sync = search (plain, compiled_sync) depth 60 fits 20000
 
 -- A job's body may go to another thread, and so may what holds it.
 pub body_send : IsSend body.the_row

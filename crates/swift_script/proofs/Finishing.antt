@@ -1,5 +1,5 @@
 -- What is known where a script is finished, or refused for a root that waits.
-use Rattle.std.proofs.Common.{◌≡◌, ◌≤◌, ℕ, length, Option, Some, None, List, map, sym, ap, subst, ◌∙◌}
+use Rattle.std.proofs.Common.{◌≡◌, ◌≤◌, ℕ, length, Option, Some, None, List, map, refl, sym, ap, subst, ◌∙◌}
 use Rattle.std.specs.Prelude.{IfSome, IfNone}
 use Rattle.swift_types.specs.declared.limits.TheConstants.{BYTES}
 use Rattle.script_tokens.specs.Pieces.{TokenView, piece}
@@ -7,7 +7,13 @@ use Rattle.script_tokens.specs.declared.list.Tokens.{Tokens}
 use Rattle.script_tokens.specs.declared.token.Token.{Token}
 use Rattle.script_tokens.proofs.Unique.{unique}
 use Rattle.script_grammar.specs.Grammar.{IsScript}
+use Rattle.script_grammar.specs.Tree.{view_executor, view_local, view_actor, view_root}
+use Rattle.script_grammar.specs.declared.declaration.Executor.{Executor}
+use Rattle.script_grammar.specs.declared.declaration.Local.{Local}
+use Rattle.script_grammar.specs.declared.declaration.Actor.{Actor}
+use Rattle.script_grammar.specs.declared.declaration.Root.{Root}
 use Rattle.script_parser.specs.declared.limits.TheConstants.{NESTING}
+use Rattle.script_printing.specs.Printed.{printed}
 use Rattle.script_printing.specs.Script.{ScriptView, script_in}
 use Rattle.script_compiler.specs.declared.compiled.Compiled.{Compiled}
 use Rattle.script_compiler.specs.Compiled.{plan_in}
@@ -18,8 +24,12 @@ use Rattle.swift_script.specs.BrokenInside.{IsFirstWaiting, NoneEarlier}
 use Rattle.swift_script.specs.FaultLines.{is_root, place_of, RootStandsOn}
 use Rattle.swift_script.specs.SpelledInside.{pieces_of, AreKept, IsNamed, HasNamesInOrder, line_in}
 use Rattle.swift_script.specs.Scripts.{parts_of}
+use Rattle.swift_script.specs.ScriptInvariant.{ScriptInvariant, tree_of}
+use Rattle.swift_script.specs.declared.split.Declarations.{Declarations}
+use Rattle.swift_script.specs.TreeInside.{tree_in}
 use Rattle.swift_script.proofs.Short.{within_limit}
 use Rattle.swift_script.proofs.Refusing.{kept_line}
+use Rattle.swift_script.proofs.TreeAgain.{tree_again}
 
 pub none_waits : (s : ScriptView) (o : Option ℕ) → o ≡ None → IfNone o (NoRootWaits s) → NoRootWaits s
 none_waits s None is h = h
@@ -67,6 +77,16 @@ accepted text s t same n starts waits = record {
   starts = ap first_false same ∙ starts;
   waits = subst NoRootWaits (sym same) waits;
 }
+
+-- what is lent of declarations is their tree
+pub lent_tree : (d : Declarations) (es : List Executor) (ls : List Local) (acts : List Actor) (rs : List Root) → es ≡ d.executors.items → ls ≡ d.locals.items → acts ≡ d.actors.items → rs ≡ d.roots.items
+    → record { executors = map view_executor es; locals = map view_local ls; actors = map view_actor acts; roots = map view_root rs } ≡ tree_of d
+lent_tree d es ls acts rs e l a r = rw (e, l, a, r) refl
+
+-- then its printed form and what it is compiled to can be kept, and the printed form tells its tree
+pub can_be_kept : (text : List ℕ) (s : ScriptView) (bytes : List ℕ) (c : Compiled) → IsAccepted text s → bytes ≡ printed s → IsCompiled c (parts_of s) → ScriptInvariant (tree_in bytes) bytes c
+can_be_kept text s bytes c a is compiled =
+    subst (λ (t : ScriptView). ScriptInvariant t bytes c) (sym (tree_again s bytes (text, a) is)) (record { accepted = (text, a); has_printed = is; has_parts = compiled })
 
 -- a script that a short text spells has few methods
 pub few_methods : (text : List ℕ) (s : ScriptView) (m : Compiled) → HasNamesInOrder text s → IsCompiled m (parts_of s) → length m.methods.items ≤ BYTES

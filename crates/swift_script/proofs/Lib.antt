@@ -4,6 +4,7 @@ pub mod MethodPlaces
 pub mod Counting
 pub mod Accepting
 pub mod Printing
+pub mod TreeAgain
 pub mod Starting
 pub mod NamesAnywhere
 pub mod NamesAgain

@@ -5,6 +5,7 @@ pub mod Refuses
 pub mod FaultLines
 pub mod Answers
 pub mod SpelledInside
+pub mod TreeInside
 pub mod ScriptInvariant
 pub mod LentInside
 pub mod SameScripts

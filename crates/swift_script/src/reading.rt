@@ -102,7 +102,7 @@ fn finish(
         &declarations.actors,
         &declarations.roots,
     )?;
-    Ok(Script::of(&declarations, printed, compiled))
+    Ok(Script::of(printed, compiled))
 }
 
 // The rules that are looked at once a script is compiled. Only where one is broken the tokens are found again, for its line.

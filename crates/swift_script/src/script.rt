@@ -9,28 +9,26 @@ ghost use Rattle.script_compiler.specs.Calls.{CallsAreThere};
 ghost use Rattle.script_compiler.specs.Fits.{MethodsFit};
 ghost use Rattle.script_compiler.specs.IsCompiled.{IsMethod};
 ghost use Rattle.swift_script.specs.LentInside.{executor_lent, local_lent, actor_lent, root_lent};
-ghost use Rattle.swift_script.specs.ScriptInvariant.{ScriptInvariant, tree_of};
+ghost use Rattle.swift_script.specs.ScriptInvariant.{ScriptInvariant};
+ghost use Rattle.swift_script.specs.TreeInside.{tree_in};
 ghost use Rattle.swift_script.specs.Accepted.{WasAccepted, NoRootWaits};
 ghost use Rattle.swift_script.specs.SameScripts.{same_scripts};
 ghost use Rattle.swift_script.specs.Scripts.{executor_at, local_at, actor_at, method_at, root_at, executor_count, executor_invariants, executor_start, local_count, actor_count, actor_executor, actor_invariant, method_count, method_params, parts_of, root_count, root_method, root_args};
 
-use crate::split::Declarations;
 use script_code::Formula;
 use script_compiler::{
     Compiled, CompiledActor, CompiledExecutor, CompiledLocal, CompiledMethod, CompiledRoot,
 };
 use std::alloc::{AllocError, Global};
 use std::marker::Model;
-use std::snapshot::Snapshot;
 use swift_types::limits::{ACTORS, EXECUTORS, TASKS};
 use swift_types::{ActorId, ExecId, LocalId, MethodId, RootId};
 
 /// A script that `read` accepted: no rule on its names, counts, invariants and roots is broken, and it is compiled.
 ///
 /// All that a turn needs of it is found in constant time. Contracts see its tree, of which its printed form is kept and what it was
-/// compiled to.
+/// compiled to. The tree is what the printed form spells, so that no type of the tree goes with each type that has a script.
 pub struct Script {
-    tree: Snapshot<Declarations>,
     printed: Vec<u8>,
     compiled: Compiled,
 }
@@ -38,11 +36,7 @@ pub struct Script {
 // By hand, so that what a script has is not taken apart in each proof of a crate above.
 impl Drop for Script {
     fn drop(self) {
-        let Script {
-            tree: _,
-            printed,
-            compiled,
-        } = self;
+        let Script { printed, compiled } = self;
         drop(printed);
         drop(compiled);
     }
@@ -57,24 +51,21 @@ impl Model for Script {
 
     ghost coded = { Prim.hlevel (codes, expression_code, statement_code (block_code (Prim.hlevel (codes, expression_code)) (Prim.hlevel (codes, expression_code)))) };
 
-    ghost use Rattle.swift_script.specs.ScriptInvariant.{ScriptInvariant, tree_of};
+    ghost use Rattle.swift_script.specs.ScriptInvariant.{ScriptInvariant};
+    ghost use Rattle.swift_script.specs.TreeInside.{tree_in};
 
-    ghost view = { λ s. tree_of s.tree.value };
+    ghost view = { λ s. tree_in s.printed.items };
 
-    ghost invariant = { λ s. ScriptInvariant (tree_of s.tree.value) s.printed.items s.compiled };
+    ghost invariant = { λ s. ScriptInvariant (tree_in s.printed.items) s.printed.items s.compiled };
 }
 
 impl Script {
-    /// The script of these declarations, which are printed and compiled so.
-    pub(crate) fn of(declarations: &Declarations, printed: Vec<u8>, compiled: Compiled) -> Script
-        requires { ScriptInvariant (tree_of declarations.now) printed.items compiled }
-        ensures { result ≡ tree_of declarations.now }
+    /// The script that this printed form spells, and what it is compiled to.
+    pub(crate) fn of(printed: Vec<u8>, compiled: Compiled) -> Script
+        requires { ScriptInvariant (tree_in printed.items) printed.items compiled }
+        ensures { result ≡ tree_in printed.items }
     {
-        Script {
-            tree: Snapshot::of(declarations),
-            printed,
-            compiled,
-        }
+        Script { printed, compiled }
     }
 
     /// The printed form (`print_script`), in constant time. Two scripts have one printed form only if they are equal.

@@ -3,7 +3,7 @@ use Rattle.std.proofs.lemmas.Slice.Zip.{AllZip-long}
 use Rattle.script_printing.specs.Script.{ScriptView}
 use Rattle.script_compiler.specs.IsCompiled.{IsMethod}
 use Rattle.swift_script.specs.Scripts.{parts_of, method_count, method_at}
-use Rattle.swift_script.specs.ScriptInvariant.{tree_of}
+use Rattle.swift_script.specs.TreeInside.{tree_in}
 use Rattle.swift_script.proofs.MethodPlaces.{method_there}
 use Rattle.swift_script.proofs.script.Script.method.Goals as goal
 
@@ -11,13 +11,13 @@ pub index-requires : goal.index-requires
 index-requires c =
     let ms = c.self.inside.compiled.methods in
     let long = AllZip-long IsMethod ms.items _ c.self.invariant.has_parts.methods in
-    let within : c.args.method.0 < length (parts_of (tree_of c.self.inside.tree.value)).methods = subst (λ (s : ScriptView). c.args.method.0 < method_count s) (sym c.self.view_is) c.requires in
+    let within : c.args.method.0 < length (parts_of (tree_in c.self.inside.printed.items)).methods = subst (λ (s : ScriptView). c.args.method.0 < method_count s) (sym c.self.view_is) c.requires in
     omega (arith, long, within, ms.ok.0)
 
 pub returns : goal.returns
 returns c =
     let ms = c.self.inside.compiled.methods in
     let long = AllZip-long IsMethod ms.items _ c.self.invariant.has_parts.methods in
-    let within : c.args.method.0 < length (parts_of (tree_of c.self.inside.tree.value)).methods = subst (λ (s : ScriptView). c.args.method.0 < method_count s) (sym c.self.view_is) c.requires in
+    let within : c.args.method.0 < length (parts_of (tree_in c.self.inside.printed.items)).methods = subst (λ (s : ScriptView). c.args.method.0 < method_count s) (sym c.self.view_is) c.requires in
     let there : c.args.method.0 < length ms.items = omega (arith, long, within) in
     subst (λ (s : ScriptView). IsMethod c.index.result.now (method_at s c.args.method.0)) c.self.view_is (method_there ms.items _ c.args.method.0 c.index.result.now c.self.invariant.has_parts.methods there c.index.ensures)

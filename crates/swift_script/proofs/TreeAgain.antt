@@ -1,0 +1,84 @@
+-- A printed form tells the tree that was printed.
+use Rattle.std.proofs.Common.{◌≡◌, ℕ, zero, suc, ◌+◌, ◌≤◌, Bool, true, false, cond, ◌==◌, ◌&&◌, List, [], ◌∷◌, length, drop, Option, Some, None, Result, ap, refl, ◌∙◌, arith, length-drop}
+use Rattle.std.specs.List.{prefix_len, take_while}
+use Rattle.std.proofs.lemmas.Bool.{cond_both}
+use Rattle.script_tokens.specs.declared.mark.Mark.{Mark}
+use Rattle.script_tokens.specs.Bytes.{is_space, is_digit, is_letter, is_name_byte, is_no_line_feed}
+use Rattle.script_tokens.specs.Pieces.{TokenView}
+use Rattle.script_tokens.specs.Lexes.{number_of, word_of, pair_of, single_of, lone, paired, mark_at, front_at, Lexes, at_end, separated, next_is}
+use Rattle.script_grammar.specs.Tree.{DeclTree}
+use Rattle.script_parser.specs.declared.fault.ParseFault.{ParseFault}
+use Rattle.script_parser.specs.declared.limits.TheConstants.{NESTING}
+use Rattle.script_parser.specs.Model.Declarations.{decls_at}
+use Rattle.script_parser.proofs.DeclarationsComplete.{decls_again}
+use Rattle.script_printing.specs.Printed.{printed}
+use Rattle.script_printing.specs.Script.{ScriptView, script_in, declarations_of}
+use Rattle.script_printing.proofs.ByKind.{script_again}
+use Rattle.swift_script.specs.Accepted.{SpellsDecls, WasAccepted}
+use Rattle.swift_script.specs.TreeInside.{with_piece, pieces_within, decls_or_none, tree_in}
+use Rattle.swift_script.proofs.Printing.{decls_again as printed_again}
+
+-- What is after the front of a text has at most this many bytes.
+abbrev LeavesAtMost : ℕ → Option TokenView × List ℕ → Type 0
+LeavesAtMost n f = length f.1 ≤ n
+
+one_passes : (here : Bool) (n : ℕ) (b : ℕ) (bs : List ℕ) → here ≡ true → length (drop (cond here (1 + n) 0) (b ∷ bs)) ≤ length bs
+one_passes true n b bs e = omega (arith, length-drop (1 + n) (b ∷ bs))
+one_passes false n b bs e = absurd (cc)
+
+letter_passes : (b : ℕ) → is_letter b ≡ true → is_name_byte b ≡ true
+letter_passes b e = rw e refl
+
+pair_leaves : (o : Option Mark) (a b : ℕ) (bs : List ℕ) → LeavesAtMost (suc (length bs)) (paired o a b bs)
+pair_leaves (Some m) a b bs = omega arith
+pair_leaves None a b bs =
+    cond_both (a == 47 && b == 47) (None, drop (prefix_len is_no_line_feed bs) bs) (Some (lone (single_of a)), b ∷ bs) (LeavesAtMost (suc (length bs)))
+    (λ e. omega (arith, length-drop (prefix_len is_no_line_feed bs) bs)) (λ e. omega arith)
+
+mark_leaves : (a : ℕ) (bs : List ℕ) → LeavesAtMost (length bs) (mark_at a bs)
+unfolding mark_at
+mark_leaves a [] = omega arith
+mark_leaves a (b ∷ bs) = pair_leaves (pair_of a b) a b bs
+
+front_leaves : (b : ℕ) (bs : List ℕ) → LeavesAtMost (length bs) (front_at b bs)
+unfolding front_at
+front_leaves b bs =
+    let digits : Option TokenView × List ℕ = (Some (number_of (take_while is_digit (b ∷ bs))), drop (prefix_len is_digit (b ∷ bs)) (b ∷ bs)) in
+    let word : Option TokenView × List ℕ = (Some (word_of (take_while is_name_byte (b ∷ bs))), drop (prefix_len is_name_byte (b ∷ bs)) (b ∷ bs)) in
+    cond_both (is_space b) (None, bs) (cond (is_digit b) digits (cond (is_letter b) word (mark_at b bs))) (LeavesAtMost (length bs))
+    (λ e. omega arith)
+    (λ e. cond_both (is_digit b) digits (cond (is_letter b) word (mark_at b bs)) (LeavesAtMost (length bs))
+    (λ d. one_passes (is_digit b) (prefix_len is_digit bs) b bs d)
+    (λ d. cond_both (is_letter b) word (mark_at b bs) (LeavesAtMost (length bs))
+    (λ l. one_passes (is_name_byte b) (prefix_len is_name_byte bs) b bs (letter_passes b l))
+    (λ l. mark_leaves b bs)))
+
+none_within : (n : ℕ) → pieces_within n [] ≡ []
+none_within zero = refl
+none_within (suc n) = refl
+
+-- a front and what is after it, as pieces
+abbrev from_front : ℕ → Option TokenView × List ℕ → List TokenView
+from_front n f = with_piece f.0 (pieces_within n f.1)
+
+shorter : (n b : ℕ) (bs rest : List ℕ) (p : Option TokenView) → length (b ∷ bs) ≤ suc n → front_at b bs ≡ (p, rest) → length rest ≤ n
+shorter n b bs rest p within e = omega (arith, within, front_leaves b bs, ap (λ (f : Option TokenView × List ℕ). length f.1) e)
+
+pieces_again : {text : List ℕ} {ps : List TokenView} (n : ℕ) → length text ≤ n → Lexes text ps → pieces_within n text ≡ ps
+pieces_again n within at_end = none_within n
+pieces_again zero within (separated {b = b} {bs = bs} {rest = rest} {ps = ps} e d) = absurd (omega (arith, within))
+pieces_again zero within (next_is {b = b} {bs = bs} {rest = rest} {p = p} {ps = ps} e d) = absurd (omega (arith, within))
+pieces_again (suc n) within (separated {b = b} {bs = bs} {rest = rest} {ps = ps} e d) = ap (from_front n) e ∙ pieces_again n (shorter n b bs rest None within e) d
+pieces_again (suc n) within (next_is {b = b} {bs = bs} {rest = rest} {p = p} {ps = ps} e d) =
+    ap (from_front n) e ∙ ap (λ (qs : List TokenView). p ∷ qs) (pieces_again n (shorter n b bs rest (Some p) within e) d)
+
+-- what a text spells is what is read in it
+tree_of_spelled : (text : List ℕ) (decls : List DeclTree) → SpellsDecls NESTING text decls → tree_in text ≡ script_in decls
+unfolding tree_in
+tree_of_spelled text decls s =
+    ap (λ (ps : List TokenView). script_in (decls_or_none (decls_at NESTING ps))) (pieces_again (length text) (omega arith) s.lexed)
+    ∙ ap (λ (r : Result (List DeclTree × List TokenView) ParseFault). script_in (decls_or_none r)) (decls_again NESTING s.pieces decls s.spelled)
+
+pub tree_again : (t : ScriptView) (text : List ℕ) → WasAccepted t → text ≡ printed t → tree_in text ≡ t
+tree_again t text was is =
+    ap tree_in is ∙ tree_of_spelled (printed t) (declarations_of t) (printed_again was.0 t was.1) ∙ script_again t
