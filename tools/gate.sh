@@ -6,8 +6,8 @@ crates=$(ls -d crates/*/src | wc -l)
 cat <<TXT
 This proves those of $crates crates that have not passed on this machine before, tries a planted bug of each row of the table
 in docs/THEOREMS.md, which the prover has to refuse, runs all tests and programs, the examples, and cases of the test program once for each of a
-sample of their allocations, with that one refused. From nothing it took 98 minutes at a slow hour, on the two cores that it
-uses at a time; it prints little until its end.
+sample of their allocations, with that one refused. From nothing it takes some 90 minutes on the two cores that it uses at a time, at a slow
+hour; it prints little until its end.
 TXT
 log=$(mktemp)
 # One core for each check, and two checks at once at most: more cores or more checks take more processor time, and hardly less
