@@ -2,6 +2,7 @@
 
 use crate::escapes::expand;
 use crate::fault::CaseFault;
+use crate::said::Said;
 use std::alloc::{AllocGlobal, Global};
 use std::io;
 use std::io::{Error, ErrorKind, Read, Write};
@@ -53,20 +54,16 @@ fn device_of(alloc: Global, words: &str) -> Option<SlowDevice> {
 }
 
 // What was answered, and what the device has taken.
-fn tell(
-    answer: Result<bool, ToolFault>,
-    device: &SlowDevice,
-    out: &mut Vec<u8>,
-) -> Result<(), CaseFault> {
-    let (length, calls) = (device.taken.len(), device.calls);
+fn tell(answer: Result<bool, ToolFault>, device: &SlowDevice, out: &mut Said) {
     match answer {
-        Ok(is_well) => write!(out, "{is_well}")?,
-        Err(fault) => write!(out, "{fault}")?,
+        Ok(is_well) => out.whether("", is_well),
+        Err(fault) => out.value(&fault),
     }
-    writeln!(out, ", {length} bytes in {calls} calls")?;
-    out.extend_from_slice(&device.taken)?;
-    out.push(b'\n')?;
-    Ok(())
+    out.count(", ", device.taken.len() as u64);
+    out.count(" bytes in ", device.calls as u64);
+    out.put(" calls\n");
+    out.bytes(&device.taken);
+    out.put("\n")
 }
 
 fn wrote(device: &mut SlowDevice, text: &[u8]) -> Result<bool, ToolFault> {
@@ -75,7 +72,7 @@ fn wrote(device: &mut SlowDevice, text: &[u8]) -> Result<bool, ToolFault> {
 }
 
 /// The text of the first line on each of the devices of the other lines: written, or run where it is a script's.
-pub fn slow<R>(rt: &R, table: &str, is_run: bool, out: &mut Vec<u8>) -> Result<(), CaseFault>
+pub fn slow<R>(rt: &R, table: &str, is_run: bool, out: &mut Said) -> Result<(), CaseFault>
 where
     R: RandomSource + AllocGlobal + Threads + Wait + Sync,
 {
@@ -95,7 +92,7 @@ fn slow_on<R>(
     text: &[u8],
     words: &str,
     is_run: bool,
-    out: &mut Vec<u8>,
+    out: &mut Said,
 ) -> Result<(), CaseFault>
 where
     R: RandomSource + AllocGlobal + Threads + Wait + Sync,
@@ -108,15 +105,17 @@ where
     } else {
         wrote(&mut device, text)
     };
-    tell(answer, &device, out)
+    tell(answer, &device, out);
+    Ok(())
 }
 
 /// How many bytes of a text the program takes, and how many it leaves.
-pub fn input(alloc: Global, text: &[u8], out: &mut Vec<u8>) -> Result<(), CaseFault> {
+pub fn input(alloc: Global, text: &[u8], out: &mut Said) -> Result<(), CaseFault> {
     let mut rest = text;
     let taken = read_input(alloc, &mut rest)?.len();
-    let left = rest.len();
-    writeln!(out, "{taken} bytes are taken, {left} are left")?;
+    out.count("", taken as u64);
+    out.count(" bytes are taken, ", rest.len() as u64);
+    out.put(" are left\n");
     Ok(())
 }
 
@@ -138,11 +137,14 @@ impl Read for Failing {
 }
 
 /// What the program says of a device that gives one byte and then fails.
-pub fn failing_input(alloc: Global, out: &mut Vec<u8>) -> Result<(), CaseFault> {
+pub fn failing_input(alloc: Global, out: &mut Said) -> Result<(), CaseFault> {
     let mut from = Failing { has_given: false };
     match read_input(alloc, &mut from) {
-        Ok(_) => writeln!(out, "wrong: it was read")?,
-        Err(ToolFault::Device) => writeln!(out, "{}", ToolFault::Device)?,
+        Ok(_) => out.put("wrong: it was read\n"),
+        Err(ToolFault::Device) => {
+            out.value(&ToolFault::Device);
+            out.put("\n")
+        }
         Err(fault) => return Err(CaseFault::from(fault)),
     }
     Ok(())

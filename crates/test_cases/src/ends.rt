@@ -1,8 +1,6 @@
 //! Long answers by their first and last lines.
 
-use crate::fault::CaseFault;
-use std::io::Write;
-use std::str;
+use crate::said::Said;
 
 // How many lines are written at each end.
 const LINES: usize = 8;
@@ -23,20 +21,17 @@ fn is_written(place: usize, lines: usize) -> bool {
 
 /// Writes a text whose lines are ASCII, but of more than sixteen lines only the first and the last eight, and between them what is
 /// left out.
-pub fn write(text: &[u8], out: &mut Vec<u8>) -> Result<(), CaseFault> {
-    let Ok(all) = str::from_utf8(text) else {
-        return Err(CaseFault::Form);
-    };
-    let lines = all.lines().count();
-    for (place, line) in all.lines().enumerate() {
+pub fn write(text: &str, out: &mut Said) {
+    let lines = text.lines().count();
+    for (place, line) in text.lines().enumerate() {
         if is_written(place, lines) {
-            writeln!(out, "{line}")?;
+            out.put(line);
+            out.put("\n");
         } else if place == LINES {
-            let left = lines.saturating_sub(2 * LINES);
-            let bytes = text.len();
-            let sum = sum_of(text);
-            writeln!(out, ".. {left} lines more, {bytes} bytes in all, sum {sum}")?;
+            out.count(".. ", lines.saturating_sub(2 * LINES) as u64);
+            out.count(" lines more, ", text.len() as u64);
+            out.count(" bytes in all, sum ", sum_of(text.as_bytes()));
+            out.put("\n");
         }
     }
-    Ok(())
 }

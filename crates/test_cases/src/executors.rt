@@ -45,7 +45,7 @@ pub(crate) const JOBS: usize = 64;
 pub(crate) const DOORS: usize = 16;
 
 /// Makes the calls of a case on the executors of its script, which are of this kind, and writes what each answered.
-pub fn calls<R>(rt: &R, kind: &str, text: &str, out: &mut Vec<u8>) -> Result<(), CaseFault>
+pub fn calls<R>(rt: &R, kind: &str, text: &str, out: &mut Said) -> Result<(), CaseFault>
 where
     R: Wait + RandomSource + AllocGlobal,
 {
@@ -58,7 +58,7 @@ where
         said.clear();
         played = play_plan(rt, kind, plan.without_last(), &mut said);
     }
-    out.extend_from_slice(said.end()?.as_bytes())?;
+    out.part(&said);
     played
 }
 
@@ -104,15 +104,12 @@ where
 }
 
 /// Has two threads make a call each on an executor, of which one is held at the moment of the title, and writes what they answered.
-pub fn held<R>(rt: &R, title: &str, out: &mut Vec<u8>) -> Result<(), CaseFault>
+pub fn held<R>(rt: &R, title: &str, out: &mut Said) -> Result<(), CaseFault>
 where
     R: Threads + Wait + Sync + RandomSource + AllocGlobal,
 {
     let Some(moment) = title.strip_prefix("at ") else {
         return Err(CaseFault::Form);
     };
-    let mut said = Said::new(rt.alloc());
-    let played = threads::play(rt, moment, &mut said);
-    out.extend_from_slice(said.end()?.as_bytes())?;
-    played
+    threads::play(rt, moment, out)
 }

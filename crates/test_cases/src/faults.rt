@@ -1,7 +1,6 @@
 //! The words of faults that the program says.
 
-use crate::fault::CaseFault;
-use std::io::Write;
+use crate::said::Said;
 use swift_script::{ScriptFault, ScriptFaultKind};
 use swift_tool::ToolFault;
 use swift_workers::RunFault;
@@ -13,7 +12,7 @@ const NO_MEMORY: ScriptFault = ScriptFault {
 };
 
 /// What the program says of each fault of its own.
-pub fn program_faults(out: &mut Vec<u8>) -> Result<(), CaseFault> {
+pub fn program_faults(out: &mut Said) {
     for fault in [
         ToolFault::Script(NO_MEMORY),
         ToolFault::Run(RunFault::Workers),
@@ -23,7 +22,8 @@ pub fn program_faults(out: &mut Vec<u8>) -> Result<(), CaseFault> {
         ToolFault::Run(RunFault::Executor),
         ToolFault::Device,
     ] {
-        writeln!(out, "swiftrun: {fault}")?;
+        out.put("swiftrun: ");
+        out.value(&fault);
+        out.put("\n");
     }
-    Ok(())
 }

@@ -1,8 +1,8 @@
 //! Runs whose threads give way.
 
 use crate::fault::CaseFault;
+use crate::said::Said;
 use std::alloc::{AllocError, AllocGlobal, Global};
-use std::io::Write;
 use std::random::RandomSource;
 use std::sync::atomic::{AtomicU32, Ordering};
 use std::sync::{Arc, Wait};
@@ -83,18 +83,20 @@ where
 }
 
 /// The report of a run without the lines of its turns, and whether it is legal.
-pub fn turns<R>(rt: &R, script: &Arc<Script>, out: &mut Vec<u8>) -> Result<(), CaseFault>
+pub fn turns<R>(rt: &R, script: &Arc<Script>, out: &mut Said) -> Result<(), CaseFault>
 where
     R: RandomSource + AllocGlobal + Threads + Wait + Sync,
 {
     let (found, is_legal) = judged_with(rt, script, &Open)?;
-    out.extend_from_slice(&found)?;
-    Ok(writeln!(out, "legal: {is_legal}")?)
+    out.bytes(&found);
+    out.whether("legal: ", is_legal);
+    out.put("\n");
+    Ok(())
 }
 
 /// The report of a run without the lines of its turns, and of how many of the runs in which a thread gives way at one moment it is that
 /// one, and legal.
-pub fn gated<R>(rt: &R, script: &Arc<Script>, out: &mut Vec<u8>) -> Result<(), CaseFault>
+pub fn gated<R>(rt: &R, script: &Arc<Script>, out: &mut Said) -> Result<(), CaseFault>
 where
     R: RandomSource + AllocGlobal + Threads + Wait + Sync,
 {
@@ -105,7 +107,10 @@ where
         same = same.saturating_add(u32::from(found.as_slice() == first.as_slice()));
         lawful = lawful.saturating_add(u32::from(is_legal));
     }
-    out.extend_from_slice(&first)?;
-    writeln!(out, "gated 1..{PLACES}: {same} the same, {lawful} legal")?;
+    out.bytes(&first);
+    out.count("gated 1..", u64::from(PLACES));
+    out.count(": ", u64::from(same));
+    out.count(" the same, ", u64::from(lawful));
+    out.put(" legal\n");
     Ok(())
 }

@@ -161,16 +161,13 @@ mod workers;
 
 use crate::escapes::expand;
 use crate::fault::CaseFault;
+use crate::said::Said;
 use std::alloc::AllocGlobal;
 use std::io;
-use std::io::Write;
 use std::random::RandomSource;
 use std::sync::Wait;
 use std::thread::Threads;
 use swift_report::write_all;
-
-// For how many bytes of a case's answer there is room. A growth for more is a device's that fails.
-const ROOM: usize = 16384;
 
 fn main(rt: HostRuntime) -> Result<(), CaseFault> {
     make_cases(&rt, &rt)
@@ -187,39 +184,39 @@ where
     let _comment = cases.next();
     for case in cases {
         let out = written(wait, case)?;
-        write_all(&mut rt.stdout(), &out)?;
+        write_all(&mut rt.stdout(), out.as_bytes())?;
     }
     Ok(())
 }
 
 // What is written for a case, which is made again where it was refused memory.
-fn written<R>(rt: &R, case: &str) -> Result<Vec<u8>, CaseFault>
+fn written<R>(rt: &R, case: &str) -> Result<String, CaseFault>
 where
     R: RandomSource + AllocGlobal + Threads + Wait + Sync,
 {
-    let mut out = Vec::new(rt.alloc());
+    let mut out = Said::new(rt.alloc());
     match write_case(rt, case, &mut out) {
-        Ok(()) => Ok(out),
-        Err(CaseFault::Memory) => written_again(rt, case, &out),
+        Ok(()) if !out.is_cut() => Ok(out.end()?),
+        Ok(()) | Err(CaseFault::Memory) => written_again(rt, case, out.so_far()),
         Err(fault) => Err(fault),
     }
 }
 
 // What is written for a case that wrote this before it was refused memory.
-fn written_again<R>(rt: &R, case: &str, before: &[u8]) -> Result<Vec<u8>, CaseFault>
+fn written_again<R>(rt: &R, case: &str, before: &str) -> Result<String, CaseFault>
 where
     R: RandomSource + AllocGlobal + Threads + Wait + Sync,
 {
-    let mut out = Vec::new(rt.alloc());
+    let mut out = Said::new(rt.alloc());
     write_case(rt, case, &mut out)?;
-    if !out.starts_with(before) {
-        writeln!(out, "wrong: it wrote something else before")?;
+    if !out.so_far().starts_with(before) {
+        out.put("wrong: it wrote something else before\n");
     }
-    Ok(out)
+    Ok(out.end()?)
 }
 
 // Writes what is said of a case.
-fn write_case<R>(rt: &R, case: &str, out: &mut Vec<u8>) -> Result<(), CaseFault>
+fn write_case<R>(rt: &R, case: &str, out: &mut Said) -> Result<(), CaseFault>
 where
     R: RandomSource + AllocGlobal + Threads + Wait + Sync,
 {
@@ -227,36 +224,37 @@ where
     let Some((kind, title)) = head.split_once(' ') else {
         return Err(CaseFault::Form);
     };
-    out.reserve(ROOM)?;
     if kind == "ends" {
         return write_ends(rt, title, text, out);
     }
-    writeln!(out, "== {title}")?;
+    begin(title, out);
     answer(rt, kind, title, text, out)
 }
 
 // Writes the ends of what is said of the case of this head, which names its kind and title.
-fn write_ends<R>(rt: &R, head: &str, text: &str, out: &mut Vec<u8>) -> Result<(), CaseFault>
+fn write_ends<R>(rt: &R, head: &str, text: &str, out: &mut Said) -> Result<(), CaseFault>
 where
     R: RandomSource + AllocGlobal + Threads + Wait + Sync,
 {
     let Some((kind, title)) = head.split_once(' ') else {
         return Err(CaseFault::Form);
     };
-    let mut whole = Vec::new(rt.alloc());
+    let mut whole = Said::new(rt.alloc());
     answer(rt, kind, title, text, &mut whole)?;
-    writeln!(out, "== {title}")?;
-    ends::write(&whole, out)
+    begin(title, out);
+    ends::write(&whole.end()?, out);
+    Ok(())
+}
+
+// The first line of what is written for a case.
+fn begin(title: &str, out: &mut Said) {
+    out.put("== ");
+    out.put(title);
+    out.put("\n")
 }
 
 // What is said of a text in a case of this kind.
-fn answer<R>(
-    rt: &R,
-    kind: &str,
-    title: &str,
-    text: &str,
-    out: &mut Vec<u8>,
-) -> Result<(), CaseFault>
+fn answer<R>(rt: &R, kind: &str, title: &str, text: &str, out: &mut Said) -> Result<(), CaseFault>
 where
     R: RandomSource + AllocGlobal + Threads + Wait + Sync,
 {
@@ -268,7 +266,10 @@ where
         "slow" => devices::slow(rt, text, true, out),
         "write" => devices::slow(rt, text, false, out),
         "failing" => devices::failing_input(alloc, out),
-        "faults" => faults::program_faults(out),
+        "faults" => {
+            faults::program_faults(out);
+            Ok(())
+        }
         "words" => words::words(alloc, text, out),
         "agree" | "report" | "turns" | "gated" | "legal" | "meet" | "changed" => {
             workers::answer(rt, kind, title, text, out)
@@ -281,7 +282,7 @@ where
 }
 
 // What is said of one text.
-fn answer_whole<R>(rt: &R, kind: &str, text: &[u8], out: &mut Vec<u8>) -> Result<(), CaseFault>
+fn answer_whole<R>(rt: &R, kind: &str, text: &[u8], out: &mut Said) -> Result<(), CaseFault>
 where
     R: RandomSource + AllocGlobal + Threads + Wait + Sync,
 {

@@ -1,8 +1,8 @@
 //! Two executors that wait for each other.
 
 use crate::fault::CaseFault;
+use crate::said::Said;
 use std::alloc::AllocGlobal;
-use std::io::Write;
 use std::random::RandomSource;
 use std::sync::atomic::{AtomicBool, AtomicU32, Ordering};
 use std::sync::{Arc, Wait};
@@ -48,7 +48,7 @@ impl Gate for Meeting {
 }
 
 /// How many of two executors have met the other in a run on two workers.
-pub fn meet<R>(rt: &R, script: &Arc<Script>, out: &mut Vec<u8>) -> Result<(), CaseFault>
+pub fn meet<R>(rt: &R, script: &Arc<Script>, out: &mut Said) -> Result<(), CaseFault>
 where
     R: RandomSource + AllocGlobal + Threads + Wait + Sync,
 {
@@ -58,7 +58,7 @@ where
         met: AtomicU32::new(0),
     };
     run(rt, Arc::clone(script)?, 2, &gate)?;
-    let met = gate.met.load(Ordering::SeqCst);
-    writeln!(out, "{met} have met the other")?;
+    out.count("", u64::from(gate.met.load(Ordering::SeqCst)));
+    out.put(" have met the other\n");
     Ok(())
 }

@@ -1,8 +1,8 @@
 //! What a gate is given of a run.
 
 use crate::fault::CaseFault;
+use crate::said::Said;
 use std::alloc::AllocGlobal;
-use std::io::Write;
 use std::random::RandomSource;
 use std::sync::Wait;
 use std::sync::atomic::{AtomicU32, Ordering};
@@ -33,7 +33,7 @@ impl Gate for Counting {
 }
 
 /// How often a gate was told of a token, and of a turn of task 1 on executor 0.
-pub fn moments<R>(rt: &R, text: &[u8], out: &mut Vec<u8>) -> Result<(), CaseFault>
+pub fn moments<R>(rt: &R, text: &[u8], out: &mut Said) -> Result<(), CaseFault>
 where
     R: RandomSource + AllocGlobal + Threads + Wait + Sync,
 {
@@ -45,6 +45,8 @@ where
     run_text(rt, text, 1, true, &gate, &mut report)?;
     let taken = gate.taken.load(Ordering::SeqCst);
     let turns = gate.turns.load(Ordering::SeqCst);
-    writeln!(out, "{taken} tokens, {turns} turns of task 1")?;
+    out.count("", u64::from(taken));
+    out.count(" tokens, ", u64::from(turns));
+    out.put(" turns of task 1\n");
     Ok(())
 }

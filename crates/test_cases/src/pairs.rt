@@ -3,8 +3,8 @@
 use crate::escapes::expand;
 use crate::fault::CaseFault;
 use crate::reading::{script_of, texts_of};
+use crate::said::Said;
 use std::alloc::Global;
-use std::io::Write;
 use swift_script::Script;
 
 /// How two texts compare.
@@ -38,23 +38,23 @@ fn compare(alloc: Global, first: &[u8], second: &[u8]) -> Result<Compared, CaseF
 }
 
 /// Whether two texts say the same.
-pub fn same(alloc: Global, texts: &str, out: &mut Vec<u8>) -> Result<(), CaseFault> {
+pub fn same(alloc: Global, texts: &str, out: &mut Said) -> Result<(), CaseFault> {
     let Some((first, second)) = texts.split_once("\n--\n") else {
         return Err(CaseFault::Form);
     };
     let first = expand(alloc, first)?;
     let second = expand(alloc, second)?;
-    out.extend_from_slice(match compare(alloc, &first, &second)? {
-        Compared::Same => b"same\n",
-        Compared::Other => b"other\n",
-        Compared::SameOneWayRound => b"wrong: same one way round\n",
-        Compared::Refused => b"wrong: refused\n",
-    })?;
+    out.put(match compare(alloc, &first, &second)? {
+        Compared::Same => "same\n",
+        Compared::Other => "other\n",
+        Compared::SameOneWayRound => "wrong: same one way round\n",
+        Compared::Refused => "wrong: refused\n",
+    });
     Ok(())
 }
 
 /// How many rows say something else than all the others.
-pub fn distinct(alloc: Global, table: &str, out: &mut Vec<u8>) -> Result<(), CaseFault> {
+pub fn distinct(alloc: Global, table: &str, out: &mut Said) -> Result<(), CaseFault> {
     let texts = texts_of(alloc, table)?;
     for (i, first) in texts.iter().enumerate() {
         for (j, second) in texts.iter().enumerate() {
@@ -64,11 +64,13 @@ pub fn distinct(alloc: Global, table: &str, out: &mut Vec<u8>) -> Result<(), Cas
                 Compared::Other
             };
             if compare(alloc, first, second)? != wanted {
-                writeln!(out, "wrong: row {i} and row {j}")?;
+                out.count("wrong: row ", i as u64);
+                out.count(" and row ", j as u64);
+                out.put("\n");
             }
         }
     }
-    let count = texts.len();
-    writeln!(out, "{count} rows are distinct")?;
+    out.count("", texts.len() as u64);
+    out.put(" rows are distinct\n");
     Ok(())
 }

@@ -106,7 +106,7 @@ mod words;
 
 use crate::fault::CaseFault;
 use crate::parts::book_case::play_book;
-use crate::parts::calls::{PLAIN, play};
+use crate::parts::calls::{Form, play};
 use crate::parts::formulas::FormulasPart;
 use crate::parts::inbox::{play_inbox, play_threads};
 use crate::parts::locals::LocalsPart;
@@ -114,6 +114,7 @@ use crate::parts::queue::play_queue;
 use crate::parts::roots::RootsPart;
 use crate::parts::turns::play_turns;
 use crate::parts::word::play_words;
+use crate::said::Said;
 use std::alloc::{AllocGlobal, Global};
 use std::random::RandomSource;
 use std::sync::Wait;
@@ -140,7 +141,7 @@ pub fn is_part(kind: &str) -> bool {
 }
 
 /// What the calls of a case answer.
-pub fn answer<R>(rt: &R, part: &str, calls: &str, out: &mut Vec<u8>) -> Result<(), CaseFault>
+pub fn answer<R>(rt: &R, part: &str, calls: &str, out: &mut Said) -> Result<(), CaseFault>
 where
     R: RandomSource + AllocGlobal + Threads + Wait + Sync,
 {
@@ -155,18 +156,13 @@ where
 }
 
 // What the calls of a part answer that needs memory alone.
-fn answer_alone(
-    alloc: Global,
-    part: &str,
-    calls: &str,
-    out: &mut Vec<u8>,
-) -> Result<(), CaseFault> {
+fn answer_alone(alloc: Global, part: &str, calls: &str, out: &mut Said) -> Result<(), CaseFault> {
     match part {
-        "locals" => play(alloc, &mut LocalsPart::new(alloc), PLAIN, calls, out),
-        "waits" => play(alloc, &mut Waits::new(alloc), PLAIN, calls, out),
-        "groups" => play(alloc, &mut Groups::new(alloc), PLAIN, calls, out),
-        "roots" => play(alloc, &mut RootsPart, PLAIN, calls, out),
-        "formulas" => play(alloc, &mut FormulasPart, PLAIN, calls, out),
+        "locals" => play(alloc, &mut LocalsPart::new(alloc), Form::Plain, calls, out),
+        "waits" => play(alloc, &mut Waits::new(alloc), Form::Plain, calls, out),
+        "groups" => play(alloc, &mut Groups::new(alloc), Form::Plain, calls, out),
+        "roots" => play(alloc, &mut RootsPart, Form::Plain, calls, out),
+        "formulas" => play(alloc, &mut FormulasPart, Form::Plain, calls, out),
         "queue" => play_queue(alloc, calls, out),
         "book" => play_book(alloc, calls, out),
         _ => Err(CaseFault::Form),

@@ -4,52 +4,38 @@ ghost use Rattle.std.specs.Prelude.{◌≡◌, IfOk, slice_set};
 
 use crate::fault::CaseFault;
 use crate::reading::{check, print_text};
-use crate::tally::Tally;
+use crate::said::Said;
+use crate::tally::{Tally, tell_answer};
 use std::alloc::{AllocError, Global};
-use std::io::Write;
 use swift_script::ScriptFault;
 
 // A line for a stretch of places with one answer.
-fn stretch(
-    out: &mut Vec<u8>,
-    from: usize,
-    to: usize,
-    answer: &Option<ScriptFault>,
-) -> Result<(), CaseFault> {
-    if from == to {
-        write!(out, "{from} ")?;
-    } else {
-        write!(out, "{from} to {to} ")?;
+fn stretch(out: &mut Said, from: usize, to: usize, answer: &Option<ScriptFault>) {
+    out.count("", from as u64);
+    if from != to {
+        out.count(" to ", to as u64);
     }
-    match answer {
-        None => writeln!(out, "accepted")?,
-        Some(fault) => writeln!(out, "{fault}")?,
-    }
-    Ok(())
+    out.put(" ");
+    tell_answer(answer, out)
 }
 
 // The answers by place, a line for each stretch.
-fn stretches(out: &mut Vec<u8>, answers: &[Option<ScriptFault>]) -> Result<(), CaseFault> {
+fn stretches(out: &mut Said, answers: &[Option<ScriptFault>]) {
     let mut from = 0;
     for (place, answer) in answers.iter().enumerate() {
         let next = place + 1;
         if answers.get(next) != Some(answer) {
-            stretch(out, from, place, answer)?;
+            stretch(out, from, place, answer);
             from = next;
         }
     }
-    Ok(())
 }
 
 // Why a text is refused, if it is. A line more where it is accepted and its printed form is not read again.
-fn refusal(
-    alloc: Global,
-    text: &[u8],
-    out: &mut Vec<u8>,
-) -> Result<Option<ScriptFault>, CaseFault> {
+fn refusal(alloc: Global, text: &[u8], out: &mut Said) -> Result<Option<ScriptFault>, CaseFault> {
     match print_text(alloc, text)? {
         Ok(printed) => {
-            check(&printed, out)?;
+            check(&printed, out);
             Ok(None)
         }
         Err(fault) => Ok(Some(fault)),
@@ -60,24 +46,24 @@ fn refusal(
 fn counted(
     alloc: Global,
     answers: &[Option<ScriptFault>],
-    out: &mut Vec<u8>,
-) -> Result<(), CaseFault> {
+    out: &mut Said,
+) -> Result<(), AllocError> {
     let mut tally = Tally::new(alloc);
     for answer in answers {
         tally.add(answer.map(|fault| fault.kind))?;
     }
-    tally.write(out)?;
+    tally.write(out);
     Ok(())
 }
 
 /// What is said of each prefix, by its length.
-pub fn prefixes(alloc: Global, text: &[u8], out: &mut Vec<u8>) -> Result<(), CaseFault> {
+pub fn prefixes(alloc: Global, text: &[u8], out: &mut Said) -> Result<(), CaseFault> {
     let mut answers = Vec::new(alloc);
     for length in 0..=text.len() {
         answers.push(refusal(alloc, &text[..length], out)?)?;
     }
-    stretches(out, &answers)?;
-    counted(alloc, &answers, out)
+    stretches(out, &answers);
+    Ok(counted(alloc, &answers, out)?)
 }
 
 // The text with a byte in this place.
@@ -92,14 +78,14 @@ fn with_byte(alloc: Global, text: &[u8], place: usize, byte: u8) -> Result<Vec<u
 }
 
 /// What is said of the text with a byte outside text in each place.
-pub fn spoiled(alloc: Global, text: &[u8], out: &mut Vec<u8>) -> Result<(), CaseFault> {
+pub fn spoiled(alloc: Global, text: &[u8], out: &mut Said) -> Result<(), CaseFault> {
     let mut answers = Vec::new(alloc);
     for place in 0..text.len() {
         let changed = with_byte(alloc, text, place, 0x80)?;
         answers.push(refusal(alloc, &changed, out)?)?;
     }
-    stretches(out, &answers)?;
-    counted(alloc, &answers, out)
+    stretches(out, &answers);
+    Ok(counted(alloc, &answers, out)?)
 }
 
 // The answers with each byte of text in this place.
@@ -108,7 +94,7 @@ fn replaced_at(
     text: &[u8],
     place: usize,
     answers: &mut Vec<Option<ScriptFault>>,
-    out: &mut Vec<u8>,
+    out: &mut Said,
 ) -> Result<(), CaseFault> {
     for byte in 0x20..0x7F {
         let changed = with_byte(alloc, text, place, byte)?;
@@ -118,10 +104,10 @@ fn replaced_at(
 }
 
 /// How often each answer is given, with each byte of text in each place.
-pub fn replaced(alloc: Global, text: &[u8], out: &mut Vec<u8>) -> Result<(), CaseFault> {
+pub fn replaced(alloc: Global, text: &[u8], out: &mut Said) -> Result<(), CaseFault> {
     let mut answers = Vec::new(alloc);
     for place in 0..text.len() {
         replaced_at(alloc, text, place, &mut answers, out)?;
     }
-    counted(alloc, &answers, out)
+    Ok(counted(alloc, &answers, out)?)
 }

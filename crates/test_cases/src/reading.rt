@@ -2,8 +2,8 @@
 
 use crate::escapes::expand;
 use crate::fault::CaseFault;
+use crate::said::Said;
 use std::alloc::Global;
-use std::io::Write;
 use swift_script::{Script, ScriptFault, ScriptFaultKind, print_script, read};
 use swift_types::limits::BYTES;
 
@@ -62,53 +62,57 @@ pub fn print_text(alloc: Global, text: &[u8]) -> Result<Result<Printed, ScriptFa
 }
 
 /// Writes a line more where a printed form is not read again.
-pub fn check(printed: &Printed, out: &mut Vec<u8>) -> Result<(), CaseFault> {
+pub fn check(printed: &Printed, out: &mut Said) {
     if !printed.is_read_again {
-        let text = printed.text.as_str();
-        writeln!(out, "wrong: this is not read again: {text}")?;
+        out.put("wrong: this is not read again: ");
+        out.put(&printed.text);
+        out.put("\n");
+    }
+}
+
+// A printed form, unless that is too long to be read.
+fn show(alloc: Global, printed: &Printed, out: &mut Said) -> Result<(), CaseFault> {
+    if printed.text.len() <= BYTES {
+        out.put(&printed.text);
+        check(printed, out);
+        return Ok(());
+    }
+    if let Err(fault) = script_of(alloc, printed.text.as_bytes())? {
+        out.put("printed form: ");
+        tell(&fault, out);
     }
     Ok(())
 }
 
-// A printed form, unless that is too long to be read.
-fn show(alloc: Global, printed: &Printed, out: &mut Vec<u8>) -> Result<(), CaseFault> {
-    let text = printed.text.as_bytes();
-    if text.len() > BYTES {
-        if let Err(fault) = script_of(alloc, text)? {
-            writeln!(out, "printed form: {fault}")?;
-        }
-        return Ok(());
-    }
-    out.extend_from_slice(text)?;
-    check(printed, out)
+// A refusal, on a line of its own.
+fn tell(fault: &ScriptFault, out: &mut Said) {
+    out.value(fault);
+    out.put("\n")
 }
 
 /// A text: its script's printed form, or its refusal.
-pub fn read_text(alloc: Global, text: &[u8], out: &mut Vec<u8>) -> Result<(), CaseFault> {
+pub fn read_text(alloc: Global, text: &[u8], out: &mut Said) -> Result<(), CaseFault> {
     match print_text(alloc, text)? {
-        Ok(printed) => show(alloc, &printed, out),
-        Err(fault) => {
-            writeln!(out, "{fault}")?;
-            Ok(())
-        }
+        Ok(printed) => show(alloc, &printed, out)?,
+        Err(fault) => tell(&fault, out),
     }
+    Ok(())
 }
 
 /// A text that is accepted: how long its printed form is.
-pub fn counted(alloc: Global, text: &[u8], out: &mut Vec<u8>) -> Result<(), CaseFault> {
+pub fn counted(alloc: Global, text: &[u8], out: &mut Said) -> Result<(), CaseFault> {
     match print_text(alloc, text)? {
         Ok(printed) => {
             let bytes = printed.text.as_bytes();
             let lines = bytes.iter().filter(|byte| **byte == b'\n').count();
-            let bytes = bytes.len();
-            writeln!(out, "{lines} lines, {bytes} bytes")?;
+            out.count("", lines as u64);
+            out.count(" lines, ", bytes.len() as u64);
+            out.put(" bytes\n");
             check(&printed, out)
         }
-        Err(fault) => {
-            writeln!(out, "{fault}")?;
-            Ok(())
-        }
+        Err(fault) => tell(&fault, out),
     }
+    Ok(())
 }
 
 /// The texts of rows, in order.
@@ -129,7 +133,7 @@ pub fn texts_of(alloc: Global, table: &str) -> Result<Vec<Vec<u8>>, CaseFault> {
 }
 
 /// The texts of a table, each as `read_text` has it.
-pub fn rows(alloc: Global, table: &str, out: &mut Vec<u8>) -> Result<(), CaseFault> {
+pub fn rows(alloc: Global, table: &str, out: &mut Said) -> Result<(), CaseFault> {
     let texts = texts_of(alloc, table)?;
     for text in &texts {
         read_text(alloc, text, out)?;

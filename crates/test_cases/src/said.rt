@@ -3,7 +3,8 @@
 use std::alloc::{AllocError, Global};
 use std::fmt::{Debug, Display, Write};
 
-/// A text that is being written. Where memory runs out it notes that, and `end` says so: who writes it asks at the end alone.
+/// A text that is being written. Where memory runs out it notes that, takes no more, and `end` says so: who writes it asks at the end
+/// alone.
 pub struct Said {
     text: String,
     is_cut: bool,
@@ -39,6 +40,16 @@ impl Said {
         self.text.is_empty()
     }
 
+    /// Whether memory ran out.
+    pub fn is_cut(&self) -> bool {
+        self.is_cut
+    }
+
+    /// What was written so far.
+    pub fn so_far(&self) -> &str {
+        &self.text
+    }
+
     /// Nothing again.
     pub fn clear(&mut self) {
         self.text.clear();
@@ -53,14 +64,16 @@ impl Said {
 
     /// Goes on with these words.
     pub fn put(&mut self, words: &str) {
-        let done = self.text.push_str(words);
-        self.note(done);
+        if !self.is_cut {
+            let done = self.text.push_str(words);
+            self.note(done);
+        }
     }
 
-    /// Goes on with a name of a script.
-    pub fn name(&mut self, name: &[u8]) {
-        match str::from_utf8(name) {
-            Ok(name) => self.put(name),
+    /// Goes on with these bytes, or with a `?` where they are no text.
+    pub fn bytes(&mut self, bytes: &[u8]) {
+        match str::from_utf8(bytes) {
+            Ok(words) => self.put(words),
             Err(_) => self.put("?"),
         }
     }
@@ -68,35 +81,42 @@ impl Said {
     /// Goes on with words and a number.
     pub fn number(&mut self, before: &str, number: i64) {
         self.put(before);
-        let done = write!(self.text, "{number}");
-        self.note(done);
+        self.value(&number)
     }
 
     /// Goes on with words and a count.
     pub fn count(&mut self, before: &str, count: u64) {
         self.put(before);
-        let done = write!(self.text, "{count}");
-        self.note(done);
+        self.value(&count)
     }
 
     /// Goes on with what is said of a value.
     pub fn value<T: Display>(&mut self, value: &T) {
-        let done = write!(self.text, "{value}");
-        self.note(done);
+        if !self.is_cut {
+            let done = write!(self.text, "{value}");
+            self.note(done);
+        }
     }
 
     /// Goes on with words and a value as `Debug` has it.
     pub fn debug<T: Debug>(&mut self, before: &str, value: &T) {
         self.put(before);
-        let done = write!(self.text, "{value:?}");
-        self.note(done);
+        if !self.is_cut {
+            let done = write!(self.text, "{value:?}");
+            self.note(done);
+        }
+    }
+
+    /// Goes on with words and whether something is so.
+    pub fn whether(&mut self, before: &str, is_so: bool) {
+        self.put(before);
+        self.put(if is_so { "true" } else { "false" })
     }
 
     /// Goes on with a text that was written apart.
-    pub fn part(&mut self, part: Said) {
-        let Said { text, is_cut } = part;
-        self.put(&text);
-        if is_cut {
+    pub fn part(&mut self, part: &Said) {
+        self.put(&part.text);
+        if part.is_cut {
             self.is_cut = true;
         }
     }

@@ -1,8 +1,8 @@
 //! How often each answer was given.
 
+use crate::said::Said;
 use std::alloc::{AllocError, Global};
-use std::io;
-use std::io::Write;
+use std::fmt::Display;
 use swift_script::ScriptFaultKind;
 
 // An answer, which is none where the text was accepted, and how often it was given.
@@ -46,14 +46,20 @@ impl Tally {
     }
 
     /// Writes a line for each answer.
-    pub fn write(&self, out: &mut Vec<u8>) -> io::Result<()> {
+    pub fn write(&self, out: &mut Said) {
         for count in &self.counts {
-            let times = count.times;
-            match count.answer {
-                None => writeln!(out, "{times} accepted")?,
-                Some(kind) => writeln!(out, "{times} {kind}")?,
-            }
+            out.count("", u64::from(count.times));
+            out.put(" ");
+            tell_answer(&count.answer, out);
         }
-        Ok(())
     }
+}
+
+/// Writes an answer, which is none where the text was accepted, and ends its line.
+pub fn tell_answer<T: Display>(answer: &Option<T>, out: &mut Said) {
+    match answer {
+        None => out.put("accepted"),
+        Some(fault) => out.value(fault),
+    }
+    out.put("\n")
 }

@@ -1,8 +1,8 @@
 //! Words of a command line.
 
 use crate::fault::CaseFault;
+use crate::said::Said;
 use std::alloc::Global;
-use std::io::Write;
 use swift_tool::options;
 
 // The words of a line, after the program's name.
@@ -22,19 +22,20 @@ fn words_of(alloc: Global, line: &str) -> Result<Vec<String>, CaseFault> {
 }
 
 /// What the words of each line ask the program for, or what is said of them, and the status with which the program ends then.
-pub fn words(alloc: Global, table: &str, out: &mut Vec<u8>) -> Result<(), CaseFault> {
+pub fn words(alloc: Global, table: &str, out: &mut Said) -> Result<(), CaseFault> {
     for line in table.split('\n') {
         let words = words_of(alloc, line)?;
         match options(alloc, &words) {
             Ok(options) => {
-                let (workers, quiet) = (options.workers, options.quiet);
-                writeln!(out, "{workers} workers, quiet: {quiet}")?;
+                out.count("", u64::from(options.workers));
+                out.whether(" workers, quiet: ", options.quiet);
             }
             Err(refused) => {
-                let status = refused.exit_code();
-                writeln!(out, "{refused}status {status}")?;
+                out.value(&refused);
+                out.number("status ", i64::from(refused.exit_code()));
             }
         }
+        out.put("\n");
     }
     Ok(())
 }

@@ -4,8 +4,8 @@ use crate::change::make;
 use crate::fault::CaseFault;
 use crate::gated::{gated, turns};
 use crate::meeting::meet;
+use crate::said::Said;
 use std::alloc::{AllocGlobal, Global};
-use std::io::Write;
 use std::random::RandomSource;
 use std::sync::{Arc, Wait};
 use std::thread::Threads;
@@ -42,14 +42,17 @@ fn answer_script<R>(
     rt: &R,
     kind: &str,
     script: &Arc<Script>,
-    out: &mut Vec<u8>,
+    out: &mut Said,
 ) -> Result<(), CaseFault>
 where
     R: RandomSource + AllocGlobal + Threads + Wait + Sync,
 {
     match kind {
         "agree" => agree(rt, script, out),
-        "report" => Ok(out.extend_from_slice(&report_on(rt, script, 1, false)?)?),
+        "report" => {
+            out.bytes(&report_on(rt, script, 1, false)?);
+            Ok(())
+        }
         "turns" => turns(rt, script, out),
         "gated" => gated(rt, script, out),
         "legal" => legal_on_two(rt, script, out),
@@ -64,7 +67,7 @@ pub fn answer<R>(
     kind: &str,
     title: &str,
     text: &str,
-    out: &mut Vec<u8>,
+    out: &mut Said,
 ) -> Result<(), CaseFault>
 where
     R: RandomSource + AllocGlobal + Threads + Wait + Sync,
@@ -76,20 +79,21 @@ where
 }
 
 // The report of a run on one worker, and whether those on more are the same.
-fn agree<R>(rt: &R, script: &Arc<Script>, out: &mut Vec<u8>) -> Result<(), CaseFault>
+fn agree<R>(rt: &R, script: &Arc<Script>, out: &mut Said) -> Result<(), CaseFault>
 where
     R: RandomSource + AllocGlobal + Threads + Wait + Sync,
 {
     let alone = report_on(rt, script, 1, true)?;
-    out.extend_from_slice(&alone)?;
+    out.bytes(&alone);
     for workers in [2, 4, 8] {
         let others = report_on(rt, script, workers, true)?;
         let is_same = others.as_slice() == alone.as_slice();
-        writeln!(out, "{workers} workers, the same: {is_same}")?;
+        out.count("", u64::from(workers));
+        out.whether(" workers, the same: ", is_same);
+        out.put("\n");
     }
     for workers in [0, 9] {
-        let refused = report_on(rt, script, workers, true)?;
-        out.extend_from_slice(&refused)?;
+        out.bytes(&report_on(rt, script, workers, true)?);
     }
     Ok(())
 }
@@ -99,15 +103,15 @@ fn tell_legal(
     alloc: Global,
     script: &Arc<Script>,
     report: &Report,
-    out: &mut Vec<u8>,
+    out: &mut Said,
 ) -> Result<(), CaseFault> {
-    let is_legal = legal(alloc, script, report)?;
-    writeln!(out, "legal: {is_legal}")?;
+    out.whether("legal: ", legal(alloc, script, report)?);
+    out.put("\n");
     Ok(())
 }
 
 // Whether the report of a run on two workers is legal.
-fn legal_on_two<R>(rt: &R, script: &Arc<Script>, out: &mut Vec<u8>) -> Result<(), CaseFault>
+fn legal_on_two<R>(rt: &R, script: &Arc<Script>, out: &mut Said) -> Result<(), CaseFault>
 where
     R: RandomSource + AllocGlobal + Threads + Wait + Sync,
 {
@@ -116,7 +120,7 @@ where
 }
 
 // Whether the report of a run of the first of these scripts is legal for the second, once it is changed.
-fn changed<R>(rt: &R, change: &str, scripts: &str, out: &mut Vec<u8>) -> Result<(), CaseFault>
+fn changed<R>(rt: &R, change: &str, scripts: &str, out: &mut Said) -> Result<(), CaseFault>
 where
     R: RandomSource + AllocGlobal + Threads + Wait + Sync,
 {

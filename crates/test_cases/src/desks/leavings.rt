@@ -84,7 +84,7 @@ impl Leavings {
     /// Writes a report of the turns and fields, without tasks.
     pub fn tell(&self, alloc: Global, setting: &Setting, out: &mut Said) -> Result<(), CaseFault> {
         let text = report_text(alloc, &setting.script, &self.report, false)?;
-        out.name(&text);
+        out.bytes(&text);
         Ok(())
     }
 }

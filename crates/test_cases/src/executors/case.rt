@@ -178,10 +178,10 @@ where
     };
     let mut answer = Said::with_room(rt.alloc(), ROOM)?;
     make(rt, callee, acts.call, 0, &gate, &mut answer);
-    out.part(gate.lines.into_inner());
+    out.part(&gate.lines.into_inner());
     out.put(line);
     out.put(": ");
-    out.part(answer);
+    out.part(&answer);
     out.put("\n");
     Ok(())
 }
@@ -208,6 +208,6 @@ where
     }
     out.put(range);
     out.put(":\n");
-    out.part(lines);
+    out.part(&lines);
     Ok(())
 }

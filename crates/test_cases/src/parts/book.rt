@@ -10,7 +10,7 @@ use crate::parts::done::{TurnDone, done_of};
 use crate::parts::jobs::{keep, made, place_of, take};
 use crate::parts::scripts::Scripts;
 use crate::parts::show;
-use crate::parts::words::{number, task};
+use crate::parts::words::Words;
 use crate::said::Said;
 use std::alloc::Global;
 use swift_job::{Job, spend_all};
@@ -44,54 +44,29 @@ impl Tasks {
     }
 
     // Makes a call, with what a turn has done, and writes what it answered.
-    fn call(&mut self, head: &str, done: &[&str], out: &mut Said) -> Result<(), CaseFault> {
-        let words: Vec<&str> = head.split(' ').collect(self.alloc)?;
-        match *words {
-            [call] => self.told(call, out),
-            ["priorities", ref tasks @ ..] => self.priorities(tasks, out),
-            [call, named, ref how @ ..] => self.named(call, number(named)?, how, done, out),
-            [] => Err(CaseFault::Form),
-        }
-    }
-
-    // A call without more words.
-    fn told(&mut self, call: &str, out: &mut Said) -> Result<(), CaseFault> {
-        match call {
+    fn call(&mut self, words: &mut Words<'_>, done: &str, out: &mut Said) -> Result<(), CaseFault> {
+        match words.next() {
             "levels" => told_levels(out, self.book.levels()),
             "open_tasks" => out.count("", self.book.open_tasks() as u64),
-            _ => return Err(CaseFault::Form),
+            "priorities" => return self.priorities(words, out),
+            "root" => return self.add_root(RootId(words.number()), out),
+            "cancel" => told(out, self.book.cancel(words.task())),
+            "ending" => show::ending(out, self.book.ending(words.task())),
+            "origin" => show::origin(out, self.book.origin(words.task())),
+            call => return self.with_job(call, words, done, out),
         }
         Ok(())
     }
 
-    // A call of a root, a task or a job.
-    fn named(
-        &mut self,
-        call: &str,
-        named: u32,
-        how: &[&str],
-        done: &[&str],
-        out: &mut Said,
-    ) -> Result<(), CaseFault> {
-        match call {
-            "root" => return self.add_root(RootId(named), out),
-            "cancel" => told(out, self.book.cancel(TaskId(named))),
-            "ending" => show::ending(out, self.book.ending(TaskId(named))),
-            "origin" => show::origin(out, self.book.origin(TaskId(named))),
-            _ => return self.with_job(call, TaskId(named), how, done, out),
-        }
-        Ok(())
-    }
-
-    // A call of a job.
+    // A call of a job, which is told by these words.
     fn with_job(
         &mut self,
         call: &str,
-        named: TaskId,
-        how: &[&str],
-        done: &[&str],
+        words: &mut Words<'_>,
+        done: &str,
         out: &mut Said,
     ) -> Result<(), CaseFault> {
+        let (named, how) = (words.task(), words.all());
         match call {
             "begin" => {
                 self.begin(named, how, out)?;
@@ -117,7 +92,7 @@ impl Tasks {
     }
 
     // Begins the turn of a job. Whether it has begun.
-    fn begin(&mut self, named: TaskId, how: &[&str], out: &mut Said) -> Result<bool, CaseFault> {
+    fn begin(&mut self, named: TaskId, how: &str, out: &mut Said) -> Result<bool, CaseFault> {
         if how.is_empty() {
             let Some(place) = place_of(&self.jobs, named) else {
                 out.put("no job");
@@ -136,23 +111,23 @@ impl Tasks {
     fn turn(
         &mut self,
         named: TaskId,
-        how: &[&str],
-        done: &[&str],
+        how: &str,
+        done: &str,
         out: &mut Said,
     ) -> Result<(), CaseFault> {
-        if self.begin(named, how, out)? {
-            out.put(", ");
-            self.apply(named, how, done, out)?;
+        if !self.begin(named, how, out)? {
+            return Ok(());
         }
-        Ok(())
+        out.put(", ");
+        self.apply(named, how, done, out)
     }
 
     // Applies a job.
     fn apply(
         &mut self,
         named: TaskId,
-        how: &[&str],
-        done: &[&str],
+        how: &str,
+        done: &str,
         out: &mut Said,
     ) -> Result<(), CaseFault> {
         let done = done_of(self.alloc, &self.scripts.own, done)?;
@@ -184,7 +159,7 @@ impl Tasks {
     fn apply_made(
         &mut self,
         named: TaskId,
-        how: &[&str],
+        how: &str,
         done: TurnDone,
         out: &mut Said,
     ) -> Result<(), CaseFault> {
@@ -223,10 +198,10 @@ impl Tasks {
         }
     }
 
-    fn priorities(&self, words: &[&str], out: &mut Said) -> Result<(), CaseFault> {
+    fn priorities(&self, words: &mut Words<'_>, out: &mut Said) -> Result<(), CaseFault> {
         let mut tasks: Vec<TaskId> = Vec::new(self.alloc);
-        for word in words {
-            tasks.push(task(word)?)?;
+        for word in words.all().split_terminator(' ') {
+            tasks.push(TaskId(words.number_of(word)))?;
         }
         let mut found = Vec::new(self.alloc);
         found.resize(tasks.len(), Priority::Background)?;
@@ -258,23 +233,27 @@ impl Tasks {
 }
 
 impl Part for Tasks {
-    // A call, with what a turn has done, and each event and job that follow.
-    fn answer(&mut self, alloc: Global, words: &[&str]) -> Result<String, CaseFault> {
-        let Some((head, done)) = words.split_first() else {
-            return Err(CaseFault::Form);
-        };
+    // A call, with what a turn has done behind a semicolon, and each event and job that follow.
+    fn answer(
+        &mut self,
+        _alloc: Global,
+        words: &mut Words<'_>,
+        out: &mut Said,
+    ) -> Result<(), CaseFault> {
+        let is_quiet = words.has("quiet");
+        let text = words.all();
+        let (head, done) = text.split_once("; ").unwrap_or((text, ""));
+        let mut head = Words::new(head);
         let events = self.book.log().len();
-        let mut out = Said::new(alloc);
-        match head.strip_prefix("quiet ") {
-            Some(quiet) => self.call(quiet, done, &mut out)?,
-            None => {
-                self.call(head, done, &mut out)?;
-                told_events(&mut out, self.book.log(), events);
-                tell_jobs(&mut out, &self.scripts.own, &self.given);
-            }
+        self.call(&mut head, done, out)?;
+        if !head.are_right() {
+            words.refuse();
         }
-        self.jobs.append(&mut self.given)?;
-        Ok(out.end()?)
+        if !is_quiet {
+            told_events(out, self.book.log(), events);
+            tell_jobs(out, &self.scripts.own, &self.given);
+        }
+        Ok(self.jobs.append(&mut self.given)?)
     }
 }
 

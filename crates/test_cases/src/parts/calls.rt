@@ -1,30 +1,29 @@
 //! Calls, one after another.
 
 use crate::fault::CaseFault;
-use crate::parts::words::number;
+use crate::parts::words::Words;
+use crate::said::Said;
 use std::alloc::{AllocError, Global};
-use std::io::Write;
 
 /// A part of the runtime that is called.
 pub trait Part {
-    /// The answer of a call that has these words.
-    fn answer(&mut self, alloc: Global, words: &[&str]) -> Result<String, CaseFault>;
+    /// Makes the call that has these words, and writes its answer.
+    fn answer(
+        &mut self,
+        alloc: Global,
+        words: &mut Words<'_>,
+        out: &mut Said,
+    ) -> Result<(), CaseFault>;
 }
 
-/// How calls and their answers are written.
-#[derive(Clone, Copy)]
-pub struct Form {
-    /// What stands between the words of a call.
-    pub between: &'static str,
-    /// Whether each answer stands after its line.
-    pub is_named: bool,
+/// What is written for a call.
+#[derive(Clone, Copy, PartialEq, Eq)]
+pub enum Form {
+    /// Its answer.
+    Plain,
+    /// Its line, and then its answer.
+    Named,
 }
-
-/// Words with a space between them, and answers alone.
-pub const PLAIN: Form = Form {
-    between: " ",
-    is_named: false,
-};
 
 /// Makes the calls of these lines, and writes their answers.
 pub fn play<P: Part>(
@@ -32,7 +31,7 @@ pub fn play<P: Part>(
     part: &mut P,
     form: Form,
     calls: &str,
-    out: &mut Vec<u8>,
+    out: &mut Said,
 ) -> Result<(), CaseFault> {
     for line in calls.split('\n') {
         if line.starts_with('#') || line.starts_with("//") {
@@ -40,8 +39,8 @@ pub fn play<P: Part>(
         }
         match line.split_once(": ") {
             None => {
-                let answer = called(alloc, part, form, line)?;
-                write_answer(out, form, line, &answer)?;
+                let answer = called(alloc, part, line)?;
+                tell(form, line, &answer, out);
             }
             Some((range, call)) => play_range(alloc, part, form, line, range, call, out)?,
         }
@@ -50,61 +49,78 @@ pub fn play<P: Part>(
 }
 
 // Writes an answer, of a call or of one of a range.
-fn write_answer(out: &mut Vec<u8>, form: Form, line: &str, answer: &str) -> Result<(), CaseFault> {
-    if form.is_named {
-        write!(out, "{line}: ")?;
+fn tell(form: Form, line: &str, answer: &Said, out: &mut Said) {
+    if form == Form::Named {
+        out.put(line);
+        out.put(": ");
     }
-    writeln!(out, "{answer}")?;
-    Ok(())
+    out.part(answer);
+    out.put("\n")
 }
 
 // Makes one call, and makes it again where it is refused memory.
-fn called<P: Part>(
-    alloc: Global,
-    part: &mut P,
-    form: Form,
-    call: &str,
-) -> Result<String, CaseFault> {
-    let words: Vec<&str> = call.split(form.between).collect(alloc)?;
-    let answer = part.answer(alloc, &words)?;
-    if answer.ends_with("no memory") {
-        return part.answer(alloc, &words);
+fn called<P: Part>(alloc: Global, part: &mut P, call: &str) -> Result<Said, CaseFault> {
+    let mut answer = Said::new(alloc);
+    make(alloc, part, call, &mut answer)?;
+    if answer.so_far().ends_with("no memory") {
+        answer.clear();
+        make(alloc, part, call, &mut answer)?;
     }
     Ok(answer)
+}
+
+// Makes one call.
+fn make<P: Part>(
+    alloc: Global,
+    part: &mut P,
+    call: &str,
+    answer: &mut Said,
+) -> Result<(), CaseFault> {
+    let mut words = Words::new(call);
+    part.answer(alloc, &mut words, answer)?;
+    if words.are_right() {
+        Ok(())
+    } else {
+        Err(CaseFault::Form)
+    }
 }
 
 // Makes a call with this number in place of each `#`, and the number below it in place of each `@`.
 fn called_with<P: Part>(
     alloc: Global,
     part: &mut P,
-    form: Form,
     call: &str,
     count: u32,
-) -> Result<String, CaseFault> {
+) -> Result<Said, CaseFault> {
     let call = numbered(alloc, call, '#', count)?;
-    let call = numbered(alloc, call.as_str(), '@', count.saturating_sub(1))?;
-    called(alloc, part, form, call.as_str())
+    let call = numbered(alloc, &call, '@', count.saturating_sub(1))?;
+    called(alloc, part, &call)
 }
 
 // The call with a number in place of each of these marks.
 fn numbered(alloc: Global, call: &str, mark: char, count: u32) -> Result<String, AllocError> {
-    let mut made = String::new(alloc);
+    let mut made = Said::new(alloc);
     for (place, piece) in call.split(mark).enumerate() {
         if place > 0 {
-            write!(made, "{count}")?;
+            made.count("", u64::from(count));
         }
-        made.push_str(piece)?;
+        made.put(piece);
     }
-    Ok(made)
+    made.end()
 }
 
 // The numbers of a range, `FIRST to LAST` or `FIRST to LAST by STEP`.
-fn range_of(range: &str) -> Result<(u32, u32, u32), CaseFault> {
-    let Some((first, rest)) = range.split_once(" to ") else {
-        return Err(CaseFault::Form);
-    };
-    let (last, step) = rest.split_once(" by ").unwrap_or((rest, "1"));
-    Ok((number(first)?, number(last)?, number(step)?))
+fn range_of(range: &str) -> Option<(u32, u32, u32)> {
+    let mut words = Words::new(range);
+    let first = words.number();
+    let to = words.next();
+    let last = words.number();
+    let step = if words.has("by") { words.number() } else { 1 };
+    if to == "to" && words.are_right() {
+        Some((first, last, step))
+    } else {
+        None
+    }
 }
 
 // The number at this place of a range, which goes up or down.
@@ -124,17 +140,19 @@ fn play_range<P: Part>(
     line: &str,
     range: &str,
     call: &str,
-    out: &mut Vec<u8>,
+    out: &mut Said,
 ) -> Result<(), CaseFault> {
-    let (first, last, step) = range_of(range)?;
-    let mut before = String::new(alloc);
+    let Some((first, last, step)) = range_of(range) else {
+        return Err(CaseFault::Form);
+    };
+    let mut before = Said::new(alloc);
     for place in 0..=first.abs_diff(last) {
         if step > 1 && place % step != 0 {
             continue;
         }
-        let answer = called_with(alloc, part, form, call, number_at(first, last, place))?;
-        if answer.as_str() != before.as_str() {
-            write_answer(out, form, line, &answer)?;
+        let answer = called_with(alloc, part, call, number_at(first, last, place))?;
+        if answer.so_far() != before.so_far() {
+            tell(form, line, &answer, out);
         }
         before = answer;
     }

@@ -9,7 +9,7 @@
 
 use crate::fault::CaseFault;
 use crate::parts::calls::Part;
-use crate::parts::words::{number, value as value_of};
+use crate::parts::words::Words;
 use crate::said::Said;
 use script_code::laws::{written_code_counts, written_code_implements, written_code_joins};
 use script_code::{
@@ -69,89 +69,99 @@ fn operator_of(word: &str) -> Option<Operator> {
 }
 
 // A formula without operands.
-fn leaf(word: &str) -> Result<Formula, CaseFault> {
+fn leaf(words: &mut Words<'_>, word: &str) -> Formula {
     match word {
-        "priority" => Ok(Formula::Priority),
-        "cancelled" => Ok(Formula::Cancelled),
-        _ => read_of(word),
+        "priority" => Formula::Priority,
+        "cancelled" => Formula::Cancelled,
+        _ => read_of(words, word),
     }
 }
 
 // What is read of a variable, a local or a field, or a number.
-fn read_of(word: &str) -> Result<Formula, CaseFault> {
+fn read_of(words: &mut Words<'_>, word: &str) -> Formula {
     if let Some(place) = word.strip_prefix('v') {
-        return Ok(Formula::Variable(number(place)?));
+        return Formula::Variable(words.number_of(place));
     }
     if let Some(local) = word.strip_prefix('l') {
-        return local_of(local);
+        return local_of(words, local);
     }
     match word.strip_prefix('f') {
-        Some(field) => field_of(field),
-        None => Ok(Formula::Number(value_of(word)?)),
+        Some(field) => field_of(words, field),
+        None => Formula::Number(words.value_of(word)),
     }
 }
 
 // A local with its default, `N=VALUE`.
-fn local_of(text: &str) -> Result<Formula, CaseFault> {
-    match text.split_once('=') {
-        Some((local, default)) => Ok(Formula::Local(LocalId(number(local)?), value_of(default)?)),
-        None => Err(CaseFault::Form),
-    }
+fn local_of(words: &mut Words<'_>, text: &str) -> Formula {
+    let (local, default) = text.split_once('=').unwrap_or((text, ""));
+    Formula::Local(LocalId(words.number_of(local)), words.value_of(default))
 }
 
 // A field of an actor, `A.N`.
-fn field_of(text: &str) -> Result<Formula, CaseFault> {
-    match text.split_once('.') {
-        Some((actor, field)) => Ok(Formula::Field(FieldPlace {
-            actor: number(actor)?,
-            field: number(field)?,
-        })),
-        None => Err(CaseFault::Form),
-    }
+fn field_of(words: &mut Words<'_>, text: &str) -> Formula {
+    let (actor, field) = text.split_once('.').unwrap_or((text, ""));
+    Formula::Field(FieldPlace {
+        actor: words.number_of(actor),
+        field: words.number_of(field),
+    })
 }
 
-// What a word makes of the formulas before it.
-fn push(alloc: Global, formulas: &mut Vec<Formula>, word: &str) -> Result<(), CaseFault> {
-    let made = match operator_of(word) {
-        Some(operator) => {
-            let (Some(right), Some(left)) = (formulas.pop(), formulas.pop()) else {
-                return Err(CaseFault::Form);
-            };
-            Formula::Binary(operator, Box::new(alloc, left)?, Box::new(alloc, right)?)
-        }
-        None => leaf(word)?,
+// The formula that an operator of two operands makes of the last two.
+fn joined(
+    alloc: Global,
+    formulas: &mut Vec<Formula>,
+    operator: Operator,
+) -> Result<Formula, CaseFault> {
+    let (Some(right), Some(left)) = (formulas.pop(), formulas.pop()) else {
+        return Err(CaseFault::Form);
     };
-    formulas.push(made)?;
-    Ok(())
+    Ok(Formula::Binary(operator, Box::new(alloc, left)?, Box::new(alloc, right)?))
 }
 
-// What a word makes of the formulas before it, which may be an operator of one operand.
-fn push_word(alloc: Global, formulas: &mut Vec<Formula>, word: &str) -> Result<(), CaseFault> {
-    if word != "neg" && word != "not" {
-        return push(alloc, formulas, word);
-    }
+// The formula that an operator of one operand makes of the last one.
+fn turned(
+    alloc: Global,
+    formulas: &mut Vec<Formula>,
+    operator: &str,
+) -> Result<Formula, CaseFault> {
     let Some(operand) = formulas.pop() else {
         return Err(CaseFault::Form);
     };
     let operand = Box::new(alloc, operand)?;
-    formulas.push(if word == "neg" {
+    Ok(if operator == "neg" {
         Formula::Negate(operand)
     } else {
         Formula::Not(operand)
-    })?;
-    Ok(())
+    })
 }
 
-// The formula of these words.
-fn formula_of(alloc: Global, words: &[&str]) -> Result<Formula, CaseFault> {
+// What a word makes of the formulas before it.
+fn made_of(
+    alloc: Global,
+    words: &mut Words<'_>,
+    formulas: &mut Vec<Formula>,
+    word: &str,
+) -> Result<Formula, CaseFault> {
+    if word == "neg" || word == "not" {
+        return turned(alloc, formulas, word);
+    }
+    match operator_of(word) {
+        Some(operator) => joined(alloc, formulas, operator),
+        None => Ok(leaf(words, word)),
+    }
+}
+
+// The formula of the words that are left.
+fn formula_of(alloc: Global, words: &mut Words<'_>) -> Result<Formula, CaseFault> {
     let mut formulas = Vec::new(alloc);
-    for word in words {
-        push_word(alloc, &mut formulas, word)?;
+    for word in words.all().split(' ') {
+        let made = made_of(alloc, words, &mut formulas, word)?;
+        formulas.push(made)?;
     }
     formulas.pop().ok_or(CaseFault::Form)
 }
 
-fn valued(alloc: Global, words: &[&str], out: &mut Said) -> Result<(), CaseFault> {
+fn valued(alloc: Global, words: &mut Words<'_>, out: &mut Said) -> Result<(), CaseFault> {
     let formula = formula_of(alloc, words)?;
     match seen(alloc, &formula)? {
         Some(value) => out.number("", value),
@@ -188,20 +198,18 @@ fn while_loop(alloc: Global, out: &mut Said) -> Result<(), AllocError> {
 }
 
 impl Part for FormulasPart {
-    fn answer(&mut self, alloc: Global, words: &[&str]) -> Result<String, CaseFault> {
-        let mut out = Said::new(alloc);
-        match words {
-            ["value", formula @ ..] => valued(alloc, formula, &mut out)?,
-            ["while"] => while_loop(alloc, &mut out)?,
-            ["no_invariant_holds"] => {
-                out.put(if holds(alloc, None, &[]) {
-                    "true"
-                } else {
-                    "false"
-                })
-            }
-            _ => return Err(CaseFault::Form),
+    fn answer(
+        &mut self,
+        alloc: Global,
+        words: &mut Words<'_>,
+        out: &mut Said,
+    ) -> Result<(), CaseFault> {
+        match words.next() {
+            "value" => return valued(alloc, words, out),
+            "while" => while_loop(alloc, out)?,
+            "no_invariant_holds" => out.whether("", holds(alloc, None, &[])),
+            _ => words.refuse(),
         }
-        Ok(out.end()?)
+        Ok(())
     }
 }

@@ -3,21 +3,21 @@
 
 use crate::fault::CaseFault;
 use crate::parts::calls::Part;
-use crate::parts::words::{size, task, value};
+use crate::parts::words::Words;
 use crate::said::Said;
 use std::alloc::Global;
 use swift_groups::{Close, GroupFault, GroupId, Groups, NextResult};
 use swift_types::{Ending, Fault};
 
-fn group(word: &str) -> Result<GroupId, CaseFault> {
-    Ok(GroupId(size(word)?))
+fn group(words: &mut Words<'_>) -> GroupId {
+    GroupId(words.size())
 }
 
-fn ending_of(word: &str) -> Result<Ending, CaseFault> {
-    if word == "cancelled" {
-        return Ok(Ending::Fault(Fault::Cancelled));
+fn ending(words: &mut Words<'_>) -> Ending {
+    if words.has("cancelled") {
+        return Ending::Fault(Fault::Cancelled);
     }
-    Ok(Ending::Value(value(word)?))
+    Ending::Value(words.value())
 }
 
 fn shown(out: &mut Said, next: NextResult) {
@@ -38,50 +38,25 @@ fn show_ending(out: &mut Said, ended: Ending) {
     }
 }
 
-fn ok(done: Result<(), GroupFault>) -> Result<&'static str, GroupFault> {
-    done?;
-    Ok("ok")
-}
-
-fn yes_or_no(is_so: Result<bool, GroupFault>) -> Result<&'static str, GroupFault> {
-    Ok(if is_so? { "true" } else { "false" })
-}
-
-fn closed(close: Result<Close, GroupFault>) -> Result<&'static str, GroupFault> {
-    match close? {
-        Close::Done => Ok("done"),
-        Close::Wait => Ok("wait"),
+fn told(out: &mut Said, done: Result<(), GroupFault>) {
+    match done {
+        Ok(()) => out.put("ok"),
+        Err(fault) => out.value(&fault),
     }
 }
 
-// What a call with a number answers.
-fn asked(
-    groups: &mut Groups,
-    call: &str,
-    number: usize,
-) -> Result<Result<&'static str, GroupFault>, CaseFault> {
-    match call {
-        "reserve" => Ok(ok(groups.reserve(number))),
-        "cancel_all" => Ok(ok(groups.cancel_all(GroupId(number)))),
-        "is_cancelled" => Ok(yes_or_no(groups.is_cancelled(GroupId(number)))),
-        "close" => Ok(closed(groups.close(GroupId(number)))),
-        _ => Err(CaseFault::Form),
+fn yes_or_no(out: &mut Said, is_so: Result<bool, GroupFault>) {
+    match is_so {
+        Ok(is_so) => out.whether("", is_so),
+        Err(fault) => out.value(&fault),
     }
 }
 
-// What a call that makes no group and asks for no child answers.
-fn answered(
-    groups: &mut Groups,
-    words: &[&str],
-) -> Result<Result<&'static str, GroupFault>, CaseFault> {
-    match *words {
-        [call, number] => asked(groups, call, size(number)?),
-        ["add", to, child] => Ok(ok(groups.add(group(to)?, task(child)?))),
-        ["finished", of, child, ended] => {
-            let ended = ending_of(ended)?;
-            Ok(ok(groups.finished(group(of)?, task(child)?, ended)))
-        }
-        _ => Err(CaseFault::Form),
+fn closed(out: &mut Said, close: Result<Close, GroupFault>) {
+    match close {
+        Ok(Close::Done) => out.put("done"),
+        Ok(Close::Wait) => out.put("wait"),
+        Err(fault) => out.value(&fault),
     }
 }
 
@@ -99,21 +74,30 @@ fn next(out: &mut Said, next: Result<NextResult, GroupFault>) {
     }
 }
 
-fn told(out: &mut Said, answer: Result<&str, GroupFault>) {
-    match answer {
-        Ok(word) => out.put(word),
-        Err(fault) => out.value(&fault),
-    }
+// A child of a group has ended.
+fn finished(groups: &mut Groups, words: &mut Words<'_>) -> Result<(), GroupFault> {
+    let (group, child) = (group(words), words.task());
+    groups.finished(group, child, ending(words))
 }
 
 impl Part for Groups {
-    fn answer(&mut self, alloc: Global, words: &[&str]) -> Result<String, CaseFault> {
-        let mut out = Said::new(alloc);
-        match *words {
-            ["open", owner] => opened(&mut out, self.open(task(owner)?)),
-            ["next", asked] => next(&mut out, self.next(group(asked)?)),
-            _ => told(&mut out, answered(self, words)?),
+    fn answer(
+        &mut self,
+        _alloc: Global,
+        words: &mut Words<'_>,
+        out: &mut Said,
+    ) -> Result<(), CaseFault> {
+        match words.next() {
+            "reserve" => told(out, self.reserve(words.size())),
+            "open" => opened(out, self.open(words.task())),
+            "add" => told(out, self.add(group(words), words.task())),
+            "finished" => told(out, finished(self, words)),
+            "next" => next(out, self.next(group(words))),
+            "cancel_all" => told(out, self.cancel_all(group(words))),
+            "is_cancelled" => yes_or_no(out, self.is_cancelled(group(words))),
+            "close" => closed(out, self.close(group(words))),
+            _ => words.refuse(),
         }
-        Ok(out.end()?)
+        Ok(())
     }
 }

@@ -10,9 +10,9 @@ ghost use Rattle.swift_executor.specs.Inbox.{IsPassOf, IsTakerOf, new_pass, new_
 ghost use Rattle.swift_executor.specs.Site.{CanRunAt};
 
 use crate::fault::CaseFault;
-use crate::parts::words::{number, size};
-use std::alloc::{AllocError, Global};
-use std::io::Write;
+use crate::parts::words::Words;
+use crate::said::Said;
+use std::alloc::Global;
 use std::sync::{Arc, Wait};
 use std::thread;
 use std::thread::Threads;
@@ -106,30 +106,37 @@ fn put_told<R: Wait>(
     alloc: Global,
     inbox: &Inbox,
     pass: &mut Pass,
-    root: &str,
-    turn: &str,
-) -> Result<String, CaseFault>
+    words: &mut Words<'_>,
+    out: &mut Said,
+) -> Result<(), CaseFault>
     requires pass { IsPassOf inbox.now pass.old }
     requires book { inbox.now.site.book ≡ None }
     ensures { IsPassOf inbox.now pass.new }
 {
-    let (root, turn) = (RootId(number(root)?), number(turn)?);
-    let answer = put(rt, alloc, inbox, pass, root, turn)?;
-    Ok(String::from_str(alloc, answer)?)
+    if !words.has("put") {
+        words.refuse();
+    }
+    let (root, number) = (RootId(words.number()), words.number());
+    out.put(put(rt, alloc, inbox, pass, root, number)?);
+    Ok(())
 }
 
 // What was taken, which is spent.
-fn shown(alloc: Global, taken: Option<TicketedJob>) -> Result<String, AllocError> {
-    match taken {
-        None => String::from_str(alloc, "none"),
-        Some(job) => {
-            let (task, number) = told(job.into_job());
-            format!(in alloc; "task {task} turn {number}")
-        }
-    }
+fn tell_taken(taken: Option<TicketedJob>, out: &mut Said) {
+    let Some(job) = taken else {
+        return out.put("none");
+    };
+    let (task, number) = told(job.into_job());
+    tell_job(task, number, out)
 }
 
-// What the call of a line answers.
+// A job, by its task and its number.
+fn tell_job(task: u32, number: u32, out: &mut Said) {
+    out.number("task ", i64::from(task));
+    out.number(" turn ", i64::from(number))
+}
+
+// Makes the call of a line, and writes its answer.
 fn answer<R: Wait>(
     rt: &R,
     alloc: Global,
@@ -137,8 +144,9 @@ fn answer<R: Wait>(
     a: &mut Pass,
     b: &mut Pass,
     taker: &mut Taker,
-    line: &str,
-) -> Result<String, CaseFault>
+    words: &mut Words<'_>,
+    out: &mut Said,
+) -> Result<(), CaseFault>
     requires a { IsPassOf inbox.now a.old }
     requires b { IsPassOf inbox.now b.old }
     requires taker { IsTakerOf inbox.now taker.old }
@@ -147,13 +155,13 @@ fn answer<R: Wait>(
     ensures b { IsPassOf inbox.now b.new }
     ensures taker { IsTakerOf inbox.now taker.new }
 {
-    let words: Vec<&str> = line.split(' ').collect(alloc)?;
-    match *words {
-        ["a", "put", root, turn] => put_told(rt, alloc, inbox, a, root, turn),
-        ["b", "put", root, turn] => put_told(rt, alloc, inbox, b, root, turn),
-        ["take"] => Ok(shown(alloc, inbox.take(rt, taker))?),
-        _ => Err(CaseFault::Form),
+    match words.next() {
+        "a" => return put_told(rt, alloc, inbox, a, words, out),
+        "b" => return put_told(rt, alloc, inbox, b, words, out),
+        "take" => tell_taken(inbox.take(rt, taker), out),
+        _ => words.refuse(),
     }
+    Ok(())
 }
 
 // Makes the calls of a case by two passes and the taker.
@@ -164,7 +172,7 @@ fn calls<R: Wait>(
     mut a: Pass,
     taker: &mut Taker,
     lines: &str,
-    out: &mut Vec<u8>,
+    out: &mut Said,
 ) -> Result<(), CaseFault>
     requires pass { IsPassOf inbox.now a }
     requires taker { IsTakerOf inbox.now taker.old }
@@ -173,8 +181,12 @@ fn calls<R: Wait>(
 {
     let mut b = a.split(inbox);
     for line in lines.split('\n') {
-        let answer = answer(rt, alloc, inbox, &mut a, &mut b, taker, line)?;
-        writeln!(out, "{answer}")?;
+        let mut words = Words::new(line);
+        answer(rt, alloc, inbox, &mut a, &mut b, taker, &mut words, out)?;
+        if !words.are_right() {
+            return Err(CaseFault::Form);
+        }
+        out.put("\n");
     }
     Ok(())
 }
@@ -214,31 +226,39 @@ fn inbox_of(alloc: Global, executor: ExecId, room: usize) -> Result<(Inbox, Pass
     Ok(Inbox::new(alloc, site, room)?)
 }
 
+// Two numbers.
+fn two_of(line: &str) -> Option<(u32, u32)> {
+    let mut words = Words::new(line);
+    let numbers = (words.number(), words.number());
+    if words.are_right() {
+        Some(numbers)
+    } else {
+        None
+    }
+}
+
 /// Makes an inbox and the calls of a case, and says what is left inside.
 pub fn play_inbox<R: Wait>(
     rt: &R,
     alloc: Global,
     case: &str,
-    out: &mut Vec<u8>,
+    out: &mut Said,
 ) -> Result<(), CaseFault> {
     let Some((head, lines)) = case.split_once('\n') else {
         return Err(CaseFault::Form);
     };
-    let Some((executor, room)) = head.split_once(' ') else {
+    let Some((executor, room)) = two_of(head) else {
         return Err(CaseFault::Form);
     };
-    let (inbox, pass, mut taker) = inbox_of(alloc, ExecId(number(executor)?), size(room)?)?;
+    let (inbox, pass, mut taker) = inbox_of(alloc, ExecId(executor), room as usize)?;
     let called = calls(rt, alloc, &inbox, pass, &mut taker, lines, out);
     let left = drained(rt, alloc, inbox, taker)?;
-    called?;
-    tell_left(out, &left)
-}
-
-fn tell_left(out: &mut Vec<u8>, left: &[(u32, u32)]) -> Result<(), CaseFault> {
-    for (task, number) in left {
-        writeln!(out, "left: task {task} turn {number}")?;
+    for (task, number) in &left {
+        out.put("left: ");
+        tell_job(*task, *number, out);
+        out.put("\n");
     }
-    Ok(())
+    called
 }
 
 // Puts a job in as soon as there is room.
@@ -355,16 +375,17 @@ pub fn play_threads<R: Threads + Wait + Sync>(
     rt: &R,
     alloc: Global,
     case: &str,
-    out: &mut Vec<u8>,
+    out: &mut Said,
 ) -> Result<(), CaseFault> {
-    let Some((room, count)) = case.split_once(' ') else {
+    let Some((room, count)) = two_of(case) else {
         return Err(CaseFault::Form);
     };
-    let count = number(count)?.wrapping_mul(2);
-    let (inbox, pass, taker) = inbox_of(alloc, ExecId(0), size(room)?)?;
+    let (inbox, pass, taker) = inbox_of(alloc, ExecId(0), room as usize)?;
+    let count = count.wrapping_mul(2);
     let (put, (sum, taker)) = by_two_threads(rt, alloc, &inbox, pass, taker, count);
     let left = drained(rt, alloc, inbox, taker)?.len();
-    put?;
-    writeln!(out, "sum {sum}, {left} left")?;
-    Ok(())
+    out.count("sum ", sum);
+    out.count(", ", left as u64);
+    out.put(" left\n");
+    put
 }

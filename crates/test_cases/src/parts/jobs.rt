@@ -5,7 +5,7 @@ ghost use Rattle.std.specs.Prelude.{◌<◌, IfSome, length};
 use crate::fault::CaseFault;
 use crate::jobs::spend;
 use crate::parts::scripts::Scripts;
-use crate::parts::words::{number, resume_of};
+use crate::parts::words::Words;
 use std::alloc::AllocFailed;
 use swift_job::Job;
 use swift_turn::Body;
@@ -41,25 +41,20 @@ pub fn keep(jobs: &mut Vec<Job<Body>>, job: Job<Body>) -> Result<(), CaseFault> 
 }
 
 /// A job that was not given by a book, by the words after its task: `as NUMBER RESUME`, with `of WHICH` for one of another script.
-pub fn made(scripts: &Scripts, named: TaskId, how: &[&str]) -> Result<Job<Body>, CaseFault> {
-    match *how {
-        ["as", turn, ref resume @ .., "of", which] => {
-            made_of(scripts, named, turn, resume, Some(which))
-        }
-        ["as", turn, ref resume @ ..] => made_of(scripts, named, turn, resume, None),
-        _ => Err(CaseFault::Form),
+pub fn made(scripts: &Scripts, named: TaskId, how: &str) -> Result<Job<Body>, CaseFault> {
+    let mut words = Words::new(how);
+    if !words.has("as") {
+        return Err(CaseFault::Form);
     }
-}
-
-fn made_of(
-    scripts: &Scripts,
-    named: TaskId,
-    turn: &str,
-    resume: &[&str],
-    which: Option<&str>,
-) -> Result<Job<Body>, CaseFault> {
-    let turn = number(turn)?;
-    let resume = resume_of(resume)?;
+    let (turn, resume) = (words.number(), words.resume());
+    let which = if words.has("of") {
+        Some(words.next())
+    } else {
+        None
+    };
+    if !words.are_right() {
+        return Err(CaseFault::Form);
+    }
     let body = scripts.body_of(which)?;
     Ok(Job::new(named, turn, resume, body))
 }

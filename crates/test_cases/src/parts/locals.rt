@@ -3,7 +3,7 @@
 
 use crate::fault::CaseFault;
 use crate::parts::calls::Part;
-use crate::parts::words::{number, size, value};
+use crate::parts::words::Words;
 use crate::said::Said;
 use std::alloc::{AllocError, Global};
 use swift_locals::Bindings;
@@ -24,92 +24,71 @@ impl LocalsPart {
     }
 }
 
-fn shown(out: &mut Said, found: Option<i64>) {
-    match found {
+// The innermost binding ends.
+fn unbind(bindings: &mut Bindings, out: &mut Said) -> Result<(), CaseFault> {
+    if bindings.depth() == 0 {
+        return Err(CaseFault::Form);
+    }
+    bindings.unbind();
+    out.put("ok");
+    Ok(())
+}
+
+// The outermost bindings stay.
+fn cut(bindings: &mut Bindings, depth: usize, out: &mut Said) -> Result<(), CaseFault> {
+    if bindings.depth() < depth {
+        return Err(CaseFault::Form);
+    }
+    bindings.cut(depth);
+    out.put("ok");
+    Ok(())
+}
+
+// What a call answers that takes memory.
+fn grown(out: &mut Said, done: Result<(), AllocError>) {
+    out.put(match done {
+        Ok(()) => "ok",
+        Err(AllocError) => "no memory",
+    })
+}
+
+fn read(bindings: &Bindings, local: u32, out: &mut Said) {
+    match bindings.read(LocalId(local)) {
         Some(value) => out.number("", value),
         None => out.put("none"),
     }
 }
 
-// The innermost binding ends.
-fn unbind(bindings: &mut Bindings) -> Result<(), CaseFault> {
-    if bindings.depth() == 0 {
-        return Err(CaseFault::Form);
-    }
-    bindings.unbind();
-    Ok(())
-}
-
-// The outermost bindings stay.
-fn cut(bindings: &mut Bindings, depth: usize) -> Result<(), CaseFault> {
-    if bindings.depth() < depth {
-        return Err(CaseFault::Form);
-    }
-    bindings.cut(depth);
-    Ok(())
-}
-
-// What a call answers that takes memory.
-fn grown(done: Result<(), AllocError>) -> &'static str {
-    match done {
-        Ok(()) => "ok",
-        Err(AllocError) => "no memory",
-    }
-}
-
-fn read(bindings: &Bindings, local: &str, out: &mut Said) -> Result<(), CaseFault> {
-    shown(out, bindings.read(LocalId(number(local)?)));
-    Ok(())
-}
-
 impl LocalsPart {
+    fn bind(&mut self, words: &mut Words<'_>) -> Result<(), AllocError> {
+        let local = LocalId(words.number());
+        self.bindings.bind(local, words.value())
+    }
+
     fn copy_all(&mut self) -> Result<(), AllocError> {
         self.copy = self.bindings.copy()?;
         Ok(())
     }
-
-    // A call of one word.
-    fn plain(&mut self, call: &str, out: &mut Said) -> Result<(), CaseFault> {
-        match call {
-            "unbind" => {
-                unbind(&mut self.bindings)?;
-                out.put("ok")
-            }
-            "copy" => out.put(grown(self.copy_all())),
-            "depth" => out.count("", self.bindings.depth() as u64),
-            "depth_of_copy" => out.count("", self.copy.depth() as u64),
-            _ => return Err(CaseFault::Form),
-        }
-        Ok(())
-    }
-
-    // A call with a word more.
-    fn given(&mut self, call: &str, word: &str, out: &mut Said) -> Result<(), CaseFault> {
-        match call {
-            "cut" => {
-                cut(&mut self.bindings, size(word)?)?;
-                out.put("ok");
-                Ok(())
-            }
-            "read" => read(&self.bindings, word, out),
-            "read_copy" => read(&self.copy, word, out),
-            _ => Err(CaseFault::Form),
-        }
-    }
 }
 
 impl Part for LocalsPart {
-    fn answer(&mut self, alloc: Global, words: &[&str]) -> Result<String, CaseFault> {
-        let mut out = Said::new(alloc);
-        match *words {
-            [call] => self.plain(call, &mut out)?,
-            [call, word] => self.given(call, word, &mut out)?,
-            ["bind", local, bound] => {
-                let (local, bound) = (LocalId(number(local)?), value(bound)?);
-                out.put(grown(self.bindings.bind(local, bound)))
-            }
-            _ => return Err(CaseFault::Form),
+    fn answer(
+        &mut self,
+        _alloc: Global,
+        words: &mut Words<'_>,
+        out: &mut Said,
+    ) -> Result<(), CaseFault> {
+        match words.next() {
+            "bind" => grown(out, self.bind(words)),
+            "unbind" => return unbind(&mut self.bindings, out),
+            "read" => read(&self.bindings, words.number(), out),
+            "depth" => out.count("", self.bindings.depth() as u64),
+            "cut" => return cut(&mut self.bindings, words.size(), out),
+            "copy" => grown(out, self.copy_all()),
+            "read_copy" => read(&self.copy, words.number(), out),
+            "depth_of_copy" => out.count("", self.copy.depth() as u64),
+            _ => words.refuse(),
         }
-        Ok(out.end()?)
+        Ok(())
     }
 }

@@ -3,11 +3,10 @@
 //! `room`, `arrived`, `is_empty`. The first line of a case is its room.
 
 use crate::fault::CaseFault;
-use crate::parts::calls::{PLAIN, Part, play};
-use crate::parts::words::{priority_of, size, task};
+use crate::parts::calls::{Form, Part, play};
+use crate::parts::words::Words;
 use crate::said::Said;
 use std::alloc::{AllocError, Global};
-use std::io::Write;
 use swift_executor::queue::Queue;
 use swift_job::Job;
 use swift_types::{Priority, Resume, TaskId};
@@ -49,70 +48,38 @@ fn shown(out: &mut Said, found: Option<(u32, u64)>) {
     }
 }
 
-fn yes_or_no(is_so: bool) -> &'static str {
-    if is_so { "yes" } else { "no" }
+fn yes_or_no(out: &mut Said, is_so: bool) {
+    out.put(if is_so { "yes" } else { "no" })
 }
 
-// What a call answers whose answer is a number.
-fn counted(queue: &Queue<u32>, word: &str) -> Result<u64, CaseFault> {
-    match word {
-        "len" => Ok(queue.len() as u64),
-        "room" => Ok(queue.room() as u64),
-        "arrived" => Ok(queue.arrived()),
-        _ => Err(CaseFault::Form),
-    }
-}
-
-// What a call of one word answers.
-fn plain(queue: &mut Queue<u32>, call: &str, out: &mut Said) -> Result<(), CaseFault> {
-    match call {
-        "take" => shown(out, told(queue.take())),
-        "take_oldest" => shown(out, told(queue.take_oldest())),
-        "is_empty" => out.put(yes_or_no(queue.is_empty())),
-        _ => out.count("", counted(queue, call)?),
-    }
-    Ok(())
-}
-
-// What a call with a word more answers.
-fn given(queue: &mut Queue<u32>, call: &str, word: &str, out: &mut Said) -> Result<(), CaseFault> {
-    match call {
-        "put_back" => shown(out, put_back(queue, priority_of(word)?)),
-        "holds" => out.put(yes_or_no(queue.holds(task(word)?))),
-        _ => return Err(CaseFault::Form),
-    }
-    Ok(())
-}
-
-// What a call on a task's job with a priority answers.
-fn placed(
-    queue: &mut Queue<u32>,
-    call: &str,
-    named: TaskId,
-    priority: Priority,
-) -> Result<&'static str, CaseFault> {
-    match call {
-        "put" => Ok(put(queue, named, priority)),
-        "raise" => {
-            queue.raise(named, priority);
-            Ok("ok")
-        }
-        _ => Err(CaseFault::Form),
-    }
+// Raises the priority of a task's job.
+fn raise(queue: &mut Queue<u32>, words: &mut Words<'_>, out: &mut Said) {
+    let task = words.task();
+    queue.raise(task, words.priority());
+    out.put("ok")
 }
 
 impl Part for Queue<u32> {
-    fn answer(&mut self, alloc: Global, words: &[&str]) -> Result<String, CaseFault> {
-        let mut out = Said::new(alloc);
-        match *words {
-            [call] => plain(self, call, &mut out)?,
-            [call, word] => given(self, call, word, &mut out)?,
-            [call, named, priority] => {
-                out.put(placed(self, call, task(named)?, priority_of(priority)?)?)
-            }
-            _ => return Err(CaseFault::Form),
+    fn answer(
+        &mut self,
+        _alloc: Global,
+        words: &mut Words<'_>,
+        out: &mut Said,
+    ) -> Result<(), CaseFault> {
+        match words.next() {
+            "put" => out.put(put(self, words.task(), words.priority())),
+            "take" => shown(out, told(self.take())),
+            "take_oldest" => shown(out, told(self.take_oldest())),
+            "put_back" => shown(out, put_back(self, words.priority())),
+            "raise" => raise(self, words, out),
+            "holds" => yes_or_no(out, self.holds(words.task())),
+            "len" => out.count("", self.len() as u64),
+            "room" => out.count("", self.room() as u64),
+            "arrived" => out.count("", self.arrived()),
+            "is_empty" => yes_or_no(out, self.is_empty()),
+            _ => words.refuse(),
         }
-        Ok(out.end()?)
+        Ok(())
     }
 }
 
@@ -136,17 +103,21 @@ fn opened(alloc: Global, room: usize) -> Result<Queue<u32>, AllocError> {
 }
 
 /// Makes a queue and the calls of a case, and says how many jobs are left.
-pub fn play_queue(alloc: Global, case: &str, out: &mut Vec<u8>) -> Result<(), CaseFault> {
+pub fn play_queue(alloc: Global, case: &str, out: &mut Said) -> Result<(), CaseFault> {
     let Some((room, calls)) = case.split_once('\n') else {
         return Err(CaseFault::Form);
     };
-    let room = size(room)?;
+    let mut head = Words::new(room);
+    let room = head.size();
+    if !head.are_right() {
+        return Err(CaseFault::Form);
+    }
     let Ok(mut queue) = opened(alloc, room) else {
-        writeln!(out, "out of memory")?;
+        out.put("out of memory\n");
         return Ok(());
     };
-    let played = play(alloc, &mut queue, PLAIN, calls, out);
-    let left = empty(queue);
-    played?;
-    Ok(writeln!(out, "{left} left")?)
+    let played = play(alloc, &mut queue, Form::Plain, calls, out);
+    out.count("", empty(queue));
+    out.put(" left\n");
+    played
 }

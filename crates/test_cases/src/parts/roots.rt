@@ -4,7 +4,7 @@
 
 use crate::fault::CaseFault;
 use crate::parts::calls::Part;
-use crate::parts::words::number;
+use crate::parts::words::Words;
 use crate::said::Said;
 use script_compiler::waits::{CallEdge, RootWait, first_waiting};
 use std::alloc::Global;
@@ -34,45 +34,39 @@ fn first_of(
     }
 }
 
-fn first_by_words(alloc: Global, words: &[&str]) -> Result<Option<usize>, CaseFault> {
+// The same, by words.
+fn first_by_words(alloc: Global, words: &mut Words<'_>) -> Result<Option<usize>, CaseFault> {
     let mut edges = Vec::new(alloc);
     let mut waits = Vec::new(alloc);
     let mut roots = Vec::new(alloc);
-    for word in words {
-        take(word, &mut edges, &mut waits, &mut roots)?;
+    for word in words.all().split_terminator(' ') {
+        if let Some((from, to)) = word.split_once('>') {
+            let (from, to) = (words.number_of(from), words.number_of(to));
+            edges.push(CallEdge { from, to })?;
+        } else if let Some((method, root)) = word.split_once('@') {
+            let (method, root) = (words.number_of(method), words.number_of(root));
+            waits.push(RootWait { method, root })?;
+        } else {
+            roots.push(words.number_of(word))?;
+        }
     }
     first_of(alloc, &edges, &waits, &roots)
 }
 
-// Takes a word: an edge, a wait, or the method of a root.
-fn take(
-    word: &str,
-    edges: &mut Vec<CallEdge>,
-    waits: &mut Vec<RootWait>,
-    roots: &mut Vec<u32>,
-) -> Result<(), CaseFault> {
-    if let Some((from, to)) = word.split_once('>') {
-        let (from, to) = (number(from)?, number(to)?);
-        edges.push(CallEdge { from, to })?;
-    } else if let Some((method, root)) = word.split_once('@') {
-        let (method, root) = (number(method)?, number(root)?);
-        waits.push(RootWait { method, root })?;
-    } else {
-        roots.push(number(word)?)?;
-    }
-    Ok(())
-}
-
 impl Part for RootsPart {
-    fn answer(&mut self, alloc: Global, words: &[&str]) -> Result<String, CaseFault> {
-        let mut out = Said::new(alloc);
-        match words {
-            ["first_waiting", rest @ ..] => match first_by_words(alloc, rest)? {
-                Some(place) => out.count("root ", place as u64),
-                None => out.put("none"),
-            },
-            _ => return Err(CaseFault::Form),
+    fn answer(
+        &mut self,
+        alloc: Global,
+        words: &mut Words<'_>,
+        out: &mut Said,
+    ) -> Result<(), CaseFault> {
+        if !words.has("first_waiting") {
+            return Err(CaseFault::Form);
         }
-        Ok(out.end()?)
+        match first_by_words(alloc, words)? {
+            Some(place) => out.count("root ", place as u64),
+            None => out.put("none"),
+        }
+        Ok(())
     }
 }

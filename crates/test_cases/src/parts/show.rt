@@ -192,7 +192,7 @@ fn frame(out: &mut Said, script: &Script, top: &Frame) {
     if top.method.0 as usize >= script.method_count() {
         return out.put("no method");
     }
-    out.name(script.method_name(top.method));
+    out.bytes(script.method_name(top.method));
     out.debug(" ", &top.variables)
 }
 

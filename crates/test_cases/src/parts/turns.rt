@@ -10,8 +10,9 @@ mod task;
 mod tell;
 
 use crate::fault::CaseFault;
-use crate::parts::calls::{PLAIN, Part, play};
+use crate::parts::calls::{Form, Part, play};
 use crate::parts::turns::task::{Task, call, start};
+use crate::parts::words::Words;
 use crate::said::Said;
 use std::alloc::{AllocGlobal, Global};
 use std::random::RandomSource;
@@ -27,18 +28,25 @@ struct TurnCases<'a, R> {
 }
 
 impl<R: RandomSource + AllocGlobal> Part for TurnCases<'_, R> {
-    fn answer(&mut self, alloc: Global, words: &[&str]) -> Result<String, CaseFault> {
-        let mut text = Said::new(alloc);
-        match *words {
-            ["start", name, ref opening @ ..] => {
-                self.task = start(alloc, &self.script, name, opening, &mut text)?;
-            }
-            _ => match &mut self.task {
-                Some(task) => call(self.rt, &self.script, task, words, &mut text)?,
-                None => text.put("not possible"),
-            },
+    fn answer(
+        &mut self,
+        alloc: Global,
+        words: &mut Words<'_>,
+        out: &mut Said,
+    ) -> Result<(), CaseFault> {
+        let name = words.next();
+        if name == "start" {
+            self.task = start(alloc, &self.script, words, out)?;
+            return Ok(());
         }
-        Ok(text.end()?)
+        match &mut self.task {
+            Some(task) => call(self.rt, &self.script, task, name, words.all(), out),
+            None => {
+                words.all();
+                out.put("not possible");
+                Ok(())
+            }
+        }
     }
 }
 
@@ -46,7 +54,7 @@ impl<R: RandomSource + AllocGlobal> Part for TurnCases<'_, R> {
 pub fn play_turns<R: RandomSource + AllocGlobal>(
     rt: &R,
     case: &str,
-    out: &mut Vec<u8>,
+    out: &mut Said,
 ) -> Result<(), CaseFault> {
     let Some((text, calls)) = case.split_once("\n--\n") else {
         return Err(CaseFault::Form);
@@ -58,5 +66,5 @@ pub fn play_turns<R: RandomSource + AllocGlobal>(
         script,
         task: None,
     };
-    play(alloc, &mut turns, PLAIN, calls, out)
+    play(alloc, &mut turns, Form::Plain, calls, out)
 }

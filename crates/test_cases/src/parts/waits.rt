@@ -3,11 +3,11 @@
 
 use crate::fault::CaseFault;
 use crate::parts::calls::Part;
-use crate::parts::words::{priority_of, size, task};
+use crate::parts::words::Words;
 use crate::said::Said;
 use std::alloc::Global;
 use swift_escalation::{Waits, WaitsFault};
-use swift_types::{Priority, TaskId};
+use swift_types::Priority;
 
 fn shown(found: Option<Priority>) -> &'static str {
     match found {
@@ -27,43 +27,28 @@ fn done(out: &mut Said, answer: Result<(), WaitsFault>) {
     }
 }
 
-// A call of one word more.
-fn asked(waits: &mut Waits, call: &str, word: &str, out: &mut Said) -> Result<(), CaseFault> {
-    match call {
-        "priority" => out.put(shown(waits.priority(task(word)?))),
-        "reserve" => done(out, waits.reserve(size(word)?)),
-        _ => return Err(CaseFault::Form),
-    }
-    Ok(())
-}
-
-// A call of a task and a word more.
-fn given(
-    waits: &mut Waits,
-    call: &str,
-    named: TaskId,
-    word: &str,
-) -> Result<Result<(), WaitsFault>, CaseFault> {
-    match call {
-        "add_root" => Ok(waits.add_root(named, priority_of(word)?)),
-        "add_free" => Ok(waits.add_free(named, priority_of(word)?)),
-        "wait" => Ok(waits.wait(named, task(word)?)),
-        _ => Err(CaseFault::Form),
-    }
+// A child, with its parent and its priority.
+fn add_child(waits: &mut Waits, words: &mut Words<'_>) -> Result<(), WaitsFault> {
+    let (child, parent) = (words.task(), words.task());
+    waits.add_child(child, parent, words.priority())
 }
 
 impl Part for Waits {
-    fn answer(&mut self, alloc: Global, words: &[&str]) -> Result<String, CaseFault> {
-        let mut out = Said::new(alloc);
-        match *words {
-            [call, word] => asked(self, call, word, &mut out)?,
-            [call, named, word] => done(&mut out, given(self, call, task(named)?, word)?),
-            ["add_child", added, parent, own] => {
-                let added = self.add_child(task(added)?, task(parent)?, priority_of(own)?);
-                done(&mut out, added)
-            }
-            _ => return Err(CaseFault::Form),
+    fn answer(
+        &mut self,
+        _alloc: Global,
+        words: &mut Words<'_>,
+        out: &mut Said,
+    ) -> Result<(), CaseFault> {
+        match words.next() {
+            "priority" => out.put(shown(self.priority(words.task()))),
+            "reserve" => done(out, self.reserve(words.size())),
+            "add_root" => done(out, self.add_root(words.task(), words.priority())),
+            "add_free" => done(out, self.add_free(words.task(), words.priority())),
+            "add_child" => done(out, add_child(self, words)),
+            "wait" => done(out, self.wait(words.task(), words.task())),
+            _ => words.refuse(),
         }
-        Ok(out.end()?)
+        Ok(())
     }
 }

@@ -16,11 +16,10 @@ ghost use Rattle.std.specs.Arc.{arc_value};
 ghost use Rattle.swift_word.specs.Seat.{IsSeatOf, first_seat};
 
 use crate::fault::CaseFault;
-use crate::parts::calls::{PLAIN, Part, play};
-use crate::parts::words::size;
+use crate::parts::calls::{Form, Part, play};
+use crate::parts::words::Words;
 use crate::said::Said;
 use std::alloc::{AllocError, Global};
-use std::io::Write;
 use std::marker::Model;
 use std::sync::{Arc, Wait};
 use std::thread;
@@ -142,15 +141,15 @@ impl CaseSeat {
     }
 
     // A call on this seat but for `split`.
-    fn call(&mut self, verb: &str, state: u64, out: &mut Said) -> Result<(), CaseFault> {
+    fn call(&mut self, verb: &str, words: &mut Words<'_>, out: &mut Said) -> Result<(), CaseFault> {
         match verb {
             "allowance" => out.count("", self.seat.allowance()),
-            "holds" => out.put(if self.seat.holds() { "true" } else { "false" }),
+            "holds" => out.whether("", self.seat.holds()),
             "count" => self.count(out),
             "begin" => return self.begin(out),
-            "end" => return self.end(state, out),
-            "leave" => return self.leave(state, out),
-            _ => return Err(CaseFault::Form),
+            "end" => return self.end(words.count(), out),
+            "leave" => return self.leave(words.count(), out),
+            _ => words.refuse(),
         }
         Ok(())
     }
@@ -162,36 +161,24 @@ struct WordPart {
     seats: Vec<CaseSeat>,
 }
 
-impl WordPart {
-    fn call(
+impl Part for WordPart {
+    fn answer(
         &mut self,
-        verb: &str,
-        place: usize,
-        state: u64,
+        _alloc: Global,
+        words: &mut Words<'_>,
         out: &mut Said,
     ) -> Result<(), CaseFault> {
+        let (verb, place) = (words.next(), words.size());
         let Some(seat) = self.seats.get_mut(place) else {
             return Err(CaseFault::Form);
         };
         if verb != "split" {
-            return seat.call(verb, state, out);
+            return seat.call(verb, words, out);
         }
         let new = seat.split()?;
         self.seats.push(new)?;
         out.put("ok");
         Ok(())
-    }
-}
-
-impl Part for WordPart {
-    fn answer(&mut self, alloc: Global, words: &[&str]) -> Result<String, CaseFault> {
-        let mut out = Said::new(alloc);
-        match *words {
-            [verb, place] => self.call(verb, size(place)?, 0, &mut out)?,
-            [verb, place, state] => self.call(verb, size(place)?, state.parse::<u64>()?, &mut out)?,
-            _ => return Err(CaseFault::Form),
-        }
-        Ok(out.end()?)
     }
 }
 
@@ -214,42 +201,43 @@ fn first(
 }
 
 // What a word is when it is closed: how many jobs are pending, and its state, where no seat holds.
-fn tell_closed(closed: (u64, Option<Number>), out: &mut Vec<u8>) -> Result<(), CaseFault> {
-    match closed {
-        (pending, Some(Number(state))) => writeln!(
-            out,
-            "closed: {pending} pending, state {state}"
-        )?,
-        (pending, None) => writeln!(out, "closed: {pending} pending")?,
+fn tell_closed(closed: (u64, Option<Number>), out: &mut Said) {
+    let (pending, state) = closed;
+    out.count("closed: ", pending);
+    out.put(" pending");
+    if let Some(Number(state)) = state {
+        out.count(", state ", state);
     }
-    Ok(())
+    out.put("\n")
 }
 
 // Opens a word with this state, makes the calls, and closes it.
-fn play_calls(alloc: Global, state: u64, calls: &str, out: &mut Vec<u8>) -> Result<(), CaseFault> {
+fn play_calls(alloc: Global, state: u64, calls: &str, out: &mut Said) -> Result<(), CaseFault> {
     let (word, seat) = opened(alloc, Number(state))?;
     let word = Arc::new(alloc, word)?;
     let mut part = first(alloc, &word, seat)?;
-    let played = play(alloc, &mut part, PLAIN, calls, out);
+    let played = play(alloc, &mut part, Form::Plain, calls, out);
     drop(part);
     let Some(word) = Arc::into_inner(word) else {
         return Err(CaseFault::Form);
     };
-    let closed = word.close();
-    played?;
-    tell_closed(closed, out)
+    tell_closed(word.close(), out);
+    played
 }
 
 // A seat that holds takes in another one.
-fn two_seats_are_joined(alloc: Global, out: &mut Vec<u8>) -> Result<(), CaseFault> {
+fn two_seats_are_joined(alloc: Global, out: &mut Said) -> Result<(), CaseFault> {
     let (word, mut a) = opened(alloc, Number(5))?;
     let mut b = a.split(&word);
     let counted = word.count(&mut b);
     drop(word.begin(&mut a));
     a.join(&word, b);
-    let (left, holds) = (a.allowance(), a.holds());
-    writeln!(out, "{counted:?}, {left} left, holds: {holds}")?;
-    tell_closed(word.close(), out)
+    out.debug("", &counted);
+    out.count(", ", a.allowance());
+    out.whether(" left, holds: ", a.holds());
+    out.put("\n");
+    tell_closed(word.close(), out);
+    Ok(())
 }
 
 // Counts a job, and runs one as soon as no other seat holds: the state becomes one more. Each thread ends no more jobs
@@ -308,13 +296,16 @@ fn by_two_threads<R: Threads + Wait + Sync>(
 fn two_threads_take_turns<R: Threads + Wait + Sync>(
     rt: &R,
     alloc: Global,
-    out: &mut Vec<u8>,
+    out: &mut Said,
 ) -> Result<(), CaseFault> {
     let (word, mut a) = opened(alloc, Number(0))?;
     let b = a.split(&word);
     let (first, second) = by_two_threads(rt, &word, a, b, 500_000);
-    writeln!(out, "{first} and {second} left")?;
-    tell_closed(word.close(), out)
+    out.count("", first);
+    out.count(" and ", second);
+    out.put(" left\n");
+    tell_closed(word.close(), out);
+    Ok(())
 }
 
 /// Opens a word, and makes the calls of a case.
@@ -322,14 +313,19 @@ pub fn play_words<R: Threads + Wait + Sync>(
     rt: &R,
     alloc: Global,
     case: &str,
-    out: &mut Vec<u8>,
+    out: &mut Said,
 ) -> Result<(), CaseFault> {
     match case {
         "two_seats_are_joined" => two_seats_are_joined(alloc, out),
         "two_threads_take_turns" => two_threads_take_turns(rt, alloc, out),
         _ => {
             let (state, calls) = case.split_once('\n').unwrap_or((case, ""));
-            play_calls(alloc, state.parse::<u64>()?, calls, out)
+            let mut head = Words::new(state);
+            let state = head.count();
+            if !head.are_right() {
+                return Err(CaseFault::Form);
+            }
+            play_calls(alloc, state, calls, out)
         }
     }
 }

@@ -1,84 +1,187 @@
 //! The words of a call.
 
-use crate::fault::CaseFault;
-use std::alloc::Global;
+use std::alloc::{AllocError, Global};
 use swift_types::{Fault, Priority, Resume, TaskId};
 
-/// A number of a thing.
-pub fn number(word: &str) -> Result<u32, CaseFault> {
-    Ok(word.parse::<u32>()?)
+/// The words of a call, with a space between them, which are read one after another. Where one is missing, or is not of the kind that
+/// is asked for, that is noted, and something of that kind is handed out: who has a call made asks at its end alone.
+#[derive(Drop)]
+pub struct Words<'a> {
+    rest: &'a str,
+    is_wrong: bool,
 }
 
-/// How many, or how deep.
-pub fn size(word: &str) -> Result<usize, CaseFault> {
-    Ok(word.parse::<usize>()?)
-}
-
-/// A value.
-pub fn value(word: &str) -> Result<i64, CaseFault> {
-    Ok(word.parse::<i64>()?)
-}
-
-/// Values with commas between them.
-pub fn values(alloc: Global, text: &str) -> Result<Vec<i64>, CaseFault> {
-    let mut found = Vec::new(alloc);
-    if text.is_empty() {
-        return Ok(found);
+impl<'a> Words<'a> {
+    /// The words of this text.
+    pub fn new(text: &'a str) -> Words<'a> {
+        Words {
+            rest: text,
+            is_wrong: false,
+        }
     }
-    for word in text.split(',') {
-        found.push(value(word)?)?;
+
+    /// Whether all words were of the kind that was asked for, and none is left.
+    pub fn are_right(&self) -> bool {
+        !self.is_wrong && self.rest.is_empty()
     }
-    Ok(found)
-}
 
-/// A task, by its number.
-pub fn task(word: &str) -> Result<TaskId, CaseFault> {
-    Ok(TaskId(number(word)?))
-}
-
-/// A priority, by its name.
-pub fn priority_of(word: &str) -> Result<Priority, CaseFault> {
-    match word {
-        "background" => Ok(Priority::Background),
-        "low" => Ok(Priority::Low),
-        "medium" => Ok(Priority::Medium),
-        "high" => Ok(Priority::High),
-        _ => Err(CaseFault::Form),
+    /// Whether no word is left.
+    pub fn is_empty(&self) -> bool {
+        self.rest.is_empty()
     }
-}
 
-// A fault of one word.
-fn fault_by_name(word: &str) -> Result<Fault, CaseFault> {
-    match word {
-        "cancelled" => Ok(Fault::Cancelled),
-        "invariant" => Ok(Fault::Invariant),
-        "overflow" => Ok(Fault::Overflow),
-        "steps" => Ok(Fault::Steps),
-        "turns" => Ok(Fault::Turns),
-        "depth" => Ok(Fault::Depth),
-        "tasks" => Ok(Fault::Tasks),
-        "empty" => Ok(Fault::Empty),
-        "isolation" => Ok(Fault::Isolation),
-        _ => Err(CaseFault::Form),
+    /// Notes that a word is none that may stand there.
+    pub fn refuse(&mut self) {
+        self.is_wrong = true;
     }
-}
 
-/// A fault, by its words.
-pub fn fault_of(words: &[&str]) -> Result<Fault, CaseFault> {
-    match *words {
-        ["thrown", thrown] => Ok(Fault::Thrown(value(thrown)?)),
-        [word] => fault_by_name(word),
-        _ => Err(CaseFault::Form),
+    /// The next word.
+    pub fn next(&mut self) -> &'a str {
+        let (word, rest) = self.rest.split_once(' ').unwrap_or((self.rest, ""));
+        self.rest = rest;
+        word
     }
-}
 
-/// What a turn begins with, by its words.
-pub fn resume_of(words: &[&str]) -> Result<Resume, CaseFault> {
-    match *words {
-        ["start"] => Ok(Resume::Start),
-        ["go"] => Ok(Resume::Go),
-        ["value", given] => Ok(Resume::Value(value(given)?)),
-        ["fault", ref fault @ ..] => Ok(Resume::Fault(fault_of(fault)?)),
-        _ => Err(CaseFault::Form),
+    /// Whether the next word is this one, which is taken then.
+    pub fn has(&mut self, word: &str) -> bool {
+        let (next, rest) = self.rest.split_once(' ').unwrap_or((self.rest, ""));
+        if next != word {
+            return false;
+        }
+        self.rest = rest;
+        true
+    }
+
+    /// The words that are left, which stay.
+    pub fn rest(&self) -> &'a str {
+        self.rest
+    }
+
+    /// The words that are left.
+    pub fn all(&mut self) -> &'a str {
+        let rest = self.rest;
+        self.rest = "";
+        rest
+    }
+
+    /// The number of a thing that this word is.
+    pub fn number_of(&mut self, word: &str) -> u32 {
+        match word.parse::<u32>() {
+            Ok(number) => number,
+            Err(_) => {
+                self.is_wrong = true;
+                0
+            }
+        }
+    }
+
+    /// The count that this word is.
+    pub fn count_of(&mut self, word: &str) -> u64 {
+        match word.parse::<u64>() {
+            Ok(count) => count,
+            Err(_) => {
+                self.is_wrong = true;
+                0
+            }
+        }
+    }
+
+    /// The value that this word is.
+    pub fn value_of(&mut self, word: &str) -> i64 {
+        match word.parse::<i64>() {
+            Ok(value) => value,
+            Err(_) => {
+                self.is_wrong = true;
+                0
+            }
+        }
+    }
+
+    /// The values that this word is, with commas between them.
+    pub fn values_of(&mut self, alloc: Global, word: &str) -> Result<Vec<i64>, AllocError> {
+        let mut found = Vec::new(alloc);
+        if word.is_empty() {
+            return Ok(found);
+        }
+        for word in word.split(',') {
+            found.push(self.value_of(word))?;
+        }
+        Ok(found)
+    }
+
+    /// A number of a thing.
+    pub fn number(&mut self) -> u32 {
+        let word = self.next();
+        self.number_of(word)
+    }
+
+    /// How many, or how deep.
+    pub fn size(&mut self) -> usize {
+        self.count() as usize
+    }
+
+    /// How many.
+    pub fn count(&mut self) -> u64 {
+        let word = self.next();
+        self.count_of(word)
+    }
+
+    /// A value.
+    pub fn value(&mut self) -> i64 {
+        let word = self.next();
+        self.value_of(word)
+    }
+
+    /// A task, by its number.
+    pub fn task(&mut self) -> TaskId {
+        TaskId(self.number())
+    }
+
+    /// A priority, by its name.
+    pub fn priority(&mut self) -> Priority {
+        match self.next() {
+            "background" => Priority::Background,
+            "low" => Priority::Low,
+            "medium" => Priority::Medium,
+            "high" => Priority::High,
+            _ => {
+                self.is_wrong = true;
+                Priority::Medium
+            }
+        }
+    }
+
+    /// A fault.
+    pub fn fault(&mut self) -> Fault {
+        match self.next() {
+            "thrown" => Fault::Thrown(self.value()),
+            "cancelled" => Fault::Cancelled,
+            "invariant" => Fault::Invariant,
+            "overflow" => Fault::Overflow,
+            "steps" => Fault::Steps,
+            "turns" => Fault::Turns,
+            "depth" => Fault::Depth,
+            "tasks" => Fault::Tasks,
+            "empty" => Fault::Empty,
+            "isolation" => Fault::Isolation,
+            _ => {
+                self.is_wrong = true;
+                Fault::Cancelled
+            }
+        }
+    }
+
+    /// What a turn begins with.
+    pub fn resume(&mut self) -> Resume {
+        match self.next() {
+            "start" => Resume::Start,
+            "go" => Resume::Go,
+            "value" => Resume::Value(self.value()),
+            "fault" => Resume::Fault(self.fault()),
+            _ => {
+                self.is_wrong = true;
+                Resume::Start
+            }
+        }
     }
 }

@@ -15,13 +15,24 @@ use swift_turn::Body;
 use swift_types::{ExecId, TaskId};
 
 // What an executor has under its lock.
-#[derive(Drop)]
 struct Post<K: Scripted> {
     // None while a worker visits the executor.
     resting: Option<OwnResting<K>>,
     inbox: Jobs,
     // How many jobs were counted and are not run.
     pending: u64,
+}
+
+impl<K: Scripted> Drop for Post<K> {
+    fn drop(self) {
+        let Post {
+            resting,
+            inbox,
+            pending: _,
+        } = self;
+        drop(resting);
+        drop(inbox);
+    }
 }
 
 impl<K: Scripted> Post<K> {
@@ -61,17 +72,40 @@ impl<K: Scripted> Post<K> {
             PendingLeft::Idle
         }
     }
+
+    // What it has.
+    fn into_parts(self) -> (Option<OwnResting<K>>, Jobs, u64) {
+        let Post {
+            resting,
+            inbox,
+            pending,
+        } = self;
+        (resting, inbox, pending)
+    }
 }
 
 /// An executor as an `Exec` is, for one thread: the same calls, and the same moments of a gate. It has its state, its inbox and what is
 /// pending under a lock, which is held at no moment. It takes jobs from whoever has them.
-#[derive(Drop)]
 pub struct StateExec<K: Scripted> {
     script: Arc<Script>,
     executor: ExecId,
     workers: u32,
     room: usize,
     post: Mutex<Post<K>>,
+}
+
+impl<K: Scripted> Drop for StateExec<K> {
+    fn drop(self) {
+        let StateExec {
+            script,
+            executor: _,
+            workers: _,
+            room: _,
+            post,
+        } = self;
+        drop(post);
+        drop(script);
+    }
 }
 
 impl<K: Scripted> StateExec<K> {
@@ -179,11 +213,14 @@ impl<K: Scripted> StateExec<K> {
 
     /// Gives the executor up. None where a worker visits it.
     pub fn close(self, leavings: &mut Leavings) -> Option<JobsLeft> {
-        let Post {
-            resting,
-            inbox,
-            pending,
-        } = self.post.into_inner();
+        let StateExec {
+            script: _,
+            executor: _,
+            workers: _,
+            room: _,
+            post,
+        } = self;
+        let (resting, inbox, pending) = post.into_inner().into_parts();
         let ready = leavings.add(resting?.into_state());
         Some(JobsLeft {
             pending,

@@ -1,10 +1,7 @@
-//! What tasks and turns begin with, by words. `CaseFault::Form` where the words say no such thing.
+//! What tasks and turns begin with, by words.
 
-ghost use Rattle.std.specs.Prelude.{◌≤◌, IfOk, length};
-
-use crate::fault::CaseFault;
-use crate::parts::words::{number, priority_of, resume_of, size, value, values};
-use std::alloc::Global;
+use crate::parts::words::Words;
+use std::alloc::{AllocError, Global};
 use swift_interpreter::Frame;
 use swift_locals::Bindings;
 use swift_types::{Env, LocalId, Resume};
@@ -25,106 +22,73 @@ pub struct Opening {
 }
 
 /// A turn.
-pub fn turn_of(alloc: Global, words: &[&str]) -> Result<TurnStart, CaseFault> {
-    let first = resume_place(words)?;
-    let (resume, env) = begin_of(&words[first..])?;
+pub fn turn_of(alloc: Global, words: &mut Words<'_>) -> Result<TurnStart, AllocError> {
     Ok(TurnStart {
-        fields: rows(alloc, &words[..first])?,
-        resume,
-        env,
+        fields: rows(alloc, words)?,
+        resume: words.resume(),
+        env: env(words),
     })
 }
 
-// The place of the first word that begins a resume.
-fn resume_place(words: &[&str]) -> Result<usize, CaseFault>
-    ensures { IfOk result (λ place. place ≤ length words.now) }
-{
-    for (place, word) in words.iter().enumerate() {
-        if matches!(*word, "start" | "go" | "value" | "fault") {
-            return Ok(place);
-        }
-    }
-    Err(CaseFault::Form)
-}
-
-fn begin_of(words: &[&str]) -> Result<(Resume, Env), CaseFault> {
-    match *words {
-        [ref resume @ .., priority, cancelled, room] => {
-            Ok((resume_of(resume)?, env_of(priority, cancelled, room)?))
-        }
-        _ => Err(CaseFault::Form),
+fn env(words: &mut Words<'_>) -> Env {
+    Env {
+        priority: words.priority(),
+        cancelled: words.next() == "1",
+        room: words.number(),
     }
 }
 
-fn env_of(priority: &str, cancelled: &str, room: &str) -> Result<Env, CaseFault> {
-    Ok(Env {
-        priority: priority_of(priority)?,
-        cancelled: cancelled == "1",
-        room: number(room)?,
-    })
-}
-
-// Rows of fields, each after the first with a `/` in front. A row without fields is `-`.
-fn rows(alloc: Global, words: &[&str]) -> Result<Vec<Vec<i64>>, CaseFault> {
+// Rows of fields, each after the first with a `/` in front, up to a word that begins a resume. A row without fields is `-`.
+fn rows(alloc: Global, words: &mut Words<'_>) -> Result<Vec<Vec<i64>>, AllocError> {
     let mut found = Vec::new(alloc);
-    for word in words {
-        match *word {
+    for word in words.rest().split(' ') {
+        match word {
+            "start" | "go" | "value" | "fault" => return Ok(found),
             "/" => {}
             "-" => found.push(Vec::new(alloc))?,
-            _ => found.push(values(alloc, word)?)?,
+            _ => found.push(words.values_of(alloc, word)?)?,
         }
+        words.next();
     }
     Ok(found)
 }
 
 /// Arguments, one a word, and bindings of locals, each LOCAL=VALUE, the outermost first, with a `with` between them.
-pub fn opening_of(alloc: Global, words: &[&str]) -> Result<Opening, CaseFault> {
-    let mut opening = Opening {
-        args: Vec::new(alloc),
-        bindings: Bindings::new(alloc),
-    };
-    for word in words {
-        take(&mut opening, word)?;
-    }
-    Ok(opening)
-}
-
-// Takes an argument or a binding.
-fn take(opening: &mut Opening, word: &str) -> Result<(), CaseFault> {
-    if word == "with" {
-        return Ok(());
-    }
-    match word.split_once('=') {
-        Some((local, bound)) => {
-            let local = LocalId(number(local)?);
-            Ok(opening.bindings.bind(local, value(bound)?)?)
+pub fn opening_of(alloc: Global, words: &mut Words<'_>) -> Result<Opening, AllocError> {
+    let mut args = Vec::new(alloc);
+    let mut bindings = Bindings::new(alloc);
+    for word in words.all().split_terminator(' ') {
+        if word == "with" {
+            continue;
         }
-        None => Ok(opening.args.push(value(word)?)?),
+        match word.split_once('=') {
+            Some((local, bound)) => {
+                let local = LocalId(words.number_of(local));
+                bindings.bind(local, words.value_of(bound))?;
+            }
+            None => args.push(words.value_of(word))?,
+        }
     }
+    Ok(Opening { args, bindings })
 }
 
 /// Changes a frame: `made=NUMBER` and `opened=NUMBER` are the counts of its task, `line=NUMBER` is where it is, and a number
 /// alone is a group that it has open too.
-pub fn change(frame: &mut Frame, words: &[&str]) -> Result<(), CaseFault> {
-    for word in words {
-        change_part(frame, word)?;
+pub fn change(frame: &mut Frame, words: &mut Words<'_>) -> Result<(), AllocError> {
+    for word in words.all().split_terminator(' ') {
+        match word.split_once('=') {
+            Some((part, count)) => set(frame, words, part, count),
+            None => frame.groups.push(words.number_of(word))?,
+        }
     }
     Ok(())
 }
 
-fn change_part(frame: &mut Frame, word: &str) -> Result<(), CaseFault> {
-    match word.split_once('=') {
-        Some((part, count)) => set(frame, part, count),
-        None => Ok(frame.groups.push(number(word)?)?),
-    }
-}
-
-fn set(frame: &mut Frame, part: &str, count: &str) -> Result<(), CaseFault> {
+fn set(frame: &mut Frame, words: &mut Words<'_>, part: &str, count: &str) {
     match part {
-        "made" => frame.made = size(count)? as u64,
-        "opened" => frame.opened = size(count)? as u64,
-        "line" => frame.instruction = number(count)?,
-        _ => return Err(CaseFault::Form),
+        "made" => frame.made = words.count_of(count),
+        "opened" => frame.opened = words.count_of(count),
+        "line" => frame.instruction = words.number_of(count),
+        _ => words.refuse(),
     }
-    Ok(())
 }

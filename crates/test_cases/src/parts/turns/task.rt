@@ -3,9 +3,10 @@
 use crate::fault::CaseFault;
 use crate::parts::scripts::method_named;
 use crate::parts::show;
-use crate::parts::turns::begin::{TurnStart, change, opening_of, turn_of};
+use crate::parts::turns::begin::{Opening, TurnStart, change, opening_of, turn_of};
 use crate::parts::turns::play::{How, play, run};
 use crate::parts::turns::tell;
+use crate::parts::words::Words;
 use crate::said::Said;
 use futures::Future;
 use futures::task::{Doorbell, Poll, Solo};
@@ -24,29 +25,25 @@ pub struct Task {
     frame: Option<Frame>,
 }
 
-/// A task of this method.
+/// A task of a method with arguments and bindings, by words.
 pub fn start(
     alloc: Global,
     script: &Arc<Script>,
-    name: &str,
-    words: &[&str],
+    words: &mut Words<'_>,
     out: &mut Said,
 ) -> Result<Option<Task>, CaseFault> {
+    let (name, mut opening) = (words.next(), Words::new(words.all()));
     let Some(method) = method_named(script, None, name) else {
         out.put("no such method");
         return Ok(None);
     };
-    let opening = match opening_of(alloc, words) {
-        Ok(opening) => opening,
-        Err(CaseFault::Form) => {
-            out.put("no such arguments");
-            return Ok(None);
-        }
-        Err(fault) => return Err(fault),
-    };
+    let Opening { args, bindings } = opening_of(alloc, &mut opening)?;
+    if !opening.are_right() {
+        out.put("no such arguments");
+        return Ok(None);
+    }
     out.put("started");
-    let script = Arc::clone(script)?;
-    let body = Body::start(alloc, script, method, opening.args, opening.bindings)?;
+    let body = Body::start(alloc, Arc::clone(script)?, method, args, bindings)?;
     Ok(Some(Task {
         body,
         exit: None,
@@ -54,27 +51,28 @@ pub fn start(
     }))
 }
 
-/// Any other call.
+/// The call of this name, with these words.
 pub fn call<R: RandomSource + AllocGlobal>(
     rt: &R,
     script: &Script,
     task: &mut Task,
-    words: &[&str],
+    name: &str,
+    words: &str,
     out: &mut Said,
 ) -> Result<(), CaseFault> {
-    match *words {
-        ["put_back", ref changes @ ..] => put_back(task, changes, out),
-        [name] => plain(rt, script, task, name, out),
-        [name, ref begin @ ..] => match turn_of(rt.alloc(), begin) {
-            Ok(begin) => begin_turn(rt, script, task, name, begin, out),
-            Err(CaseFault::Form) => {
-                out.put("no such call");
-                Ok(())
-            }
-            Err(fault) => Err(fault),
-        },
-        [] => Err(CaseFault::Form),
+    let mut words = Words::new(words);
+    if name == "put_back" {
+        return Ok(put_back(task, &mut words, out)?);
     }
+    if words.is_empty() {
+        return plain(rt, script, task, name, out);
+    }
+    let begin = turn_of(rt.alloc(), &mut words)?;
+    if !words.are_right() {
+        out.put("no such call");
+        return Ok(());
+    }
+    begin_turn(rt, script, task, name, begin, out)
 }
 
 // A call of one word.
@@ -208,15 +206,16 @@ fn frame(script: &Script, task: &mut Task, out: &mut Said) -> Result<(), AllocEr
     Ok(())
 }
 
-fn put_back(task: &mut Task, changes: &[&str], out: &mut Said) -> Result<(), CaseFault> {
+fn put_back(task: &mut Task, changes: &mut Words<'_>, out: &mut Said) -> Result<(), AllocError> {
     let Some(mut copy) = task.frame.take() else {
         out.put("not possible");
         return Ok(());
     };
-    match change(&mut copy, changes) {
-        Ok(()) => put(task, copy, out),
-        Err(CaseFault::Form) => out.put("no such part"),
-        Err(fault) => return Err(fault),
+    change(&mut copy, changes)?;
+    if changes.are_right() {
+        put(task, copy, out)
+    } else {
+        out.put("no such part")
     }
     Ok(())
 }

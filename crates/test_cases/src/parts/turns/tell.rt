@@ -138,14 +138,14 @@ fn actor(out: &mut Said, script: &Script, called: ActorId) {
     if called.0 as usize >= script.actor_count() {
         return out.put("?");
     }
-    out.name(script.actor_name(called))
+    out.bytes(script.actor_name(called))
 }
 
 fn method(out: &mut Said, script: &Script, called: MethodId) {
     if called.0 as usize >= script.method_count() {
         return out.put("?");
     }
-    out.name(script.method_name(called))
+    out.bytes(script.method_name(called))
 }
 
 /// What comes after a turn.

@@ -8,6 +8,7 @@ use Rattle.swift_explorer.specs.Outcomes.{IsBrokenAfter}
 use Rattle.swift_explorer.specs.HistoryInside.{IsPath, WasDone}
 use Rattle.swift_explorer.specs.SearchInside.{HasGrown, IsFollowedBy, IsSound, paths_of}
 use Rattle.swift_explorer.proofs.Growing.{grown_on, like_grown}
+use Rattle.swift_explorer.proofs.Keeping.{keeps_none}
 use Rattle.swift_explorer.proofs.Nodes.{path_on}
 use Rattle.swift_explorer.proofs.Noting.{grown_breaks, is_not_none, sound_breaks}
 use Rattle.swift_explorer.proofs.Trying.{step_tried}
@@ -22,6 +23,18 @@ keep-requires-in-Ok-Broken-clause-path c =
     let done : WasDone c.in-Ok-Broken.field-0 = subst WasDone (sym c.in-Ok-Broken.field-0-is) tt in
     subst (λ (ms : List Move). IsPath script ms h) (sym (path_on (paths_of x.nodes.items) c.args.before c.args.step path c.requires.path))
     (subst (λ (s : ScriptView). IsPath s (path ++ c.args.step ∷ []) h) c.in_ok-history.ensures.script (c.in-Ok-Broken.ensures.path done))
+
+pub returns-in-Ok-No-clause-grown : goal.returns-in-Ok-No-clause-grown
+returns-in-Ok-No-clause-grown c = (keeps_none c.args.self.now c.follow_one.new.history c.requires.sound).grown
+
+pub returns-in-Ok-No-clause-sound : goal.returns-in-Ok-No-clause-sound
+returns-in-Ok-No-clause-sound c = (keeps_none c.args.self.now c.follow_one.new.history c.requires.sound).sound
+
+pub returns-in-Ok-Yes-clause-grown : goal.returns-in-Ok-Yes-clause-grown
+returns-in-Ok-Yes-clause-grown c = on_ok_weaker c.keep.result (λ keeps. keeps.grown) c.keep.ensures.keeps
+
+pub returns-in-Ok-Yes-clause-sound : goal.returns-in-Ok-Yes-clause-sound
+returns-in-Ok-Yes-clause-sound c = on_ok_weaker c.keep.result (λ keeps. keeps.sound) c.keep.ensures.keeps
 
 pub returns-in-Ok-Yes-clause-tried : goal.returns-in-Ok-Yes-clause-tried
 returns-in-Ok-Yes-clause-tried c =
