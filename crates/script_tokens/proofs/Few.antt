@@ -29,7 +29,7 @@ unfolding mark_at
 mark_leaves a [] = omega arith
 mark_leaves a (b ∷ bs) = pair_leaves (pair_of a b) a b bs
 
-front_leaves : (b : ℕ) (bs : List ℕ) → LeavesAtMost (length bs) (front_at b bs)
+pub front_leaves : (b : ℕ) (bs : List ℕ) → length (front_at b bs).1 ≤ length bs
 unfolding front_at
 front_leaves b bs =
     let digits : Option TokenView × List ℕ = (Some (number_of (take_while is_digit (b ∷ bs))), drop (prefix_len is_digit (b ∷ bs)) (b ∷ bs)) in

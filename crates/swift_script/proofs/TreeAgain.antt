@@ -1,11 +1,8 @@
 -- A printed form tells the tree that was printed.
-use Rattle.std.proofs.Common.{◌≡◌, ℕ, zero, suc, ◌+◌, ◌≤◌, Bool, true, false, cond, ◌==◌, ◌&&◌, List, [], ◌∷◌, length, drop, Option, Some, None, Result, ap, refl, ◌∙◌, arith, length-drop}
-use Rattle.std.specs.List.{prefix_len, take_while}
-use Rattle.std.proofs.lemmas.Bool.{cond_both}
-use Rattle.script_tokens.specs.declared.mark.Mark.{Mark}
-use Rattle.script_tokens.specs.Bytes.{is_space, is_digit, is_letter, is_name_byte, is_no_line_feed}
+use Rattle.std.proofs.Common.{◌≡◌, ℕ, zero, suc, ◌≤◌, List, [], ◌∷◌, length, Option, Some, None, Result, ap, refl, ◌∙◌, arith}
 use Rattle.script_tokens.specs.Pieces.{TokenView}
-use Rattle.script_tokens.specs.Lexes.{number_of, word_of, pair_of, single_of, lone, paired, mark_at, front_at, Lexes, at_end, separated, next_is}
+use Rattle.script_tokens.specs.Lexes.{front_at, Lexes, at_end, separated, next_is}
+use Rattle.script_tokens.proofs.Few.{front_leaves}
 use Rattle.script_grammar.specs.Tree.{DeclTree}
 use Rattle.script_parser.specs.declared.fault.ParseFault.{ParseFault}
 use Rattle.script_parser.specs.declared.limits.TheConstants.{NESTING}
@@ -17,41 +14,6 @@ use Rattle.script_printing.proofs.ByKind.{script_again}
 use Rattle.swift_script.specs.Accepted.{SpellsDecls, WasAccepted}
 use Rattle.swift_script.specs.TreeInside.{with_piece, pieces_within, decls_or_none, tree_in}
 use Rattle.swift_script.proofs.Printing.{decls_again as printed_again}
-
--- What is after the front of a text has at most this many bytes.
-abbrev LeavesAtMost : ℕ → Option TokenView × List ℕ → Type 0
-LeavesAtMost n f = length f.1 ≤ n
-
-one_passes : (here : Bool) (n : ℕ) (b : ℕ) (bs : List ℕ) → here ≡ true → length (drop (cond here (1 + n) 0) (b ∷ bs)) ≤ length bs
-one_passes true n b bs e = omega (arith, length-drop (1 + n) (b ∷ bs))
-one_passes false n b bs e = absurd (cc)
-
-letter_passes : (b : ℕ) → is_letter b ≡ true → is_name_byte b ≡ true
-letter_passes b e = rw e refl
-
-pair_leaves : (o : Option Mark) (a b : ℕ) (bs : List ℕ) → LeavesAtMost (suc (length bs)) (paired o a b bs)
-pair_leaves (Some m) a b bs = omega arith
-pair_leaves None a b bs =
-    cond_both (a == 47 && b == 47) (None, drop (prefix_len is_no_line_feed bs) bs) (Some (lone (single_of a)), b ∷ bs) (LeavesAtMost (suc (length bs)))
-    (λ e. omega (arith, length-drop (prefix_len is_no_line_feed bs) bs)) (λ e. omega arith)
-
-mark_leaves : (a : ℕ) (bs : List ℕ) → LeavesAtMost (length bs) (mark_at a bs)
-unfolding mark_at
-mark_leaves a [] = omega arith
-mark_leaves a (b ∷ bs) = pair_leaves (pair_of a b) a b bs
-
-front_leaves : (b : ℕ) (bs : List ℕ) → LeavesAtMost (length bs) (front_at b bs)
-unfolding front_at
-front_leaves b bs =
-    let digits : Option TokenView × List ℕ = (Some (number_of (take_while is_digit (b ∷ bs))), drop (prefix_len is_digit (b ∷ bs)) (b ∷ bs)) in
-    let word : Option TokenView × List ℕ = (Some (word_of (take_while is_name_byte (b ∷ bs))), drop (prefix_len is_name_byte (b ∷ bs)) (b ∷ bs)) in
-    cond_both (is_space b) (None, bs) (cond (is_digit b) digits (cond (is_letter b) word (mark_at b bs))) (LeavesAtMost (length bs))
-    (λ e. omega arith)
-    (λ e. cond_both (is_digit b) digits (cond (is_letter b) word (mark_at b bs)) (LeavesAtMost (length bs))
-    (λ d. one_passes (is_digit b) (prefix_len is_digit bs) b bs d)
-    (λ d. cond_both (is_letter b) word (mark_at b bs) (LeavesAtMost (length bs))
-    (λ l. one_passes (is_name_byte b) (prefix_len is_name_byte bs) b bs (letter_passes b l))
-    (λ l. mark_leaves b bs)))
 
 none_within : (n : ℕ) → pieces_within n [] ≡ []
 none_within zero = refl
