@@ -13,7 +13,11 @@ pub fn play_book(alloc: Global, case: &str, out: &mut Said) -> Result<(), CaseFa
     };
     let mut tasks = Tasks::new(alloc, script)?;
     let played = play(alloc, &mut tasks, Form::Named, calls, out);
-    tasks.close(out);
+    let mut closed = Said::new(alloc);
+    tasks.close(&mut closed);
+    // Where a call was refused memory, the case has written its answers alone.
+    played?;
+    out.part(&closed);
     out.put("\n");
-    played
+    Ok(())
 }

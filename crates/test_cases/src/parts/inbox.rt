@@ -253,12 +253,13 @@ pub fn play_inbox<R: Wait>(
     let (inbox, pass, mut taker) = inbox_of(alloc, ExecId(executor), room as usize)?;
     let called = calls(rt, alloc, &inbox, pass, &mut taker, lines, out);
     let left = drained(rt, alloc, inbox, taker)?;
+    called?;
     for (task, number) in &left {
         out.put("left: ");
         tell_job(*task, *number, out);
         out.put("\n");
     }
-    called
+    Ok(())
 }
 
 // Puts a job in as soon as there is room.
@@ -384,8 +385,9 @@ pub fn play_threads<R: Threads + Wait + Sync>(
     let count = count.wrapping_mul(2);
     let (put, (sum, taker)) = by_two_threads(rt, alloc, &inbox, pass, taker, count);
     let left = drained(rt, alloc, inbox, taker)?.len();
+    put?;
     out.count("sum ", sum);
     out.count(", ", left as u64);
     out.put(" left\n");
-    put
+    Ok(())
 }

@@ -117,7 +117,9 @@ pub fn play_queue(alloc: Global, case: &str, out: &mut Said) -> Result<(), CaseF
         return Ok(());
     };
     let played = play(alloc, &mut queue, Form::Plain, calls, out);
-    out.count("", empty(queue));
+    let left = empty(queue);
+    played?;
+    out.count("", left);
     out.put(" left\n");
-    played
+    Ok(())
 }

@@ -221,8 +221,10 @@ fn play_calls(alloc: Global, state: u64, calls: &str, out: &mut Said) -> Result<
     let Some(word) = Arc::into_inner(word) else {
         return Err(CaseFault::Form);
     };
-    tell_closed(word.close(), out);
-    played
+    let closed = word.close();
+    played?;
+    tell_closed(closed, out);
+    Ok(())
 }
 
 // A seat that holds takes in another one.
