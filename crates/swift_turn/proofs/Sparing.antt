@@ -9,11 +9,6 @@ use Rattle.swift_undo.proofs.Spared.{spared}
 use Rattle.swift_turn.specs.Body.{HasFrames, IfRunning, invariants_at}
 use Rattle.swift_turn.specs.BodyInvariant.{frames_of}
 
--- without rows none is spared
-pub none_spared : (script : ScriptView) (frames : List FrameView) (fields : List (List ℤ)) → IfRunning frames (λ p. AreSpared [] (invariants_at script p) fields)
-none_spared script [] fields = tt
-none_spared script (p ∷ callers) fields = tt
-
 -- where all hold, those that have rows are
 pub first_spared : (script : ScriptView) (frames : List FrameView) (rows : List ℕ) (fields : List (List ℤ)) → IfRunning frames (λ p. HaveRows rows (invariants_at script p)) → IfRunning frames (λ p. AllHold (invariants_at script p) fields)
     → IfRunning frames (λ p. AreSpared rows (invariants_at script p) fields)

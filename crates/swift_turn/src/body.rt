@@ -459,10 +459,6 @@ impl Body {
         self.inside.turn.frame = frame;
     }
 
-    pub(crate) fn alloc(&self) -> Global {
-        self.inside.alloc
-    }
-
     /// Gives up a turn that is under way, with its fields and effects; without one it changes nothing. It takes no memory.
     pub fn rest(&mut self)
         ensures { self.new ≡ at_rest self.old }

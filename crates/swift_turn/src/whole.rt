@@ -56,46 +56,15 @@ pub fn run_turn(
 /// those after the turn, `before` the frame as it was, and `effects` what it did, in order; what the last two had before
 /// counts for nothing. A turn that was entered before is given up. It is polled once, as by `poll` of `Body`.
 ///
-/// After an error the body is as it was, but that no turn is under way, the fields are as before, and the rest means nothing. Its
-/// cost is that of `run_turn`, less what that takes to copy its results. It takes memory only for what the turn makes, for the rows of
-/// fields that it sets, and where a buffer is too small.
-pub fn play_turn(
-    body: &mut Body,
-    cx: &mut Context<'_>,
-    fields: &mut Vec<Vec<i64>>,
-    resume: Resume,
-    env: Env,
-    before: &mut Frame,
-    effects: &mut Vec<Effect>,
-) -> Result<Exit, AllocError>
-    requires { IsRunning body.old }
-    // The theorem: the fields, the effects and the exit are those of the kept turn of the frame that ran, and the body stands for
-    // what it leaves.
-    ensures turn { IfOk result (λ exit. Polls body.old.script body.old.task.outer body.old.task.frames (entered (rows_of fields.old.items) resume env)
-        body.new.task.frames (left (rows_of fields.new.items) (effect_views effects.new.items) (exit_view exit))) }
-    // The frame that ran, as it was.
-    ensures before { OnOk result (IfRunning body.old.task.frames (λ p. p ≡ frame_view before.new)) }
-    ensures method { OnOk result (before.new.method.0 < method_count body.old.script) }
-    ensures rest { OnOk result (body.new ≡ record body.old { task = record body.old.task { frames = body.new.task.frames }; phase = idle; waker = body.new.waker }) }
-    // Where the turn waits, the waker of the task that is polled lies in the slot of the body's source, unless none could be made.
-    ensures waits { IfOk result (λ exit. Registers (exit_view exit) → (cx.new.lacks_waker ≡ true) ⊎ (body.new.waker ≡ Some (polled_in cx.old))) }
-    // Else, where the task goes on, the next poll is asked for.
-    ensures yields { IfOk result (λ exit. ending_if (callers_of body.old.task.frames) (exit_view exit) ≡ None → (Registers (exit_view exit) → ⊥) → cx.new.is_woken ≡ true) }
-    // A waker lies there only where the turn waits.
-    ensures slot { IfOk result (λ exit. IsSome body.new.waker → Registers (exit_view exit)) }
-    ensures err { OnErr result (body.new ≡ at_rest body.old) }
-    ensures back { OnErr result (rows_of fields.new.items ≡ rows_of fields.old.items) }
-    ensures kept { Keeps cx.old cx.new }
-{
-    let mut saved = SavedRows::new(body.alloc());
-    body.play_in_place(cx, &[], fields, &mut saved, resume, env, before, effects)
-}
-
-/// The turn of `play_turn` where all invariants of the actors of the frame's executor hold before it: only those are tested whose
-/// rows it has set. `rows` has the row that each of them reads, in order (`rows_of_invariants` of `swift_undo`); one beside which no row
-/// stands is tested. In place of all invariants it costs those, and for each other one a look at the rows that were set.
+/// All invariants of the actors of the frame's executor hold before it: only those are tested whose rows it has set. `rows` has the row
+/// that each of them reads, in order (`rows_of_invariants` of `swift_undo`); one beside which no row stands is tested.
 ///
 /// `saved` becomes the rows that the turn has set, as they were before it, also after an error; what it had before counts for nothing.
+///
+/// After an error the body is as it was, but that no turn is under way, the fields are as before, and the rest means nothing. Its
+/// cost is that of `run_turn`, less what that takes to copy its results and to test the other invariants; for each of these it takes a
+/// look at the rows that were set. It takes memory only for what the turn makes, for the rows of fields that it sets, and where a buffer
+/// is too small.
 pub fn play_turn_from(
     body: &mut Body,
     cx: &mut Context<'_>,
