@@ -17,7 +17,7 @@ use Rattle.swift_course.proofs.Folding.{GiveFields, Matches, all_match, all_orde
 use Rattle.swift_course.proofs.Lists.{same_one}
 use Rattle.swift_course.proofs.Starts.{many_starts, none_at, start_fields}
 
-there : {A : Type 0} (xs : List A) (e : ℕ) → e < length xs → (x : A) × (slice_get xs e ≡ Some x)
+pub there : {A : Type 0} (xs : List A) (e : ℕ) → e < length xs → (x : A) × (slice_get xs e ≡ Some x)
 there [] e lt = absurd (omega arith)
 there (x ∷ xs) zero lt = (x, refl)
 there (x ∷ xs) (suc e) lt = there xs e (omega (arith, lt))

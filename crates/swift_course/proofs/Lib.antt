@@ -16,6 +16,7 @@ pub mod Parts
 pub mod Ordered
 pub mod Folding
 pub mod Legal
+pub mod Whole
 pub mod Frames
 pub mod Rule
 pub mod Steps

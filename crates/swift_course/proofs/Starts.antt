@@ -1,28 +1,33 @@
 -- The checkpoints of a run that has not begun.
-use Rattle.std.proofs.Common.{◌≡◌, ℕ, ◌+◌, ◌<◌, ◌≤◌, zero, suc, List, [], ◌∷◌, map, length, refl, ap, ◌∙◌, arith}
+use Rattle.std.proofs.Common.{◌≡◌, ℕ, ◌+◌, ◌<◌, ◌≤◌, zero, suc, List, [], ◌∷◌, map, length, refl, sym, ap, ◌∙◌, arith}
 use Rattle.std.specs.Prelude.{Option, Some, None, slice_get, unwrap_or}
 use Rattle.std.specs.List.{range_with_len}
+use Rattle.std.proofs.lemmas.Option.{slice_get_within}
 use Rattle.swift_script.specs.Scripts.{ScriptView, executor_count, executor_start}
 use Rattle.swift_journal.specs.Checkpoints.{CheckpointView}
 use Rattle.swift_history.specs.Histories.{checkpoint_at, no_checkpoint}
 use Rattle.swift_course.specs.Course.{start_of, starts}
+use Rattle.swift_course.proofs.Lists.{same_one}
 
 from : {X : Type 0} (f : ℕ → X) (n a e : ℕ) → e < n → slice_get (map f (range_with_len a n)) e ≡ Some (f (a + e))
 from f zero a e lt = absurd (omega arith)
 from f (suc n) a zero lt = ap (λ k. Some (f k)) (omega arith)
 from f (suc n) a (suc e) lt = from f n (a + 1) e (omega arith) ∙ ap (λ k. Some (f k)) (omega arith)
 
+pub place_of : {X : Type 0} (f : ℕ → X) (n e : ℕ) → e < n → slice_get (map f (range_with_len 0 n)) e ≡ Some (f e)
+place_of f n e lt = from f n 0 e lt ∙ ap (λ k. Some (f k)) (omega arith)
+
 beyond : {X : Type 0} (xs : List X) (e : ℕ) → length xs ≤ e → slice_get xs e ≡ None
 beyond [] e le = refl
 beyond (x ∷ xs) zero le = absurd (omega arith)
 beyond (x ∷ xs) (suc e) le = beyond xs e (omega arith)
 
-many : {X : Type 0} (f : ℕ → X) (n a : ℕ) → length (map f (range_with_len a n)) ≡ n
+pub many : {X : Type 0} (f : ℕ → X) (n a : ℕ) → length (map f (range_with_len a n)) ≡ n
 many f zero a = refl
 many f (suc n) a = ap suc (many f n (a + 1))
 
 pub start_is : (script : ScriptView) (e : ℕ) → e < executor_count script → checkpoint_at (starts script) e ≡ start_of script e
-start_is script e lt = ap (λ (o : Option CheckpointView). unwrap_or o no_checkpoint) (from (start_of script) (executor_count script) 0 e lt ∙ ap (λ k. Some (start_of script k)) (omega arith))
+start_is script e lt = ap (λ (o : Option CheckpointView). unwrap_or o no_checkpoint) (place_of (start_of script) (executor_count script) e lt)
 
 pub start_fields : (script : ScriptView) (e : ℕ) → e < executor_count script → (checkpoint_at (starts script) e).fields ≡ executor_start script e
 start_fields script e lt = ap (λ (c : CheckpointView). c.fields) (start_is script e lt)
@@ -32,3 +37,13 @@ none_at cps e le = ap (λ (o : Option CheckpointView). unwrap_or o no_checkpoint
 
 pub many_starts : (script : ScriptView) → length (starts script) ≡ executor_count script
 many_starts script = many (start_of script) (executor_count script) 0
+
+-- a checkpoint of a run that has not begun
+pub start_at : (script : ScriptView) (e : ℕ) (c : CheckpointView) → slice_get (starts script) e ≡ Some c → c ≡ start_of script e
+start_at script e c is =
+    let lt : e < executor_count script = (let w = slice_get_within (starts script) e c is in let n = many_starts script in omega (arith, w, n)) in
+    same_one c (start_of script e) (sym is ∙ place_of (start_of script) (executor_count script) e lt)
+
+-- has folded no turn
+pub none_folded_at : (script : ScriptView) (e : ℕ) (c : CheckpointView) → slice_get (starts script) e ≡ Some c → c.folded ≡ []
+none_folded_at script e c is = ap (λ (x : CheckpointView). x.folded) (start_at script e c is)

@@ -2,6 +2,7 @@ pub mod Course
 pub mod Steps
 pub mod Seats
 pub mod Reports
+pub mod Whole
 pub mod Frames
 pub mod Rule
 pub mod Counts

@@ -5,6 +5,7 @@ ghost use Rattle.swift_course.specs.Reports.{RunsAreLegal, RunsAreOrderly, Seats
 ghost use Rattle.swift_course.specs.Rule.{GivesAreKept, JoinsAreKept, PartsAreKept, SeatsLearnOf};
 ghost use Rattle.swift_course.specs.Seats.{AccountsMayBeOpened, RunsBegin, SeatsMayBeGathered, SomeTicketsMayBeParted, TicketsMayBeParted};
 ghost use Rattle.swift_course.specs.Steps.{BooksMayStay, RootsMayBeAdded, TicketsMayBeOrdered, TurnsMayBeApplied, TurnsMayBegin};
+ghost use Rattle.swift_course.specs.Whole.{RunsAreWhole};
 
 /// The rule holds of a run that has not begun, with one seat (our own).
 pub fn runs_begin()
@@ -69,6 +70,11 @@ pub fn runs_are_legal()
 /// Where the turns of each executor have begun in order, the blocks of that report are in order too (our own).
 pub fn runs_are_orderly()
     ensures { RunsAreOrderly }
+{}
+
+/// That report is the fold of a whole one, which is legal with its blocks in order and has each turn of the run (our own).
+pub fn runs_are_whole()
+    ensures { RunsAreWhole }
 {}
 
 /// What follows from a turn is the same by the frame that has had it, which is in the job, as by the record of the turn (our own).

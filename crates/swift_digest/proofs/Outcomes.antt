@@ -1,5 +1,5 @@
 -- An exploration has the outcome of each legal report.
-use Rattle.std.proofs.Common.{◌≡◌, ℕ, ◌+◌, ◌<◌, List, [], ◌∷◌, ◌++◌, map, refl, sym, ◌∙◌, ap, subst, arith, append_assoc, append-nil}
+use Rattle.std.proofs.Common.{◌≡◌, ℕ, ◌+◌, ◌<◌, List, [], ◌∷◌, ◌++◌, refl, sym, ◌∙◌, ap, subst, arith, append_assoc, append-nil}
 use Rattle.std.specs.Prelude.{Option, Some, None, is_some, ◌==◌, Contains}
 use Rattle.std.specs.List.{cons_option}
 use Rattle.std.proofs.lemmas.Bool.{cond-true, eq-eqb}
@@ -9,7 +9,7 @@ use Rattle.swift_events.specs.Events.{tasks_of}
 use Rattle.swift_script.specs.Scripts.{ScriptView, root_count, executor_count, method_actor, actor_executor}
 use Rattle.swift_journal.specs.Checkpoints.{FoldedView, CheckpointView}
 use Rattle.swift_laws.specs.Laws.{ActorsHaveExecutors}
-use Rattle.swift_laws.proofs.HistoriesApplied.{there}
+use Rattle.swift_laws.proofs.HistoriesApplied.{some_root, there}
 use Rattle.swift_history.specs.Histories.{Block, added, begun, ran, folded, folded_in, folded_of, at_first, after_blocks, Stands, AllStand, ReportView, IsLegal}
 use Rattle.swift_history.specs.Orderly.{AllAllowed, IsOrderly, job_executor, frames_executor}
 use Rattle.swift_digest.specs.Explored.{ExploredState, state_of, StartsFresh, IsNotFolded, AreExplored, IsAnyBlock, IsOutcome, FoldsNone, ExploredHasEachOutcome, ExploredHasEachOrderlyOutcome, AreRepresented, RepresentedHasEachOutcome}
@@ -33,12 +33,17 @@ module _ (script : ScriptView) (on : ActorsHaveExecutors script) (cps : List Che
   none_in None fs is = (refl, is)
   none_in (Some f) fs is = absurd (cc is)
 
-  pub not_folded : (before : List Block) (b : Block) (bs : List Block) → Stands script cps before b → NoneFolded (b ∷ bs) → IsNotFolded b
-  not_folded before (added r) bs stands none = tt
-  not_folded before (begun t n env) bs stands none = tt
-  not_folded before (ran e r) bs stands none = tt
-  not_folded before (folded e f) bs stands none =
-      let low : e < executor_count script = subst (λ (k : ℕ). k < executor_count script) stands.0.stands.on (on (method_actor script stands.0.frame.method)) in
+  -- a turn stands only where there is a root
+  some : (before : List Block) (e : ℕ) (f : FoldedView) → AllStand script cps [] before → Stands script cps before (folded e f) → 0 < root_count script
+  some [] e f stood stands = some_root script cps (folded e f) stands
+  some (b ∷ before) e f stood stands = some_root script cps b stood.0
+
+  pub not_folded : (before : List Block) (b : Block) (bs : List Block) → AllStand script cps [] before → Stands script cps before b → NoneFolded (b ∷ bs) → IsNotFolded b
+  not_folded before (added r) bs stood stands none = tt
+  not_folded before (begun t n env) bs stood stands none = tt
+  not_folded before (ran e r) bs stood stands none = tt
+  not_folded before (folded e f) bs stood stands none =
+      let low : e < executor_count script = subst (λ (k : ℕ). k < executor_count script) stands.0.stands.on (on (some before e f stood stands) (method_actor script stands.0.frame.method)) in
       let is : folded_in e (folded e f) ≡ Some f = cond-true (e == e) (Some f) None (eq-eqb e e refl) in
       let no = none_in (folded_in e (folded e f)) (folded_of e bs) (none e low) in
       absurd (cc (is, no.0))
@@ -52,7 +57,7 @@ module _ (script : ScriptView) (Allowed : List Block → Block → Type 0) (stat
       → Contains states (state_of script cps (before ++ bs))
   explored_all [] before stood was stand may none has = subst (λ (xs : List Block). Contains states (state_of script cps xs)) (sym (append-nil before)) has
   explored_all (b ∷ bs) before stood was stand may none has =
-      let next = explored.next cps before b fresh stood was (not_folded script on cps before b bs stand.0 none) stand.0 may.0 has in
+      let next = explored.next cps before b fresh stood was (not_folded script on cps before b bs stood stand.0 none) stand.0 may.0 has in
       subst (λ (xs : List Block). Contains states (state_of script cps xs)) (append_assoc before (b ∷ []) bs)
       (explored_all bs (before ++ b ∷ []) (all_push script cps before [] b stood stand.0) (allowed_push before [] b was may.0) stand.1 may.1 (λ e low. (none_in script on cps (folded_in e b) (folded_of e bs) (none e low)).1) next)
 
@@ -166,7 +171,7 @@ module _ (script : ScriptView) (histories : List (List Block)) (reps : AreRepres
   has_all (b ∷ bs) before stood stand may none one =
       subst HasOne (append_assoc before (b ∷ []) bs)
       (has_all bs (before ++ b ∷ []) (all_push script cps before [] b stood stand.0) stand.1 may.1 (λ e low. (none_in script on cps (folded_in e b) (folded_of e bs) (none e low)).1)
-      (has_next before b stood (not_folded script on cps before b bs stand.0 none) stand.0 may.0 one))
+      (has_next before b stood (not_folded script on cps before b bs stood stand.0 none) stand.0 may.0 one))
 
 pub outcome_too : (script : ScriptView) (cps : List CheckpointView) (report : ReportView) (a b : List Block) → LeadAlike script cps a b → IsOutcome script (state_of script cps a) report → IsOutcome script (state_of script cps b) report
 outcome_too script cps report a b lead is =

@@ -77,7 +77,7 @@ module _ (script : ScriptView) (x : Search) (first : HasLike script (paths_of x.
   walk [] before stood stand may none like = (subst (HasLike script (paths_of x.nodes.items)) (sym (append-nil before)) like, λ b has. absurd (none_there b has))
   walk (b ∷ bs) before stood stand may none like =
       let cps = starts script in
-      let o = other_block script before like.others b stood like.leads.stand like.alike (record { unfolded = not_folded script on cps before b bs stand.0 none; stands = stand.0; orderly = may.0 }) in
+      let o = other_block script before like.others b stood like.leads.stand like.alike (record { unfolded = not_folded script on cps before b bs stood stand.0 none; stands = stand.0; orderly = may.0 }) in
       let at = expanded_at before like in
       let was = at.2.tried like.others o.block at.1 o.may in
       let next = like_too script (paths_of x.nodes.items) (before ++ b ∷ []) (like.others ++ o.block ∷ []) o.alike was.kept in

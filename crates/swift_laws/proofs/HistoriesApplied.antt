@@ -3,6 +3,7 @@ use Rattle.std.proofs.Common.{◌≡◌, ◌≢◌, ℕ, ◌<◌, ◌≤◌, Lis
 use Rattle.std.specs.Prelude.{◌⊎◌, Option, Some, None, if◌then◌else◌, slice_get}
 use Rattle.std.specs.List.{filter_map, cons_option}
 use Rattle.std.proofs.lemmas.Bool.{cases_eq, eq-eqb}
+use Rattle.std.proofs.lemmas.Bool.Decides.{nat_tests}
 use Rattle.std.proofs.lemmas.Option.{none-some, same_Some, some_pair_parts}
 use Rattle.std.proofs.lemmas.List.{append-nil}
 use Rattle.swift_types.specs.declared.env.Env.{Env}
@@ -159,12 +160,24 @@ there (x ∷ xs) (suc k) lt = there xs k (omega (arith, lt))
 same_turn : (a b t n : ℕ) → ◌≡◌ {A = Option (ℕ × ℕ)} (Some (a, b)) (Some (t, n)) → (a ≡ t) × (b ≡ n)
 same_turn a b t n is = some_pair_parts a t b n is
 
+-- the first block adds a root
+pub some_root : (script : ScriptView) (cps : List CheckpointView) (b : Block) → Stands script cps [] b → 0 < root_count script
+some_root script cps (added r) stands = let lt : r < root_count script = (let so = stands.0 in grind (arith, nat_tests)) in omega (arith, lt)
+some_root script cps (begun t n env) stands = absurd (none-some stands.0 stands.1)
+some_root script cps (ran e r) stands = absurd (none-some stands.job stands.stands.given)
+some_root script cps (folded e f) stands = absurd (none-some stands.0.job stands.0.stands.given)
+
+-- so where there is a block there is a root
+has_root : (script : ScriptView) (cps : List CheckpointView) (bs : List Block) (p : ℕ) (b : Block) → AllStand script cps [] bs → slice_get bs p ≡ Some b → 0 < root_count script
+has_root script cps [] p b stand at = absurd (none-some b at)
+has_root script cps (c ∷ bs) p b stand at = some_root script cps c stand.0
+
 stands_at : (script : ScriptView) (report : ReportView) (legal : IsLegal script report) (inside : ActorsHaveExecutors script) (p : ℕ) (b : Block) (t n : ℕ) → slice_get legal.blocks p ≡ Some b → turn_of b ≡ Some (t, n) → (q : TurnPlace) × HasTurn report q t n
 stands_at script report legal inside p (added r) t n at of = absurd (none-some _ of)
 stands_at script report legal inside p (begun u k env) t n at of = absurd (none-some _ of)
 stands_at script report legal inside p (ran e r) t n at of =
     let s = split_at script report.checkpoints [] legal.blocks p (ran e r) legal.stand at in
-    let lt : e < length report.journals = subst (λ (k : ℕ). e < k) (sym legal.executors.0) (subst (λ (k : ℕ). k < executor_count script) s.stands.stands.on (inside (method_actor script r.frame.method))) in
+    let lt : e < length report.journals = subst (λ (k : ℕ). e < k) (sym legal.executors.0) (subst (λ (k : ℕ). k < executor_count script) s.stands.stands.on (inside (has_root script report.checkpoints legal.blocks p (ran e r) legal.stand at) (method_actor script r.frame.method))) in
     let j = there report.journals e lt in
     let at_record = found (record_in e) legal.blocks p (ran e r) r at (ap (λ (c : Bool). if c then Some r else None) (eq-eqb e e refl)) in
     let parts = same_turn r.task r.number t n of in (
@@ -178,7 +191,7 @@ stands_at script report legal inside p (ran e r) t n at of =
     )
 stands_at script report legal inside p (folded e f) t n at of =
     let s = split_at script report.checkpoints [] legal.blocks p (folded e f) legal.stand at in
-    let lt : e < length report.checkpoints = subst (λ (k : ℕ). e < k) (sym legal.executors.1) (subst (λ (k : ℕ). k < executor_count script) s.stands.0.stands.on (inside (method_actor script s.stands.0.frame.method))) in
+    let lt : e < length report.checkpoints = subst (λ (k : ℕ). e < k) (sym legal.executors.1) (subst (λ (k : ℕ). k < executor_count script) s.stands.0.stands.on (inside (has_root script report.checkpoints legal.blocks p (folded e f) legal.stand at) (method_actor script s.stands.0.frame.method))) in
     let c = there report.checkpoints e lt in
     let at_folded = found (folded_in e) legal.blocks p (folded e f) f at (ap (λ (c : Bool). if c then Some f else None) (eq-eqb e e refl)) in
     let parts = same_turn f.task f.number t n of in (

@@ -20,3 +20,4 @@ pub mod OpenScripts
 pub mod OpenExecutors
 pub mod OpenReports
 pub mod HistoriesGiven
+pub mod WholeRuns

@@ -1,13 +1,11 @@
 -- The laws of legal reports.
 use Rattle.std.proofs.Common.{◌≡◌, ◌≢◌, inl, inr, ℕ, zero, suc, ◌<◌, true, List, [], ◌∷◌, ◌++◌, length, refl, subst, ap, ◌∙◌, arith}
 use Rattle.std.specs.Prelude.{Some, IsTrue, Contains}
-use Rattle.std.proofs.lemmas.Bool.Decides.{nat_tests}
 use Rattle.std.proofs.lemmas.Option.{none-some}
 use Rattle.swift_types.specs.declared.id.TaskId.{TaskId}
 use Rattle.swift_types.specs.declared.priority.Priority.{Priority}
 use Rattle.swift_script.specs.Accepted.{WasAccepted}
 use Rattle.swift_script.specs.Scripts.{ScriptView, root_count}
-use Rattle.swift_journal.specs.Checkpoints.{CheckpointView}
 use Rattle.swift_escalation.specs.declared.waits.PriorityEvent.TheVariants as link
 use Rattle.swift_escalation.specs.Waits.{Reaches}
 use Rattle.swift_events.specs.declared.event.Event.{Event}
@@ -16,7 +14,7 @@ use Rattle.swift_events.specs.declared.life.JobStage.TheVariants.{Waits, Closes}
 use Rattle.swift_events.specs.Events.{tasks_of}
 use Rattle.swift_events.specs.Lives.{life_of}
 use Rattle.swift_events.specs.Relations.{opened_by, is_closed, link_in, links_of}
-use Rattle.swift_history.specs.Histories.{Block, added, begun, ran, folded, at_first, after_blocks, Stands, AllStand, IsLegal, ReportView}
+use Rattle.swift_history.specs.Histories.{IsLegal, ReportView}
 use Rattle.swift_laws.specs.Laws.{TurnPlace, HasTurn, turns_of, AppliedTurnsStand}
 use Rattle.swift_laws.specs.Ended.{HasEnded, IsPrefix}
 use Rattle.swift_laws.proofs.OpenLogs.{In, in_contains, tasks_grow, opened_grow, Sound, sound_front, closed_front, free_ended}
@@ -109,23 +107,5 @@ reach_ended script report front (suc n) t u legal is ended reach =
       | inr wait ↦ waits_for_none script report front m u legal is mid (wait_of_link front m u wait)
     ]
 
--- the first block adds a root
-some_root : (script : ScriptView) (cps : List CheckpointView) (b : Block) → Stands script cps [] b → 0 < root_count script
-some_root script cps (added r) stands = let lt : r < root_count script = (let so = stands.0 in grind (arith, nat_tests)) in omega (arith, lt)
-some_root script cps (begun t n env) stands = absurd (none-some stands.0 stands.1)
-some_root script cps (ran e r) stands = absurd (none-some stands.job stands.stands.given)
-some_root script cps (folded e f) stands = absurd (none-some stands.0.job stands.0.stands.given)
-
--- where a turn was applied there is a root
-root_of_turn : (script : ScriptView) (report : ReportView) (legal : IsLegal script report) (t n : ℕ) → n < length (turns_of t report.log) → 0 < root_count script
-root_of_turn script report legal t n lt = go legal.blocks refl
-  where
-    go : (bs : List Block) → legal.blocks ≡ bs → 0 < root_count script
-    go [] is =
-        let none : report.log ≡ [] = legal.log ∙ ap (λ (bs : List Block). (after_blocks script (at_first script) bs).log) is in
-        let many : length (turns_of t report.log) ≡ 0 = ap (λ (l : List Event). length (turns_of t l)) none in
-        absurd (omega (arith, lt, many))
-    go (b ∷ bs) is = some_root script report.checkpoints b (subst (AllStand script report.checkpoints []) is legal.stand).0
-
 pub turns_stand : AppliedTurnsStand → (script : ScriptView) (report : ReportView) (t n : ℕ) → WasAccepted script → IsLegal script report → n < length (turns_of t report.log) → (p : TurnPlace) × HasTurn report p t n
-turns_stand stand script report t n accepted legal lt = stand script report t n legal (runs_on_executor script accepted (root_of_turn script report legal t n lt)) lt
+turns_stand stand script report t n accepted legal lt = stand script report t n legal (runs_on_executor script accepted) lt

@@ -35,7 +35,7 @@ AcceptedCloseGroups = (script : ScriptView) → WasAccepted script → ClosesGro
 
 -- Where there is a root, each actor of an accepted script runs on an executor of the script.
 abbrev pub AcceptedHaveExecutors : Type 0
-AcceptedHaveExecutors = (script : ScriptView) → WasAccepted script → 0 < root_count script → ActorsHaveExecutors script
+AcceptedHaveExecutors = (script : ScriptView) → WasAccepted script → ActorsHaveExecutors script
 
 -- So each turn that the log of its legal report applies is in the report.
 abbrev pub AcceptedTurnsStand : Type 0

@@ -53,9 +53,9 @@ TurnsAreNumbered = (script : ScriptView) (report : ReportView) (t : ℕ) → IsL
     → (turns_of t report.log ≡ range_with_len 0 (length (turns_of t report.log)))
     × ((p : TurnPlace) (n : ℕ) → HasTurn report p t n → n < length (turns_of t report.log))
 
--- each actor runs on an executor of the script
+-- where the script has a root, each actor runs on an executor of the script
 abbrev pub ActorsHaveExecutors : ScriptView → Type 0
-ActorsHaveExecutors script = (actor : ℕ) → actor_executor script actor < executor_count script
+ActorsHaveExecutors script = 0 < root_count script → (actor : ℕ) → actor_executor script actor < executor_count script
 
 -- where they do, each turn that the log of a legal report applies is in the report
 abbrev pub AppliedTurnsStand : Type 0

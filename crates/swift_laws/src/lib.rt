@@ -11,3 +11,5 @@ pub mod laws;
 pub mod limits;
 /// What holds of its task locals.
 pub mod locals;
+/// What holds of each turn of a run, folded or not.
+pub mod whole;
