@@ -1,10 +1,15 @@
--- Records of a history's blocks.
-use Rattle.std.proofs.Common.{◌≡◌, ℕ, zero, suc, ◌<◌, ◌==◌, Bool, true, false, List, [], ◌∷◌, length, refl, ap, ap₂, ◌∙◌, arith}
+-- Records of a history's blocks, and a report that has all of them.
+use Rattle.std.proofs.Common.{◌≡◌, ℕ, zero, suc, ◌==◌, Bool, true, false, List, [], ◌∷◌, refl, sym, ap, ap₂, ◌∙◌, arith}
 use Rattle.std.proofs.lemmas.Bool.Decides.{nat_tests}
-use Rattle.std.specs.Prelude.{Option, Some, None, if◌then◌else◌, slice_index_or, Contains}
+use Rattle.std.specs.Prelude.{Option, Some, None, if◌then◌else◌, slice_get, Contains}
 use Rattle.std.specs.List.{cons_option}
 use Rattle.swift_journal.specs.Records.{RecordView}
-use Rattle.swift_history.specs.Histories.{Block, added, begun, ran, folded, record_in, records_of}
+use Rattle.swift_history.specs.Histories.{Block, ReportView, added, begun, ran, folded, record_in, records_of}
+use Rattle.swift_journal.specs.Checkpoints.{CheckpointView}
+use Rattle.swift_script.specs.Scripts.{ScriptView}
+use Rattle.swift_course.specs.Course.{starts}
+use Rattle.swift_course.proofs.Starts.{none_folded_at}
+use Rattle.swift_digest.specs.Explored.{FoldsNone}
 
 if_some : (t : Bool) (p q : RecordView) → (if t then Some p else None) ≡ Some q → (t ≡ true) × (p ≡ q)
 if_some true p q is = (refl, cc is)
@@ -32,3 +37,7 @@ in_first e r b bs (Some q) is rest (suc k, low, same) = later b (ran e r) bs (re
 pub in_blocks : (e : ℕ) (r : RecordView) (bs : List Block) → Contains (records_of e bs) r → Contains bs (ran e r)
 in_blocks e r [] there = absurd (omega (arith, there.1))
 in_blocks e r (b ∷ bs) there = in_first e r b bs (record_in e b) refl (in_blocks e r bs) there
+
+-- a report with the checkpoints of a run that has not begun has folded no turn
+pub folds_none : (script : ScriptView) (report : ReportView) → report.checkpoints ≡ starts script → FoldsNone report
+folds_none script report is e c at = none_folded_at script e c (ap (λ (cps : List CheckpointView). slice_get cps e) (sym is) ∙ at)

@@ -3,7 +3,7 @@
 ghost use Rattle.explorer_laws.specs.Runs.{EachRunIsListed, NoRunBreaks};
 
 /// How the tasks of a run end, and which fields it leaves, is among the outcomes of a search that came to its end, whatever the number
-/// of workers and the order of their threads, where no executor has folded turns (our own).
+/// of workers and the order of their threads (our own).
 pub fn each_run_is_listed()
     ensures { EachRunIsListed }
 {}

@@ -11,6 +11,7 @@ use Rattle.swift_script.specs.Accepted.{IsAccepted}
 use Rattle.swift_script.specs.Refuses.{Refuses}
 use Rattle.swift_script.specs.FaultLines.{IsAtItsLine}
 use Rattle.swift_history.specs.Orderly.{IsOrderlyLegal}
+use Rattle.swift_course.specs.Whole.{HasWhole}
 use Rattle.swift_certificate.specs.Reports.{report_view}
 use Rattle.swift_report.specs.Part.{WritesPart}
 use Rattle.swift_workers.specs.Leaves.{AreEndings, AreReplayed, EachFrom}
@@ -38,15 +39,17 @@ end_well (e ∷ es) = ends_well e.1 (end_well es)
 abbrev pub HoldInvariants : ScriptView → ℕ → List (Vec (Vec ℤ Global) Global) → Type 0
 HoldInvariants p e fields = EachFrom (λ k rows. IsTrue (all_hold (executor_invariants p k) (rows_of rows.items))) e fields
 
--- A text is that of a run of the script that these bytes spell. The run's report is legal, and its blocks are in order. Of each executor the journal is lawful from its checkpoint on, its
--- turns are of the executor's actors, and the fields are what replaying them gives; each invariant holds of the fields. The log
--- says of each task where it comes from and how it has ended, and the first tasks are those of the roots, in order of declaration. `well` says
--- whether each has ended with a value.
+-- A text is that of a run of the script that these bytes spell. The run's report is legal, and its blocks are in order; and it is the fold
+-- of such a report that has each turn of the run, those too that a checkpoint has folded. Of each executor the journal is lawful from its
+-- checkpoint on, its turns are of the executor's actors, and the fields are what replaying them gives; each invariant holds of the fields.
+-- The log says of each task where it comes from and how it has ended, and the first tasks are those of the roots, in order of declaration.
+-- `well` says whether each has ended with a value.
 pub record IsRunOf (bytes : List ℕ) (quiet : Bool) (text : List ℕ) (well : Bool) : Type 0 where
   pub script : ScriptView
   pub report : Report
   pub accepted : IsAccepted bytes script
   pub legal : IsOrderlyLegal script (report_view report)
+  pub whole : HasWhole script (report_view report)
   pub replayed : AreReplayed script 0 report.checkpoints.items report.journals.items report.fields.items
   pub journals : length report.journals.items ≡ executor_count script
   pub checkpoints : length report.checkpoints.items ≡ executor_count script

@@ -11,10 +11,11 @@ use Rattle.swift_journal.specs.Checkpoints.{CheckpointRoomView, CheckpointView}
 use Rattle.swift_journal.specs.Records.{RecordView}
 use Rattle.swift_events.specs.declared.event.Event.{Event}
 use Rattle.swift_events.specs.declared.life.Origin.{Origin}
-use Rattle.swift_history.specs.Histories.{IsLegal}
+use Rattle.swift_history.specs.Histories.{ReportView}
 use Rattle.swift_history.specs.Orderly.{IsOrderlyLegal}
 use Rattle.swift_course.specs.Views.{BookFacts, BookKnown}
-use Rattle.swift_course.specs.Reports.{AreAtRest, IsAccountedFor, IsReportOf, Knows, RunsAreLegal, RunsAreOrderly}
+use Rattle.swift_course.specs.Reports.{AreAtRest, HasHistory, IsAccountedFor, IsReportOf, Knows, RunsAreOrderly}
+use Rattle.swift_course.specs.Whole.{HasWhole, RunsAreWhole}
 use Rattle.swift_report.specs.declared.report.Report.{Report}
 use Rattle.swift_certificate.specs.Reports.{report_view}
 use Rattle.swift_workers.specs.declared.leave.Parts.{Parts}
@@ -86,25 +87,36 @@ reported facts v r parts are js cs fs log ends =
           (ending_at roots r.log.events r.endings.items t some.0 ends.each some.1).groups g opened);
     }
 
--- Where all accounts are in one seat, which has added all roots, that report is legal.
-pub is_legal : (laws : RunsAreLegal) (facts : BookFacts) (p : ScriptView) (v : BookKnown) (r : Report) (parts : Parts) → Knows v facts → facts.script ≡ p → v.maker ≡ Some (record { executors = executor_count p; roots = root_count p })
-    → AreParts p v (executor_count p) parts → r.journals ≡ parts.journals → r.checkpoints ≡ parts.checkpoints → r.fields ≡ parts.fields
-    → r.log.events ≡ facts.log → AreEndings (root_count p) r.log.events r.endings.items → IsLegal p (report_view r)
-is_legal laws facts p v r parts knows script maker are js cs fs log ends =
-    let back = sym script in
-    let maker_of : v.maker ≡ Some (record { executors = executor_count facts.script; roots = root_count facts.script }) = subst (λ (x : ScriptView). v.maker ≡ Some (record { executors = executor_count x; roots = root_count x })) back maker in
-    let parts_of = subst (λ (x : ScriptView). AreParts x v (executor_count x) parts) back are in
-    let ends_of = subst (λ (x : ScriptView). AreEndings (root_count x) r.log.events r.endings.items) back ends in
-    subst (λ (x : ScriptView). IsLegal x (report_view r)) script (laws facts v (report_view r) knows.1 maker_of (reported facts v r parts parts_of js cs fs log ends_of))
+-- What the laws of runs ask for, of a report of the book's own script.
+record IsAskedFor (facts : BookFacts) (v : BookKnown) (report : ReportView) : Type 0 where
+  known : HasHistory v facts
+  maker : v.maker ≡ Some (record { executors = executor_count facts.script; roots = root_count facts.script })
+  is : IsReportOf facts v report
+  rest : AreAtRest (executor_count facts.script) v
 
--- Where each account is at rest too, its blocks are in order.
-pub is_orderly : (laws : RunsAreOrderly) (facts : BookFacts) (p : ScriptView) (v : BookKnown) (r : Report) (parts : Parts) → Knows v facts → facts.script ≡ p → v.maker ≡ Some (record { executors = executor_count p; roots = root_count p })
-    → AreParts p v (executor_count p) parts → r.journals ≡ parts.journals → r.checkpoints ≡ parts.checkpoints → r.fields ≡ parts.fields
-    → r.log.events ≡ facts.log → AreEndings (root_count p) r.log.events r.endings.items → IsOrderlyLegal p (report_view r)
-is_orderly laws facts p v r parts knows script maker are js cs fs log ends =
-    let back = sym script in
-    let maker_of : v.maker ≡ Some (record { executors = executor_count facts.script; roots = root_count facts.script }) = subst (λ (x : ScriptView). v.maker ≡ Some (record { executors = executor_count x; roots = root_count x })) back maker in
-    let parts_of = subst (λ (x : ScriptView). AreParts x v (executor_count x) parts) back are in
-    let ends_of = subst (λ (x : ScriptView). AreEndings (root_count x) r.log.events r.endings.items) back ends in
-    let rest : AreAtRest (executor_count facts.script) v = parts_of.rest in
-    subst (λ (x : ScriptView). IsOrderlyLegal x (report_view r)) script (laws facts v (report_view r) knows.1 maker_of (reported facts v r parts parts_of js cs fs log ends_of) rest)
+module _ (facts : BookFacts) (p : ScriptView) (v : BookKnown) (r : Report) (parts : Parts) (knows : Knows v facts) (script : facts.script ≡ p) (maker : v.maker ≡ Some (record { executors = executor_count p; roots = root_count p })) where
+  asked : AreParts p v (executor_count p) parts → r.journals ≡ parts.journals → r.checkpoints ≡ parts.checkpoints → r.fields ≡ parts.fields → r.log.events ≡ facts.log → AreEndings (root_count p) r.log.events r.endings.items → IsAskedFor facts v (report_view r)
+  asked are js cs fs log ends =
+      let back = sym script in
+      let parts_of = subst (λ (x : ScriptView). AreParts x v (executor_count x) parts) back are in
+      let ends_of = subst (λ (x : ScriptView). AreEndings (root_count x) r.log.events r.endings.items) back ends in
+      record {
+        known = knows.1;
+        maker = subst (λ (x : ScriptView). v.maker ≡ Some (record { executors = executor_count x; roots = root_count x })) back maker;
+        is = reported facts v r parts parts_of js cs fs log ends_of;
+        rest = parts_of.rest;
+      }
+
+  -- Where all accounts are in one seat, which has added all roots, and each is at rest, the report is legal, with its blocks in order.
+  pub is_orderly : RunsAreOrderly → AreParts p v (executor_count p) parts → r.journals ≡ parts.journals → r.checkpoints ≡ parts.checkpoints → r.fields ≡ parts.fields → r.log.events ≡ facts.log → AreEndings (root_count p) r.log.events r.endings.items
+      → IsOrderlyLegal p (report_view r)
+  is_orderly law are js cs fs log ends =
+      let a = asked are js cs fs log ends in
+      subst (λ (x : ScriptView). IsOrderlyLegal x (report_view r)) script (law facts v (report_view r) a.known a.maker a.is a.rest)
+
+  -- And it is the fold of such a one that has each turn.
+  pub has_whole : RunsAreWhole → AreParts p v (executor_count p) parts → r.journals ≡ parts.journals → r.checkpoints ≡ parts.checkpoints → r.fields ≡ parts.fields → r.log.events ≡ facts.log → AreEndings (root_count p) r.log.events r.endings.items
+      → HasWhole p (report_view r)
+  has_whole law are js cs fs log ends =
+      let a = asked are js cs fs log ends in
+      subst (λ (x : ScriptView). HasWhole x (report_view r)) script (law facts v (report_view r) a.known a.maker a.is a.rest)

@@ -3,12 +3,12 @@
 ghost use Rattle.std.specs.Prelude.{◌≡◌, ◌↔◌, ℕ, ◌+◌, Some, None, [], ◌∷◌, length, IfOk, IfSome, IsOk, IsTrue, OnOk};
 ghost use Rattle.swift_script.specs.Scripts.{ScriptView, executor_count, root_count};
 ghost use Rattle.swift_events.specs.Events.{tasks_of};
-ghost use Rattle.swift_history.specs.Histories.{IsLegal};
 ghost use Rattle.swift_history.specs.Orderly.{IsOrderlyLegal};
 ghost use Rattle.swift_certificate.specs.Reports.{report_view};
 ghost use Rattle.swift_executor.specs.Exec.{IsDeskOf, site_of};
 ghost use Rattle.swift_executor.specs.Seats.{IsSeatFor, orders_of};
 ghost use Rattle.swift_course.specs.Views.{at_rest};
+ghost use Rattle.swift_course.specs.Whole.{HasWhole};
 ghost use Rattle.swift_shared_book.specs.Shared.{IsSeatOf};
 ghost use Rattle.swift_workers.specs.CrewInside.{AreAtSites, AreDesksOf};
 ghost use Rattle.swift_workers.specs.Leaves.{AreEndings, AreReplayed, IsEnding, KeepInvariants};
@@ -17,7 +17,7 @@ ghost use Rattle.swift_workers.specs.PartsInside.{AreParts};
 use crate::fault::Halt;
 use std::alloc::Global;
 use std::sync::Wait;
-use swift_course::laws::{runs_are_legal, runs_are_orderly};
+use swift_course::laws::{runs_are_orderly, runs_are_whole};
 use swift_events::Origin;
 use swift_executor::{Closed, Desk, Exec, ExecState};
 use swift_job::spend_all;
@@ -229,7 +229,7 @@ fn parts_of<R: Wait>(
 
 /// The report of a run that was played, or was given up, by the seat that has opened all accounts and added all roots; the executors are
 /// closed by these desks. It is legal, and its blocks are in order: the seats of the executors, gathered in that one, and the book say so,
-/// and no turn is followed again. A book that was not given back is `Unfinished`.
+/// and no turn is followed again. They know each turn, those too that a checkpoint has folded. A book that was not given back is `Unfinished`.
 pub fn report_of<R: Wait>(
     rt: &R,
     alloc: Global,
@@ -247,8 +247,8 @@ pub fn report_of<R: Wait>(
     requires seat { IsSeatOf book seat }
     requires maker { OnOk played (seat.knows.maker ≡ Some (record { executors = executor_count script.now; roots = root_count script.now })) }
     ensures played { OnOk result (IsOk played) }
-    ensures legal { IfOk result (λ r. IsLegal script.now (report_view r)) }
     ensures orderly { IfOk result (λ r. IsOrderlyLegal script.now (report_view r)) }
+    ensures whole { IfOk result (λ r. HasWhole script.now (report_view r)) }
     ensures lawful { IfOk result (λ r. AreReplayed script.now 0 r.checkpoints.items r.journals.items r.fields.items) }
     ensures invariants { IfOk result (λ r. KeepInvariants script.now 0 r.fields.items) }
     ensures journals { IfOk result (λ r. length r.journals.items ≡ executor_count script.now) }
@@ -257,8 +257,8 @@ pub fn report_of<R: Wait>(
     ensures endings { IfOk result (λ r. AreEndings (root_count script.now) r.log.events r.endings.items) }
 {
     played?;
-    runs_are_legal();
     runs_are_orderly();
+    runs_are_whole();
     let parts = parts_of(rt, alloc, &book, &mut seat, execs, desks)?;
     let Some(book) = book.close(seat) else {
         return Err(Halt::Unfinished);

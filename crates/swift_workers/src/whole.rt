@@ -7,6 +7,7 @@ ghost use Rattle.swift_script.specs.Scripts.{executor_count, root_count};
 ghost use Rattle.swift_history.specs.Histories.{IsLegal};
 ghost use Rattle.swift_history.specs.Orderly.{IsOrderlyLegal};
 ghost use Rattle.swift_course.specs.Seats.{first_view};
+ghost use Rattle.swift_course.specs.Whole.{HasWhole};
 ghost use Rattle.swift_certificate.specs.Reports.{report_view};
 ghost use Rattle.swift_shared_book.specs.Shared.{IsSeatOf, seat_of};
 ghost use Rattle.swift_workers.specs.declared.fault.RunFault.TheVariants.{Illegal, Workers};
@@ -63,6 +64,8 @@ where
     // Its blocks are in order: roots are added as the text declares them, and a turn begins once each is there, and only at an executor
     // that has no turn under way.
     ensures orderly { IfOk result (λ r. IsOrderlyLegal (arc_value script) (report_view r)) }
+    // No turn is forgotten: it is the fold of a report that is legal in the same way, and has each turn of the run in its journals.
+    ensures whole { IfOk result (λ r. HasWhole (arc_value script) (report_view r)) }
     // The turns of each executor are lawful from the start values on, those that were folded too; those of its journal are of its
     // actors, and replaying them gives the fields.
     ensures lawful { IfOk result (λ r. AreReplayed (arc_value script) 0 r.checkpoints.items r.journals.items r.fields.items) }
@@ -85,8 +88,8 @@ where
     R: RandomSource + AllocGlobal + Threads + Wait + Sync,
     G: Gate + Sync,
     requires { 0 < workers }
-    ensures legal { IfOk result (λ r. IsLegal (arc_value script.now) (report_view r)) }
     ensures orderly { IfOk result (λ r. IsOrderlyLegal (arc_value script.now) (report_view r)) }
+    ensures whole { IfOk result (λ r. HasWhole (arc_value script.now) (report_view r)) }
     ensures lawful { IfOk result (λ r. AreReplayed (arc_value script.now) 0 r.checkpoints.items r.journals.items r.fields.items) }
     ensures invariants { IfOk result (λ r. KeepInvariants (arc_value script.now) 0 r.fields.items) }
     ensures journals { IfOk result (λ r. length r.journals.items ≡ executor_count (arc_value script.now)) }

@@ -2,6 +2,7 @@ use Rattle.std.proofs.Common.{◌≡◌, refl, ap, subst, ◌∙◌}
 use Rattle.std.specs.Arc.{arc_value}
 use Rattle.swift_script.specs.Scripts.{ScriptView, executor_count, root_count}
 use Rattle.swift_history.specs.Orderly.{IsOrderlyLegal}
+use Rattle.swift_course.specs.Whole.{HasWhole}
 use Rattle.swift_certificate.specs.Reports.{report_view}
 use Rattle.swift_workers.specs.Leaves.{AreEndings, AreReplayed, KeepInvariants}
 use Rattle.swift_report.specs.Text.{report_text}
@@ -23,6 +24,7 @@ returns-clause-text g c =
         report = c.in_ok-report.report;
         accepted = c.in_ok-found.ensures.found;
         legal = subst (λ (p : ScriptView). IsOrderlyLegal p (report_view c.in_ok-report.report)) same c.in_ok-report.ensures.orderly;
+        whole = subst (λ (p : ScriptView). HasWhole p (report_view c.in_ok-report.report)) same c.in_ok-report.ensures.whole;
         replayed = subst (λ (p : ScriptView). AreReplayed p 0 c.in_ok-report.report.checkpoints.items c.in_ok-report.report.journals.items c.in_ok-report.report.fields.items) same c.in_ok-report.ensures.lawful;
         journals = c.in_ok-report.ensures.journals ∙ ap executor_count same;
         checkpoints = c.in_ok-report.ensures.checkpoints ∙ ap executor_count same;
