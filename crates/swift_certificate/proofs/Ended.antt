@@ -1,5 +1,5 @@
 -- A report that was followed to its end.
-use Rattle.std.proofs.Common.{◌≡◌, ◌≢◌, ◌<◌, ◌≤◌, ℕ, get_or, ◌+◌, ℤ, List, [], length, map, true, refl, sym, subst, ap, ◌∙◌, arith, inl, inr}
+use Rattle.std.proofs.Common.{◌≡◌, ◌≢◌, ◌<◌, ◌≤◌, ℕ, zero, suc, get_or, ◌+◌, ℤ, List, [], ◌∷◌, length, map, true, refl, sym, subst, ap, ◌∙◌, arith, inl, inr}
 use Rattle.std.specs.Prelude.{Option, Some, option_map, slice_get, take, unwrap_or}
 use Rattle.std.specs.List.{range_with_len}
 use Rattle.std.proofs.lemmas.Bool.{cases_eq}
@@ -16,37 +16,40 @@ use Rattle.swift_journal.specs.Records.{RecordView}
 use Rattle.swift_journal.specs.Checkpoints.{CheckpointView}
 use Rattle.swift_history.specs.Histories.{IsLegal, ReportView, no_checkpoint, records_of}
 use Rattle.swift_certificate.specs.declared.playing.ExecutorProgress.{ExecutorProgress}
-use Rattle.swift_certificate.specs.declared.playing.TurnsMode.{TurnsMode}
 use Rattle.swift_certificate.specs.declared.replay.Replay.{Replay}
 use Rattle.swift_certificate.specs.ReplayInside.{AreEndedAt, EndsAt, IsReplay}
 use Rattle.swift_certificate.proofs.Blocks.{same_one}
-use Rattle.swift_certificate.proofs.Known.{fields_end, there}
 
 -- the executors before a number were followed to their ends
-abbrev pub EndsBelow : TurnsMode → ScriptView → List ExecutorProgress → ReportView → ℕ → Type 0
-EndsBelow turns script rows report n = (e : ℕ) (row : ExecutorProgress) (journal : List RecordView) (checkpoint : CheckpointView) (fields : List (List ℤ)) → e < n
+abbrev pub EndsBelow : ScriptView → List ExecutorProgress → ReportView → ℕ → Type 0
+EndsBelow script rows report n = (e : ℕ) (row : ExecutorProgress) (journal : List RecordView) (checkpoint : CheckpointView) (fields : List (List ℤ)) → e < n
     → slice_get rows e ≡ Some row → slice_get report.journals e ≡ Some journal → slice_get report.checkpoints e ≡ Some checkpoint → slice_get report.fields e ≡ Some fields
-    → EndsAt turns script e row journal checkpoint fields
+    → EndsAt script e row journal checkpoint fields
 
 below : (e n : ℕ) → e < n + 1 → e ≢ n → e < n
 below e n lt ne = grind arith
 
-pub ended_next : (turns : TurnsMode) (script : ScriptView) (rows : List ExecutorProgress) (report : ReportView) (n : ℕ) (row : ExecutorProgress) (journal : List RecordView) (checkpoint : CheckpointView) (fields : List (List ℤ)) → EndsBelow turns script rows report n
-    → slice_get rows n ≡ Some row → slice_get report.journals n ≡ Some journal → slice_get report.checkpoints n ≡ Some checkpoint → slice_get report.fields n ≡ Some fields → EndsAt turns script n row journal checkpoint fields
-    → EndsBelow turns script rows report (n + 1)
-ended_next turns script rows report n row journal checkpoint fields before at at_j at_c at_f is e row' journal' checkpoint' fields' lt here here_j here_c here_f = elim (cases_eq e n) [
+pub ended_next : (script : ScriptView) (rows : List ExecutorProgress) (report : ReportView) (n : ℕ) (row : ExecutorProgress) (journal : List RecordView) (checkpoint : CheckpointView) (fields : List (List ℤ)) → EndsBelow script rows report n
+    → slice_get rows n ≡ Some row → slice_get report.journals n ≡ Some journal → slice_get report.checkpoints n ≡ Some checkpoint → slice_get report.fields n ≡ Some fields → EndsAt script n row journal checkpoint fields
+    → EndsBelow script rows report (n + 1)
+ended_next script rows report n row journal checkpoint fields before at at_j at_c at_f is e row' journal' checkpoint' fields' lt here here_j here_c here_f = elim (cases_eq e n) [
   | inl same ↦
       let r : row ≡ row' = same_one row row' (sym at ∙ ap (slice_get rows) (sym same) ∙ here) in
       let j : journal ≡ journal' = same_one journal journal' (sym at_j ∙ ap (slice_get report.journals) (sym same) ∙ here_j) in
       let k : checkpoint ≡ checkpoint' = same_one checkpoint checkpoint' (sym at_c ∙ ap (slice_get report.checkpoints) (sym same) ∙ here_c) in
       let f : fields ≡ fields' = same_one fields fields' (sym at_f ∙ ap (slice_get report.fields) (sym same) ∙ here_f) in
-      subst (λ (i : ℕ). EndsAt turns script i row' journal' checkpoint' fields') (sym same)
-      (subst (λ (x : ExecutorProgress). EndsAt turns script n x journal' checkpoint' fields') r
-      (subst (λ (x : List RecordView). EndsAt turns script n row x checkpoint' fields') j
-      (subst (λ (x : CheckpointView). EndsAt turns script n row journal x fields') k
-      (subst (λ (x : List (List ℤ)). EndsAt turns script n row journal checkpoint x) f is))))
+      subst (λ (i : ℕ). EndsAt script i row' journal' checkpoint' fields') (sym same)
+      (subst (λ (x : ExecutorProgress). EndsAt script n x journal' checkpoint' fields') r
+      (subst (λ (x : List RecordView). EndsAt script n row x checkpoint' fields') j
+      (subst (λ (x : CheckpointView). EndsAt script n row journal x fields') k
+      (subst (λ (x : List (List ℤ)). EndsAt script n row journal checkpoint x) f is))))
   | inr ne ↦ before e row' journal' checkpoint' fields' (below e n lt ne) here here_j here_c here_f
 ]
+
+there : {A : Type 0} (xs : List A) (e : ℕ) → e < length xs → (x : A) × (slice_get xs e ≡ Some x)
+there [] e lt = absurd (grind arith)
+there (x ∷ xs) zero lt = (x, refl)
+there (x ∷ xs) (suc e) lt = there xs e (omega (arith, lt))
 
 all_taken : {A : Type 0} (xs : List A) (n : ℕ) → n ≡ length xs → take n xs ≡ xs
 all_taken xs n is = ap (λ k. take k xs) is ∙ take-length xs
@@ -55,7 +58,7 @@ pub legal_is : (script : ScriptView) (report : ReportView) (x : Replay) → IsRe
     → length report.endings ≡ tasks_of (root_count x.book.script) x.book.log
     → ((t : ℕ) (e : Origin × Ending) → slice_get report.endings t ≡ Some e → ((life_of t x.book.log).origin ≡ Some e.0) × ((life_of t x.book.log).ending ≡ Some e.1))
     → ((t g : ℕ) → t < length report.endings → g < opened_by t x.book.log → is_closed t g x.book.log ≡ true)
-    → AreEndedAt x.turns script x.rows.items report → IsLegal script report
+    → AreEndedAt script x.rows.items report → IsLegal script report
 legal_is script report x is log roots many each closed ended =
     let f = is.followed in
     let row_at : (e : ℕ) → e < executor_count script → (row : ExecutorProgress) × (slice_get x.rows.items e ≡ Some row) = λ e lt. there x.rows.items e (subst (λ (n : ℕ). e < n) (sym ended.rows_many) lt) in
@@ -92,8 +95,7 @@ legal_is script report x is log roots many each closed ended =
           let journal = journal_of e lt in
           let checkpoint = checkpoint_of e lt in
           let ends = ended.each e row.0 journal.0 checkpoint.0 fs row.1 journal.1 checkpoint.1 at in
-          fields_end x.turns script report f.blocks e journal.0 checkpoint.0 fs is.known (record { journal_is = journal.1; checkpoint_is = checkpoint.1; fields_are = at }) (journals e journal.0 journal.1)
-          (λ are. sym (ends.fields_are are) ∙ (f.places e row.0 row.1).fields are));
+          sym ends.fields_are ∙ (f.places e row.0 row.1).fields);
       tasks = many ∙ ap (λ (p : ScriptView). tasks_of (root_count p) x.book.log) is.book_is ∙ ap (tasks_of (root_count script)) (sym log);
       endings = λ t e at. subst (λ (l : List Event). ((life_of t l).origin ≡ Some e.0) × ((life_of t l).ending ≡ Some e.1)) (sym log) (each t e at);
       groups = subst (λ (l : List Event). (t g : ℕ) → t < length report.endings → g < opened_by t l → is_closed t g l ≡ true) (sym log) closed;
@@ -109,9 +111,9 @@ seen_at v xs i x lt is = slice_get-map v xs i ∙ ap (option_map v) (at_place xs
 before_end : (e n m k : ℕ) → e < m → m ≡ k → k ≤ n → e < n
 before_end e n m k lt is past = omega (arith, lt, is, past)
 
-pub all_ended : (turns : TurnsMode) (script : ScriptView) (rows : List ExecutorProgress) (report : ReportView) (n : ℕ) → executor_count script ≤ n → EndsBelow turns script rows report n → length rows ≡ executor_count script
-    → length report.journals ≡ executor_count script → length report.checkpoints ≡ executor_count script → length report.fields ≡ executor_count script → AreEndedAt turns script rows report
-all_ended turns script rows report n past each rows_many journals checkpoints fields = record {
+pub all_ended : (script : ScriptView) (rows : List ExecutorProgress) (report : ReportView) (n : ℕ) → executor_count script ≤ n → EndsBelow script rows report n → length rows ≡ executor_count script
+    → length report.journals ≡ executor_count script → length report.checkpoints ≡ executor_count script → length report.fields ≡ executor_count script → AreEndedAt script rows report
+all_ended script rows report n past each rows_many journals checkpoints fields = record {
   rows_many = rows_many;
   many = (journals, checkpoints, fields);
   each = λ e row j k f at. each e row j k f (before_end e n (length rows) (executor_count script) (slice_get_within rows e row at) rows_many past) at;

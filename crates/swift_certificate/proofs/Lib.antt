@@ -3,7 +3,6 @@ pub mod Counted
 pub mod Ended
 pub mod First
 pub mod Given
-pub mod Known
 pub mod Places
 pub mod Played
 pub mod Replays

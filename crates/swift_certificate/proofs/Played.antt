@@ -17,7 +17,6 @@ use Rattle.swift_history.specs.Histories.{IsLeft, LeavesFrame, left_as}
 use Rattle.swift_certificate.specs.declared.waiting.NextTurn.{NextTurn}
 use Rattle.swift_certificate.specs.declared.playing.FollowedTurn.{FollowedTurn}
 use Rattle.swift_certificate.specs.declared.playing.ExecutorProgress.{ExecutorProgress}
-use Rattle.swift_certificate.specs.declared.playing.TurnsMode.TheVariants.{Play, Read}
 use Rattle.swift_certificate.specs.ReplayInside.{Folds, FollowsRecord, GoesOn, IsAfterFrame, TakesFollowed, folded_turn, turn_of}
 
 -- the frame that a turn leaves stands for what is still to do
@@ -80,7 +79,7 @@ plays_at : (journal : List RecordView) (old new : ExecutorProgress) (task : Task
     → (IsLeft (exit_view done.exit) → done.ready.body.task.frames ≡ left_as p (effect_views done.effects.items) None ∷ callers_of frames)
     → ((IsLeft (exit_view done.exit) → ⊥) → done.ready.body.task.frames ≡ frames)
     → done.ready.number ≡ ready.number → done.ready.resume ≡ ready.resume → done.ready.body.script ≡ ready.body.script → done.ready.body.task.outer ≡ ready.body.task.outer
-    → new.played ≡ old.played + 1 → new.folded ≡ old.folded → FollowsRecord Play journal old new task ready env done
+    → new.played ≡ old.played + 1 → new.folded ≡ old.folded → FollowsRecord journal old new task ready env done
 plays_at journal old new task ready env done worker p q callers after frames was top there turns at left_is stays number resume script outer played folded =
     let effects = effect_views done.effects.items in
     let exit = exit_view done.exit in
@@ -100,8 +99,8 @@ plays_at journal old new task ready env done worker p q callers after frames was
         is = ap (λ (fs : List FrameView). record { frames = fs; outer = done.ready.body.task.outer }) is.frames_are
             ∙ ap (λ (bs : List (ℕ × ℤ)). record { frames = left_as p effects after ∷ callers; outer = bs }) outer;
       };
-      lawful = λ are. is.lawful;
-      fields = λ are. is.fields_are;
+      lawful = is.lawful;
+      fields = is.fields_are;
       played = played;
       folded = folded;
     }
@@ -115,7 +114,7 @@ plays_from : (journal : List RecordView) (old new : ExecutorProgress) (task : Ta
     → (IsLeft (exit_view done.exit) → done.ready.body.task.frames ≡ left_as p (effect_views done.effects.items) None ∷ callers_of frames)
     → ((IsLeft (exit_view done.exit) → ⊥) → done.ready.body.task.frames ≡ frames)
     → done.ready.number ≡ ready.number → done.ready.resume ≡ ready.resume → done.ready.body.script ≡ ready.body.script → done.ready.body.task.outer ≡ ready.body.task.outer
-    → new.played ≡ old.played + 1 → new.folded ≡ old.folded → FollowsRecord Play journal old new task ready env done
+    → new.played ≡ old.played + 1 → new.folded ≡ old.folded → FollowsRecord journal old new task ready env done
 plays_from journal old new task ready env done worker p [] after frames was has top there turns at left_is stays number resume script outer played folded = absurd has
 plays_from journal old new task ready env done worker p (q ∷ callers) after frames was has top there turns at left_is stays number resume script outer played folded =
     plays_at journal old new task ready env done worker p q callers after frames was top there turns at left_is stays number resume script outer played folded
@@ -128,7 +127,7 @@ pub plays : (journal : List RecordView) (old new : ExecutorProgress) (task : Tas
     → (IsLeft (exit_view done.exit) → done.ready.body.task.frames ≡ left_as p (effect_views done.effects.items) None ∷ callers_of frames)
     → ((IsLeft (exit_view done.exit) → ⊥) → done.ready.body.task.frames ≡ frames)
     → done.ready.number ≡ ready.number → done.ready.resume ≡ ready.resume → done.ready.body.script ≡ ready.body.script → done.ready.body.task.outer ≡ ready.body.task.outer
-    → new.played ≡ old.played + 1 → new.folded ≡ old.folded → FollowsRecord Play journal old new task ready env done
+    → new.played ≡ old.played + 1 → new.folded ≡ old.folded → FollowsRecord journal old new task ready env done
 plays journal old new task ready env done worker p after frames has top there turns at left_is stays number resume script outer played folded =
     plays_from journal old new task ready env done worker p ready.body.task.frames after frames refl has top there turns at left_is stays number resume script outer played folded
 
@@ -163,27 +162,6 @@ takes ready done frame effects exit after has top is number resume script effect
 
 goes_on_as : (ready : NextTurn) (effects : List EffectView) (exit : ExitView) (after : Option FrameView) (done : FollowedTurn) (t : TakesFollowed ready effects exit after done) → GoesOn ready done.ready t.frame (effect_views done.effects.items) after
 goes_on_as ready effects exit after done t = subst (λ (es : List EffectView). GoesOn ready done.ready t.frame es after) (sym t.effects_are) t.goes_on
-
--- a turn of the journal that is not played
-pub reads : (journal : List RecordView) (old new : ExecutorProgress) (task : TaskId) (ready : NextTurn) (env : Env) (worker : ℕ) (p : FrameView) (effects : List EffectView) (exit : ExitView) (after : Option FrameView) (done : FollowedTurn)
-    → TakesFollowed ready effects exit after done → IfRunning ready.body.task.frames (λ q. q ≡ p)
-    → slice_get journal old.played ≡ Some (turn_of task ready worker p env effects exit after)
-    → new.played ≡ old.played + 1 → new.folded ≡ old.folded → FollowsRecord Read journal old new task ready env done
-reads journal old new task ready env worker p effects exit after done t runs there played folded =
-    let top : t.frame ≡ p = subst (λ (fs : List FrameView). IfRunning fs (λ q. q ≡ p)) t.goes_on.was runs in
-    record {
-      worker = worker;
-      frame = t.frame;
-      after = after;
-      there = there ∙ ap (λ (q : FrameView). Some (turn_of task ready worker q env effects exit after)) (sym top)
-          ∙ ap (λ (es : List EffectView). Some (turn_of task ready worker t.frame env es exit after)) (sym t.effects_are)
-          ∙ ap (λ (e : ExitView). Some (turn_of task ready worker t.frame env (effect_views done.effects.items) e after)) (sym t.exit_is);
-      goes_on = goes_on_as ready effects exit after done t;
-      lawful = λ are. absurd are;
-      fields = λ are. absurd are;
-      played = played;
-      folded = folded;
-    }
 
 -- a turn of the checkpoint, of the frame that runs
 pub folds : (checkpoint : CheckpointView) (old new : ExecutorProgress) (task : TaskId) (ready : NextTurn) (p : FrameView) (effects : List EffectView) (exit : ExitView) (after : Option FrameView) (done : FollowedTurn)

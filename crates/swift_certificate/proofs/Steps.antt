@@ -35,13 +35,11 @@ use Rattle.swift_tasks.specs.Refusals.{fits_begun, refusal_of_apply, refusal_of_
 use Rattle.swift_certificate.specs.declared.waiting.NextTurn.{NextTurn}
 use Rattle.swift_certificate.specs.declared.playing.FollowedTurn.{FollowedTurn}
 use Rattle.swift_certificate.specs.declared.playing.ExecutorProgress.{ExecutorProgress}
-use Rattle.swift_certificate.specs.declared.playing.TurnsMode.{TurnsMode}
 use Rattle.swift_certificate.specs.declared.replay.Replay.{Replay}
-use Rattle.swift_certificate.specs.ReplayInside.{AreGiven, AreOf, ArePlayed, AppliesFollowed, Folds, FollowsRecord, GoesOn, IsFollowed, IsKnown, IsProgress, IsReplay, folded_turn, given_at, given_view, job_of, journal_at, turn_of, with_given}
+use Rattle.swift_certificate.specs.ReplayInside.{AreGiven, AreOf, AppliesFollowed, Folds, FollowsRecord, GoesOn, IsFollowed, IsProgress, IsReplay, folded_turn, given_at, given_view, job_of, journal_at, turn_of, with_given}
 use Rattle.swift_certificate.proofs.Blocks.{range_next, after_push, filter_none, filter_some, stand_push}
 use Rattle.swift_certificate.proofs.First.{checkpoint_view}
 use Rattle.swift_certificate.proofs.Given.{given_back, given_put, given_taken, of_put, of_taken}
-use Rattle.swift_certificate.proofs.Known.{Found, lawful_next}
 use Rattle.swift_certificate.proofs.Places.{others_folded, others_played, place_folded, place_played, place_stays, places_set}
 
 -- what stands where there is no refusal
@@ -73,11 +71,11 @@ holds_then (Some x) b is = absurd (none-some x (sym is))
 
 -- a root more
 
-pub followed_root : (turns : TurnsMode) (script : ScriptView) (report : ReportView) (log : List Event) (held : List (Option WaitingTaskView)) (tasks tasks' : List (Option NextTurn)) (rows : List ExecutorProgress) (r : ℕ) (t : TaskId) (g : NextTurn)
-    → IsFollowed turns script report log held tasks rows r → refusal_of_root script log r ≡ None → given_view t.0 g ≡ root_job script r → t.0 ≡ (root_job script r).task
+pub followed_root : (script : ScriptView) (report : ReportView) (log : List Event) (held : List (Option WaitingTaskView)) (tasks tasks' : List (Option NextTurn)) (rows : List ExecutorProgress) (r : ℕ) (t : TaskId) (g : NextTurn)
+    → IsFollowed script report log held tasks rows r → refusal_of_root script log r ≡ None → given_view t.0 g ≡ root_job script r → t.0 ≡ (root_job script r).task
     → ((u : ℕ) → given_at tasks' u ≡ with_given t.0 (Some g) (given_at tasks) u)
-    → IsFollowed turns script report (log ++ root_events script r) held tasks' rows (r + 1)
-followed_root turns script report log held tasks tasks' rows r t g f may is at put =
+    → IsFollowed script report (log ++ root_events script r) held tasks' rows (r + 1)
+followed_root script report log held tasks tasks' rows r t g f may is at put =
     let bs = f.blocks in
     let s = after_blocks script (at_first script) bs in
     let after = after_push script (at_first script) bs (added r) in
@@ -90,17 +88,17 @@ followed_root turns script report log held tasks tasks' rows r t g f may is at p
       held_is = f.held_is ∙ ap (λ (x : Standing). x.held) (sym after);
       given = subst (λ (x : Standing). AreGiven x.jobs tasks') (sym after)
           (subst (λ (j : JobFacts). AreGiven (with_jobs (j ∷ []) s.jobs) tasks') is (given_put s.jobs tasks tasks' t.0 g f.given put));
-      places = λ e row here. place_stays turns script report bs (added r) e row refl refl (f.places e row here);
+      places = λ e row here. place_stays script report bs (added r) e row refl refl (f.places e row here);
       roots_are = filter_some root_in bs (added r) r refl ∙ ap (λ (xs : List ℕ). xs ++ r ∷ []) f.roots_are ∙ range_next r;
     }
 
 -- a turn begins
 
-pub followed_begin : (turns : TurnsMode) (script : ScriptView) (report : ReportView) (log : List Event) (held : List (Option WaitingTaskView)) (tasks between tasks' : List (Option NextTurn)) (rows : List ExecutorProgress) (r : ℕ) (t : TaskId) (g : NextTurn) (env : Env)
-    → IsFollowed turns script report log held tasks rows r → given_at tasks t.0 ≡ Some g → refusal_of_begin script log (job_of t g) ≡ None → IsEnv (root_count script) t log env
+pub followed_begin : (script : ScriptView) (report : ReportView) (log : List Event) (held : List (Option WaitingTaskView)) (tasks between tasks' : List (Option NextTurn)) (rows : List ExecutorProgress) (r : ℕ) (t : TaskId) (g : NextTurn) (env : Env)
+    → IsFollowed script report log held tasks rows r → given_at tasks t.0 ≡ Some g → refusal_of_begin script log (job_of t g) ≡ None → IsEnv (root_count script) t log env
     → ((u : ℕ) → given_at between u ≡ with_given t.0 None (given_at tasks) u) → ((u : ℕ) → given_at tasks' u ≡ with_given t.0 (Some g) (given_at between) u)
-    → IsFollowed turns script report (log ++ Begin t g.number env ∷ []) held tasks' rows r
-followed_begin turns script report log held tasks between tasks' rows r t g env f was may is took put =
+    → IsFollowed script report (log ++ Begin t g.number env ∷ []) held tasks' rows r
+followed_begin script report log held tasks between tasks' rows r t g env f was may is took put =
     let bs = f.blocks in
     let s = after_blocks script (at_first script) bs in
     let b = begun t.0 g.number env in
@@ -113,7 +111,7 @@ followed_begin turns script report log held tasks between tasks' rows r t g env 
       log_is = ap (λ (l : List Event). l ++ Begin t g.number env ∷ []) f.log_is ∙ ap (λ (x : Standing). x.log) (sym after);
       held_is = f.held_is ∙ ap (λ (x : Standing). x.held) (sym after);
       given = subst (λ (x : Standing). AreGiven x.jobs tasks') (sym after) (given_back s.jobs tasks between tasks' t.0 g f.given was took put);
-      places = λ e row here. place_stays turns script report bs b e row refl refl (f.places e row here);
+      places = λ e row here. place_stays script report bs b e row refl refl (f.places e row here);
       roots_are = filter_none root_in bs b refl ∙ f.roots_are;
     }
 
@@ -144,7 +142,6 @@ record Taken (script : ScriptView) (s : Standing) (k : ℕ) (t : TaskId) (g : Ne
 -- A replay between the turn and its end: the task's job is taken, and one place has changed.
 pub record Between (x m : Replay) (t : TaskId) (g : NextTurn) (k : ℕ) (row row' : ExecutorProgress) : Type 0 where
   pub script_is : m.script ≡ x.script
-  pub turns_are : m.turns ≡ x.turns
   pub book_is : m.book ≡ x.book
   pub roots_are : m.roots ≡ x.roots
   pub rows_are : m.rows.items ≡ slice_set x.rows.items k row'
@@ -163,7 +160,7 @@ same_ends b b' script log held t n n' q callers outer effects exit book is_scrip
     ∙ ap (λ (h : List (Option WaitingTaskView)). turn_end script log h t n (begun_priority (life_of t log).stage) effects exit (advanced script q callers outer exit)) is_held
     ∙ ap (λ (i : ℕ). turn_end script log held t i (begun_priority (life_of t log).stage) effects exit (advanced script q callers outer exit)) is_number
 
-took : (script : ScriptView) (report : ReportView) (x m y : Replay) (k : ℕ) (t : TaskId) (g : NextTurn) (env : Env) (p : FrameView) (after : Option FrameView) (row row' : ExecutorProgress) (done : FollowedTurn) (f : IsFollowed x.turns script report x.book.log x.book.held x.tasks.items x.rows.items x.roots)
+took : (script : ScriptView) (report : ReportView) (x m y : Replay) (k : ℕ) (t : TaskId) (g : NextTurn) (env : Env) (p : FrameView) (after : Option FrameView) (row row' : ExecutorProgress) (done : FollowedTurn) (f : IsFollowed script report x.book.log x.book.held x.tasks.items x.rows.items x.roots)
     → x.book.script ≡ script → Between x m t g k row row'
     → (life_of t.0 x.book.log).stage ≡ Some (Begun env) → IfRunning g.body.task.frames (λ q. actor_executor script (method_actor g.body.script q.method) ≡ k)
     → GoesOn g done.ready p (effect_views done.effects.items) after → AppliesFollowed m y t done
@@ -205,21 +202,19 @@ took script report x m y k t g env p after row row' done f book_is between begun
     }
 
 -- a replay whose history has one block more
-replay_more : (script : ScriptView) (report : ReportView) (x m y : Replay) (t : TaskId) (g : NextTurn) (k : ℕ) (row row' : ExecutorProgress) (done : FollowedTurn) (f : IsFollowed x.turns script report x.book.log x.book.held x.tasks.items x.rows.items x.roots) (b : Block) (z : Standing)
+replay_more : (script : ScriptView) (report : ReportView) (x m y : Replay) (t : TaskId) (g : NextTurn) (k : ℕ) (row row' : ExecutorProgress) (done : FollowedTurn) (f : IsFollowed script report x.book.log x.book.held x.tasks.items x.rows.items x.roots) (b : Block) (z : Standing)
     → IsReplay script report x → Between x m t g k row row' → AppliesFollowed m y t done → after_block script (after_blocks script (at_first script) f.blocks) b ≡ z
     → AllStand script report.checkpoints [] (f.blocks ++ b ∷ []) → root_in b ≡ None → y.book.log ≡ z.log → y.book.held ≡ z.held → AreGiven z.jobs y.tasks.items
-    → ((e : ℕ) (q : ExecutorProgress) → slice_get (slice_set x.rows.items k row') e ≡ Some q → IsProgress x.turns script report (f.blocks ++ b ∷ []) e q)
+    → ((e : ℕ) (q : ExecutorProgress) → slice_get (slice_set x.rows.items k row') e ≡ Some q → IsProgress script report (f.blocks ++ b ∷ []) e q)
     → IsReplay script report y
 replay_more script report x m y t g k row row' done f b z is between a here stand no_root log held given places =
     let after = after_push script (at_first script) f.blocks b ∙ here in
     let rows = a.rows_are ∙ between.rows_are in
-    let turns = sym (a.turns_are ∙ between.turns_are) in
     let own : m.book.script ≡ script = ap (λ (c : BookView). c.script) between.book_is ∙ is.book_is in
     record {
       script_is = ap arc_value (a.script_is ∙ between.script_is) ∙ is.script_is;
       book_is = a.book_is ∙ ap (λ (c : BookView). c.script) between.book_is ∙ is.book_is;
       none = a.none;
-      known = subst (λ (ts : TurnsMode). IsKnown ts script report) turns is.known;
       scripts = subst (λ (sc : ScriptView). AreOf sc y.tasks.items) own (a.scripts (subst (λ (sc : ScriptView). AreOf sc m.tasks.items) (sym own) (of_taken script x.tasks.items m.tasks.items t.0 is.scripts between.taken_out)));
       followed = record {
         blocks = f.blocks ++ b ∷ [];
@@ -227,7 +222,7 @@ replay_more script report x m y t g k row row' done f b z is between a here stan
         log_is = log ∙ ap (λ (c : Standing). c.log) (sym after);
         held_is = held ∙ ap (λ (c : Standing). c.held) (sym after);
         given = subst (λ (c : Standing). AreGiven c.jobs y.tasks.items) (sym after) given;
-        places = λ e q at. subst (λ (ts : TurnsMode). IsProgress ts script report (f.blocks ++ b ∷ []) e q) turns (places e q (ap (λ (qs : List ExecutorProgress). slice_get qs e) (sym rows) ∙ at));
+        places = λ e q at. places e q (ap (λ (qs : List ExecutorProgress). slice_get qs e) (sym rows) ∙ at);
         roots_are = filter_none root_in f.blocks b no_root ∙ f.roots_are ∙ ap (range_with_len 0) (sym (a.roots_are ∙ between.roots_are));
       };
     }
@@ -235,22 +230,20 @@ replay_more script report x m y t g k row row' done f b z is between a here stan
 pub followed_ran : (script : ScriptView) (report : ReportView) (x m y : Replay) (k : ℕ) (t : TaskId) (g : NextTurn) (env : Env) (row row' : ExecutorProgress) (done : FollowedTurn)
     → IsReplay script report x → Between x m t g k row row'
     → (life_of t.0 x.book.log).stage ≡ Some (Begun env) → IfRunning g.body.task.frames (λ q. actor_executor script (method_actor g.body.script q.method) ≡ k)
-    → FollowsRecord x.turns (journal_at report.journals k) row row' t g env done → Found report k → AppliesFollowed m y t done → IsReplay script report y
-followed_ran script report x m y k t g env row row' done is between begun_is on follows has a =
+    → FollowsRecord (journal_at report.journals k) row row' t g env done → AppliesFollowed m y t done → IsReplay script report y
+followed_ran script report x m y k t g env row row' done is between begun_is on follows a =
     let f = is.followed in
     let bs = f.blocks in
     let r = turn_of t g follows.worker follows.frame env (effect_views done.effects.items) (exit_view done.exit) follows.after in
     let turn = took script report x m y k t g env follows.frame follows.after row row' done f is.book_is between begun_is on follows.goes_on a in
     let place = f.places k row between.at in
-    let fields : ArePlayed x.turns → rows_of row'.fields.items ≡ fields_after script (rows_of row.fields.items) r =
-    λ are. subst (λ (sc : ScriptView). rows_of row'.fields.items ≡ fields_after sc (rows_of row.fields.items) r) turn.same (follows.fields are) in
-    let lawful = lawful_next x.turns script report bs k row.played r is.known has follows.there place.played
-    (λ are. subst (λ (rows : List (List ℤ)). IsLawfulRecord script rows r) (place.fields are) (subst (λ (sc : ScriptView). IsLawfulRecord sc (rows_of row.fields.items) r) turn.same (follows.lawful are))) in
-    let own = place_played x.turns script report bs k row row' r place follows.there fields follows.played follows.folded in
+    let fields = subst (λ (sc : ScriptView). rows_of row'.fields.items ≡ fields_after sc (rows_of row.fields.items) r) turn.same follows.fields in
+    let lawful = subst (λ (rows : List (List ℤ)). IsLawfulRecord script rows r) place.fields (subst (λ (sc : ScriptView). IsLawfulRecord sc (rows_of row.fields.items) r) turn.same follows.lawful) in
+    let own = place_played script report bs k row row' r place follows.there fields follows.played follows.folded in
     replay_more script report x m y t g k row row' done f (ran k r) _ is between a refl
     (stand_push script report.checkpoints bs (ran k r) f.stand (record { job = given_view t.0 g; stands = turn.stands; resume = refl; outer = refl; lawful = lawful }))
     refl turn.log_is turn.held_is turn.given
-    (places_set (IsProgress x.turns script report bs) (IsProgress x.turns script report (bs ++ ran k r ∷ [])) x.rows.items k row row' between.at own (others_played x.turns script report bs k r) f.places)
+    (places_set (IsProgress script report bs) (IsProgress script report (bs ++ ran k r ∷ [])) x.rows.items k row row' between.at own (others_played script report bs k r) f.places)
 
 pub followed_folded : (script : ScriptView) (report : ReportView) (x m y : Replay) (k : ℕ) (t : TaskId) (g : NextTurn) (env : Env) (row row' : ExecutorProgress) (done : FollowedTurn)
     → IsReplay script report x → Between x m t g k row row' → row.played ≡ 0
@@ -262,12 +255,12 @@ followed_folded script report x m y k t g env row row' done is between none begu
     let turn = folded_turn t g (effect_views done.effects.items) (exit_view done.exit) folds.after in
     let taken = took script report x m y k t g env folds.frame folds.after row row' done f is.book_is between begun_is on folds.goes_on a in
     let place = f.places k row between.at in
-    let own = place_folded x.turns script report bs k row row' turn place folds.there folds.fields folds.played folds.folded in
+    let own = place_folded script report bs k row row' turn place folds.there folds.fields folds.played folds.folded in
     let before = place.played ∙ ap (λ n. take n (journal_at report.journals k)) none in
     replay_more script report x m y t g k row row' done f (folded k turn) _ is between a refl
     (stand_push script report.checkpoints bs (folded k turn) f.stand (record { job = given_view t.0 g; env = env; frame = folds.frame; stands = taken.stands; leaves = folds.leaves }, before))
     refl taken.log_is taken.held_is taken.given
-    (places_set (IsProgress x.turns script report bs) (IsProgress x.turns script report (bs ++ folded k turn ∷ [])) x.rows.items k row row' between.at own (others_folded x.turns script report bs k turn) f.places)
+    (places_set (IsProgress script report bs) (IsProgress script report (bs ++ folded k turn ∷ [])) x.rows.items k row row' between.at own (others_folded script report bs k turn) f.places)
 
 -- a job whose task and rest stand apart
 view_is : (j : JobView BodyView) (t : TaskId) (g : NextTurn) → t ≡ j.task → g ≡ record { number = j.number; resume = j.resume; body = j.body } → given_view t.0 g ≡ job_facts j
@@ -277,7 +270,7 @@ view_is j t g at is = ap (λ (x : TaskId). given_view x.0 g) at ∙ ap (λ (h : 
 pub record Leaves (script : ScriptView) (report : ReportView) (x : Replay) (b : BookView) (tasks : List (Option NextTurn)) (roots : ℕ) : Type 0 where
   pub book_is : b.script ≡ script
   pub scripts : AreOf script tasks
-  pub followed : IsFollowed x.turns script report b.log b.held tasks x.rows.items roots
+  pub followed : IsFollowed script report b.log b.held tasks x.rows.items roots
 
 -- a root is added to the second book
 pub root_step : (script : ScriptView) (report : ReportView) (x : Replay) (b : BookView) (tasks : List (Option NextTurn)) (j : JobView BodyView) (t : TaskId) (g : NextTurn)
@@ -286,15 +279,15 @@ pub root_step : (script : ScriptView) (report : ReportView) (x : Replay) (b : Bo
     → Leaves script report x b tasks (x.roots + 1)
 root_step script report x b tasks j t g is ok may job of at made put =
     let own = x.book.script in
-    let before : IsFollowed x.turns own report x.book.log x.book.held x.tasks.items x.rows.items x.roots =
-    subst (λ (sc : ScriptView). IsFollowed x.turns sc report x.book.log x.book.held x.tasks.items x.rows.items x.roots) (sym is.book_is) is.followed in
+    let before : IsFollowed own report x.book.log x.book.held x.tasks.items x.rows.items x.roots =
+    subst (λ (sc : ScriptView). IsFollowed sc report x.book.log x.book.held x.tasks.items x.rows.items x.roots) (sym is.book_is) is.followed in
     let view = view_is j t g at made ∙ job in
-    let more = followed_root x.turns own report x.book.log x.book.held x.tasks.items tasks x.rows.items x.roots t g before may view (ap (λ (v : JobFacts). v.task) view) put in
+    let more = followed_root own report x.book.log x.book.held x.tasks.items tasks x.rows.items x.roots t g before may view (ap (λ (v : JobFacts). v.task) view) put in
     record {
       book_is = ap (λ (c : BookView). c.script) ok ∙ is.book_is;
       scripts = of_put script x.tasks.items tasks t.0 g is.scripts put (ap (λ (h : NextTurn). h.body.script) made ∙ of.script_is ∙ is.book_is);
-      followed = subst (λ (c : BookView). IsFollowed x.turns script report c.log c.held tasks x.rows.items (x.roots + 1)) (sym ok)
-          (subst (λ (sc : ScriptView). IsFollowed x.turns sc report (x.book.log ++ root_events own x.roots) x.book.held tasks x.rows.items (x.roots + 1)) is.book_is more);
+      followed = subst (λ (c : BookView). IsFollowed script report c.log c.held tasks x.rows.items (x.roots + 1)) (sym ok)
+          (subst (λ (sc : ScriptView). IsFollowed sc report (x.book.log ++ root_events own x.roots) x.book.held tasks x.rows.items (x.roots + 1)) is.book_is more);
     }
 
 -- a turn begins in the second book
@@ -306,21 +299,21 @@ pub begin_step : (script : ScriptView) (report : ReportView) (x : Replay) (b : B
     → Leaves script report x b tasks x.roots
 begin_step script report x b between tasks j t t' g h env is was job ok may given at made took put =
     let own = x.book.script in
-    let before : IsFollowed x.turns own report x.book.log x.book.held x.tasks.items x.rows.items x.roots =
-    subst (λ (sc : ScriptView). IsFollowed x.turns sc report x.book.log x.book.held x.tasks.items x.rows.items x.roots) (sym is.book_is) is.followed in
+    let before : IsFollowed own report x.book.log x.book.held x.tasks.items x.rows.items x.roots =
+    subst (λ (sc : ScriptView). IsFollowed sc report x.book.log x.book.held x.tasks.items x.rows.items x.roots) (sym is.book_is) is.followed in
     let task = at ∙ ap (λ (k : JobView BodyView). k.task) job in
     let same : h ≡ g = made ∙ ap (λ (k : JobView BodyView). record { number = k.number; resume = k.resume; body = k.body }) job in
     let back : (u : ℕ) → given_at tasks u ≡ with_given t.0 (Some g) (given_at between) u =
     λ u. put u ∙ ap (λ (v : TaskId). with_given v.0 (Some h) (given_at between) u) task ∙ ap (λ (v : NextTurn). with_given t.0 (Some v) (given_at between) u) same in
     let may' = subst (λ (k : JobView BodyView). refusal_of_begin own x.book.log k ≡ None) job may in
     let given' = subst (λ (k : JobView BodyView). IsEnv (root_count own) k.task x.book.log env) job given in
-    let more = followed_begin x.turns own report x.book.log x.book.held x.tasks.items between tasks x.rows.items x.roots t g env before was may' given' took back in
+    let more = followed_begin own report x.book.log x.book.held x.tasks.items between tasks x.rows.items x.roots t g env before was may' given' took back in
     let ok' = ok ∙ ap (λ (k : JobView BodyView). record x.book { log = x.book.log ++ Begin k.task k.number env ∷ [] }) job in
     record {
       book_is = ap (λ (c : BookView). c.script) ok ∙ is.book_is;
       scripts = of_put script between tasks t.0 g (of_taken script x.tasks.items between t.0 is.scripts took) back (is.scripts t.0 g was);
-      followed = subst (λ (c : BookView). IsFollowed x.turns script report c.log c.held tasks x.rows.items x.roots) (sym ok')
-          (subst (λ (sc : ScriptView). IsFollowed x.turns sc report (x.book.log ++ Begin t g.number env ∷ []) x.book.held tasks x.rows.items x.roots) is.book_is more);
+      followed = subst (λ (c : BookView). IsFollowed script report c.log c.held tasks x.rows.items x.roots) (sym ok')
+          (subst (λ (sc : ScriptView). IsFollowed sc report (x.book.log ++ Begin t g.number env ∷ []) x.book.held tasks x.rows.items x.roots) is.book_is more);
     }
 
 -- an answer that holds so holds otherwise too

@@ -21,10 +21,6 @@ pub record IsReplayed (script : ScriptView) (e : ℕ) (journal : List RecordView
   pub runs : RunOn script e journal
   pub replayed : fields ≡ replay script checkpoint.fields journal
 
--- each executor of a report is
-abbrev pub EachIsReplayed : ScriptView → ReportView → Type 0
-EachIsReplayed script report = (e : ℕ) (journal : List RecordView) (checkpoint : CheckpointView) (fields : List (List ℤ)) → HasExecutor report e journal checkpoint fields → IsReplayed script e journal checkpoint fields
-
 -- each executor of a legal report is
 abbrev pub LegalIsReplayed : Type 0
 LegalIsReplayed = (script : ScriptView) (report : ReportView) (e : ℕ) (journal : List RecordView) (checkpoint : CheckpointView) (fields : List (List ℤ))

@@ -22,20 +22,7 @@ use Rattle.swift_turn.specs.Body.{BodyView, HasFrames, IfRunning}
 use Rattle.swift_certificate.specs.declared.waiting.NextTurn.{NextTurn}
 use Rattle.swift_certificate.specs.declared.playing.FollowedTurn.{FollowedTurn}
 use Rattle.swift_certificate.specs.declared.playing.ExecutorProgress.{ExecutorProgress}
-use Rattle.swift_certificate.specs.declared.playing.TurnsMode.{TurnsMode}
-use Rattle.swift_certificate.specs.declared.playing.TurnsMode.TheVariants.{Play, Read}
 use Rattle.swift_certificate.specs.declared.replay.Replay.{Replay}
-use Rattle.swift_certificate.specs.Laws.{EachIsReplayed}
-
--- the turns of journals are played again
-abbrev pub ArePlayed : TurnsMode → Type 0
-ArePlayed Play = Unit {0}
-ArePlayed Read = ⊥
-
--- what is known of a report beforehand, where its turns are not played
-abbrev pub IsKnown : TurnsMode → ScriptView → ReportView → Type 0
-IsKnown Play script report = Unit {0}
-IsKnown Read script report = EachIsReplayed script report
 
 -- what the next turn of a task begins with, where it is there
 abbrev pub given_at : List (Option NextTurn) → ℕ → Option NextTurn
@@ -98,15 +85,15 @@ turn_of task g worker p env effects exit after = record {
 abbrev pub folded_turn : TaskId → NextTurn → List EffectView → ExitView → Option FrameView → FoldedView
 folded_turn task g effects exit after = record { task = task.0; number = g.number; exit = exit; effects = effects; after = after }
 
--- A turn is the next one of the journal. Where turns are played, it is what the fields give, and these are followed.
-pub record FollowsRecord (turns : TurnsMode) (journal : List RecordView) (old new : ExecutorProgress) (task : TaskId) (ready : NextTurn) (env : Env) (done : FollowedTurn) : Type 0 where
+-- A turn is the next one of the journal, and what the fields give, which are followed.
+pub record FollowsRecord (journal : List RecordView) (old new : ExecutorProgress) (task : TaskId) (ready : NextTurn) (env : Env) (done : FollowedTurn) : Type 0 where
   pub worker : ℕ
   pub frame : FrameView
   pub after : Option FrameView
   pub there : slice_get journal old.played ≡ Some (turn_of task ready worker frame env (effect_views done.effects.items) (exit_view done.exit) after)
   pub goes_on : GoesOn ready done.ready frame (effect_views done.effects.items) after
-  pub lawful : ArePlayed turns → IsLawfulRecord ready.body.script (rows_of old.fields.items) (turn_of task ready worker frame env (effect_views done.effects.items) (exit_view done.exit) after)
-  pub fields : ArePlayed turns → rows_of new.fields.items ≡ fields_after ready.body.script (rows_of old.fields.items) (turn_of task ready worker frame env (effect_views done.effects.items) (exit_view done.exit) after)
+  pub lawful : IsLawfulRecord ready.body.script (rows_of old.fields.items) (turn_of task ready worker frame env (effect_views done.effects.items) (exit_view done.exit) after)
+  pub fields : rows_of new.fields.items ≡ fields_after ready.body.script (rows_of old.fields.items) (turn_of task ready worker frame env (effect_views done.effects.items) (exit_view done.exit) after)
   pub played : new.played ≡ old.played + 1
   pub folded : new.folded ≡ old.folded
 
@@ -125,38 +112,37 @@ pub record Folds (checkpoint : CheckpointView) (old new : ExecutorProgress) (tas
 abbrev pub journal_at : List (List RecordView) → ℕ → List RecordView
 journal_at journals e = unwrap_or (slice_get journals e) []
 
--- An executor was followed so far: its fields, where turns are played, and the first turns of its checkpoint and of its journal.
-pub record IsProgress (turns : TurnsMode) (script : ScriptView) (report : ReportView) (blocks : List Block) (e : ℕ) (row : ExecutorProgress) : Type 0 where
-  pub fields : ArePlayed turns → rows_of row.fields.items ≡ fields_of script report.checkpoints e blocks
+-- An executor was followed so far: its fields, and the first turns of its checkpoint and of its journal.
+pub record IsProgress (script : ScriptView) (report : ReportView) (blocks : List Block) (e : ℕ) (row : ExecutorProgress) : Type 0 where
+  pub fields : rows_of row.fields.items ≡ fields_of script report.checkpoints e blocks
   pub folded : folded_of e blocks ≡ take row.folded (checkpoint_at report.checkpoints e).folded
   pub played : records_of e blocks ≡ take row.played (journal_at report.journals e)
 
 -- A history was followed so far: it wrote this log, and leads to these tasks and places.
-pub record IsFollowed (turns : TurnsMode) (script : ScriptView) (report : ReportView) (log : List Event) (held : List (Option WaitingTaskView)) (tasks : List (Option NextTurn)) (rows : List ExecutorProgress) (roots : ℕ) : Type 0 where
+pub record IsFollowed (script : ScriptView) (report : ReportView) (log : List Event) (held : List (Option WaitingTaskView)) (tasks : List (Option NextTurn)) (rows : List ExecutorProgress) (roots : ℕ) : Type 0 where
   pub blocks : List Block
   pub stand : AllStand script report.checkpoints [] blocks
   pub log_is : log ≡ (after_blocks script (at_first script) blocks).log
   pub held_is : held ≡ (after_blocks script (at_first script) blocks).held
   pub given : AreGiven (after_blocks script (at_first script) blocks).jobs tasks
-  pub places : (e : ℕ) (row : ExecutorProgress) → slice_get rows e ≡ Some row → IsProgress turns script report blocks e row
+  pub places : (e : ℕ) (row : ExecutorProgress) → slice_get rows e ≡ Some row → IsProgress script report blocks e row
   pub roots_are : roots_of blocks ≡ range_with_len 0 roots
 
 -- no turn was followed
-abbrev pub IsFirstProgress : TurnsMode → CheckpointRoomView → ExecutorProgress → Type 0
-IsFirstProgress turns c row = (ArePlayed turns → rows_of row.fields.items ≡ c.view.fields) × (row.folded ≡ 0) × (row.played ≡ 0)
+abbrev pub IsFirstProgress : CheckpointRoomView → ExecutorProgress → Type 0
+IsFirstProgress c row = (rows_of row.fields.items ≡ c.view.fields) × (row.folded ≡ 0) × (row.played ≡ 0)
 
-abbrev pub AreFirstProgresses : TurnsMode → List CheckpointRoomView → List ExecutorProgress → Type 0
-AreFirstProgresses turns [] [] = Unit {0}
-AreFirstProgresses turns (c ∷ cs) (row ∷ rows) = IsFirstProgress turns c row × AreFirstProgresses turns cs rows
-AreFirstProgresses turns _ _ = ⊥
+abbrev pub AreFirstProgresses : List CheckpointRoomView → List ExecutorProgress → Type 0
+AreFirstProgresses [] [] = Unit {0}
+AreFirstProgresses (c ∷ cs) (row ∷ rows) = IsFirstProgress c row × AreFirstProgresses cs rows
+AreFirstProgresses _ _ = ⊥
 
 pub record IsReplay (script : ScriptView) (report : ReportView) (x : Replay) : Type 0 where
   pub script_is : arc_value x.script ≡ script
   pub book_is : x.book.script ≡ script
   pub none : x.jobs.items ≡ []
-  pub known : IsKnown x.turns script report
   pub scripts : AreOf script x.tasks.items
-  pub followed : IsFollowed x.turns script report x.book.log x.book.held x.tasks.items x.rows.items x.roots
+  pub followed : IsFollowed script report x.book.log x.book.held x.tasks.items x.rows.items x.roots
 
 -- the job of a task, where it has one, is of an actor of this executor
 pub record RunsAt (script : ScriptView) (tasks : List (Option NextTurn)) (t : TaskId) (k : ℕ) : Type 0 where
@@ -170,7 +156,6 @@ job_of task g = record { task = task; number = g.number; resume = g.resume; body
 -- What a turn did was applied to the second book.
 pub record AppliesFollowed (old new : Replay) (task : TaskId) (done : FollowedTurn) : Type 0 where
   pub script_is : new.script ≡ old.script
-  pub turns_are : new.turns ≡ old.turns
   pub book_is : new.book.script ≡ old.book.script
   pub none : new.jobs.items ≡ []
   pub rows_are : new.rows.items ≡ old.rows.items
@@ -182,15 +167,15 @@ pub record AppliesFollowed (old new : Replay) (task : TaskId) (done : FollowedTu
   pub given : (seen : ℕ → Option JobFacts) → AreGiven seen old.tasks.items → AreGiven (with_jobs jobs seen) new.tasks.items
   pub scripts : AreOf old.book.script old.tasks.items → AreOf old.book.script new.tasks.items
 
--- An executor was followed to its end, and has these fields there, where turns are played.
-pub record EndsAt (turns : TurnsMode) (script : ScriptView) (e : ℕ) (row : ExecutorProgress) (journal : List RecordView) (checkpoint : CheckpointView) (fields : List (List ℤ)) : Type 0 where
+-- An executor was followed to its end, and has these fields there.
+pub record EndsAt (script : ScriptView) (e : ℕ) (row : ExecutorProgress) (journal : List RecordView) (checkpoint : CheckpointView) (fields : List (List ℤ)) : Type 0 where
   pub played : row.played ≡ length journal
   pub folded : row.folded ≡ length checkpoint.folded
   pub start : checkpoint.folded ≡ [] → checkpoint.fields ≡ executor_start script e
-  pub fields_are : ArePlayed turns → rows_of row.fields.items ≡ fields
+  pub fields_are : rows_of row.fields.items ≡ fields
 
 -- each executor was
-pub record AreEndedAt (turns : TurnsMode) (script : ScriptView) (rows : List ExecutorProgress) (report : ReportView) : Type 0 where
+pub record AreEndedAt (script : ScriptView) (rows : List ExecutorProgress) (report : ReportView) : Type 0 where
   pub rows_many : length rows ≡ executor_count script
   pub many : (length report.journals ≡ executor_count script) × (length report.checkpoints ≡ executor_count script) × (length report.fields ≡ executor_count script)
-  pub each : (e : ℕ) (row : ExecutorProgress) (journal : List RecordView) (checkpoint : CheckpointView) (fields : List (List ℤ)) → slice_get rows e ≡ Some row → slice_get report.journals e ≡ Some journal → slice_get report.checkpoints e ≡ Some checkpoint → slice_get report.fields e ≡ Some fields → EndsAt turns script e row journal checkpoint fields
+  pub each : (e : ℕ) (row : ExecutorProgress) (journal : List RecordView) (checkpoint : CheckpointView) (fields : List (List ℤ)) → slice_get rows e ≡ Some row → slice_get report.journals e ≡ Some journal → slice_get report.checkpoints e ≡ Some checkpoint → slice_get report.fields e ≡ Some fields → EndsAt script e row journal checkpoint fields

@@ -13,7 +13,7 @@ ghost use Rattle.swift_history.specs.Histories.{IsLegal};
 ghost use Rattle.swift_certificate.specs.Reports.{report_view};
 ghost use Rattle.swift_certificate.specs.ReplayInside.{AreEndedAt, EndsAt, IsReplay};
 
-use crate::playing::{ExecutorProgress, TurnsMode};
+use crate::playing::ExecutorProgress;
 use crate::replay::Replay;
 use std::alloc::{AllocError, Global};
 use swift_events::{Event, Origin};
@@ -83,10 +83,9 @@ fn are_first_fields(
     Ok(are_same_fields(rows, &start))
 }
 
-// Whether an executor was followed to its end, and has these fields there, where turns are played.
+// Whether an executor was followed to its end, and has these fields there.
 fn is_ended(
     alloc: Global,
-    turns: TurnsMode,
     script: &Script,
     executor: usize,
     row: &ExecutorProgress,
@@ -95,7 +94,7 @@ fn is_ended(
     fields: &[Vec<i64>],
 ) -> Result<bool, AllocError>
     requires { executor < executor_count script.now }
-    ensures { IfOk result (λ yes. IsTrue yes → EndsAt turns script.now executor row.now journal.now checkpoint.now.view (rows_of fields.now)) }
+    ensures { IfOk result (λ yes. IsTrue yes → EndsAt script.now executor row.now journal.now checkpoint.now.view (rows_of fields.now)) }
 {
     if row.played != journal.len() || row.folded != checkpoint.len() {
         return Ok(false);
@@ -103,21 +102,17 @@ fn is_ended(
     if checkpoint.len() == 0 && !are_first_fields(alloc, script, executor, checkpoint.fields())? {
         return Ok(false);
     }
-    match turns {
-        TurnsMode::Play => Ok(are_same_fields(&row.fields, fields)),
-        TurnsMode::Read => Ok(true),
-    }
+    Ok(are_same_fields(&row.fields, fields))
 }
 
 // Whether each executor was.
 fn are_ended(
     alloc: Global,
-    turns: TurnsMode,
     script: &Script,
     rows: &[ExecutorProgress],
     report: &Report,
 ) -> Result<bool, AllocError>
-    ensures { IfOk result (λ yes. IsTrue yes → AreEndedAt turns script.now rows.now (report_view report.now)) }
+    ensures { IfOk result (λ yes. IsTrue yes → AreEndedAt script.now rows.now (report_view report.now)) }
 {
     let count = script.executor_count();
     if rows.len() != count
@@ -130,7 +125,6 @@ fn are_ended(
     for place in 0..count {
         let is_ended = is_ended(
             alloc,
-            turns,
             script,
             place,
             &rows[place],
@@ -202,6 +196,6 @@ impl Replay {
         {
             return Ok(false);
         }
-        are_ended(self.alloc, self.turns, &self.script, &self.rows, report)
+        are_ended(self.alloc, &self.script, &self.rows, report)
     }
 }

@@ -5,7 +5,7 @@
 mod ends;
 // What holds of each legal report.
 pub mod laws;
-// One turn, played again or taken from a journal or a checkpoint.
+// One turn, played again or taken from a checkpoint.
 mod playing;
 // A run that is followed along its log.
 mod replay;
@@ -14,4 +14,4 @@ mod waiting;
 // Whether a whole report is legal.
 mod whole;
 
-pub use whole::{legal, legal_if_replayed};
+pub use whole::legal;

@@ -1,4 +1,4 @@
-//! One turn, played again or taken from a journal or a checkpoint.
+//! One turn, played again or taken from a checkpoint.
 
 ghost use Rattle.std.specs.Prelude.{◌≡◌, ◌<◌, ◌↔◌, ◌+◌, count_by, IfOk, IfSome, IsTrue, None, ◌∷◌};
 ghost use Rattle.swift_interpreter.specs.Frames.{effect_view, effect_views, frame_view, frame_if};
@@ -7,7 +7,6 @@ ghost use Rattle.swift_journal.specs.Records.{frame_if_lent};
 ghost use Rattle.swift_history.specs.Histories.{IsLeft, LeavesFrame, left_as, makes_own, opens_group};
 ghost use Rattle.swift_script.specs.Scripts.{method_count};
 ghost use Rattle.swift_turn.specs.Body.{HasFirst, IsRunning, callers_of};
-ghost use Rattle.swift_certificate.specs.declared.playing.TurnsMode.TheVariants.{Play, Read};
 ghost use Rattle.swift_certificate.specs.ReplayInside.{Folds, FollowsRecord, IsAfterFrame, TakesFollowed};
 
 use crate::waiting::NextTurn;
@@ -18,17 +17,8 @@ use swift_journal::{Checkpoint, Folded, Journal, Record};
 use swift_turn::{Body, TurnOutcome, replay_turn};
 use swift_types::{Env, TaskId};
 
-/// What is done with the turns of journals.
-#[derive(Clone, Copy)]
-pub enum TurnsMode {
-    /// Each is played again.
-    Play,
-    /// They are known to be lawful. None is played, and fields are not followed.
-    Read,
-}
-
-/// How far an executor was followed: the fields of its actors, a list for each, where turns are played; and how many of its
-/// checkpoint's turns and of its journal's there were.
+/// How far an executor was followed: the fields of its actors, a list for each; and how many of its checkpoint's turns and of its
+/// journal's there were.
 #[derive(Drop)]
 pub struct ExecutorProgress {
     pub fields: Vec<Vec<i64>>,
@@ -132,9 +122,9 @@ fn settle(body: &mut Body, before: Frame, exit: &Exit, effects: &[Effect]) -> bo
     true
 }
 
-// Plays the next turn of an executor's journal again, from what its task's job gives. Nothing where the journal has another
-// turn there, or none.
-fn play(
+/// Plays the next turn of an executor's journal again, from what its task's job gives. Nothing where the journal has another
+/// turn there, or none.
+pub fn play(
     alloc: Global,
     row: &mut ExecutorProgress,
     journal: &Journal,
@@ -144,7 +134,7 @@ fn play(
     env: Env,
 ) -> Result<Option<FollowedTurn>, AllocError>
     requires running { IsRunning ready.body }
-    ensures { IfOk result (λ answer. IfSome answer (λ done. FollowsRecord Play journal.now row.old row.new task ready env done)) }
+    ensures { IfOk result (λ answer. IfSome answer (λ done. FollowsRecord journal.now row.old row.new task ready env done)) }
 {
     let place = row.played;
     if place >= journal.len() {
@@ -235,72 +225,6 @@ fn go_on(
         exit,
         effects,
     }))
-}
-
-// Takes the next turn of an executor's journal as it stands there. Nothing where the journal has a turn there that does not begin
-// with what its task's job gives, or none.
-fn read_turn(
-    alloc: Global,
-    row: &mut ExecutorProgress,
-    journal: &Journal,
-    scratch: &mut Journal,
-    task: TaskId,
-    ready: NextTurn,
-    env: Env,
-) -> Result<Option<FollowedTurn>, AllocError>
-    requires running { IsRunning ready.body }
-    ensures { IfOk result (λ answer. IfSome answer (λ done. FollowsRecord Read journal.now row.old row.new task ready env done)) }
-{
-    let place = row.played;
-    if place >= journal.len() {
-        return Ok(None);
-    }
-    let Folded {
-        task: _,
-        number: _,
-        exit,
-        effects,
-        after,
-    } = journal.read_folded(alloc, place)?;
-    let lent = after.as_ref();
-    let turn = Record {
-        task,
-        number: ready.number,
-        worker: journal.worker(place),
-        frame: ready.body.top(),
-        outer: ready.body.outer(),
-        resume: ready.resume,
-        env,
-        exit: &exit,
-        effects: &effects,
-        after: lent,
-    };
-    if !journal.has(place, &turn, scratch)? {
-        return Ok(None);
-    }
-    row.played += 1;
-    go_on(ready, exit, effects, after)
-}
-
-/// Takes the next turn of an executor's journal, and compares it with what its task's job gives: the whole turn, played again,
-/// or what it begins with. Nothing where the journal has another turn there, or none.
-pub fn next(
-    alloc: Global,
-    turns: TurnsMode,
-    row: &mut ExecutorProgress,
-    journal: &Journal,
-    scratch: &mut Journal,
-    task: TaskId,
-    ready: NextTurn,
-    env: Env,
-) -> Result<Option<FollowedTurn>, AllocError>
-    requires running { IsRunning ready.body }
-    ensures { IfOk result (λ answer. IfSome answer (λ done. FollowsRecord turns journal.now row.old row.new task ready env done)) }
-{
-    match turns {
-        TurnsMode::Play => play(alloc, row, journal, scratch, task, ready, env),
-        TurnsMode::Read => read_turn(alloc, row, journal, scratch, task, ready, env),
-    }
 }
 
 // Whether a turn of a frame, with these effects and this exit, can have left this frame.

@@ -8,9 +8,9 @@ ghost use Rattle.swift_events.specs.declared.life.JobStage.TheVariants.{Begun};
 ghost use Rattle.swift_events.specs.Lives.{life_of};
 ghost use Rattle.swift_turn.specs.Body.{IsRunning};
 ghost use Rattle.swift_certificate.specs.Reports.{report_view};
-ghost use Rattle.swift_certificate.specs.ReplayInside.{AppliesFollowed, AreFirstProgresses, ArePlayed, IsKnown, IsReplay, RunsAt};
+ghost use Rattle.swift_certificate.specs.ReplayInside.{AppliesFollowed, AreFirstProgresses, IsReplay, RunsAt};
 
-use crate::playing::{ExecutorProgress, FollowedTurn, TurnsMode, fold, next};
+use crate::playing::{ExecutorProgress, FollowedTurn, fold, play};
 use crate::waiting::{NextTurn, put, put_all, take};
 use std::alloc::{AllocError, Global};
 use std::sync::Arc;
@@ -29,7 +29,6 @@ use swift_types::{Env, RootId, TaskId};
 pub struct Replay {
     pub alloc: Global,
     pub script: Arc<Script>,
-    pub turns: TurnsMode,
     pub book: Book,
     // By the number of the task. A task that waits or has ended has none.
     pub tasks: Vec<Option<NextTurn>>,
@@ -54,32 +53,17 @@ fn copy_of(alloc: Global, rows: &[Vec<i64>]) -> Result<Vec<Vec<i64>>, AllocError
     Ok(copy)
 }
 
-// The fields that the turns of a journal are played on, where they are played: those of its checkpoint.
-fn first_fields(
-    alloc: Global,
-    turns: TurnsMode,
-    checkpoint: &Checkpoint,
-) -> Result<Vec<Vec<i64>>, AllocError>
-    ensures { IfOk result (λ fields. ArePlayed turns → rows_of fields.items ≡ checkpoint.now.view.fields) }
-{
-    match turns {
-        TurnsMode::Play => copy_of(alloc, checkpoint.fields()),
-        TurnsMode::Read => Ok(Vec::new(alloc)),
-    }
-}
-
 // No turn of any executor was followed.
 fn first_places(
     alloc: Global,
-    turns: TurnsMode,
     checkpoints: &[Checkpoint],
 ) -> Result<Vec<ExecutorProgress>, AllocError>
-    ensures { IfOk result (λ rows. AreFirstProgresses turns checkpoints.now rows.items) }
+    ensures { IfOk result (λ rows. AreFirstProgresses checkpoints.now rows.items) }
 {
     let mut rows = Vec::with_capacity(alloc, checkpoints.len())?;
     for checkpoint in checkpoints {
         rows.push(ExecutorProgress {
-            fields: first_fields(alloc, turns, checkpoint)?,
+            fields: copy_of(alloc, checkpoint.fields())?,
             folded: 0,
             played: 0,
         })?;
@@ -99,16 +83,10 @@ fn refuse(fault: BookFault) -> Result<bool, AllocError>
 
 impl Replay {
     /// Nothing of a report was followed.
-    pub fn new(
-        alloc: Global,
-        turns: TurnsMode,
-        script: &Arc<Script>,
-        report: &Report,
-    ) -> Result<Replay, AllocError>
-        requires { IsKnown turns (arc_value script.now) (report_view report.now) }
+    pub fn new(alloc: Global, script: &Arc<Script>, report: &Report) -> Result<Replay, AllocError>
         ensures { IfOk result (λ replay. IsReplay (arc_value script.now) (report_view report.now) replay) }
     {
-        let rows = first_places(alloc, turns, &report.checkpoints)?;
+        let rows = first_places(alloc, &report.checkpoints)?;
         let own = Arc::clone(script)?;
         let Ok(book) = Book::new(alloc, Arc::clone(script)?) else {
             return Err(AllocError);
@@ -116,7 +94,6 @@ impl Replay {
         Ok(Replay {
             alloc,
             script: own,
-            turns,
             book,
             tasks: Vec::new(alloc),
             rows,
@@ -244,7 +221,7 @@ impl Replay {
         }
     }
 
-    // A turn is compared with the next one of the journal.
+    // A turn is played again, and compared with the next one of the journal.
     fn journal_turn(
         &mut self,
         report: &Report,
@@ -257,8 +234,6 @@ impl Replay {
         requires begun { (life_of task.0 self.old.book.log).stage ≡ Some (Begun env) }
         requires place { place < length self.old.rows.items }
         requires journal { place < length report.now.journals.items }
-        requires checkpoint { place < length report.now.checkpoints.items }
-        requires fields { place < length report.now.fields.items }
         ensures script { self.new.script ≡ self.old.script }
         ensures follows { IfOk result (λ goes_on. IsTrue goes_on → IsReplay (arc_value self.old.script) (report_view report.now) self.new) }
     {
@@ -267,9 +242,8 @@ impl Replay {
         };
         let row = &mut self.rows[place];
         let journal = &report.journals[place];
-        let followed = next(
+        let followed = play(
             self.alloc,
-            self.turns,
             row,
             journal,
             &mut self.scratch,
@@ -298,7 +272,6 @@ impl Replay {
         if place >= self.rows.len()
             || place >= report.checkpoints.len()
             || place >= report.journals.len()
-            || place >= report.fields.len()
         {
             return Ok(false);
         }
@@ -328,7 +301,6 @@ impl Replay {
         let Replay {
             alloc: _,
             script: _,
-            turns: _,
             book,
             tasks: _,
             rows: _,

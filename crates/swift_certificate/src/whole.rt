@@ -3,11 +3,9 @@
 ghost use Rattle.std.specs.Prelude.{◌≡◌, IfOk, IsTrue};
 ghost use Rattle.std.specs.Arc.{arc_value};
 ghost use Rattle.swift_history.specs.Histories.{IsLegal};
-ghost use Rattle.swift_certificate.specs.Laws.{EachIsReplayed};
 ghost use Rattle.swift_certificate.specs.Reports.{report_view};
-ghost use Rattle.swift_certificate.specs.ReplayInside.{IsKnown, IsReplay};
+ghost use Rattle.swift_certificate.specs.ReplayInside.{IsReplay};
 
-use crate::playing::TurnsMode;
 use crate::replay::Replay;
 use std::alloc::{AllocError, Global};
 use std::sync::Arc;
@@ -25,35 +23,7 @@ use swift_script::Script;
 pub fn legal(alloc: Global, script: &Arc<Script>, report: &Report) -> Result<bool, AllocError>
     ensures { IfOk result (λ yes. IsTrue yes → IsLegal (arc_value script.now) (report_view report.now)) }
 {
-    walk(alloc, TurnsMode::Play, script, report)
-}
-
-/// Whether a report is legal, as `legal` says, where its executors are known to be replayed: each journal is lawful from its
-/// checkpoint on, and replaying it gives the fields, as executors leave them. No turn is played again, so it takes time and memory
-/// linear in the log, the journals and the endings alone: of each turn that is not folded, what it begins with is compared with what
-/// the task's job gives, and the frame after it is read. An `Err` says that a growth was refused.
-pub fn legal_if_replayed(
-    alloc: Global,
-    script: &Arc<Script>,
-    report: &Report,
-) -> Result<bool, AllocError>
-    requires { EachIsReplayed (arc_value script.now) (report_view report.now) }
-    ensures { IfOk result (λ yes. IsTrue yes → IsLegal (arc_value script.now) (report_view report.now)) }
-{
-    walk(alloc, TurnsMode::Read, script, report)
-}
-
-// Leads a second book along a report, and gives it up.
-fn walk(
-    alloc: Global,
-    turns: TurnsMode,
-    script: &Arc<Script>,
-    report: &Report,
-) -> Result<bool, AllocError>
-    requires { IsKnown turns (arc_value script.now) (report_view report.now) }
-    ensures { IfOk result (λ yes. IsTrue yes → IsLegal (arc_value script.now) (report_view report.now)) }
-{
-    let mut replay = Replay::new(alloc, turns, script, report)?;
+    let mut replay = Replay::new(alloc, script, report)?;
     let answer = follow(&mut replay, report);
     replay.close();
     answer

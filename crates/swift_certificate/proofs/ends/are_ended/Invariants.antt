@@ -10,4 +10,4 @@ use Rattle.swift_certificate.proofs.ends.are_ended.Given as goal
 abbrev pub invariant-loop-place : goal.invariant-loop-place
 invariant-loop-place l = (e : ℕ) (row : ExecutorProgress) (journal : List RecordView) (checkpoint : CheckpointView) (fields : List (List ℤ)) → e < l.place
     → slice_get l.rows e ≡ Some row → slice_get (report_view l.report).journals e ≡ Some journal → slice_get (report_view l.report).checkpoints e ≡ Some checkpoint → slice_get (report_view l.report).fields e ≡ Some fields
-    → EndsAt l.turns l.script e row journal checkpoint fields
+    → EndsAt l.script e row journal checkpoint fields

@@ -20,7 +20,6 @@ returns-in-Ok-clause-applies c = λ _.
     let put = c.in_ok-put_all-in-Ok.ensures in
     record {
       script_is = refl;
-      turns_are = refl;
       book_is = c.apply_known.ensures.script;
       none = put.none;
       rows_are = refl;

@@ -17,7 +17,7 @@ returns-in_ok-put-in-Ok-clause-follows c = λ yes.
     let was : given_at x.tasks.items c.args.task.0 ≡ Some c.in-Some.ready = sym c.take.ensures.found ∙ c.in-Some.is in
     let is = begin_step (arc_value x.script) (report_view c.args.report.now) x c.begin_known-begun.new.self c.take.new.tasks.items c.put.new.tasks.items c.into_job-job.result c.args.task c.from_job-ready.result.0 c.in-Some.ready c.from_job-ready.result.1 c.in-Ok.field-0
     c.requires was c.into_job-job.ensures (search rules) (search rules) (search rules) made.task made.ready c.take.ensures.rest c.in_ok-put-in-Ok.ensures in
-    record { script_is = c.requires.script_is; book_is = is.book_is; none = c.requires.none; known = c.requires.known; scripts = is.scripts; followed = is.followed })
+    record { script_is = c.requires.script_is; book_is = is.book_is; none = c.requires.none; scripts = is.scripts; followed = is.followed })
 
 pub returns-in_ok-put-in-Ok-clause-begun : goal.returns-in_ok-put-in-Ok-clause-begun
 returns-in_ok-put-in-Ok-clause-begun c = λ yes.

@@ -23,5 +23,5 @@ returns-in-Some-folded-clause-follows c =
     let here = subst (λ o. IfSome o (λ d. Folds checkpoint.view row c.fold.new.row c.args.task ready d)) c.in-Some-folded.is c.in_ok-folded.ensures in
     let folds = subst (λ (v : _). Folds v row c.fold.new.row c.args.task ready done) (sym (checkpoint_is c.args.report.now.checkpoints.items k checkpoint c.requires.there c.index.ensures)) here in
     map_ok c.apply.result _ _ (λ goes_on applied yes. followed_folded (arc_value x.script) (report_view c.args.report.now) x _ c.apply.new.self k c.args.task ready c.args.env row c.fold.new.row done
-    c.requires.replay (record { script_is = refl; turns_are = refl; book_is = refl; roots_are = refl; rows_are = refl; at = at; was = was; taken_out = c.take.ensures.rest }) none
+    c.requires.replay (record { script_is = refl; book_is = refl; roots_are = refl; rows_are = refl; at = at; was = was; taken_out = c.take.ensures.rest }) none
     c.requires.begun (c.requires.runs.on ready was) folds (applied yes)) c.apply.ensures.applies

@@ -1,10 +1,8 @@
-use Rattle.std.proofs.Common.{◌∙◌, ◌<◌, ℕ, IfSome, sym, subst, refl}
-use Rattle.std.proofs.lemmas.List.{length-map}
+use Rattle.std.proofs.Common.{◌∙◌, IfSome, sym, subst, refl}
 use Rattle.std.proofs.lemmas.Option.{slice_get_read}
 use Rattle.std.specs.Arc.{arc_value}
 use Rattle.swift_certificate.specs.Reports.{report_view}
 use Rattle.swift_certificate.specs.ReplayInside.{FollowsRecord}
-use Rattle.swift_certificate.proofs.Known.{found}
 use Rattle.swift_certificate.proofs.Steps.{followed_ran, journal_is, map_ok}
 use Rattle.swift_certificate.proofs.replay.Replay.journal_turn.Goals as goal
 
@@ -21,9 +19,8 @@ returns-in-Some-followed-clause-follows c =
     let ready = c.in-Some.ready in
     let was = sym c.take.ensures.found ∙ c.in-Some.is in
     let at = slice_get_read x.rows.items _ k row refl c.requires.place c.index_mut-row.ensures.value in
-    let here = subst (λ o. IfSome o (λ d. FollowsRecord x.turns journal row c.next.new.row c.args.task ready c.args.env d)) c.in-Some-followed.is c.in_ok-followed.ensures in
-    let follows = subst (λ (rs : _). FollowsRecord x.turns rs row c.next.new.row c.args.task ready c.args.env done) (sym (journal_is c.args.report.now.journals.items k journal c.requires.journal c.index-journal.ensures)) here in
-    let has = found (report_view c.args.report.now) k c.requires.journal (subst (λ (n : ℕ). k < n) (sym (length-map _ _)) c.requires.checkpoint) (subst (λ (n : ℕ). k < n) (sym (length-map _ _)) c.requires.fields) in
-    map_ok c.apply.result _ _ (λ goes_on applied yes. followed_ran (arc_value x.script) (report_view c.args.report.now) x _ c.apply.new.self k c.args.task ready c.args.env row c.next.new.row done
-    c.requires.replay (record { script_is = refl; turns_are = refl; book_is = refl; roots_are = refl; rows_are = refl; at = at; was = was; taken_out = c.take.ensures.rest })
-    c.requires.begun (c.requires.runs.on ready was) follows has (applied yes)) c.apply.ensures.applies
+    let here = subst (λ o. IfSome o (λ d. FollowsRecord journal row c.play.new.row c.args.task ready c.args.env d)) c.in-Some-followed.is c.in_ok-followed.ensures in
+    let follows = subst (λ (rs : _). FollowsRecord rs row c.play.new.row c.args.task ready c.args.env done) (sym (journal_is c.args.report.now.journals.items k journal c.requires.journal c.index-journal.ensures)) here in
+    map_ok c.apply.result _ _ (λ goes_on applied yes. followed_ran (arc_value x.script) (report_view c.args.report.now) x _ c.apply.new.self k c.args.task ready c.args.env row c.play.new.row done
+    c.requires.replay (record { script_is = refl; book_is = refl; roots_are = refl; rows_are = refl; at = at; was = was; taken_out = c.take.ensures.rest })
+    c.requires.begun (c.requires.runs.on ready was) follows (applied yes)) c.apply.ensures.applies

@@ -17,7 +17,6 @@ returns c =
       script_is = search rules;
       book_is = ap (λ (b : BookView). b.script) empty;
       none = search rules;
-      known = c.requires;
       scripts = λ t g is. absurd (none-some g (ap (λ (gs : List (Option NextTurn)). given_at gs t) (sym c.new-2.ensures.items) ∙ is));
-      followed = first_followed c.args.turns script (report_view c.args.report.now) c.args.report.now.checkpoints.items c.in_ok-rows.rows.items c.in-Ok.book c.new-2.result.items c.new-2.ensures.items refl (search rules) empty;
+      followed = first_followed script (report_view c.args.report.now) c.args.report.now.checkpoints.items c.in_ok-rows.rows.items c.in-Ok.book c.new-2.result.items c.new-2.ensures.items refl (search rules) empty;
     }

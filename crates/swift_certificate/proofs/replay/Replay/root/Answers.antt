@@ -16,7 +16,6 @@ returns-in_ok-put-in-Ok-clause-follows c = λ yes.
       script_is = c.requires.script_is;
       book_is = is.book_is;
       none = c.requires.none;
-      known = c.requires.known;
       scripts = is.scripts;
-      followed = subst (λ (n : ℕ). IsFollowed x.turns (arc_value x.script) (report_view c.args.report.now) c.add_root.new.self.log c.add_root.new.self.held c.put.new.tasks.items x.rows.items n) (sym next) is.followed;
+      followed = subst (λ (n : ℕ). IsFollowed (arc_value x.script) (report_view c.args.report.now) c.add_root.new.self.log c.add_root.new.self.held c.put.new.tasks.items x.rows.items n) (sym next) is.followed;
     })
