@@ -9,7 +9,7 @@ SOURCES = $(shell find crates -name out -prune -o \( -name '*.rt' -o -name '*.an
 # whatever comes of it.
 SCRIPTS = $(SCRIPT)
 try:
-	@tools/try.py $(if $(COMMAND),--command "$(COMMAND)") $(call scripts,$(SCRIPTS)) -- $(ARGS) || true
+	@tools/try.py $(if $(COMMAND),--command="$(COMMAND)") $(call scripts,$(SCRIPTS)) -- $(ARGS) || true
 
 # The scripts of a command: none where it takes none, as explain.
 scripts = $(if $(filter explain -%,$(firstword $(COMMAND))),,$(1))

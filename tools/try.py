@@ -2,7 +2,7 @@
 """Runs scripts without a proof, with a program that is built once, and kept until a source changes.
 
     tools/try.py SCRIPT.. [-- ARGUMENT..]                           swiftrun, with these arguments, as --workers 4
-    tools/try.py --command "WORD.." [SCRIPT..] [-- ARGUMENT..]      nuchapay WORD.. SCRIPT ARGUMENT.., once for each script, or without one
+    tools/try.py --command="WORD.." [SCRIPT..] [-- ARGUMENT..]      nuchapay WORD.. SCRIPT ARGUMENT.., once for each script, or without one
 
 A script that is `-` is standard input. The kit builds the program in a folder of its own and runs it there; from there it is kept, as
 out/try/NAME-SUM, with the sum of all that the build reads. Where that folder cannot be written, the program is kept for this time alone.
@@ -11,6 +11,7 @@ unless the program was not built or did not end. Status 0 where the program ran,
 """
 import argparse
 import contextlib
+import errno
 import fcntl
 import glob
 import hashlib
@@ -72,7 +73,7 @@ def take(folder, taken):
 
 def build(name, folder):
     """Builds a program below a folder. Where it is then; nothing where the kit has left none."""
-    say(f"builds {name} without a proof, in a minute or two; it is kept until a source changes")
+    say(f"builds {name}, in a minute or two")
     taken = os.path.join(folder, name)
     words = ["rt", "try", "--steps", "1", *(["--", "run", "-"] if name == "nuchapay" else [])]
     how = {"cwd": os.path.join(TOP, "crates", name), "env": {**os.environ, "TMPDIR": folder}}
@@ -100,6 +101,8 @@ def kept_folder(name):
     """A folder that programs are kept in, while nobody else builds this one there; nothing where none can be made."""
     try:
         os.makedirs(KEPT, exist_ok=True)
+        if not os.access(KEPT, os.W_OK):
+            raise PermissionError(errno.EACCES, os.strerror(errno.EACCES))
         lock = open(os.path.join(KEPT, name + ".lock"), "wb")
     except OSError as error:
         say(f"{os.path.relpath(KEPT, TOP)} cannot be written ({error.strerror}), so the program is not kept")
@@ -142,8 +145,11 @@ def open_program(name):
             shutil.rmtree(left, ignore_errors=True)
         with tempfile.TemporaryDirectory(prefix=name + ".build-", dir=kept) as folder:
             program, built = open_built(name, folder)
-            if built and kept and key(name) == sum_before:
-                keep(name, built, path)
+            if built and kept:
+                if key(name) == sum_before:
+                    keep(name, built, path)
+                else:
+                    say("a source has changed meanwhile, so this program is not kept")
     return program
 
 
@@ -159,7 +165,10 @@ def run_kept(program, name, words, scripts, arguments):
             with given as file:
                 ran = subprocess.run(line, executable=opened, pass_fds=[program], stdin=file, check=False)
         except OSError as error:
-            os.remove(os.readlink(opened))
+            if error.errno not in (errno.ENOEXEC, errno.EACCES):
+                raise
+            with contextlib.suppress(OSError):
+                os.remove(os.readlink(opened))
             sys.exit(f"make try: {name} cannot be started ({error.strerror}): it is removed, and will be built again")
         if ran.returncode not in STATUSES:
             say(f"{name} ended with {'status' if ran.returncode > 0 else 'signal'} {abs(ran.returncode)}")
@@ -232,7 +241,7 @@ def run():
     except KeyboardInterrupt:
         sys.exit(128 + signal.SIGINT)
     except OSError as error:
-        sys.exit(f"make try: {error.filename}: {error.strerror}")
+        sys.exit(f"make try: {error.filename or 'a call'}: {error.strerror}")
     except subprocess.CalledProcessError as error:
         sys.exit(f"make try: {error}")
 
