@@ -4,11 +4,15 @@ DAILY = crates/nuchapay/out/nuchapay
 CASES = crates/test_cases/out/test_cases
 SOURCES = $(shell find crates -name out -prune -o \( -name '*.rt' -o -name '*.antt' \) -print)
 
-# Runs scripts without a proof: make try SCRIPTS="examples/account.actors examples/group.actors" ARGS="--workers 4". Status 0, whatever comes
-# of it.
+# Runs scripts without a proof, with a program that is kept until a source changes: make try SCRIPTS="examples/account.actors -"
+# ARGS="--workers 4", where - is standard input. With a command it is nuchapay's: make try COMMAND=why SCRIPTS=FILE ARGS=t1.1. Status 0,
+# whatever comes of it.
 SCRIPTS = $(SCRIPT)
 try:
-	@tools/try.py $(SCRIPTS) -- $(ARGS) || true
+	@tools/try.py $(if $(COMMAND),--command="$(COMMAND)") $(call scripts,$(SCRIPTS)) -- $(ARGS) || true
+
+# The scripts of a command: none where it takes none, as explain.
+scripts = $(if $(filter explain -%,$(firstword $(COMMAND))),,$(1))
 
 # Proves a program and what it stands on, and builds it.
 define program
@@ -22,6 +26,11 @@ $(eval $(call program,test_cases))
 # Runs a script with the proved program. Status 0 once that is built, whatever comes of the script.
 run: $(PROGRAM)
 	@if [ -r $(SCRIPT) ]; then $(PROGRAM) $(ARGS) < $(SCRIPT) || true; else echo 'make run: $(SCRIPT) cannot be read' >&2; fi
+
+# Runs a command with the proved nuchapay: make nuchapay COMMAND=explore SCRIPT=FILE ARGS="--limit 9". Status 0 once that is built, whatever
+# comes of it.
+nuchapay: $(DAILY)
+	@$(DAILY) $(or $(COMMAND),run) $(call scripts,$(SCRIPT)) $(ARGS) || true
 
 # The gate.
 test:
@@ -66,7 +75,7 @@ marks: $(DAILY)
 reports: $(DAILY)
 	@tools/reports.py $(DAILY)
 
-# Puts both programs, the examples and the manual page into PREFIX: make install PREFIX=~/.local
+# Puts both programs, the examples, the manual page, the completions and what editors have into PREFIX: make install PREFIX=~/.local
 PREFIX = /usr/local
 install: $(PROGRAM) $(DAILY)
 	@tools/install.sh "$(DESTDIR)$(PREFIX)"
@@ -88,8 +97,12 @@ believe:
 cases:
 	@tools/cases.py
 
+# Tests tools that no proof has to do with: make try, the colours of editors, and the completions of shells.
+tools:
+	@cd tools && python3 -B -m unittest -q try_test editors_test completions_test
+
 # Measures, and asserts nothing: builds both programs, and prints tables.
 bench: $(PROGRAM) $(CASES)
 	@python3 bench/run.py
 
-.PHONY: try run test prove planted mutants examples limits pages marks reports swift install refusals links believe cases bench
+.PHONY: try run nuchapay test prove planted mutants examples limits pages marks reports swift install refusals links believe cases tools bench

@@ -1,0 +1,55 @@
+# What bash completes after nuchapay, written by tools/completions.py.
+_nuchapay() {
+    local word=${COMP_WORDS[COMP_CWORD]} before=${COMP_WORDS[COMP_CWORD - 1]} each at place=0 words='' files=''
+    local command=''
+    if [[ $word == = ]]; then word=''; elif [[ $before == = ]]; then before=${COMP_WORDS[COMP_CWORD - 2]}; fi
+    for ((at = 1; at < COMP_CWORD; at++)); do
+        each=${COMP_WORDS[at]}
+        case $each in
+            --workers | --format | --color | --limit | --schedule) if [[ ${COMP_WORDS[at + 1]} == = ]]; then ((at += 2)); else ((at++)); fi ;;
+            -?*) ;;
+            *) if [[ -z $command ]]; then command=$each; else ((place++)); fi ;;
+        esac
+    done
+    case $command:$before in
+        run:--workers) words='1 2 3 4 5 6 7 8' ;;
+        run:--format) words='text json' ;;
+        why:--workers) words='1 2 3 4 5 6 7 8' ;;
+        check:--color) words='always never' ;;
+        show:--workers) words='1 2 3 4 5 6 7 8' ;;
+        show:--format) words='svg trace' ;;
+        explore:--limit) words='' ;;
+        explore:--schedule) words='' ;;
+        *)
+            case $command:$word:$place in
+                :-*) words='--version --help' ;;
+                :*:0) words='run why check explain print show swift explore help' ;;
+                run:-*) words='--workers --quiet --values --format --help' ;;
+                run:*:0) files='*.actors' ;;
+                why:-*) words='--workers --help' ;;
+                why:*:0) files='*.actors' ;;
+                check:-*) words='--color --help' ;;
+                check:*:0) files='*.actors' ;;
+                explain:-*) words='--help' ;;
+                explain:*:0) words='S1 S2 S3 S4 S5 S6 S7 S8 S9 S10 S11 S12 S13 S14 N1 N2 N3 N4 N5 thrown cancelled invariant overflow steps tasks isolation empty depth turns' ;;
+                print:-*) words='--pretty --help' ;;
+                print:*:0) files='*.actors' ;;
+                show:-*) words='--workers --format --help' ;;
+                show:*:0) files='*.actors' ;;
+                swift:-*) words='--help' ;;
+                swift:*:0) files='*.actors' ;;
+                explore:-*) words='--limit --schedule --help' ;;
+                explore:*:0) files='*.actors' ;;
+                help:-*) words='--help' ;;
+                help:*:0) words='run why check explain print show swift explore help' ;;
+            esac
+            ;;
+    esac
+    if [[ $files ]]; then
+        compopt -o filenames 2>/dev/null
+        mapfile -t COMPREPLY < <(compgen -f -X "!$files" -- "$word"; compgen -d -- "$word")
+    else
+        mapfile -t COMPREPLY < <(compgen -W "$words" -- "$word")
+    fi
+}
+complete -F _nuchapay nuchapay

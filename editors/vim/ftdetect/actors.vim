@@ -1,0 +1,2 @@
+" Scripts of Nuchapay.
+autocmd BufNewFile,BufRead *.actors setfiletype actors

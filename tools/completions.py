@@ -1,0 +1,267 @@
+#!/usr/bin/env python3
+"""Writes what shells complete for both programs: completions/ has it for bash, zsh and fish.
+
+    tools/completions.py --write
+
+COMMANDS says what the programs take. Its texts are those of `--help`; tools/completions_test.py compares them, and the files.
+"""
+import os
+import sys
+from typing import NamedTuple
+
+TOP = os.path.dirname(os.path.dirname(os.path.abspath(__file__)))
+FOLDER = os.path.join(TOP, "completions")
+
+
+class Option(NamedTuple):
+    """An argument that begins with `--`. One without a value is a flag; the value FILE is any file."""
+
+    name: str
+    text: str
+    value: str = ""
+    words: tuple[str, ...] = ()  # what its value may be, where that is one of a few words
+
+
+class Command(NamedTuple):
+    """A command of a program, or a program that has none. Operands are as `--help` shows them: `[FILE]` may be missing."""
+
+    name: str
+    text: str
+    operands: tuple[str, ...]
+    options: tuple[Option, ...] = ()
+
+
+class Program(NamedTuple):
+    name: str
+    itself: Command  # what it takes before a command, or where it has none
+    commands: tuple[Command, ...] = ()
+
+
+WORKERS = Option("workers", "Runs the tasks on N threads, from 1 to 8", "N", tuple("12345678"))
+QUIET = Option("quiet", "Leaves the journals out of the report")
+# Refusals of scripts and of runs, and the words of faults.
+TOPICS = (
+    *(f"S{number}" for number in range(1, 15)),
+    *(f"N{number}" for number in range(1, 6)),
+    *"thrown cancelled invariant overflow steps tasks isolation empty depth turns".split(),
+)
+
+NUCHAPAY = (
+    Command(
+        "run", "Runs a script, and prints the journal of each executor, how each task ended, and the fields", ("[FILE]",),
+        (
+            WORKERS,
+            QUIET,
+            Option("values", "Says below each turn which fields it changed"),
+            Option("format", "Prints the report as text, or as JSON", "FORMAT", ("text", "json")),
+        ),
+    ),
+    Command(
+        "why", "Runs a script, and explains one of its turns: what it began with, what it did to the fields, and who changed them meanwhile",
+        ("<FILE>", "<TURN>"), (WORKERS,),
+    ),
+    Command(
+        "check", "Says whether a script is accepted; else why not, where, and what to do", ("[FILE]",),
+        (Option("color", "Colours what is said of a refusal: always or never", "WHEN", ("always", "never")),),
+    ),
+    Command("explain", "Explains a refusal or a fault, with a script for which it comes, and the same one mended", ("<TOPIC>",)),
+    Command(
+        "print", "Prints the printed form of a script, which is the same for texts that spell one script", ("[FILE]",),
+        (Option("pretty", "Lays the script out: indented, one statement on a line"),),
+    ),
+    Command(
+        "show", "Runs a script, and shows the run as a picture", ("[FILE]",),
+        (WORKERS, Option("format", "A picture, or a trace for Perfetto and chrome://tracing", "FORMAT", ("svg", "trace"))),
+    ),
+    Command("swift", "Prints a script as a Swift program, for Swift's own runtime", ("[FILE]",)),
+    Command(
+        "explore", "Lists outcomes that some order of turns leads to, each with its schedule", ("[FILE]",),
+        (
+            Option("limit", "Keeps at most N states, from 1 to 10000000", "N"),
+            Option("schedule", "Runs the schedule of outcome K again, and prints the whole report", "K"),
+        ),
+    ),
+    Command("help", "Print this message or the help of the given subcommand(s)", ("[COMMAND]",)),
+)
+
+PROGRAMS = (
+    Program(
+        "nuchapay",
+        Command("nuchapay", "Runs scripts of actors, and answers questions about them", ("<COMMAND>",), (Option("version", "Print version"),)),
+        NUCHAPAY,
+    ),
+    Program(
+        "swiftrun",
+        Command(
+            "swiftrun",
+            "Runs a script of actors from standard input, and prints the journal of each executor, how each task ended, and the fields",
+            (), (WORKERS, QUIET),
+        ),
+    ),
+)
+# What each command takes.
+HELP = Option("help", "Print help")
+
+
+def words_of(operand, program):
+    """What an operand may be, where that is one of a few words."""
+    return {"TOPIC": TOPICS, "COMMAND": tuple(each.name for each in program.commands)}.get(operand.strip("[]<>"), ())
+
+
+def is_script(operand):
+    return operand.strip("[]<>") == "FILE"
+
+
+def options_of(command):
+    return (*command.options, HELP)
+
+
+def heading(program, shell):
+    return f"# What {shell} completes after {program.name}, written by tools/completions.py."
+
+
+def bash_values(command):
+    """By an option with a value, what that may be."""
+    for option in command.options:
+        if option.value:
+            taken = "files='*'" if option.value == "FILE" else f"words='{' '.join(option.words)}'"
+            yield f"        {command.name}:--{option.name}) {taken} ;;"
+
+
+def bash_words(command, program):
+    """By the word that is completed, and how many operands stand before it, what it may be."""
+    yield f"                {command.name}:-*) words='{' '.join('--' + option.name for option in options_of(command))}' ;;"
+    for place, operand in enumerate(command.operands):
+        if is_script(operand):
+            yield f"                {command.name}:*:{place}) files='*.actors' ;;"
+        elif words_of(operand, program):
+            yield f"                {command.name}:*:{place}) words='{' '.join(words_of(operand, program))}' ;;"
+
+
+def bash(program):
+    """What bash reads. It takes --NAME=VALUE for three words."""
+    commands = program.commands or (program.itself,)
+    # Before its command is there, a program's command has no name.
+    first = [program.itself._replace(name="")] if program.commands else []
+    takers = dict.fromkeys("--" + option.name for command in commands for option in command.options if option.value)
+    counted = "if [[ -z $command ]]; then command=$each; else ((place++)); fi" if program.commands else "((place++))"
+    return "\n".join([
+        heading(program, "bash"),
+        f"_{program.name}() {{",
+        "    local word=${COMP_WORDS[COMP_CWORD]} before=${COMP_WORDS[COMP_CWORD - 1]} each at place=0 words='' files=''",
+        f"    local command='{'' if program.commands else program.name}'",
+        "    if [[ $word == = ]]; then word=''; elif [[ $before == = ]]; then before=${COMP_WORDS[COMP_CWORD - 2]}; fi",
+        "    for ((at = 1; at < COMP_CWORD; at++)); do",
+        "        each=${COMP_WORDS[at]}",
+        "        case $each in",
+        f"            {' | '.join(takers)}) if [[ ${{COMP_WORDS[at + 1]}} == = ]]; then ((at += 2)); else ((at++)); fi ;;",
+        "            -?*) ;;",
+        f"            *) {counted} ;;",
+        "        esac",
+        "    done",
+        "    case $command:$before in",
+        *(line for command in commands for line in bash_values(command)),
+        "        *)",
+        "            case $command:$word:$place in",
+        *(line for command in (*first, *commands) for line in bash_words(command, program)),
+        "            esac",
+        "            ;;",
+        "    esac",
+        "    if [[ $files ]]; then",
+        "        compopt -o filenames 2>/dev/null",
+        "        mapfile -t COMPREPLY < <(compgen -f -X \"!$files\" -- \"$word\"; compgen -d -- \"$word\")",
+        "    else",
+        "        mapfile -t COMPREPLY < <(compgen -W \"$words\" -- \"$word\")",
+        "    fi",
+        "}",
+        f"complete -F _{program.name} {program.name}",
+        "",
+    ])
+
+
+def quoted(text):
+    """A word for zsh."""
+    return "'" + text.replace("'", "'\\''") + "'"
+
+
+def zsh_arguments(command, program):
+    """The words for _arguments of a command."""
+    for option in options_of(command):
+        text = option.text.replace("[", "\\[").replace("]", "\\]")
+        taken = "_files" if option.value == "FILE" else f"({' '.join(option.words)})"
+        value = f":{option.value}:{taken}" if option.value else ""
+        yield quoted(f"--{option.name}{'=' if option.value else ''}[{text}]{value}")
+    for place, operand in enumerate(command.operands, 1):
+        what = '_files -g "*.actors"' if is_script(operand) else f"({' '.join(words_of(operand, program))})"
+        yield quoted(f"{place}:{operand.strip('[]<>')}:{what}")
+
+
+def zsh(program):
+    """What zsh reads, as a function of its own."""
+    lines = [f"#compdef {program.name}", heading(program, "zsh")]
+    if not program.commands:
+        return "\n".join([*lines, "_arguments \\", " \\\n".join("    " + word for word in zsh_arguments(program.itself, program)), ""])
+    before = [word for word in zsh_arguments(program.itself._replace(operands=()), program)]
+    lines += [
+        f"_{program.name}() {{",
+        "    local curcontext=$curcontext state line",
+        "    local -A opt_args",
+        "    local -a commands=(",
+        *(f"        {quoted(f'{command.name}:{command.text}')}" for command in program.commands),
+        "    )",
+        f"    _arguments -C {' '.join(before)} '1: :->command' '*:: :->arguments'",
+        "    case $state in",
+        "        command) _describe command commands ;;",
+        "        arguments)",
+        "            case $words[1] in",
+    ]
+    for command in program.commands:
+        lines += [f"                {command.name})", "                    _arguments \\"]
+        lines += [" \\\n".join("                        " + word for word in zsh_arguments(command, program)), "                    ;;"]
+    return "\n".join([*lines, "            esac", "            ;;", "    esac", "}", f'_{program.name} "$@"', ""])
+
+
+def fish_arguments(command, program, condition):
+    """The lines for what a command takes."""
+    begin = f"complete -c {program.name}" + (f" -n {quoted(condition)}" if condition else "")
+    for option in options_of(command):
+        value = f" -x -a {quoted(' '.join(option.words))}" if option.words else " -r -F" if option.value == "FILE" else " -x" if option.value else ""
+        yield f"{begin} -l {option.name}{value} -d {quoted(option.text)}"
+    for operand in command.operands:
+        if is_script(operand):
+            yield f"{begin} -k -a '(__fish_complete_suffix .actors)'"
+        elif words_of(operand, program):
+            yield f"{begin} -a {quoted(' '.join(words_of(operand, program)))}"
+
+
+def fish(program):
+    """What fish reads."""
+    lines = [heading(program, "fish"), f"complete -c {program.name} -f"]
+    if not program.commands:
+        return "\n".join([*lines, *fish_arguments(program.itself, program, ""), ""])
+    lines += fish_arguments(program.itself._replace(operands=()), program, "__fish_use_subcommand")
+    lines += [f"complete -c {program.name} -n __fish_use_subcommand -a {command.name} -d {quoted(command.text)}" for command in program.commands]
+    for command in program.commands:
+        lines += fish_arguments(command, program, f"__fish_seen_subcommand_from {command.name}")
+    return "\n".join([*lines, ""])
+
+
+def files():
+    """Each file of completions/, with its text."""
+    found = {}
+    for program in PROGRAMS:
+        found |= {f"{program.name}.bash": bash(program), f"_{program.name}": zsh(program), f"{program.name}.fish": fish(program)}
+    return found
+
+
+def main():
+    if sys.argv[1:] != ["--write"]:
+        sys.exit(__doc__)
+    os.makedirs(FOLDER, exist_ok=True)
+    for name, text in files().items():
+        with open(os.path.join(FOLDER, name), "w", encoding="utf8") as file:
+            file.write(text)
+
+
+if __name__ == "__main__":
+    main()
