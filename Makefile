@@ -58,6 +58,10 @@ pages: $(DAILY)
 swift: $(DAILY)
 	@tools/swift.py $(DAILY) $(ARGS)
 
+# Whether runs of eight workers end where all their threads share one core.
+one_core: $(PROGRAM)
+	@tools/one_core.py $(PROGRAM)
+
 # Whether nuchapay check marks the token of each refusal of examples/nuchapay/marks.
 marks: $(DAILY)
 	@tools/marks.py $(DAILY)
@@ -92,4 +96,4 @@ cases:
 bench: $(PROGRAM) $(CASES)
 	@python3 bench/run.py
 
-.PHONY: try run test prove planted mutants examples limits pages marks reports swift install refusals links believe cases bench
+.PHONY: try run test prove planted mutants examples limits one_core pages marks reports swift install refusals links believe cases bench
