@@ -88,6 +88,11 @@ links:
 believe:
 	@tools/believe.py --check && echo "the README says on how many definitions the text of a run rests"
 
+# Tests the tools: what the gate trusts some of them for, and whether tools/outcomes.py lists as many outcomes as were worked out by hand.
+tools:
+	@tools/tools_test.py
+	@tools/outcomes_test.py
+
 # Whether the input of test_cases and what it has to write are what the cases of its areas are joined to.
 cases:
 	@tools/cases.py
@@ -96,4 +101,4 @@ cases:
 bench: $(PROGRAM) $(CASES)
 	@python3 bench/run.py
 
-.PHONY: try run test prove planted mutants examples limits one_core pages marks reports swift install refusals links believe cases bench
+.PHONY: try run test prove planted mutants examples limits one_core pages marks reports swift install refusals links believe cases tools bench

@@ -302,4 +302,5 @@ def main():
     print(numbers(parts, of_kit))
 
 
-main()
+if __name__ == "__main__":
+    main()
