@@ -67,6 +67,10 @@ pages: $(DAILY)
 swift: $(DAILY)
 	@tools/swift.py $(DAILY) $(ARGS)
 
+# Whether runs of eight workers end where all their threads share one core.
+one_core: $(PROGRAM)
+	@tools/one_core.py $(PROGRAM)
+
 # Whether nuchapay check marks the token of each refusal of examples/nuchapay/marks.
 marks: $(DAILY)
 	@tools/marks.py $(DAILY)
@@ -93,16 +97,18 @@ links:
 believe:
 	@tools/believe.py --check && echo "the README says on how many definitions the text of a run rests"
 
+# Tests the tools: what the gate trusts some of them for, and whether tools/outcomes.py lists as many outcomes as were worked out by hand.
+tools:
+	@tools/tools_test.py
+	@tools/outcomes_test.py
+	@cd tools && python3 -B -m unittest -q try_test editors_test completions_test
+
 # Whether the input of test_cases and what it has to write are what the cases of its areas are joined to.
 cases:
 	@tools/cases.py
-
-# Tests tools that no proof has to do with: make try, the colours of editors, and the completions of shells.
-tools:
-	@cd tools && python3 -B -m unittest -q try_test editors_test completions_test
 
 # Measures, and asserts nothing: builds both programs, and prints tables.
 bench: $(PROGRAM) $(CASES)
 	@python3 bench/run.py
 
-.PHONY: try run nuchapay test prove planted mutants examples limits pages marks reports swift install refusals links believe cases tools bench
+.PHONY: try run nuchapay test prove planted mutants examples limits one_core pages marks reports swift install refusals links believe cases tools bench

@@ -1,7 +1,7 @@
 #!/usr/bin/env python3
 """Prints the definitions that a definition rests on, in order, with their files, and how many they are.
 
-    tools/believe.py                    those of IsRunOf of swift_tool, which says what a text of a run is
+    tools/believe.py                    those of WritesRun of swift_tool, which is the clause `text` of `run_text`
     tools/believe.py CRATE NAME         those of another definition
     tools/believe.py --check            whether the README gives the numbers of the first form, and whether each file of specs/ that no
                                         public clause names, nor a definition that one names, has Inside or Invariant in its name,
@@ -9,7 +9,7 @@
 
 A reader who believes these definitions, and the toolchain, knows what the theorem says. A definition is one of specs/, or a type of
 src/ that contracts see: its declaration or, where contracts see it as another value, the type of that value, whose making from the
-declared one is nothing to believe. Definitions of the kit are not counted.
+declared one is nothing to believe. Of the kit only the words are counted that these definitions use, and not what stands below them.
 """
 import os
 import re
@@ -17,7 +17,7 @@ import sys
 
 TOP = os.path.dirname(os.path.dirname(os.path.abspath(__file__)))
 CRATES = os.path.join(TOP, "crates")
-FIRST = ("swift_tool", "IsRunOf")
+FIRST = ("swift_tool", "WritesRun")
 # A name, or one of another module through an alias of that. Parts of operators count as names, too.
 NAME = r"[^\W\d][\w'-]*(?:\.[^\W\d][\w'-]*)*|[◌\w]*◌\S*◌[◌\w]*"
 HEAD = r"(?:(?:pub|abbrev|unfoldable|opaque|unfold|data|record)\s+)*([^\s:(){}=|]+)"
@@ -121,6 +121,8 @@ class Closure:
     def __init__(self):
         self.specs, self.sources = load()
         self.found = {}
+        # The words of the kit that these use, each with its module.
+        self.of_kit = set()
 
     def in_source(self, crate, name):
         for source in self.sources.get(crate, []):
@@ -133,6 +135,10 @@ class Closure:
         if module.startswith("::"):
             crate = module[2:].split("::")[0]
             return self.in_source(crate, name)
+        crate = re.match(r"Rattle\.(\w+)\.", module)
+        if crate and not os.path.isdir(os.path.join(CRATES, crate[1])):
+            self.of_kit.add((module, name))
+            return None
         declared = re.match(r"Rattle\.(\w+)\.specs\.declared\.(.*)", module)
         if declared:
             # A type, its variants, or the constants of a file.
@@ -145,7 +151,16 @@ class Closure:
         part = file.parts.get(name) or file.owner.get(name)
         return (file, part) if part else None
 
+    def operators_in(self, file, part):
+        """The definitions of the operators that stand between or around what they are used on."""
+        text = part.text()
+        for name, place in file.names.items():
+            signs = [sign for sign in name.split("◌") if sign]
+            if "◌" in name and all(re.search(rf"(?<![^\s()]){re.escape(sign)}(?![^\s()])", text) for sign in signs):
+                yield self.meant(*place)
+
     def named_in(self, file, part):
+        yield from self.operators_in(file, part)
         for name in re.findall(NAME, part.text()):
             front, _, rest = name.partition(".")
             if front in file.aliases:
@@ -172,12 +187,14 @@ def rests_on(crate, name):
     for module, file in closure.specs.items():
         if module.startswith(f"Rattle.{crate}.") and name in file.parts:
             closure.follow(file, file.parts[name])
-    return sorted(closure.found.values(), key=lambda part: (part.path, part.line))
+    return sorted(closure.found.values(), key=lambda part: (part.path, part.line)), closure.of_kit
 
 
-def numbers(parts):
+def numbers(parts, of_kit):
+    """How many these are, in words."""
     files = {part.path for part in parts}
-    return len(parts), len(files), sum(len(part.lines) for part in parts)
+    lines = sum(len(part.lines) for part in parts)
+    return f"{len(parts)} definitions in {len(files)} files, {lines:,} lines, and {len(of_kit)} words of the kit"
 
 
 # A clause of a function, and where its braces begin.
@@ -264,8 +281,7 @@ def check():
     wrong = sorted(misnamed())
     if wrong:
         sys.exit("\n".join(wrong))
-    definitions, files, lines = numbers(rests_on(*FIRST))
-    said = f"{definitions} definitions in {files} files, {lines:,} lines"
+    said = numbers(*rests_on(*FIRST))
     with open(os.path.join(TOP, "README.md"), encoding="utf8") as readme:
         if said in " ".join(readme.read().split()):
             return
@@ -278,12 +294,13 @@ def main():
         return check()
     if len(words) not in (0, 2) or any(word.startswith("-") for word in words):
         sys.exit(__doc__)
-    parts = rests_on(*(words or FIRST))
+    parts, of_kit = rests_on(*(words or FIRST))
     if not parts:
         sys.exit(f"no definition {words[1]} in crates/{words[0]}/specs")
     for part in parts:
         print(f"{os.path.relpath(part.path, TOP)}:{part.line}: {part.name}")
-    print("{} definitions in {} files, {:,} lines".format(*numbers(parts)))
+    print(numbers(parts, of_kit))
 
 
-main()
+if __name__ == "__main__":
+    main()

@@ -22,8 +22,8 @@ failed=$(sed -nE 's/^([0-9]+) passed, ([0-9]+) failed.*/\2/p' <<<"$last")
 if [ -z "$passed" ]; then exit 1; fi
 [ "$status" -eq 0 ] || [ "$failed" -gt 0 ] || failed=1
 # These run what was just proved. Where it was not, they would prove it once more before they fail.
-steps="links believe cases planted examples limits pages marks reports refusals tools"
-if [ "$failed" -gt 0 ]; then steps="links believe cases tools"; echo "not tried, since rt ci failed: planted, examples, limits, pages, marks, reports, refusals"; fi
+steps="links believe cases tools planted examples limits one_core pages marks reports refusals"
+if [ "$failed" -gt 0 ]; then steps="links believe cases tools"; echo "not tried, since rt ci failed: planted, examples, limits, one_core, pages, marks, reports, refusals"; fi
 for step in $steps; do
     if make --no-print-directory "$step"; then passed=$((passed + 1)); else failed=$((failed + 1)); fi
 done

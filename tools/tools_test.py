@@ -1,0 +1,247 @@
+#!/usr/bin/env python3
+"""Tests tools that the gate trusts: what they say of small trees, of words of the prover, and of programs that are made up here.
+
+    tools/tools_test.py
+
+Its last line is OK where all passed; status 0 then.
+"""
+import contextlib
+import io
+import os
+import stat
+import sys
+import tempfile
+import unittest
+
+sys.dont_write_bytecode = True
+sys.path.insert(0, os.path.dirname(os.path.abspath(__file__)))
+import believe
+import examples
+import marks
+import mutants
+import one_core
+
+
+def write(folder, files):
+    """Writes files, each by its path in a folder."""
+    for name, text in files.items():
+        path = os.path.join(folder, name)
+        os.makedirs(os.path.dirname(path), exist_ok=True)
+        with open(path, "w", encoding="utf8") as file:
+            file.write(text)
+
+
+def script(folder, name, text):
+    """A program that the shell runs."""
+    write(folder, {name: "#!/bin/sh\n" + text})
+    path = os.path.join(folder, name)
+    os.chmod(path, os.stat(path).st_mode | stat.S_IXUSR)
+    return path
+
+
+class Folder(unittest.TestCase):
+    """A test with a folder of its own."""
+
+    def setUp(self):
+        kept = tempfile.TemporaryDirectory()
+        self.addCleanup(kept.cleanup)
+        self.folder = kept.name
+
+
+# Two crates: the clause of `low` rests on two definitions there, one of them on another; `high` says a word of `low`.
+TREE = {
+    "low/specs/Words.antt": (
+        "use Rattle.std.specs.Prelude.{◌≡◌, ◌<◌, ℕ, length, List}\n\n"
+        "-- no definition is counted twice\n"
+        "abbrev pub IsLeast : ℕ → Type 0\nIsLeast n = n ≡ 0\n\n"
+        "pub record IsOf (n : ℕ) : Type 0 where\n  pub least : IsLeast n\n  pub list : List ℕ\n\n"
+        "abbrev pub IsAlone : ℕ → Type 0\nIsAlone n = n ≡ 1\n"
+    ),
+    "low/specs/CountInside.antt": "use Rattle.std.specs.Prelude.{ℕ}\n\nabbrev pub counted : ℕ → ℕ\ncounted n = n\n",
+    "low/src/lib.rt": (
+        "ghost use Rattle.low.specs.Words.{IsOf, IsAlone};\npub use part::{give, Given};\n"
+        "pub mod part;\n"
+    ),
+    "low/src/part.rt": (
+        "ghost use Rattle.low.specs.Words.{IsOf, IsAlone};\n"
+        "pub struct Given {\n    pub number: u32,\n}\n\n"
+        "pub fn give() -> Given\n    ensures of { IsOf result.number }\n    ensures alone { IsAlone result.number }\n{\n    Given { number: 0 }\n}\n"
+    ),
+    "high/specs/Says.antt": (
+        "use Rattle.low.specs.Words.{IsOf}\nuse Rattle.std.specs.Prelude.{ℕ, length}\n\n"
+        "abbrev pub Says : ℕ → Type 0\nSays n = IsOf n\n"
+    ),
+    "high/src/lib.rt": "ghost use Rattle.high.specs.Says.{Says};\npub fn say() -> u32\n    ensures { Says result }\n{\n    0\n}\n",
+}
+
+
+class Believe(Folder):
+    def setUp(self):
+        super().setUp()
+        write(os.path.join(self.folder, "crates"), TREE)
+        self.was = believe.TOP, believe.CRATES, believe.FIRST
+        believe.TOP, believe.CRATES, believe.FIRST = self.folder, os.path.join(self.folder, "crates"), ("high", "Says")
+        self.addCleanup(self.put_back)
+
+    def put_back(self):
+        believe.TOP, believe.CRATES, believe.FIRST = self.was
+
+    def test_what_a_definition_rests_on(self):
+        parts, of_kit = believe.rests_on("high", "Says")
+        self.assertEqual([part.name for part in parts], ["Says", "IsLeast", "IsOf"])
+        # A word that is imported and not used is none, and an operator that stands between its sides is one.
+        self.assertEqual({name for _, name in of_kit}, {"ℕ", "List", "◌≡◌"})
+
+    def test_numbers(self):
+        said = believe.numbers(*believe.rests_on("high", "Says"))
+        self.assertEqual(said, "3 definitions in 2 files, 7 lines, and 3 words of the kit")
+
+    def check(self, readme):
+        write(self.folder, {"README.md": readme})
+        with self.assertRaises(SystemExit) as ended:
+            believe.check()
+        return str(ended.exception)
+
+    def test_readme(self):
+        write(self.folder, {"README.md": "There are 3 definitions in 2\nfiles, 7 lines, and 3 words of the kit.\n"})
+        self.assertIsNone(believe.check())
+        self.assertIn("should say: 3 definitions", self.check("There are 4 definitions in 2 files, 7 lines, and 3 words of the kit.\n"))
+
+    def test_files_that_only_proofs_use(self):
+        readme = "3 definitions in 2 files, 7 lines, and 3 words of the kit"
+        write(self.folder, {"README.md": readme, "crates/low/specs/Hidden.antt": "abbrev pub hidden : Type 0\nhidden = hidden\n"})
+        self.assertEqual(self.check(readme), "crates/low/specs/Hidden.antt: no public clause rests on it")
+        os.remove(os.path.join(self.folder, "crates/low/specs/Hidden.antt"))
+        write(self.folder, {"crates/high/src/lib.rt": TREE["high/src/lib.rt"].replace("Says", "counted").replace("high.specs.counted", "low.specs.CountInside")})
+        self.assertIn("crates/low/specs/CountInside.antt: a public clause rests on it", self.check(readme))
+
+
+CODE = "fn first() -> u32 {\n    second() + 1\n}\n\nfn second() -> u32 {\n    2\n}\n\nfn third() -> u32 {\n    30\n}\n"
+
+
+class Told(mutants.Crate):
+    """A crate of which the prover says what is told here, by the names of the edits."""
+
+    def __init__(self, folder, said):
+        self.folder, self.said, self.tried, self.only = folder, said, [], False
+
+    def check(self, texts, edits):
+        names = " ".join(edit.name for edit in edits)
+        self.tried.append(names)
+        return self.said[names]
+
+
+class Mutants(Folder):
+    def edit(self, name, old, new, file="src/lib.rt"):
+        write(self.folder, {"src/lib.rt": CODE, f"mutants/{name}.edit": f"file: {file}\nold: {old}\nnew: {new}\n"})
+        return mutants.Edit(os.path.join(self.folder, "mutants", f"{name}.edit"))
+
+    def verdict(self, said, name="second__gives_three", old="    2", new="    3"):
+        edit = self.edit(name, old, new)
+        return Told(self.folder, {edit.name: said}).judge([edit])[edit]
+
+    def test_refused(self):
+        said = "fn low::second: not proved: `search` did not prove it\nfn low::first: no proof: it calls `second`\nlogic=not-proved\n"
+        self.assertEqual(self.verdict(said), "refused")
+
+    def test_not_refused(self):
+        self.assertEqual(self.verdict("logic=proved\n"), "NOT REFUSED")
+        self.assertEqual(self.verdict("only=3 proved=3\n"), "NOT REFUSED")
+
+    def test_only_some_were_proved(self):
+        self.assertNotEqual(self.verdict("only=3 proved=2\n"), "NOT REFUSED")
+
+    def test_only_a_caller_is_refused(self):
+        said = "fn low::second: not proved; it calls `first`\nlogic=not-proved\n"
+        self.assertTrue(self.verdict(said).startswith("BAD EDIT: second only calls"))
+
+    def test_another_is_refused(self):
+        said = "fn low::third: not proved: `search` did not prove it\nlogic=not-proved\n"
+        self.assertEqual(self.verdict(said), "BAD EDIT: third, which it does not change, is not proved")
+
+    def test_no_verdict(self):
+        self.assertTrue(self.verdict("src/lib.rt:2:1: error: expected an expression\n").startswith("BAD EDIT: src/lib.rt:2:1: error"))
+        self.assertEqual(self.verdict(""), "BAD EDIT: the prover gave no verdict")
+
+    def test_a_definition_that_does_not_read(self):
+        said = "specs/Words.antt:3:1: error: not in scope: x\nfn low::second: not proved: ..\nlogic=not-proved\n"
+        self.assertTrue(self.verdict(said).startswith("BAD EDIT: specs/Words.antt:3:1"))
+
+    def test_the_form_of_a_proof(self):
+        said = "fn low::second: not proved: its answers\nproofs/second/Answers.antt:1:1: error: has no field `x`\nlogic=not-proved\n"
+        self.assertEqual(self.verdict(said), "refused, perhaps by the form of its proof alone")
+
+    def test_a_text_that_stands_twice_or_not_at_all(self):
+        self.assertTrue(self.verdict("logic=proved\n", old="() -> u32 {", new="() {").startswith("BAD EDIT: its text"))
+        self.assertTrue(self.verdict("logic=proved\n", old="    4", new="    5").startswith("BAD EDIT: its text"))
+
+    def test_edits_of_two_functions_are_judged_by_one_check(self):
+        edits = [self.edit("second__gives_three", "    2", "    3"), self.edit("third__gives_forty", "    30", "    40")]
+        self.assertEqual(mutants.together(self.folder, edits), [edits])
+        said = "fn low::second: not proved: `search` did not prove it\nlogic=not-proved\n"
+        crate = Told(self.folder, {"second__gives_three third__gives_forty": said})
+        self.assertEqual(crate.judge(edits), {edits[0]: "refused", edits[1]: "NOT REFUSED"})
+
+    def test_edits_of_one_function_are_not_planted_together(self):
+        edits = [self.edit("second__gives_three", "    2", "    3"), self.edit("second__gives_four", "    2", "    4")]
+        self.assertEqual(mutants.together(self.folder, edits), [[edits[0]], [edits[1]]])
+
+    def test_where_another_fails_each_half_is_tried(self):
+        edits = [self.edit("second__gives_three", "    2", "    3"), self.edit("third__gives_forty", "    30", "    40")]
+        told = {
+            "second__gives_three third__gives_forty": "fn low::first: not proved: `search` did not prove it\nlogic=not-proved\n",
+            "second__gives_three": "fn low::first: not proved: `search` did not prove it\nlogic=not-proved\n",
+            "third__gives_forty": "fn low::third: not proved: `search` did not prove it\nlogic=not-proved\n",
+        }
+        found = Told(self.folder, told).judge(edits)
+        self.assertTrue(found[edits[0]].startswith("BAD EDIT: first, which it does not change"))
+        self.assertEqual(found[edits[1]], "refused")
+
+    def test_the_table_names_edits_that_are_there(self):
+        for crate, edits in mutants.of_table().items():
+            self.assertTrue(edits, crate)
+
+
+class Examples(Folder):
+    def faults(self, program, files):
+        for name in os.listdir(self.folder):
+            os.remove(os.path.join(self.folder, name))
+        write(self.folder, {f"it{ending}": text for ending, text in files.items()})
+        return list(examples.faults([script(self.folder, "program", program)], b"", os.path.join(self.folder, "it")))
+
+    def test_as_it_has_to_be(self):
+        self.assertEqual(self.faults("echo a; echo b >&2; exit 3", {".out": "a\n", ".err": "b\n", ".status": "3"}), [])
+        self.assertEqual(self.faults("echo a; echo b >&2", {".has": "b\na\n"}), [])
+
+    def test_otherwise(self):
+        self.assertEqual(self.faults("exit 1", {}), ["status 1 and not 0"])
+        self.assertEqual(self.faults("echo a", {}), ["other output"])
+        self.assertEqual(self.faults("echo b >&2", {".err": "a\n"}), ["says 'b\\n'"])
+        self.assertEqual(self.faults("echo a", {".has": "a\nb\n"}), ["lacks 'b'"])
+
+
+class Marks(unittest.TestCase):
+    def test_what_is_said(self):
+        said = "error[S5]: unknown name\n  --> <stdin>:12:4\n   |\n12 | let\n   |    ^^\n"
+        self.assertEqual(marks.mark_of(said), ("S5", 12, 4, 2))
+        self.assertIsNone(marks.mark_of(said.replace("^^", "  ")))
+        self.assertIsNone(marks.mark_of(said.replace("12:4", "12:5")))
+
+
+class OneCore(Folder):
+    def fault(self, program):
+        one_core.SECONDS = 1
+        return one_core.fault([script(self.folder, "program", program)], "")
+
+    def test_a_run(self):
+        write(self.folder, {"wanted": one_core.wanted()})
+        self.assertIsNone(self.fault(f"cat {self.folder}/wanted"))
+        self.assertIn("printed", self.fault(f"head -n 3 {self.folder}/wanted"))
+        self.assertIn("status 4", self.fault("exit 4"))
+        self.assertIn("did not end", self.fault("exec sleep 5"))
+
+
+if __name__ == "__main__":
+    # What the tools print of themselves is of no use here.
+    with contextlib.redirect_stdout(io.StringIO()):
+        unittest.main(verbosity=0)
