@@ -1,5 +1,5 @@
 -- What a search has found stays as it goes on.
-use Rattle.std.proofs.Common.{◌<◌, ◌≤◌, ℕ, zero, suc, ◌+◌, false, List, [], length, refl, sym, subst, arith, inl, inr, ◌∙◌}
+use Rattle.std.proofs.Common.{◌≡◌, ◌<◌, ◌≤◌, ℕ, zero, suc, ◌+◌, true, false, List, [], length, refl, sym, subst, arith, inl, inr, ◌∙◌}
 use Rattle.std.specs.Prelude.{IsTrue}
 use Rattle.std.proofs.lemmas.Bool.{false≢true}
 use Rattle.std.proofs.lemmas.Option.{slice_get_within}
@@ -86,10 +86,19 @@ gone_one script x y next gone lt grown sound expanded = record {
   ];
 }
 
+-- a search that leaves a history out for the limit
+
+pub sound_full : (script : ScriptView) (x : Search) → IsSound script x → length x.nodes.items ≡ x.limit → IsSound script (record x { is_complete = false; met_limit = true })
+sound_full script x is full =
+    record { script_is = is.script_is; outcomes = is.outcomes; broken = is.broken; nodes = is.nodes; few = is.few; keys = is.keys; ends = is.ends; keyed = is.keyed; once = is.once; met = λ _. full }
+
+pub grown_full : (x : Search) → HasGrown x (record x { is_complete = false; met_limit = true })
+grown_full x = record { script = refl; limit = refl; paths = λ i path at. at; outcomes = λ o has. has; broken = λ none. none; complete = λ is. absurd (false≢true is) }
+
 -- a search that leaves a history out
 
 pub sound_left : (script : ScriptView) (x : Search) → IsSound script x → IsSound script (record x { is_complete = false })
-sound_left script x is = record { script_is = is.script_is; outcomes = is.outcomes; broken = is.broken; nodes = is.nodes; few = is.few; keys = is.keys; ends = is.ends }
+sound_left script x is = record { script_is = is.script_is; outcomes = is.outcomes; broken = is.broken; nodes = is.nodes; few = is.few; keys = is.keys; ends = is.ends; keyed = is.keyed; once = is.once; met = is.met }
 
 pub grown_left : (x : Search) → HasGrown x (record x { is_complete = false })
 grown_left x = record { script = refl; limit = refl; paths = λ i path at. at; outcomes = λ o has. has; broken = λ none. none; complete = λ is. absurd (false≢true is) }

@@ -1,5 +1,5 @@
 -- A history is kept, where none is that has its key.
-use Rattle.std.proofs.Common.{◌≡◌, ◌⊎◌, ◌<◌, ℕ, Bool, true, false, List, [], ◌∷◌, ◌++◌, Vec, length, refl, sym, subst, ap, ◌∙◌, arith, inl, inr}
+use Rattle.std.proofs.Common.{◌≡◌, ◌⊎◌, ◌<◌, ◌≤◌, ℕ, Bool, true, false, List, [], ◌∷◌, ◌++◌, Vec, length, refl, sym, subst, ap, ◌∙◌, arith, inl, inr}
 use Rattle.std.specs.Prelude.{if◌then◌else◌, Some, slice_get, Contains}
 use Rattle.std.specs.declared.alloc.Global.{Global}
 use Rattle.std.specs.Arc.{arc_value}
@@ -16,7 +16,7 @@ use Rattle.swift_explorer.specs.HistoryInside.{IsPath}
 use Rattle.swift_explorer.specs.KeysInside.{IsKeyOf}
 use Rattle.swift_explorer.specs.SearchInside.{GoOn, HasGrown, IsKept, IsSound, Keeps, LeadsTo, MayGoOn, path_after, paths_of}
 use Rattle.swift_explorer.proofs.Alike.{alike_keys}
-use Rattle.swift_explorer.proofs.Growing.{grown_left, grown_none, kept_grown, sound_left}
+use Rattle.swift_explorer.proofs.Growing.{grown_full, grown_left, grown_none, kept_grown, sound_full, sound_left}
 use Rattle.swift_explorer.proofs.KeySets.{among_there}
 use Rattle.swift_explorer.proofs.Nodes.{on_push, path_here, paths_grow}
 
@@ -41,9 +41,18 @@ keeps_known x history key sound keyed is = record {
       });
 }
 
--- as many are kept as may be
+-- it is left out
 pub keeps_none : (x : Search) (history : SearchedHistory) → IsSound (arc_value x.script) x → Keeps x (record x { is_complete = false }) history
 keeps_none x history sound = record { grown = grown_left x; sound = sound_left (arc_value x.script) x sound; kept = λ is. absurd (false≢true is) }
+
+-- as many are kept as may be
+pub keeps_full : (x : Search) (history : SearchedHistory) → IsSound (arc_value x.script) x → x.limit ≤ length x.nodes.items → Keeps x (record x { is_complete = false; met_limit = true }) history
+keeps_full x history sound past =
+    let few = sound.few in
+    record { grown = grown_full x; sound = sound_full (arc_value x.script) x sound (omega (arith, few, past)); kept = λ is. absurd (false≢true is) }
+
+below_not : (limit n : ℕ) → n ≡ limit → n < limit → ⊥
+below_not limit n is lt = omega (arith, is, lt)
 
 -- it is kept
 module _ (x : Search) (history : SearchedHistory) (key : List ℕ) (n : Node) (nodes : Vec Node Global) (keys : List (List ℕ)) (sound : IsSound (arc_value x.script) x) (keyed : IsKeyOf history key)
@@ -93,6 +102,9 @@ module _ (x : Search) (history : SearchedHistory) (key : List ℕ) (n : Node) (n
           omega (arith, many, room);
       keys = key_kept;
       ends = sound.ends;
+      keyed = sound.keyed;
+      once = sound.once;
+      met = λ is. absurd (below_not x.limit (length x.nodes.items) (sound.met is) room);
     };
     kept = λ _ blocks of. record {
       place = length x.nodes.items;

@@ -5,7 +5,7 @@ use Rattle.std.specs.List.{list_any}
 use Rattle.std.specs.Global.{Vec}
 use Rattle.std.specs.HashSet.{HashSet, PutsKey}
 use Rattle.std.specs.Str.{bytes_eq}
-use Rattle.std.proofs.lemmas.List.Folds.{Any-from_list_any}
+use Rattle.std.proofs.lemmas.List.Folds.{Any-from_list_any, list_any_at}
 use Rattle.std.proofs.lemmas.Slice.Eq.{bytes_eq-Decides}
 use Rattle.std.proofs.lemmas.List.Sorted.{Contains-permutation, IsPermutation-map, IsPermutation-sym}
 
@@ -21,6 +21,9 @@ pub among_there : (keys : List (List ℕ)) (key : List ℕ) → list_any (bytes_
 among_there keys key is =
     let one = Any-from_list_any (bytes_eq key) keys is in
     subst (Contains keys) (sym ((bytes_eq-Decides key one.1).0 one.4)) (one.0, one.2, one.3)
+
+pub there_among : (keys : List (List ℕ)) (key : List ℕ) → Contains keys key → list_any (bytes_eq key) keys ≡ true
+there_among keys key has = list_any_at (bytes_eq key) keys has.0 key has.1 ((bytes_eq-Decides key (get_or keys has.0 key)).1 (sym has.2))
 
 by_place : (head x : List ℕ) (rest : List (List ℕ)) (k : ℕ) → k < length (head ∷ rest) → get_or (head ∷ rest) k x ≡ x → Contains rest x ⊎ (head ≡ x)
 by_place head x rest zero low is = inr is

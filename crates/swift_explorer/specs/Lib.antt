@@ -1,6 +1,7 @@
 pub mod Steps
 pub mod Outcomes
 pub mod Explorations
+pub mod FoundText
 pub mod HistoryInside
 pub mod SearchInside
 pub mod KeysInside

@@ -1,9 +1,10 @@
 -- Outcomes (our own).
-use Rattle.std.specs.Prelude.{◌≡◌, List, [], ◌∷◌, ◌++◌, Contains, map}
+use Rattle.std.specs.Prelude.{◌≡◌, List, [], ◌∷◌, ◌++◌, AllPairs, Contains, map}
 use Rattle.script_code.specs.Seen.{rows_of}
 use Rattle.swift_script.specs.Scripts.{ScriptView}
 use Rattle.swift_history.specs.Histories.{AllStand, Block, ReportView}
-use Rattle.swift_course.specs.Course.{starts}
+use Rattle.swift_events.specs.declared.event.Event.{Event}
+use Rattle.swift_course.specs.Course.{standing, starts}
 use Rattle.swift_history.specs.Orderly.{AllAllowed, IsOrderly, IsOrderlyLegal}
 use Rattle.swift_digest.specs.Explored.{FoldsNone}
 use Rattle.swift_laws.specs.Laws.{ActorsHaveExecutors}
@@ -32,6 +33,14 @@ pub record IsBrokenAfter (script : ScriptView) (schedule : List Move) : Type 0 w
   pub steps : AreSteps 0 schedule (blocks ++ last ∷ [])
   pub breaks : IsBroken last
 
+-- A log is that of a schedule: a history in order, which is what the schedule's steps do, has written it.
+pub record IsLogOf (script : ScriptView) (schedule : List Move) (log : List Event) : Type 0 where
+  pub blocks : List Block
+  pub stand : AllStand script (starts script) [] blocks
+  pub orderly : AllAllowed (IsOrderly script) [] blocks
+  pub steps : AreSteps 0 schedule blocks
+  pub log_is : log ≡ (standing script blocks).log
+
 -- of the outcome that was reached
 abbrev pub IfReached : (RunOutcome → Type 0) → End → Type 0
 IfReached P (Reached outcome) = P outcome
@@ -40,6 +49,14 @@ IfReached P _ = Unit {0}
 -- an outcome tells how the tasks of a report have ended, and which fields it has
 abbrev pub Tells : RunOutcome → ReportView → Type 0
 Tells outcome report = (report.endings ≡ outcome.endings.items) × (report.fields ≡ map (λ rows. rows_of rows.items) outcome.fields.items)
+
+-- Two outcomes differ: some task has ended otherwise, or some field is another.
+abbrev pub Differ : RunOutcome → RunOutcome → Type 0
+Differ o p = o.endings.items ≡ p.endings.items → map (λ rows. rows_of rows.items) o.fields.items ≡ map (λ rows. rows_of rows.items) p.fields.items → ⊥
+
+-- each outcome of a list is there once
+abbrev pub EachOnce : List RunOutcome → Type 0
+EachOnce outcomes = AllPairs Differ outcomes
 
 -- One of these outcomes tells of each legal report in order, in which no executor has folded turns, where each actor of the script has an
 -- executor.

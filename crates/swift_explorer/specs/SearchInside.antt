@@ -15,7 +15,7 @@ use Rattle.swift_explorer.specs.declared.history.Followed.{Followed}
 use Rattle.swift_explorer.specs.declared.history.Followed.TheVariants.{Yes}
 use Rattle.swift_explorer.specs.declared.search.Node.{Node}
 use Rattle.swift_explorer.specs.declared.search.Search.{Search}
-use Rattle.swift_explorer.specs.Outcomes.{IsBrokenAfter, IsOutcomeOf}
+use Rattle.swift_explorer.specs.Outcomes.{EachOnce, IsBrokenAfter, IsOutcomeOf}
 use Rattle.swift_explorer.specs.Steps.{AreSteps, IsBroken}
 use Rattle.swift_explorer.specs.HistoryInside.{IsHistory, IsMoveOf}
 use Rattle.swift_explorer.specs.EndsInside.{HasEnd, IsKnownEnd}
@@ -73,6 +73,10 @@ pub record IsKept (script : ScriptView) (paths : List (List Move)) (key : List �
 abbrev pub IsNoted : List RunOutcome → List ℕ → Type 0
 IsNoted outcomes key = (o : RunOutcome) × Contains outcomes o × (outcome_bytes o ≡ key)
 
+-- the key of each of these outcomes is among these
+abbrev pub AreKeyed : List RunOutcome → List (List ℕ) → Type 0
+AreKeyed outcomes keys = (o : RunOutcome) → Contains outcomes o → Contains keys (outcome_bytes o)
+
 -- What a search has found is so, and its keys are those of what it has kept.
 pub record IsSound (script : ScriptView) (x : Search) : Type 0 where
   pub script_is : arc_value x.script ≡ script
@@ -82,6 +86,9 @@ pub record IsSound (script : ScriptView) (x : Search) : Type 0 where
   pub few : length x.nodes.items ≤ x.limit
   pub keys : (key : List ℕ) → Contains x.keys key → IsKept script (paths_of x.nodes.items) key
   pub ends : (key : List ℕ) → Contains x.ends key → IsNoted x.outcomes.items key
+  pub keyed : AreKeyed x.outcomes.items x.ends
+  pub once : EachOnce x.outcomes.items
+  pub met : IsTrue x.met_limit → length x.nodes.items ≡ x.limit
 
 -- A search has gone on: it has what it had, and where a history was left out or a turn was broken, that stays so.
 pub record HasGrown (old new : Search) : Type 0 where

@@ -2,7 +2,7 @@
 
 ghost use Rattle.std.specs.Prelude.{◌≡◌, ◌≤◌, ◌+◌, ◌-◌, ◌↔◌, All, IfOk, IfSome, IsTrue, None, length, min};
 ghost use Rattle.std.specs.Arc.{arc_value};
-ghost use Rattle.swift_explorer.specs.Outcomes.{HasEachOutcome, IsBrokenAfter, IsOutcomeOf, NeverBreaks};
+ghost use Rattle.swift_explorer.specs.Outcomes.{EachOnce, HasEachOutcome, IsBrokenAfter, IsOutcomeOf, NeverBreaks};
 
 use crate::history::SearchedHistory;
 use crate::moves::Move;
@@ -22,12 +22,26 @@ pub struct FoundOutcomes {
     pub broken: Option<Vec<Move>>,
     /// How many histories were kept.
     pub states: usize,
-    /// Whether each step after each history that was kept was tried, and no history was left out for the limit.
+    /// Whether each step after each history that was kept was tried, and no history was left out.
     pub is_complete: bool,
+    /// Whether a history was left out since as many were kept as may be.
+    pub met_limit: bool,
 }
 
-/// A search of the histories of a script that is made in parts, so that a caller can say between them how far it is (our own). `explore`
-/// says what is searched; this finds the same, in the same order.
+/// A search of the histories of a script from the one in which nothing has happened (our own), made in parts, so that a caller can say
+/// between them how far it is. It keeps at most `limit` histories: one of those whose keys are the same, since they go on alike. From
+/// each that it keeps it tries each step that is in order: roots are added in text order, then turns begin, each only at an executor that
+/// has none under way.
+///
+/// What it finds is so: each outcome is that of a legal report, which a history in order has made by the steps of its schedule; and a
+/// turn that it says breaks an invariant does so after these steps. Where `is_complete` says that no history was left out, it is all, of
+/// a script whose actors have executors: some outcome has the endings and the fields of each legal report that a history in order has
+/// made and in which no executor has folded turns, and where no broken turn was found, none of such a history breaks an invariant.
+///
+/// An executor takes any of its jobs: the list has outcomes of orders that priorities, arrival and `fifo` would not give (SE-0304 calls
+/// priorities hints; of a `fifo` executor it has more than can happen).
+///
+/// Each history is followed from its beginning for each step after it, so the time is that of the histories times their turns.
 #[derive(Drop)]
 pub struct Exploration {
     search: Search,
@@ -115,7 +129,9 @@ impl Exploration {
         ensures all { IsTrue result.is_complete → HasEachOutcome self.script result.outcomes.items }
         ensures unbroken { IsTrue result.is_complete → result.broken ≡ None → NeverBreaks self.script }
         ensures gone_on { IsTrue result.is_complete → self.gone_on ≡ self.kept }
+        ensures once { EachOnce result.outcomes.items }
         ensures states { result.states ≡ self.kept }
+        ensures limit { IsTrue result.met_limit → result.states ≡ self.limit }
         ensures counted { length result.outcomes.items ≡ self.outcomes }
     {
         let Exploration { search, next } = self;
@@ -129,6 +145,7 @@ impl Exploration {
             ends: _,
             broken,
             is_complete,
+            met_limit,
         } = search;
         let states = nodes.len();
         FoundOutcomes {
@@ -136,39 +153,7 @@ impl Exploration {
             broken,
             states,
             is_complete: is_complete && next >= states,
+            met_limit,
         }
     }
-}
-
-/// Searches the histories of a script from the one in which nothing has happened, and keeps at most `limit`: one of those whose keys are
-/// the same, since they go on alike. From each that it keeps it tries each step that is in order: roots are added in text order, then
-/// turns begin, each only at an executor that has none under way.
-///
-/// What it finds is so: each outcome is that of a legal report, which a history in order has made by the steps of its schedule; and a
-/// turn that it says breaks an invariant does so after these steps. Where `is_complete` says that no history was left out, it is all, of
-/// a script whose actors have executors: some outcome has the endings and the fields of each legal report that a history in order has
-/// made and in which no executor has folded turns, and where no broken turn was found, none of such a history breaks an invariant.
-///
-/// An executor takes any of its jobs: the list has outcomes of orders that priorities, arrival and `fifo` would not give (SE-0304 calls
-/// priorities hints; of a `fifo` executor it has more than can happen).
-///
-/// Each history is followed from its beginning for each step after it, so the time is that of the histories times their turns.
-/// `Exploration` makes the same search in parts.
-///
-/// # Errors
-///
-/// `AllocError` where no memory was left.
-pub fn explore(
-    alloc: Global,
-    script: &Arc<Script>,
-    limit: usize,
-) -> Result<FoundOutcomes, AllocError>
-    ensures outcomes { IfOk result (λ found. All (IsOutcomeOf (arc_value script.now)) found.outcomes.items) }
-    ensures broken { IfOk result (λ found. IfSome found.broken (λ schedule. IsBrokenAfter (arc_value script.now) schedule.items)) }
-    ensures all { IfOk result (λ found. IsTrue found.is_complete → HasEachOutcome (arc_value script.now) found.outcomes.items) }
-    ensures unbroken { IfOk result (λ found. IsTrue found.is_complete → found.broken ≡ None → NeverBreaks (arc_value script.now)) }
-{
-    let begun = Exploration::new(alloc, script, limit)?;
-    let ended = begun.advance(limit)?;
-    Ok(ended.finish())
 }

@@ -527,7 +527,9 @@ impl SearchedHistory {
     }
 
     /// The report of it, if each task has ended. It gives the history up.
-    pub fn into_report(self) -> Result<Option<Report>, AllocError> {
+    pub fn into_report(self) -> Result<Option<Report>, AllocError>
+        ensures { IfOk result (λ o. IfSome o (λ report. report.log.events ≡ self.book.log)) }
+    {
         let ended = self.all_endings();
         let SearchedHistory {
             alloc,
@@ -653,7 +655,10 @@ fn copy_of(alloc: Global, rows: &[Vec<i64>]) -> Result<Vec<Vec<i64>>, AllocError
 }
 
 // A copy of the fields of all executors.
-fn all_copied(alloc: Global, all: &[Vec<Vec<i64>>]) -> Result<Vec<Vec<Vec<i64>>>, AllocError>
+pub(crate) fn all_copied(
+    alloc: Global,
+    all: &[Vec<Vec<i64>>],
+) -> Result<Vec<Vec<Vec<i64>>>, AllocError>
     ensures { IfOk result (λ copy. map (λ rows. rows_of rows.items) copy.items ≡ map (λ rows. rows_of rows.items) all.now) }
 {
     let mut copy = Vec::with_capacity(alloc, all.len())?;

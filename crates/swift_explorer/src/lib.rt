@@ -24,7 +24,7 @@ mod text;
 // What the next turn of each task begins with.
 mod waiting;
 
-pub use exploration::{Exploration, FoundOutcomes, explore};
+pub use exploration::{Exploration, FoundOutcomes};
 pub use keys::laws;
 pub use moves::Move;
 pub use outcome::RunOutcome;

@@ -1,5 +1,9 @@
 //! A schedule that is run again.
 
+ghost use Rattle.std.specs.Prelude.{IfOk, IfSome};
+ghost use Rattle.std.specs.Arc.{arc_value};
+ghost use Rattle.swift_explorer.specs.Outcomes.{IsLogOf};
+
 use crate::history::{Followed, SearchedHistory};
 use crate::moves::Move;
 use crate::search::follow;
@@ -9,10 +13,10 @@ use swift_report::Report;
 use swift_script::Script;
 
 /// The report of a schedule: its steps are done again from the beginning, by one worker, and each turn is written into the journal of its
-/// executor. Nothing where a step may not follow, or where some task has not ended then. A schedule that `explore` gives with an
+/// executor. Nothing where a step may not follow, or where some task has not ended then. A schedule that a search gives with an
 /// outcome leads to it again (our own).
 ///
-/// That the report is legal is not promised here; `legal` of swift_certificate tells.
+/// Its log is that of the schedule. That the report is legal is not promised here; `legal` of swift_certificate tells.
 ///
 /// # Errors
 ///
@@ -21,7 +25,9 @@ pub fn schedule_report(
     alloc: Global,
     script: &Arc<Script>,
     schedule: &[Move],
-) -> Result<Option<Report>, AllocError> {
+) -> Result<Option<Report>, AllocError>
+    ensures { IfOk result (λ o. IfSome o (λ report. IsLogOf (arc_value script.now) schedule.now report.log.events)) }
+{
     let mut history = SearchedHistory::with_journals(alloc, script)?;
     match follow(&mut history, schedule) {
         Ok(Followed::No) => {

@@ -3,12 +3,12 @@
 ghost use Rattle.std.specs.Prelude.{◌≡◌, ◌<◌, ◌+◌, ℕ, List, [], ◌∷◌, ◌++◌, All, Contains, IfOk, IfSome, IsTrue, None, OnOk, Some, is_some, length, min, slice_get, true};
 ghost use Rattle.std.specs.Arc.{arc_value};
 ghost use Rattle.swift_history.specs.Histories.{Block, ReportView};
-ghost use Rattle.swift_explorer.specs.Outcomes.{IfReached, IsBrokenAfter, IsOutcomeOf, Tells};
+ghost use Rattle.swift_explorer.specs.Outcomes.{EachOnce, IfReached, IsBrokenAfter, IsOutcomeOf, Tells};
 ghost use Rattle.swift_explorer.specs.declared.outcome.RunOutcome.{RunOutcome};
 ghost use Rattle.swift_explorer.specs.HistoryInside.{IsPath, WasDone};
 ghost use Rattle.swift_explorer.specs.EndsInside.{HasEnd, IsKnownEnd};
 ghost use Rattle.swift_explorer.specs.KeysInside.{IsKeyOf, outcome_bytes, end_numbers};
-ghost use Rattle.swift_explorer.specs.SearchInside.{GoOn, HasGoneOn, HasGrown, IsAhead, IsExpandedAt, IsFollowedBy, IsNoted, IsSound, Keeps, MayGoOn, StepWasTried, path_after, paths_of};
+ghost use Rattle.swift_explorer.specs.SearchInside.{AreKeyed, GoOn, HasGoneOn, HasGrown, IsAhead, IsExpandedAt, IsFollowedBy, IsNoted, IsSound, Keeps, MayGoOn, StepWasTried, path_after, paths_of};
 ghost use Rattle.swift_explorer.specs.Numbers.{list_numbers};
 
 use crate::history::{Followed, SearchedHistory};
@@ -44,6 +44,8 @@ pub(crate) struct Search {
     pub(crate) broken: Option<Vec<Move>>,
     // Whether no history was left out, and each step after those that it has gone on from was tried.
     pub(crate) is_complete: bool,
+    // Whether a history was left out since as many were kept as may be.
+    pub(crate) met_limit: bool,
 }
 
 // The steps to a node.
@@ -175,6 +177,7 @@ impl Search {
             ends: KeySet::new(alloc),
             broken: None,
             is_complete: true,
+            met_limit: false,
         })
     }
 
@@ -196,6 +199,7 @@ impl Search {
         }
         if self.nodes.len() >= self.limit {
             self.is_complete = false;
+            self.met_limit = true;
             return Ok(());
         }
         self.keys.add(key)?;
@@ -250,9 +254,13 @@ impl Search {
         requires outcome { IsOutcomeOf (arc_value self.old.script) outcome }
         requires outcomes { All (IsOutcomeOf (arc_value self.old.script)) self.old.outcomes.items }
         requires ends { (key : List ℕ) → Contains self.old.ends key → IsNoted self.old.outcomes.items key }
+        requires keyed { AreKeyed self.old.outcomes.items self.old.ends }
+        requires once { EachOnce self.old.outcomes.items }
         ensures rest { self.new ≡ record self.old { outcomes = self.new.outcomes; ends = self.new.ends } }
         ensures outcomes { OnOk result (All (IsOutcomeOf (arc_value self.old.script)) self.new.outcomes.items) }
         ensures ends { OnOk result ((key : List ℕ) → Contains self.new.ends key → IsNoted self.new.outcomes.items key) }
+        ensures keyed { OnOk result (AreKeyed self.new.outcomes.items self.new.ends) }
+        ensures once { OnOk result (EachOnce self.new.outcomes.items) }
         ensures kept { OnOk result ((o : RunOutcome) → Contains self.old.outcomes.items o → Contains self.new.outcomes.items o) }
         ensures noted { OnOk result ((report : ReportView) → Tells outcome report → (o : RunOutcome) × Contains self.new.outcomes.items o × Tells o report) }
     {

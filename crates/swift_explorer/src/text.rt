@@ -1,6 +1,11 @@
 //! What a search has found, as a text.
 
+ghost use Rattle.std.specs.Prelude.{◌≡◌, ◌<◌, ◌≤◌, ◌^◌, ◌++◌, OnOk, IfOk, decimal, length, map};
+ghost use Rattle.script_code.specs.Seen.{rows_of};
+ghost use Rattle.swift_explorer.specs.FoundText.{begins, began_before, broken_text, end_text, ended_text, found_text, many_text, outcome_text, outcomes_text, runs, runs_at_once, schedule_text, search_text, step_text, steps_text, turn_text, turns_before};
+
 use crate::exploration::FoundOutcomes;
+use crate::history::all_copied;
 use crate::moves::Move;
 use crate::outcome::RunOutcome;
 use itoa::Buffer;
@@ -10,13 +15,17 @@ use swift_report::{Report, report_text};
 use swift_script::Script;
 use swift_types::TaskId;
 
-fn put_number(out: &mut Vec<u8>, number: usize) -> Result<(), AllocError> {
+fn put_number(out: &mut Vec<u8>, number: usize) -> Result<(), AllocError>
+    ensures { OnOk result (out.new.items ≡ out.old.items ++ decimal number) }
+{
     let mut buffer = Buffer::new();
     out.extend_from_slice(buffer.format(number).as_bytes())
 }
 
 // So many of these, in a word.
-fn put_many(out: &mut Vec<u8>, number: usize, one: &[u8], many: &[u8]) -> Result<(), AllocError> {
+fn put_many(out: &mut Vec<u8>, number: usize, one: &[u8], many: &[u8]) -> Result<(), AllocError>
+    ensures { OnOk result (out.new.items ≡ out.old.items ++ many_text number one.now many.now) }
+{
     put_number(out, number)?;
     out.extend_from_slice(b" ")?;
     if number == 1 {
@@ -26,104 +35,191 @@ fn put_many(out: &mut Vec<u8>, number: usize, one: &[u8], many: &[u8]) -> Result
     }
 }
 
-// How many turns of a task began among the first steps.
-fn turns_before(path: &[Move], place: usize, task: TaskId) -> usize {
+fn begins(task: TaskId, step: Move) -> bool
+    ensures { result ≡ begins task.0 step }
+{
+    match step {
+        Move::Begin(begun) => begun.0 == task.0,
+        _ => false,
+    }
+}
+
+fn runs(task: TaskId, step: Move) -> bool
+    ensures { result ≡ runs task.0 step }
+{
+    match step {
+        Move::Run(run) => run.0 == task.0,
+        _ => false,
+    }
+}
+
+// How many turns of a task begin before this place.
+fn turns_before(task: TaskId, path: &[Move], place: usize) -> usize
+    requires { place ≤ length path.now }
+    ensures { result ≡ turns_before task.0 path.now place }
+{
     let mut turns: usize = 0;
     for at in 0..place {
-        if at < path.len() && path[at] == Move::Begin(task) {
-            turns = turns.saturating_add(1);
+        if begins(task, path[at]) {
+            turns += 1;
         }
     }
     turns
 }
 
-fn put_turn(out: &mut Vec<u8>, task: TaskId, number: usize) -> Result<(), AllocError> {
-    out.extend_from_slice(b" t")?;
+fn put_turn(out: &mut Vec<u8>, task: TaskId, number: usize) -> Result<(), AllocError>
+    ensures { OnOk result (out.new.items ≡ out.old.items ++ turn_text task.0 number) }
+{
+    out.extend_from_slice(b"t")?;
     put_number(out, task.0 as usize)?;
     out.extend_from_slice(b".")?;
     put_number(out, number)
 }
 
 // Whether the step after a place runs the turn that begins there.
-fn runs_at_once(path: &[Move], place: usize, task: TaskId) -> bool {
-    match path.get(place.saturating_add(1)) {
-        Some(step) => *step == Move::Run(task),
+fn runs_at_once(task: TaskId, path: &[Move], place: usize) -> bool
+    requires { place < length path.now }
+    ensures { result ≡ runs_at_once task.0 path.now place }
+{
+    match path.get(place + 1) {
+        Some(step) => runs(task, *step),
         None => false,
     }
 }
 
 // Whether the turn that runs at a place began right before.
-fn began_before(path: &[Move], place: usize, task: TaskId) -> bool {
-    match place.checked_sub(1) {
-        Some(before) => before < path.len() && path[before] == Move::Begin(task),
-        None => false,
+fn began_before(task: TaskId, path: &[Move], place: usize) -> bool
+    requires { place ≤ length path.now }
+    ensures { result ≡ began_before task.0 path.now place }
+{
+    if place == 0 {
+        return false;
     }
+    begins(task, path[place - 1])
 }
 
-fn put_step(out: &mut Vec<u8>, path: &[Move], place: usize, step: Move) -> Result<(), AllocError> {
+// The turn of a task that begins at a place.
+fn put_begun(out: &mut Vec<u8>, path: &[Move], place: usize, task: TaskId) -> Result<(), AllocError>
+    requires { place < length path.now }
+    ensures { OnOk result (out.new.items ≡ out.old.items ++ step_text path.now place (Move.Begin task)) }
+{
+    out.extend_from_slice(b" ")?;
+    put_turn(out, task, turns_before(task, path, place))?;
+    if runs_at_once(task, path, place) {
+        return Ok(());
+    }
+    out.extend_from_slice(b"..")
+}
+
+// The turn of a task that runs at a place.
+fn put_run(out: &mut Vec<u8>, path: &[Move], place: usize, task: TaskId) -> Result<(), AllocError>
+    requires { place < length path.now }
+    ensures { OnOk result (out.new.items ≡ out.old.items ++ step_text path.now place (Move.Run task)) }
+{
+    if began_before(task, path, place) {
+        return Ok(());
+    }
+    out.extend_from_slice(b" ..")?;
+    put_turn(out, task, turns_before(task, path, place).saturating_sub(1))
+}
+
+fn put_step(out: &mut Vec<u8>, path: &[Move], place: usize, step: Move) -> Result<(), AllocError>
+    requires { place < length path.now }
+    ensures { OnOk result (out.new.items ≡ out.old.items ++ step_text path.now place step) }
+{
     match step {
         Move::Add => Ok(()),
-        Move::Begin(task) => {
-            put_turn(out, task, turns_before(path, place, task))?;
-            if runs_at_once(path, place, task) {
-                Ok(())
-            } else {
-                out.extend_from_slice(b"..")
-            }
-        }
-        Move::Run(task) => {
-            if began_before(path, place, task) {
-                Ok(())
-            } else {
-                out.extend_from_slice(b" ..")?;
-                put_ended(out, path, place, task)
-            }
-        }
+        Move::Begin(task) => put_begun(out, path, place, task),
+        Move::Run(task) => put_run(out, path, place, task),
     }
 }
 
-fn put_ended(
-    out: &mut Vec<u8>,
-    path: &[Move],
-    place: usize,
-    task: TaskId,
-) -> Result<(), AllocError> {
-    out.extend_from_slice(b"t")?;
-    put_number(out, task.0 as usize)?;
-    out.extend_from_slice(b".")?;
-    put_number(out, turns_before(path, place, task).saturating_sub(1))
-}
-
-// The turns of a history, in order. A turn during which others begin or end stands twice: as it begins, with two dots after it, and as it
-// ends, with two dots before it.
-fn put_schedule(out: &mut Vec<u8>, path: &[Move]) -> Result<(), AllocError> {
-    out.extend_from_slice(b"schedule")?;
+// The turns of a history, in order.
+fn put_steps(out: &mut Vec<u8>, path: &[Move]) -> Result<(), AllocError>
+    ensures { OnOk result (out.new.items ≡ out.old.items ++ steps_text path.now 0 path.now) }
+{
     for place in 0..path.len() {
         put_step(out, path, place, path[place])?;
     }
+    Ok(())
+}
+
+// The line of a schedule. A turn during which others begin or end stands twice: as it begins, with two dots after it, and as it ends,
+// with two dots before it.
+fn put_schedule(out: &mut Vec<u8>, path: &[Move]) -> Result<(), AllocError>
+    ensures { OnOk result (out.new.items ≡ out.old.items ++ schedule_text path.now) }
+{
+    out.extend_from_slice(b"schedule")?;
+    put_steps(out, path)?;
     out.extend_from_slice(b"\n")
 }
 
+// A report that has the tasks and the fields of an outcome, and nothing else.
+fn ended_report(alloc: Global, outcome: &RunOutcome) -> Result<Report, AllocError>
+    ensures endings { IfOk result (λ report. report.endings.items ≡ outcome.now.endings.items) }
+    ensures fields { IfOk result (λ report. map (λ rows. rows_of rows.items) report.fields.items ≡ map (λ rows. rows_of rows.items) outcome.now.fields.items) }
+{
+    let endings = Vec::from_slice(alloc, &outcome.endings)?;
+    let fields = all_copied(alloc, &outcome.fields)?;
+    Ok(Report {
+        journals: Vec::new(alloc),
+        checkpoints: Vec::new(alloc),
+        log: EventLog::new(alloc),
+        endings,
+        fields,
+    })
+}
+
 // The tasks and the fields of an outcome, as a report without journals has them.
-fn put_outcome(
+fn put_ended(
     alloc: Global,
     out: &mut Vec<u8>,
     script: &Script,
     outcome: &RunOutcome,
-) -> Result<(), AllocError> {
-    let report = Report {
-        journals: Vec::new(alloc),
-        checkpoints: Vec::new(alloc),
-        log: EventLog::new(alloc),
-        endings: outcome.endings.clone()?,
-        fields: outcome.fields.clone()?,
-    };
+) -> Result<(), AllocError>
+    ensures { OnOk result (out.new.items ≡ out.old.items ++ ended_text script.now outcome.now) }
+{
+    let report = ended_report(alloc, outcome)?;
     let text = report_text(alloc, script, &report, true)?;
     out.extend_from_slice(&text)
 }
 
+// An outcome, with its number.
+fn put_outcome(
+    alloc: Global,
+    out: &mut Vec<u8>,
+    script: &Script,
+    place: usize,
+    outcome: &RunOutcome,
+) -> Result<(), AllocError>
+    requires { place < 2 ^ 63 }
+    ensures { OnOk result (out.new.items ≡ out.old.items ++ outcome_text script.now place outcome.now) }
+{
+    out.extend_from_slice(b"\noutcome ")?;
+    put_number(out, place + 1)?;
+    out.extend_from_slice(b"\n")?;
+    put_schedule(out, &outcome.schedule)?;
+    put_ended(alloc, out, script, outcome)
+}
+
+fn put_outcomes(
+    alloc: Global,
+    out: &mut Vec<u8>,
+    script: &Script,
+    outcomes: &[RunOutcome],
+) -> Result<(), AllocError>
+    ensures { OnOk result (out.new.items ≡ out.old.items ++ outcomes_text script.now 0 outcomes.now) }
+{
+    for place in 0..outcomes.len() {
+        put_outcome(alloc, out, script, place, &outcomes[place])?;
+    }
+    Ok(())
+}
+
 // What is known of turns that are undone.
-fn put_broken(out: &mut Vec<u8>, found: &FoundOutcomes) -> Result<(), AllocError> {
+fn put_broken(out: &mut Vec<u8>, found: &FoundOutcomes) -> Result<(), AllocError>
+    ensures { OnOk result (out.new.items ≡ out.old.items ++ broken_text found.now.broken) }
+{
     match &found.broken {
         Some(schedule) => {
             out.extend_from_slice(b"a turn is undone by invariant\n")?;
@@ -133,20 +229,30 @@ fn put_broken(out: &mut Vec<u8>, found: &FoundOutcomes) -> Result<(), AllocError
     }
 }
 
-// How far the search came.
-fn put_search(out: &mut Vec<u8>, found: &FoundOutcomes) -> Result<(), AllocError> {
-    put_many(out, found.outcomes.len(), b"outcome", b"outcomes")?;
+// Whether the search came to its end, and else why not.
+fn end_of(found: &FoundOutcomes) -> &'static [u8]
+    ensures { result.now ≡ end_text found.now }
+{
     if found.is_complete {
-        out.extend_from_slice(b", found by a search that came to its end after ")?;
+        b", found by a search that came to its end after "
+    } else if found.met_limit {
+        b", and there may be more: the limit was met after "
     } else {
-        out.extend_from_slice(b", and there may be more: the limit was met after ")?;
+        b", and there may be more: not every history was followed after "
     }
+}
+
+// How far the search came.
+fn put_search(out: &mut Vec<u8>, found: &FoundOutcomes) -> Result<(), AllocError>
+    ensures { OnOk result (out.new.items ≡ out.old.items ++ search_text found.now) }
+{
+    put_many(out, found.outcomes.len(), b"outcome", b"outcomes")?;
+    out.extend_from_slice(end_of(found))?;
     put_many(out, found.states, b"state\n", b"states\n")
 }
 
 /// What a search has found: how many outcomes, and whether the search came to its end; whether a turn was undone by `invariant`, with
-/// the shortest schedule to one that was found; and each outcome, with the shortest schedule to it that was found, as a report without
-/// journals (our own).
+/// the schedule to one that was found; and each outcome, with the schedule to it that was found, as a report without journals (our own).
 ///
 /// A schedule is a line of turns, by task and number. A turn during which others begin or end stands twice: as it begins, with two dots
 /// after it, and as it ends, with two dots before it.
@@ -158,16 +264,12 @@ pub fn found_text(
     alloc: Global,
     script: &Script,
     found: &FoundOutcomes,
-) -> Result<Vec<u8>, AllocError> {
+) -> Result<Vec<u8>, AllocError>
+    ensures { IfOk result (λ text. text.items ≡ found_text script.now found.now) }
+{
     let mut out = Vec::new(alloc);
     put_search(&mut out, found)?;
     put_broken(&mut out, found)?;
-    for (place, outcome) in found.outcomes.iter().enumerate() {
-        out.extend_from_slice(b"\noutcome ")?;
-        put_number(&mut out, place.saturating_add(1))?;
-        out.extend_from_slice(b"\n")?;
-        put_schedule(&mut out, &outcome.schedule)?;
-        put_outcome(alloc, &mut out, script, outcome)?;
-    }
+    put_outcomes(alloc, &mut out, script, &found.outcomes)?;
     Ok(out)
 }

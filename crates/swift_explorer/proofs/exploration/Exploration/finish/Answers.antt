@@ -11,6 +11,9 @@ use Rattle.swift_explorer.proofs.exploration.Exploration.finish.Goals as goal
 last_of : (states : ℕ) (x : Search) (next : ℕ) → states ≡ vec_len x.nodes → leb states next ≡ true → length x.nodes.items ≤ next
 last_of states x next many is = let low = leb-true states next is in omega (arith, low, many)
 
+at_limit : (states : ℕ) (x : Search) → states ≡ vec_len x.nodes → length x.nodes.items ≡ x.limit → states ≡ x.limit
+at_limit states x many met = omega (arith, many, met)
+
 pub returns-clause-all : goal.returns-clause-all
 returns-clause-all c = λ is.
     (let x = c.self.inside.search in
@@ -28,3 +31,9 @@ returns-clause-unbroken c = λ is whole.
       | then-is_complete w ↦ subst NeverBreaks same (never_breaks x c.self.inside.next c.self.invariant (last_of c.len-states.result x c.self.inside.next c.len-states.ensures (sym w.result-is ∙ is)) w.if-is_complete.true whole)
       | else-is_complete w ↦ absurd (false≢true (sym w.if-is_complete.false ∙ sym w.result-is ∙ is))
     ])
+
+pub returns-clause-once : goal.returns-clause-once
+returns-clause-once c = c.self.invariant.sound.once
+
+pub returns-clause-limit : goal.returns-clause-limit
+returns-clause-limit c = λ is. at_limit c.len-states.result c.self.inside.search c.len-states.ensures (c.self.invariant.sound.met is) ∙ ap (λ (v : ExplorationView). v.limit) c.self.view_is

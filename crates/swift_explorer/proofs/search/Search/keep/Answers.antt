@@ -2,7 +2,7 @@ use Rattle.std.proofs.Common.{rules, ◌≡◌, ◌<◌, length, true, false, ar
 use Rattle.std.specs.List.{list_any}
 use Rattle.std.specs.Str.{bytes_eq}
 use Rattle.swift_explorer.specs.declared.search.Node.{Node}
-use Rattle.swift_explorer.proofs.Keeping.{keeps_known, keeps_new, keeps_none}
+use Rattle.swift_explorer.proofs.Keeping.{keeps_known, keeps_full, keeps_new}
 use Rattle.swift_explorer.proofs.search.Search.keep.Goals as goal
 
 pub returns-then-contains : goal.returns-then-contains
@@ -13,7 +13,7 @@ returns-then-contains c =
     record { keeps = keeps_known x c.args.history key c.requires.sound c.in_ok-key.ensures among }
 
 pub returns-then-len-self : goal.returns-then-len-self
-returns-then-len-self c = record { keeps = keeps_none c.args.self.now c.args.history c.requires.sound }
+returns-then-len-self c = record { keeps = keeps_full c.args.self.now c.args.history c.requires.sound (omega (arith, c.if-len-self.true, c.len.ensures)) }
 
 pub returns : goal.returns
 returns c =
