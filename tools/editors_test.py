@@ -176,6 +176,11 @@ qall!
 """
 
 
+def has_vim():
+    """Whether Vim is there, and not a small one that has no syntax files."""
+    return bool(shutil.which("vim")) and "+syntax" in subprocess.run(["vim", "--version"], capture_output=True, text=True, check=False).stdout
+
+
 def by_vim(texts):
     """The classes of each byte of these texts, but for their LFs, as Vim has them."""
     with tempfile.TemporaryDirectory() as folder:
@@ -239,7 +244,7 @@ class Editors(unittest.TestCase):
         found = {word: GROUPS[group] for group, words in lines for word in re.sub(r"nextgroup=\S+|skipwhite", "", words).split()}
         self.assertEqual(found, KEYWORDS)
 
-    @unittest.skipUnless(shutil.which("vim"), "vim is not there")
+    @unittest.skipUnless(has_vim(), "no vim with syntax files is there")
     def test_vim(self):
         texts = self.scripts | {word: f"{word} {word}s s{word} {word}(" for word in sorted(keywords())}
         for (name, text), lines in zip(texts.items(), by_vim(texts.values()), strict=True):
