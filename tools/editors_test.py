@@ -188,7 +188,8 @@ def by_vim(texts):
             with open(os.path.join(folder, f"{place:04}.actors"), "w", encoding="latin-1", newline="") as file:
                 file.write(text)
         with open(os.path.join(folder, "script.vim"), "w", encoding="utf8") as file:
-            file.write(f"set encoding=latin1 fileencodings=latin1 fileformats=unix\nlet s:folder = '{folder}'\nlet &runtimepath = '{EDITORS}/vim,' . &runtimepath\n{VIM}")
+            file.write(f"set encoding=latin1 fileencodings=latin1 fileformats=unix\nlet s:folder = '{folder}'\n")
+            file.write(f"let &runtimepath = '{EDITORS}/vim,' . &runtimepath\n{VIM}")
         words = ["vim", "-e", "-s", "-N", "-n", "-u", "NONE", "-i", "NONE", "-S", os.path.join(folder, "script.vim")]
         subprocess.run(words, stdin=subprocess.DEVNULL, stdout=subprocess.DEVNULL, stderr=subprocess.DEVNULL, timeout=60, check=False)
         parts = read(folder, "classes").removesuffix("end\n").split("end\n")

@@ -4,10 +4,11 @@
     tools/try.py SCRIPT.. [-- ARGUMENT..]                           swiftrun, with these arguments, as --workers 4
     tools/try.py --command="WORD.." [SCRIPT..] [-- ARGUMENT..]      nuchapay WORD.. SCRIPT ARGUMENT.., once for each script, or without one
 
-A script that is `-` is standard input. Of several, each has a line before what is printed for it. The kit builds the program in a folder of its own and runs it there; from there it is kept, as
-out/try/NAME-SUM, with the sum of all that the build reads. Where that folder cannot be written, the program is kept for this time alone.
-Where the kit leaves no program, the kit runs the scripts itself, each as standard input, as `-`. What the kit says of itself is left out,
-unless the program was not built or did not end. Status 0 where the program ran, whatever its own.
+A script that is `-` is standard input. Of several, each has a line before what is printed for it. The kit builds the program in a folder
+of its own and runs it there; from there it is kept, as out/try/NAME-SUM, with the sum of all that the build reads. Where that folder
+cannot be written, the program is kept for this time alone. Where the kit leaves no program, the kit runs the scripts itself, each as
+standard input, as `-`. What the kit says of itself is left out, unless the program was not built or did not end. Status 0 where the
+program ran, whatever its own.
 """
 import argparse
 import contextlib
@@ -36,7 +37,8 @@ OWN = re.compile(r"interpreter: |checked: |races: |run=|case=|cases=|rt: ")
 STATUSES = range(0, 5)
 # How often the kit's folder is looked at, in seconds, and a script that runs much longer than that: the program is there while it runs.
 PAUSE = 0.03
-LONG = b"actor A { func f() { let i = 0; while i < 4000 { i = i + 1; } return i; } }\n" + b"".join(b"root r%d = A.f();\n" % place for place in range(20))
+LONG = b"actor A { func f() { let i = 0; while i < 4000 { i = i + 1; } return i; } }\n"
+LONG += b"".join(b"root r%d = A.f();\n" % place for place in range(20))
 
 
 def say(text):
