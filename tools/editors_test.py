@@ -176,6 +176,11 @@ qall!
 """
 
 
+def has_vim():
+    """Whether Vim is there, and not a small one that has no syntax files."""
+    return bool(shutil.which("vim")) and "+syntax" in subprocess.run(["vim", "--version"], capture_output=True, text=True, check=False).stdout
+
+
 def by_vim(texts):
     """The classes of each byte of these texts, but for their LFs, as Vim has them."""
     with tempfile.TemporaryDirectory() as folder:
@@ -183,7 +188,8 @@ def by_vim(texts):
             with open(os.path.join(folder, f"{place:04}.actors"), "w", encoding="latin-1", newline="") as file:
                 file.write(text)
         with open(os.path.join(folder, "script.vim"), "w", encoding="utf8") as file:
-            file.write(f"set encoding=latin1 fileencodings=latin1 fileformats=unix\nlet s:folder = '{folder}'\nlet &runtimepath = '{EDITORS}/vim,' . &runtimepath\n{VIM}")
+            file.write(f"set encoding=latin1 fileencodings=latin1 fileformats=unix\nlet s:folder = '{folder}'\n")
+            file.write(f"let &runtimepath = '{EDITORS}/vim,' . &runtimepath\n{VIM}")
         words = ["vim", "-e", "-s", "-N", "-n", "-u", "NONE", "-i", "NONE", "-S", os.path.join(folder, "script.vim")]
         subprocess.run(words, stdin=subprocess.DEVNULL, stdout=subprocess.DEVNULL, stderr=subprocess.DEVNULL, timeout=60, check=False)
         parts = read(folder, "classes").removesuffix("end\n").split("end\n")
@@ -239,7 +245,7 @@ class Editors(unittest.TestCase):
         found = {word: GROUPS[group] for group, words in lines for word in re.sub(r"nextgroup=\S+|skipwhite", "", words).split()}
         self.assertEqual(found, KEYWORDS)
 
-    @unittest.skipUnless(shutil.which("vim"), "vim is not there")
+    @unittest.skipUnless(has_vim(), "no vim with syntax files is there")
     def test_vim(self):
         texts = self.scripts | {word: f"{word} {word}s s{word} {word}(" for word in sorted(keywords())}
         for (name, text), lines in zip(texts.items(), by_vim(texts.values()), strict=True):

@@ -4,10 +4,11 @@
     tools/try.py SCRIPT.. [-- ARGUMENT..]                           swiftrun, with these arguments, as --workers 4
     tools/try.py --command="WORD.." [SCRIPT..] [-- ARGUMENT..]      nuchapay WORD.. SCRIPT ARGUMENT.., once for each script, or without one
 
-A script that is `-` is standard input. The kit builds the program in a folder of its own and runs it there; from there it is kept, as
-out/try/NAME-SUM, with the sum of all that the build reads. Where that folder cannot be written, the program is kept for this time alone.
-Where the kit leaves no program, the kit runs the scripts itself, each as standard input, as `-`. What the kit says of itself is left out,
-unless the program was not built or did not end. Status 0 where the program ran, whatever its own.
+A script that is `-` is standard input. Of several, each has a line before what is printed for it. The kit builds the program in a folder
+of its own and runs it there; from there it is kept, as out/try/NAME-SUM, with the sum of all that the build reads. Where that folder
+cannot be written, the program is kept for this time alone. Where the kit leaves no program, the kit runs the scripts itself, each as
+standard input, as `-`. What the kit says of itself is left out, unless the program was not built or did not end. Status 0 where the
+program ran, whatever its own.
 """
 import argparse
 import contextlib
@@ -36,7 +37,8 @@ OWN = re.compile(r"interpreter: |checked: |races: |run=|case=|cases=|rt: ")
 STATUSES = range(0, 5)
 # How often the kit's folder is looked at, in seconds, and a script that runs much longer than that: the program is there while it runs.
 PAUSE = 0.03
-LONG = b"actor A { func f() { let i = 0; while i < 4000 { i = i + 1; } return i; } }\n" + b"".join(b"root r%d = A.f();\n" % place for place in range(20))
+LONG = b"actor A { func f() { let i = 0; while i < 4000 { i = i + 1; } return i; } }\n"
+LONG += b"".join(b"root r%d = A.f();\n" % place for place in range(20))
 
 
 def say(text):
@@ -153,49 +155,66 @@ def open_program(name):
     return program
 
 
+def case_names(scripts):
+    """What the scripts are called where there are several: the names have the order of the scripts."""
+    width = len(str(len(scripts)))
+    return [f"{place:0{width}}-{'stdin' if script == '-' else os.path.basename(script)}" for place, script in enumerate(scripts, 1)]
+
+
+def script_input(name, script):
+    """What a program has as its standard input: the script, where that is no argument, or what this program has."""
+    return open(script, "rb") if script != "-" and name == "swiftrun" else contextlib.nullcontext()
+
+
+def run_once(program, line, given):
+    """Runs a program with these words. Whether it ended by itself."""
+    opened = f"/proc/self/fd/{program}"
+    try:
+        with given as file:
+            ran = subprocess.run(line, executable=opened, pass_fds=[program], stdin=file, check=False)
+    except OSError as error:
+        if error.errno not in (errno.ENOEXEC, errno.EACCES):
+            raise
+        with contextlib.suppress(OSError):
+            os.remove(os.readlink(opened))
+        sys.exit(f"make try: {line[0]} cannot be started ({error.strerror}): it is removed, and will be built again")
+    if ran.returncode in STATUSES:
+        return True
+    say(f"{line[0]} ended with {'status' if ran.returncode > 0 else 'signal'} {abs(ran.returncode)}")
+    return False
+
+
 def run_kept(program, name, words, scripts, arguments):
     """Runs a program on each script. Whether it ended by itself each time."""
+    if not scripts:
+        return run_once(program, [name, *words, *arguments], contextlib.nullcontext())
     is_whole = True
-    for script in scripts or [None]:
-        reads = name == "swiftrun" and script != "-"
-        given = open(script, "rb") if reads else contextlib.nullcontext()
-        line = [name, *words, *([script] if script and name == "nuchapay" else []), *arguments]
-        opened = f"/proc/self/fd/{program}"
-        try:
-            with given as file:
-                ran = subprocess.run(line, executable=opened, pass_fds=[program], stdin=file, check=False)
-        except OSError as error:
-            if error.errno not in (errno.ENOEXEC, errno.EACCES):
-                raise
-            with contextlib.suppress(OSError):
-                os.remove(os.readlink(opened))
-            sys.exit(f"make try: {name} cannot be started ({error.strerror}): it is removed, and will be built again")
-        if ran.returncode not in STATUSES:
-            say(f"{name} ended with {'status' if ran.returncode > 0 else 'signal'} {abs(ran.returncode)}")
-            is_whole = False
+    for script, case in zip(scripts, case_names(scripts)):
+        if len(scripts) > 1:
+            print("==", case, flush=True)
+        operand = [script] if name == "nuchapay" else []
+        is_whole = run_once(program, [name, *words, *operand, *arguments], script_input(name, script)) and is_whole
     return is_whole
-
-
-def copy_script(script, name):
-    with contextlib.ExitStack() as stack, open(name, "wb") as file:
-        given = sys.stdin.buffer if script == "-" else stack.enter_context(open(script, "rb"))
-        shutil.copyfileobj(given, file)
 
 
 def run_by_kit(name, words, scripts, arguments, folder):
     """Lets the kit's tool build a program and run it on each script, as standard input. Whether it ended by itself each time."""
     line = [*words, *(["-"] if scripts and name == "nuchapay" else []), *arguments]
-    cases = os.path.join(folder, "cases")
-    os.mkdir(cases)
-    for place, script in enumerate(scripts, 1):
-        # Runs come in the order of their names.
-        case = os.path.join(cases, f"{place:04}")
-        copy_script(script, case)
+    which, given = ["--", *line], b""
+    for script, case in zip(scripts, case_names(scripts)):
+        with open(sys.stdin.fileno() if script == "-" else script, "rb", closefd=script != "-") as file:
+            text = file.read()
+        if len(scripts) == 1:
+            given = text
+            break
+        which = ["--cases", folder]
+        with open(os.path.join(folder, case), "wb") as file:
+            file.write(text)
         if line:
-            with open(case + ".args", "w", encoding="utf8") as file:
+            with open(os.path.join(folder, case + ".args"), "w", encoding="utf8") as file:
                 file.write("\n".join(line) + "\n")
-    which = ["--cases", cases] if scripts else ["--", *line]
-    ran = subprocess.run(["rt", "try", "--steps", "1", *which], cwd=os.path.join(TOP, "crates", name), stdin=subprocess.DEVNULL, capture_output=True, check=False)
+    words = ["rt", "try", "--steps", "1", *which]
+    ran = subprocess.run(words, cwd=os.path.join(TOP, "crates", name), input=given, capture_output=True, check=False)
     said = ran.stderr.decode(errors="replace")
     is_whole = ended(said, ran.returncode)
     sys.stdout.buffer.write(ran.stdout)
