@@ -3,3 +3,4 @@ pub mod Keeping
 pub mod Past
 pub mod Rows
 pub mod More
+pub mod Standing

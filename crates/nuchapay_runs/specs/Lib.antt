@@ -3,3 +3,4 @@ pub mod LastTurns
 pub mod Notes
 pub mod Values
 pub mod Boxes
+pub mod Explains

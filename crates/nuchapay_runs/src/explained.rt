@@ -1,5 +1,8 @@
 //! One turn explained.
 
+ghost use Rattle.std.specs.Prelude.{IfOk};
+ghost use Rattle.nuchapay_runs.specs.Explains.{Explains, IsNotFolded};
+
 use crate::fields::make;
 use crate::invariants::invariants_of;
 use crate::lines::line_at;
@@ -63,7 +66,9 @@ pub fn explain_turn(
     report: &Report,
     task: TaskId,
     number: u32,
-) -> Result<Explained, AllocError> {
+) -> Result<Explained, AllocError>
+    ensures { IfOk result (Explains report.now task.0 number) }
+{
     match find_turn(report, task, number) {
         Found::Folded => Ok(Explained::Folded),
         Found::Nowhere => Ok(Explained::Nowhere),
@@ -78,7 +83,9 @@ fn explain_at(
     report: &Report,
     executor: usize,
     place: usize,
-) -> Result<Explained, AllocError> {
+) -> Result<Explained, AllocError>
+    ensures { IfOk result IsNotFolded }
+{
     let Some(journal) = report.journals.get(executor) else {
         return Ok(Explained::Nowhere);
     };

@@ -1,5 +1,11 @@
 //! Where a turn stands.
 
+ghost use Rattle.std.specs.Prelude.{◌≡◌, ◌<◌, IfSome, IsTrue, length, slice_index_or};
+ghost use Rattle.swift_journal.specs.Checkpoints.{FoldedView};
+ghost use Rattle.swift_journal.specs.Records.{RecordView};
+ghost use Rattle.nuchapay_runs.specs.Explains.{HasFolded, HasTurn, Stands};
+
+use swift_journal::{Checkpoint, Journal};
 use swift_report::Report;
 use swift_types::TaskId;
 
@@ -14,20 +20,58 @@ pub enum Found {
     Nowhere,
 }
 
-/// Where a turn stands. Linear in the report.
-pub(crate) fn find_turn(report: &Report, task: TaskId, number: u32) -> Found {
-    for (executor, journal) in report.journals.iter().enumerate() {
-        for place in 0..journal.len() {
-            if journal.task(place) == task && journal.number(place) == number {
-                return Found::Journal(executor, place);
-            }
+// Whether the turn at a place of a journal is this one.
+fn is_turn(journal: &Journal, place: usize, task: TaskId, number: u32) -> bool
+    requires { place < length journal.now }
+    ensures { IsTrue result → (d : RecordView) → ((slice_index_or journal.now place d).task ≡ task.0) × ((slice_index_or journal.now place d).number ≡ number) }
+{
+    journal.task(place) == task && journal.number(place) == number
+}
+
+// Whether the folded turn at a place is this one.
+fn is_folded(checkpoint: &Checkpoint, place: usize, task: TaskId, number: u32) -> bool
+    requires { place < length checkpoint.now.view.folded }
+    ensures { IsTrue result → (d : FoldedView) → ((slice_index_or checkpoint.now.view.folded place d).task ≡ task.0) × ((slice_index_or checkpoint.now.view.folded place d).number ≡ number) }
+{
+    checkpoint.task(place) == task && checkpoint.number(place) == number
+}
+
+// The place of a turn in a journal.
+fn place_of(journal: &Journal, task: TaskId, number: u32) -> Option<usize>
+    ensures { IfSome result (λ place. HasTurn journal.now task.0 number) }
+{
+    for place in 0..journal.len() {
+        if is_turn(journal, place, task, number) {
+            return Some(place);
         }
     }
-    for checkpoint in &report.checkpoints {
-        for place in 0..checkpoint.len() {
-            if checkpoint.task(place) == task && checkpoint.number(place) == number {
-                return Found::Folded;
-            }
+    None
+}
+
+// The place of a turn among those that were folded.
+fn folded_place_of(checkpoint: &Checkpoint, task: TaskId, number: u32) -> Option<usize>
+    ensures { IfSome result (λ place. HasFolded checkpoint.now.view.folded task.0 number) }
+{
+    for place in 0..checkpoint.len() {
+        if is_folded(checkpoint, place, task, number) {
+            return Some(place);
+        }
+    }
+    None
+}
+
+/// Where a turn stands. Linear in the report.
+pub(crate) fn find_turn(report: &Report, task: TaskId, number: u32) -> Found
+    ensures { Stands report.now task.0 number result }
+{
+    for executor in 0..report.journals.len() {
+        if let Some(place) = place_of(&report.journals[executor], task, number) {
+            return Found::Journal(executor, place);
+        }
+    }
+    for executor in 0..report.checkpoints.len() {
+        if folded_place_of(&report.checkpoints[executor], task, number).is_some() {
+            return Found::Folded;
         }
     }
     Found::Nowhere

@@ -1,0 +1,17 @@
+-- A turn stands at a place.
+use Rattle.std.proofs.Common.{◌≡◌, ◌<◌, ℕ, List, [], ◌∷◌, length, get_or, arith}
+use Rattle.std.proofs.lemmas.List.Elements.{Contains-get_or}
+use Rattle.swift_journal.specs.Records.{RecordView}
+use Rattle.swift_journal.specs.Checkpoints.{FoldedView}
+use Rattle.nuchapay_runs.specs.Explains.{HasFolded, HasTurn}
+
+-- an element of a list that has one
+first_of : {X : Type 0} (xs : List X) (k : ℕ) → k < length xs → X
+first_of [] k lt = absurd (omega (arith, lt))
+first_of (x ∷ xs) k lt = x
+
+pub turn_at : (rs : List RecordView) (k task number : ℕ) → k < length rs → ((d : RecordView) → ((get_or rs k d).task ≡ task) × ((get_or rs k d).number ≡ number)) → HasTurn rs task number
+turn_at rs k task number lt is = (let d = first_of rs k lt in (get_or rs k d, Contains-get_or rs k d lt, (is d).0, (is d).1))
+
+pub folded_at : (fs : List FoldedView) (k task number : ℕ) → k < length fs → ((d : FoldedView) → ((get_or fs k d).task ≡ task) × ((get_or fs k d).number ≡ number)) → HasFolded fs task number
+folded_at fs k task number lt is = (let d = first_of fs k lt in (get_or fs k d, Contains-get_or fs k d lt, (is d).0, (is d).1))
