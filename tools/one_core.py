@@ -1,12 +1,12 @@
 #!/usr/bin/env python3
 """Whether runs of eight workers end where all their threads share one core.
 
-    tools/one_core.py SWIFTRUN [RUNS]       this many runs, 20 where it is not given
+    tools/one_core.py SWIFTRUN [RUNS]       this many runs, 60 where it is not given
 
 On several cores a thread that waits for the book's lock finds it free while it looks. On one core who holds the lock does not run while
 another thread looks, so that one sleeps, and a wake that is lost leaves it asleep for ever: that no wake is lost is not proved. Each run has
-eight workers and an actor for each of them, with a task of 990 turns there. It has to end in some seconds, with the tasks and the fields
-that the script gives in every order of turns. Status 0 where each did.
+eight workers and an actor for each of them, with a task of 990 turns there: so long that threads are stopped while they hold the lock. It has
+to end in some seconds, with the tasks and the fields that the script gives in every order of turns. Status 0 where each did.
 """
 import os
 import subprocess
@@ -14,8 +14,9 @@ import sys
 
 WORKERS = 8
 TURNS = 990
-RUNS = 20
-# A run takes a tenth of a second, and one that hangs takes all of this.
+# With a wake that comes only where nobody sleeps, one run in three to eight never ended.
+RUNS = 60
+# A run takes some hundredths of a second, and one that hangs takes all of this.
 SECONDS = 20
 
 
